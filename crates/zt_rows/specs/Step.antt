@@ -1,0 +1,32 @@
+-- One call of one process, and a list of calls: the checks and the direct change of the call itself, then the
+-- removal of what nothing supports, the derived signals, and the firing of waits. The calls are Fuchsia's; that
+-- these four come in this order, complete within the call, is this project's own profile.
+use Rattle.std.specs.Prelude.{ℕ, List, [], ◌∷◌}
+use Rattle.zt_rows.specs.declared.calls.Call.{Call}
+use Rattle.zt_rows.specs.declared.calls.Call.TheVariants as call
+use Rattle.zt_rows.specs.declared.calls.Reply.{Reply}
+use Rattle.zt_rows.specs.State.{State}
+use Rattle.zt_rows.specs.Collect.{collect}
+use Rattle.zt_rows.specs.Settle.{settle}
+use Rattle.zt_rows.specs.ObjectCalls.{event_create, object_signal}
+
+-- what the call itself does and answers
+unfoldable pub direct : State → ℕ → Call → State × Reply
+direct S p call.EventCreate = event_create S p
+direct S p (call.ObjectSignal h clear set) = object_signal S p h clear.0 set.0
+
+-- the state after a call's direct change has been carried through, with its reply
+abbrev pub completed : State × Reply → State × Reply
+completed d = (settle (collect d.0), d.1)
+
+-- one call of a process; `runs S p`, that p is a live process of S, is the premise under which it is a call
+unfoldable pub step : State → ℕ → Call → State × Reply
+step S p c = completed (direct S p c)
+
+abbrev followed : Reply → State × List Reply → State × List Reply
+followed first rest = (rest.0, first ∷ rest.1)
+
+-- the calls one after another, each of its process: the last state, and all replies
+abbrev pub run : State → List (ℕ × Call) → State × List Reply
+run S [] = (S, [])
+run S (c ∷ cs) = followed (step S c.0 c.1).1 (run (step S c.0 c.1).0 cs)

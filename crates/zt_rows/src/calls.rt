@@ -1,0 +1,136 @@
+ghost use Rattle.std.specs.Prelude.{◌≡◌, ◌↔◌, IfOk, IsSome, IfSome};
+ghost use Rattle.zt_rows.specs.Contents.{IsWithinMessage};
+
+use crate::items::Items;
+use crate::keys::RowKey;
+use crate::numbers::{HandleValue, Koid, Moment};
+use crate::rows::{MESSAGE_BYTES, MESSAGE_HANDLES, Packet, Row};
+use std::alloc::AllocError;
+use std::marker::Model;
+use zt_bits::{Signals, Status};
+
+/// What a call wants to send: bytes and the values of the caller's handles, within the limits of a message.
+#[derive(Debug, Drop)]
+pub struct Parcel {
+    bytes: Items<u8>,
+    handles: Items<HandleValue>,
+}
+
+impl Model for Parcel {
+    ghost use Rattle.zt_rows.specs.Contents.{ParcelContent, IsWithinMessage};
+
+    ghost Value = { ParcelContent };
+
+    ghost view = { λ p. record { bytes = p.bytes; handles = p.handles } };
+
+    ghost invariant = { λ p. IsWithinMessage p.bytes p.handles };
+}
+
+impl Parcel {
+    /// The parcel of these bytes and handle values, where they are within the limits of a message. It takes
+    /// no memory.
+    pub fn new(bytes: Vec<u8>, handles: Vec<HandleValue>) -> Option<Parcel>
+        ensures within { IsSome result ↔ IsWithinMessage bytes.items handles.items }
+        ensures holds { IfSome result (λ p. (p.bytes ≡ bytes.items) × (p.handles ≡ handles.items)) }
+    {
+        if bytes.len() <= MESSAGE_BYTES && handles.len() <= MESSAGE_HANDLES {
+            let bytes = Items::new(bytes);
+            let handles = Items::new(handles);
+            Some(Parcel { bytes, handles })
+        } else {
+            None
+        }
+    }
+
+    /// The bytes.
+    pub fn bytes(&self) -> &Items<u8>
+        ensures { result.now ≡ self.now.bytes }
+    {
+        &self.bytes
+    }
+
+    /// The values of the handles, in their order.
+    pub fn handles(&self) -> &Items<HandleValue>
+        ensures { result.now ≡ self.now.handles }
+    {
+        &self.handles
+    }
+
+    /// An equal parcel in memory of its own.
+    pub fn copy(&self) -> Result<Parcel, AllocError>
+        ensures { IfOk result (λ copied. copied ≡ self.now) }
+    {
+        let bytes = self.bytes.copy()?;
+        let handles = self.handles.copy()?;
+        Ok(Parcel { bytes, handles })
+    }
+}
+
+/// A system call with its arguments.
+#[derive(Clone, Copy, Debug, PartialEq, Eq)]
+pub enum Call {
+    EventCreate,
+    ObjectSignal {
+        handle: HandleValue,
+        clear: Signals,
+        set: Signals,
+    },
+}
+
+/// What a system call answers: its status with the values that go with it.
+#[derive(Debug, Drop)]
+pub enum Reply {
+    /// The status alone.
+    Status(Status),
+    /// Ok with the new handle.
+    Handle(HandleValue),
+    /// Ok with the handles of both ends.
+    Handles(HandleValue, HandleValue),
+    /// Ok with the caller's handle to the new process, and its koid.
+    Spawned(HandleValue, Koid),
+    /// Ok with a message's bytes and the caller's new handles.
+    Message(Items<u8>, Items<HandleValue>),
+    /// `buffer_too_small` with the numbers of bytes and of handles of the message.
+    TooSmall(u32, u32),
+    /// Ok with the packet.
+    Packet(Packet),
+}
+
+impl Reply {
+    /// An equal reply in memory of its own.
+    pub fn copy(&self) -> Result<Reply, AllocError>
+        ensures { IfOk result (λ copied. copied ≡ self.now) }
+    {
+        Ok(match self {
+            Reply::Status(status) => Reply::Status(*status),
+            Reply::Handle(handle) => Reply::Handle(*handle),
+            Reply::Handles(first, second) => Reply::Handles(*first, *second),
+            Reply::Spawned(handle, koid) => Reply::Spawned(*handle, *koid),
+            Reply::Message(bytes, handles) => Reply::Message(bytes.copy()?, handles.copy()?),
+            Reply::TooSmall(bytes, handles) => Reply::TooSmall(*bytes, *handles),
+            Reply::Packet(packet) => Reply::Packet(*packet),
+        })
+    }
+}
+
+/// What a client asks of the debugger.
+#[derive(Debug, Drop)]
+pub enum Command {
+    /// A call of a process, at the head of the branch that the client follows.
+    Call(Koid, Call),
+    /// To the ancestor so many moments above the position.
+    Back(u32),
+    /// The rows of the state at the position.
+    Show,
+}
+
+/// What the debugger answers to a command that it did not refuse.
+#[derive(Debug, Drop)]
+pub enum Answer {
+    /// The new moment, and what the call answered.
+    Called(Moment, Reply),
+    /// The moment of the new position.
+    At(Moment),
+    /// The moment of the position, and its rows in the order of their keys.
+    Rows(Moment, Items<(RowKey, Row)>),
+}

@@ -1,0 +1,95 @@
+ghost use Rattle.std.specs.Prelude.{◌≡◌};
+ghost use Rattle.std.specs.Ordering.{as_partial_cmp};
+
+use crate::numbers::{HandleValue, Koid};
+use std::cmp::Ordering;
+
+/// What a row is found under. Keys are ordered by variant as listed, then by their numbers.
+#[derive(Clone, Copy, Debug)]
+pub enum RowKey {
+    Counters,
+    Object(Koid),
+    /// An entry of a process's handle table.
+    Entry(Koid, HandleValue),
+    /// A message of an endpoint, by its number.
+    Msg(Koid, u64),
+    /// A packet of a port, by its number.
+    Packet(Koid, u64),
+    Wait(u64),
+}
+
+impl PartialEq for RowKey {
+    ghost use Rattle.zt_rows.specs.Keys.{rowkey_eq};
+    ghost use Rattle.zt_rows.specs.KeyOrder.{rowkey_eq-laws};
+
+    ghost eq = { rowkey_eq };
+
+    ghost laws = { rowkey_eq-laws };
+
+    #[tactic(auto, using(crate::specs::KeyOrder::key_ties))]
+    fn eq(&self, other: &RowKey) -> bool {
+        self.cmp(other).is_eq()
+    }
+}
+
+impl Eq for RowKey {
+    ghost use Rattle.std.specs.Cmp.{partial_equiv_from_equiv, equiv};
+    ghost use Rattle.zt_rows.specs.KeyOrder.{rowkey_eq-laws, rowkey_eq-self};
+
+    ghost laws = { equiv rowkey_eq-laws rowkey_eq-self };
+}
+
+impl PartialOrd for RowKey {
+    ghost use Rattle.zt_rows.specs.Keys.{rowkey_cmp};
+    ghost use Rattle.zt_rows.specs.KeyOrder.{rowkey_cmp_partial};
+
+    ghost partial_cmp = { as_partial_cmp rowkey_cmp };
+
+    ghost laws = { rowkey_cmp_partial };
+
+    fn partial_cmp(&self, other: &RowKey) -> Option<Ordering> {
+        Some(self.cmp(other))
+    }
+}
+
+impl Ord for RowKey {
+    ghost use Rattle.zt_rows.specs.Keys.{rowkey_cmp};
+    ghost use Rattle.zt_rows.specs.KeyOrder.{rowkey_cmp_total, rowkey_eq-matches};
+    ghost use Rattle.std.specs.Prelude.{refl};
+
+    ghost cmp = { rowkey_cmp };
+
+    ghost total = { rowkey_cmp_total };
+
+    ghost matches_partial_cmp = { λ a b. refl };
+
+    ghost matches_eq = { rowkey_eq-matches };
+
+    fn cmp(&self, other: &RowKey) -> Ordering {
+        let (variant, first, second) = self.place();
+        let (other_variant, other_first, other_second) = other.place();
+        variant
+            .cmp(&other_variant)
+            .then(first.cmp(&other_first).then(second.cmp(&other_second)))
+    }
+}
+
+impl RowKey {
+    ghost use Rattle.zt_rows.specs.Keys.{variant, first_number, second_number};
+
+    /// The number of the variant in their list, and the numbers of the key.
+    fn place(self) -> (u8, u64, u64)
+        ensures variant { result.0 ≡ variant self }
+        ensures first { result.1 ≡ first_number self }
+        ensures second { result.2 ≡ second_number self }
+    {
+        match self {
+            RowKey::Counters => (0, 0, 0),
+            RowKey::Object(koid) => (1, koid.0, 0),
+            RowKey::Entry(process, handle) => (2, process.0, u64::from(handle.0)),
+            RowKey::Msg(endpoint, number) => (3, endpoint.0, number),
+            RowKey::Packet(port, number) => (4, port.0, number),
+            RowKey::Wait(number) => (5, number, 0),
+        }
+    }
+}

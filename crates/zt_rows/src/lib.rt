@@ -1,0 +1,21 @@
+//! What the debugger keeps of a kernel: the rows of objects, handles, messages, packets and waits under
+//! their keys, and the calls, replies and refusals that are made of them.
+#![tactic(auto)]
+
+mod calls;
+mod items;
+mod keys;
+mod numbers;
+mod refusals;
+mod rows;
+mod supports;
+#[cfg(test)]
+mod tests;
+
+pub use calls::{Answer, Call, Command, Parcel, Reply};
+pub use items::Items;
+pub use keys::RowKey;
+pub use numbers::{HandleValue, Koid, Moment};
+pub use refusals::Refusal;
+pub use rows::{Counters, Held, Life, Message, ObjectRow, Packet, Row, Wait};
+pub use supports::Support;

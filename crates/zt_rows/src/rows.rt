@@ -1,0 +1,200 @@
+ghost use Rattle.std.specs.Prelude.{◌≡◌, ◌↔◌, IfOk, IsSome, IfSome};
+ghost use Rattle.zt_rows.specs.Contents.{IsWithinMessage};
+
+use crate::items::Items;
+use crate::numbers::{HandleValue, Koid};
+use std::alloc::AllocError;
+use std::marker::Model;
+use zt_bits::{Kind, Rights, Signals};
+
+/// The most bytes that a message carries.
+pub const MESSAGE_BYTES: usize = 65_536;
+
+/// The most handles that a message carries.
+pub const MESSAGE_HANDLES: usize = 64;
+
+/// The next numbers that the system gives out.
+#[derive(Clone, Copy, Debug, PartialEq, Eq)]
+pub struct Counters {
+    pub next_koid: Koid,
+    pub next_wait: u64,
+}
+
+/// What a handle holds: the object that it names, and what it allows with it.
+#[derive(Clone, Copy, Debug, PartialEq, Eq)]
+pub struct Held {
+    pub koid: Koid,
+    pub rights: Rights,
+}
+
+/// Whether a process or a job runs, and how it ended. Objects of other kinds are always `Live`.
+#[derive(Clone, Copy, Debug, PartialEq, Eq)]
+pub enum Life {
+    Live,
+    Killed,
+    Exited(i64),
+}
+
+/// An object. `link` is the peer of an endpoint, the parent of a live process or job, or 0. `next` is the
+/// next number of what the object owns: handles of a process, messages of an endpoint, packets of a port.
+#[derive(Clone, Copy, Debug, PartialEq, Eq)]
+pub struct ObjectRow {
+    pub kind: Kind,
+    pub signals: Signals,
+    pub link: Koid,
+    pub life: Life,
+    pub next: u64,
+}
+
+/// A message that waits in the queue of an endpoint, within the limits of a message.
+#[derive(Debug, Drop)]
+pub struct Message {
+    bytes: Items<u8>,
+    handles: Items<Held>,
+}
+
+impl Model for Message {
+    ghost use Rattle.zt_rows.specs.Contents.{MessageContent, IsWithinMessage};
+
+    ghost Value = { MessageContent };
+
+    ghost view = { λ m. record { bytes = m.bytes; handles = m.handles } };
+
+    ghost invariant = { λ m. IsWithinMessage m.bytes m.handles };
+}
+
+impl Message {
+    ghost use Rattle.zt_rows.specs.Contents.{MessageContent};
+
+    /// The message of these bytes and handles, where they are within the limits of a message.
+    pub fn new(bytes: Items<u8>, handles: Items<Held>) -> Option<Message>
+        ensures within { IsSome result ↔ IsWithinMessage bytes handles }
+        ensures holds { IfSome result (λ m. (m.bytes ≡ bytes) × (m.handles ≡ handles)) }
+    {
+        if bytes.len() <= MESSAGE_BYTES && handles.len() <= MESSAGE_HANDLES {
+            Some(Message { bytes, handles })
+        } else {
+            None
+        }
+    }
+
+    /// The bytes.
+    pub fn bytes(&self) -> &Items<u8>
+        ensures { result.now ≡ self.now.bytes }
+    {
+        &self.bytes
+    }
+
+    /// What the handles in the message hold, in their order.
+    pub fn handles(&self) -> &Items<Held>
+        ensures { result.now ≡ self.now.handles }
+    {
+        &self.handles
+    }
+
+    /// The bytes and the handles.
+    pub fn into_parts(self) -> (Items<u8>, Items<Held>)
+        ensures bytes { result.0 ≡ self.bytes }
+        ensures handles { result.1 ≡ self.handles }
+    {
+        let Message { bytes, handles } = self;
+        (bytes, handles)
+    }
+
+    /// An equal message in memory of its own.
+    pub fn copy(&self) -> Result<Message, AllocError>
+        ensures { IfOk result (λ copied. copied ≡ self.now) }
+    {
+        let bytes = self.bytes.copy()?;
+        let handles = self.handles.copy()?;
+        Ok(Message { bytes, handles })
+    }
+}
+
+impl PartialEq for Message {
+    ghost use Rattle.zt_rows.specs.Same.{content_eq};
+    ghost use Rattle.zt_rows.specs.SameRows.{content_eq-laws};
+
+    ghost eq = { content_eq };
+
+    ghost laws = { content_eq-laws };
+
+    fn eq(&self, other: &Self) -> bool {
+        self.bytes == other.bytes && self.handles == other.handles
+    }
+}
+
+/// What waits in a port: bytes that a user sent, or the news that a wait fired.
+#[derive(Clone, Copy, Debug, PartialEq, Eq)]
+pub enum Packet {
+    User {
+        key: u64,
+        bytes: [u8; 32],
+    },
+    /// `trigger` is what was waited for, `observed` all signals of the object when the wait fired.
+    Signal {
+        key: u64,
+        trigger: Signals,
+        observed: Signals,
+        process: Koid,
+        handle: HandleValue,
+    },
+}
+
+/// A wait: when one of the signals stands on what the handle names, a packet goes to the port.
+#[derive(Clone, Copy, Debug, PartialEq, Eq)]
+pub struct Wait {
+    pub process: Koid,
+    pub handle: HandleValue,
+    pub port: Koid,
+    pub key: u64,
+    pub signals: Signals,
+}
+
+/// What stands under a key: one variant for each variant of the key.
+#[derive(Debug, Drop)]
+pub enum Row {
+    Counters(Counters),
+    Object(ObjectRow),
+    Entry(Held),
+    Msg(Message),
+    Packet(Packet),
+    Wait(Wait),
+}
+
+impl Row {
+    /// An equal row in memory of its own.
+    pub fn copy(&self) -> Result<Row, AllocError>
+        ensures { IfOk result (λ copied. copied ≡ self.now) }
+    {
+        Ok(match self {
+            Row::Counters(counters) => Row::Counters(*counters),
+            Row::Object(object) => Row::Object(*object),
+            Row::Entry(held) => Row::Entry(*held),
+            Row::Msg(message) => Row::Msg(message.copy()?),
+            Row::Packet(packet) => Row::Packet(*packet),
+            Row::Wait(wait) => Row::Wait(*wait),
+        })
+    }
+}
+
+impl PartialEq for Row {
+    ghost use Rattle.zt_rows.specs.Same.{row_eq};
+    ghost use Rattle.zt_rows.specs.SameRows.{row_eq-laws};
+
+    ghost eq = { row_eq };
+
+    ghost laws = { row_eq-laws };
+
+    fn eq(&self, other: &Self) -> bool {
+        match (self, other) {
+            (Row::Counters(a), Row::Counters(b)) => a == b,
+            (Row::Object(a), Row::Object(b)) => a == b,
+            (Row::Entry(a), Row::Entry(b)) => a == b,
+            (Row::Msg(a), Row::Msg(b)) => a == b,
+            (Row::Packet(a), Row::Packet(b)) => a == b,
+            (Row::Wait(a), Row::Wait(b)) => a == b,
+            _ => false,
+        }
+    }
+}
