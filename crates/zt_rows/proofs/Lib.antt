@@ -1,1 +1,11 @@
+pub mod CollectLaws
+pub mod ReadLaws
+pub mod RowLaws
+pub mod SoundLaws
+pub mod StateLaws
+pub mod SupportLaws
 pub mod WorkedRows
+pub mod WorkedRowsChannels
+pub mod WorkedRowsForm
+pub mod WorkedRowsJobs
+pub mod WorkedRowsPorts

@@ -11,7 +11,7 @@ abbrev pub keys : State → List RowKey
 keys S = map (λ e. e.0) S.rows
 
 -- each row of the list in its place in S
-abbrev over : List (RowKey × Row) → State → State
+abbrev pub over : List (RowKey × Row) → State → State
 over [] S = S
 over (e ∷ es) S = put (over es S) e.0 (Some e.1)
 

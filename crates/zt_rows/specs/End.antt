@@ -15,7 +15,7 @@ use Rattle.zt_rows.specs.Tests.{link_at, among}
 
 -- ---- what is under a job
 
-abbrev upward : ℕ → (ℕ → List ℕ) → List ℕ
+abbrev pub upward : ℕ → (ℕ → List ℕ) → List ℕ
 upward zero above = []
 upward (suc x) above = (suc x) ∷ above (suc x)
 
@@ -32,7 +32,7 @@ chain S x = links (x + 1) S x
 abbrev pub depth : State → ℕ → ℕ
 depth S x = length (chain S x)
 
-abbrev is_live_task : Option ObjectRow → Bool
+abbrev pub is_live_task : Option ObjectRow → Bool
 is_live_task (Some o) = is_live_job o || is_live_process o
 is_live_task None = false
 

@@ -81,7 +81,7 @@ take_out S p h = take_out_all S p (λ g. g == h)
 abbrev pub value_of : ℕ → ℕ
 value_of n = 4 * n + 3
 
-abbrev as_caller : Option ObjectRow → ObjectRow
+abbrev pub as_caller : Option ObjectRow → ObjectRow
 as_caller (Some o) = o
 as_caller None = record { kind = kind.Process; signals = record { 0 = 0 }; link = 0; life = life.Killed; next = 0 }
 

@@ -72,7 +72,7 @@ wait S n = as_wait (row S (key.Wait n))
 
 -- ---- lists, by rising number
 
-abbrev object_at : RowKey × Row → Option (ℕ × ObjectRow)
+abbrev pub object_at : RowKey × Row → Option (ℕ × ObjectRow)
 object_at (key.Object x, rows.Object o) = Some (x, o)
 object_at _ = None
 
@@ -80,7 +80,7 @@ object_at _ = None
 unfoldable pub objects : State → List (ℕ × ObjectRow)
 objects S = filter_map object_at S.rows
 
-abbrev entry_at : RowKey × Row → Option (ℕ × ℕ × Held)
+abbrev pub entry_at : RowKey × Row → Option (ℕ × ℕ × Held)
 entry_at (key.Entry p h, rows.Entry held) = Some (p, h, held)
 entry_at _ = None
 
@@ -88,7 +88,7 @@ entry_at _ = None
 unfoldable pub entries : State → List (ℕ × ℕ × Held)
 entries S = filter_map entry_at S.rows
 
-abbrev message_at : RowKey × Row → Option (ℕ × ℕ × MessageContent)
+abbrev pub message_at : RowKey × Row → Option (ℕ × ℕ × MessageContent)
 message_at (key.Msg e n, rows.Msg m) = Some (e, n, m)
 message_at _ = None
 
@@ -96,7 +96,7 @@ message_at _ = None
 unfoldable pub messages : State → List (ℕ × ℕ × MessageContent)
 messages S = filter_map message_at S.rows
 
-abbrev queued : ℕ → RowKey × Row → Option (ℕ × MessageContent)
+abbrev pub queued : ℕ → RowKey × Row → Option (ℕ × MessageContent)
 queued e (key.Msg f n, rows.Msg m) = if e == f then Some (n, m) else None
 queued e _ = None
 
@@ -104,7 +104,7 @@ queued e _ = None
 unfoldable pub queue : State → ℕ → List (ℕ × MessageContent)
 queue S e = filter_map (queued e) S.rows
 
-abbrev packet_of : ℕ → RowKey × Row → Option (ℕ × Packet)
+abbrev pub packet_of : ℕ → RowKey × Row → Option (ℕ × Packet)
 packet_of p (key.Packet q n, rows.Packet k) = if p == q then Some (n, k) else None
 packet_of p _ = None
 
@@ -112,7 +112,7 @@ packet_of p _ = None
 unfoldable pub packets : State → ℕ → List (ℕ × Packet)
 packets S p = filter_map (packet_of p) S.rows
 
-abbrev wait_at : RowKey × Row → Option (ℕ × Wait)
+abbrev pub wait_at : RowKey × Row → Option (ℕ × Wait)
 wait_at (key.Wait n, rows.Wait w) = Some (n, w)
 wait_at _ = None
 
@@ -142,7 +142,7 @@ abbrev pub is_live_job : ObjectRow → Bool
 is_live_job o = is_job o.kind && is_live o.life
 
 -- the koid is that of a live process: the premise of every call
-abbrev on_object : (ObjectRow → Bool) → Option ObjectRow → Bool
+abbrev pub on_object : (ObjectRow → Bool) → Option ObjectRow → Bool
 on_object p (Some o) = p o
 on_object p None = false
 

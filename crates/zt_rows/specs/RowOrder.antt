@@ -7,7 +7,7 @@ use Rattle.zt_rows.specs.declared.rows.Row.{Row}
 use Rattle.zt_rows.specs.Keys.{rowkey_cmp, rowkey_eq}
 use Rattle.zt_rows.specs.KeyOrder.{rowkey_cmp_total}
 
-abbrev kept : RowKey → Option Row → List (RowKey × Row) → List (RowKey × Row)
+abbrev pub kept : RowKey → Option Row → List (RowKey × Row) → List (RowKey × Row)
 kept k (Some r) es = (k, r) ∷ es
 kept k None es = es
 

@@ -69,7 +69,7 @@ no_jobs S x = bit_if (not (any_row (is_child_job_of x) S)) 0x10
 abbrev pub no_processes : State → ℕ → ℕ
 no_processes S x = bit_if (not (any_row (is_child_process_of x) S)) 0x20
 
-abbrev derived_by : Kind → State → ℕ → ObjectRow → ℕ
+abbrev pub derived_by : Kind → State → ℕ → ObjectRow → ℕ
 derived_by kind.Job S x o = bit_or (terminated o) (bit_or (no_jobs S x) (no_processes S x))
 derived_by kind.Process S x o = terminated o
 derived_by kind.Channel S x o = bit_or (readable S x) (bit_or (writable o) (peer_closed o))
@@ -100,7 +100,7 @@ abbrev pub push_packet : ℕ → ObjectRow → Packet → State → State
 push_packet x port parcel S =
     put (put S (key.Packet x port.next) (Some (rows.Packet parcel))) (key.Object x) (Some (rows.Object (raised port)))
 
-abbrev signals_by : State → Option Held → ℕ
+abbrev pub signals_by : State → Option Held → ℕ
 signals_by S (Some held) = signals_at S held.koid
 signals_by S None = 0
 
@@ -116,7 +116,7 @@ is_met S w = not (bit_and w.signals.0 (observed S w) == 0)
 abbrev pub news : State → Wait → Packet
 news S w = packet.Signal w.key w.signals (record { 0 = observed S w }) w.process w.handle
 
-abbrev fire_into : Option ObjectRow → State → ℕ × Wait → State
+abbrev pub fire_into : Option ObjectRow → State → ℕ × Wait → State
 fire_into (Some port) S (n, w) = push_packet w.port port (news S w) (put S (key.Wait n) None)
 fire_into None S (n, w) = S
 

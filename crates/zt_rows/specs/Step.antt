@@ -23,7 +23,7 @@ completed d = (settle (collect d.0), d.1)
 unfoldable pub step : State → ℕ → Call → State × Reply
 step S p c = completed (direct S p c)
 
-abbrev followed : Reply → State × List Reply → State × List Reply
+abbrev pub followed : Reply → State × List Reply → State × List Reply
 followed first rest = (rest.0, first ∷ rest.1)
 
 -- the calls one after another, each of its process: the last state, and all replies

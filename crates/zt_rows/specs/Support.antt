@@ -21,35 +21,35 @@ root_job = 1024
 -- ---- the supports that one row gives
 
 -- an entry supports what it names
-abbrev entry_support : ℕ → RowKey × Row → Option Support
+abbrev pub entry_support : ℕ → RowKey × Row → Option Support
 entry_support x (key.Entry p h, rows.Entry held) = if held.koid == x then Some (support.Entry p h) else None
 entry_support x _ = None
 
 -- the places from `index` on in a message of which a handle names x
-abbrev places : ℕ → ℕ → ℕ → ℕ → List Held → List Support
+abbrev pub places : ℕ → ℕ → ℕ → ℕ → List Held → List Support
 places x e n index [] = []
 places x e n index (held ∷ rest) =
     if held.koid == x then support.Message e n index ∷ places x e n (index + 1) rest else places x e n (index + 1) rest
 
 -- a message supports what its handles name, once for each place
-abbrev message_supports : ℕ → RowKey × Row → List Support
+abbrev pub message_supports : ℕ → RowKey × Row → List Support
 message_supports x (key.Msg e n, rows.Msg m) = places x e n 0 m.handles
 message_supports x _ = []
 
 -- a live job or process supports its parent
-abbrev child_support : ℕ → RowKey × Row → Option Support
+abbrev pub child_support : ℕ → RowKey × Row → Option Support
 child_support x (key.Object y, rows.Object o) =
     if (is_live_job o || is_live_process o) && (o.link == x) then Some (support.Child y) else None
 child_support x _ = None
 
 -- ---- the supports of an object
 
-abbrev children : Option ObjectRow → ℕ → List (RowKey × Row) → List Support
+abbrev pub children : Option ObjectRow → ℕ → List (RowKey × Row) → List Support
 children (Some o) x es = if is_live_job o then filter_map (child_support x) es else []
 children None x es = []
 
 -- a live process keeps itself, and so does the row of the root job, whatever its kind
-abbrev itself : Option ObjectRow → ℕ → List Support
+abbrev pub itself : Option ObjectRow → ℕ → List Support
 itself (Some o) x = if is_live_process o || (x == root_job) then support.Itself ∷ [] else []
 itself None x = []
 

@@ -65,7 +65,7 @@ exists S x = is_some (object S x)
 abbrev pub kind_at : State → ℕ → Option Kind
 kind_at S x = option_map (λ o. o.kind) (object S x)
 
-abbrev object_link : Option ObjectRow → ℕ
+abbrev pub object_link : Option ObjectRow → ℕ
 object_link (Some o) = o.link
 object_link None = 0
 
@@ -73,7 +73,7 @@ object_link None = 0
 abbrev pub link_at : State → ℕ → ℕ
 link_at S x = object_link (object S x)
 
-abbrev object_next : Option ObjectRow → ℕ
+abbrev pub object_next : Option ObjectRow → ℕ
 object_next (Some o) = o.next
 object_next None = 0
 
@@ -81,7 +81,7 @@ object_next None = 0
 abbrev pub next_at : State → ℕ → ℕ
 next_at S x = object_next (object S x)
 
-abbrev object_signals : Option ObjectRow → ℕ
+abbrev pub object_signals : Option ObjectRow → ℕ
 object_signals (Some o) = o.signals.0
 object_signals None = 0
 
