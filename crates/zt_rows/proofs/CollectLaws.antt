@@ -164,3 +164,5 @@ rounds-supported (suc n) S h x =
 pub collect-supported : (S : State) (x : ℕ) → goes (collect S) x ≡ false
 unfolding collect
 collect-supported S x = rounds-supported (length (objects S)) S (omega arith) x
+
+pub ruleset collect_laws = (collect-supported)

@@ -20,6 +20,7 @@ use Rattle.zt_rows.specs.KeyOrder.{rowkey_eq-decides, rowkey_eq-equal}
 use Rattle.zt_rows.specs.State.{State, row, put, change}
 use Rattle.zt_rows.specs.Reads.{as_counters, as_object, as_entry, as_message, as_packet, as_wait, counters, object, entry, message, packet, wait}
 use Rattle.zt_rows.specs.Tests.{exists, kind_at, link_at, next_at, signals_at, is_endpoint}
+use Rattle.zt_rows.specs.Room.{suits}
 use Rattle.zt_rows.specs.Collect.{unlinked, left, without}
 use Rattle.zt_rows.proofs.StateLaws.{row-put, row-change}
 use Rattle.zt_rows.proofs.RowLaws.{true≢false}
@@ -85,12 +86,28 @@ kind_at-some S x made e = kind_of (object S x) made e
 
 -- ---- after a put
 
-chosen : {A B : Type 0} (f : A → B) (b : Bool) (x y : A) → f (cond b x y) ≡ cond b (f x) (f y)
+pub chosen : {A B : Type 0} (f : A → B) (b : Bool) (x y : A) → f (cond b x y) ≡ cond b (f x) (f y)
 chosen f true x y = refl
 chosen f false x y = refl
 
 pub object-put : (S : State) (y : ℕ) (r : Option Row) (x : ℕ) → object (put S (key.Object y) r) x ≡ cond (x == y) (as_object r) (object S x)
 object-put S y r x = ap as_object (row-put S (key.Object y) r (key.Object x)) ∙ chosen as_object (x == y) r (row S (key.Object x))
+
+-- what a look sees at the object that was put over another one
+pub over-same : {B : Type 0} (f : Option ObjectRow → B) (x y : ℕ) (o q : ObjectRow) (r : Option ObjectRow) → (x ≡ y → r ≡ Some q) → f (Some o) ≡ f (Some q) → f (cond (x == y) (Some o) r) ≡ f r
+over-same f x y o q r old e =
+    elim (x == y) as (λ b. (x == y) ≡ b → f (cond b (Some o) r) ≡ f r) [
+      | true ↦ λ t. e ∙ sym (ap f (old (eqb-true x y t)))
+      | false ↦ λ t. refl
+    ] refl
+
+-- rows suit their keys after a put of one that does
+pub typed-put : (S : State) → ((k : RowKey) (r : Row) → row S k ≡ Some r → suits k r ≡ true) → (at : RowKey) (new : Option Row) → ((r : Row) → new ≡ Some r → suits at r ≡ true) → (k : RowKey) (r : Row) → row (put S at new) k ≡ Some r → suits k r ≡ true
+typed-put S typed at new fits k r h =
+    elim (rowkey_eq k at) as (λ b. rowkey_eq k at ≡ b → cond b new (row S k) ≡ Some r → suits k r ≡ true) [
+      | true ↦ λ t e. subst (λ z. suits z r ≡ true) (sym (rowkey_eq-equal k at t)) (fits r e)
+      | false ↦ λ t e. typed k r e
+    ] refl (sym (row-put S at new k) ∙ h)
 
 -- ---- the state without a set
 

@@ -239,6 +239,14 @@ module _ (test : RowKey → Row → Bool) where
   unfolding count_row put
   count_row-put S k r = count-put k r S.rows
 
+  no_bit : (b : Bool) (m n : ℕ) → b ≡ false → m ≤ cond b 1 0 + n → m ≤ n
+  no_bit true m n e h = cc
+  no_bit false m n e h = omega arith
+
+  -- no row more passes after a put of one that does not
+  pub count_row-put-out : (S : State) (k : RowKey) (r : Row) → test k r ≡ false → count_row test (put S k (Some r)) ≤ count_row test S
+  count_row-put-out S k r e = no_bit (test k r) (count_row test (put S k (Some r))) (count_row test S) e (count_row-put S k r)
+
   count-where : (p : RowKey → Bool) (es : List (RowKey × Row)) → count_by passes (entries.where_key rowkey_cmp p es) ≤ count_by passes es
   count-where p [] = omega arith
   count-where p (e ∷ es) =

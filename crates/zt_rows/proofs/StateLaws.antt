@@ -73,7 +73,7 @@ state_of-rows s = same_state (state_of s.rows) s (λ q. row-state_of s.rows q �
 pub put-put : (s : State) (k : RowKey) (r t : Option Row) → put (put s k r) k t ≡ put s k t
 put-put s k r t =
     same_state _ _ (λ q. row-put (put s k r) k t q ∙ ap (cond (rowkey_eq q k) t) (row-put s k r q) ∙ again (rowkey_eq q k) t r (row s q) ∙ sym (row-put s k t q))
-    where
+  where
     again : {A : Type 0} (b : Bool) (x y z : A) → cond b x (cond b y z) ≡ cond b x z
     again true x y z = refl
     again false x y z = refl
@@ -82,7 +82,7 @@ put-put s k r t =
 pub put-row : (s : State) (k : RowKey) → put s k (row s k) ≡ s
 put-row s k =
     same_state _ _ (λ q. row-put s k (row s k) q ∙ here q (rowkey_eq q k) refl)
-    where
+  where
     here : (q : RowKey) (b : Bool) → rowkey_eq q k ≡ b → cond b (row s k) (row s q) ≡ row s q
     here q true e = ap (row s) (sym (rowkey_eq-equal q k e))
     here q false e = refl
@@ -96,11 +96,11 @@ crossed false b x y z one = refl
 pub put-swap : (s : State) (k : RowKey) (r : Option Row) (l : RowKey) (t : Option Row) → rowkey_eq k l ≡ false → put (put s k r) l t ≡ put (put s l t) k r
 put-swap s k r l t apart =
     same_state _ _ (λ q.
-        row-put (put s k r) l t q ∙ ap (cond (rowkey_eq q l) t) (row-put s k r q)
-        ∙ crossed (rowkey_eq q l) (rowkey_eq q k) t r (row s q) (λ a b.
-            let same : k ≡ l = sym (rowkey_eq-equal q k b) ∙ rowkey_eq-equal q l a in
-            let e : true ≡ false = sym (rowkey_eq-self k) ∙ ap (rowkey_eq k) same ∙ apart in cc)
-        ∙ sym (row-put (put s l t) k r q ∙ ap (cond (rowkey_eq q k) r) (row-put s l t q)))
+    row-put (put s k r) l t q ∙ ap (cond (rowkey_eq q l) t) (row-put s k r q)
+    ∙ crossed (rowkey_eq q l) (rowkey_eq q k) t r (row s q) (λ a b.
+    let same : k ≡ l = sym (rowkey_eq-equal q k b) ∙ rowkey_eq-equal q l a in
+    let e : true ≡ false = sym (rowkey_eq-self k) ∙ ap (rowkey_eq k) same ∙ apart in cc)
+    ∙ sym (row-put (put s l t) k r q ∙ ap (cond (rowkey_eq q k) r) (row-put s l t q)))
 
 -- ---- a change of each row
 
@@ -148,4 +148,5 @@ unfolding row change
 row-change f s q = find-changed f q s.rows s.sorted
 
 pub ruleset put_laws = (row-put)
+
 pub ruleset change_laws = (row-change)

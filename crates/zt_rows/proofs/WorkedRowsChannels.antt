@@ -84,6 +84,12 @@ pub list_closed_behind_the_fault : then_one (by_root list_ground) (root (Channel
 unfolding then_one
 list_closed_behind_the_fault = refl
 
+-- within one element the own handle comes before the right to send it on
+pub list_own_handle_before_denied : replies (by_root (ChannelCreate ∷ HandleReplace 7 0xf00c ∷ ChannelWrite 15 [] (15 ∷ []) ∷ []))
+    ≡ Handles 7 11 ∷ Handle 15 ∷ failed NotSupported ∷ []
+unfolding ran
+list_own_handle_before_denied = refl
+
 -- the same where the channel handle itself fails: it is missing, is no channel, or may not write
 pub write_by_no_handle : then_one (by_root (EventCreate ∷ [])) (root (ChannelWrite 99 [] (7 ∷ [])))
     ≡ (failed BadHandle, key.Object 1026 ∷ key.Entry 1025 7 ∷ [])
@@ -113,6 +119,16 @@ pub reading_to_the_end : replies (by_root (ChannelCreate ∷ ChannelRead 11 0 0 
     ≡ Handles 7 11 ∷ failed ShouldWait ∷ done ∷ done ∷ Message (9 ∷ []) [] ∷ failed PeerClosed ∷ []
 unfolding ran
 reading_to_the_end = refl
+
+-- the message goes, and the end is no longer readable
+pub read : then_one (by_root (ChannelCreate ∷ ChannelWrite 7 (9 ∷ []) [] ∷ [])) (root (ChannelRead 11 1 0 false))
+    ≡ (Message (9 ∷ []) [], key.Object 1027 ∷ key.Msg 1027 0 ∷ [])
+unfolding then_one
+read = refl
+
+pub no_longer_readable : row_after (by_root (ChannelCreate ∷ ChannelWrite 7 (9 ∷ []) [] ∷ ChannelRead 11 1 0 false ∷ [])) (key.Object 1027) ≡ Some (object_row kind.Channel 0x2 1026 life.Live 1)
+unfolding row_after
+no_longer_readable = refl
 
 -- handles come in the order of the message, with their rights
 pub handles_in_order : replies (by_root (ChannelCreate ∷ EventCreate ∷ PortCreate ∷ ChannelWrite 7 (1 ∷ 2 ∷ []) (19 ∷ 15 ∷ []) ∷ ChannelRead 11 2 2 false ∷ []))

@@ -1,6 +1,6 @@
 -- How worked rows are written: the calls with their arguments, as a list from the opening, and what is read of
 -- the state that they lead to. The rows themselves are theorems that hold by computation alone.
-use Rattle.std.specs.Prelude.{◌≡◌, ℕ, zero, suc, Bool, ℤ, List, [], ◌∷◌, Option}
+use Rattle.std.specs.Prelude.{ℕ, Bool, ℤ, List, [], ◌∷◌, Option}
 use Rattle.zt_bits.specs.declared.kinds.Kind.{Kind}
 use Rattle.zt_bits.specs.declared.statuses.Status.{Status}
 use Rattle.zt_rows.specs.declared.calls.Reply.{Reply}

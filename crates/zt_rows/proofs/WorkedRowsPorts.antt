@@ -72,6 +72,11 @@ pub port_closed_with_its_wait : then_one (by_root (EventCreate ∷ PortCreate �
 unfolding then_one
 port_closed_with_its_wait = refl
 
+pub port_closed_with_its_packets : then_one (by_root (PortCreate ∷ PortQueue 7 1 [] ∷ [])) (root (HandleClose 7))
+    ≡ (done, key.Object 1026 ∷ key.Entry 1025 7 ∷ key.Packet 1026 0 ∷ [])
+unfolding then_one
+port_closed_with_its_packets = refl
+
 pub sent_without_its_wait : then_one (by_root (EventCreate ∷ PortCreate ∷ ObjectWaitAsync 7 11 1 0x8 ∷ ChannelCreate ∷ [])) (root (ChannelWrite 15 [] (7 ∷ [])))
     ≡ (done, key.Object 1029 ∷ key.Entry 1025 7 ∷ key.Msg 1029 0 ∷ key.Wait 0 ∷ [])
 unfolding then_one
@@ -115,6 +120,35 @@ pub other_handle_stays : replies (by_root (EventCreate ∷ PortCreate ∷ Handle
     ≡ Handle 7 ∷ Handle 11 ∷ Handle 15 ∷ done ∷ done ∷ done ∷ done ∷ Packet (packet.Signal 9 (record { 0 = 0x8 }) (record { 0 = 0x8 }) 1025 15) ∷ failed TimedOut ∷ []
 unfolding ran
 other_handle_stays = refl
+
+-- a child, 1028, that shares a port and an event with the root process, and waits on its handle 11
+abbrev pub waiting_child : List (ℕ × Asked)
+waiting_child =
+    root ChannelCreate ∷ root (Spawn 3 7) ∷ root PortCreate ∷ root (HandleDuplicate 19 0x80000000)
+    ∷ root EventCreate ∷ root (HandleDuplicate 27 0x80000000) ∷ root (ChannelWrite 11 [] (23 ∷ 31 ∷ []))
+    ∷ (1028, ChannelRead 3 0 2 false) ∷ (1028, ObjectWaitAsync 11 7 9 0x8) ∷ []
+
+pub waiting_child_replies : replies (waiting_child)
+    ≡ Handles 7 11 ∷ Spawned 15 1028 ∷ Handle 19 ∷ Handle 23 ∷ Handle 27 ∷ Handle 31 ∷ done ∷ Message [] (7 ∷ 11 ∷ []) ∷ done ∷ []
+unfolding ran
+waiting_child_replies = refl
+
+-- each process cancels its own waits alone: the root process has a handle 11 too
+pub cancel_of_another_process : then_one waiting_child (root (PortCancel 19 11 9))
+    ≡ (failed NotFound, [])
+unfolding then_one
+cancel_of_another_process = refl
+
+pub cancel_of_its_own : then_one waiting_child (1028, PortCancel 7 11 9)
+    ≡ (done, key.Wait 0 ∷ [])
+unfolding then_one
+cancel_of_its_own = refl
+
+-- waits go with the process that made them; its end of the channel closes, port and event stay
+pub exit_with_its_wait : then_one waiting_child (1028, ProcessExit (pos 0))
+    ≡ (done, key.Object 1026 ∷ key.Object 1027 ∷ key.Object 1028 ∷ key.Entry 1028 3 ∷ key.Entry 1028 7 ∷ key.Entry 1028 11 ∷ key.Wait 0 ∷ [])
+unfolding then_one
+exit_with_its_wait = refl
 
 -- the packets of a handle that is closed cannot be cancelled; the port comes before the source
 pub cancel_first_of_two_faults : replies (by_root (EventCreate ∷ PortCreate ∷ ObjectWaitAsync 7 11 1 0x8 ∷ ObjectSignal 7 0 0x8 ∷ HandleClose 7 ∷ PortCancel 11 7 1 ∷ PortCancel 3 7 1 ∷ PortCancel 11 11 1 ∷ []))

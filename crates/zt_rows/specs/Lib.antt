@@ -10,6 +10,7 @@ pub mod Reads
 pub mod Tests
 pub mod Support
 pub mod Change
+pub mod Path
 pub mod Room
 pub mod Opening
 pub mod Collect

@@ -24,3 +24,7 @@ opening_rows =
 
 abbrev pub opening : State
 opening = state_of opening_rows
+
+-- the state of a system that has nothing but counters, at 0
+unfoldable pub hollow : State
+hollow = state_of ((key.Counters, rows.Counters (record { next_koid = 0; next_wait = 0 })) ∷ [])

@@ -5,6 +5,7 @@
 mod calls;
 mod items;
 mod keys;
+pub mod laws;
 mod numbers;
 mod refusals;
 mod rows;

@@ -1,4 +1,4 @@
-ghost use Rattle.std.specs.Prelude.{◌≡◌, ◌↔◌, IfOk, IsSome, IfSome};
+ghost use Rattle.std.specs.Prelude.{◌≡◌, ◌≤◌, ◌↔◌, IfOk, IsSome, IfSome, length};
 ghost use Rattle.zt_rows.specs.Contents.{IsWithinMessage};
 
 use crate::items::Items;
@@ -87,7 +87,8 @@ impl Message {
 
     /// What the handles in the message hold, in their order.
     pub fn handles(&self) -> &Items<Held>
-        ensures { result.now ≡ self.now.handles }
+        ensures value { result.now ≡ self.now.handles }
+        ensures within { length result.now ≤ 64 }
     {
         &self.handles
     }

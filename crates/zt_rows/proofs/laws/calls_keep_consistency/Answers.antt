@@ -1,0 +1,5 @@
+use Rattle.zt_rows.proofs.StepLaws.{step-consistent}
+use Rattle.zt_rows.proofs.laws.calls_keep_consistency.Goals as goal
+
+pub returns : goal.returns
+returns c = step-consistent

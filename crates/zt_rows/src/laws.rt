@@ -1,0 +1,111 @@
+//! What holds of every state and every change of one, and of what follows every call. Each law is the contract
+//! of a function that does nothing.
+ghost use Rattle.std.specs.Prelude.{◌≡◌, ◌↔◌, ℕ, true, false, if◌then◌else◌, List, map, Option, option_and_then};
+ghost use Rattle.std.specs.List.{IsDistinct};
+ghost use Rattle.zt_rows.specs.declared.keys.RowKey.{RowKey};
+ghost use Rattle.zt_rows.specs.declared.rows.Row.{Row};
+ghost use Rattle.zt_rows.specs.Keys.{rowkey_eq};
+ghost use Rattle.zt_rows.specs.Same.{row_eq};
+ghost use Rattle.zt_rows.specs.State.{State, row, put, change};
+ghost use Rattle.zt_rows.specs.Change.{before, exchange};
+ghost use Rattle.zt_rows.specs.Path.{records_of, forth_of, end_of, exchange_back, exchange_forth};
+ghost use Rattle.zt_rows.specs.declared.calls.Call.{Call};
+ghost use Rattle.zt_rows.specs.Collect.{goes, collect};
+ghost use Rattle.zt_rows.specs.Settle.{settle};
+ghost use Rattle.zt_rows.specs.Consistent.{IsSound, IsConsistent};
+ghost use Rattle.zt_rows.specs.Reads.{runs};
+ghost use Rattle.zt_rows.specs.Opening.{opening};
+ghost use Rattle.zt_rows.specs.Step.{step};
+
+/// After a row is put, it stands under its key and every other row is as it was.
+#[tactic(auto, using(crate::proofs::StateLaws::put_laws))]
+pub fn put_changes_one_row()
+    ensures { (s : State) (k : RowKey) (r : Option Row) (q : RowKey)
+        → row (put s k r) q ≡ (if rowkey_eq q k then r else row s q) }
+{}
+
+/// After a change of each row, what stands under a key is what the change makes of what stood there.
+#[tactic(auto, using(crate::proofs::StateLaws::change_laws))]
+pub fn change_works_row_by_row()
+    ensures { (f : RowKey → Row → Option Row) (s : State) (q : RowKey)
+        → row (change f s) q ≡ option_and_then (f q) (row s q) }
+{}
+
+/// States with the same rows are one.
+#[tactic(auto, using(crate::proofs::StateLaws::same_state))]
+pub fn same_rows_are_one_state()
+    ensures { (s t : State) → ((k : RowKey) → row s k ≡ row t k) → s ≡ t }
+{}
+
+/// The test that two rows are one is exact.
+#[tactic(auto, using(crate::proofs::ChangeLaws::exact_laws))]
+pub fn row_test_is_exact()
+    ensures { (a b : Row) → (row_eq a b ≡ true) ↔ (a ≡ b) }
+{}
+
+/// To exchange a record with distinct keys twice changes nothing.
+#[tactic(auto, using(crate::proofs::ChangeLaws::twice_laws))]
+pub fn exchanging_twice_changes_nothing()
+    ensures { (s : State) (rows : List (RowKey × Option Row))
+        → IsDistinct rowkey_eq (map (λ e. e.0) rows)
+        → exchange (exchange s rows).0 (exchange s rows).1 ≡ (s, rows) }
+{}
+
+/// What was before, exchanged with the state after, restores the state before, and leaves the record by which
+/// the state after comes back.
+#[tactic(auto, using(crate::proofs::ChangeLaws::before_laws))]
+pub fn exchanging_back_restores()
+    ensures { (s after : State) → exchange after (before s after) ≡ (s, before after s) }
+{}
+
+/// Over a path of states the records, exchanged from the last to the first, restore the first state.
+#[tactic(auto, using(crate::proofs::ChangeLaws::path_laws))]
+pub fn undoing_a_path_restores()
+    ensures { (s : State) (path : List State)
+        → (exchange_back (end_of s path) (records_of s path)).0 ≡ s }
+{}
+
+/// Over a path of states the records, exchanged from the last to the first and then from the first to the last,
+/// are the records again, and the state is the last one again.
+#[tactic(auto, using(crate::proofs::ChangeLaws::turned_laws))]
+pub fn a_path_is_made_again()
+    ensures back { (s : State) (path : List State)
+        → exchange_back (end_of s path) (records_of s path) ≡ (s, forth_of s path) }
+    ensures forth { (s : State) (path : List State)
+        → exchange_forth s (forth_of s path) ≡ (end_of s path, records_of s path) }
+{}
+
+/// A consistent state is at rest: nothing is left to be removed, renewed or fired.
+#[tactic(auto, using(crate::proofs::SettleLaws::rest_laws))]
+pub fn consistent_is_at_rest()
+    ensures collected { (S : State) → IsConsistent S → collect S ≡ S }
+    ensures settled { (S : State) → IsConsistent S → settle S ≡ S }
+{
+}
+
+/// Nothing goes after collecting: every object that is left has a support.
+#[tactic(auto, using(crate::proofs::CollectLaws::collect_laws))]
+pub fn collected_is_supported()
+    ensures { (S : State) (x : ℕ) → goes (collect S) x ≡ false }
+{
+}
+
+/// What is sound is consistent once it is collected and settled, so a call owes no more than a sound state.
+pub fn sound_becomes_consistent()
+    ensures { (S : State) → IsSound S → IsConsistent (settle (collect S)) }
+{
+}
+
+/// A call of a live process leaves a consistent state consistent.
+pub fn calls_keep_consistency()
+    ensures { (S : State) (p : ℕ) (c : Call) → IsConsistent S → runs S p ≡ true
+        → IsConsistent (step S p c).0 }
+{
+}
+
+/// Every history begins with a consistent state.
+#[tactic(auto, using(crate::proofs::OpeningLaws::opening_laws))]
+pub fn opening_is_consistent()
+    ensures { IsConsistent opening }
+{
+}
