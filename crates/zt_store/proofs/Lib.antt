@@ -1,0 +1,5 @@
+pub mod RowMaps
+pub mod Undoing
+pub mod Counts
+pub mod Places
+pub mod Rooms

@@ -1,0 +1,8 @@
+use Rattle.zt_store.proofs.Undoing.{IsUndone}
+use Rattle.zt_store.proofs.changes.undo.Given as goal
+
+abbrev pub invariant-loop-left : goal.invariant-loop-left
+invariant-loop-left l = IsUndone l.fn.store l.fn.records.items l.left l.after l.back.items
+
+abbrev pub decreases-loop-left : goal.decreases-loop-left
+decreases-loop-left l = l.left

@@ -1,0 +1,15 @@
+//! The store of a debugger's rows: looks at it, steps that change it, and records by which a step is
+//! undone and made again.
+#![tactic(auto)]
+
+mod changes;
+mod records;
+mod steps;
+mod stores;
+#[cfg(test)]
+mod tests;
+
+pub use changes::{swap, undo};
+pub use records::Record;
+pub use steps::Step;
+pub use stores::Store;
