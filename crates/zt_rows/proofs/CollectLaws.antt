@@ -1,23 +1,22 @@
 -- Collecting: nothing goes afterwards, a sound state stays sound, and where nothing goes it changes nothing.
-use Rattle.std.proofs.Common.{◌≡◌, ◌≢◌, ◌≤◌, ◌<◌, ℕ, zero, suc, ◌+◌, Bool, true, false, cond, not, ◌&&◌, ◌||◌, List, [], ◌∷◌, ◌⊎◌, inl, inr, refl, sym, ap, ◌∙◌, subst, arith}
-use Rattle.std.specs.Prelude.{Option, None, Some, option_and_then, is_some, if◌then◌else◌, ◌==◌, length}
+use Rattle.std.proofs.Common.{◌≡◌, ◌≤◌, ◌<◌, ℕ, zero, suc, ◌+◌, Bool, true, false, cond, not, ◌&&◌, List, [], ◌∷◌, refl, sym, ap, ◌∙◌, subst, arith}
+use Rattle.std.specs.Prelude.{Option, None, Some, option_and_then, is_some, if◌then◌else◌, length}
 use Rattle.std.specs.List.{filter_map, count_by, cons_option}
 use Rattle.std.proofs.lemmas.List.Sums.{sum_by-cons}
 use Rattle.zt_rows.specs.declared.keys.RowKey.{RowKey}
 use Rattle.zt_rows.specs.declared.keys.RowKey.TheVariants as key
-use Rattle.zt_rows.specs.declared.rows.ObjectRow.{ObjectRow}
 use Rattle.zt_rows.specs.declared.rows.Row.{Row}
 use Rattle.zt_rows.specs.declared.rows.Row.TheVariants as rows
 use Rattle.zt_rows.specs.Keys.{first_number}
 use Rattle.zt_rows.specs.State.{State, row, change}
-use Rattle.zt_rows.specs.Reads.{object, objects, object_at}
+use Rattle.zt_rows.specs.Reads.{objects, object_at}
 use Rattle.zt_rows.specs.Tests.{exists, is_endpoint, any_row, count_row}
 use Rattle.zt_rows.specs.Support.{is_supported}
 use Rattle.zt_rows.specs.Collect.{unlinked, left, without, goes, rounds, collect}
 use Rattle.zt_rows.specs.Consistent.{IsSound}
 use Rattle.zt_rows.proofs.StateLaws.{same_state}
 use Rattle.zt_rows.proofs.RowLaws.{In, row-in, filter_map-in, and_left, and_right, and_both, not_true, true≢false, any_row-at, at-any_row, count_row-change-less}
-use Rattle.zt_rows.proofs.ReadLaws.{some_one, some-exists, exists-some, object-row, if_none, then_none, row-without}
+use Rattle.zt_rows.proofs.ReadLaws.{some_one, some-exists, object-row, then_none, row-without}
 use Rattle.zt_rows.proofs.SoundLaws.{and_no_right, sound-without}
 
 not_false : (b : Bool) → not b ≡ true → b ≡ false

@@ -1,7 +1,7 @@
 -- A state with the same objects but for their signals and next numbers, the same entries and messages, and no
 -- new waits: it is as sound, its objects are supported alike, and its derived signals are the same.
-use Rattle.std.proofs.Common.{◌≡◌, ◌≢◌, ◌≤◌, ◌<◌, ℕ, zero, suc, ◌+◌, Bool, true, false, cond, not, ◌&&◌, ◌||◌, List, [], ◌∷◌, ◌⊎◌, inl, inr, refl, sym, ap, ◌∙◌, subst, arith}
-use Rattle.std.specs.Prelude.{Option, None, Some, option_and_then, is_some, if◌then◌else◌, ◌==◌, bit_or}
+use Rattle.std.proofs.Common.{◌≡◌, ◌≤◌, ◌<◌, ℕ, true, not, ◌&&◌, ◌||◌, inl, inr, refl, sym, ap, ◌∙◌, subst, arith}
+use Rattle.std.specs.Prelude.{Option, None, Some, is_some, ◌==◌, bit_or}
 use Rattle.std.specs.Option.{option_map}
 use Rattle.zt_bits.specs.declared.kinds.Kind.{Kind}
 use Rattle.zt_bits.specs.declared.kinds.Kind.TheVariants as kind
@@ -22,11 +22,11 @@ use Rattle.zt_rows.specs.Room.{suits}
 use Rattle.zt_rows.specs.Support.{root_job, is_supported}
 use Rattle.zt_rows.specs.PortCalls.{pending, most_pending}
 use Rattle.zt_rows.specs.JobCalls.{most_depth}
-use Rattle.zt_rows.specs.Settle.{is_message_of, is_child_job_of, is_child_process_of, bit_if, terminated, readable, writable, peer_closed, no_jobs, no_processes, derived_by, derived}
+use Rattle.zt_rows.specs.Settle.{is_message_of, is_child_job_of, is_child_process_of, bit_if, terminated, writable, peer_closed, derived_by, derived}
 use Rattle.zt_rows.specs.End.{depth}
 use Rattle.zt_rows.specs.Consistent.{IsPeer, IsChild, has_parent, may_be, possible_signals, SoundObject, SoundEntry, SoundMessage, SoundPacket, SoundWait, IsSound}
-use Rattle.zt_rows.proofs.RowLaws.{same_test, any_row-at, at-any_row, and_left, and_right}
-use Rattle.zt_rows.proofs.ReadLaws.{some_one, exists-some, object-row, message-row}
+use Rattle.zt_rows.proofs.RowLaws.{same_test, any_row-at, at-any_row}
+use Rattle.zt_rows.proofs.ReadLaws.{some_one, object-row, message-row}
 use Rattle.zt_rows.proofs.SupportLaws.{KeptBy, by_entry, by_message, by_child, by_itself, supported-kept, kept-supported}
 use Rattle.zt_rows.proofs.SoundLaws.{is_task, all_map, SameLinks, same_depth, sound-above}
 
@@ -102,8 +102,8 @@ kept-shaped S T same entries messages x (by_itself o h t) =
 pub supported-framed : (S T : State) → Framed S T → (x : ℕ) → is_supported T x ≡ is_supported S x
 supported-framed S T f x =
     same_test (is_supported T x) (is_supported S x)
-        (λ t. kept-supported S x (kept-shaped T S (turned S T f.of_shapes) (λ p h. sym (f.of_entries p h)) (λ e n. sym (f.of_messages e n)) x (supported-kept T x t)))
-        (λ t. kept-supported T x (kept-shaped S T f.of_shapes f.of_entries f.of_messages x (supported-kept S x t)))
+    (λ t. kept-supported S x (kept-shaped T S (turned S T f.of_shapes) (λ p h. sym (f.of_entries p h)) (λ e n. sym (f.of_messages e n)) x (supported-kept T x t)))
+    (λ t. kept-supported T x (kept-shaped S T f.of_shapes f.of_entries f.of_messages x (supported-kept S x t)))
 
 -- ---- derived signals
 
@@ -176,7 +176,7 @@ module _ (S T : State) (sound : IsSound S) (f : Framed S T) where
         there = ap (object T) link ∙ a.1;
         same_kind = ap (λ (z : ObjectRow). z.kind) a.2 ∙ p.same_kind ∙ ap (λ (z : ObjectRow). z.kind) (sym e);
         back = ap (λ (z : ObjectRow). z.link) a.2 ∙ p.back;
-        apart = λ h. p.apart (sym link ∙ h)
+        apart = λ h. p.apart (sym link ∙ h);
       }
 
   child-framed : (x : ℕ) (o q : ObjectRow) → shaped o ≡ shaped q → IsChild S x q → IsChild T x o
@@ -187,7 +187,7 @@ module _ (S T : State) (sound : IsSound S) (f : Framed S T) where
         parent = a.0;
         there = ap (object T) link ∙ a.1;
         live = ap is_live_job a.2 ∙ c.live;
-        smaller = subst (λ l. l < x) (sym link) c.smaller
+        smaller = subst (λ l. l < x) (sym link) c.smaller;
       }
 
   objects-framed : (x : ℕ) (o : ObjectRow) → object T x ≡ Some o → SoundObject T x o
@@ -206,7 +206,7 @@ module _ (S T : State) (sound : IsSound S) (f : Framed S T) where
         parents = λ t. child-framed x o q e (s.parents (sym parent ∙ t));
         alone = λ a b. link ∙ s.alone (sym ends ∙ a) (sym parent ∙ b);
         lives = ap (λ (z : ObjectRow). may_be z.kind z.life) e ∙ s.lives;
-        signals = f.of_signals x o h
+        signals = f.of_signals x o h;
       }
 
   entries-framed : (p h : ℕ) (held : Held) → entry T p h ≡ Some held → SoundEntry T p h held
@@ -217,7 +217,7 @@ module _ (S T : State) (sound : IsSound S) (f : Framed S T) where
       record {
         owner = runs-shaped S T f.of_shapes p ∙ s.owner;
         value = (s.value.0, s.value.1, omega arith);
-        names = exists-shaped S T f.of_shapes held.koid ∙ s.names
+        names = exists-shaped S T f.of_shapes held.koid ∙ s.names;
       }
 
   messages-framed : (e n : ℕ) (m : MessageContent) → message T e n ≡ Some m → SoundMessage T e n m
@@ -229,7 +229,7 @@ module _ (S T : State) (sound : IsSound S) (f : Framed S T) where
         owner = kind_at-shaped S T f.of_shapes e ∙ s.owner;
         number = omega arith;
         names = all_map m.handles (λ held l x. exists-shaped S T f.of_shapes held.koid ∙ x) s.names;
-        within = s.within
+        within = s.within;
       }
 
   waits-framed : (n : ℕ) (w : Wait) → wait T n ≡ Some w → SoundWait T n w
@@ -239,7 +239,7 @@ module _ (S T : State) (sound : IsSound S) (f : Framed S T) where
         number = subst (λ (c : Counters). n < c.next_wait) (sym f.of_counters) s.number;
         held = s.held;
         there = f.of_entries w.process w.handle ∙ s.there;
-        port = kind_at-shaped S T f.of_shapes w.port ∙ s.port
+        port = kind_at-shaped S T f.of_shapes w.port ∙ s.port;
       }
 
   links-framed : SameLinks T S
@@ -265,7 +265,7 @@ module _ (S T : State) (sound : IsSound S) (f : Framed S T) where
     of_packets = f.of_packets;
     of_waits = waits-framed;
     ports = f.of_pending;
-    depths = depths-framed
+    depths = depths-framed;
   }
 
 -- one after the other
@@ -280,7 +280,7 @@ framed-framed S T U f g = record {
   of_counters = g.of_counters ∙ f.of_counters;
   of_waits = λ n w h. f.of_waits n w (g.of_waits n w h);
   of_packets = g.of_packets;
-  of_pending = g.of_pending
+  of_pending = g.of_pending;
 }
 
 pub framed_itself : (S : State) → IsSound S → Framed S S
@@ -294,5 +294,5 @@ framed_itself S sound = record {
   of_counters = refl;
   of_waits = λ n w h. h;
   of_packets = sound.of_packets;
-  of_pending = sound.ports
+  of_pending = sound.ports;
 }

@@ -1,19 +1,15 @@
 -- A state with all the objects of a sound one, each in its shape, and rows that are the old ones or sound: it
 -- is sound. What a call puts is shown so: a new object, a new entry, new signals.
-use Rattle.std.proofs.Common.{◌≡◌, ◌≢◌, ◌≤◌, ◌<◌, ℕ, zero, suc, ◌+◌, ◌*◌, Bool, true, false, cond, not, ◌&&◌, ◌||◌, List, [], ◌∷◌, ◌⊎◌, inl, inr, refl, sym, ap, ◌∙◌, subst, arith}
-use Rattle.std.specs.Prelude.{Option, None, Some, is_some, ◌==◌, bit_and, bit_or}
+use Rattle.std.proofs.Common.{◌≡◌, ◌≤◌, ◌<◌, ℕ, ◌+◌, ◌*◌, true, false, cond, ◌&&◌, ◌||◌, ◌⊎◌, inl, inr, refl, sym, ap, ◌∙◌, subst, arith}
+use Rattle.std.specs.Prelude.{Some, ◌==◌}
 use Rattle.std.specs.Option.{option_map}
-use Rattle.std.specs.Int.Bits.{and_comm, and_self, and_zero_l}
-use Rattle.std.proofs.lemmas.Nat.{and_assoc, and_or_apart}
 use Rattle.std.proofs.lemmas.Bool.{eqb-true, eq-eqb}
 use Rattle.zt_bits.specs.declared.kinds.Kind.{Kind}
 use Rattle.zt_bits.specs.declared.kinds.Kind.TheVariants as kind
-use Rattle.zt_bits.specs.Tables.{settable_signals}
 use Rattle.zt_rows.specs.declared.keys.RowKey.{RowKey}
 use Rattle.zt_rows.specs.declared.keys.RowKey.TheVariants as key
 use Rattle.zt_rows.specs.declared.rows.Counters.{Counters}
 use Rattle.zt_rows.specs.declared.rows.Held.{Held}
-use Rattle.zt_rows.specs.declared.rows.Life.TheVariants as life
 use Rattle.zt_rows.specs.declared.rows.ObjectRow.{ObjectRow}
 use Rattle.zt_rows.specs.declared.rows.Packet.{Packet}
 use Rattle.zt_rows.specs.declared.rows.Wait.{Wait}
@@ -21,22 +17,20 @@ use Rattle.zt_rows.specs.declared.rows.Row.{Row}
 use Rattle.zt_rows.specs.declared.rows.Row.TheVariants as rows
 use Rattle.zt_rows.specs.Contents.{MessageContent}
 use Rattle.zt_rows.specs.State.{State, row, put}
-use Rattle.zt_rows.specs.Reads.{as_counters, as_object, as_entry, as_message, as_packet, as_wait, counters, object, entry, message, packet, wait, is_live, is_job, is_process, is_live_process, is_live_job, runs}
-use Rattle.zt_rows.specs.Tests.{exists, kind_at, link_at, next_at, object_link, object_next, is_endpoint, is_task as is_task_kind, has_all, without_bits, raised}
+use Rattle.zt_rows.specs.Reads.{as_counters, as_object, as_entry, as_message, as_packet, as_wait, counters, object, entry, message, packet, wait, is_live_process, is_live_job, runs}
+use Rattle.zt_rows.specs.Tests.{exists, kind_at, next_at, object_link, object_next, is_endpoint, without_bits, raised}
 use Rattle.zt_rows.specs.Room.{suits}
 use Rattle.zt_rows.specs.Support.{root_job}
 use Rattle.zt_rows.specs.PortCalls.{is_user_packet_of, pending, most_pending}
 use Rattle.zt_rows.specs.JobCalls.{most_depth}
-use Rattle.zt_rows.specs.Settle.{derived_mask}
 use Rattle.zt_rows.specs.End.{depth}
-use Rattle.zt_rows.specs.Handles.{value_of, install, fresh, next_koid, make}
-use Rattle.zt_rows.specs.ObjectCalls.{set_signals}
+use Rattle.zt_rows.specs.Handles.{value_of, install, next_koid}
 use Rattle.zt_rows.specs.Consistent.{IsPeer, IsChild, has_parent, may_be, possible_signals, SoundObject, SoundEntry, SoundMessage, SoundPacket, SoundWait, IsSound}
 use Rattle.zt_rows.proofs.StateLaws.{row-put}
-use Rattle.zt_rows.proofs.RowLaws.{and_left, and_right, true≢false, count_row-put-out}
-use Rattle.zt_rows.proofs.ReadLaws.{some_one, exists-some, some-exists, kind_at-some, chosen, object-put, over-same, typed-put}
+use Rattle.zt_rows.proofs.RowLaws.{and_left, and_right, count_row-put-out}
+use Rattle.zt_rows.proofs.ReadLaws.{some_one, exists-some, some-exists, kind_at-some, chosen, object-put, typed-put}
 use Rattle.zt_rows.proofs.SoundLaws.{is_task, all_map, SameLinks, same_depth, sound-above, runs-some, some-runs}
-use Rattle.zt_rows.proofs.FramedLaws.{shaped, shape, Framed, SameShapes, packet-framed, sound-framed}
+use Rattle.zt_rows.proofs.FramedLaws.{shaped}
 
 -- the object is in its shape, and its next number did not fall
 pub record Kept (o q : ObjectRow) : Type 0 where
@@ -103,7 +97,7 @@ module _ (S T : State) (keeps : KeepsObjects S T) where
         there = ap (object T) link ∙ k.1;
         same_kind = ap (λ (z : ObjectRow). z.kind) k.2.same ∙ p.same_kind ∙ ap (λ (z : ObjectRow). z.kind) (sym kept.same);
         back = ap (λ (z : ObjectRow). z.link) k.2.same ∙ p.back;
-        apart = λ h. p.apart (sym link ∙ h)
+        apart = λ h. p.apart (sym link ∙ h);
       }
 
   child-kept : (x : ℕ) (o q : ObjectRow) → Kept o q → IsChild S x o → IsChild T x q
@@ -114,7 +108,7 @@ module _ (S T : State) (keeps : KeepsObjects S T) where
         parent = k.0;
         there = ap (object T) link ∙ k.1;
         live = ap is_live_job k.2.same ∙ c.live;
-        smaller = subst (λ l. l < x) (sym link) c.smaller
+        smaller = subst (λ l. l < x) (sym link) c.smaller;
       }
 
   -- an object that is kept, with possible signals, is sound
@@ -132,7 +126,7 @@ module _ (S T : State) (keeps : KeepsObjects S T) where
         parents = λ t. child-kept x o q kept (s.parents (sym parent ∙ t));
         alone = λ a b. link ∙ s.alone (sym ends ∙ a) (sym parent ∙ b);
         lives = ap (λ (z : ObjectRow). may_be z.kind z.life) e ∙ s.lives;
-        signals = signals
+        signals = signals;
       }
 
   runs-exists : (p : ℕ) → runs S p ≡ true → exists S p ≡ true
@@ -163,9 +157,9 @@ module _ (S T : State) (keeps : KeepsObjects S T) where
 pub sound-grown : (S T : State) → IsSound S → Grown S T → IsSound T
 sound-grown S T sound g =
     let objects : (x : ℕ) (o : ObjectRow) → object T x ≡ Some o → SoundObject T x o = λ x o h. elim (g.new_objects x o h) [
-        | inl e ↦ let s : SoundObject S x o = sound.of_objects x o e in object-kept S T g.of_objects g.of_koids x o o (kept_itself o) s.signals s
-        | inr s ↦ s
-      ] in
+      | inl e ↦ let s : SoundObject S x o = sound.of_objects x o e in object-kept S T g.of_objects g.of_koids x o o (kept_itself o) s.signals s
+      | inr s ↦ s
+    ] in
     record {
       typed = g.of_rows;
       root = kind-kept S T g.of_objects root_job kind.Job sound.root;
@@ -174,19 +168,20 @@ sound-grown S T sound g =
       of_messages = λ e n m h. elim (g.new_messages e n m h) [ inl f ↦ message-kept S T g.of_objects e n m (sound.of_messages e n m f) | inr s ↦ s ];
       of_packets = λ p n k h. elim (g.new_packets p n k h) [ inl f ↦ packet-kept S T g.of_objects p n (sound.of_packets p n k f) | inr s ↦ s ];
       of_waits = λ n w h. elim (g.new_waits n w h) [
-          | inl f ↦
-              let s : SoundWait S n w = sound.of_waits n w f.0 in
-              let a : n < (counters S).next_wait = s.number in
-              let b : (counters S).next_wait ≤ (counters T).next_wait = g.of_numbers in
-              record { number = omega arith; held = s.held; there = f.1 s.held s.there; port = kind-kept S T g.of_objects w.port kind.Port s.port }
-          | inr s ↦ s
-        ];
+        | inl f ↦
+            let s : SoundWait S n w = sound.of_waits n w f.0 in
+            let a : n < (counters S).next_wait = s.number in
+            let b : (counters S).next_wait ≤ (counters T).next_wait = g.of_numbers in
+            record { number = omega arith; held = s.held; there = f.1 s.held s.there; port = kind-kept S T g.of_objects w.port kind.Port s.port }
+        | inr s ↦ s
+      ];
       ports = g.of_pending;
-      depths = λ x o h live. elim (g.new_depths x o h live) [ inl e ↦ depths-kept x o h live e | inr d ↦ d ]
+      depths = λ x o h live. elim (g.new_depths x o h live) [ inl e ↦ depths-kept x o h live e | inr d ↦ d ];
     }
   where
     live_task : (o : ObjectRow) → is_live_job o ≡ true → is_task o ≡ true
     live_task o e = ap (λ b. b || is_live_process o) e
+
     depths-kept : (x : ℕ) (q : ObjectRow) → object T x ≡ Some q → is_live_job q ≡ true → exists S x ≡ true → depth T x ≤ most_depth
     depths-kept x q h live e =
         let w = some-exists S x e in
@@ -271,7 +266,7 @@ module _ (S : State) (sound : IsSound S) (p : ℕ) (me : ObjectRow) (here : obje
       record {
         owner = runs-kept S installed keeps-installed p (some-runs S p me here live);
         value = (me.next, refl, omega arith);
-        names = exists-kept S installed keeps-installed held.koid names
+        names = exists-kept S installed keeps-installed held.koid names;
       }
 
   new-installed : (q h : ℕ) (other : Held) → entry installed q h ≡ Some other → (entry S q h ≡ Some other) ⊎ SoundEntry installed q h other
@@ -310,14 +305,14 @@ module _ (S : State) (sound : IsSound S) (p : ℕ) (me : ObjectRow) (here : obje
     new_packets = λ e n k h. inl (sym (packet-installed e n) ∙ h);
     new_waits = λ n w h. inl (sym (wait-installed n) ∙ h, λ old e. entries-installed w.process w.handle old e);
     of_pending = λ x.
-      let a : pending installed x ≤ pending with_entry x = count_row-put-out (is_user_packet_of x) with_entry (key.Object p) (rows.Object (raised me)) refl in
-      let b : pending with_entry x ≤ pending S x = count_row-put-out (is_user_packet_of x) S (key.Entry p (value_of me.next)) (rows.Entry held) refl in
-      let c : pending S x ≤ most_pending = sound.ports x in
-      omega arith;
+        let a : pending installed x ≤ pending with_entry x = count_row-put-out (is_user_packet_of x) with_entry (key.Object p) (rows.Object (raised me)) refl in
+        let b : pending with_entry x ≤ pending S x = count_row-put-out (is_user_packet_of x) S (key.Entry p (value_of me.next)) (rows.Entry held) refl in
+        let c : pending S x ≤ most_pending = sound.ports x in
+        omega arith;
     new_depths = λ x o h job. elim (x == p) as (λ b. (x == p) ≡ b → (exists S x ≡ true) ⊎ (depth installed x ≤ most_depth)) [
-        | true ↦ λ t. inl (exists-some S x me (ap (object S) (eqb-true x p t) ∙ here))
-        | false ↦ λ t. inl (exists-some S x o (sym (has-installed x ∙ ap (λ b. cond b (Some (raised me)) (object S x)) t) ∙ h))
-      ] refl
+      | true ↦ λ t. inl (exists-some S x me (ap (object S) (eqb-true x p t) ∙ here))
+      | false ↦ λ t. inl (exists-some S x o (sym (has-installed x ∙ ap (λ b. cond b (Some (raised me)) (object S x)) t) ∙ h))
+    ] refl;
   }
 
   -- a process that runs receives a handle to what exists

@@ -5,6 +5,7 @@ pub mod ReadLaws
 pub mod SupportLaws
 pub mod SoundLaws
 pub mod CollectLaws
+pub mod WithoutLaws
 pub mod FramedLaws
 pub mod SettleLaws
 pub mod GrownLaws

@@ -1,38 +1,34 @@
 -- A new object at the next koid, and new signals of one object, leave a sound state sound.
-use Rattle.std.proofs.Common.{◌≡◌, ◌≢◌, ◌≤◌, ◌<◌, ℕ, zero, suc, ◌+◌, ◌-◌, ◌*◌, Bool, true, false, cond, not, ◌&&◌, ◌||◌, List, [], ◌∷◌, ◌⊎◌, inl, inr, refl, sym, ap, ◌∙◌, subst, arith}
-use Rattle.std.specs.Prelude.{Option, None, Some, is_some, ◌==◌, bit_and, bit_or}
+use Rattle.std.proofs.Common.{◌≡◌, ◌≤◌, ◌<◌, ℕ, ◌+◌, ◌-◌, true, false, cond, not, ◌&&◌, ◌||◌, ◌⊎◌, inl, inr, refl, sym, ap, ◌∙◌, subst, arith}
+use Rattle.std.specs.Prelude.{Some, ◌==◌, bit_and, bit_or}
 use Rattle.std.specs.Option.{option_map}
-use Rattle.std.specs.Int.Bits.{and_comm, and_self, and_zero_l}
+use Rattle.std.specs.Int.Bits.{and_comm, and_zero_l}
 use Rattle.std.proofs.lemmas.Nat.{and_assoc, and_or_apart}
-use Rattle.std.proofs.lemmas.Bool.{eqb-true, eq-eqb}
+use Rattle.std.proofs.lemmas.Bool.{eqb-true}
 use Rattle.zt_bits.specs.declared.kinds.Kind.{Kind}
 use Rattle.zt_bits.specs.declared.kinds.Kind.TheVariants as kind
 use Rattle.zt_bits.specs.Tables.{settable_signals}
-use Rattle.zt_rows.specs.declared.keys.RowKey.{RowKey}
 use Rattle.zt_rows.specs.declared.keys.RowKey.TheVariants as key
 use Rattle.zt_rows.specs.declared.rows.Counters.{Counters}
-use Rattle.zt_rows.specs.declared.rows.Held.{Held}
 use Rattle.zt_rows.specs.declared.rows.Life.TheVariants as life
 use Rattle.zt_rows.specs.declared.rows.ObjectRow.{ObjectRow}
-use Rattle.zt_rows.specs.declared.rows.Row.{Row}
 use Rattle.zt_rows.specs.declared.rows.Row.TheVariants as rows
-use Rattle.zt_rows.specs.State.{State, row, put}
-use Rattle.zt_rows.specs.Reads.{as_counters, as_object, as_entry, as_message, as_packet, as_wait, counters, object, entry, message, packet, wait, is_live, is_job, is_process, is_live_process, is_live_job}
-use Rattle.zt_rows.specs.Tests.{exists, kind_at, next_at, object_next, is_endpoint, is_task as is_task_kind, has_all, without_bits}
+use Rattle.zt_rows.specs.State.{State, put}
+use Rattle.zt_rows.specs.Reads.{as_counters, as_object, as_entry, as_message, as_packet, as_wait, counters, object, entry, message, packet, wait, is_job, is_process, is_live_process, is_live_job}
+use Rattle.zt_rows.specs.Tests.{exists, next_at, object_next, is_task as is_task_kind, has_all, without_bits}
 use Rattle.zt_rows.specs.Room.{suits}
 use Rattle.zt_rows.specs.Support.{root_job}
 use Rattle.zt_rows.specs.PortCalls.{is_user_packet_of, pending, most_pending}
 use Rattle.zt_rows.specs.JobCalls.{most_depth}
-use Rattle.zt_rows.specs.Settle.{derived_mask}
 use Rattle.zt_rows.specs.End.{depth}
 use Rattle.zt_rows.specs.Handles.{fresh, next_koid, make}
 use Rattle.zt_rows.specs.ObjectCalls.{set_signals}
-use Rattle.zt_rows.specs.Consistent.{has_parent, may_be, possible_signals, SoundObject, SoundPacket, IsSound}
+use Rattle.zt_rows.specs.Consistent.{has_parent, may_be, possible_signals, SoundObject, IsSound}
 use Rattle.zt_rows.proofs.StateLaws.{row-put}
-use Rattle.zt_rows.proofs.RowLaws.{and_left, and_right, true≢false, count_row-put-out}
-use Rattle.zt_rows.proofs.ReadLaws.{some_one, exists-some, some-exists, kind_at-some, chosen, object-put, over-same, typed-put}
-use Rattle.zt_rows.proofs.FramedLaws.{shaped, shape, Framed, SameShapes, packet-framed, sound-framed}
-use Rattle.zt_rows.proofs.GrownLaws.{Kept, KeepsObjects, Grown, HasObject, keeps-with, new-with, has-object, object-kept, sound-grown}
+use Rattle.zt_rows.proofs.RowLaws.{true≢false, count_row-put-out}
+use Rattle.zt_rows.proofs.ReadLaws.{some_one, exists-some, kind_at-some, object-put, over-same, typed-put}
+use Rattle.zt_rows.proofs.FramedLaws.{shaped, Framed, SameShapes, packet-framed, sound-framed}
+use Rattle.zt_rows.proofs.GrownLaws.{KeepsObjects, Grown, HasObject, keeps-with, new-with, has-object, sound-grown}
 
 -- ---- a new object
 
@@ -109,14 +105,14 @@ module _ (S : State) (sound : IsSound S) (o : ObjectRow) where
     new_packets = λ p n k h. inl (sym (packet-made p n) ∙ h);
     new_waits = λ n w h. inl (sym (wait-made n) ∙ h, λ held e. entry-made w.process w.handle ∙ e);
     of_pending = λ x.
-      let a : pending made x ≤ pending with_object x = count_row-put-out (is_user_packet_of x) with_object key.Counters (rows.Counters raised_counters) refl in
-      let b : pending with_object x ≤ pending S x = count_row-put-out (is_user_packet_of x) S (key.Object (next_koid S)) (rows.Object o) refl in
-      let c : pending S x ≤ most_pending = sound.ports x in
-      omega arith;
+        let a : pending made x ≤ pending with_object x = count_row-put-out (is_user_packet_of x) with_object key.Counters (rows.Counters raised_counters) refl in
+        let b : pending with_object x ≤ pending S x = count_row-put-out (is_user_packet_of x) S (key.Object (next_koid S)) (rows.Object o) refl in
+        let c : pending S x ≤ most_pending = sound.ports x in
+        omega arith;
     new_depths = λ x q h job. elim (x == next_koid S) as (λ b. (x == next_koid S) ≡ b → cond b (Some o) (object S x) ≡ Some q → (exists S x ≡ true) ⊎ (depth made x ≤ most_depth)) [
-        | true ↦ λ t e. inr (subst (λ z. depth made z ≤ most_depth) (sym (eqb-true x (next_koid S) t)) (deep (ap is_live_job (some_one o q e) ∙ job)))
-        | false ↦ λ t e. inl (exists-some S x q e)
-      ] refl (sym (has-made x) ∙ h)
+      | true ↦ λ t e. inr (subst (λ z. depth made z ≤ most_depth) (sym (eqb-true x (next_koid S) t)) (deep (ap is_live_job (some_one o q e) ∙ job)))
+      | false ↦ λ t e. inl (exists-some S x q e)
+    ] refl (sym (has-made x) ∙ h);
   }
 
   -- an object that is sound at its place can be made; a live job has to lie not too deep
@@ -153,14 +149,14 @@ sound-create S sound k plain =
     let T : State = make (counters S) (fresh k 0) S in
     let koids : next_koid T ≡ next_koid S + 1 = koids-made S sound (fresh k 0) in
     let new : SoundObject T (next_koid S) (fresh k 0) = record {
-        low = koid-low S sound;
-        high = omega arith;
-        peers = λ e. inl refl;
-        parents = λ e. absurd (true≢false (has_parent (next_koid S) (fresh k 0)) e (no_parent (next_koid S) k plain));
-        alone = λ e f. refl;
-        lives = may_be-live k;
-        signals = and_zero_l (4294967295 - possible_signals k)
-      } in
+      low = koid-low S sound;
+      high = omega arith;
+      peers = λ e. inl refl;
+      parents = λ e. absurd (true≢false (has_parent (next_koid S) (fresh k 0)) e (no_parent (next_koid S) k plain));
+      alone = λ e f. refl;
+      lives = may_be-live k;
+      signals = and_zero_l (4294967295 - possible_signals k);
+    } in
     sound-make S sound (fresh k 0) new (λ e. absurd (true≢false (is_live_job (fresh k 0)) e (not_job k (no_task k plain).1)))
 
 -- ---- new signals
@@ -217,9 +213,9 @@ module _ (S : State) (sound : IsSound S) (x : ℕ) (o : ObjectRow) (here : objec
     of_waits = λ n w h. sym (ap as_wait (row-put S (key.Object x) (Some (rows.Object new_row)) (key.Wait n))) ∙ h;
     of_packets = λ p n k h. packet-framed S signaled shapes-signaled nexts-signaled p n (sound.of_packets p n k (sym (ap as_packet (row-put S (key.Object x) (Some (rows.Object new_row)) (key.Packet p n))) ∙ h));
     of_pending = λ y.
-      let a : pending signaled y ≤ pending S y = count_row-put-out (is_user_packet_of y) S (key.Object x) (rows.Object new_row) refl in
-      let c : pending S y ≤ most_pending = sound.ports y in
-      omega arith
+        let a : pending signaled y ≤ pending S y = count_row-put-out (is_user_packet_of y) S (key.Object x) (rows.Object new_row) refl in
+        let c : pending S y ≤ most_pending = sound.ports y in
+        omega arith;
   }
 
   -- signals that may be set on the kind can be set and cleared

@@ -1,10 +1,9 @@
 -- The opening is consistent.
-use Rattle.std.proofs.Common.{◌≡◌, ◌≢◌, ◌≤◌, ◌<◌, ℕ, ◌+◌, ◌*◌, Bool, true, false, cond, List, [], ◌∷◌, ◌⊎◌, inl, inr, refl, sym, ap, ◌∙◌, subst, arith}
-use Rattle.std.specs.Prelude.{Option, None, Some, is_some}
+use Rattle.std.proofs.Common.{◌≡◌, ◌≤◌, ℕ, true, ◌⊎◌, inl, inr, refl, sym, ap, subst, arith}
+use Rattle.std.specs.Prelude.{None, Some}
 use Rattle.zt_bits.specs.declared.kinds.Kind.TheVariants as kind
 use Rattle.zt_rows.specs.declared.keys.RowKey.{RowKey}
 use Rattle.zt_rows.specs.declared.keys.RowKey.TheVariants as key
-use Rattle.zt_rows.specs.declared.rows.Counters.{Counters}
 use Rattle.zt_rows.specs.declared.rows.Held.{Held}
 use Rattle.zt_rows.specs.declared.rows.Life.TheVariants as life
 use Rattle.zt_rows.specs.declared.rows.ObjectRow.{ObjectRow}
@@ -13,17 +12,17 @@ use Rattle.zt_rows.specs.declared.rows.Wait.{Wait}
 use Rattle.zt_rows.specs.declared.rows.Row.{Row}
 use Rattle.zt_rows.specs.declared.rows.Row.TheVariants as rows
 use Rattle.zt_rows.specs.Contents.{MessageContent}
-use Rattle.zt_rows.specs.State.{State, row, put}
-use Rattle.zt_rows.specs.Reads.{counters, object, entry, message, packet, wait, is_live_process, is_live_job, runs}
-use Rattle.zt_rows.specs.Tests.{exists, kind_at, next_at, any_row, count_row}
+use Rattle.zt_rows.specs.State.{row, put}
+use Rattle.zt_rows.specs.Reads.{counters, object, is_live_job}
+use Rattle.zt_rows.specs.Tests.{any_row, count_row}
 use Rattle.zt_rows.specs.Room.{suits}
-use Rattle.zt_rows.specs.Support.{root_job, is_supported}
-use Rattle.zt_rows.specs.PortCalls.{pending, most_pending}
+use Rattle.zt_rows.specs.Support.{is_supported}
+use Rattle.zt_rows.specs.PortCalls.{pending}
 use Rattle.zt_rows.specs.JobCalls.{most_depth}
-use Rattle.zt_rows.specs.Settle.{renewed, is_met}
+use Rattle.zt_rows.specs.Settle.{renewed}
 use Rattle.zt_rows.specs.End.{links, chain, depth}
 use Rattle.zt_rows.specs.Opening.{opening_rows, opening}
-use Rattle.zt_rows.specs.Consistent.{SoundObject, SoundEntry, SoundMessage, SoundPacket, SoundWait, IsSound, IsConsistent}
+use Rattle.zt_rows.specs.Consistent.{SoundObject, SoundEntry, IsSound, IsConsistent}
 use Rattle.zt_rows.proofs.StateLaws.{rows-state_of}
 use Rattle.zt_rows.proofs.RowLaws.{In, row-in}
 use Rattle.zt_rows.proofs.ReadLaws.{some-exists, object-row, entry-row, message-row, packet-row, wait-row}
@@ -92,9 +91,9 @@ object-opening x o h = object-cases x o (in-opening (key.Object x) (rows.Object 
 -- a fact of the two objects
 of_both : (P : ℕ → ObjectRow → Type 0) → P 1024 job_row → P 1025 process_row → (x : ℕ) (o : ObjectRow) → object opening x ≡ Some o → P x o
 of_both P job process x o h = elim (object-opening x o h) [
-    | inl e ↦ subst (λ z. P z o) (sym e.0) (subst (λ z. P 1024 z) (sym e.1) job)
-    | inr e ↦ subst (λ z. P z o) (sym e.0) (subst (λ z. P 1025 z) (sym e.1) process)
-  ]
+  | inl e ↦ subst (λ z. P z o) (sym e.0) (subst (λ z. P 1024 z) (sym e.1) job)
+  | inr e ↦ subst (λ z. P z o) (sym e.0) (subst (λ z. P 1025 z) (sym e.1) process)
+]
 
 entry-cases : (p h : ℕ) (held : Held) → In (key.Entry p h, rows.Entry held) opening_rows → (p ≡ 1025) × (h ≡ 3) × (held ≡ held_row)
 entry-cases p h held (inl e) = let f : key.Entry p h ≡ key.Counters = ap (λ (z : RowKey × Row). z.0) e in cc
@@ -145,7 +144,7 @@ job-sound = record {
   parents = λ e. cc;
   alone = λ e f. refl;
   lives = refl;
-  signals = refl
+  signals = refl;
 }
 
 process-sound : SoundObject opening 1025 process_row
@@ -156,7 +155,7 @@ process-sound = record {
   parents = λ e. record { parent = job_row; there = object-job; live = refl; smaller = omega arith };
   alone = λ e f. cc;
   lives = refl;
-  signals = refl
+  signals = refl;
 }
 
 entry-sound : SoundEntry opening 1025 3 held_row
@@ -169,13 +168,13 @@ sound-opening = record {
   root = ap (λ r. elim r [ Some o ↦ Some o.kind | None ↦ None ]) object-job;
   of_objects = of_both (λ x o. SoundObject opening x o) job-sound process-sound;
   of_entries = λ p h held e.
-    let w = entry-cases p h held (in-opening (key.Entry p h) (rows.Entry held) (entry-row opening p h held e)) in
-    subst (λ z. SoundEntry opening z h held) (sym w.0) (subst (λ z. SoundEntry opening 1025 z held) (sym w.1) (subst (λ z. SoundEntry opening 1025 3 z) (sym w.2) entry-sound));
+      let w = entry-cases p h held (in-opening (key.Entry p h) (rows.Entry held) (entry-row opening p h held e)) in
+      subst (λ z. SoundEntry opening z h held) (sym w.0) (subst (λ z. SoundEntry opening 1025 z held) (sym w.1) (subst (λ z. SoundEntry opening 1025 3 z) (sym w.2) entry-sound));
   of_messages = λ e n m h. absurd (no_message e n m (in-opening (key.Msg e n) (rows.Msg m) (message-row opening e n m h)));
   of_packets = λ e n m h. absurd (no_packet e n m (in-opening (key.Packet e n) (rows.Packet m) (packet-row opening e n m h)));
   of_waits = λ n w h. absurd (no_wait n w (in-opening (key.Wait n) (rows.Wait w) (wait-row opening n w h)));
   ports = λ x. let e : pending opening x ≡ 0 = pending-opening x in omega arith;
-  depths = of_both (λ x o. is_live_job o ≡ true → depth opening x ≤ most_depth) (λ e. let d : depth opening 1024 ≡ 0 = depth-opening in omega arith) (λ e. cc)
+  depths = of_both (λ x o. is_live_job o ≡ true → depth opening x ≤ most_depth) (λ e. let d : depth opening 1024 ≡ 0 = depth-opening in omega arith) (λ e. cc);
 }
 
 -- every history begins with a consistent state
@@ -183,10 +182,10 @@ pub opening-consistent : IsConsistent opening
 opening-consistent = record {
   sound = sound-opening;
   supported = λ x e.
-    let w = some-exists opening x e in
-    of_both (λ x o. is_supported opening x ≡ true) (kept-supported opening 1024 (by_itself job_row object-job refl)) (kept-supported opening 1025 (by_itself process_row object-process refl)) x w.0 w.1;
+      let w = some-exists opening x e in
+      of_both (λ x o. is_supported opening x ≡ true) (kept-supported opening 1024 (by_itself job_row object-job refl)) (kept-supported opening 1025 (by_itself process_row object-process refl)) x w.0 w.1;
   agrees = of_both (λ x o. renewed opening x o ≡ o.signals.0) job-renewed process-renewed;
-  waiting = λ n w h. absurd (no_wait n w (in-opening (key.Wait n) (rows.Wait w) (wait-row opening n w h)))
+  waiting = λ n w h. absurd (no_wait n w (in-opening (key.Wait n) (rows.Wait w) (wait-row opening n w h)));
 }
 
 pub ruleset opening_laws = (opening-consistent)

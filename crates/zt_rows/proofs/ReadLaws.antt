@@ -1,13 +1,11 @@
 -- What the looks at a state see after a row was put, and of the state without a set of objects.
-use Rattle.std.proofs.Common.{◌≡◌, ◌≢◌, ℕ, ◌+◌, Bool, true, false, cond, not, ◌&&◌, ◌||◌, T, List, [], ◌∷◌, ◌⊎◌, inl, inr, refl, sym, ap, ◌∙◌, subst, arith}
+use Rattle.std.proofs.Common.{◌≡◌, ℕ, Bool, true, false, cond, refl, sym, ap, ◌∙◌, subst}
 use Rattle.std.specs.Prelude.{Option, None, Some, option_and_then, is_some, if◌then◌else◌, ◌==◌}
 use Rattle.std.specs.Option.{option_map}
-use Rattle.std.proofs.lemmas.Bool.{eqb-true, eq-eqb}
+use Rattle.std.proofs.lemmas.Bool.{eqb-true}
 use Rattle.zt_bits.specs.declared.kinds.Kind.{Kind}
-use Rattle.zt_bits.specs.declared.kinds.Kind.TheVariants as kind
 use Rattle.zt_rows.specs.declared.keys.RowKey.{RowKey}
 use Rattle.zt_rows.specs.declared.keys.RowKey.TheVariants as key
-use Rattle.zt_rows.specs.declared.rows.Counters.{Counters}
 use Rattle.zt_rows.specs.declared.rows.Held.{Held}
 use Rattle.zt_rows.specs.declared.rows.ObjectRow.{ObjectRow}
 use Rattle.zt_rows.specs.declared.rows.Packet.{Packet}
@@ -16,14 +14,13 @@ use Rattle.zt_rows.specs.declared.rows.Row.{Row}
 use Rattle.zt_rows.specs.declared.rows.Row.TheVariants as rows
 use Rattle.zt_rows.specs.Contents.{MessageContent}
 use Rattle.zt_rows.specs.Keys.{rowkey_eq}
-use Rattle.zt_rows.specs.KeyOrder.{rowkey_eq-decides, rowkey_eq-equal}
-use Rattle.zt_rows.specs.State.{State, row, put, change}
+use Rattle.zt_rows.specs.KeyOrder.{rowkey_eq-equal}
+use Rattle.zt_rows.specs.State.{State, row, put}
 use Rattle.zt_rows.specs.Reads.{as_counters, as_object, as_entry, as_message, as_packet, as_wait, counters, object, entry, message, packet, wait}
-use Rattle.zt_rows.specs.Tests.{exists, kind_at, link_at, next_at, signals_at, is_endpoint}
+use Rattle.zt_rows.specs.Tests.{exists, kind_at}
 use Rattle.zt_rows.specs.Room.{suits}
 use Rattle.zt_rows.specs.Collect.{unlinked, left, without}
 use Rattle.zt_rows.proofs.StateLaws.{row-put, row-change}
-use Rattle.zt_rows.proofs.RowLaws.{true≢false}
 
 -- ---- the row behind what is read
 

@@ -1,16 +1,15 @@
 -- From what stands under each key to the list of rows and back: a row that passes a test, and how many pass.
 use Rattle.std.proofs.Common.{◌≡◌, ◌≤◌, ◌<◌, ℕ, ◌+◌, Bool, true, false, cond, not, ◌&&◌, ◌||◌, T, List, [], ◌∷◌, ◌⊎◌, inl, inr, refl, sym, ap, ◌∙◌, subst, arith}
 use Rattle.std.specs.Prelude.{Option, None, Some}
-use Rattle.std.specs.List.{list_any, filter_map, count_by, sum_by, filter, cons_option}
+use Rattle.std.specs.List.{list_any, filter_map, count_by, cons_option}
 use Rattle.std.proofs.lemmas.List.Sums.{sum_by-cons}
 use Rattle.std.specs.FinMap.Entries as entries
-use Rattle.std.specs.Ordering.{is_lt, is_eq, eq_by_cmp}
-use Rattle.std.specs.declared.cmp.Ordering.{Ordering}
+use Rattle.std.specs.Ordering.{eq_by_cmp}
 use Rattle.std.specs.declared.cmp.Ordering.TheVariants.{Less, Equal, Greater}
 use Rattle.zt_rows.specs.declared.keys.RowKey.{RowKey}
 use Rattle.zt_rows.specs.declared.rows.Row.{Row}
 use Rattle.zt_rows.specs.Keys.{rowkey_cmp, rowkey_eq}
-use Rattle.zt_rows.specs.KeyOrder.{rowkey_cmp_total, rowkey_cmp-equal, rowkey_eq-equal, rowkey_eq-decides, rowkey_eq-cmp}
+use Rattle.zt_rows.specs.KeyOrder.{rowkey_cmp-equal, rowkey_eq-equal, rowkey_eq-decides, rowkey_eq-cmp}
 use Rattle.zt_rows.specs.RowOrder.{changed_rows, kept}
 use Rattle.zt_rows.specs.State.{State, row, put, change}
 use Rattle.zt_rows.specs.Tests.{any_row, count_row}

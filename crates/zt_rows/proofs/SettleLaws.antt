@@ -1,7 +1,7 @@
 -- Settling: it frames a sound state, afterwards derived signals agree and no wait is met, and where that holds
 -- already it changes nothing.
-use Rattle.std.proofs.Common.{◌≡◌, ◌≢◌, ◌≤◌, ◌<◌, ℕ, zero, suc, ◌+◌, ◌-◌, Bool, true, false, cond, not, ◌&&◌, ◌||◌, List, [], ◌∷◌, ◌⊎◌, inl, inr, refl, sym, ap, ◌∙◌, subst, arith}
-use Rattle.std.specs.Prelude.{Option, None, Some, option_and_then, is_some, if◌then◌else◌, ◌==◌, bit_and, bit_or, fold}
+use Rattle.std.proofs.Common.{◌≡◌, ◌≤◌, ℕ, ◌+◌, ◌-◌, Bool, true, false, cond, not, ◌&&◌, List, [], ◌∷◌, inl, inr, refl, sym, ap, ◌∙◌, subst, arith}
+use Rattle.std.specs.Prelude.{Option, None, Some, option_and_then, if◌then◌else◌, ◌==◌, bit_and, bit_or, fold}
 use Rattle.std.specs.Option.{option_map}
 use Rattle.std.specs.Int.Bits.{and_comm, and_self, and_zero_l}
 use Rattle.std.proofs.lemmas.Nat.{and_assoc, and_or_apart}
@@ -16,21 +16,21 @@ use Rattle.zt_rows.specs.declared.rows.Packet.{Packet}
 use Rattle.zt_rows.specs.declared.rows.Wait.{Wait}
 use Rattle.zt_rows.specs.declared.rows.Row.{Row}
 use Rattle.zt_rows.specs.declared.rows.Row.TheVariants as rows
-use Rattle.zt_rows.specs.State.{State, row, put, change}
+use Rattle.zt_rows.specs.State.{State, row, put}
 use Rattle.zt_rows.specs.Reads.{as_counters, as_object, as_entry, as_message, as_packet, as_wait, counters, object, entry, message, packet, wait, waits, wait_at, is_live}
 use Rattle.zt_rows.specs.Tests.{exists, kind_at, next_at, signals_at, object_next, object_signals, without_bits, raised, any_row}
 use Rattle.zt_rows.specs.Room.{suits}
 use Rattle.zt_rows.specs.Support.{is_supported}
 use Rattle.zt_rows.specs.PortCalls.{is_user_packet_of, pending, most_pending}
-use Rattle.zt_rows.specs.Settle.{is_message_of, is_child_job_of, is_child_process_of, derived_mask, bit_if, derived_by, derived, renewed, refreshed, refresh, push_packet, signals_by, observed, is_met, news, fire_into, fire, settle}
+use Rattle.zt_rows.specs.Settle.{is_message_of, is_child_job_of, is_child_process_of, derived_mask, bit_if, derived_by, derived, renewed, refreshed, refresh, push_packet, signals_by, is_met, news, fire_into, fire, settle}
 use Rattle.zt_rows.specs.Collect.{collect}
-use Rattle.zt_rows.specs.Consistent.{possible_signals, SoundObject, SoundPacket, SoundWait, IsSound, IsConsistent}
+use Rattle.zt_rows.specs.Consistent.{possible_signals, SoundObject, SoundPacket, IsSound, IsConsistent}
 use Rattle.zt_rows.proofs.StateLaws.{row-put, row-change, same_state}
 use Rattle.zt_rows.proofs.RowLaws.{In, row-in, in-row, filter_map-in, in-filter_map, and_left, and_right, not_true, count_row-change, count_row-put-out, count_row-take}
-use Rattle.zt_rows.proofs.ReadLaws.{some_one, exists-some, some-exists, kind_at-some, object-row, wait-row, object-put, over-same, typed-put, chosen, only_if}
+use Rattle.zt_rows.proofs.ReadLaws.{some_one, kind_at-some, wait-row, object-put, over-same, typed-put, chosen, only_if}
 use Rattle.zt_rows.proofs.SoundLaws.{changed-suits, and_no_right}
 use Rattle.zt_rows.proofs.CollectLaws.{and_then_all, collect-none, supported-stays}
-use Rattle.zt_rows.proofs.FramedLaws.{shaped, shape, Framed, SameShapes, exists-shaped, kind_at-shaped, shaped-there, turned, supported-framed, derived-framed, packet-framed, sound-framed, framed-framed, framed_itself}
+use Rattle.zt_rows.proofs.FramedLaws.{shaped, Framed, SameShapes, exists-shaped, kind_at-shaped, shaped-there, turned, supported-framed, derived-framed, packet-framed, sound-framed, framed-framed, framed_itself}
 
 -- ---- derived bits
 
@@ -153,16 +153,16 @@ framed-refresh S sound =
       of_shapes = shapes;
       of_nexts = rises;
       of_signals = λ x o h.
-        let w = map-renew S x (object S x) o (sym (object-refresh S x) ∙ h) in
-        let s : SoundObject S x w.0 = sound.of_objects x w.0 w.1 in
-        subst (λ (z : ObjectRow). without_bits z.signals.0 (possible_signals z.kind) ≡ 0) (sym w.2)
+          let w = map-renew S x (object S x) o (sym (object-refresh S x) ∙ h) in
+          let s : SoundObject S x w.0 = sound.of_objects x w.0 w.1 in
+          subst (λ (z : ObjectRow). without_bits z.signals.0 (possible_signals z.kind) ≡ 0) (sym w.2)
           (renew-possible w.0.signals.0 (derived_mask w.0.kind) (derived S x w.0) (outside (possible_signals w.0.kind)) s.signals (derived-possible S x w.0));
       of_entries = λ p h. ap as_entry (other-refresh S (key.Entry p h) (λ x e. cc));
       of_messages = λ e n. ap as_message (other-refresh S (key.Msg e n) (λ x g. cc));
       of_counters = ap as_counters (other-refresh S key.Counters (λ x e. cc));
       of_waits = λ n w h. sym (ap as_wait (other-refresh S (key.Wait n) (λ x e. cc))) ∙ h;
       of_packets = λ p n k h. packet-framed S T shapes rises p n (sound.of_packets p n k (sym (ap as_packet (other-refresh S (key.Packet p n) (λ x e. cc))) ∙ h));
-      of_pending = λ x. let a : pending T x ≤ pending S x = count_row-change (is_user_packet_of x) (refreshed S) (refreshed-user S x) S in let b : pending S x ≤ most_pending = sound.ports x in omega arith
+      of_pending = λ x. let a : pending T x ≤ pending S x = count_row-change (is_user_packet_of x) (refreshed S) (refreshed-user S x) S in let b : pending S x ≤ most_pending = sound.ports x in omega arith;
     }
 
 -- ---- firing one wait
@@ -268,7 +268,7 @@ module _ (S : State) (n : ℕ) (w : Wait) (o : ObjectRow) where
       of_counters = counters-fired;
       of_waits = λ m v h. (only_if (m == n) (wait S m) v (sym (wait-fired m) ∙ h)).1;
       of_packets = packets-fired sound port;
-      of_pending = pending-fired sound
+      of_pending = pending-fired sound;
     }
 
 -- ---- firing
@@ -319,7 +319,7 @@ framed-fold [] S sound ports = framed_itself S sound
 framed-fold ((n, w) ∷ ws) S sound ports =
     let port : kind_at S w.port ≡ Some kind.Port = ports n w (inl refl) in
     framed-framed S (fire S (n, w)) (fold fire (fire S (n, w)) ws) (framed-fire S n w sound port)
-        (framed-fold ws (fire S (n, w)) (sound-fire S n w sound port) (ports-fire S n w ws sound ports))
+    (framed-fold ws (fire S (n, w)) (sound-fire S n w sound port) (ports-fire S n w ws sound ports))
 
 signals-fold : (ws : List (ℕ × Wait)) (S : State) → IsSound S → ForPorts S ws → (x : ℕ) → signals_at (fold fire S ws) x ≡ signals_at S x
 signals-fold [] S sound ports x = refl
@@ -425,7 +425,7 @@ consistent_settled S sound supported =
       sound = sound-settle S sound;
       supported = λ x e. supported-framed S U f x ∙ supported x (sym (exists-shaped S U f.of_shapes x) ∙ e);
       agrees = agrees-settle S sound;
-      waiting = quiet-settle S sound
+      waiting = quiet-settle S sound;
     }
 
 -- ---- where nothing is to be done

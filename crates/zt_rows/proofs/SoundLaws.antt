@@ -1,6 +1,6 @@
 -- A sound state stays sound when objects that nothing supports go from it.
-use Rattle.std.proofs.Common.{◌≡◌, ◌≢◌, ◌≤◌, ◌<◌, ℕ, zero, suc, ◌+◌, ◌*◌, Bool, true, false, cond, not, ◌&&◌, ◌||◌, List, [], ◌∷◌, ◌⊎◌, inl, inr, refl, sym, ap, ◌∙◌, subst, arith}
-use Rattle.std.specs.Prelude.{Option, None, Some, option_and_then, is_some, if◌then◌else◌, ◌==◌, length}
+use Rattle.std.proofs.Common.{◌≡◌, ◌≤◌, ◌<◌, ℕ, zero, suc, ◌+◌, Bool, true, false, ◌&&◌, ◌||◌, List, [], ◌∷◌, ◌⊎◌, inl, inr, refl, sym, ap, ◌∙◌, subst, arith}
+use Rattle.std.specs.Prelude.{Option, None, Some, option_and_then, if◌then◌else◌, length}
 use Rattle.std.specs.Option.{option_map}
 use Rattle.std.specs.List.{AllByRecursion}
 use Rattle.zt_bits.specs.declared.kinds.Kind.{Kind}
@@ -9,23 +9,22 @@ use Rattle.zt_rows.specs.declared.keys.RowKey.{RowKey}
 use Rattle.zt_rows.specs.declared.keys.RowKey.TheVariants as key
 use Rattle.zt_rows.specs.declared.rows.Counters.{Counters}
 use Rattle.zt_rows.specs.declared.rows.Held.{Held}
-use Rattle.zt_rows.specs.declared.rows.Life.{Life}
 use Rattle.zt_rows.specs.declared.rows.ObjectRow.{ObjectRow}
 use Rattle.zt_rows.specs.declared.rows.Packet.{Packet}
 use Rattle.zt_rows.specs.declared.rows.Wait.{Wait}
 use Rattle.zt_rows.specs.declared.rows.Row.{Row}
 use Rattle.zt_rows.specs.declared.rows.Row.TheVariants as rows
 use Rattle.zt_rows.specs.Contents.{MessageContent}
-use Rattle.zt_rows.specs.State.{State, row, change}
+use Rattle.zt_rows.specs.State.{State, row}
 use Rattle.zt_rows.specs.Reads.{counters, object, entry, message, packet, wait, is_live, is_job, is_process, is_live_process, is_live_job, on_object, runs}
-use Rattle.zt_rows.specs.Tests.{exists, kind_at, link_at, next_at, object_link, object_next, is_endpoint, count_row}
+use Rattle.zt_rows.specs.Tests.{exists, kind_at, link_at, next_at, object_link, object_next, is_endpoint}
 use Rattle.zt_rows.specs.Room.{suits}
 use Rattle.zt_rows.specs.Support.{root_job, is_supported}
 use Rattle.zt_rows.specs.PortCalls.{is_user_packet_of, pending}
-use Rattle.zt_rows.specs.Collect.{unlinked, left, without, goes, rounds, collect}
+use Rattle.zt_rows.specs.Collect.{unlinked, left, without}
 use Rattle.zt_rows.specs.End.{upward, links, chain, depth}
 use Rattle.zt_rows.specs.Consistent.{IsPeer, IsChild, has_parent, SoundObject, SoundEntry, SoundMessage, SoundPacket, SoundWait, IsSound}
-use Rattle.zt_rows.proofs.RowLaws.{In, and_left, and_right, and_both, or_left, or_right, or_true, true≢false, not_true, count_row-change}
+use Rattle.zt_rows.proofs.RowLaws.{In, and_left, and_both, or_left, or_right, or_true, true≢false, not_true, count_row-change}
 use Rattle.zt_rows.proofs.ReadLaws.{some_one, exists-some, some-exists, kind_at-some, if_none, row-without, counters-without, entry-without, stayed, stays, wait-stayed, message-stayed, packet-stayed}
 use Rattle.zt_rows.proofs.SupportLaws.{KeptBy, by_entry, by_message, by_child, by_itself, kept-supported}
 
@@ -45,9 +44,9 @@ task-not-endpoint o e = task-not-endpoint_of o.kind (is_live o.life) e
 
 pub has_parent-task : (x : ℕ) (o : ObjectRow) → has_parent x o ≡ true → is_task o ≡ true
 has_parent-task x o e = elim (or_true (is_live_process o) _ e) [
-    | inl p ↦ or_right (is_live_job o) _ p
-    | inr j ↦ or_left (is_live_job o) _ (and_left (is_live_job o) _ j)
-  ]
+  | inl p ↦ or_right (is_live_job o) _ p
+  | inr j ↦ or_left (is_live_job o) _ (and_left (is_live_job o) _ j)
+]
 
 pub has_parent-not-endpoint : (x : ℕ) (o : ObjectRow) → has_parent x o ≡ true → is_endpoint o.kind ≡ false
 has_parent-not-endpoint x o e = task-not-endpoint o (has_parent-task x o e)
@@ -127,7 +126,7 @@ left-user going x _ r s e h = cc
 
 -- ---- links of what is left
 
-link-kept : (going : ℕ → Bool) (o : ObjectRow) → (is_endpoint o.kind && going o.link) ≡ false → (unlinked going o).link ≡ o.link
+pub link-kept : (going : ℕ → Bool) (o : ObjectRow) → (is_endpoint o.kind && going o.link) ≡ false → (unlinked going o).link ≡ o.link
 link-kept going o h = ap (λ b. if b then 0 else o.link) h
 
 link-cut : (going : ℕ → Bool) (o : ObjectRow) → (is_endpoint o.kind && going o.link) ≡ true → (unlinked going o).link ≡ 0
@@ -174,7 +173,7 @@ module _ (S : State) (sound : IsSound S) (going : ℕ → Bool) (free : (x : ℕ
               there = ap (object rest) same ∙ stays going S o.link p.peer p.there t;
               same_kind = p.same_kind;
               back = back;
-              apart = λ q. p.apart (sym same ∙ q)
+              apart = λ q. p.apart (sym same ∙ q);
             })
       ] refl
 
@@ -186,7 +185,7 @@ module _ (S : State) (sound : IsSound S) (going : ℕ → Bool) (free : (x : ℕ
         parent = unlinked going c.parent;
         there = ap (object rest) same ∙ stays going S o.link c.parent c.there t;
         live = c.live;
-        smaller = subst (λ l. l < x) (sym same) c.smaller
+        smaller = subst (λ l. l < x) (sym same) c.smaller;
       }
 
   left-object : (x : ℕ) (o : ObjectRow) → object S x ≡ Some o → going x ≡ false → SoundObject rest x (unlinked going o)
@@ -199,7 +198,7 @@ module _ (S : State) (sound : IsSound S) (going : ℕ → Bool) (free : (x : ℕ
         parents = λ p. left-child x o h p (s.parents p);
         alone = λ e p. link-zero going o (s.alone e p);
         lives = s.lives;
-        signals = s.signals
+        signals = s.signals;
       }
 
   left-objects : (x : ℕ) (o : ObjectRow) → object rest x ≡ Some o → SoundObject rest x o
@@ -230,7 +229,7 @@ module _ (S : State) (sound : IsSound S) (going : ℕ → Bool) (free : (x : ℕ
       record {
         owner = some-runs rest p (unlinked going w.0) (stays going S p w.0 w.1 g) w.2;
         value = (s.value.0, s.value.1, subst (λ m. s.value.0 < m) (sym (next-left p w.0 w.1 g)) s.value.2);
-        names = exists-left held.koid s.names (not_going held.koid (by_entry p h held was refl))
+        names = exists-left held.koid s.names (not_going held.koid (by_entry p h held was refl));
       }
 
   left-messages : (e n : ℕ) (m : MessageContent) → message rest e n ≡ Some m → SoundMessage rest e n m
@@ -241,7 +240,7 @@ module _ (S : State) (sound : IsSound S) (going : ℕ → Bool) (free : (x : ℕ
         owner = kind-left e kind.Channel s.owner was.0;
         number = subst (λ b. n < b) (sym (next-kind-left e kind.Channel s.owner was.0)) s.number;
         names = all_map m.handles (λ held l x. exists-left held.koid x (not_going held.koid (by_message e n m held was.1 l refl))) s.names;
-        within = s.within
+        within = s.within;
       }
 
   left-packets : (p n : ℕ) (k : Packet) → packet rest p n ≡ Some k → SoundPacket rest p n
@@ -250,7 +249,7 @@ module _ (S : State) (sound : IsSound S) (going : ℕ → Bool) (free : (x : ℕ
       let s : SoundPacket S p n = sound.of_packets p n k was.1 in
       record {
         owner = kind-left p kind.Port s.owner was.0;
-        number = subst (λ b. n < b) (sym (next-kind-left p kind.Port s.owner was.0)) s.number
+        number = subst (λ b. n < b) (sym (next-kind-left p kind.Port s.owner was.0)) s.number;
       }
 
   left-waits : (n : ℕ) (w : Wait) → wait rest n ≡ Some w → SoundWait rest n w
@@ -261,7 +260,7 @@ module _ (S : State) (sound : IsSound S) (going : ℕ → Bool) (free : (x : ℕ
         number = subst (λ (c : Counters). n < c.next_wait) (sym same_counters) s.number;
         held = s.held;
         there = entry-without going S w.process w.handle ∙ s.there;
-        port = kind-left w.port kind.Port s.port was.1
+        port = kind-left w.port kind.Port s.port was.1;
       }
 
   left-pending : (x : ℕ) → pending rest x ≤ pending S x
@@ -291,5 +290,5 @@ module _ (S : State) (sound : IsSound S) (going : ℕ → Bool) (free : (x : ℕ
     of_packets = left-packets;
     of_waits = left-waits;
     ports = λ x. let a : pending rest x ≤ pending S x = left-pending x in let b : pending S x ≤ 2048 = sound.ports x in omega arith;
-    depths = left-depths
+    depths = left-depths;
   }

@@ -1,6 +1,6 @@
 -- Each call leaves a consistent state consistent: its checks tell what its puts rest on, the direct change is
 -- sound, and what is sound is consistent once it is collected and settled.
-use Rattle.std.proofs.Common.{◌≡◌, ℕ, Bool, true, false, cond, ◌&&◌, refl, sym, ap, ◌∙◌, subst, arith}
+use Rattle.std.proofs.Common.{◌≡◌, ℕ, Bool, true, false, refl, sym, ap, subst}
 use Rattle.std.specs.Prelude.{Option, None, Some, Result, Ok, Err, ok_or, ⊤}
 use Rattle.zt_bits.specs.declared.kinds.Kind.{Kind}
 use Rattle.zt_bits.specs.declared.kinds.Kind.TheVariants as kind
@@ -10,7 +10,6 @@ use Rattle.zt_bits.specs.Tables.{settable_signals}
 use Rattle.zt_rows.specs.declared.calls.Call.{Call}
 use Rattle.zt_rows.specs.declared.calls.Call.TheVariants as call
 use Rattle.zt_rows.specs.declared.calls.Reply.{Reply}
-use Rattle.zt_rows.specs.declared.calls.Reply.TheVariants as reply
 use Rattle.zt_rows.specs.declared.rows.Held.{Held}
 use Rattle.zt_rows.specs.declared.rows.ObjectRow.{ObjectRow}
 use Rattle.zt_rows.specs.State.{State}
@@ -18,11 +17,11 @@ use Rattle.zt_rows.specs.Reads.{counters, object, entry, runs, is_live_process}
 use Rattle.zt_rows.specs.Tests.{exists, is_task as is_task_kind, any_kind, has_all}
 use Rattle.zt_rows.specs.Collect.{collect}
 use Rattle.zt_rows.specs.Settle.{settle}
-use Rattle.zt_rows.specs.Handles.{◌>>=◌, check, handle, handle_else, done, answered, value_of, as_caller, caller, install, whole, fresh, next_koid, make}
-use Rattle.zt_rows.specs.ObjectCalls.{create, event_create, may_set, set_signals, object_signal}
-use Rattle.zt_rows.specs.Step.{direct, completed, step}
+use Rattle.zt_rows.specs.Handles.{◌>>=◌, check, handle_else, answered, as_caller, caller, install, whole, fresh, next_koid, make}
+use Rattle.zt_rows.specs.ObjectCalls.{create, may_set, object_signal}
+use Rattle.zt_rows.specs.Step.{direct, step}
 use Rattle.zt_rows.specs.Consistent.{IsSound, IsConsistent}
-use Rattle.zt_rows.proofs.RowLaws.{and_left, and_right}
+use Rattle.zt_rows.proofs.RowLaws.{and_right}
 use Rattle.zt_rows.proofs.ReadLaws.{exists-some}
 use Rattle.zt_rows.proofs.SoundLaws.{runs-some}
 use Rattle.zt_rows.proofs.CollectLaws.{sound-collect, collect-supported, stays-supported}
@@ -64,12 +63,15 @@ after_handle P S wrong p h wanted rights f base next = by_entry (entry S p h) re
     by_rights : (held : Held) (o : ObjectRow) → entry S p h ≡ Some held → object S held.koid ≡ Some o → wanted o.kind ≡ true → (b : Bool) → has_all held.rights.0 rights ≡ b → P (answered S ((check b status.AccessDenied >>= (λ _. Ok (held, o))) >>= f)).0
     by_rights held o e g k true r = next held o (record { entry_there = e; object_there = g; of_kind = k; with_rights = r })
     by_rights held o e g k false r = base
+
     by_kind : (held : Held) (o : ObjectRow) → entry S p h ≡ Some held → object S held.koid ≡ Some o → (b : Bool) → wanted o.kind ≡ b → P (answered S ((check b wrong >>= (λ _. check (has_all held.rights.0 rights) status.AccessDenied >>= (λ _. Ok (held, o)))) >>= f)).0
     by_kind held o e g true k = by_rights held o e g k (has_all held.rights.0 rights) refl
     by_kind held o e g false k = base
+
     by_object : (held : Held) → entry S p h ≡ Some held → (r : Option ObjectRow) → object S held.koid ≡ r → P (answered S ((ok_or r status.BadHandle >>= (λ o. check (wanted o.kind) wrong >>= (λ _. check (has_all held.rights.0 rights) status.AccessDenied >>= (λ _. Ok (held, o))))) >>= f)).0
     by_object held e (Some o) g = by_kind held o e g (wanted o.kind) refl
     by_object held e None g = base
+
     by_entry : (r : Option Held) → entry S p h ≡ r → P (answered S ((ok_or r status.BadHandle >>= (λ held. ok_or (object S held.koid) status.BadHandle >>= (λ o. check (wanted o.kind) wrong >>= (λ _. check (has_all held.rights.0 rights) status.AccessDenied >>= (λ _. Ok (held, o)))))) >>= f)).0
     by_entry (Some held) e = by_object held e (object S held.koid) refl
     by_entry None e = base
@@ -87,13 +89,13 @@ sound-create_call S p k sound live plain =
     let made : IsSound T = sound-create S sound k plain in
     let there : exists T (next_koid S) ≡ true = exists-some T (next_koid S) (fresh k 0) (object-made S sound (fresh k 0)) in
     subst (λ me. IsSound (install p me (whole (next_koid S) k) T)) (sym w.3)
-        (sound-install T made p w.0 (others-made S sound (fresh k 0) p w.0 w.1) w.2 (whole (next_koid S) k) there)
+    (sound-install T made p w.0 (others-made S sound (fresh k 0) p w.0 w.1) w.2 (whole (next_koid S) k) there)
 
 pub sound-object_signal : (S : State) (p h clear set : ℕ) → IsSound S → IsSound (object_signal S p h clear set).0
 sound-object_signal S p h clear set sound =
     after_handle IsSound S status.WrongType p h any_kind 0x1000 _ sound (λ held o found.
-        after_check IsSound S (may_set o.kind clear set) status.InvalidArgs _ sound (λ settable.
-            sound-signals S sound held.koid o found.object_there clear set (and_right (has_all (settable_signals o.kind) clear) _ settable)))
+    after_check IsSound S (may_set o.kind clear set) status.InvalidArgs _ sound (λ settable.
+    sound-signals S sound held.koid o found.object_there clear set (and_right (has_all (settable_signals o.kind) clear) _ settable)))
 
 pub sound-direct : (S : State) (p : ℕ) (c : Call) → IsSound S → runs S p ≡ true → IsSound (direct S p c).0
 unfolding direct

@@ -1,7 +1,7 @@
 -- An object is supported exactly where a row says so: an entry or a message that names it, a live child of a
 -- live job, or itself.
-use Rattle.std.proofs.Common.{◌≡◌, ◌≢◌, ℕ, suc, ◌+◌, Bool, true, false, cond, not, ◌&&◌, ◌||◌, T, List, [], ◌∷◌, ◌++◌, length, ◌⊎◌, inl, inr, refl, sym, ap, ◌∙◌, subst, arith}
-use Rattle.std.specs.Prelude.{Option, None, Some, is_some, if◌then◌else◌, ◌==◌}
+use Rattle.std.proofs.Common.{◌≡◌, ℕ, suc, ◌+◌, Bool, true, false, ◌||◌, List, [], ◌∷◌, ◌++◌, length, ◌⊎◌, inl, inr, refl, sym, ap, ◌∙◌, subst, arith}
+use Rattle.std.specs.Prelude.{Option, None, Some, if◌then◌else◌, ◌==◌}
 use Rattle.std.specs.List.{filter_map, flat_map}
 use Rattle.std.proofs.lemmas.Bool.{eqb-true, eq-eqb}
 use Rattle.std.proofs.lemmas.Bool.Decides.{nat_tests}
@@ -129,9 +129,9 @@ module _ (S : State) (x : ℕ) where
 
   kept-entries : (s : Support) → In s (by_entries ++ by_messages) → KeptBy S x
   kept-entries s m = elim (in-append s by_entries by_messages m) [
-      | inl l ↦ let w = in-filter_map (entry_support x) s S.rows l in kept-entry w.0.0 w.0.1 s (in-row S w.0.0 w.0.1 w.1) w.2
-      | inr l ↦ let w = in-flat_map (message_supports x) s S.rows l in kept-message w.0.0 w.0.1 s (in-row S w.0.0 w.0.1 w.1) w.2
-    ]
+    | inl l ↦ let w = in-filter_map (entry_support x) s S.rows l in kept-entry w.0.0 w.0.1 s (in-row S w.0.0 w.0.1 w.1) w.2
+    | inr l ↦ let w = in-flat_map (message_supports x) s S.rows l in kept-message w.0.0 w.0.1 s (in-row S w.0.0 w.0.1 w.1) w.2
+  ]
 
   kept-rest : (s : Support) → In s (by_entries ++ by_messages ++ by_children) → KeptBy S x
   kept-rest s m = elim (in-append s (by_entries ++ by_messages) by_children m) [ inl l ↦ kept-entries s l | inr r ↦ kept-children (object S x) refl s r ]

@@ -15,6 +15,9 @@ use Rattle.zt_rows.specs.declared.rows.Row.TheVariants as rows
 use Rattle.zt_rows.specs.declared.supports.Support.TheVariants as support
 use Rattle.zt_rows.specs.Handles.{done}
 use Rattle.zt_rows.proofs.WorkedRowsForm.{Asked, EventCreate, PortCreate, EventPairCreate, ChannelCreate, HandleClose, HandleDuplicate, HandleReplace, ChannelWrite, ChannelRead, ObjectSignal, ObjectSignalPeer, ObjectWaitAsync, PortQueue, PortWait, PortCancel, JobCreate, Spawn, TaskKill, ProcessExit, ran, root, by_root, replies, rows_after, row_after, supports_after, then_one, failed, object_row, held_row, counters_row}
+use Rattle.zt_rows.specs.declared.calls.Call.TheVariants as call
+use Rattle.zt_rows.specs.Opening.{opening}
+use Rattle.zt_rows.specs.Step.{direct, step, run}
 
 -- ---- making objects
 
@@ -33,6 +36,16 @@ pub one_event_rows : rows_after (by_root (EventCreate ∷ []))
     ∷ (key.Entry 1025 7, held_row 1026 0xd003) ∷ []
 unfolding ran
 one_event_rows = refl
+
+-- the same, and a signal, by the step of the calls that a trace can have already
+pub by_the_step : run opening ((1025, call.EventCreate) ∷ (1025, call.ObjectSignal 7 (record { 0 = 0x01000000 }) (record { 0 = 0x8 })) ∷ (1025, call.ObjectSignal 7 (record { 0 = 0x8 }) (record { 0 = 0x02000000 })) ∷ [])
+    ≡ ran (by_root (EventCreate ∷ ObjectSignal 7 0x01000000 0x8 ∷ ObjectSignal 7 0x8 0x02000000 ∷ []))
+unfolding ran direct step
+by_the_step = refl
+
+pub by_the_step_row : row_after (by_root (EventCreate ∷ ObjectSignal 7 0x01000000 0x8 ∷ ObjectSignal 7 0x8 0x02000000 ∷ [])) (key.Object 1026) ≡ Some (object_row kind.Event 0x02000000 0 life.Live 0)
+unfolding row_after
+by_the_step_row = refl
 
 -- neither a koid nor a handle value is used again
 pub values_are_not_used_again : replies (by_root (EventCreate ∷ HandleClose 7 ∷ EventCreate ∷ []))

@@ -1,7 +1,7 @@
 -- The calls on channels. Names, rights and statuses as in Fuchsia's reference of `zx_channel_create`,
 -- `zx_channel_write` and `zx_channel_read`; the order of the checks, which handles a write that fails closes, and
 -- which fault of its list counts, is this project's own profile.
-use Rattle.std.specs.Prelude.{ℕ, ◌+◌, Bool, not, ◌==◌, ◌&&◌, nat_le, if◌then◌else◌, List, [], ◌∷◌, length, Option, None, Some, Result, Ok, ok_or}
+use Rattle.std.specs.Prelude.{ℕ, Bool, not, ◌==◌, ◌&&◌, nat_le, if◌then◌else◌, List, [], ◌∷◌, length, None, Some, Result, Ok, ok_or}
 use Rattle.zt_bits.specs.declared.kinds.Kind.TheVariants as kind
 use Rattle.zt_bits.specs.declared.statuses.Status.{Status}
 use Rattle.zt_bits.specs.declared.statuses.Status.TheVariants as status

@@ -1,26 +1,23 @@
 -- The states that a history can reach, as one fact with named parts: what the rows of objects, entries,
 -- messages, packets and waits owe each other. Object lifetimes and peers as in Fuchsia's reference of kernel
 -- objects; numbers and limits are this project's own profile.
-use Rattle.std.specs.Prelude.{◌≡◌, ◌≢◌, ◌⊎◌, ℕ, ◌+◌, ◌*◌, ◌-◌, ◌<◌, ◌≤◌, Bool, true, false, not, ◌==◌, ◌&&◌, ◌||◌, Option, Some, bit_and, bit_or}
+use Rattle.std.specs.Prelude.{◌≡◌, ◌≢◌, ◌⊎◌, ℕ, ◌+◌, ◌*◌, ◌<◌, ◌≤◌, Bool, true, false, not, ◌==◌, ◌&&◌, ◌||◌, Some, bit_or}
 use Rattle.std.specs.List.{AllByRecursion}
 use Rattle.zt_bits.specs.declared.kinds.Kind.{Kind}
 use Rattle.zt_bits.specs.declared.kinds.Kind.TheVariants as kind
 use Rattle.zt_bits.specs.Tables.{settable_signals}
 use Rattle.zt_rows.specs.declared.keys.RowKey.{RowKey}
-use Rattle.zt_rows.specs.declared.keys.RowKey.TheVariants as key
 use Rattle.zt_rows.specs.declared.rows.Held.{Held}
 use Rattle.zt_rows.specs.declared.rows.Life.{Life}
 use Rattle.zt_rows.specs.declared.rows.Life.TheVariants as life
 use Rattle.zt_rows.specs.declared.rows.ObjectRow.{ObjectRow}
 use Rattle.zt_rows.specs.declared.rows.Packet.{Packet}
-use Rattle.zt_rows.specs.declared.rows.Packet.TheVariants as packet
 use Rattle.zt_rows.specs.declared.rows.Row.{Row}
-use Rattle.zt_rows.specs.declared.rows.Row.TheVariants as rows
 use Rattle.zt_rows.specs.declared.rows.Wait.{Wait}
 use Rattle.zt_rows.specs.Contents.{MessageContent, IsWithinMessage}
 use Rattle.zt_rows.specs.State.{State, row}
 use Rattle.zt_rows.specs.Reads.{counters, object, entry, message, packet as packet_at, wait, runs, is_live_job, is_live_process}
-use Rattle.zt_rows.specs.Tests.{is_endpoint, exists, kind_at, link_at, next_at, without_bits, count_row}
+use Rattle.zt_rows.specs.Tests.{is_endpoint, exists, kind_at, next_at, without_bits}
 use Rattle.zt_rows.specs.Room.{suits}
 use Rattle.zt_rows.specs.Support.{root_job, is_supported}
 use Rattle.zt_rows.specs.Settle.{derived_mask, renewed, is_met}
@@ -49,7 +46,7 @@ pub record IsChild (S : State) (x : ℕ) (o : ObjectRow) : Type 0 where
 abbrev pub has_parent : ℕ → ObjectRow → Bool
 has_parent x o = is_live_process o || (is_live_job o && not (x == root_job))
 
--- only a process or a job has ended, and no job has exited
+-- how an object of the kind may be: a process in any way, a job not exited, everything else live
 abbrev pub may_be : Kind → Life → Bool
 may_be kind.Process how = true
 may_be kind.Job life.Live = true

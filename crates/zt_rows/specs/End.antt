@@ -1,6 +1,6 @@
 -- Ending processes and jobs, as Fuchsia's reference has it of `zx_task_kill` and `zx_process_exit`. That a kill
 -- is complete within its call, and that what has ended leaves its parent, is this project's own profile.
-use Rattle.std.specs.Prelude.{ℕ, zero, suc, ◌+◌, Bool, true, false, ◌==◌, ◌&&◌, ◌||◌, if◌then◌else◌, List, [], ◌∷◌, length, Option, None, Some}
+use Rattle.std.specs.Prelude.{ℕ, zero, suc, ◌+◌, Bool, false, ◌==◌, ◌&&◌, ◌||◌, if◌then◌else◌, List, [], ◌∷◌, length, Option, None, Some}
 use Rattle.zt_bits.specs.declared.kinds.Kind.{Kind}
 use Rattle.zt_bits.specs.declared.kinds.Kind.TheVariants as kind
 use Rattle.zt_rows.specs.declared.keys.RowKey.{RowKey}
@@ -19,12 +19,13 @@ abbrev pub upward : ℕ → (ℕ → List ℕ) → List ℕ
 upward zero above = []
 upward (suc x) above = (suc x) ∷ above (suc x)
 
--- the first so many koids that one comes to from x by links
+-- the koids that one comes to from x by links, at most so many of them
 unfoldable pub links : ℕ → State → ℕ → List ℕ
 links zero S x = []
 links (suc n) S x = upward (link_at S x) (λ y. links n S y)
 
--- the jobs above a live process or job, the nearest first: each has a smaller koid, so there are at most x
+-- the jobs above a live process or job, the nearest first. Each has a smaller koid than the one below it, so
+-- the bound never cuts the list short.
 unfoldable pub chain : State → ℕ → List ℕ
 chain S x = links (x + 1) S x
 

@@ -1,6 +1,6 @@
 -- What calls do with the caller's handles: looking one up, taking entries out, giving new ones, making objects.
--- Checks and their statuses as in Fuchsia's reference of handles and rights; that a handle is checked for
--- validity, then type, then right, and that the n-th handle of a process has the value 4n + 3, is this
+-- Checks and their statuses as in Fuchsia's reference of handles and rights; the order of a handle's
+-- checks, and that the n-th handle of a process has the value 4n + 3, is this
 -- project's own profile.
 use Rattle.std.specs.Prelude.{ℕ, ◌+◌, ◌*◌, Bool, true, false, ◌==◌, ◌&&◌, if◌then◌else◌, ⊤, List, [], ◌∷◌, Option, None, Some, Result, Ok, Err, ok_or}
 use Rattle.zt_bits.specs.declared.kinds.Kind.{Kind}

@@ -1,7 +1,7 @@
 -- The calls on jobs and processes. Names, rights and statuses as in Fuchsia's reference of `zx_job_create`,
 -- `zx_task_kill` and `zx_process_exit`; `spawn`, which stands for creating and starting a process with one
 -- handle, the depth of jobs and the order of the checks is this project's own profile.
-use Rattle.std.specs.Prelude.{ℕ, zero, suc, ℤ, ◌==◌, nat_lt, if◌then◌else◌, Option, None, Some, Result, Ok}
+use Rattle.std.specs.Prelude.{ℕ, ℤ, ◌==◌, nat_lt, if◌then◌else◌, Option, None, Some, Result, Ok}
 use Rattle.zt_bits.specs.declared.kinds.Kind.TheVariants as kind
 use Rattle.zt_bits.specs.declared.statuses.Status.{Status}
 use Rattle.zt_bits.specs.declared.statuses.Status.TheVariants as status

@@ -31,7 +31,7 @@ then_second Greater q e = cc
 key_of : ℕ → ℕ → ℕ → RowKey
 key_of v x n =
     cond (v == 0) key.Counters (cond (v == 1) (key.Object x) (cond (v == 2) (key.Entry x n)
-        (cond (v == 3) (key.Msg x n) (cond (v == 4) (key.Packet x n) (key.Wait x)))))
+    (cond (v == 3) (key.Msg x n) (cond (v == 4) (key.Packet x n) (key.Wait x)))))
 
 key_of-numbers : (k : RowKey) → key_of (variant k) (first_number k) (second_number k) ≡ k
 unfolding key_of
@@ -99,7 +99,7 @@ flipped a b = (λ e. sym (rowkey_eq-equal b a e), λ e. (rowkey_eq-decides b a).
 pub rowkey_eq-laws : IsPartialEquivalence rowkey_eq
 rowkey_eq-laws = record {
   symm = λ a b. one_answer _ _ (rowkey_eq-decides a b) (flipped a b);
-  trans = λ a b c p q. (rowkey_eq-decides a c).1 (rowkey_eq-equal a b p ∙ rowkey_eq-equal b c q)
+  trans = λ a b c p q. (rowkey_eq-decides a c).1 (rowkey_eq-equal a b p ∙ rowkey_eq-equal b c q);
 }
 
 pub rowkey_eq-matches : (a b : RowKey) → rowkey_eq a b ≡ is_eq (rowkey_cmp a b)
@@ -109,4 +109,3 @@ pub ruleset key_ties = (rowkey_eq-matches)
 
 pub rowkey_cmp_partial : IsPartialOrder rowkey_eq (as_partial_cmp rowkey_cmp)
 rowkey_cmp_partial = partial_order_from_agreeing_total rowkey_cmp rowkey_cmp_total (λ a b. refl) rowkey_eq-matches
-

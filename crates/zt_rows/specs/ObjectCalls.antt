@@ -1,7 +1,7 @@
 -- The calls on handles, on events and event pairs, and on the signals of objects of any kind. Names, rights,
 -- signals and statuses as in Fuchsia's reference of the system calls of the same names; the order of the checks,
 -- and that a replacement that fails closes the handle, is this project's own profile.
-use Rattle.std.specs.Prelude.{ℕ, ◌+◌, Bool, ◌==◌, ◌&&◌, if◌then◌else◌, Option, None, Some, Result, Ok, ok_or, bit_or}
+use Rattle.std.specs.Prelude.{ℕ, ◌+◌, Bool, ◌==◌, ◌&&◌, if◌then◌else◌, Some, Ok, ok_or, bit_or}
 use Rattle.zt_bits.specs.declared.kinds.Kind.{Kind}
 use Rattle.zt_bits.specs.declared.kinds.Kind.TheVariants as kind
 use Rattle.zt_bits.specs.declared.statuses.Status.TheVariants as status

@@ -2,10 +2,9 @@
 -- reference of `zx_port_create`, `zx_port_queue`, `zx_port_wait`, `zx_port_cancel` and `zx_object_wait_async`;
 -- the order of the checks, the limit on packets, and that the deadline of a wait has always passed, is this
 -- project's own profile.
-use Rattle.std.specs.Prelude.{ℕ, ◌+◌, Bool, true, false, ◌==◌, ◌&&◌, nat_lt, if◌then◌else◌, List, Option, None, Some, Result, Ok, ok_or}
+use Rattle.std.specs.Prelude.{ℕ, ◌+◌, Bool, true, false, ◌==◌, ◌&&◌, nat_lt, if◌then◌else◌, List, None, Some, Ok, ok_or}
 use Rattle.zt_bits.specs.declared.kinds.Kind.TheVariants as kind
 use Rattle.zt_bits.specs.declared.statuses.Status.TheVariants as status
-use Rattle.zt_bits.specs.declared.signal_bits.Signals.{Signals}
 use Rattle.zt_rows.specs.declared.calls.Reply.{Reply}
 use Rattle.zt_rows.specs.declared.calls.Reply.TheVariants as reply
 use Rattle.zt_rows.specs.declared.keys.RowKey.{RowKey}

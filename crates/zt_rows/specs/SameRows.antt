@@ -25,7 +25,6 @@ use Rattle.zt_rows.specs.declared.rows.Row.TheVariants as rows
 use Rattle.zt_rows.specs.Contents.{MessageContent}
 use Rattle.zt_rows.specs.Same.{kind_number, kind_eq, held_eq, life_eq, counters_eq, object_eq, content_eq, packet_eq, wait_eq, row_eq}
 
-
 kind_at : ℕ → Kind
 kind_at n = cond (n == 0) kind.Job (cond (n == 1) kind.Process (cond (n == 2) kind.Channel (cond (n == 3) kind.Event (cond (n == 4) kind.EventPair kind.Port))))
 
@@ -57,7 +56,7 @@ signals-decides a b = Decides-like _ (signals_same a b) (λ e. ap (λ (r : Signa
 pub held_eq-decides : (a b : Held) → Decides (held_eq a b) (a ≡ b)
 held_eq-decides a b =
     Decides-like _ (λ e i. record { koid = e.0 i; rights = e.1 i }) (λ e. (ap (λ (h : Held). h.koid) e, ap (λ (h : Held). h.rights) e))
-        (Decides-and _ _ (Decides-eqb a.koid b.koid) (rights-decides a.rights b.rights))
+    (Decides-and _ _ (Decides-eqb a.koid b.koid) (rights-decides a.rights b.rights))
 
 exited_code : ℤ → Life → ℤ
 exited_code z (life.Exited c) = c
@@ -73,13 +72,13 @@ life_eq-decides _ _ = (λ e. cc, λ e. cc)
 pub counters_eq-decides : (a b : Counters) → Decides (counters_eq a b) (a ≡ b)
 counters_eq-decides a b =
     Decides-like _ (λ e i. record { next_koid = e.0 i; next_wait = e.1 i }) (λ e. (ap (λ (c : Counters). c.next_koid) e, ap (λ (c : Counters). c.next_wait) e))
-        (Decides-and _ _ (Decides-eqb a.next_koid b.next_koid) (Decides-eqb a.next_wait b.next_wait))
+    (Decides-and _ _ (Decides-eqb a.next_koid b.next_koid) (Decides-eqb a.next_wait b.next_wait))
 
 pub object_eq-decides : (a b : ObjectRow) → Decides (object_eq a b) (a ≡ b)
 object_eq-decides a b =
     Decides-like _ (λ e i. record { kind = e.0.0.0.0 i; signals = e.0.0.0.1 i; link = e.0.0.1 i; life = e.0.1 i; next = e.1 i })
-        (λ e. ((((ap (λ (o : ObjectRow). o.kind) e, ap (λ (o : ObjectRow). o.signals) e), ap (λ (o : ObjectRow). o.link) e), ap (λ (o : ObjectRow). o.life) e), ap (λ (o : ObjectRow). o.next) e))
-        (Decides-and _ _ (Decides-and _ _ (Decides-and _ _ (Decides-and _ _ (kind_eq-decides a.kind b.kind) (signals-decides a.signals b.signals)) (Decides-eqb a.link b.link)) (life_eq-decides a.life b.life)) (Decides-eqb a.next b.next))
+    (λ e. ((((ap (λ (o : ObjectRow). o.kind) e, ap (λ (o : ObjectRow). o.signals) e), ap (λ (o : ObjectRow). o.link) e), ap (λ (o : ObjectRow). o.life) e), ap (λ (o : ObjectRow). o.next) e))
+    (Decides-and _ _ (Decides-and _ _ (Decides-and _ _ (Decides-and _ _ (kind_eq-decides a.kind b.kind) (signals-decides a.signals b.signals)) (Decides-eqb a.link b.link)) (life_eq-decides a.life b.life)) (Decides-eqb a.next b.next))
 
 bytes-decides : (xs ys : List ℕ) → Decides (pointwise (λ x y. x == y) xs ys) (xs ≡ ys)
 bytes-decides xs ys = slice_eq-Decides Decides-eqb xs ys _ refl
@@ -90,21 +89,21 @@ helds-decides xs ys = slice_eq-Decides held_eq-decides xs ys _ refl
 pub content_eq-decides : (a b : MessageContent) → Decides (content_eq a b) (a ≡ b)
 content_eq-decides a b =
     Decides-like _ (λ e i. record { bytes = e.0 i; handles = e.1 i }) (λ e. (ap (λ (m : MessageContent). m.bytes) e, ap (λ (m : MessageContent). m.handles) e))
-        (Decides-and _ _ (bytes-decides a.bytes b.bytes) (helds-decides a.handles b.handles))
+    (Decides-and _ _ (bytes-decides a.bytes b.bytes) (helds-decides a.handles b.handles))
 
 pub packet_eq-decides : (a b : Packet) → Decides (packet_eq a b) (a ≡ b)
 packet_eq-decides (packet.User k bs) (packet.User l cs) =
     Decides-like _ (λ e i. packet.User (e.0 i) (e.1 i)) (λ e. (cc, cc)) (Decides-and _ _ (Decides-eqb k l) (bytes-decides bs cs))
 packet_eq-decides (packet.Signal k t o p h) (packet.Signal l u r q g) =
     Decides-like _ (λ e i. packet.Signal (e.0.0.0.0 i) (e.0.0.0.1 i) (e.0.0.1 i) (e.0.1 i) (e.1 i)) (λ e. ((((cc, cc), cc), cc), cc))
-        (Decides-and _ _ (Decides-and _ _ (Decides-and _ _ (Decides-and _ _ (Decides-eqb k l) (signals-decides t u)) (signals-decides o r)) (Decides-eqb p q)) (Decides-eqb h g))
+    (Decides-and _ _ (Decides-and _ _ (Decides-and _ _ (Decides-and _ _ (Decides-eqb k l) (signals-decides t u)) (signals-decides o r)) (Decides-eqb p q)) (Decides-eqb h g))
 packet_eq-decides _ _ = (λ e. cc, λ e. cc)
 
 pub wait_eq-decides : (a b : Wait) → Decides (wait_eq a b) (a ≡ b)
 wait_eq-decides a b =
     Decides-like _ (λ e i. record { process = e.0.0.0.0 i; handle = e.0.0.0.1 i; port = e.0.0.1 i; key = e.0.1 i; signals = e.1 i })
-        (λ e. ((((ap (λ (o : Wait). o.process) e, ap (λ (o : Wait). o.handle) e), ap (λ (o : Wait). o.port) e), ap (λ (o : Wait). o.key) e), ap (λ (o : Wait). o.signals) e))
-        (Decides-and _ _ (Decides-and _ _ (Decides-and _ _ (Decides-and _ _ (Decides-eqb a.process b.process) (Decides-eqb a.handle b.handle)) (Decides-eqb a.port b.port)) (Decides-eqb a.key b.key)) (signals-decides a.signals b.signals))
+    (λ e. ((((ap (λ (o : Wait). o.process) e, ap (λ (o : Wait). o.handle) e), ap (λ (o : Wait). o.port) e), ap (λ (o : Wait). o.key) e), ap (λ (o : Wait). o.signals) e))
+    (Decides-and _ _ (Decides-and _ _ (Decides-and _ _ (Decides-and _ _ (Decides-eqb a.process b.process) (Decides-eqb a.handle b.handle)) (Decides-eqb a.port b.port)) (Decides-eqb a.key b.key)) (signals-decides a.signals b.signals))
 
 pub row_eq-decides : (a b : Row) → Decides (row_eq a b) (a ≡ b)
 row_eq-decides (rows.Counters a) (rows.Counters b) = Decides-like _ (λ e. ap rows.Counters e) (λ e. cc) (counters_eq-decides a b)
@@ -118,7 +117,7 @@ row_eq-decides _ _ = (λ e. cc, λ e. cc)
 per : {A : Type 0} (E : A → A → Bool) → ((a b : A) → Decides (E a b) (a ≡ b)) → IsPartialEquivalence E
 per E d = record {
   symm = λ a b. one_answer _ _ (d a b) (λ e. sym ((d b a).0 e), λ e. (d b a).1 (sym e));
-  trans = λ a b c p q. (d a c).1 ((d a b).0 p ∙ (d b c).0 q)
+  trans = λ a b c p q. (d a c).1 ((d a b).0 p ∙ (d b c).0 q);
 }
 
 pub content_eq-laws : IsPartialEquivalence content_eq

@@ -2,7 +2,7 @@
 -- stand become packets of their ports. Signals and one-shot waits as in Fuchsia's reference of signals and of
 -- `zx_object_wait_async`; the order of packets within a call, and the signals of jobs without children, are
 -- this project's own profile.
-use Rattle.std.specs.Prelude.{ℕ, ◌+◌, Bool, true, false, not, ◌==◌, ◌&&◌, if◌then◌else◌, List, fold, Option, None, Some, bit_and, bit_or}
+use Rattle.std.specs.Prelude.{ℕ, Bool, false, not, ◌==◌, ◌&&◌, if◌then◌else◌, fold, Option, None, Some, bit_and, bit_or}
 use Rattle.zt_bits.specs.declared.kinds.Kind.{Kind}
 use Rattle.zt_bits.specs.declared.kinds.Kind.TheVariants as kind
 use Rattle.zt_rows.specs.declared.keys.RowKey.{RowKey}

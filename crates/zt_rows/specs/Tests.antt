@@ -6,11 +6,10 @@ use Rattle.std.specs.Option.{option_map}
 use Rattle.zt_bits.specs.declared.kinds.Kind.{Kind}
 use Rattle.zt_bits.specs.declared.kinds.Kind.TheVariants as kind
 use Rattle.zt_rows.specs.declared.keys.RowKey.{RowKey}
-use Rattle.zt_rows.specs.declared.rows.Life.TheVariants as life
 use Rattle.zt_rows.specs.declared.rows.ObjectRow.{ObjectRow}
 use Rattle.zt_rows.specs.declared.rows.Row.{Row}
 use Rattle.zt_rows.specs.State.{State}
-use Rattle.zt_rows.specs.Reads.{object, is_job, is_process}
+use Rattle.zt_rows.specs.Reads.{object}
 
 -- ---- kinds
 

@@ -1,6 +1,6 @@
 //! What holds of every state and every change of one, and of what follows every call. Each law is the contract
 //! of a function that does nothing.
-ghost use Rattle.std.specs.Prelude.{◌≡◌, ◌↔◌, ℕ, true, false, if◌then◌else◌, List, map, Option, option_and_then};
+ghost use Rattle.std.specs.Prelude.{◌≡◌, ◌↔◌, true, if◌then◌else◌, List, map, Option, option_and_then, ◌||◌, ℕ, Bool, false};
 ghost use Rattle.std.specs.List.{IsDistinct};
 ghost use Rattle.zt_rows.specs.declared.keys.RowKey.{RowKey};
 ghost use Rattle.zt_rows.specs.declared.rows.Row.{Row};
@@ -10,7 +10,8 @@ ghost use Rattle.zt_rows.specs.State.{State, row, put, change};
 ghost use Rattle.zt_rows.specs.Change.{before, exchange};
 ghost use Rattle.zt_rows.specs.Path.{records_of, forth_of, end_of, exchange_back, exchange_forth};
 ghost use Rattle.zt_rows.specs.declared.calls.Call.{Call};
-ghost use Rattle.zt_rows.specs.Collect.{goes, collect};
+ghost use Rattle.zt_rows.specs.Collect.{goes, without, collect};
+ghost use Rattle.zt_rows.specs.Justified.{Justified};
 ghost use Rattle.zt_rows.specs.Settle.{settle};
 ghost use Rattle.zt_rows.specs.Consistent.{IsSound, IsConsistent};
 ghost use Rattle.zt_rows.specs.Reads.{runs};
@@ -80,32 +81,40 @@ pub fn a_path_is_made_again()
 pub fn consistent_is_at_rest()
     ensures collected { (S : State) → IsConsistent S → collect S ≡ S }
     ensures settled { (S : State) → IsConsistent S → settle S ≡ S }
-{
-}
+{}
 
 /// Nothing goes after collecting: every object that is left has a support.
 #[tactic(auto, using(crate::proofs::CollectLaws::collect_laws))]
 pub fn collected_is_supported()
     ensures { (S : State) (x : ℕ) → goes (collect S) x ≡ false }
-{
-}
+{}
 
 /// What is sound is consistent once it is collected and settled, so a call owes no more than a sound state.
 pub fn sound_becomes_consistent()
     ensures { (S : State) → IsSound S → IsConsistent (settle (collect S)) }
-{
-}
+{}
 
 /// A call of a live process leaves a consistent state consistent.
 pub fn calls_keep_consistency()
     ensures { (S : State) (p : ℕ) (c : Call) → IsConsistent S → runs S p ≡ true
         → IsConsistent (step S p c).0 }
-{
-}
+{}
 
 /// Every history begins with a consistent state.
 #[tactic(auto, using(crate::proofs::OpeningLaws::opening_laws))]
 pub fn opening_is_consistent()
     ensures { IsConsistent opening }
-{
-}
+{}
+
+/// To remove one set of objects and then another is to remove both.
+pub fn removing_twice_removes_both()
+    ensures { (S : State) (b c : ℕ → Bool)
+        → without (without S b) c ≡ without S (λ x. b x || c x) }
+{}
+
+/// Collecting is the removal of any set that was built one object at a time, each of which nothing supported
+/// once those before it were gone, until nothing was left to go: the order does not matter.
+pub fn order_of_removal_is_free()
+    ensures { (S : State) (b : ℕ → Bool) → Justified S b
+        → ((x : ℕ) → goes (without S b) x ≡ false) → collect S ≡ without S b }
+{}
