@@ -1,0 +1,5 @@
+pub mod CallerLaws
+pub mod RoomLaws
+pub mod WalkLaws
+pub mod CollectLaws
+pub mod SettleLaws

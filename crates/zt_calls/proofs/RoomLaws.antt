@@ -1,0 +1,127 @@
+-- Where a state has room, each port's next number still fits once a call changed the state and what nothing
+-- supports was removed: there is room for the packets of the waits that are met.
+use Rattle.std.proofs.Common.{◌≡◌, ℕ, ◌+◌, ◌-◌, ◌^◌, ◌<◌, ◌≤◌, zero, suc, Bool, true, false, cond, length, refl, sym, ap, ◌∙◌, subst, arith}
+use Rattle.std.specs.Prelude.{Option, None, Some}
+use Rattle.zt_bits.specs.declared.kinds.Kind.{Kind}
+use Rattle.zt_bits.specs.declared.kinds.Kind.TheVariants as kind
+use Rattle.zt_bits.specs.declared.statuses.Status.TheVariants as status
+use Rattle.zt_rows.specs.declared.calls.Call.{Call}
+use Rattle.zt_rows.specs.declared.calls.Call.TheVariants as call
+use Rattle.zt_rows.specs.declared.keys.RowKey.{RowKey}
+use Rattle.zt_rows.specs.declared.keys.RowKey.TheVariants as key
+use Rattle.zt_rows.specs.declared.rows.Counters.{Counters}
+use Rattle.zt_rows.specs.declared.rows.Held.{Held}
+use Rattle.zt_rows.specs.declared.rows.ObjectRow.{ObjectRow}
+use Rattle.zt_rows.specs.declared.rows.Row.{Row}
+use Rattle.zt_rows.specs.declared.rows.Row.TheVariants as rows
+use Rattle.zt_rows.specs.State.{State, row, put}
+use Rattle.zt_rows.specs.Keys.{rowkey_eq}
+use Rattle.zt_rows.specs.Reads.{as_object, object, objects, counters, runs}
+use Rattle.zt_rows.specs.Tests.{any_kind, kind_at, next_at, raised}
+use Rattle.zt_rows.specs.Room.{HasRoom, NextFits}
+use Rattle.zt_rows.specs.Collect.{unlinked, without, goes, rounds, collect}
+use Rattle.zt_rows.specs.Handles.{caller, install, value_of, whole, fresh, next_koid, make}
+use Rattle.zt_rows.specs.ObjectCalls.{create, may_set, set_signals, object_signal}
+use Rattle.zt_rows.specs.Step.{direct}
+use Rattle.zt_rows.specs.Consistent.{IsSound, IsConsistent}
+use Rattle.zt_rows.proofs.StateLaws.{row-put}
+use Rattle.zt_rows.proofs.ReadLaws.{some_one, object-row, kind_at-some, stayed}
+use Rattle.zt_rows.proofs.CollectLaws.{sound-collect}
+use Rattle.zt_rows.proofs.StepLaws.{after_check, after_handle, caller-is, sound-direct}
+use Rattle.zt_calls.specs.Firing.{HasRoomToFire}
+
+-- the next number of a row, if it is a port's, leaves room for more packets than memory has place for
+abbrev pub PortFits : ObjectRow → Type 0
+PortFits o = o.kind ≡ kind.Port → o.next < 2 ^ 63
+
+abbrev pub PortsFit : State → Type 0
+PortsFit S = (x : ℕ) (o : ObjectRow) → object S x ≡ Some o → PortFits o
+
+-- ---- the beginning of a call
+
+port_has_room : (on : Kind) (n : ℕ) → NextFits on n → on ≡ kind.Port → n ≤ 2 ^ 62
+port_has_room on n h e = let fits : NextFits kind.Port n = subst (λ (k : Kind). NextFits k n) e h in fits
+
+pub ports-room : (S : State) → HasRoom S → PortsFit S
+ports-room S room x o e port = let h : o.next ≤ 2 ^ 62 = port_has_room o.kind o.next (room.owners x o e) port in omega arith
+
+pub raised_fits : (S : State) → HasRoom S → (x : ℕ) (o : ObjectRow) → object S x ≡ Some o → PortFits (raised o)
+raised_fits S room x o e port = let h : o.next ≤ 2 ^ 62 = port_has_room o.kind o.next (room.owners x o e) port in omega arith
+
+-- ---- puts
+
+pub ports-put : (S : State) → PortsFit S → (k : RowKey) (r : Option Row) → ((o : ObjectRow) → as_object r ≡ Some o → PortFits o) → PortsFit (put S k r)
+ports-put S fit k r new x o e port =
+    at (rowkey_eq (key.Object x) k) (sym (row-put S k r (key.Object x)) ∙ object-row (put S k r) x o e)
+  where
+    at : (b : Bool) → cond b r (row S (key.Object x)) ≡ Some (rows.Object o) → o.next < 2 ^ 63
+    at true h = new o (ap as_object h) port
+    at false h = fit x o (ap as_object h) port
+
+pub ports-object : (S : State) → PortsFit S → (y : ℕ) (q : ObjectRow) → PortFits q → PortsFit (put S (key.Object y) (Some (rows.Object q)))
+ports-object S fit y q new = ports-put S fit (key.Object y) (Some (rows.Object q)) (λ o e. subst PortFits (some_one q o e) new)
+
+pub ports-entry : (S : State) → PortsFit S → (p h : ℕ) (held : Held) → PortsFit (put S (key.Entry p h) (Some (rows.Entry held)))
+ports-entry S fit p h held = ports-put S fit (key.Entry p h) (Some (rows.Entry held)) (λ o e. cc)
+
+pub ports-counters : (S : State) → PortsFit S → (c : Counters) → PortsFit (put S key.Counters (Some (rows.Counters c)))
+ports-counters S fit c = ports-put S fit key.Counters (Some (rows.Counters c)) (λ o e. cc)
+
+-- ---- what calls do
+
+pub ports-make : (S : State) → PortsFit S → (c : Counters) (o : ObjectRow) → PortFits o → PortsFit (make c o S)
+ports-make S fit c o new =
+    ports-counters (put S (key.Object c.next_koid) (Some (rows.Object o))) (ports-object S fit c.next_koid o new) (record c { next_koid = c.next_koid + 1 })
+
+pub ports-install : (S : State) → PortsFit S → (p : ℕ) (me : ObjectRow) (held : Held) → PortFits (raised me) → PortsFit (install p me held S)
+ports-install S fit p me held new =
+    ports-object (put S (key.Entry p (value_of me.next)) (Some (rows.Entry held))) (ports-entry S fit p (value_of me.next) held) p (raised me) new
+
+pub caller_fits_raised : (S : State) → HasRoom S → (p : ℕ) → runs S p ≡ true → PortFits (raised (caller S p))
+caller_fits_raised S room p live = let w = caller-is S p live in subst (λ me. PortFits (raised me)) (sym w.3) (raised_fits S room p w.0 w.1)
+
+pub ports-create : (S : State) → HasRoom S → (p : ℕ) (made : Kind) → runs S p ≡ true → PortsFit (create made S p).0
+ports-create S room p made live =
+    ports-install (make (counters S) (fresh made 0) S)
+        (ports-make S (ports-room S room) (counters S) (fresh made 0) (λ port. omega arith))
+        p (caller S p) (whole (next_koid S) made) (caller_fits_raised S room p live)
+
+pub ports-object_signal : (S : State) → HasRoom S → (p h clear set : ℕ) → PortsFit (object_signal S p h clear set).0
+ports-object_signal S room p h clear set =
+    after_handle PortsFit S status.WrongType p h any_kind 0x1000 _ (ports-room S room) (λ held o found.
+        after_check PortsFit S (may_set o.kind clear set) status.InvalidArgs _ (ports-room S room) (λ settable.
+            ports-object S (ports-room S room) held.koid _ (λ port. ports-room S room held.koid o found.object_there port)))
+
+pub ports-direct : (S : State) (p : ℕ) (c : Call) → HasRoom S → runs S p ≡ true → PortsFit (direct S p c).0
+unfolding direct
+ports-direct S p call.EventCreate room live = ports-create S room p kind.Event live
+ports-direct S p (call.ObjectSignal h clear set) room live = ports-object_signal S room p h clear.0 set.0
+
+-- ---- removal
+
+pub ports-without : (going : ℕ → Bool) (S : State) → PortsFit S → PortsFit (without S going)
+ports-without going S fit x o e =
+    let w = stayed going S x o e in subst PortFits (sym w.2) (λ port. fit x w.0 w.1 port)
+
+pub ports-rounds : (n : ℕ) (S : State) → PortsFit S → PortsFit (rounds n S)
+unfolding rounds
+ports-rounds zero S fit = fit
+ports-rounds (suc n) S fit = ports-rounds n (without S (goes S)) (ports-without (goes S) S fit)
+
+pub ports-collect : (S : State) → PortsFit S → PortsFit (collect S)
+unfolding collect
+ports-collect S fit = ports-rounds (length (objects S)) S fit
+
+-- ---- the waits that are met
+
+-- in a sound state a wait is for a port
+room_to_fire : (S : State) → IsSound S → PortsFit S → HasRoomToFire S
+room_to_fire S sound fit n w e =
+    let there = kind_at-some S w.port kind.Port (sound.of_waits n w e).port in
+    rw there.1 (fit w.port there.0 there.1 there.2)
+
+-- after a call of a live process and the removal of what nothing supports there is room for packets
+pub room_after : (S : State) (p : ℕ) (c : Call) → IsConsistent S → HasRoom S → runs S p ≡ true → HasRoomToFire (collect (direct S p c).0)
+room_after S p c consistent room live =
+    room_to_fire (collect (direct S p c).0) (sound-collect (direct S p c).0 (sound-direct S p c consistent.sound live))
+        (ports-collect (direct S p c).0 (ports-direct S p c room live))

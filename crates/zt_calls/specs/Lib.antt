@@ -1,0 +1,4 @@
+pub mod Wanting
+pub mod Outcomes
+pub mod Walks
+pub mod Firing

@@ -1,0 +1,13 @@
+//! The system calls: each checks its arguments in order, changes rows in a step of the store, and answers.
+#![tactic(auto)]
+
+mod additions;
+mod applying;
+mod arguments;
+mod collecting;
+mod failures;
+mod looks;
+mod object_calls;
+mod settling;
+
+pub use applying::{apply, runs};
