@@ -1,0 +1,9 @@
+pub mod NumberLemmas
+pub mod CutLemmas
+pub mod FieldLemmas
+pub mod ShownLemmas
+mod WorkedLines
+pub mod BranchLaws
+pub mod KeyLaws
+pub mod SessionLaws
+pub mod TalkLaws

@@ -1,0 +1,2 @@
+-- Laws of talks.
+use Rattle.std.proofs.Common.{◌≡◌, refl}

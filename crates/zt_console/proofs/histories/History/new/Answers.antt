@@ -1,0 +1,9 @@
+-- The opening is consistent.
+use Rattle.std.proofs.Common.{◌≡◌, sym, ap, subst, arith, [], ◌≤◌, ◌+◌}
+use Rattle.zt_rows.specs.Consistent.{IsConsistent}
+use Rattle.zt_console.proofs.BranchLaws.{is_branch-opening}
+use Rattle.zt_console.proofs.histories.History.new.Goals as goal
+
+pub invariant_of-result : goal.invariant_of-result
+invariant_of-result c =
+    is_branch-opening c.in_ok-opening.field-0 c.new.result.items c.new-2.result.items c.in_ok-opening.ensures c.new.ensures.items c.new-2.ensures.items

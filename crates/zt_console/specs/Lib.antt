@@ -1,0 +1,12 @@
+pub mod Numbers
+pub mod Fields
+pub mod Cut
+pub mod Reading
+pub mod Counting
+pub mod Shown
+pub mod Answers
+pub mod Lines
+pub mod Branch
+pub mod Cursors
+pub mod Session
+pub mod Talk

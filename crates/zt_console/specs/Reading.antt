@@ -1,0 +1,77 @@
+-- What a line of a client reads as.
+use Rattle.std.specs.Prelude.{ℕ, Bool, true, ◌==◌, List, [], ◌∷◌, Option, Some, None, Result, Ok, Err, if◌then◌else◌, codes}
+use Rattle.std.specs.Str.{bytes_eq}
+use Rattle.zt_rows.specs.declared.refusals.Refusal.{Refusal}
+use Rattle.zt_rows.specs.declared.refusals.Refusal.TheVariants.{BadLine}
+use Rattle.zt_rows.specs.declared.calls.Call.{Call}
+use Rattle.zt_rows.specs.declared.calls.Call.TheVariants as calls
+use Rattle.zt_rows.specs.declared.calls.Command.{Command}
+use Rattle.zt_rows.specs.declared.calls.Command.TheVariants as commands
+use Rattle.zt_console.specs.Numbers.{process_of, handle_of, signals_of, count_of}
+use Rattle.zt_console.specs.Fields.{Placed, Unread, unread, ◌>>=◌, next, field, ended}
+
+-- the arguments of each call
+unfoldable pub event_create : Unread → Result Call Refusal
+event_create left = do
+  _ ← ended left
+  Ok calls.EventCreate
+
+unfoldable pub object_signal : Unread → Result Call Refusal
+object_signal left = do
+  handle ← field handle_of left
+  clear ← field signals_of handle.1
+  set ← field signals_of clear.1
+  _ ← ended set.1
+  Ok (calls.ObjectSignal handle.0 clear.0 set.0)
+
+-- the call of this name
+unfoldable pub call_named : Placed → Unread → Result Call Refusal
+call_named name left =
+    if bytes_eq name.bytes (codes "event_create") then event_create left
+    else (if bytes_eq name.bytes (codes "object_signal") then object_signal left else Err (BadLine name.column))
+
+unfoldable pub call : Unread → Result Call Refusal
+call left = do
+  name ← next left
+  call_named name.0 name.1
+
+-- the arguments of each command
+unfoldable pub back : Unread → Result Command Refusal
+back left = do
+  count ← field count_of left
+  _ ← ended count.1
+  Ok (commands.Back count.0)
+
+unfoldable pub show : Unread → Result Command Refusal
+show left = do
+  _ ← ended left
+  Ok commands.Show
+
+-- the command of this name
+unfoldable pub command_named : Placed → Unread → Result Command Refusal
+command_named name left =
+    if bytes_eq name.bytes (codes "back") then back left
+    else (if bytes_eq name.bytes (codes "show") then show left else Err (BadLine name.column))
+
+-- a line that begins with a process's number is a call, and all else begins with the name of a command
+abbrev pub call_or_command : Option ℕ → Placed → Unread → Result Command Refusal
+call_or_command (Some process) first left = do
+  made ← call left
+  Ok (commands.Call process made)
+call_or_command None first left = command_named first left
+
+unfoldable pub command : Unread → Result Command Refusal
+command left = do
+  first ← next left
+  call_or_command (process_of first.0.bytes) first.0 first.1
+
+-- an empty line, and one that begins with `#`
+abbrev pub is_skipped : List ℕ → Bool
+is_skipped [] = true
+is_skipped (first ∷ _) = first == 35
+
+-- a skipped line asks nothing; every other line is a command, or has its first fault from the left at a column
+unfoldable pub read_as : List ℕ → Result (Option Command) Refusal
+read_as line = if is_skipped line then Ok None else (do
+  asked ← command (unread line)
+  Ok (Some asked))
