@@ -74,13 +74,13 @@ goes-key S x h =
 pub among-unsupported : (S : State) (x : ℕ) → among (filter_map (unsupported_under S) (keys S)) x ≡ goes S x
 among-unsupported S x =
     same_test _ _
-      (λ h.
-        let w = in-list_any (λ m. m == x) (filter_map (unsupported_under S) (keys S)) h in
-        let v = in-filter_map (unsupported_under S) w.0 (keys S) w.1 in
-        subst (λ y. goes S y ≡ true) (eqb-true w.0 x w.2) (found_goes S v.0 w.0 v.2))
-      (λ h.
-        let here : unsupported_under S (key.Object x) ≡ Some x = ap (λ b. if b then Some x else None) h in
-        list_any-in (λ m. m == x) x (filter_map (unsupported_under S) (keys S)) (filter_map-in (unsupported_under S) x (key.Object x) (keys S) (goes-key S x h) here) (eq-eqb x x refl))
+    (λ h.
+    let w = in-list_any (λ m. m == x) (filter_map (unsupported_under S) (keys S)) h in
+    let v = in-filter_map (unsupported_under S) w.0 (keys S) w.1 in
+    subst (λ y. goes S y ≡ true) (eqb-true w.0 x w.2) (found_goes S v.0 w.0 v.2))
+    (λ h.
+    let here : unsupported_under S (key.Object x) ≡ Some x = ap (λ b. if b then Some x else None) h in
+    list_any-in (λ m. m == x) x (filter_map (unsupported_under S) (keys S)) (filter_map-in (unsupported_under S) x (key.Object x) (keys S) (goes-key S x h) here) (eq-eqb x x refl))
 
 -- ---- what is left under one key
 
@@ -192,22 +192,22 @@ some_one x y e = cc
 found_object : (S : State) (k : RowKey) (x : ℕ) (o : ObjectRow) → object_under S k ≡ Some (x, o) → (k ≡ key.Object x) × (object S x ≡ Some o)
 found_object S (key.Object y) x o e = of_option (object S y) refl e
   where
-  of_option : (r : Option ObjectRow) → object S y ≡ r → option_map {U = ℕ × ObjectRow} (λ o. (y, o)) r ≡ Some (x, o) → (key.Object y ≡ key.Object x) × (object S x ≡ Some o)
-  of_option (Some p) is e =
-      let pairs : ◌≡◌ {A = ℕ × ObjectRow} (y, p) (x, o) = some_one (y, p) (x, o) e in
-      let same : y ≡ x = ap (λ (q : ℕ × ObjectRow). q.0) pairs in
-      let value : p ≡ o = ap (λ (q : ℕ × ObjectRow). q.1) pairs in
-      (ap key.Object same, subst (λ z. object S z ≡ Some o) same (is ∙ ap Some value))
-  of_option None is e = cc
+    of_option : (r : Option ObjectRow) → object S y ≡ r → option_map {U = ℕ × ObjectRow} (λ o. (y, o)) r ≡ Some (x, o) → (key.Object y ≡ key.Object x) × (object S x ≡ Some o)
+    of_option (Some p) is e =
+        let pairs : ◌≡◌ {A = ℕ × ObjectRow} (y, p) (x, o) = some_one (y, p) (x, o) e in
+        let same : y ≡ x = ap (λ (q : ℕ × ObjectRow). q.0) pairs in
+        let value : p ≡ o = ap (λ (q : ℕ × ObjectRow). q.1) pairs in
+        (ap key.Object same, subst (λ z. object S z ≡ Some o) same (is ∙ ap Some value))
+    of_option None is e = cc
 found_object S _ x o e = cc
 
 pub unsupported-none : (S : State) (k : RowKey) → object_under S k ≡ None → unsupported_under S k ≡ None
 unfolding goes
 unsupported-none S (key.Object x) e = of_option (object S x) refl e
   where
-  of_option : (r : Option ObjectRow) → object S x ≡ r → option_map {U = ℕ × ObjectRow} (λ o. (x, o)) r ≡ None → unsupported_under S (key.Object x) ≡ None
-  of_option (Some p) is e = cc
-  of_option None is e = ap (λ r. if is_some r && not (is_supported S x) then Some x else None) is
+    of_option : (r : Option ObjectRow) → object S x ≡ r → option_map {U = ℕ × ObjectRow} (λ o. (x, o)) r ≡ None → unsupported_under S (key.Object x) ≡ None
+    of_option (Some p) is e = cc
+    of_option None is e = ap (λ r. if is_some r && not (is_supported S x) then Some x else None) is
 unsupported-none S _ e = refl
 
 pub unsupported-zero : (S : State) (k : RowKey) (x n : ℕ) (o : ObjectRow) → object_under S k ≡ Some (x, o) → n ≡ support_count S x → n ≡ 0 → unsupported_under S k ≡ Some x

@@ -83,14 +83,14 @@ caller_fits_raised S room p live = let w = caller-is S p live in subst (λ me. P
 pub ports-create : (S : State) → HasRoom S → (p : ℕ) (made : Kind) → runs S p ≡ true → PortsFit (create made S p).0
 ports-create S room p made live =
     ports-install (make (counters S) (fresh made 0) S)
-        (ports-make S (ports-room S room) (counters S) (fresh made 0) (λ port. omega arith))
-        p (caller S p) (whole (next_koid S) made) (caller_fits_raised S room p live)
+    (ports-make S (ports-room S room) (counters S) (fresh made 0) (λ port. omega arith))
+    p (caller S p) (whole (next_koid S) made) (caller_fits_raised S room p live)
 
 pub ports-object_signal : (S : State) → HasRoom S → (p h clear set : ℕ) → PortsFit (object_signal S p h clear set).0
 ports-object_signal S room p h clear set =
     after_handle PortsFit S status.WrongType p h any_kind 0x1000 _ (ports-room S room) (λ held o found.
-        after_check PortsFit S (may_set o.kind clear set) status.InvalidArgs _ (ports-room S room) (λ settable.
-            ports-object S (ports-room S room) held.koid _ (λ port. ports-room S room held.koid o found.object_there port)))
+    after_check PortsFit S (may_set o.kind clear set) status.InvalidArgs _ (ports-room S room) (λ settable.
+    ports-object S (ports-room S room) held.koid _ (λ port. ports-room S room held.koid o found.object_there port)))
 
 pub ports-direct : (S : State) (p : ℕ) (c : Call) → HasRoom S → runs S p ≡ true → PortsFit (direct S p c).0
 unfolding direct
@@ -124,4 +124,4 @@ room_to_fire S sound fit n w e =
 pub room_after : (S : State) (p : ℕ) (c : Call) → IsConsistent S → HasRoom S → runs S p ≡ true → HasRoomToFire (collect (direct S p c).0)
 room_after S p c consistent room live =
     room_to_fire (collect (direct S p c).0) (sound-collect (direct S p c).0 (sound-direct S p c consistent.sound live))
-        (ports-collect (direct S p c).0 (ports-direct S p c room live))
+    (ports-collect (direct S p c).0 (ports-direct S p c room live))

@@ -62,21 +62,22 @@ toward T [] C q each (inl h) = h
 toward T [] C q each (inr w) = absurd w.1
 toward T (e ∷ es) C q each case =
     toward T es (put_object C e) q (λ d m. each d (inr m))
-      (elim (rowkey_eq q (key.Object e.0)) as (λ b. rowkey_eq q (key.Object e.0) ≡ b → (row (put_object C e) q ≡ row T q) ⊎ ((d : ℕ × ObjectRow) × In d es × (q ≡ key.Object d.0))) [
-        | true ↦ λ t.
-            let same : q ≡ key.Object e.0 = rowkey_eq-equal q (key.Object e.0) t in
-            inl (row-put C (key.Object e.0) (Some (rows.Object e.1)) q ∙ ap (λ b. cond b (Some (rows.Object e.1)) (row C q)) t ∙ sym (each e (inl refl)) ∙ ap (row T) (sym same))
-        | false ↦ λ t.
-            let other : row (put_object C e) q ≡ row C q = row-put C (key.Object e.0) (Some (rows.Object e.1)) q ∙ ap (λ b. cond b (Some (rows.Object e.1)) (row C q)) t in
-            still other t case
-      ] refl)
-    where
+    (elim (rowkey_eq q (key.Object e.0)) as (λ b. rowkey_eq q (key.Object e.0) ≡ b → (row (put_object C e) q ≡ row T q) ⊎ ((d : ℕ × ObjectRow) × In d es × (q ≡ key.Object d.0))) [
+      | true ↦ λ t.
+          let same : q ≡ key.Object e.0 = rowkey_eq-equal q (key.Object e.0) t in
+          inl (row-put C (key.Object e.0) (Some (rows.Object e.1)) q ∙ ap (λ b. cond b (Some (rows.Object e.1)) (row C q)) t ∙ sym (each e (inl refl)) ∙ ap (row T) (sym same))
+      | false ↦ λ t.
+          let other : row (put_object C e) q ≡ row C q = row-put C (key.Object e.0) (Some (rows.Object e.1)) q ∙ ap (λ b. cond b (Some (rows.Object e.1)) (row C q)) t in
+          still other t case
+    ] refl)
+  where
     later : (d : ℕ × ObjectRow) → rowkey_eq q (key.Object e.0) ≡ false → In d (e ∷ es) → q ≡ key.Object d.0 → (row (put_object C e) q ≡ row T q) ⊎ ((d : ℕ × ObjectRow) × In d es × (q ≡ key.Object d.0))
     later d t (inl same) p =
         let at : q ≡ key.Object e.0 = p ∙ ap (λ (x : ℕ × ObjectRow). key.Object x.0) same in
         let yes : rowkey_eq q (key.Object e.0) ≡ true = ap (λ k. rowkey_eq k (key.Object e.0)) at ∙ rowkey_eq-self (key.Object e.0) in
         cc
     later d t (inr m) p = inr (d, m, p)
+
     still : row (put_object C e) q ≡ row C q → rowkey_eq q (key.Object e.0) ≡ false → (row C q ≡ row T q) ⊎ ((d : ℕ × ObjectRow) × In d (e ∷ es) × (q ≡ key.Object d.0)) → (row (put_object C e) q ≡ row T q) ⊎ ((d : ℕ × ObjectRow) × In d es × (q ≡ key.Object d.0))
     still other t (inl h) = inl (other ∙ h)
     still other t (inr w) = later w.0 t w.1 w.2
@@ -107,7 +108,7 @@ unfolding refresh
 refreshed_at S (key.Object x) e h =
     let same : x ≡ e.0 = same_koid x (anew S x) e (object S x) h in
     subst (λ y. row (change (refreshed S) S) (key.Object y) ≡ Some (rows.Object e.1)) same
-      (row-change (refreshed S) S (key.Object x) ∙ refreshed_object S x e (row S (key.Object x)) h)
+    (row-change (refreshed S) S (key.Object x) ∙ refreshed_object S x e (row S (key.Object x)) h)
 refreshed_at S _ e h = cc
 
 -- under each key either a refreshed object stands, or nothing changes
@@ -127,10 +128,10 @@ pub refresh-walk : (S : State) → fold put_object S (filter_map (refreshed_unde
 unfolding refresh
 refresh-walk S =
     same_state _ _ (λ q.
-      toward (refresh S) (filter_map (refreshed_under S) (keys S)) S q
-        (λ e m. let w = in-filter_map (refreshed_under S) e (keys S) m in refreshed_at S w.0 e w.2)
-        (of_case q (either S q (row S q) refl)))
-    where
+    toward (refresh S) (filter_map (refreshed_under S) (keys S)) S q
+    (λ e m. let w = in-filter_map (refreshed_under S) e (keys S) m in refreshed_at S w.0 e w.2)
+    (of_case q (either S q (row S q) refl)))
+  where
     of_case : (q : RowKey) → (row S q ≡ option_and_then (refreshed S q) (row S q)) ⊎ ((e : ℕ × ObjectRow) × In e (filter_map (refreshed_under S) (keys S)) × (q ≡ key.Object e.0)) → (row S q ≡ row (refresh S) q) ⊎ ((e : ℕ × ObjectRow) × In e (filter_map (refreshed_under S) (keys S)) × (q ≡ key.Object e.0))
     of_case q (inl h) = inl (h ∙ sym (row-change (refreshed S) S q))
     of_case q (inr w) = inr w
@@ -168,7 +169,7 @@ next-push S n w p parcel x h =
     let one : row (put S (key.Wait n) None) (key.Object x) ≡ row S (key.Object x) = row-put S (key.Wait n) None (key.Object x) in
     let two : row (put (put S (key.Wait n) None) (key.Packet w.port p.next) (Some (rows.Packet parcel))) (key.Object x) ≡ row S (key.Object x) = row-put (put S (key.Wait n) None) (key.Packet w.port p.next) (Some (rows.Packet parcel)) (key.Object x) ∙ one in
     let three : row (push_packet w.port p parcel (put S (key.Wait n) None)) (key.Object x) ≡ cond (x == w.port) (Some (rows.Object (raised p))) (row S (key.Object x)) =
-      row-put (put (put S (key.Wait n) None) (key.Packet w.port p.next) (Some (rows.Packet parcel))) (key.Object w.port) (Some (rows.Object (raised p))) (key.Object x) ∙ ap (cond (x == w.port) (Some (rows.Object (raised p)))) two in
+    row-put (put (put S (key.Wait n) None) (key.Packet w.port p.next) (Some (rows.Packet parcel))) (key.Object w.port) (Some (rows.Object (raised p))) (key.Object x) ∙ ap (cond (x == w.port) (Some (rows.Object (raised p)))) two in
     let same : (x == w.port) ≡ true → object_next (as_object (row S (key.Object x))) ≡ p.next = λ t. ap (λ y. object_next (object S y)) (eqb-true x w.port t) ∙ ap object_next h in
     subst (λ r. object_next (as_object r) ≤ next_at S x + 1) (sym three) (next-of p x (x == w.port) (row S (key.Object x)) same)
 
@@ -204,11 +205,11 @@ in-get (x ∷ xs) (suc i) d h = inr (in-get xs i d (omega arith))
 named_wait : (S : State) (k : RowKey) (e : ℕ × Wait) → wait_under S k ≡ Some e → wait S e.0 ≡ Some e.1
 named_wait S (key.Wait n) e h = of_option (wait S n) refl h
   where
-  of_option : (r : Option Wait) → wait S n ≡ r → option_map {U = ℕ × Wait} (λ w. (n, w)) r ≡ Some e → wait S e.0 ≡ Some e.1
-  of_option (Some w) is h =
-      let pairs : ◌≡◌ {A = ℕ × Wait} (n, w) e = some_one (n, w) e h in
-      subst (λ (q : ℕ × Wait). wait S q.0 ≡ Some q.1) pairs is
-  of_option None is h = cc
+    of_option : (r : Option Wait) → wait S n ≡ r → option_map {U = ℕ × Wait} (λ w. (n, w)) r ≡ Some e → wait S e.0 ≡ Some e.1
+    of_option (Some w) is h =
+        let pairs : ◌≡◌ {A = ℕ × Wait} (n, w) e = some_one (n, w) e h in
+        subst (λ (q : ℕ × Wait). wait S q.0 ≡ Some q.1) pairs is
+    of_option None is h = cc
 named_wait S _ e h = cc
 
 -- the port of the next wait has room for its packet

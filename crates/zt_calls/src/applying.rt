@@ -6,17 +6,15 @@ ghost use Rattle.zt_rows.specs.Change.{before};
 ghost use Rattle.zt_rows.specs.Consistent.{IsConsistent};
 ghost use Rattle.zt_store.specs.Stepping.{begun};
 
-use std::alloc::{AllocError, AllocFailed, Global};
-use std::mem;
-
-use zt_bits::Kind;
-use zt_rows::{Call, Koid, Life, Refusal, Reply, Row, RowKey};
-use zt_store::{Record, Step, Store};
-
 use crate::collecting::collect;
 use crate::failures::Failure;
 use crate::object_calls::{event_create, object_signal};
 use crate::settling::settle;
+use std::alloc::{AllocError, AllocFailed, Global};
+use std::mem;
+use zt_bits::Kind;
+use zt_rows::{Call, Koid, Life, Refusal, Reply, Row, RowKey};
+use zt_store::{Record, Step, Store};
 
 /// Whether the koid is that of a live process: only such a process may call.
 pub fn runs(store: &Store, process: Koid) -> bool

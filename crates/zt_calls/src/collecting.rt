@@ -7,7 +7,6 @@ ghost use Rattle.zt_rows.specs.Collect.{collect, left, unlinked, without};
 ghost use Rattle.zt_calls.specs.Walks.{object_under, unsupported_under};
 
 use std::alloc::{AllocError, Global};
-
 use zt_bits::Kind;
 use zt_rows::{Koid, ObjectRow, Row, RowKey};
 use zt_store::Step;
@@ -122,10 +121,7 @@ pub(crate) fn object_under(step: &Step, key: &RowKey) -> Option<(Koid, ObjectRow
 }
 
 /// All objects with their koids, in the order of the koids.
-pub(crate) fn objects_of(
-    alloc: Global,
-    step: &Step,
-) -> Result<Vec<(Koid, ObjectRow)>, AllocError>
+pub(crate) fn objects_of(alloc: Global, step: &Step) -> Result<Vec<(Koid, ObjectRow)>, AllocError>
     ensures { IfOk result (λ found. found.items ≡ filter_map (object_under step.now.current) (keys step.now.current)) }
 {
     let keys = keys_of(alloc, step)?;

@@ -5,17 +5,15 @@ ghost use Rattle.zt_rows.specs.ObjectCalls.{create, event_create, object_signal,
 ghost use Rattle.zt_store.specs.Stepping.{begun};
 ghost use Rattle.zt_calls.specs.Outcomes.{advanced, Does};
 
-use std::alloc::AllocError;
-
-use bitflags::Flags;
-use zt_bits::{Kind, Rights, Signals, Status};
-use zt_rows::{HandleValue, Koid, ObjectRow, Reply, Row, RowKey};
-use zt_store::Step;
-
 use crate::additions::{new_entry, new_object, whole};
 use crate::arguments::{Wanted, handle_to, may_set};
 use crate::failures::Failure;
 use crate::looks::caller_of;
+use bitflags::Flags;
+use std::alloc::AllocError;
+use zt_bits::{Kind, Rights, Signals, Status};
+use zt_rows::{HandleValue, Koid, ObjectRow, Reply, Row, RowKey};
+use zt_store::Step;
 
 /// Makes an object of the kind, and answers with the caller's handle to it.
 fn create(step: &mut Step, process: Koid, kind: Kind) -> Result<Reply, Failure>

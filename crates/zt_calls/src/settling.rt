@@ -7,15 +7,12 @@ ghost use Rattle.zt_rows.specs.Settle.{bit_if, derived, derived_mask, fire, is_c
 ghost use Rattle.zt_calls.specs.Walks.{any_under, passes_under, refreshed_under, wait_under};
 ghost use Rattle.zt_calls.specs.Firing.{HasRoomToFire};
 
-use std::alloc::{AllocError, Global};
-
+use crate::collecting::{keys_of, object_under};
 use bitflags::Flags;
-
+use std::alloc::{AllocError, Global};
 use zt_bits::{Kind, Signals};
 use zt_rows::{Koid, Life, ObjectRow, Packet, Row, RowKey, Wait};
 use zt_store::Step;
-
-use crate::collecting::{keys_of, object_under};
 
 /// Writes the derived signals of all objects anew, and then fires the waits that are met, by rising number.
 /// Refused, the step stands in the middle of it, and is to be abandoned.
@@ -145,10 +142,7 @@ fn no_processes(step: &Step, all: &[RowKey], job: Koid) -> Signals
     requires { all.now ≡ keys step.now.current }
     ensures { result.0 ≡ no_processes step.now.current job }
 {
-    signal_if(
-        !any_child_process(step, all, job),
-        Signals::NO_PROCESSES,
-    )
+    signal_if(!any_child_process(step, all, job), Signals::NO_PROCESSES)
 }
 
 /// The signal, where the test holds.

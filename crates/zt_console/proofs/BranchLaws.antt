@@ -149,20 +149,20 @@ pub is_branch-kept : (S T : State) (past future past' future' : List (List (RowK
     → IsBranch S past future → states (branch_of T past' future') ≡ states (branch_of S past future) → IsBranch T past' future'
 is_branch-kept S T past future past' future' b e = record {
   few = omega (arith, b.few, last-branch_of S past future, last-branch_of T past' future', ap last e);
-  consistent = subst (λ Ss. IsConsistent (state_of Ss (last Ss))) (sym e) b.consistent
+  consistent = subst (λ Ss. IsConsistent (state_of Ss (last Ss))) (sym e) b.consistent;
 }
 
 pub is_branch-more : (T : State) (Ss : List State) (past future : List (List (RowKey × Option Row)))
     → last Ss < 1048576 → 0 < length Ss → IsConsistent T → states (branch_of T past future) ≡ Ss ++ T ∷ [] → IsBranch T past future
 is_branch-more T Ss past future few some c e = record {
   few = omega (arith, last-branch_of T past future, ap last e, length-append Ss (T ∷ []), few);
-  consistent = subst (λ Ss. IsConsistent (state_of Ss (last Ss))) (sym e) (subst IsConsistent (sym (state_of-last Ss T)) c)
+  consistent = subst (λ Ss. IsConsistent (state_of Ss (last Ss))) (sym e) (subst IsConsistent (sym (state_of-last Ss T)) c);
 }
 
 pub is_branch-opening : (S : State) (past future : List (List (RowKey × Option Row))) → S ≡ opening → past ≡ [] → future ≡ [] → IsBranch S past future
 is_branch-opening S past future s p f = record {
   few = rw (p, f) (omega arith);
-  consistent = rw (p, f) (subst IsConsistent (sym s) opening-consistent)
+  consistent = rw (p, f) (subst IsConsistent (sym s) opening-consistent);
 }
 
 pub some_states : (b : Branch) → 0 < length (states b)
@@ -182,5 +182,5 @@ is_called S T past future past' b Ss process made answer n v h e s p few r d m =
       running = subst (λ X. runs X process ≡ true) same r;
       numbered = m;
       answered = a ∙ ap (λ X. (step X process made).1) same;
-      grown = states-called S T past future past' b Ss v h e p ∙ ap (λ X. Ss ++ X ∷ []) (t ∙ ap (λ X. (step X process made).0) same)
+      grown = states-called S T past future past' b Ss v h e p ∙ ap (λ X. Ss ++ X ∷ []) (t ∙ ap (λ X. (step X process made).0) same);
     }

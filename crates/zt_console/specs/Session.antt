@@ -47,8 +47,8 @@ unfoldable pub call_at_head : Session → ℕ → Call → Result (Answer × Ses
 call_at_head M process made =
     if nat_le last_moment (last M.states) then Err refusal.Full
     else (if runs (head M) process
-      then Ok (answer.Called (last M.states + 1) (step (head M) process made).1, with_moment M (step (head M) process made).0)
-      else Err refusal.NoProcess)
+    then Ok (answer.Called (last M.states + 1) (step (head M) process made).1, with_moment M (step (head M) process made).0)
+    else Err refusal.NoProcess)
 
 -- a call, which only a client that follows the branch makes
 abbrev pub call_by : Cursor → Session → ℕ → Call → Result (Answer × Session) Refusal

@@ -4,13 +4,11 @@ ghost use Rattle.zt_console.specs.Branch.{states, state_of, last};
 ghost use Rattle.zt_console.specs.Cursors.{cursor_of};
 ghost use Rattle.zt_console.specs.Session.{first_session, position, serve, call_by, back_by, show_to, IsRefused};
 
+use crate::histories::History;
 use std::alloc::{AllocError, Global};
 use std::marker::Model;
-
 use zt_rows::{Answer, Call, Command, Items, Koid, Moment, Refusal, Reply, Row, RowKey};
 use zt_store::Store;
-
-use crate::histories::History;
 
 /// The most clients that a book serves.
 pub const CLIENTS: u8 = 4;

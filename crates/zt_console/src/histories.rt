@@ -7,7 +7,6 @@ ghost use Rattle.zt_console.specs.Branch.{at_opening, branch_of, states, state_o
 
 use std::alloc::{AllocError, Global};
 use std::marker::Model;
-
 use zt_calls::{apply, runs};
 use zt_rows::{Call, Koid, Moment, Refusal, Reply};
 use zt_store::{Record, Store, swap};
@@ -94,9 +93,19 @@ impl History {
         let target = target.0 as usize;
         let position = self.past.len();
         if target < position {
-            pass(&mut self.store, &mut self.past, &mut self.future, position - target)
+            pass(
+                &mut self.store,
+                &mut self.past,
+                &mut self.future,
+                position - target,
+            )
         } else {
-            pass(&mut self.store, &mut self.future, &mut self.past, target - position)
+            pass(
+                &mut self.store,
+                &mut self.future,
+                &mut self.past,
+                target - position,
+            )
         }
     }
 }

@@ -1,14 +1,12 @@
 ghost use Rattle.std.specs.Prelude.{◌≡◌, ◌≤◌, length};
 
-use std::alloc::{AllocError, Global};
-use std::io::{Read, Write};
-
-use zt_rows::{Command, Refusal};
-
 use crate::books::Book;
 use crate::counted::Counted;
 use crate::printing::{print_answer, print_refusal};
 use crate::reading::read_line;
+use std::alloc::{AllocError, Global};
+use std::io::{Read, Write};
+use zt_rows::{Command, Refusal};
 
 /// The most reads of one run.
 const READS: u64 = 1_099_511_627_776;
@@ -154,8 +152,7 @@ fn text_served(alloc: Global, book: &mut Book, command: &Command) -> Result<Vec<
 }
 
 /// Writes the whole text, unless a write fails.
-fn write_text<W: Write>(text: &[u8], writer: &mut Counted<W>) -> Result<(), Refusal>
-{
+fn write_text<W: Write>(text: &[u8], writer: &mut Counted<W>) -> Result<(), Refusal> {
     let mut rest = text;
     while !rest.is_empty() {
         match writer.write(rest) {

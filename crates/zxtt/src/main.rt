@@ -2,7 +2,6 @@
 #![tactic(auto)]
 
 use std::process::ExitCode;
-
 use zt_console::{Book, Counted, End, run};
 use zt_rows::Refusal;
 

@@ -13,7 +13,7 @@ loop-key-smaller c =
     let low : c.copied.result ≡ last_of c.loop-key.found.items = c.copied.ensures ∙ c.last.ensures.value ∙ ap last_of c.deref.ensures.value in
     let next : next_key c.args.step.now.current (last_of c.loop-key.found.items) ≡ Some c.in-Some.key = ap (next_key c.args.step.now.current) (sym low) ∙ sym c.after.ensures ∙ c.in-Some.is in
     subst (λ found. length (keys c.args.step.now.current) - length found < length (keys c.args.step.now.current) - length c.loop-key.found.items) (sym c.in_ok-push.ensures.items)
-      (walked-shrinks c.args.step.now.current c.loop-key.found.items c.in-Some.key c.loop-key.invariant next)
+    (walked-shrinks c.args.step.now.current c.loop-key.found.items c.in-Some.key c.loop-key.invariant next)
 
 pub loop-key-preserved : goal.loop-key-preserved
 loop-key-preserved c =

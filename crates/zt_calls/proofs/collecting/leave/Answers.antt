@@ -13,4 +13,4 @@ pub returns-in-None-clause-ok : goal.returns-in-None-clause-ok
 returns-in-None-clause-ok c =
     let there : row c.args.step.now.current c.args.key.now ≡ Some c.in-Some.row.now = sym c.row.ensures ∙ ap option_copied c.in-Some.is in
     sym (same-stays (among c.args.going.now) c.args.step.now.current c.args.key.now c.in-Some.row.now there
-      (sym c.goes_along.ensures ∙ c.if-goes_along.false) (sym c.object_under.ensures ∙ c.in-None.is))
+    (sym c.goes_along.ensures ∙ c.if-goes_along.false) (sym c.object_under.ensures ∙ c.in-None.is))

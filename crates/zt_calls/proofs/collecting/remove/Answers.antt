@@ -13,9 +13,9 @@ loop-key-preserved c =
     record {
       beginning = c.leave.ensures.beginning ∙ c.loop-key.invariant.beginning;
       current =
-        c.in_ok-leave.ensures.ok
-        ∙ ap (λ C. f C c.key-item.result) c.loop-key.invariant.current
-        ∙ sym (fold-next f c.args.step.now.current c.deref-key-items.result.now c.loop-key.key-index c.key-item.result below c.key-item.is);
+          c.in_ok-leave.ensures.ok
+          ∙ ap (λ C. f C c.key-item.result) c.loop-key.invariant.current
+          ∙ sym (fold-next f c.args.step.now.current c.deref-key-items.result.now c.loop-key.key-index c.key-item.result below c.key-item.is);
     }
 
 pub returns-clause-ok : goal.returns-clause-ok

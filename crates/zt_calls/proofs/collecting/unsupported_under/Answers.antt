@@ -9,9 +9,9 @@ returns-in_err-koid c =
 pub returns-then-count-eq0 : goal.returns-then-count-eq0
 returns-then-count-eq0 c =
     sym (unsupported-zero c.args.step.now.current c.args.key.now c.in_ok-koid.koid c.count.result c.in_ok-koid.field-0-1
-      (sym c.object_under.ensures ∙ c.in_ok-koid.was) c.count.ensures c.if-count-eq0.true)
+    (sym c.object_under.ensures ∙ c.in_ok-koid.was) c.count.ensures c.if-count-eq0.true)
 
 pub returns-else-count-eq0 : goal.returns-else-count-eq0
 returns-else-count-eq0 c =
     sym (unsupported-some c.args.step.now.current c.args.key.now c.in_ok-koid.koid c.count.result c.in_ok-koid.field-0-1
-      (sym c.object_under.ensures ∙ c.in_ok-koid.was) c.count.ensures c.if-count-eq0.false)
+    (sym c.object_under.ensures ∙ c.in_ok-koid.was) c.count.ensures c.if-count-eq0.false)

@@ -12,8 +12,8 @@ fire-requires c =
     let below : c.loop-number.number-index < length c.deref-number-items.result.now = omega arith in
     let few : c.loop-number.number-index < 2 ^ 63 = omega (arith, c.deref-number-items.type_inv.1) in
     subst (λ (C : State). next_at C c.loop-number-item.result.1.port + 1 < 2 ^ 64) (sym c.loop-number.invariant.current)
-      (room-fires c.args.step.now.current c.deref-number-items.result.now c.loop-number.number-index c.loop-number-item.result
-        c.requires (c.deref-number-items.ensures.value ∙ c.in_ok-waits_of.ensures) below few c.loop-number-item.is)
+    (room-fires c.args.step.now.current c.deref-number-items.result.now c.loop-number.number-index c.loop-number-item.result
+    c.requires (c.deref-number-items.ensures.value ∙ c.in_ok-waits_of.ensures) below few c.loop-number-item.is)
 
 pub loop-number-preserved : goal.loop-number-preserved
 loop-number-preserved c =
@@ -21,9 +21,9 @@ loop-number-preserved c =
     record {
       beginning = c.fire.ensures.beginning ∙ c.loop-number.invariant.beginning;
       current =
-        c.in_ok-fire.ensures.ok
-        ∙ ap (λ C. fire C c.loop-number-item.result) c.loop-number.invariant.current
-        ∙ sym (fold-next fire c.args.step.now.current c.deref-number-items.result.now c.loop-number.number-index c.loop-number-item.result below c.loop-number-item.is);
+          c.in_ok-fire.ensures.ok
+          ∙ ap (λ C. fire C c.loop-number-item.result) c.loop-number.invariant.current
+          ∙ sym (fold-next fire c.args.step.now.current c.deref-number-items.result.now c.loop-number.number-index c.loop-number-item.result below c.loop-number-item.is);
     }
 
 pub returns-clause-ok : goal.returns-clause-ok

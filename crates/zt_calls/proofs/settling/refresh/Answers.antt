@@ -11,9 +11,9 @@ loop-koid-preserved c =
     record {
       beginning = ap (λ (t : Stepping). t.beginning) c.in_ok-put.ensures.ok ∙ c.loop-koid.invariant.beginning;
       current =
-        ap (λ (t : Stepping). t.current) c.in_ok-put.ensures.ok
-        ∙ ap (λ C. put_object C c.loop-koid-item.result) c.loop-koid.invariant.current
-        ∙ sym (fold-next put_object c.args.step.now.current c.deref-koid-items.result.now c.loop-koid.koid-index c.loop-koid-item.result below c.loop-koid-item.is);
+          ap (λ (t : Stepping). t.current) c.in_ok-put.ensures.ok
+          ∙ ap (λ C. put_object C c.loop-koid-item.result) c.loop-koid.invariant.current
+          ∙ sym (fold-next put_object c.args.step.now.current c.deref-koid-items.result.now c.loop-koid.koid-index c.loop-koid-item.result below c.loop-koid-item.is);
     }
 
 pub returns-clause-ok : goal.returns-clause-ok

@@ -12,4 +12,4 @@ fire_all-requires c = subst HasRoomToFire (sym c.in_ok-refresh.ensures.ok) (room
 pub returns-clause-ok : goal.returns-clause-ok
 returns-clause-ok c =
     on_ok c.fire_all.result c.fire_all.ensures.ok
-      (λ fired. fired ∙ ap (λ S. fold fire S (waits S)) c.in_ok-refresh.ensures.ok ∙ settled c.args.step.now.current)
+    (λ fired. fired ∙ ap (λ S. fold fire S (waits S)) c.in_ok-refresh.ensures.ok ∙ settled c.args.step.now.current)

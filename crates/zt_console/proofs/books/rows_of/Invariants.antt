@@ -6,7 +6,7 @@ use Rattle.zt_console.proofs.books.rows_of.Given as goal
 abbrev pub invariant-loop-next : goal.invariant-loop-next
 invariant-loop-next l = record {
   copied : l.rows.items ≡ take (length l.rows.items) l.store.rows;
-  following : l.next ≡ slice_get (map (λ e. e.0) l.store.rows) (length l.rows.items)
+  following : l.next ≡ slice_get (map (λ e. e.0) l.store.rows) (length l.rows.items);
 }
 
 abbrev pub decreases-loop-next : goal.decreases-loop-next

@@ -5,5 +5,5 @@ use Rattle.zt_console.proofs.running.answer_all.Given as goal
 abbrev pub invariant-loop : goal.invariant-loop
 invariant-loop g l = record {
   clients : length l.book.cursors ≡ length l.fn.book.cursors;
-  room : length l.chunk ≡ 4096
+  room : length l.chunk ≡ 4096;
 }

@@ -9,7 +9,7 @@ returns-clause-ok c =
     elim c.match-call.branch [
       | in-Ok w ↦ rw (w.result-is, w.new_moment.ensures)
           (call-done c.args.self.now _ c.args.process c.args.call.now w.in-Ok.called.0 w.in-Ok.called.0 w.in-Ok.called.1 w.in-Ok.called.1 _ _ c.self.inside.cursors.items (sym c.cursor.ensures ∙ c.in-Following.is)
-              (ap (λ M. M.states) c.self.view_is) (ap (λ M. M.cursors) c.self.view_is) w.in-Ok.ensures.ok refl refl)
+          (ap (λ M. M.states) c.self.view_is) (ap (λ M. M.cursors) c.self.view_is) w.in-Ok.ensures.ok refl refl)
       | in-Err w ↦ rw w.result-is tt
     ]
 

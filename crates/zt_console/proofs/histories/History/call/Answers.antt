@@ -11,7 +11,7 @@ invariant_of-self-2 c =
     let at : length c.goto.new.self.earlier ≡ last (states c.args.self.now) = omega (arith, c.in-Ok.ensures.at, c.last-last.ensures.last) in
     is_branch-more c.called.new.store (states c.args.self.now) c.called.new.records.items c.self.inside.future.items few (some_states c.args.self.now) c.called.ensures.consistent
     (states-called c.self.inside.store c.called.new.store c.self.inside.past.items c.self.inside.future.items c.called.new.records.items c.goto.new.self (states c.args.self.now)
-        c.self.view_is at c.in-Ok.ensures.states c.in-Ok-called.ensures.recorded)
+    c.self.view_is at c.in-Ok.ensures.states c.in-Ok-called.ensures.recorded)
 
 pub returns-clause-ok : goal.returns-clause-ok
 returns-clause-ok c =

@@ -29,9 +29,9 @@ returns-else-target-position-clause-ok c =
     let p = c.pass-else-target-position in
     on_ok p.result
     (λ (m : _).
-        state_of-here p.new.store p.new.to.items p.new.from.items (states c.args.self.now) c.args.target
-        (states-otherwise c.self.inside.store p.new.store c.self.inside.past.items c.self.inside.future.items p.new.to.items p.new.from.items p.ensures.states ∙ ap states c.self.view_is)
-        (omega (arith, m, p.ensures.all, p.new.to.ok.0, c.if-target-position.false, c.target.view_is, c.len-position.ensures)))
+    state_of-here p.new.store p.new.to.items p.new.from.items (states c.args.self.now) c.args.target
+    (states-otherwise c.self.inside.store p.new.store c.self.inside.past.items c.self.inside.future.items p.new.to.items p.new.from.items p.ensures.states ∙ ap states c.self.view_is)
+    (omega (arith, m, p.ensures.all, p.new.to.ok.0, c.if-target-position.false, c.target.view_is, c.len-position.ensures)))
     p.ensures.moved
 
 pub returns-else-target-position-clause-at : goal.returns-else-target-position-clause-at
@@ -45,9 +45,9 @@ pub returns-then-target-position-clause-ok : goal.returns-then-target-position-c
 returns-then-target-position-clause-ok c =
     on_ok c.pass.result
     (λ (m : _).
-        state_of-here c.pass.new.store c.pass.new.from.items c.pass.new.to.items (states c.args.self.now) c.args.target
-        (c.pass.ensures.states ∙ ap states c.self.view_is)
-        (omega (arith, m, c.pass.new.from.ok.0, c.if-target-position.true, c.target.view_is, c.len-position.ensures)))
+    state_of-here c.pass.new.store c.pass.new.from.items c.pass.new.to.items (states c.args.self.now) c.args.target
+    (c.pass.ensures.states ∙ ap states c.self.view_is)
+    (omega (arith, m, c.pass.new.from.ok.0, c.if-target-position.true, c.target.view_is, c.len-position.ensures)))
     c.pass.ensures.moved
 
 pub returns-then-target-position-clause-at : goal.returns-then-target-position-clause-at
