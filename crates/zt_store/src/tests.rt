@@ -13,32 +13,47 @@ const PORT: Koid = Koid(1027);
 
 const NEAR_END: Koid = Koid(1028);
 
-fn object(kind: Kind, link: u64, next: u64) -> Option<Row> {
-    Some(Row::Object(ObjectRow {
-        kind,
-        signals: Signals(0),
-        link: Koid(link),
-        life: Life::Live,
-        next,
-    }))
+fn put_counters(step: &mut Step, next_koid: u64) -> Result<(), AllocError> {
+    step.put(
+        RowKey::Counters,
+        Some(Row::Counters(Counters {
+            next_koid: Koid(next_koid),
+            next_wait: 1,
+        })),
+    )
 }
 
-fn counters(next_koid: u64) -> Option<Row> {
-    Some(Row::Counters(Counters {
-        next_koid: Koid(next_koid),
-        next_wait: 1,
-    }))
+fn put_object(
+    step: &mut Step,
+    koid: Koid,
+    kind: Kind,
+    link: u64,
+    next: u64,
+) -> Result<(), AllocError> {
+    step.put(
+        RowKey::Object(koid),
+        Some(Row::Object(ObjectRow {
+            kind,
+            signals: Signals(0),
+            link: Koid(link),
+            life: Life::Live,
+            next,
+        })),
+    )
 }
 
-fn entry(koid: Koid) -> Option<Row> {
-    Some(Row::Entry(Held {
-        koid,
-        rights: Rights(0xc003),
-    }))
+fn put_entry(step: &mut Step, handle: HandleValue, koid: Koid) -> Result<(), AllocError> {
+    step.put(
+        RowKey::Entry(Koid(1025), handle),
+        Some(Row::Entry(Held {
+            koid,
+            rights: Rights(0xc003),
+        })),
+    )
 }
 
 /// A message with three handles, two of them to the event.
-fn message(alloc: Global) -> Result<Option<Row>, AllocError> {
+fn put_message(alloc: Global, step: &mut Step, endpoint: Koid) -> Result<(), AllocError> {
     let mut handles = Vec::new(alloc);
     for koid in [EVENT, PORT, EVENT] {
         handles.push(Held {
@@ -46,21 +61,14 @@ fn message(alloc: Global) -> Result<Option<Row>, AllocError> {
             rights: Rights(0xc003),
         })?;
     }
-    let bytes = vec![in alloc; 1, 2, 3]?;
-    Ok(match Message::new(Items::new(bytes), Items::new(handles)) {
-        Some(message) => Some(Row::Msg(message)),
-        None => None,
-    })
+    let bytes = Vec::from_slice(alloc, [1, 2, 3].as_slice())?;
+    match Message::new(Items::new(bytes), Items::new(handles)) {
+        Some(message) => step.put(RowKey::Msg(endpoint, 0), Some(Row::Msg(message))),
+        None => Err(AllocError),
+    }
 }
 
-/// Rows of all six variants put over the opening's.
-fn put_all_variants(alloc: Global, step: &mut Step) -> Result<(), AllocError> {
-    step.put(RowKey::Counters, counters(1030))?;
-    step.put(RowKey::Object(EVENT), object(Kind::Event, 0, 0))?;
-    step.put(RowKey::Object(PORT), object(Kind::Port, 0, 1))?;
-    step.put(RowKey::Object(NEAR_END), object(Kind::Channel, 1029, 1))?;
-    step.put(RowKey::Entry(Koid(1025), HandleValue(7)), entry(EVENT))?;
-    step.put(RowKey::Msg(NEAR_END, 0), message(alloc)?)?;
+fn put_packet_and_wait(step: &mut Step) -> Result<(), AllocError> {
     step.put(
         RowKey::Packet(PORT, 0),
         Some(Row::Packet(Packet::User {
@@ -77,8 +85,18 @@ fn put_all_variants(alloc: Global, step: &mut Step) -> Result<(), AllocError> {
             key: 5,
             signals: Signals(8),
         })),
-    )?;
-    Ok(())
+    )
+}
+
+/// Rows of all six variants put over the opening's.
+fn put_all_variants(alloc: Global, step: &mut Step) -> Result<(), AllocError> {
+    put_counters(step, 1030)?;
+    put_object(step, EVENT, Kind::Event, 0, 0)?;
+    put_object(step, PORT, Kind::Port, 0, 1)?;
+    put_object(step, NEAR_END, Kind::Channel, 1029, 1)?;
+    put_entry(step, HandleValue(7), EVENT)?;
+    put_message(alloc, step, NEAR_END)?;
+    put_packet_and_wait(step)
 }
 
 fn begin(store: Store) -> Result<Step, AllocError> {
@@ -96,21 +114,31 @@ fn all_variants(alloc: Global) -> Result<(Store, Record), AllocError> {
     finish(step)
 }
 
+fn following(store: &Store, key: &RowKey) -> Option<RowKey> {
+    store.after(Some(*key))
+}
+
+/// The next key of both stores, where they have the same row under this key and agree on the next.
+fn next_of_both(first: &Store, second: &Store, key: &RowKey) -> Option<Option<RowKey>> {
+    if first.row(*key) != second.row(*key) {
+        return None;
+    }
+    let next = following(first, key);
+    let other = following(second, key);
+    if next == other { Some(next) } else { None }
+}
+
 /// Whether both stores have the same rows.
 fn is_same(first: &Store, second: &Store) -> bool {
-    let mut low = None;
+    let mut next = first.after(None);
     for _ in 0..100 {
-        let next = first.after(low);
-        if next != second.after(low) {
-            return false;
-        }
         let Some(key) = next else {
-            return true;
+            return second.after(None).is_some();
         };
-        if first.row(key) != second.row(key) {
-            return false;
+        match next_of_both(first, second, &key) {
+            Some(after) => next = after,
+            None => return false,
         }
-        low = next;
     }
     false
 }
@@ -118,20 +146,22 @@ fn is_same(first: &Store, second: &Store) -> bool {
 #[test]
 fn the_opening_is_a_job_and_its_process(rt: HostRuntime) -> Result<(), Fail> {
     let store = Store::opening(rt.alloc())?;
-    let keys = [
-        RowKey::Counters,
-        RowKey::Object(Koid(1024)),
-        RowKey::Object(Koid(1025)),
-        RowKey::Entry(Koid(1025), HandleValue(3)),
-    ];
-    let mut low = None;
-    for key in keys {
-        assert_eq!(rt; store.after(low), Some(key));
-        assert!(rt; store.row(key).is_some());
-        low = Some(key);
-    }
-    assert_eq!(rt; store.after(low), None);
-    assert_eq!(rt; store.row(RowKey::Wait(0)), None);
+    assert_eq!(rt; store.after(None), Some(RowKey::Counters));
+    assert_eq!(rt;
+        following(&store, &RowKey::Counters),
+        Some(RowKey::Object(Koid(1024)))
+    );
+    assert_eq!(rt;
+        following(&store, &RowKey::Object(Koid(1024))),
+        Some(RowKey::Object(Koid(1025)))
+    );
+    let entry = following(&store, &RowKey::Object(Koid(1025)));
+    assert_eq!(rt; entry, Some(RowKey::Entry(Koid(1025), HandleValue(3))));
+    assert_eq!(rt;
+        following(&store, &RowKey::Entry(Koid(1025), HandleValue(3))),
+        None
+    );
+    assert!(rt; store.row(RowKey::Wait(0)).is_none());
     for (koid, count) in [(1024, 3), (1025, 1), (1026, 0)] {
         assert_eq!(rt; store.count(Koid(koid)), count, "at {koid}");
     }
@@ -168,7 +198,7 @@ fn numbers_near_their_end_leave_no_room(rt: HostRuntime) -> Result<(), Fail> {
         (Kind::Event, u64::MAX, true),
     ] {
         let mut step = begin(Store::opening(rt.alloc())?)?;
-        step.put(RowKey::Object(EVENT), object(kind, 0, next))?;
+        put_object(&mut step, EVENT, kind, 0, next)?;
         let (store, _) = finish(step)?;
         assert_eq!(rt; store.room(), has_room, "at {next}");
     }
@@ -195,18 +225,17 @@ fn a_step_shows_what_was_put_and_records_what_changed(rt: HostRuntime) -> Result
     let alloc = rt.alloc();
     let (store, _) = all_variants(alloc)?;
     let mut step = begin(store)?;
-    let key = RowKey::Entry(Koid(1025), HandleValue(7));
-    step.put(RowKey::Counters, counters(1030))?;
-    step.put(key, None)?;
+    put_counters(&mut step, 1030)?;
+    step.put(RowKey::Entry(Koid(1025), HandleValue(7)), None)?;
     step.put(RowKey::Wait(3), None)?;
-    assert_eq!(rt; step.row(key), None);
+    let gone = step.row(RowKey::Entry(Koid(1025), HandleValue(7)));
+    assert!(rt; gone.is_none());
     assert_eq!(rt; step.count(EVENT), 2);
-    assert_eq!(rt;
-        step.after(Some(RowKey::Object(NEAR_END))),
-        Some(RowKey::Entry(Koid(1025), HandleValue(3)))
-    );
+    let next = step.after(Some(RowKey::Object(NEAR_END)));
+    assert_eq!(rt; next, Some(RowKey::Entry(Koid(1025), HandleValue(3))));
     let (_, record) = finish(step)?;
-    assert_eq!(rt; record.keys(), [key].as_slice());
+    let keys = [RowKey::Entry(Koid(1025), HandleValue(7))];
+    assert_eq!(rt; record.keys(), keys.as_slice());
     Ok(())
 }
 
