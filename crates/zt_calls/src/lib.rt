@@ -9,5 +9,7 @@ mod failures;
 mod looks;
 mod object_calls;
 mod settling;
+#[cfg(test)]
+mod tests;
 
 pub use applying::{apply, runs};

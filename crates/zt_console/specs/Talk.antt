@@ -1,12 +1,14 @@
 -- A talk: what a list of lines is answered, line by line, and what a run of one reads and writes.
 -- This project's own.
-use Rattle.std.specs.Prelude.{◌≡◌, ◌⊎◌, ℕ, ◌<◌, Bool, true, List, [], ◌∷◌, ◌++◌, not, ◌==◌, Option, None, Some, Result, Ok, Err}
+use Rattle.std.specs.Prelude.{◌≡◌, ◌⊎◌, ℕ, ◌<◌, ◌≤◌, ◌^◌, Bool, true, List, [], ◌∷◌, ◌++◌, not, ◌==◌, length, Option, None, Some, IfSome, Result, Ok, Err}
 use Rattle.std.specs.List.{list_all}
-use Rattle.std.specs.Io.KnownBytes.{Appends}
+use Rattle.std.specs.Io.KnownBytes.{Appends, Consumes}
 use Rattle.zt_rows.specs.declared.calls.Answer.{Answer}
 use Rattle.zt_rows.specs.declared.calls.Command.{Command}
 use Rattle.zt_rows.specs.declared.refusals.Refusal.{Refusal}
 use Rattle.zt_rows.specs.declared.refusals.Refusal.TheVariants as refusal
+use Rattle.zt_console.specs.declared.running.End.{End}
+use Rattle.zt_console.specs.declared.running.End.TheVariants.{Finished, Stopped}
 use Rattle.zt_console.specs.Answers.{shown_answer, shown_refusal}
 use Rattle.zt_console.specs.Lines.{lines_of}
 use Rattle.zt_console.specs.Reading.{read_as}
@@ -70,6 +72,21 @@ pub record Fed (M N : Session) (held kept bytes : List ℕ) (before after : Opti
   pub goes_on : done ≡ true → (more : List ℕ) → others more ≡ lines_of (kept ++ more)
   pub part : done ≡ true → has_no_feed kept ≡ true
 
+-- what was read so far, at least a byte in each of so many reads, and how it was answered
+pub record HasRead (M N : Session) (kept : List ℕ) (known left before after : Option (List ℕ)) (reads : ℕ) : Type 0 where
+  pub input : List ℕ
+  pub consumed : Consumes known left input
+  pub fed : Fed M N [] kept input before after true
+  pub many : reads ≤ length input
+
+-- ---- a run
+
+-- the lines that were read, or where it is not done some first ones of them, are spoken
+pub record HasTalked (M N : Session) (known before after : Option (List ℕ)) (done : Bool) : Type 0 where
+  pub lines : List (List ℕ)
+  pub spoken : Spoken M lines N before after done
+  pub read : IfSome known (λ input. (others : List (List ℕ)) × (lines_of input ≡ lines ++ others) × (done ≡ true → others ≡ []))
+
 -- ---- failures
 
 -- a writer's number of failures rises where a write fails, and then alone
@@ -78,3 +95,22 @@ IsCounted old new (Ok _) = new ≡ old
 IsCounted old new (Err refusal.WriteFault) = old < new
 IsCounted old new (Err refusal.OutOfMemory) = new ≡ old
 IsCounted old new (Err _) = ⊥
+
+-- the most reads of a run
+abbrev pub most_reads : ℕ
+most_reads = 2 ^ 40
+
+-- Why a run stopped, or not, from the reader's and the writer's numbers of failures before and after. A read
+-- fault comes where a read failed, or where there were as many reads as a run makes, each of some bytes.
+abbrev pub IsCause : ℕ × ℕ → ℕ × ℕ → Option (List ℕ) → Result (Unit {0}) Refusal → Type 0
+IsCause reader writer known (Ok _) = (reader.1 ≡ reader.0) × (writer.1 ≡ writer.0)
+IsCause reader writer known (Err refusal.ReadFault) =
+    ((reader.0 < reader.1) ⊎ IfSome known (λ input. most_reads ≤ length input)) × (writer.1 ≡ writer.0)
+IsCause reader writer known (Err refusal.WriteFault) = (reader.1 ≡ reader.0) × (writer.0 < writer.1)
+IsCause reader writer known (Err refusal.OutOfMemory) = (reader.1 ≡ reader.0) × (writer.1 ≡ writer.0)
+IsCause reader writer known (Err _) = ⊥
+
+-- the outcome of which an end tells
+abbrev pub outcome : End → Result (Unit {0}) Refusal
+outcome Finished = Ok tt
+outcome (Stopped reason) = Err reason

@@ -1,4 +1,8 @@
-ghost use Rattle.std.specs.Prelude.{◌≡◌, ◌≤◌, length};
+ghost use Rattle.std.specs.Prelude.{◌≡◌, ◌<◌, ◌≤◌, ◌-◌, ◌^◌, ◌∷◌, [], ◌++◌, List, ℕ, true, length, is_ok, OnOk, MatchResult};
+ghost use Rattle.std.specs.Io.KnownBytes.{IsAtEnd};
+ghost use Rattle.zt_console.specs.Lines.{lines_of};
+ghost use Rattle.zt_console.specs.Reading.{read_as};
+ghost use Rattle.zt_console.specs.Talk.{Answers, IsServed, IsWritten, Spoken, Fed, has_no_feed, IsCounted, HasTalked, IsCause, outcome};
 
 use crate::books::Book;
 use crate::counted::Counted;
@@ -20,14 +24,20 @@ pub enum End {
     Stopped(Refusal),
 }
 
-/// Answers the lines of the reader, as client 1 of the book, until its end or the first failure.
+/// Answers the lines of the reader, as client 1 of the book, until its end or the first failure. Where it is
+/// stopped, a command that was served before stands, whether or not its answer could be written.
 pub fn run<R: Read, W: Write>(
     alloc: Global,
     book: Book,
     reader: &mut Counted<R>,
     writer: &mut Counted<W>,
 ) -> (Book, End)
-    requires { 1 ≤ length book.cursors }
+    requires client { 1 ≤ length book.cursors }
+    requires reads { reader.old.1 < 2 ^ 64 - 1 }
+    requires writes { writer.old.1 < 2 ^ 64 - 1 }
+    ensures talk { HasTalked book result.0 (R.remaining reader.old.0) (W.contents writer.old.0) (W.contents writer.new.0) (is_ok (outcome result.1)) }
+    ensures end { OnOk (outcome result.1) (IsAtEnd (R.remaining reader.new.0)) }
+    ensures cause { IsCause (reader.old.1, reader.new.1) (writer.old.1, writer.new.1) (R.remaining reader.old.0) (outcome result.1) }
 {
     let mut book = book;
     match answer_all(alloc, &mut book, reader, writer) {
@@ -44,14 +54,25 @@ fn answer_all<R: Read, W: Write>(
     writer: &mut Counted<W>,
 ) -> Result<(), Refusal>
     requires client { 1 ≤ length book.old.cursors }
+    requires reads { reader.old.1 < 2 ^ 64 - 1 }
+    requires writes { writer.old.1 < 2 ^ 64 - 1 }
+    ensures talk { HasTalked book.old book.new (R.remaining reader.old.0) (W.contents writer.old.0) (W.contents writer.new.0) (is_ok result) }
+    ensures end { OnOk result (IsAtEnd (R.remaining reader.new.0)) }
+    ensures cause { IsCause (reader.old.1, reader.new.1) (writer.old.1, writer.new.1) (R.remaining reader.old.0) result }
 {
     let mut line = Vec::new(alloc);
     let mut chunk = [0u8; 4096];
     for _ in 0..READS {
-        match reader.read(&mut chunk) {
-            Ok(0) => return last_line(alloc, book, line.as_slice(), writer),
-            Ok(count) => feed(alloc, book, &mut line, &chunk[..count], writer)?,
-            Err(_) => return Err(Refusal::ReadFault),
+        let Ok(count) = reader.read(&mut chunk) else {
+            return Err(Refusal::ReadFault);
+        };
+        if count == 0 {
+            return last_line(alloc, book, line.as_slice(), writer);
+        }
+        let (bytes, _) = chunk.split_at(count);
+        match feed(alloc, book, &mut line, bytes, writer) {
+            Ok(()) => {}
+            Err(refusal) => return Err(refusal),
         }
     }
     Err(Refusal::ReadFault)
@@ -66,10 +87,17 @@ fn feed<W: Write>(
     writer: &mut Counted<W>,
 ) -> Result<(), Refusal>
     requires client { 1 ≤ length book.old.cursors }
+    requires count { writer.old.1 < 2 ^ 64 - 1 }
+    requires part { has_no_feed line.old.items ≡ true }
+    ensures fed { Fed book.old book.new line.old.items line.new.items bytes.now (W.contents writer.old.0) (W.contents writer.new.0) (is_ok result) }
+    ensures counted { IsCounted writer.old.1 writer.new.1 result }
     ensures clients { length book.new.cursors ≡ length book.old.cursors }
 {
     for byte in bytes {
-        feed_byte(alloc, book, line, *byte, writer)?;
+        match feed_byte(alloc, book, line, *byte, writer) {
+            Ok(()) => {}
+            Err(refusal) => return Err(refusal),
+        }
     }
     Ok(())
 }
@@ -83,16 +111,21 @@ fn feed_byte<W: Write>(
     writer: &mut Counted<W>,
 ) -> Result<(), Refusal>
     requires client { 1 ≤ length book.old.cursors }
+    requires count { writer.old.1 < 2 ^ 64 - 1 }
+    requires part { has_no_feed line.old.items ≡ true }
+    ensures fed { Fed book.old book.new line.old.items line.new.items (byte ∷ []) (W.contents writer.old.0) (W.contents writer.new.0) (is_ok result) }
+    ensures counted { IsCounted writer.old.1 writer.new.1 result }
     ensures clients { length book.new.cursors ≡ length book.old.cursors }
 {
     if byte == b'\n' {
         let answered = answer_line(alloc, book, line.as_slice(), writer);
         line.clear();
         answered
-    } else if line.push(byte).is_ok() {
-        Ok(())
     } else {
-        Err(Refusal::OutOfMemory)
+        match line.push(byte) {
+            Ok(()) => Ok(()),
+            Err(_) => Err(Refusal::OutOfMemory),
+        }
     }
 }
 
@@ -104,6 +137,10 @@ fn last_line<W: Write>(
     writer: &mut Counted<W>,
 ) -> Result<(), Refusal>
     requires client { 1 ≤ length book.old.cursors }
+    requires count { writer.old.1 < 2 ^ 64 - 1 }
+    requires part { has_no_feed line.now ≡ true }
+    ensures spoken { Spoken book.old (lines_of line.now) book.new (W.contents writer.old.0) (W.contents writer.new.0) (is_ok result) }
+    ensures counted { IsCounted writer.old.1 writer.new.1 result }
 {
     if line.is_empty() {
         Ok(())
@@ -120,6 +157,9 @@ fn answer_line<W: Write>(
     writer: &mut Counted<W>,
 ) -> Result<(), Refusal>
     requires client { 1 ≤ length book.old.cursors }
+    requires count { writer.old.1 < 2 ^ 64 - 1 }
+    ensures spoken { Spoken book.old (line.now ∷ []) book.new (W.contents writer.old.0) (W.contents writer.new.0) (is_ok result) }
+    ensures counted { IsCounted writer.old.1 writer.new.1 result }
     ensures clients { length book.new.cursors ≡ length book.old.cursors }
 {
     match text_for(alloc, book, line) {
@@ -131,6 +171,8 @@ fn answer_line<W: Write>(
 /// The text that a line gets.
 fn text_for(alloc: Global, book: &mut Book, line: &[u8]) -> Result<Vec<u8>, AllocError>
     requires { 1 ≤ length book.old.cursors }
+    ensures answers { MatchResult result (λ text. Answers book.old (read_as line.now) text.items book.new)
+        (λ _. (text : List ℕ) × Answers book.old (read_as line.now) text book.new) }
     ensures clients { length book.new.cursors ≡ length book.old.cursors }
 {
     match read_line(line) {
@@ -143,6 +185,8 @@ fn text_for(alloc: Global, book: &mut Book, line: &[u8]) -> Result<Vec<u8>, Allo
 /// The text that a command gets.
 fn text_served(alloc: Global, book: &mut Book, command: &Command) -> Result<Vec<u8>, AllocError>
     requires { 1 ≤ length book.old.cursors }
+    ensures served { MatchResult result (λ text. IsServed book.old command.now text.items book.new)
+        (λ _. (text : List ℕ) × IsServed book.old command.now text book.new) }
     ensures clients { length book.new.cursors ≡ length book.old.cursors }
 {
     match book.serve(1, command) {
@@ -152,11 +196,15 @@ fn text_served(alloc: Global, book: &mut Book, command: &Command) -> Result<Vec<
 }
 
 /// Writes the whole text, unless a write fails.
-fn write_text<W: Write>(text: &[u8], writer: &mut Counted<W>) -> Result<(), Refusal> {
+fn write_text<W: Write>(text: &[u8], writer: &mut Counted<W>) -> Result<(), Refusal>
+    requires { writer.old.1 < 2 ^ 64 - 1 }
+    ensures written { IsWritten text.now (W.contents writer.old.0) (W.contents writer.new.0) (is_ok result) }
+    ensures counted { IsCounted writer.old.1 writer.new.1 result }
+{
     let mut rest = text;
     while !rest.is_empty() {
         match writer.write(rest) {
-            Ok(count) if count > 0 => rest = &rest[count..],
+            Ok(count) if count > 0 => rest = rest.split_at(count).1,
             _ => return Err(Refusal::WriteFault),
         }
     }
