@@ -1,9 +1,8 @@
--- Settling by walks: what the rows under all keys say at once, derived signals written object by object, and
--- how far firing raises a port's next number.
-use Rattle.std.proofs.Common.{◌≡◌, ◌<◌, ◌≤◌, ◌^◌, ℕ, zero, suc, ◌+◌, Bool, true, false, cond, ◌||◌, T, List, [], ◌∷◌, length, map, take, get_or, Option, Some, None, option_and_then, refl, sym, ap, ◌∙◌, subst, arith, ◌⊎◌, inl, inr}
+-- Settling by walks: the waits under all keys, and how far firing raises a port's next number.
+use Rattle.std.proofs.Common.{◌≡◌, ◌<◌, ◌≤◌, ◌^◌, ℕ, zero, suc, ◌+◌, Bool, true, false, cond, List, [], ◌∷◌, length, take, get_or, Option, Some, None, option_and_then, refl, sym, ap, ◌∙◌, subst, arith, inl, inr}
 use Rattle.std.specs.Prelude.{if◌then◌else◌, ◌==◌, Result, Ok, Err, OnOk}
-use Rattle.std.specs.Option.{option_map, option_map_or}
-use Rattle.std.specs.List.{filter_map, fold, list_any}
+use Rattle.std.specs.Option.{option_map}
+use Rattle.std.specs.List.{filter_map, fold}
 use Rattle.std.proofs.lemmas.Bool.{eqb-true}
 use Rattle.zt_rows.specs.declared.keys.RowKey.{RowKey}
 use Rattle.zt_rows.specs.declared.keys.RowKey.TheVariants as key
@@ -12,31 +11,21 @@ use Rattle.zt_rows.specs.declared.rows.Packet.{Packet}
 use Rattle.zt_rows.specs.declared.rows.Wait.{Wait}
 use Rattle.zt_rows.specs.declared.rows.Row.{Row}
 use Rattle.zt_rows.specs.declared.rows.Row.TheVariants as rows
-use Rattle.zt_rows.specs.Keys.{rowkey_eq}
-use Rattle.zt_rows.specs.KeyOrder.{rowkey_eq-equal, rowkey_eq-self}
 use Rattle.zt_rows.specs.State.{State, row, put, change}
 use Rattle.zt_rows.specs.Change.{keys}
 use Rattle.zt_rows.specs.Reads.{as_object, as_wait, object, wait, waits, wait_at}
-use Rattle.zt_rows.specs.Tests.{any_row, next_at, object_next, raised}
-use Rattle.zt_rows.specs.Settle.{renewed, refreshed, refresh, fire, fire_into, push_packet, is_met, news, settle}
-use Rattle.zt_rows.proofs.StateLaws.{row-change, row-put, same_state}
-use Rattle.zt_rows.proofs.RowLaws.{In, in-row, in-filter_map, filter_map-in}
-use Rattle.zt_calls.specs.Walks.{refreshed_under, wait_under, passes_under, any_under}
+use Rattle.zt_rows.specs.Tests.{next_at, object_next, raised}
+use Rattle.zt_rows.specs.Settle.{refreshed, refresh, fire, fire_into, push_packet, is_met, news, settle}
+use Rattle.zt_rows.proofs.StateLaws.{row-change, row-put}
+use Rattle.zt_rows.proofs.RowLaws.{In, in-row, in-filter_map}
+use Rattle.zt_calls.specs.Walks.{wait_under}
 use Rattle.zt_calls.specs.Firing.{HasRoomToFire}
-use Rattle.zt_calls.proofs.CollectLaws.{filter_map-alike, row-key}
+use Rattle.zt_calls.proofs.CollectLaws.{filter_map-alike}
 
--- ---- what the rows under all keys say
+-- ---- the waits under all keys
 
-list_any-alike : {A B : Type 0} (h : A → B) (p : B → Bool) (q : A → Bool) (xs : List A) → ((x : A) → In x xs → p (h x) ≡ q x) → list_any p (map h xs) ≡ list_any q xs
-list_any-alike h p q [] same = refl
-list_any-alike h p q (x ∷ xs) same =
-    ap (λ b. b || list_any p (map h xs)) (same x (inl refl))
-    ∙ ap (λ b. q x || b) (list_any-alike h p q xs (λ y m. same y (inr m)))
-
-pub any-keys : (test : RowKey → Row → Bool) (S : State) → any_under test S ≡ any_row test S
-unfolding any_row
-any-keys test S =
-    list_any-alike (λ e. e.0) (passes_under test S) (λ e. test e.0 e.1) S.rows (λ e m. ap (λ r. option_map_or (test e.0) r false) (in-row S e.0 e.1 m))
+some_one : {A : Type 0} (x y : A) → Some x ≡ Some y → x ≡ y
+some_one x y e = cc
 
 wait_row : (n : ℕ) (r : Row) → option_map (λ w. (n, w)) (as_wait (Some r)) ≡ wait_at (key.Wait n, r)
 wait_row n (rows.Wait w) = refl
@@ -49,92 +38,6 @@ under-at S _ r h = refl
 pub waits-keys : (S : State) → filter_map (wait_under S) (keys S) ≡ waits S
 unfolding waits
 waits-keys S = filter_map-alike (λ e. e.0) (wait_under S) wait_at S.rows (λ e m. under-at S e.0 e.1 (in-row S e.0 e.1 m))
-
--- ---- derived signals, object by object
-
--- the state with this object
-abbrev pub put_object : State → ℕ × ObjectRow → State
-put_object C e = put C (key.Object e.0) (Some (rows.Object e.1))
-
--- puts of objects that T has lead to T
-toward : (T : State) (es : List (ℕ × ObjectRow)) (C : State) (q : RowKey) → ((e : ℕ × ObjectRow) → In e es → row T (key.Object e.0) ≡ Some (rows.Object e.1)) → (row C q ≡ row T q) ⊎ ((e : ℕ × ObjectRow) × In e es × (q ≡ key.Object e.0)) → row (fold put_object C es) q ≡ row T q
-toward T [] C q each (inl h) = h
-toward T [] C q each (inr w) = absurd w.1
-toward T (e ∷ es) C q each case =
-    toward T es (put_object C e) q (λ d m. each d (inr m))
-    (elim (rowkey_eq q (key.Object e.0)) as (λ b. rowkey_eq q (key.Object e.0) ≡ b → (row (put_object C e) q ≡ row T q) ⊎ ((d : ℕ × ObjectRow) × In d es × (q ≡ key.Object d.0))) [
-      | true ↦ λ t.
-          let same : q ≡ key.Object e.0 = rowkey_eq-equal q (key.Object e.0) t in
-          inl (row-put C (key.Object e.0) (Some (rows.Object e.1)) q ∙ ap (λ b. cond b (Some (rows.Object e.1)) (row C q)) t ∙ sym (each e (inl refl)) ∙ ap (row T) (sym same))
-      | false ↦ λ t.
-          let other : row (put_object C e) q ≡ row C q = row-put C (key.Object e.0) (Some (rows.Object e.1)) q ∙ ap (λ b. cond b (Some (rows.Object e.1)) (row C q)) t in
-          still other t case
-    ] refl)
-  where
-    later : (d : ℕ × ObjectRow) → rowkey_eq q (key.Object e.0) ≡ false → In d (e ∷ es) → q ≡ key.Object d.0 → (row (put_object C e) q ≡ row T q) ⊎ ((d : ℕ × ObjectRow) × In d es × (q ≡ key.Object d.0))
-    later d t (inl same) p =
-        let at : q ≡ key.Object e.0 = p ∙ ap (λ (x : ℕ × ObjectRow). key.Object x.0) same in
-        let yes : rowkey_eq q (key.Object e.0) ≡ true = ap (λ k. rowkey_eq k (key.Object e.0)) at ∙ rowkey_eq-self (key.Object e.0) in
-        cc
-    later d t (inr m) p = inr (d, m, p)
-
-    still : row (put_object C e) q ≡ row C q → rowkey_eq q (key.Object e.0) ≡ false → (row C q ≡ row T q) ⊎ ((d : ℕ × ObjectRow) × In d (e ∷ es) × (q ≡ key.Object d.0)) → (row (put_object C e) q ≡ row T q) ⊎ ((d : ℕ × ObjectRow) × In d es × (q ≡ key.Object d.0))
-    still other t (inl h) = inl (other ∙ h)
-    still other t (inr w) = later w.0 t w.1 w.2
-
--- the object with its derived signals anew
-abbrev anew : State → ℕ → ObjectRow → ObjectRow
-anew S x o = record o { signals = record { 0 = renewed S x o } }
-
-some_one : {A : Type 0} (x y : A) → Some x ≡ Some y → x ≡ y
-some_one x y e = cc
-
-refreshed_object : (S : State) (x : ℕ) (e : ℕ × ObjectRow) (r : Option Row) → option_map {U = ℕ × ObjectRow} (λ o. (x, anew S x o)) (as_object r) ≡ Some e → option_and_then (refreshed S (key.Object x)) r ≡ Some (rows.Object e.1)
-refreshed_object S x e (Some (rows.Object o)) h =
-    ap (λ (q : ℕ × ObjectRow). Some (rows.Object q.1)) (some_one (x, anew S x o) e h)
-refreshed_object S x e (Some (rows.Counters _)) h = cc
-refreshed_object S x e (Some (rows.Entry _)) h = cc
-refreshed_object S x e (Some (rows.Msg _)) h = cc
-refreshed_object S x e (Some (rows.Packet _)) h = cc
-refreshed_object S x e (Some (rows.Wait _)) h = cc
-refreshed_object S x e None h = cc
-
-same_koid : (x : ℕ) (f : ObjectRow → ObjectRow) (e : ℕ × ObjectRow) (r : Option ObjectRow) → option_map {U = ℕ × ObjectRow} (λ o. (x, f o)) r ≡ Some e → x ≡ e.0
-same_koid x f e (Some o) h = ap (λ (q : ℕ × ObjectRow). q.0) (some_one (x, f o) e h)
-same_koid x f e None h = cc
-
-refreshed_at : (S : State) (k : RowKey) (e : ℕ × ObjectRow) → refreshed_under S k ≡ Some e → row (refresh S) (key.Object e.0) ≡ Some (rows.Object e.1)
-unfolding refresh
-refreshed_at S (key.Object x) e h =
-    let same : x ≡ e.0 = same_koid x (anew S x) e (object S x) h in
-    subst (λ y. row (change (refreshed S) S) (key.Object y) ≡ Some (rows.Object e.1)) same
-    (row-change (refreshed S) S (key.Object x) ∙ refreshed_object S x e (row S (key.Object x)) h)
-refreshed_at S _ e h = cc
-
--- under each key either a refreshed object stands, or nothing changes
-either : (S : State) (q : RowKey) (r : Option Row) → row S q ≡ r → (row S q ≡ option_and_then (refreshed S q) r) ⊎ ((e : ℕ × ObjectRow) × In e (filter_map (refreshed_under S) (keys S)) × (q ≡ key.Object e.0))
-either S (key.Object x) (Some (rows.Object o)) h =
-    let found : refreshed_under S (key.Object x) ≡ Some (x, anew S x o) = ap (λ r. option_map {U = ℕ × ObjectRow} (λ o. (x, anew S x o)) (as_object r)) h in
-    inr ((x, anew S x o), filter_map-in (refreshed_under S) (x, anew S x o) (key.Object x) (keys S) (row-key S (key.Object x) (rows.Object o) h) found, refl)
-either S q None h = inl h
-either S key.Counters (Some r) h = inl h
-either S (key.Entry _ _) (Some r) h = inl h
-either S (key.Msg _ _) (Some r) h = inl h
-either S (key.Packet _ _) (Some r) h = inl h
-either S (key.Wait _) (Some r) h = inl h
-either S (key.Object x) (Some r) h = inl h
-
-pub refresh-walk : (S : State) → fold put_object S (filter_map (refreshed_under S) (keys S)) ≡ refresh S
-unfolding refresh
-refresh-walk S =
-    same_state _ _ (λ q.
-    toward (refresh S) (filter_map (refreshed_under S) (keys S)) S q
-    (λ e m. let w = in-filter_map (refreshed_under S) e (keys S) m in refreshed_at S w.0 e w.2)
-    (of_case q (either S q (row S q) refl)))
-  where
-    of_case : (q : RowKey) → (row S q ≡ option_and_then (refreshed S q) (row S q)) ⊎ ((e : ℕ × ObjectRow) × In e (filter_map (refreshed_under S) (keys S)) × (q ≡ key.Object e.0)) → (row S q ≡ row (refresh S) q) ⊎ ((e : ℕ × ObjectRow) × In e (filter_map (refreshed_under S) (keys S)) × (q ≡ key.Object e.0))
-    of_case q (inl h) = inl (h ∙ sym (row-change (refreshed S) S q))
-    of_case q (inr w) = inr w
 
 -- ---- room to fire
 

@@ -3,13 +3,9 @@ use Rattle.std.specs.Prelude.{◌≡◌, Result, Ok, Err}
 use Rattle.zt_rows.specs.declared.calls.Reply.{Reply}
 use Rattle.zt_rows.specs.declared.calls.Reply.TheVariants as reply
 use Rattle.zt_rows.specs.State.{State}
-use Rattle.zt_store.specs.Stepping.{Stepping, begun}
+use Rattle.zt_store.specs.Stepping.{Stepping, advanced, begun}
 use Rattle.zt_calls.specs.declared.failures.Failure.{Failure}
 use Rattle.zt_calls.specs.declared.failures.Failure.TheVariants as failure
-
--- the step went on to this state
-abbrev pub advanced : Stepping → State → Stepping
-advanced s T = record s { current = T }
 
 -- the step went on to the state of d, with the reply of d; or memory was refused, and the step is as begun
 abbrev pub Does : State × Reply → Stepping → Stepping → Result Reply Failure → Type 0

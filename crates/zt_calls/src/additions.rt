@@ -1,8 +1,7 @@
 ghost use Rattle.std.specs.Prelude.{◌≡◌, ◌<◌, ◌^◌, IfOk, OnErr};
 ghost use Rattle.zt_rows.specs.Reads.{counters};
 ghost use Rattle.zt_rows.specs.Handles.{fresh, make, next_koid, install, value_of, whole};
-ghost use Rattle.zt_store.specs.Stepping.{begun};
-ghost use Rattle.zt_calls.specs.Outcomes.{advanced};
+ghost use Rattle.zt_store.specs.Stepping.{advanced, begun};
 
 use crate::looks::counters_of;
 use std::alloc::AllocError;

@@ -33,7 +33,7 @@ pub(crate) fn collect(alloc: Global, step: &mut Step) -> Result<(), AllocError>
 fn unsupported(alloc: Global, step: &Step) -> Result<Vec<Koid>, AllocError>
     ensures { IfOk result (λ found. found.items ≡ filter_map (unsupported_under step.now.current) (keys step.now.current)) }
 {
-    let keys = keys_of(alloc, step)?;
+    let keys = step.keys(alloc)?;
     keys.iter()
         .filter_map(|key| unsupported_under(step, key))
         .collect(alloc)
@@ -56,7 +56,7 @@ fn remove(alloc: Global, step: &mut Step, going: &[Koid]) -> Result<(), AllocErr
     ensures beginning { step.new.beginning ≡ step.old.beginning }
     ensures ok { OnOk result (step.new.current ≡ without step.old.current (among going.now)) }
 {
-    for key in &keys_of(alloc, step)? {
+    for key in &step.keys(alloc)? {
         leave(step, going, key)?;
     }
     Ok(())
@@ -124,19 +124,8 @@ pub(crate) fn object_under(step: &Step, key: &RowKey) -> Option<(Koid, ObjectRow
 pub(crate) fn objects_of(alloc: Global, step: &Step) -> Result<Vec<(Koid, ObjectRow)>, AllocError>
     ensures { IfOk result (λ found. found.items ≡ filter_map (object_under step.now.current) (keys step.now.current)) }
 {
-    let keys = keys_of(alloc, step)?;
+    let keys = step.keys(alloc)?;
     keys.iter()
         .filter_map(|key| object_under(step, key))
         .collect(alloc)
-}
-
-/// The keys of all rows, in their order.
-pub(crate) fn keys_of(alloc: Global, step: &Step) -> Result<Vec<RowKey>, AllocError>
-    ensures { IfOk result (λ found. found.items ≡ keys step.now.current) }
-{
-    let mut found = Vec::new(alloc);
-    while let Some(key) = step.after(found.last().copied()) {
-        found.push(key)?;
-    }
-    Ok(found)
 }

@@ -2,8 +2,8 @@ ghost use Rattle.std.specs.Prelude.{◌≡◌, true, OnOk, OnErr};
 ghost use Rattle.zt_rows.specs.Reads.{runs};
 ghost use Rattle.zt_rows.specs.Room.{HasRoom};
 ghost use Rattle.zt_rows.specs.ObjectCalls.{create, event_create, object_signal, set_signals};
-ghost use Rattle.zt_store.specs.Stepping.{begun};
-ghost use Rattle.zt_calls.specs.Outcomes.{advanced, Does};
+ghost use Rattle.zt_store.specs.Stepping.{advanced, begun};
+ghost use Rattle.zt_calls.specs.Outcomes.{Does};
 
 use crate::additions::{new_entry, new_object, whole};
 use crate::arguments::{Wanted, handle_to, may_set};

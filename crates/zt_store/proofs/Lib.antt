@@ -3,3 +3,4 @@ pub mod Undoing
 pub mod Counts
 pub mod Places
 pub mod Rooms
+pub mod KeyWalks

@@ -11,6 +11,10 @@ pub record Stepping : Type 0 where
 abbrev pub begun : State → Stepping
 begun S = record { beginning = S; current = S }
 
+-- the step went on to this state
+abbrev pub advanced : Stepping → State → Stepping
+advanced s T = record s { current = T }
+
 -- the state after the puts so far, where there is one
 abbrev pub current_of : State → Option State → State
 current_of S (Some T) = T

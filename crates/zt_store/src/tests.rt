@@ -240,6 +240,25 @@ fn a_step_shows_what_was_put_and_records_what_changed(rt: HostRuntime) -> Result
 }
 
 #[test]
+fn a_step_lists_its_keys_until_it_is_reset(rt: HostRuntime) -> Result<(), Fail> {
+    let alloc = rt.alloc();
+    let mut step = begin(Store::opening(alloc)?)?;
+    put_object(&mut step, EVENT, Kind::Event, 0, 0)?;
+    let keys = [
+        RowKey::Counters,
+        RowKey::Object(Koid(1024)),
+        RowKey::Object(Koid(1025)),
+        RowKey::Object(EVENT),
+        RowKey::Entry(Koid(1025), HandleValue(3)),
+    ];
+    assert_eq!(rt; step.keys(alloc)?.as_slice(), keys.as_slice());
+    step.reset();
+    assert_eq!(rt; step.keys(alloc)?.len(), 4);
+    assert!(rt; step.row(RowKey::Object(EVENT)).is_none());
+    Ok(())
+}
+
+#[test]
 fn an_abandoned_step_leaves_the_store(rt: HostRuntime) -> Result<(), Fail> {
     let alloc = rt.alloc();
     let opening = Store::opening(alloc)?;

@@ -24,5 +24,5 @@ returns-clause-ok c =
     let past : length c.deref-key-items.result.now ≤ c.loop-key.key-index = omega arith in
     c.loop-key.invariant.current
     ∙ fold-all f c.args.step.now.current c.deref-key-items.result.now c.loop-key.key-index past
-    ∙ ap (fold f c.args.step.now.current) (c.deref-key-items.ensures.value ∙ c.in_ok-keys_of.ensures)
+    ∙ ap (fold f c.args.step.now.current) (c.deref-key-items.ensures.value ∙ c.in_ok-keys.ensures)
     ∙ walk-without (among c.args.going.now) c.args.step.now.current

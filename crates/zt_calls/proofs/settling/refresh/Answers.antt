@@ -1,24 +1,25 @@
-use Rattle.std.proofs.Common.{◌<◌, length, sym, ap, ◌∙◌, arith}
+use Rattle.std.proofs.Common.{◌≤◌, ◌<◌, length, sym, ap, ◌∙◌, arith}
 use Rattle.std.specs.List.{fold}
-use Rattle.zt_store.specs.Stepping.{Stepping}
+use Rattle.zt_calls.specs.Walks.{refreshed_under}
 use Rattle.zt_calls.proofs.WalkLaws.{fold-next, fold-all}
-use Rattle.zt_calls.proofs.SettleLaws.{put_object, refresh-walk}
+use Rattle.zt_calls.proofs.RefreshLaws.{refresh-walk}
 use Rattle.zt_calls.proofs.settling.refresh.Goals as goal
 
-pub loop-koid-preserved : goal.loop-koid-preserved
-loop-koid-preserved c =
-    let below : c.loop-koid.koid-index < length c.deref-koid-items.result.now = omega arith in
+pub loop-key-preserved : goal.loop-key-preserved
+loop-key-preserved c =
+    let below : c.loop-key.key-index < length c.deref-key-items.result.now = omega arith in
     record {
-      beginning = ap (λ (t : Stepping). t.beginning) c.in_ok-put.ensures.ok ∙ c.loop-koid.invariant.beginning;
+      beginning = c.refresh_under.ensures.beginning ∙ c.loop-key.invariant.beginning;
       current =
-          ap (λ (t : Stepping). t.current) c.in_ok-put.ensures.ok
-          ∙ ap (λ C. put_object C c.loop-koid-item.result) c.loop-koid.invariant.current
-          ∙ sym (fold-next put_object c.args.step.now.current c.deref-koid-items.result.now c.loop-koid.koid-index c.loop-koid-item.result below c.loop-koid-item.is);
+          c.in_ok-refresh_under.ensures.ok
+          ∙ ap (λ C. refreshed_under C c.key-item.result) c.loop-key.invariant.current
+          ∙ sym (fold-next refreshed_under c.args.step.now.current c.deref-key-items.result.now c.loop-key.key-index c.key-item.result below c.key-item.is);
     }
 
 pub returns-clause-ok : goal.returns-clause-ok
 returns-clause-ok c =
-    c.loop-koid.invariant.current
-    ∙ fold-all put_object c.args.step.now.current c.deref-koid-items.result.now c.loop-koid.koid-index c.loop-koid-test.false
-    ∙ ap (fold put_object c.args.step.now.current) (c.deref-koid-items.ensures.value ∙ c.in_ok-refreshed_objects.ensures)
+    let past : length c.deref-key-items.result.now ≤ c.loop-key.key-index = omega arith in
+    c.loop-key.invariant.current
+    ∙ fold-all refreshed_under c.args.step.now.current c.deref-key-items.result.now c.loop-key.key-index past
+    ∙ ap (fold refreshed_under c.args.step.now.current) (c.deref-key-items.ensures.value ∙ c.in_ok-keys.ensures)
     ∙ refresh-walk c.args.step.now.current

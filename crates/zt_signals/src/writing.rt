@@ -1,0 +1,60 @@
+ghost use Rattle.std.specs.Prelude.{◌≡◌, IfOk, OnOk, OnErr};
+ghost use Rattle.zt_rows.specs.Reads.{object};
+ghost use Rattle.zt_store.specs.Stepping.{advanced, begun};
+ghost use Rattle.zt_signals.specs.Written.{anew, refreshed_object, signals_set};
+
+use crate::renewing::renewed_signals;
+use bitflags::Flags;
+use std::alloc::{AllocError, Global};
+use zt_bits::Signals;
+use zt_rows::{Koid, ObjectRow, Row, RowKey};
+use zt_store::Step;
+
+/// Clears and then sets signals of the object. Where there is no such object, nothing changes.
+pub fn set_bits(step: &mut Step, koid: Koid, clear: Signals, set: Signals) -> Result<(), AllocError>
+    ensures ok { OnOk result (step.new ≡ advanced step.old (signals_set step.old.current koid clear.0 set.0)) }
+    ensures err { OnErr result (step.new ≡ begun step.old.beginning) }
+{
+    let Some(object) = object_of(step, koid) else {
+        return Ok(());
+    };
+    let signals = object.signals.difference(clear).union(set);
+    let object = ObjectRow { signals, ..object };
+    step.put(RowKey::Object(koid), Some(Row::Object(object)))
+}
+
+/// Writes the derived signals of the object anew. Where there is no such object, nothing changes.
+pub fn refresh(alloc: Global, step: &mut Step, koid: Koid) -> Result<(), AllocError>
+    ensures ok { OnOk result (step.new ≡ advanced step.old (refreshed_object step.old.current koid)) }
+    ensures err { OnErr result (step.new ≡ begun step.old.beginning) }
+{
+    match anew(alloc, step, koid) {
+        Ok(Some(object)) => step.put(RowKey::Object(koid), Some(Row::Object(object))),
+        Ok(None) => Ok(()),
+        Err(refused) => {
+            step.reset();
+            Err(refused)
+        }
+    }
+}
+
+/// The object with its derived signals anew.
+fn anew(alloc: Global, step: &Step, koid: Koid) -> Result<Option<ObjectRow>, AllocError>
+    ensures { IfOk result (λ found. found ≡ anew step.now.current koid) }
+{
+    let Some(object) = object_of(step, koid) else {
+        return Ok(None);
+    };
+    let signals = renewed_signals(alloc, step, koid, &object)?;
+    Ok(Some(ObjectRow { signals, ..object }))
+}
+
+/// The object of this koid.
+fn object_of(step: &Step, koid: Koid) -> Option<ObjectRow>
+    ensures { result ≡ object step.now.current koid }
+{
+    match step.row(RowKey::Object(koid)) {
+        Some(Row::Object(object)) => Some(*object),
+        _ => None,
+    }
+}
