@@ -2,7 +2,8 @@
 # make run    also runs it on standard input
 # make test   the gate: everything from nothing
 # make quick  runs the program on standard input before any proof
-.PHONY: all run test quick
+# make refusals  refuses each request for memory in turn, in the tests that are to pass whichever it is
+.PHONY: all run test quick refusals
 
 all:
 	cd crates/zxtt && rt run </dev/null >/dev/null
@@ -16,3 +17,6 @@ test:
 
 quick:
 	cd crates/zxtt && rt try
+
+refusals:
+	tools/refuse-each-request

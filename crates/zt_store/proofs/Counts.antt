@@ -1,13 +1,9 @@
 -- How many supports the rows of a store give together, and whether its rows leave room.
-use Rattle.std.proofs.Common.{◌≡◌, ℕ, ◌+◌, ◌*◌, ◌≤◌, ◌<◌, ◌^◌, Bool, true, false, cond, ◌&&◌, ◌||◌, ◌==◌, nat_le, List, [], ◌∷◌, ◌++◌, length, map, count_by, filter_map, flat_map, Option, Some, None, refl, sym, ap, ◌∙◌, subst, arith, rules, leb-true, le-leb, length-append}
+use Rattle.std.proofs.Common.{◌≡◌, ℕ, ◌+◌, Bool, true, false, cond, ◌&&◌, ◌||◌, ◌==◌, List, [], ◌∷◌, ◌++◌, length, count_by, filter_map, flat_map, Option, Some, None, refl, sym, ap, ◌∙◌, arith, length-append}
 use mir.Val.{bool_byte}
-use Rattle.std.specs.List.{cons_option, AllByRecursion}
-use Rattle.std.specs.BTreeMap as tree
-use Rattle.std.specs.BTreeMap.{BTreeMap, is_at}
-use Rattle.std.specs.Map.{lookup}
+use Rattle.std.specs.List.{cons_option}
+use Rattle.std.specs.BTreeMap.{BTreeMap}
 use Rattle.std.proofs.lemmas.List.Sums.{sum_by-cons}
-use Rattle.zt_bits.specs.declared.kinds.Kind.{Kind}
-use Rattle.zt_bits.specs.declared.kinds.Kind.TheVariants as kind
 use Rattle.zt_rows.specs.declared.keys.RowKey.{RowKey}
 use Rattle.zt_rows.specs.declared.keys.RowKey.TheVariants as key
 use Rattle.zt_rows.specs.declared.rows.Held.{Held}
@@ -15,9 +11,8 @@ use Rattle.zt_rows.specs.declared.rows.ObjectRow.{ObjectRow}
 use Rattle.zt_rows.specs.declared.rows.Row.{Row}
 use Rattle.zt_rows.specs.declared.rows.Row.TheVariants as rows
 use Rattle.zt_rows.specs.declared.supports.Support.TheVariants as support
-use Rattle.zt_rows.specs.Keys.{rowkey_cmp, rowkey_eq}
-use Rattle.zt_rows.specs.State.{State, row}
-use Rattle.zt_rows.specs.Reads.{object, as_object, as_counters, counters, is_live_job, is_live_process}
+use Rattle.zt_rows.specs.State.{State}
+use Rattle.zt_rows.specs.Reads.{object, is_live_job, is_live_process}
 use Rattle.zt_rows.specs.Support.{entry_support, places, message_supports, child_support, children, itself, supports, support_count, root_job}
 use Rattle.zt_store.specs.Seen.{state_with, IsStore}
 use Rattle.zt_store.specs.Counting.{given_by, given_by_all, keeps_tasks, keeps_itself}

@@ -1,7 +1,5 @@
 -- The rows of a store in their order: the counters first, and then the rows beside them.
-use Rattle.std.proofs.Common.{◌≡◌, ℕ, Bool, true, false, cond, ◌&&◌, T, List, [], ◌∷◌, map, filter, find, Option, Some, None, refl, sym, ap, ◌∙◌, subst}
-use Rattle.std.specs.declared.cmp.Ordering.{Ordering}
-use Rattle.std.specs.declared.cmp.Ordering.TheVariants.{Less, Equal, Greater}
+use Rattle.std.proofs.Common.{◌≡◌, Bool, true, false, cond, ◌&&◌, T, List, [], ◌∷◌, filter, find, Option, Some, None, refl, sym, ap, ◌∙◌}
 use Rattle.std.specs.Ordering.{is_lt}
 use Rattle.std.specs.FinMap.Entries as entries
 use Rattle.std.specs.BTreeMap.{BTreeMap}
@@ -11,7 +9,6 @@ use Rattle.zt_rows.specs.declared.keys.RowKey.TheVariants as key
 use Rattle.zt_rows.specs.declared.rows.Row.{Row}
 use Rattle.zt_rows.specs.Keys.{rowkey_cmp, rowkey_eq}
 use Rattle.zt_rows.specs.State.{State}
-use Rattle.zt_rows.specs.Change.{keys}
 use Rattle.zt_rows.specs.Room.{is_above, next_key}
 use Rattle.zt_rows.proofs.StateLaws.{rows-state_of}
 use Rattle.zt_store.specs.Seen.{state_with, AllBeside, IsStore}

@@ -1,6 +1,5 @@
 -- Whether the numbers of a store's rows leave room, row by row and of the whole state.
-use Rattle.std.proofs.Common.{◌≡◌, ◌↔◌, ℕ, ◌-◌, ◌≤◌, ◌^◌, Bool, true, false, cond, ◌&&◌, nat_le, List, [], ◌∷◌, map, Option, Some, None, IsTrue, refl, sym, ap, ◌∙◌, subst, arith, leb-true, le-leb}
-use Rattle.std.specs.Ordering.{eq_by_cmp}
+use Rattle.std.proofs.Common.{◌≡◌, ◌↔◌, ℕ, ◌≤◌, ◌^◌, Bool, true, false, cond, ◌&&◌, nat_le, List, [], ◌∷◌, Option, Some, IsTrue, refl, sym, ap, ◌∙◌, subst, leb-true, le-leb}
 use Rattle.std.specs.List.{AllByRecursion}
 use Rattle.std.specs.BTreeMap as tree
 use Rattle.std.specs.BTreeMap.{BTreeMap, is_at}
@@ -14,12 +13,12 @@ use Rattle.zt_rows.specs.declared.keys.RowKey.TheVariants as key
 use Rattle.zt_rows.specs.declared.rows.ObjectRow.{ObjectRow}
 use Rattle.zt_rows.specs.declared.rows.Row.{Row}
 use Rattle.zt_rows.specs.declared.rows.Row.TheVariants as rows
-use Rattle.zt_rows.specs.Keys.{rowkey_cmp, rowkey_eq}
+use Rattle.zt_rows.specs.Keys.{rowkey_cmp}
 use Rattle.zt_rows.specs.KeyOrder.{rowkey_cmp_total, rowkey_eq-cmp, rowkey_eq-equal}
 use Rattle.zt_rows.specs.State.{State, row}
-use Rattle.zt_rows.specs.Reads.{object, as_object, as_counters, counters}
+use Rattle.zt_rows.specs.Reads.{as_object, as_counters}
 use Rattle.zt_rows.specs.Room.{HasRoom, NextFits, suits}
-use Rattle.zt_store.specs.Seen.{state_with, AllBeside, IsStore}
+use Rattle.zt_store.specs.Seen.{state_with, IsStore}
 use Rattle.zt_store.specs.Counting.{next_fits, row_fits, rows_fit, counters_fit}
 use Rattle.zt_store.proofs.RowMaps.{row-of_counters, row-beside}
 

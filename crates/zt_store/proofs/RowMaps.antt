@@ -1,5 +1,5 @@
 -- A store's map of rows, and the state that it is seen as.
-use Rattle.std.proofs.Common.{◌≡◌, ℕ, ◌+◌, ◌≤◌, ◌<◌, ◌^◌, Bool, true, false, cond, not, ◌&&◌, T, List, [], ◌∷◌, ◌++◌, map, length, Option, Some, None, is_some, refl, sym, ap, ◌∙◌, subst, arith, rules, if◌then◌else◌, append_assoc, Result, Ok, Err, OnOk, OnErr, unwrap_or, ◌||◌}
+use Rattle.std.proofs.Common.{◌≡◌, ◌≤◌, ◌^◌, Bool, true, false, cond, not, ◌&&◌, T, List, [], ◌∷◌, ◌++◌, length, Option, Some, None, is_some, refl, sym, ap, ◌∙◌, subst, append_assoc, Result, Ok, Err, OnOk, OnErr, unwrap_or, ◌||◌}
 use Rattle.std.specs.declared.cmp.Ordering.{Ordering}
 use Rattle.std.specs.declared.cmp.Ordering.TheVariants.{Less, Equal, Greater}
 use Rattle.std.specs.Ordering.{eq_by_cmp, is_lt, is_eq, match_ordering, ordering_reverse}
@@ -13,7 +13,7 @@ use Rattle.zt_rows.specs.declared.keys.RowKey.{RowKey}
 use Rattle.zt_rows.specs.declared.keys.RowKey.TheVariants as key
 use Rattle.zt_rows.specs.declared.rows.Row.{Row}
 use Rattle.zt_rows.specs.Keys.{rowkey_cmp, rowkey_eq}
-use Rattle.zt_rows.specs.KeyOrder.{rowkey_cmp_total, rowkey_cmp-equal, rowkey_eq-cmp, rowkey_eq-self, rowkey_eq-equal, rowkey_eq-laws}
+use Rattle.zt_rows.specs.KeyOrder.{rowkey_cmp_total, rowkey_cmp-equal, rowkey_eq-cmp, rowkey_eq-equal, rowkey_eq-laws}
 use Rattle.zt_bits.specs.declared.kinds.Kind.TheVariants as kind
 use Rattle.zt_rows.specs.declared.rows.Life.TheVariants as life
 use Rattle.zt_rows.specs.declared.rows.Row.TheVariants as rows
@@ -23,7 +23,7 @@ use Rattle.zt_rows.specs.Room.{suits, SuitsKey}
 use Rattle.zt_rows.specs.Change.{option_row_eq, differ_at, changed, rows_under, before, with_rows, rows_at}
 use Rattle.zt_rows.proofs.ChangeLaws.{row-with_rows, is_before}
 use Rattle.zt_rows.proofs.StateLaws.{row-put, same_state, same_rows, row-state_of, put-swap, put-put}
-use Rattle.zt_store.specs.Seen.{state_with, AllBeside, IsStore, AllSuit, IsRecord}
+use Rattle.zt_store.specs.Seen.{state_with, AllBeside, IsStore, AllSuit}
 
 -- ---- what stands under a key
 

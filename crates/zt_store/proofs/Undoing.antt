@@ -1,9 +1,8 @@
 -- Undoing a list of records from its end.
-use Rattle.std.proofs.Common.{◌≡◌, ℕ, ◌+◌, ◌≤◌, ◌<◌, List, [], ◌∷◌, length, take, drop, set, get_or, Option, refl, sym, ap, ◌∙◌, arith}
+use Rattle.std.proofs.Common.{◌≡◌, ℕ, ◌≤◌, List, length, take, drop, Option, sym, ◌∙◌, arith}
 use Rattle.zt_rows.specs.declared.keys.RowKey.{RowKey}
 use Rattle.zt_rows.specs.declared.rows.Row.{Row}
 use Rattle.zt_rows.specs.State.{State}
-use Rattle.zt_rows.specs.Change.{exchange}
 use Rattle.zt_rows.specs.Path.{exchange_back, end_of, records_of}
 use Rattle.zt_rows.proofs.ChangeLaws.{restores}
 

@@ -1,5 +1,5 @@
 -- How a store's counters and the rows beside them are seen as one state, and what is true of them.
-use Rattle.std.specs.Prelude.{◌≡◌, ℕ, ◌^◌, ◌≤◌, true, false, List, [], ◌∷◌, map, Option, Some, ⊤}
+use Rattle.std.specs.Prelude.{◌≡◌, ◌^◌, ◌≤◌, true, false, List, [], ◌∷◌, map, Option, Some, ⊤}
 use Rattle.std.specs.BTreeMap.{BTreeMap, IsOrdered, btree_map_len}
 use Rattle.zt_rows.specs.declared.keys.RowKey.{RowKey}
 use Rattle.zt_rows.specs.declared.keys.RowKey.TheVariants as key

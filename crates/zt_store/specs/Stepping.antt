@@ -1,6 +1,5 @@
 -- A step as it is seen: the state at its beginning, and the state after the puts so far.
 use Rattle.std.specs.Prelude.{Option, Some, None}
-use Rattle.std.specs.Coded.{Coded}
 use Rattle.zt_rows.specs.State.{State}
 
 pub record Stepping : Type 0 where

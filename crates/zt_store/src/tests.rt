@@ -52,20 +52,21 @@ fn put_entry(step: &mut Step, handle: HandleValue, koid: Koid) -> Result<(), All
     )
 }
 
-/// A message with three handles, two of them to the event.
-fn put_message(alloc: Global, step: &mut Step, endpoint: Koid) -> Result<(), AllocError> {
+/// A message with a handle to each of these.
+fn message(alloc: Global, koids: &[Koid]) -> Result<Message, AllocError> {
     let mut handles = Vec::new(alloc);
-    for koid in [EVENT, PORT, EVENT] {
+    for koid in koids {
         handles.push(Held {
-            koid,
+            koid: *koid,
             rights: Rights(0xc003),
         })?;
     }
     let bytes = Vec::from_slice(alloc, [1, 2, 3].as_slice())?;
-    match Message::new(Items::new(bytes), Items::new(handles)) {
-        Some(message) => step.put(RowKey::Msg(endpoint, 0), Some(Row::Msg(message))),
-        None => Err(AllocError),
-    }
+    Message::new(Items::new(bytes), Items::new(handles)).ok_or(AllocError)
+}
+
+fn put_message(step: &mut Step, message: Message) -> Result<(), AllocError> {
+    step.put(RowKey::Msg(NEAR_END, 0), Some(Row::Msg(message)))
 }
 
 fn put_packet_and_wait(step: &mut Step) -> Result<(), AllocError> {
@@ -95,8 +96,23 @@ fn put_all_variants(alloc: Global, step: &mut Step) -> Result<(), AllocError> {
     put_object(step, PORT, Kind::Port, 0, 1)?;
     put_object(step, NEAR_END, Kind::Channel, 1029, 1)?;
     put_entry(step, HandleValue(7), EVENT)?;
-    put_message(alloc, step, NEAR_END)?;
+    put_message(step, message(alloc, &[EVENT, PORT, EVENT])?)?;
     put_packet_and_wait(step)
+}
+
+/// Each of those rows changed or taken away, and more objects than one leaf of the rows' tree has room for.
+fn put_over_all_variants(alloc: Global, step: &mut Step) -> Result<(), AllocError> {
+    let message = message(alloc, &[PORT])?;
+    put_counters(step, 1036)?;
+    for koid in 1030..1036 {
+        put_object(step, Koid(koid), Kind::Event, 0, 0)?;
+    }
+    step.put(RowKey::Object(EVENT), None)?;
+    put_object(step, PORT, Kind::Port, 0, 2)?;
+    put_entry(step, HandleValue(7), PORT)?;
+    put_message(step, message)?;
+    step.put(RowKey::Packet(PORT, 0), None)?;
+    step.put(RowKey::Wait(0), None)
 }
 
 fn begin(store: Store) -> Result<Step, AllocError> {
@@ -114,26 +130,57 @@ fn all_variants(alloc: Global) -> Result<(Store, Record), AllocError> {
     finish(step)
 }
 
-fn following(store: &Store, key: &RowKey) -> Option<RowKey> {
-    store.after(Some(*key))
+/// The store with rows of all six variants after a step that changes or takes away each of them, and the
+/// step's record.
+fn changed(alloc: Global, store: Store) -> Result<(Store, Record), AllocError> {
+    let mut step = begin(store)?;
+    put_over_all_variants(alloc, &mut step)?;
+    finish(step)
 }
 
-/// The next key of both stores, where they have the same row under this key and agree on the next.
-fn next_of_both(first: &Store, second: &Store, key: &RowKey) -> Option<Option<RowKey>> {
-    if first.row(*key) != second.row(*key) {
+/// What shows rows under keys.
+trait Shows {
+    fn shown(&self, key: &RowKey) -> Option<&Row>;
+
+    fn following(&self, key: &RowKey) -> Option<RowKey>;
+}
+
+impl Shows for Store {
+    fn shown(&self, key: &RowKey) -> Option<&Row> {
+        self.row(*key)
+    }
+
+    fn following(&self, key: &RowKey) -> Option<RowKey> {
+        self.after(Some(*key))
+    }
+}
+
+impl Shows for Step {
+    fn shown(&self, key: &RowKey) -> Option<&Row> {
+        self.row(*key)
+    }
+
+    fn following(&self, key: &RowKey) -> Option<RowKey> {
+        self.after(Some(*key))
+    }
+}
+
+/// The next key of both, where they show the same row under this key and agree on the next.
+fn next_of_both<A: Shows>(first: &A, second: &Store, key: &RowKey) -> Option<Option<RowKey>> {
+    if first.shown(key) != second.shown(key) {
         return None;
     }
-    let next = following(first, key);
-    let other = following(second, key);
+    let next = first.following(key);
+    let other = second.following(key);
     if next == other { Some(next) } else { None }
 }
 
-/// Whether both stores have the same rows.
-fn is_same(first: &Store, second: &Store) -> bool {
-    let mut next = first.after(None);
+/// Whether both show the same rows.
+fn is_same<A: Shows>(first: &A, second: &Store) -> bool {
+    let mut next = second.after(None);
     for _ in 0..100 {
         let Some(key) = next else {
-            return second.after(None).is_some();
+            return true;
         };
         match next_of_both(first, second, &key) {
             Some(after) => next = after,
@@ -148,17 +195,17 @@ fn the_opening_is_a_job_and_its_process(rt: HostRuntime) -> Result<(), Fail> {
     let store = Store::opening(rt.alloc())?;
     assert_eq!(rt; store.after(None), Some(RowKey::Counters));
     assert_eq!(rt;
-        following(&store, &RowKey::Counters),
+        store.after(Some(RowKey::Counters)),
         Some(RowKey::Object(Koid(1024)))
     );
     assert_eq!(rt;
-        following(&store, &RowKey::Object(Koid(1024))),
+        store.after(Some(RowKey::Object(Koid(1024)))),
         Some(RowKey::Object(Koid(1025)))
     );
-    let entry = following(&store, &RowKey::Object(Koid(1025)));
+    let entry = store.after(Some(RowKey::Object(Koid(1025))));
     assert_eq!(rt; entry, Some(RowKey::Entry(Koid(1025), HandleValue(3))));
     assert_eq!(rt;
-        following(&store, &RowKey::Entry(Koid(1025), HandleValue(3))),
+        store.after(Some(RowKey::Entry(Koid(1025), HandleValue(3)))),
         None
     );
     assert!(rt; store.row(RowKey::Wait(0)).is_none());
@@ -206,21 +253,6 @@ fn numbers_near_their_end_leave_no_room(rt: HostRuntime) -> Result<(), Fail> {
 }
 
 #[test]
-fn a_step_is_recorded_undone_and_made_again(rt: HostRuntime) -> Result<(), Fail> {
-    let alloc = rt.alloc();
-    let opening = Store::opening(alloc)?;
-    let (mut store, mut record) = all_variants(alloc)?;
-    let after = store.copy()?;
-    let keys = record.copy()?;
-    swap(&mut store, &mut record)?;
-    assert!(rt; is_same(&store, &opening));
-    assert_eq!(rt; record.keys(), keys.keys());
-    swap(&mut store, &mut record)?;
-    assert!(rt; is_same(&store, &after));
-    Ok(())
-}
-
-#[test]
 fn a_step_shows_what_was_put_and_records_what_changed(rt: HostRuntime) -> Result<(), Fail> {
     let alloc = rt.alloc();
     let (store, _) = all_variants(alloc)?;
@@ -258,16 +290,6 @@ fn a_step_lists_its_keys_until_it_is_reset(rt: HostRuntime) -> Result<(), Fail> 
     Ok(())
 }
 
-#[test]
-fn an_abandoned_step_leaves_the_store(rt: HostRuntime) -> Result<(), Fail> {
-    let alloc = rt.alloc();
-    let opening = Store::opening(alloc)?;
-    let mut step = begin(Store::opening(alloc)?)?;
-    put_all_variants(alloc, &mut step)?;
-    assert!(rt; is_same(&step.abandon(), &opening));
-    Ok(())
-}
-
 /// Steps from the opening: all variants put, the event's entry taken away, and nothing.
 fn three_steps(alloc: Global) -> Result<(Store, Vec<Record>), AllocError> {
     let (store, record) = all_variants(alloc)?;
@@ -282,78 +304,233 @@ fn three_steps(alloc: Global) -> Result<(Store, Vec<Record>), AllocError> {
     Ok((store, records))
 }
 
+// Each of the next functions makes one call over a store with rows of all six variants. Where memory is refused
+// to the call, everything is as before, and the call then answers. It is `Ok` only where no memory is refused. Its
+// two tests are `refused_memory_*`, which passes whichever request for memory is refused, and one that needs
+// each request answered.
+
+fn a_step_is_begun(rt: &impl Abort, alloc: Global) -> Result<(), AllocError> {
+    let (store, _) = all_variants(alloc)?;
+    let before = store.copy()?;
+    match Step::begin(store) {
+        Ok(step) => {
+            assert!(rt; is_same(&step, &before), "begun");
+            Ok(())
+        }
+        Err(AllocFailed { value: store }) => {
+            assert!(rt; is_same(&store, &before), "refused");
+            assert!(rt; Step::begin(store).is_ok(), "again");
+            Err(AllocError)
+        }
+    }
+}
+
 #[test]
-fn a_list_of_steps_is_undone(rt: HostRuntime) -> Result<(), Fail> {
-    let alloc = rt.alloc();
+fn refused_memory_gives_back_the_store(rt: HostRuntime) {
+    let _ = a_step_is_begun(&rt, rt.alloc());
+}
+
+#[test]
+fn a_step_begins_with_the_rows_of_its_store(rt: HostRuntime) -> Result<(), Fail> {
+    a_step_is_begun(&rt, rt.alloc())?;
+    Ok(())
+}
+
+fn rows_are_put(rt: &impl Abort, alloc: Global) -> Result<(), AllocError> {
+    let (store, _) = all_variants(alloc)?;
+    let before = store.copy()?;
+    let mut step = begin(store)?;
+    let put = put_over_all_variants(alloc, &mut step);
+    if put.is_err() {
+        assert!(rt; is_same(&step, &before), "refused");
+        let again = put_over_all_variants(alloc, &mut step);
+        assert!(rt; again.is_ok(), "again");
+    }
+    assert_eq!(rt; step.count(EVENT), 0);
+    assert_eq!(rt; step.count(PORT), 2);
+    assert!(rt; is_same(&step.abandon(), &before), "abandoned");
+    put
+}
+
+#[test]
+fn refused_memory_leaves_the_step_as_begun(rt: HostRuntime) {
+    let _ = rows_are_put(&rt, rt.alloc());
+}
+
+#[test]
+fn an_abandoned_step_leaves_the_store(rt: HostRuntime) -> Result<(), Fail> {
+    rows_are_put(&rt, rt.alloc())?;
+    Ok(())
+}
+
+fn a_step_is_finished(rt: &impl Abort, alloc: Global) -> Result<(), AllocError> {
+    let (store, _) = all_variants(alloc)?;
+    let before = store.copy()?;
+    let mut step = begin(store)?;
+    put_over_all_variants(alloc, &mut step)?;
+    match step.finish() {
+        Ok((store, record)) => {
+            assert_eq!(rt; record.keys().len(), 13);
+            assert_eq!(rt; store.count(PORT), 2);
+            Ok(())
+        }
+        Err(AllocFailed { value: store }) => {
+            assert!(rt; is_same(&store, &before), "refused");
+            assert!(rt; changed(alloc, store).is_ok(), "again");
+            Err(AllocError)
+        }
+    }
+}
+
+#[test]
+fn refused_memory_gives_back_the_beginning(rt: HostRuntime) {
+    let _ = a_step_is_finished(&rt, rt.alloc());
+}
+
+#[test]
+fn a_finished_step_records_what_changed(rt: HostRuntime) -> Result<(), Fail> {
+    a_step_is_finished(&rt, rt.alloc())?;
+    Ok(())
+}
+
+/// Takes the step that led to this store back by its record, and makes it again.
+fn swap_back(
+    rt: &impl Abort,
+    before: &Store,
+    mut store: Store,
+    mut record: Record,
+) -> Result<(), AllocError> {
+    let after = store.copy()?;
+    let keys = Vec::from_slice(after.alloc(), record.keys())?;
+    let swapped = swap(&mut store, &mut record);
+    if swapped.is_err() {
+        assert!(rt; is_same(&store, &after), "refused");
+        assert_eq!(rt; record.keys(), keys.as_slice());
+        assert!(rt; swap(&mut store, &mut record).is_ok(), "again");
+    }
+    assert!(rt; is_same(&store, before), "taken back");
+    assert_eq!(rt; record.keys(), keys.as_slice());
+    swapped?;
+    swap(&mut store, &mut record)?;
+    assert!(rt; is_same(&store, &after), "made again");
+    Ok(())
+}
+
+fn a_change_is_taken_back(rt: &impl Abort, alloc: Global) -> Result<(), AllocError> {
+    let (before, _) = all_variants(alloc)?;
+    let (store, record) = changed(alloc, before.copy()?)?;
+    swap_back(rt, &before, store, record)
+}
+
+fn the_opening_is_restored(rt: &impl Abort, alloc: Global) -> Result<(), AllocError> {
+    let (store, record) = all_variants(alloc)?;
+    swap_back(rt, &Store::opening(alloc)?, store, record)
+}
+
+#[test]
+fn refused_memory_leaves_the_change(rt: HostRuntime) {
+    let _ = a_change_is_taken_back(&rt, rt.alloc());
+}
+
+#[test]
+fn refused_memory_leaves_what_was_put_over_the_opening(rt: HostRuntime) {
+    let _ = the_opening_is_restored(&rt, rt.alloc());
+}
+
+#[test]
+fn a_record_takes_its_step_back(rt: HostRuntime) -> Result<(), Fail> {
+    a_change_is_taken_back(&rt, rt.alloc())?;
+    Ok(())
+}
+
+#[test]
+fn a_record_over_the_opening_restores_it(rt: HostRuntime) -> Result<(), Fail> {
+    the_opening_is_restored(&rt, rt.alloc())?;
+    Ok(())
+}
+
+fn a_store_is_copied(rt: &impl Abort, alloc: Global) -> Result<(), AllocError> {
+    let (store, _) = all_variants(alloc)?;
+    let (equal, _) = all_variants(alloc)?;
+    match store.copy() {
+        Ok(copied) => {
+            assert!(rt; is_same(&copied, &equal), "copied");
+            Ok(())
+        }
+        Err(refused) => {
+            assert!(rt; is_same(&store, &equal), "refused");
+            assert!(rt; store.copy().is_ok(), "again");
+            Err(refused)
+        }
+    }
+}
+
+#[test]
+fn refused_memory_leaves_the_store_that_is_copied(rt: HostRuntime) {
+    let _ = a_store_is_copied(&rt, rt.alloc());
+}
+
+#[test]
+fn a_copied_store_has_the_same_rows(rt: HostRuntime) -> Result<(), Fail> {
+    a_store_is_copied(&rt, rt.alloc())?;
+    Ok(())
+}
+
+fn a_record_is_copied(rt: &impl Abort, alloc: Global) -> Result<(), AllocError> {
+    let (before, _) = all_variants(alloc)?;
+    let (mut store, mut record) = changed(alloc, before.copy()?)?;
+    match record.copy() {
+        Ok(mut copied) => {
+            assert_eq!(rt; copied.keys(), record.keys());
+            swap(&mut store, &mut copied)?;
+            assert!(rt; is_same(&store, &before), "by the copy");
+            Ok(())
+        }
+        Err(refused) => {
+            assert!(rt; record.copy().is_ok(), "again");
+            assert!(rt; swap(&mut store, &mut record).is_ok());
+            assert!(rt; is_same(&store, &before), "by the record");
+            Err(refused)
+        }
+    }
+}
+
+#[test]
+fn refused_memory_leaves_the_record_that_is_copied(rt: HostRuntime) {
+    let _ = a_record_is_copied(&rt, rt.alloc());
+}
+
+#[test]
+fn a_copied_record_has_the_same_rows(rt: HostRuntime) -> Result<(), Fail> {
+    a_record_is_copied(&rt, rt.alloc())?;
+    Ok(())
+}
+
+fn a_list_is_undone(rt: &impl Abort, alloc: Global) -> Result<(), AllocError> {
     let opening = Store::opening(alloc)?;
     let (mut store, mut records) = three_steps(alloc)?;
-    undo(&mut store, &mut records)?;
-    assert!(rt; is_same(&store, &opening));
+    let last = store.copy()?;
+    let undone = undo(&mut store, &mut records);
+    if undone.is_err() {
+        assert!(rt; is_same(&store, &last), "refused");
+        assert!(rt; undo(&mut store, &mut records).is_ok(), "again");
+    }
+    assert!(rt; is_same(&store, &opening), "undone");
     let mut lengths = Vec::new(alloc);
     for record in &records {
         lengths.push(record.keys().len())?;
     }
     assert_eq!(rt; lengths.as_slice(), [8, 1, 0].as_slice());
-    Ok(())
-}
-
-// The next tests pass whichever request for memory is refused: run them with each in turn.
-
-fn refused_step(rt: &impl Abort, alloc: Global, opening: &Store, mut step: Step) {
-    if put_all_variants(alloc, &mut step).is_err() {
-        assert_eq!(rt; step.after(None), opening.after(None));
-        assert!(rt; is_same(&step.abandon(), opening), "a put");
-        return;
-    }
-    match step.finish() {
-        Ok((mut store, mut record)) => refused_swap(rt, opening, &mut store, &mut record),
-        Err(AllocFailed { value: store }) => assert!(rt; is_same(&store, opening), "finish"),
-    }
-}
-
-fn refused_swap(rt: &impl Abort, opening: &Store, store: &mut Store, record: &mut Record) {
-    let keys = record.keys().len();
-    let last = store.after(Some(RowKey::Packet(PORT, 0)));
-    match swap(store, record) {
-        Ok(()) => assert!(rt; is_same(store, opening), "swapped"),
-        Err(_) => assert_eq!(rt; store.after(Some(RowKey::Packet(PORT, 0))), last, "swap"),
-    }
-    assert_eq!(rt; record.keys().len(), keys);
-}
-
-#[test]
-fn refused_memory_leaves_the_step_as_begun(rt: HostRuntime) {
-    let alloc = rt.alloc();
-    let Ok(opening) = Store::opening(alloc) else {
-        return;
-    };
-    let Ok(store) = opening.copy() else {
-        return;
-    };
-    match Step::begin(store) {
-        Ok(step) => refused_step(&rt, alloc, &opening, step),
-        Err(AllocFailed { value: store }) => assert!(rt; is_same(&store, &opening), "begin"),
-    }
+    undone
 }
 
 #[test]
 fn refused_memory_leaves_store_and_records(rt: HostRuntime) {
-    let alloc = rt.alloc();
-    let Ok((mut store, mut records)) = three_steps(alloc) else {
-        return;
-    };
-    let Ok(opening) = Store::opening(alloc) else {
-        return;
-    };
-    let Ok(last) = store.copy() else {
-        return;
-    };
-    if undo(&mut store, &mut records).is_ok() {
-        assert!(rt; is_same(&store, &opening), "undone");
-    } else {
-        assert!(rt; is_same(&store, &last), "not undone");
-        assert_eq!(rt; records.len(), 3);
-        assert!(rt; undo(&mut store, &mut records).is_ok());
-        assert!(rt; is_same(&store, &opening), "undone later");
-    }
+    let _ = a_list_is_undone(&rt, rt.alloc());
+}
+
+#[test]
+fn a_list_of_steps_is_undone(rt: HostRuntime) -> Result<(), Fail> {
+    a_list_is_undone(&rt, rt.alloc())?;
+    Ok(())
 }

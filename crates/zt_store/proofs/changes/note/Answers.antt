@@ -1,5 +1,5 @@
 use Rattle.std.proofs.Common.{◌≡◌, not, sym, ap, ◌∙◌}
-use Rattle.zt_rows.specs.Change.{differ_at, option_row_eq}
+use Rattle.zt_rows.specs.Change.{option_row_eq}
 use Rattle.zt_rows.specs.State.{row}
 use Rattle.zt_store.proofs.RowMaps.{noted}
 use Rattle.zt_store.proofs.changes.note.Goals as goal

@@ -1,10 +1,3 @@
-use Rattle.std.proofs.Common.{◌≡◌, ◌&&◌, cond, Some, ap, ◌∙◌, sym}
-use Rattle.std.specs.BTreeMap.{get}
-use Rattle.std.specs.List.{list_any}
-use Rattle.std.specs.Map.{keys_of}
-use Rattle.zt_rows.specs.Change.{differ_at}
-use Rattle.zt_rows.specs.Keys.{rowkey_cmp, rowkey_eq}
-use Rattle.zt_rows.specs.State.{row}
 use Rattle.zt_store.proofs.RowMaps.{noted-next}
 use Rattle.zt_store.proofs.changes.note_all.Goals as goal
 

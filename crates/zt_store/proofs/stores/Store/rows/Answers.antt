@@ -1,4 +1,4 @@
-use Rattle.std.proofs.Common.{Bool, true, false, cond, sym, refl, ◌≡◌, Option}
+use Rattle.std.proofs.Common.{true, false, cond, sym, refl, ◌≡◌}
 use Rattle.std.specs.BTreeMap as tree
 use Rattle.zt_rows.specs.declared.keys.RowKey.TheVariants as key
 use Rattle.zt_rows.specs.Keys.{rowkey_cmp, rowkey_eq}
