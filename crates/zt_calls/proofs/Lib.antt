@@ -2,5 +2,7 @@ pub mod CallerLaws
 pub mod RoomLaws
 pub mod WalkLaws
 pub mod CollectLaws
-pub mod RefreshLaws
 pub mod SettleLaws
+pub mod TakingLaws
+pub mod CallLaws
+pub mod RefreshLaws

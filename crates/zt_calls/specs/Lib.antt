@@ -2,3 +2,4 @@ pub mod Wanting
 pub mod Outcomes
 pub mod Walks
 pub mod Firing
+pub mod Taking

@@ -3,12 +3,13 @@ ghost use Rattle.zt_rows.specs.Reads.{runs};
 ghost use Rattle.zt_rows.specs.Room.{HasRoom};
 ghost use Rattle.zt_rows.specs.Step.{direct, completed, step};
 ghost use Rattle.zt_rows.specs.Change.{before};
-ghost use Rattle.zt_rows.specs.Consistent.{IsConsistent};
+ghost use Rattle.zt_rows.specs.Consistent.{IsSound, IsConsistent};
 ghost use Rattle.zt_store.specs.Stepping.{begun};
 
 use crate::collecting::collect;
 use crate::failures::Failure;
-use crate::object_calls::{event_create, object_signal};
+use crate::handle_calls::{handle_close, handle_duplicate, handle_replace};
+use crate::object_calls::{event_create, eventpair_create, object_signal, object_signal_peer};
 use crate::settling::settle;
 use std::alloc::{AllocError, AllocFailed, Global};
 use std::mem;
@@ -100,7 +101,7 @@ fn carried_out(
     ensures beginning { step.new.beginning ≡ step.old.beginning }
     ensures ok { IfOk result (λ reply. (step.new.current, reply) ≡ completed (direct step.old.current process call.now)) }
 {
-    let reply = direct(step, process, call)?;
+    let reply = direct(alloc, step, process, call)?;
     collect(alloc, step)?;
     settle(alloc, step)?;
     Ok(reply)
@@ -108,8 +109,9 @@ fn carried_out(
 
 /// The checks of the call in order, and then its change of rows.
 #[tactic(auto, unfolding(zt_rows::specs::Step::direct))]
-fn direct(step: &mut Step, process: Koid, call: &Call) -> Result<Reply, AllocError>
+fn direct(alloc: Global, step: &mut Step, process: Koid, call: &Call) -> Result<Reply, AllocError>
     requires room { HasRoom step.old.current }
+    requires sound { IsSound step.old.current }
     requires running { runs step.old.current process ≡ true }
     ensures beginning { step.new.beginning ≡ step.old.beginning }
     ensures ok { IfOk result (λ reply. (step.new.current, reply) ≡ direct step.old.current process call.now) }
@@ -117,8 +119,19 @@ fn direct(step: &mut Step, process: Koid, call: &Call) -> Result<Reply, AllocErr
 {
     let answered = match call {
         Call::EventCreate => event_create(step, process),
+        Call::EventPairCreate => eventpair_create(step, process),
+        Call::HandleClose { handle } => handle_close(alloc, step, process, *handle),
+        Call::HandleDuplicate { handle, rights } => {
+            handle_duplicate(step, process, *handle, *rights)
+        }
+        Call::HandleReplace { handle, rights } => {
+            handle_replace(alloc, step, process, *handle, *rights)
+        }
         Call::ObjectSignal { handle, clear, set } => {
             object_signal(step, process, *handle, *clear, *set)
+        }
+        Call::ObjectSignalPeer { handle, clear, set } => {
+            object_signal_peer(step, process, *handle, *clear, *set)
         }
     };
     match answered {

@@ -6,9 +6,11 @@ mod applying;
 mod arguments;
 mod collecting;
 mod failures;
+mod handle_calls;
 mod looks;
 mod object_calls;
 mod settling;
+mod takings;
 #[cfg(test)]
 mod tests;
 

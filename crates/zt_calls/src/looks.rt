@@ -1,7 +1,5 @@
-ghost use Rattle.std.specs.Prelude.{◌≡◌, ◌≤◌, ◌-◌, ◌^◌, true};
-ghost use Rattle.zt_rows.specs.Reads.{counters, object, entry, runs};
-ghost use Rattle.zt_rows.specs.Handles.{caller};
-ghost use Rattle.zt_rows.specs.Room.{HasRoom};
+ghost use Rattle.std.specs.Prelude.{◌≡◌};
+ghost use Rattle.zt_rows.specs.Reads.{counters, object, entry};
 
 use zt_rows::{Counters, HandleValue, Held, Koid, ObjectRow, Row, RowKey};
 use zt_store::Step;
@@ -37,14 +35,4 @@ pub fn held_by(step: &Step, process: Koid, handle: HandleValue) -> Option<Held>
         Some(Row::Entry(held)) => Some(*held),
         _ => None,
     }
-}
-
-/// The process that calls.
-pub fn caller_of(step: &Step, process: Koid) -> ObjectRow
-    requires room { HasRoom step.now.current }
-    requires running { runs step.now.current process ≡ true }
-    ensures row { result ≡ caller step.now.current process }
-    ensures fits { result.next ≤ 2 ^ 30 - 64 }
-{
-    object_of(step, process).unwrap()
 }

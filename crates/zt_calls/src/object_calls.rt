@@ -1,55 +1,65 @@
-ghost use Rattle.std.specs.Prelude.{◌≡◌, true, OnOk, OnErr};
+ghost use Rattle.std.specs.Prelude.{◌≡◌, true};
 ghost use Rattle.zt_rows.specs.Reads.{runs};
 ghost use Rattle.zt_rows.specs.Room.{HasRoom};
-ghost use Rattle.zt_rows.specs.ObjectCalls.{create, event_create, object_signal, set_signals};
-ghost use Rattle.zt_store.specs.Stepping.{advanced, begun};
+ghost use Rattle.zt_rows.specs.Tests.{is_endpoint};
+ghost use Rattle.zt_rows.specs.ObjectCalls.{create, create_pair, event_create, eventpair_create, object_signal, object_signal_peer};
+ghost use Rattle.zt_rows.specs.Consistent.{IsSound};
 ghost use Rattle.zt_calls.specs.Outcomes.{Does};
 
-use crate::additions::{new_entry, new_object, whole};
+use crate::additions::{new_object, new_pair, whole};
 use crate::arguments::{Wanted, handle_to, may_set};
 use crate::failures::Failure;
-use crate::looks::caller_of;
-use bitflags::Flags;
-use std::alloc::AllocError;
+use crate::looks::object_of;
 use zt_bits::{Kind, Rights, Signals, Status};
-use zt_rows::{HandleValue, Koid, ObjectRow, Reply, Row, RowKey};
+use zt_rows::{HandleValue, Koid, Reply};
+use zt_signals::set_bits;
 use zt_store::Step;
+use zt_tables::install;
 
 /// Makes an object of the kind, and answers with the caller's handle to it.
 fn create(step: &mut Step, process: Koid, kind: Kind) -> Result<Reply, Failure>
     requires room { HasRoom step.old.current }
+    requires sound { IsSound step.old.current }
     requires running { runs step.old.current process ≡ true }
     ensures { Does (create kind step.old.current process) step.old step.new result }
 {
-    let caller = caller_of(step, process);
     let koid = new_object(step, kind, Koid(0))?;
-    let handle = new_entry(step, process, caller, whole(koid, kind))?;
+    let handle = install(step, process, whole(koid, kind))?;
     Ok(Reply::Handle(handle))
+}
+
+/// Makes two objects of the kind, each the other's peer, and answers with the caller's handles to them.
+fn create_pair(step: &mut Step, process: Koid, kind: Kind) -> Result<Reply, Failure>
+    requires endpoint { is_endpoint kind ≡ true }
+    requires room { HasRoom step.old.current }
+    requires sound { IsSound step.old.current }
+    requires running { runs step.old.current process ≡ true }
+    ensures { Does (create_pair kind step.old.current process) step.old step.new result }
+{
+    let (near, far) = new_pair(step, kind)?;
+    let first = install(step, process, whole(near, kind))?;
+    let second = install(step, process, whole(far, kind))?;
+    Ok(Reply::Handles(first, second))
 }
 
 /// Makes an event.
 pub fn event_create(step: &mut Step, process: Koid) -> Result<Reply, Failure>
     requires room { HasRoom step.old.current }
+    requires sound { IsSound step.old.current }
     requires running { runs step.old.current process ≡ true }
     ensures { Does (event_create step.old.current process) step.old step.new result }
 {
     create(step, process, Kind::Event)
 }
 
-/// Clears and then sets signals of the object, which has this row.
-fn set_signals(
-    step: &mut Step,
-    koid: Koid,
-    object: ObjectRow,
-    clear: Signals,
-    set: Signals,
-) -> Result<(), AllocError>
-    ensures ok { OnOk result (step.new ≡ advanced step.old (set_signals koid object clear.0 set.0 step.old.current)) }
-    ensures err { OnErr result (step.new ≡ begun step.old.beginning) }
+/// Makes a pair of events.
+pub fn eventpair_create(step: &mut Step, process: Koid) -> Result<Reply, Failure>
+    requires room { HasRoom step.old.current }
+    requires sound { IsSound step.old.current }
+    requires running { runs step.old.current process ≡ true }
+    ensures { Does (eventpair_create step.old.current process) step.old step.new result }
 {
-    let signals = object.signals.difference(clear).union(set);
-    let object = ObjectRow { signals, ..object };
-    step.put(RowKey::Object(koid), Some(Row::Object(object)))
+    create_pair(step, process, Kind::EventPair)
 }
 
 /// Clears and then sets signals of the object that the handle names.
@@ -66,6 +76,25 @@ pub fn object_signal(
     if !may_set(object.kind, clear, set) {
         return Err(Failure::Status(Status::InvalidArgs));
     }
-    set_signals(step, held.koid, object, clear, set)?;
+    set_bits(step, held.koid, clear, set)?;
+    Ok(Reply::Status(Status::Ok))
+}
+
+/// Clears and then sets signals of the peer of the endpoint that the handle names.
+pub fn object_signal_peer(
+    step: &mut Step,
+    process: Koid,
+    handle: HandleValue,
+    clear: Signals,
+    set: Signals,
+) -> Result<Reply, Failure>
+    ensures { Does (object_signal_peer step.old.current process handle clear.0 set.0) step.old step.new result }
+{
+    let (_, object) = handle_to(step, process, handle, Wanted::Endpoint, Rights::SIGNAL_PEER)?;
+    if !may_set(object.kind, clear, set) {
+        return Err(Failure::Status(Status::InvalidArgs));
+    }
+    object_of(step, object.link).ok_or(Status::PeerClosed)?;
+    set_bits(step, object.link, clear, set)?;
     Ok(Reply::Status(Status::Ok))
 }

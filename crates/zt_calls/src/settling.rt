@@ -7,6 +7,7 @@ ghost use Rattle.zt_rows.specs.Settle.{fire, observed, push_packet, refresh, set
 ghost use Rattle.zt_calls.specs.Walks.{refreshed_under, wait_under};
 ghost use Rattle.zt_calls.specs.Firing.{HasRoomToFire};
 
+use crate::looks::object_of;
 use bitflags::Flags;
 use std::alloc::{AllocError, Global};
 use zt_bits::Signals;
@@ -124,16 +125,6 @@ fn signals_at(step: &Step, koid: Koid) -> Signals
     match object_of(step, koid) {
         Some(object) => object.signals,
         None => Signals(0),
-    }
-}
-
-/// The object of this koid.
-fn object_of(step: &Step, koid: Koid) -> Option<ObjectRow>
-    ensures { result ≡ object step.now.current koid }
-{
-    match step.row(RowKey::Object(koid)) {
-        Some(Row::Object(object)) => Some(*object),
-        _ => None,
     }
 }
 

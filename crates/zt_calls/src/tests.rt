@@ -27,6 +27,34 @@ fn signal(handle: u32, clear: u32, set: u32) -> Call {
     }
 }
 
+fn close(handle: u32) -> Call {
+    Call::HandleClose {
+        handle: HandleValue(handle),
+    }
+}
+
+fn duplicate(handle: u32, rights: u32) -> Call {
+    Call::HandleDuplicate {
+        handle: HandleValue(handle),
+        rights,
+    }
+}
+
+fn replace(handle: u32, rights: u32) -> Call {
+    Call::HandleReplace {
+        handle: HandleValue(handle),
+        rights,
+    }
+}
+
+fn signal_peer(handle: u32, clear: u32, set: u32) -> Call {
+    Call::ObjectSignalPeer {
+        handle: HandleValue(handle),
+        clear: Signals(clear),
+        set: Signals(set),
+    }
+}
+
 fn status_of(reply: &Reply) -> Option<Status> {
     match reply {
         Reply::Status(status) => Some(*status),
@@ -67,32 +95,29 @@ fn one_event(rt: &impl Abort, alloc: Global) -> Result<(Store, Reply, Record), R
     Ok((store, reply, record))
 }
 
-/// Whether both stores have the same rows under the keys that the calls of these tests may change.
-fn is_same(first: &Store, second: &Store) -> bool {
-    let keys = [
-        RowKey::Counters,
-        RowKey::Object(Koid(1024)),
-        RowKey::Object(ROOT),
-        RowKey::Object(EVENT),
-        RowKey::Object(Koid(1027)),
-        RowKey::Entry(ROOT, HandleValue(3)),
-        RowKey::Entry(ROOT, FIRST),
-        RowKey::Entry(ROOT, HandleValue(11)),
-    ];
-    for key in &keys {
-        if !is_same_row(first.row(*key), second.row(*key)) {
-            return false;
-        }
+/// The next key of both stores, where they have the same row under this key and agree on the next.
+fn next_of_both(first: &Store, second: &Store, key: &RowKey) -> Option<Option<RowKey>> {
+    if first.row(*key) != second.row(*key) {
+        return None;
     }
-    true
+    let next = first.after(Some(*key));
+    let other = second.after(Some(*key));
+    if next == other { Some(next) } else { None }
 }
 
-fn is_same_row(first: Option<&Row>, second: Option<&Row>) -> bool {
-    match (first, second) {
-        (Some(first), Some(second)) => first == second,
-        (None, None) => true,
-        _ => false,
+/// Whether both stores have the same rows.
+fn is_same(first: &Store, second: &Store) -> bool {
+    let mut next = Some(RowKey::Counters);
+    for _ in 0..100 {
+        let Some(key) = next else {
+            return true;
+        };
+        match next_of_both(first, second, &key) {
+            Some(after) => next = after,
+            None => return false,
+        }
     }
+    false
 }
 
 #[test]
@@ -183,6 +208,65 @@ fn signals_are_cleared_and_then_set(rt: HostRuntime) -> Result<(), Fail> {
     Ok(())
 }
 
+/// Each row: the call after one event was made, with the status or the new handle that it answers.
+#[test]
+fn handles_are_duplicated_replaced_and_closed(rt: HostRuntime) -> Result<(), Fail> {
+    let rows = [
+        (duplicate(7, 0x8000_0000), None, Some(11)),
+        (duplicate(7, 0x4000), None, Some(15)),
+        (duplicate(15, 0x8000_0000), Some(Status::AccessDenied), None),
+        (duplicate(7, 0x8000_0001), Some(Status::InvalidArgs), None),
+        (duplicate(0, 0), Some(Status::BadHandle), None),
+        (replace(15, 0x4000), None, Some(19)),
+        (close(15), Some(Status::BadHandle), None),
+        (replace(19, 0x1_0000), Some(Status::InvalidArgs), None),
+        (replace(19, 0x4000), Some(Status::BadHandle), None),
+        (close(0), Some(Status::Ok), None),
+        (close(9), Some(Status::BadHandle), None),
+        (close(7), Some(Status::Ok), None),
+        (close(7), Some(Status::BadHandle), None),
+        (close(11), Some(Status::Ok), None),
+    ];
+    let (made, _, _) = one_event(&rt, rt.alloc())?;
+    let mut store = made;
+    for (call, status, handle) in rows {
+        let (reply, _) = called(&rt, rt.alloc(), &mut store, ROOT, &call)?;
+        assert_eq!(rt; status_of(&reply), status, "at {call:?}");
+        assert_eq!(rt;
+            handle_of(&reply),
+            handle.map(|value| HandleValue(value)),
+            "at {call:?}"
+        );
+    }
+    assert!(rt; store.row(RowKey::Object(EVENT)).is_none());
+    Ok(())
+}
+
+#[test]
+fn an_end_that_goes_closes_its_peer(rt: HostRuntime) -> Result<(), Fail> {
+    let (made, _, _) = one_event(&rt, rt.alloc())?;
+    let mut store = made;
+    let (reply, record) = called(&rt, rt.alloc(), &mut store, ROOT, &Call::EventPairCreate)?;
+    assert!(rt; matches!(&reply, Reply::Handles(HandleValue(11), HandleValue(15))));
+    assert_eq!(rt; record.keys().len(), 6);
+    let (reply, _) = called(&rt, rt.alloc(), &mut store, ROOT, &signal_peer(11, 0, 0x8))?;
+    assert_eq!(rt; status_of(&reply), Some(Status::Ok));
+    let far = Row::Object(object(Kind::EventPair, 0x8, 1027, 0));
+    assert!(rt; store.row(RowKey::Object(Koid(1028))) == Some(&far));
+    let (_, record) = called(&rt, rt.alloc(), &mut store, ROOT, &close(15))?;
+    let keys = [
+        RowKey::Object(Koid(1027)),
+        RowKey::Object(Koid(1028)),
+        RowKey::Entry(ROOT, HandleValue(15)),
+    ];
+    assert_eq!(rt; record.keys(), keys.as_slice());
+    let near = Row::Object(object(Kind::EventPair, 0x4, 0, 0));
+    assert!(rt; store.row(RowKey::Object(Koid(1027))) == Some(&near));
+    let (reply, _) = called(&rt, rt.alloc(), &mut store, ROOT, &signal_peer(11, 0, 0x8))?;
+    assert_eq!(rt; status_of(&reply), Some(Status::PeerClosed));
+    Ok(())
+}
+
 #[test]
 fn only_a_live_process_calls(rt: HostRuntime) -> Result<(), Fail> {
     let (made, _, _) = one_event(&rt, rt.alloc())?;
@@ -190,9 +274,9 @@ fn only_a_live_process_calls(rt: HostRuntime) -> Result<(), Fail> {
     let (before, _, _) = one_event(&rt, rt.alloc())?;
     let rows = [
         (1024, Call::EventCreate),
-        (1026, Call::EventCreate),
-        (9, Call::EventCreate),
-        (0, Call::EventCreate),
+        (1026, Call::EventPairCreate),
+        (9, close(0)),
+        (0, duplicate(3, 0x8000_0000)),
         (1024, signal(3, 0, 0)),
         (9, signal(0, 0, 1)),
     ];
@@ -255,7 +339,13 @@ fn a_handle_is_checked_for_validity_then_kind_then_right(rt: HostRuntime) -> Res
     Ok(())
 }
 
-// The next tests pass whichever request for memory is refused: run them with each in turn.
+// The next test passes whichever request for memory is refused: run it with each in turn.
+
+/// Whether the objects that these tests make have as many supports in both stores.
+fn is_supported_alike(first: &Store, second: &Store) -> bool {
+    [1024, 1025, 1026, 1027, 1028].iter().all(|koid| first.count(Koid(*koid))
+        == second.count(Koid(*koid)))
+}
 
 fn refused_call(rt: &impl Abort, alloc: Global, store: &mut Store, before: &Store, call: &Call)
     requires { IsConsistent store.old }
@@ -265,9 +355,10 @@ fn refused_call(rt: &impl Abort, alloc: Global, store: &mut Store, before: &Stor
         return;
     };
     assert_eq!(rt; refusal, Refusal::OutOfMemory);
-    assert!(rt; is_same(store, before));
+    assert!(rt; is_same(store, before), "after {call:?}");
+    assert!(rt; is_supported_alike(store, before), "after {call:?}");
     let again = called(rt, alloc, store, ROOT, call);
-    assert!(rt; again.is_ok(), "again");
+    assert!(rt; again.is_ok(), "again {call:?}");
 }
 
 #[test]
@@ -276,12 +367,23 @@ fn refused_memory_leaves_the_store(rt: HostRuntime) {
         return;
     };
     let mut store = made;
-    for call in [Call::EventCreate, signal(7, 0, 0x8), signal(7, 0, 0x1)] {
+    let calls = [
+        Call::EventCreate,
+        signal(7, 0, 0x8),
+        signal(7, 0, 0x1),
+        Call::EventPairCreate,
+        signal_peer(15, 0, 0x8),
+        duplicate(7, 0x8000_0000),
+        replace(23, 0x4000),
+        replace(27, 0x8000),
+        close(19),
+        close(15),
+    ];
+    for call in calls {
         let Ok(before) = store.copy() else {
             return;
         };
         refused_call(&rt, rt.alloc(), &mut store, &before, &call);
     }
-    let fourth = store.row(RowKey::Entry(ROOT, HandleValue(11)));
-    assert!(rt; fourth.is_some());
+    assert!(rt; store.row(RowKey::Object(Koid(1028))).is_none());
 }

@@ -1,12 +1,12 @@
 -- Laws of a branch: an exchange goes back, and moving the store along the records keeps the states.
-use Rattle.std.proofs.Common.{◌≡◌, ℕ, suc, ◌+◌, ◌-◌, ◌≤◌, ◌<◌, Bool, true, false, cond, List, [], ◌∷◌, ◌++◌, length, reverse, Option, Some, None, refl, sym, ◌∙◌, ap, subst, append_assoc, length-append, get_or, arith}
-use Rattle.std.proofs.lemmas.List.{reverse-append, reverse-reverse, length-reverse, append-nil, nil_from_length}
+use Rattle.std.proofs.Common.{◌≡◌, ℕ, suc, ◌+◌, ◌-◌, ◌<◌, Bool, true, false, cond, List, [], ◌∷◌, ◌++◌, length, reverse, Option, refl, sym, ◌∙◌, ap, subst, append_assoc, length-append, get_or, arith}
+use Rattle.std.proofs.lemmas.List.{reverse-append, reverse-reverse, length-reverse, nil_from_length}
 use Rattle.std.proofs.Math.Seq.{get_or-append_seam}
 use Rattle.zt_rows.specs.declared.keys.RowKey.{RowKey}
 use Rattle.zt_rows.specs.declared.rows.Row.{Row}
 use Rattle.zt_rows.specs.Keys.{rowkey_eq}
 use Rattle.zt_rows.specs.KeyOrder.{rowkey_eq-equal}
-use Rattle.zt_rows.specs.State.{State, row, put, nothing}
+use Rattle.zt_rows.specs.State.{State, row, nothing}
 use Rattle.zt_rows.specs.Change.{with_rows, rows_at, exchange, before}
 use Rattle.zt_rows.specs.declared.calls.Call.{Call}
 use Rattle.zt_rows.specs.declared.calls.Reply.{Reply}
@@ -16,7 +16,9 @@ use Rattle.zt_rows.specs.Consistent.{IsConsistent}
 use Rattle.zt_rows.specs.Opening.{opening}
 use Rattle.zt_rows.proofs.StateLaws.{row-put, same_state}
 use Rattle.zt_rows.proofs.ChangeLaws.{with_rows-before}
+use Rattle.zt_rows.specs.Room.{HasRoom, HasSpent}
 use Rattle.zt_rows.proofs.OpeningLaws.{opening-consistent}
+use Rattle.zt_rows.proofs.SpentLaws.{spent-opening, spent-step, spent-room}
 use Rattle.zt_console.specs.Branch.{reached, branch_of, states, state_of, last, Branch, IsBranch, IsCalled}
 
 -- ---- exchanging
@@ -150,20 +152,52 @@ pub is_branch-kept : (S T : State) (past future past' future' : List (List (RowK
 is_branch-kept S T past future past' future' b e = record {
   few = omega (arith, b.few, last-branch_of S past future, last-branch_of T past' future', ap last e);
   consistent = subst (λ Ss. IsConsistent (state_of Ss (last Ss))) (sym e) b.consistent;
+  spent = subst (λ Ss. HasSpent (last Ss) (state_of Ss (last Ss))) (sym e) b.spent;
 }
 
+one_later : (Ss : List State) (T : State) → 0 < length Ss → last Ss + 1 ≡ last (Ss ++ T ∷ [])
+one_later Ss T some = omega (arith, length-append Ss (T ∷ []), some)
+
 pub is_branch-more : (T : State) (Ss : List State) (past future : List (List (RowKey × Option Row)))
-    → last Ss < 1048576 → 0 < length Ss → IsConsistent T → states (branch_of T past future) ≡ Ss ++ T ∷ [] → IsBranch T past future
-is_branch-more T Ss past future few some c e = record {
+    → last Ss < 1048576 → 0 < length Ss → IsConsistent T → HasSpent (last Ss + 1) T → states (branch_of T past future) ≡ Ss ++ T ∷ [] → IsBranch T past future
+is_branch-more T Ss past future few some c spent e = record {
   few = omega (arith, last-branch_of T past future, ap last e, length-append Ss (T ∷ []), few);
   consistent = subst (λ Ss. IsConsistent (state_of Ss (last Ss))) (sym e) (subst IsConsistent (sym (state_of-last Ss T)) c);
+  spent = subst (λ Ss. HasSpent (last Ss) (state_of Ss (last Ss))) (sym e)
+      (subst (λ n. HasSpent n (state_of (Ss ++ T ∷ []) (last (Ss ++ T ∷ [])))) (one_later Ss T some)
+      (subst (HasSpent (last Ss + 1)) (sym (state_of-last Ss T)) spent));
 }
 
 pub is_branch-opening : (S : State) (past future : List (List (RowKey × Option Row))) → S ≡ opening → past ≡ [] → future ≡ [] → IsBranch S past future
 is_branch-opening S past future s p f = record {
   few = rw (p, f) (omega arith);
   consistent = rw (p, f) (subst IsConsistent (sym s) opening-consistent);
+  spent = rw (p, f) (subst (HasSpent 0) (sym s) spent-opening);
 }
+
+-- where the store stands at the head, what was given out so far
+head_spent : (S : State) (past future : List (List (RowKey × Option Row))) (b : Branch) (Ss : List State)
+    → IsBranch S past future → branch_of S past future ≡ b → states b ≡ Ss → b.here ≡ state_of Ss (last Ss) → HasSpent (last Ss) S
+head_spent S past future b Ss branch v h at =
+    let e : states (branch_of S past future) ≡ Ss = ap states v ∙ h in
+    let same : S ≡ state_of Ss (last Ss) = ap (λ x. x.here) v ∙ at in
+    subst (HasSpent (last Ss)) (sym same) (subst (λ Xs. HasSpent (last Xs) (state_of Xs (last Xs))) e branch.spent)
+
+-- at the head there is room for one more call
+pub head_room : (S : State) (past future : List (List (RowKey × Option Row))) (b : Branch) (Ss : List State)
+    → IsBranch S past future → branch_of S past future ≡ b → states b ≡ Ss → b.here ≡ state_of Ss (last Ss) → last Ss < 1048576 → HasRoom S
+head_room S past future b Ss branch v h at few = spent-room S (last Ss) (omega arith) (head_spent S past future b Ss branch v h at)
+
+-- what one more call gave out
+pub more_spent : (S T : State) (past future : List (List (RowKey × Option Row))) (b : Branch) (Ss : List State) (process : ℕ) (made : Call) (answer : Reply)
+    → IsBranch S past future → branch_of S past future ≡ b → states b ≡ Ss → b.here ≡ state_of Ss (last Ss) → last Ss < 1048576 → runs S process ≡ true
+    → (T, answer) ≡ step S process made → HasSpent (last Ss + 1) T
+more_spent S T past future b Ss process made answer branch v h at few live d =
+    let e : states (branch_of S past future) ≡ Ss = ap states v ∙ h in
+    let same : S ≡ state_of Ss (last Ss) = ap (λ x. x.here) v ∙ at in
+    let consistent : IsConsistent S = subst IsConsistent (sym same) (subst (λ Xs. IsConsistent (state_of Xs (last Xs))) e branch.consistent) in
+    let t : T ≡ (step S process made).0 = ap (λ (x : State × Reply). x.0) d in
+    subst (HasSpent (last Ss + 1)) (sym t) (spent-step S process made (last Ss) few consistent.sound live (head_spent S past future b Ss branch v h at))
 
 pub some_states : (b : Branch) → 0 < length (states b)
 some_states b = omega (arith, length-seam b.earlier b.later b.here)

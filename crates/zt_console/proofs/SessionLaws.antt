@@ -1,5 +1,5 @@
 -- What a book's calls owe the session, case by case.
-use Rattle.std.proofs.Common.{◌≡◌, ℕ, ◌+◌, ◌-◌, ◌≤◌, ◌<◌, Bool, true, false, cond, List, [], ◌∷◌, ◌++◌, length, Result, Ok, Err, refl, sym, ◌∙◌, ap, subst, arith, inl, inr}
+use Rattle.std.proofs.Common.{◌≡◌, ℕ, ◌+◌, ◌-◌, ◌≤◌, ◌<◌, Bool, true, false, cond, List, Result, Ok, Err, refl, sym, ◌∙◌, ap, subst, inl, inr}
 use Rattle.std.proofs.Math.ListN.{set}
 use Rattle.std.proofs.lemmas.Bool.{lt-ltb, le-ltb, le-leb, lt-leb}
 use Rattle.zt_rows.specs.declared.calls.Answer.{Answer}
@@ -16,7 +16,6 @@ use Rattle.zt_rows.specs.Step.{step}
 use Rattle.zt_console.specs.declared.books.Cursor.{Cursor}
 use Rattle.zt_console.specs.declared.books.Cursor.TheVariants.{Following, Detached}
 use Rattle.zt_console.specs.Branch.{state_of, last, IsCalled, IsRefusedCall}
-use Rattle.zt_console.specs.Cursors.{cursor_of, with_cursor}
 use Rattle.zt_console.specs.Session.{Session, position, head, last_moment, with_moment, call_at_head, call_by, back_by, show_to, IsRefused}
 
 session : List State → List Cursor → Session

@@ -14,21 +14,44 @@ use Rattle.zt_rows.specs.declared.rows.Row.TheVariants as rows
 use Rattle.zt_rows.specs.declared.rows.Life.TheVariants.{Live}
 use Rattle.zt_console.specs.Numbers.{decimal_of, mask_of}
 use Rattle.zt_console.specs.Fields.{placed, field, ended}
-use Rattle.zt_console.specs.Reading.{event_create, object_signal, call_named, call, back, show, command_named, command, read_as}
+use Rattle.zt_console.specs.Reading.{event_create, eventpair_create, handle_close, handle_duplicate, handle_replace, object_signal, object_signal_peer, handle_call_named, call_named, call, back, show, command_named, command, read_as}
 use Rattle.zt_console.specs.Shown.{hexadecimal}
 use Rattle.zt_console.specs.Answers.{shown_reply, shown_key, shown_object, shown_row, shown_answer, shown_refusal}
 use Rattle.zt_console.specs.Lines.{lines_of}
 
 reads_event : read_as (codes "1025 event_create") ≡ Ok (Some (commands.Call 1025 calls.EventCreate))
-unfolding decimal_of mask_of placed field ended event_create object_signal call_named call back show command_named command read_as
+unfolding decimal_of mask_of placed field ended event_create eventpair_create handle_close handle_duplicate handle_replace object_signal object_signal_peer handle_call_named call_named call back show command_named command read_as
 reads_event = refl
 
 reads_signal : read_as (codes "1025 object_signal 7 0x00000000 0x00000008") ≡ Ok (Some (commands.Call 1025 (calls.ObjectSignal 7 (record { 0 = 0 }) (record { 0 = 8 }))))
-unfolding decimal_of mask_of placed field ended event_create object_signal call_named call back show command_named command read_as
+unfolding decimal_of mask_of placed field ended event_create eventpair_create handle_close handle_duplicate handle_replace object_signal object_signal_peer handle_call_named call_named call back show command_named command read_as
 reads_signal = refl
 
+record HandleCalls : Type 0 where
+  pair : read_as (codes "1025 eventpair_create") ≡ Ok (Some (commands.Call 1025 calls.EventPairCreate))
+  close : read_as (codes "1025 handle_close 0") ≡ Ok (Some (commands.Call 1025 (calls.HandleClose 0)))
+  duplicate : read_as (codes "1025 handle_duplicate 7 0x80000000") ≡ Ok (Some (commands.Call 1025 (calls.HandleDuplicate 7 0x80000000)))
+  replace : read_as (codes "1025 handle_replace 7 0x0000c003") ≡ Ok (Some (commands.Call 1025 (calls.HandleReplace 7 0xc003)))
+  signal_peer : read_as (codes "1025 object_signal_peer 7 0x00000008 0x01000000") ≡ Ok (Some (commands.Call 1025 (calls.ObjectSignalPeer 7 (record { 0 = 8 }) (record { 0 = 0x1000000 }))))
+  close_of_a_word : read_as (codes "1025 handle_close x") ≡ Err (BadLine 19)
+  close_of_nothing : read_as (codes "1025 handle_close") ≡ Err (BadLine 18)
+  rights_in_decimal : read_as (codes "1025 handle_replace 7 0") ≡ Err (BadLine 23)
+
+reads_handle_calls : HandleCalls
+unfolding decimal_of mask_of placed field ended event_create eventpair_create handle_close handle_duplicate handle_replace object_signal object_signal_peer handle_call_named call_named call back show command_named command read_as
+reads_handle_calls = record {
+  pair = refl;
+  close = refl;
+  duplicate = refl;
+  replace = refl;
+  signal_peer = refl;
+  close_of_a_word = refl;
+  close_of_nothing = refl;
+  rights_in_decimal = refl;
+}
+
 reads_back : read_as (codes "back 1048576") ≡ Ok (Some (commands.Back 1048576))
-unfolding decimal_of mask_of placed field ended event_create object_signal call_named call back show command_named command read_as
+unfolding decimal_of mask_of placed field ended event_create eventpair_create handle_close handle_duplicate handle_replace object_signal object_signal_peer handle_call_named call_named call back show command_named command read_as
 reads_back = refl
 
 skips : (read_as [] ≡ Ok None) × (read_as (codes "# show") ≡ Ok None)
@@ -49,7 +72,7 @@ record Columns : Type 0 where
   upper : read_as (codes "1025 object_signal 7 0x00000000 0x0000000A") ≡ Err (BadLine 33)
 
 columns : Columns
-unfolding decimal_of mask_of placed field ended event_create object_signal call_named call back show command_named command read_as
+unfolding decimal_of mask_of placed field ended event_create eventpair_create handle_close handle_duplicate handle_replace object_signal object_signal_peer handle_call_named call_named call back show command_named command read_as
 columns = record {
   front = refl;
   behind = refl;

@@ -10,6 +10,7 @@ use Rattle.zt_rows.specs.declared.rows.Row.{Row}
 use Rattle.zt_rows.specs.State.{State, nothing}
 use Rattle.zt_rows.specs.Change.{with_rows}
 use Rattle.zt_rows.specs.Consistent.{IsConsistent}
+use Rattle.zt_rows.specs.Room.{HasSpent}
 use Rattle.zt_rows.specs.Opening.{opening}
 use Rattle.zt_rows.specs.Reads.{runs}
 use Rattle.zt_rows.specs.Step.{step}
@@ -50,6 +51,7 @@ last Ss = length Ss - 1
 pub record IsBranch (S : State) (past future : List (List (RowKey × Option Row))) : Type 0 where
   pub few : length past + length future ≤ 1048576
   pub consistent : IsConsistent (state_of (states (branch_of S past future)) (last (states (branch_of S past future))))
+  pub spent : HasSpent (last (states (branch_of S past future))) (state_of (states (branch_of S past future)) (last (states (branch_of S past future))))
 
 -- a call at the last moment made the next one, with this reply
 pub record IsCalled (old new : List State) (process : ℕ) (call : Call) (moment : ℕ) (reply : Reply) : Type 0 where

@@ -1,5 +1,5 @@
 -- Where the clients stand.
-use Rattle.std.specs.Prelude.{ℕ, ◌-◌, ◌≤◌, List, slice_index_or, slice_set, All, ⊤}
+use Rattle.std.specs.Prelude.{ℕ, ◌-◌, ◌≤◌, List, slice_index_or, slice_set, All}
 use Rattle.zt_console.specs.declared.books.Cursor.{Cursor}
 use Rattle.zt_console.specs.declared.books.Cursor.TheVariants.{Following, Detached}
 

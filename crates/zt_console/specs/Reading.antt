@@ -7,7 +7,7 @@ use Rattle.zt_rows.specs.declared.calls.Call.{Call}
 use Rattle.zt_rows.specs.declared.calls.Call.TheVariants as calls
 use Rattle.zt_rows.specs.declared.calls.Command.{Command}
 use Rattle.zt_rows.specs.declared.calls.Command.TheVariants as commands
-use Rattle.zt_console.specs.Numbers.{process_of, handle_of, signals_of, count_of}
+use Rattle.zt_console.specs.Numbers.{process_of, handle_of, mask_of, signals_of, count_of}
 use Rattle.zt_console.specs.Fields.{Placed, Unread, unread, ◌>>=◌, next, field, ended}
 
 -- the arguments of each call
@@ -15,6 +15,31 @@ unfoldable pub event_create : Unread → Result Call Refusal
 event_create left = do
   _ ← ended left
   Ok calls.EventCreate
+
+unfoldable pub eventpair_create : Unread → Result Call Refusal
+eventpair_create left = do
+  _ ← ended left
+  Ok calls.EventPairCreate
+
+unfoldable pub handle_close : Unread → Result Call Refusal
+handle_close left = do
+  handle ← field handle_of left
+  _ ← ended handle.1
+  Ok (calls.HandleClose handle.0)
+
+unfoldable pub handle_duplicate : Unread → Result Call Refusal
+handle_duplicate left = do
+  handle ← field handle_of left
+  rights ← field mask_of handle.1
+  _ ← ended rights.1
+  Ok (calls.HandleDuplicate handle.0 rights.0)
+
+unfoldable pub handle_replace : Unread → Result Call Refusal
+handle_replace left = do
+  handle ← field handle_of left
+  rights ← field mask_of handle.1
+  _ ← ended rights.1
+  Ok (calls.HandleReplace handle.0 rights.0)
 
 unfoldable pub object_signal : Unread → Result Call Refusal
 object_signal left = do
@@ -24,11 +49,30 @@ object_signal left = do
   _ ← ended set.1
   Ok (calls.ObjectSignal handle.0 clear.0 set.0)
 
+unfoldable pub object_signal_peer : Unread → Result Call Refusal
+object_signal_peer left = do
+  handle ← field handle_of left
+  clear ← field signals_of handle.1
+  set ← field signals_of clear.1
+  _ ← ended set.1
+  Ok (calls.ObjectSignalPeer handle.0 clear.0 set.0)
+
+-- the call of this name, of those on handles
+unfoldable pub handle_call_named : Placed → Unread → Result Call Refusal
+handle_call_named name left =
+    if bytes_eq name.bytes (codes "handle_close") then handle_close left
+    else (if bytes_eq name.bytes (codes "handle_duplicate") then handle_duplicate left
+    else (if bytes_eq name.bytes (codes "handle_replace") then handle_replace left
+    else Err (BadLine name.column)))
+
 -- the call of this name
 unfoldable pub call_named : Placed → Unread → Result Call Refusal
 call_named name left =
     if bytes_eq name.bytes (codes "event_create") then event_create left
-    else (if bytes_eq name.bytes (codes "object_signal") then object_signal left else Err (BadLine name.column))
+    else (if bytes_eq name.bytes (codes "eventpair_create") then eventpair_create left
+    else (if bytes_eq name.bytes (codes "object_signal") then object_signal left
+    else (if bytes_eq name.bytes (codes "object_signal_peer") then object_signal_peer left
+    else handle_call_named name left)))
 
 unfoldable pub call : Unread → Result Call Refusal
 call left = do

@@ -1,5 +1,5 @@
 ghost use Rattle.std.specs.Prelude.{◌≡◌, ◌<◌, ◌==◌, length, position, IfSome};
-ghost use Rattle.zt_console.specs.Numbers.{handle_of, signals_of, count_of};
+ghost use Rattle.zt_console.specs.Numbers.{handle_of, mask_of, signals_of, count_of};
 ghost use Rattle.zt_console.specs.Fields.{unread, next, field, ended};
 ghost use Rattle.std.specs.Str.{bytes_eq};
 ghost use Rattle.zt_console.specs.Cut.{IsCut};
@@ -103,16 +103,25 @@ impl<'a> Fields<'a> {
         }
     }
 
+    /// The bits of the mask that the next field writes.
+    #[tactic(auto, unfolding(crate::specs::Fields::field))]
+    pub fn mask(self) -> Result<(u32, Fields<'a>), Refusal>
+        ensures { result ≡ field mask_of self.entry }
+    {
+        let (field, rest) = self.next()?;
+        match mask(field.bytes()) {
+            Some(bits) => Ok((bits, rest)),
+            None => Err(field.fault()),
+        }
+    }
+
     /// The signals that the next field writes.
     #[tactic(auto, unfolding(crate::specs::Fields::field))]
     pub fn signals(self) -> Result<(Signals, Fields<'a>), Refusal>
         ensures { result ≡ field signals_of self.entry }
     {
-        let (field, rest) = self.next()?;
-        match mask(field.bytes()) {
-            Some(bits) => Ok((Signals(bits), rest)),
-            None => Err(field.fault()),
-        }
+        let (bits, rest) = self.mask()?;
+        Ok((Signals(bits), rest))
     }
 
     /// The number of steps that the next field writes.

@@ -2,6 +2,7 @@ ghost use Rattle.std.specs.Prelude.{◌≡◌, ◌<◌, ◌≤◌, ◌+◌, ◌-
 ghost use Rattle.zt_rows.specs.Reads.{runs};
 ghost use Rattle.zt_rows.specs.Step.{step};
 ghost use Rattle.zt_rows.specs.Change.{before};
+ghost use Rattle.zt_rows.specs.Room.{HasRoom};
 ghost use Rattle.zt_rows.specs.Consistent.{IsConsistent};
 ghost use Rattle.zt_console.specs.Branch.{at_opening, branch_of, states, state_of, last, IsCalled, IsRefusedCall};
 
@@ -118,6 +119,7 @@ fn called(
     call: &Call,
 ) -> Result<Reply, AllocError>
     requires running { runs store.old process ≡ true }
+    requires room { HasRoom store.old }
     requires consistent { IsConsistent store.old }
     ensures ok { IfOk result (λ reply. (store.new, reply) ≡ step store.old process call.now) }
     ensures recorded { OnOk result (records.new.items ≡ records.old.items ++ before store.old store.new ∷ []) }
@@ -126,10 +128,6 @@ fn called(
     ensures err_records { OnErr result (records.new.items ≡ records.old.items) }
 {
     records.reserve(1)?;
-    // So many moments as there can be never bring the numbers so far.
-    if !store.room() {
-        return Err(AllocError);
-    }
     let alloc = *records.allocator();
     match apply(alloc, store, process, call) {
         Ok((reply, record)) => {

@@ -1,5 +1,5 @@
 ghost use Rattle.std.specs.Prelude.{◌≡◌};
-ghost use Rattle.zt_console.specs.Reading.{read_as, command, command_named, back, show, call, call_named, event_create, object_signal};
+ghost use Rattle.zt_console.specs.Reading.{read_as, command, command_named, back, show, call, call_named, handle_call_named, event_create, eventpair_create, handle_close, handle_duplicate, handle_replace, object_signal, object_signal_peer};
 
 use crate::fields::{Field, Fields};
 use crate::numbers::decimal;
@@ -75,8 +75,28 @@ fn call_named(name: &Field<'_>, rest: Fields<'_>) -> Result<Call, Refusal>
 {
     if name.is("event_create") {
         event_create(rest)
+    } else if name.is("eventpair_create") {
+        eventpair_create(rest)
     } else if name.is("object_signal") {
         object_signal(rest)
+    } else if name.is("object_signal_peer") {
+        object_signal_peer(rest)
+    } else {
+        handle_call_named(name, rest)
+    }
+}
+
+/// The call of this name, of those on handles, with the arguments behind it.
+#[tactic(auto, unfolding(crate::specs::Reading::handle_call_named))]
+fn handle_call_named(name: &Field<'_>, rest: Fields<'_>) -> Result<Call, Refusal>
+    ensures { result ≡ handle_call_named name.now rest.entry }
+{
+    if name.is("handle_close") {
+        handle_close(rest)
+    } else if name.is("handle_duplicate") {
+        handle_duplicate(rest)
+    } else if name.is("handle_replace") {
+        handle_replace(rest)
     } else {
         Err(name.fault())
     }
@@ -90,6 +110,43 @@ fn event_create(fields: Fields<'_>) -> Result<Call, Refusal>
     Ok(Call::EventCreate)
 }
 
+#[tactic(auto, unfolding(crate::specs::Reading::eventpair_create))]
+fn eventpair_create(fields: Fields<'_>) -> Result<Call, Refusal>
+    ensures { result ≡ eventpair_create fields.entry }
+{
+    fields.end()?;
+    Ok(Call::EventPairCreate)
+}
+
+#[tactic(auto, unfolding(crate::specs::Reading::handle_close))]
+fn handle_close(fields: Fields<'_>) -> Result<Call, Refusal>
+    ensures { result ≡ handle_close fields.entry }
+{
+    let (handle, rest) = fields.handle()?;
+    rest.end()?;
+    Ok(Call::HandleClose { handle })
+}
+
+#[tactic(auto, unfolding(crate::specs::Reading::handle_duplicate))]
+fn handle_duplicate(fields: Fields<'_>) -> Result<Call, Refusal>
+    ensures { result ≡ handle_duplicate fields.entry }
+{
+    let (handle, rest) = fields.handle()?;
+    let (rights, rest) = rest.mask()?;
+    rest.end()?;
+    Ok(Call::HandleDuplicate { handle, rights })
+}
+
+#[tactic(auto, unfolding(crate::specs::Reading::handle_replace))]
+fn handle_replace(fields: Fields<'_>) -> Result<Call, Refusal>
+    ensures { result ≡ handle_replace fields.entry }
+{
+    let (handle, rest) = fields.handle()?;
+    let (rights, rest) = rest.mask()?;
+    rest.end()?;
+    Ok(Call::HandleReplace { handle, rights })
+}
+
 #[tactic(auto, unfolding(crate::specs::Reading::object_signal))]
 fn object_signal(fields: Fields<'_>) -> Result<Call, Refusal>
     ensures { result ≡ object_signal fields.entry }
@@ -99,4 +156,15 @@ fn object_signal(fields: Fields<'_>) -> Result<Call, Refusal>
     let (set, rest) = rest.signals()?;
     rest.end()?;
     Ok(Call::ObjectSignal { handle, clear, set })
+}
+
+#[tactic(auto, unfolding(crate::specs::Reading::object_signal_peer))]
+fn object_signal_peer(fields: Fields<'_>) -> Result<Call, Refusal>
+    ensures { result ≡ object_signal_peer fields.entry }
+{
+    let (handle, rest) = fields.handle()?;
+    let (clear, rest) = rest.signals()?;
+    let (set, rest) = rest.signals()?;
+    rest.end()?;
+    Ok(Call::ObjectSignalPeer { handle, clear, set })
 }

@@ -38,6 +38,7 @@ pub fn run<R: Read, W: Write>(
     ensures talk { HasTalked book result.0 (R.remaining reader.old.0) (W.contents writer.old.0) (W.contents writer.new.0) (is_ok (outcome result.1)) }
     ensures end { OnOk (outcome result.1) (IsAtEnd (R.remaining reader.new.0)) }
     ensures cause { IsCause (reader.old.1, reader.new.1) (writer.old.1, writer.new.1) (R.remaining reader.old.0) (outcome result.1) }
+    ensures clients { length result.0.cursors ≡ length book.cursors }
 {
     let mut book = book;
     match answer_all(alloc, &mut book, reader, writer) {
@@ -59,6 +60,7 @@ fn answer_all<R: Read, W: Write>(
     ensures talk { HasTalked book.old book.new (R.remaining reader.old.0) (W.contents writer.old.0) (W.contents writer.new.0) (is_ok result) }
     ensures end { OnOk result (IsAtEnd (R.remaining reader.new.0)) }
     ensures cause { IsCause (reader.old.1, reader.new.1) (writer.old.1, writer.new.1) (R.remaining reader.old.0) result }
+    ensures clients { length book.new.cursors ≡ length book.old.cursors }
 {
     let mut line = Vec::new(alloc);
     let mut chunk = [0u8; 4096];
@@ -141,6 +143,7 @@ fn last_line<W: Write>(
     requires part { has_no_feed line.now ≡ true }
     ensures spoken { Spoken book.old (lines_of line.now) book.new (W.contents writer.old.0) (W.contents writer.new.0) (is_ok result) }
     ensures counted { IsCounted writer.old.1 writer.new.1 result }
+    ensures clients { length book.new.cursors ≡ length book.old.cursors }
 {
     if line.is_empty() {
         Ok(())

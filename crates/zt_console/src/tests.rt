@@ -1,3 +1,5 @@
+mod chains;
 mod counting;
 mod printed;
 mod read;
+mod talks;

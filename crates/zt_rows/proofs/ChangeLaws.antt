@@ -1,19 +1,15 @@
 -- Records and exchanges: what a record holds, that putting it back restores, and that exchanging back restores.
-use Rattle.std.proofs.Common.{◌≡◌, ℕ, Bool, true, false, cond, not, ◌&&◌, ◌||◌, T, List, [], ◌∷◌, ◌++◌, map, filter, Option, Some, None, is_some, refl, sym, ap, ◌∙◌, subst, arith, rules, unwrap_or, ◌↔◌}
-use Rattle.std.specs.declared.cmp.Ordering.{Ordering}
-use Rattle.std.specs.declared.cmp.Ordering.TheVariants.{Less, Equal, Greater}
-use Rattle.std.specs.Ordering.{eq_by_cmp, is_lt, is_eq}
-use Rattle.std.specs.Bool.{Decides}
+use Rattle.std.proofs.Common.{◌≡◌, Bool, true, false, cond, not, ◌&&◌, ◌||◌, T, List, [], ◌∷◌, map, filter, Option, Some, None, is_some, refl, sym, ap, ◌∙◌, unwrap_or, ◌↔◌}
+use Rattle.std.specs.Ordering.{eq_by_cmp}
 use Rattle.std.specs.FinMap.Entries as entries
 use Rattle.std.specs.List.{list_any, AllByRecursion, IsDistinct}
-use Rattle.std.specs.List.Sorted.{IsStrictlySortedBy}
 use Rattle.zt_rows.specs.declared.keys.RowKey.{RowKey}
 use Rattle.zt_rows.specs.declared.rows.Row.{Row}
 use Rattle.zt_rows.specs.Keys.{rowkey_cmp, rowkey_eq}
 use Rattle.zt_rows.specs.KeyOrder.{rowkey_cmp_total, rowkey_cmp-equal, rowkey_eq-cmp, rowkey_eq-self, rowkey_eq-equal, rowkey_eq-laws}
 use Rattle.zt_rows.specs.Same.{row_eq}
 use Rattle.zt_rows.specs.SameRows.{row_eq-decides}
-use Rattle.zt_rows.specs.State.{State, row, put}
+use Rattle.zt_rows.specs.State.{State, row}
 use Rattle.zt_rows.specs.Change.{keys, over, keys_of_both, option_row_eq, differ_at, changed, rows_under, before, with_rows, rows_at, exchange}
 use Rattle.zt_rows.specs.Path.{records_of, forth_of, end_of, exchange_back, exchange_forth}
 use Rattle.zt_rows.proofs.StateLaws.{row-put, row-rows, same_state}

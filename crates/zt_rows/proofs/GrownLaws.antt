@@ -315,6 +315,14 @@ module _ (S : State) (sound : IsSound S) (p : ℕ) (me : ObjectRow) (here : obje
     ] refl;
   }
 
+  -- the process has given out one more handle value
+  pub object-installed : object (install p me held S) p ≡ Some (raised me)
+  object-installed = has-object S installed p (raised me) has-installed
+
+  -- what was there is there
+  pub exists-installed : (x : ℕ) → exists S x ≡ true → exists (install p me held S) x ≡ true
+  exists-installed = exists-kept S installed keeps-installed
+
   -- a process that runs receives a handle to what exists
   pub sound-install : IsSound (install p me held S)
   sound-install = sound-grown S installed sound grown-install

@@ -10,8 +10,11 @@ pub mod FramedLaws
 pub mod SettleLaws
 pub mod GrownLaws
 pub mod MakeLaws
+pub mod TakeLaws
+pub mod PairLaws
 pub mod StepLaws
 pub mod OpeningLaws
+pub mod SpentLaws
 pub mod WorkedRowsForm
 pub mod WorkedRows
 pub mod WorkedRowsChannels

@@ -124,7 +124,7 @@ no_task kind.Job e = cc
 no_task kind.Process e = cc
 no_task _ e = (refl, refl)
 
-may_be-live : (k : Kind) → may_be k life.Live ≡ true
+pub may_be-live : (k : Kind) → may_be k life.Live ≡ true
 may_be-live kind.Job = refl
 may_be-live kind.Process = refl
 may_be-live kind.Channel = refl

@@ -28,10 +28,10 @@ use Rattle.zt_rows.proofs.RowLaws.{In, row-in}
 use Rattle.zt_rows.proofs.ReadLaws.{some-exists, object-row, entry-row, message-row, packet-row, wait-row}
 use Rattle.zt_rows.proofs.SupportLaws.{by_itself, kept-supported}
 
-abbrev job_row : ObjectRow
+abbrev pub job_row : ObjectRow
 job_row = record { kind = kind.Job; signals = record { 0 = 0x10 }; link = 0; life = life.Live; next = 0 }
 
-abbrev process_row : ObjectRow
+abbrev pub process_row : ObjectRow
 process_row = record { kind = kind.Process; signals = record { 0 = 0 }; link = 1024; life = life.Live; next = 1 }
 
 abbrev held_row : Held
@@ -42,7 +42,7 @@ in-opening k r h = subst (λ es. In (k, r) es) (rows-state_of opening_rows tt) (
 
 -- ---- what is there
 
-counters-opening : (counters opening).next_koid ≡ 1026
+pub counters-opening : (counters opening).next_koid ≡ 1026
 unfolding row put
 counters-opening = refl
 
@@ -89,7 +89,7 @@ object-opening : (x : ℕ) (o : ObjectRow) → object opening x ≡ Some o → (
 object-opening x o h = object-cases x o (in-opening (key.Object x) (rows.Object o) (object-row opening x o h))
 
 -- a fact of the two objects
-of_both : (P : ℕ → ObjectRow → Type 0) → P 1024 job_row → P 1025 process_row → (x : ℕ) (o : ObjectRow) → object opening x ≡ Some o → P x o
+pub of_both : (P : ℕ → ObjectRow → Type 0) → P 1024 job_row → P 1025 process_row → (x : ℕ) (o : ObjectRow) → object opening x ≡ Some o → P x o
 of_both P job process x o h = elim (object-opening x o h) [
   | inl e ↦ subst (λ z. P z o) (sym e.0) (subst (λ z. P 1024 z) (sym e.1) job)
   | inr e ↦ subst (λ z. P z o) (sym e.0) (subst (λ z. P 1025 z) (sym e.1) process)

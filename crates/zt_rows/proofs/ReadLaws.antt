@@ -112,7 +112,7 @@ pub only_if : {A : Type 0} (b : Bool) (v : Option A) (w : A) → cond b None v �
 only_if true v w e = cc
 only_if false v w e = (refl, e)
 
-none_either : {A : Type 0} (b : Bool) → ◌≡◌ {A = Option A} None (cond b None None)
+pub none_either : {A : Type 0} (b : Bool) → ◌≡◌ {A = Option A} None (cond b None None)
 none_either true = refl
 none_either false = refl
 

@@ -159,7 +159,7 @@ at-any_row test S h = let w = in-list_any (λ (e : RowKey × Row). test e.0 e.1)
 
 -- ---- how many rows pass
 
-count-cons : (p : RowKey × Row → Bool) (e : RowKey × Row) (es : List (RowKey × Row)) → count_by p (e ∷ es) ≡ cond (p e) 1 0 + count_by p es
+pub count-cons : (p : RowKey × Row → Bool) (e : RowKey × Row) (es : List (RowKey × Row)) → count_by p (e ∷ es) ≡ cond (p e) 1 0 + count_by p es
 count-cons p e es = sum_by-cons (λ x. cond (p x) 1 0) e es
 
 bit-le : (a b : Bool) → (a ≡ true → b ≡ true) → cond a 1 0 ≤ cond b 1 0

@@ -118,7 +118,7 @@ row-refresh S k = row-change (refreshed S) S k
 pub object-refresh : (S : State) (x : ℕ) → object (refresh S) x ≡ option_map (renew S x) (object S x)
 object-refresh S x = ap as_object (row-refresh S (key.Object x)) ∙ object-renewed S x (row S (key.Object x))
 
-other-refresh : (S : State) (k : RowKey) → ((x : ℕ) → k ≡ key.Object x → ⊥) → row (refresh S) k ≡ row S k
+pub other-refresh : (S : State) (k : RowKey) → ((x : ℕ) → k ≡ key.Object x → ⊥) → row (refresh S) k ≡ row S k
 other-refresh S k h = row-refresh S k ∙ same-renewed S k h (row S k)
 
 refreshed-suits : (S : State) (k : RowKey) (r s : Row) → refreshed S k r ≡ Some s → suits k r ≡ true → suits k s ≡ true
@@ -129,7 +129,7 @@ refreshed-user : (S : State) (x : ℕ) (k : RowKey) (r s : Row) → refreshed S 
 refreshed-user S x (key.Packet p n) r s e h = subst (λ z. is_user_packet_of x (key.Packet p n) z ≡ true) (sym (some_one r s e)) h
 refreshed-user S x _ r s e h = cc
 
-map-renew : (S : State) (x : ℕ) (r : Option ObjectRow) (o : ObjectRow) → option_map (renew S x) r ≡ Some o → (q : ObjectRow) × (r ≡ Some q) × (o ≡ renew S x q)
+pub map-renew : (S : State) (x : ℕ) (r : Option ObjectRow) (o : ObjectRow) → option_map (renew S x) r ≡ Some o → (q : ObjectRow) × (r ≡ Some q) × (o ≡ renew S x q)
 map-renew S x (Some q) o e = (q, refl, cc)
 map-renew S x None o e = cc
 
@@ -169,16 +169,16 @@ framed-refresh S sound =
 
 module _ (S : State) (n : ℕ) (w : Wait) (o : ObjectRow) where
   -- the state after the wait fired into the port with this row
-  abbrev fired : State
+  abbrev pub fired : State
   fired = push_packet w.port o (news S w) (put S (key.Wait n) None)
 
-  abbrev without_wait : State
+  abbrev pub without_wait : State
   without_wait = put S (key.Wait n) None
 
-  abbrev with_packet : State
+  abbrev pub with_packet : State
   with_packet = put without_wait (key.Packet w.port o.next) (Some (rows.Packet (news S w)))
 
-  object-fired : (x : ℕ) → object fired x ≡ cond (x == w.port) (Some (raised o)) (object S x)
+  pub object-fired : (x : ℕ) → object fired x ≡ cond (x == w.port) (Some (raised o)) (object S x)
   object-fired x =
       object-put with_packet w.port (Some (rows.Object (raised o))) x
       ∙ ap (cond (x == w.port) (Some (raised o))) (ap as_object (row-put without_wait (key.Packet w.port o.next) (Some (rows.Packet (news S w))) (key.Object x) ∙ row-put S (key.Wait n) None (key.Object x)))
@@ -193,7 +193,7 @@ module _ (S : State) (n : ℕ) (w : Wait) (o : ObjectRow) where
       ap as_message (row-put with_packet (key.Object w.port) (Some (rows.Object (raised o))) (key.Msg e m)
       ∙ row-put without_wait (key.Packet w.port o.next) (Some (rows.Packet (news S w))) (key.Msg e m) ∙ row-put S (key.Wait n) None (key.Msg e m))
 
-  counters-fired : counters fired ≡ counters S
+  pub counters-fired : counters fired ≡ counters S
   counters-fired =
       ap as_counters (row-put with_packet (key.Object w.port) (Some (rows.Object (raised o))) key.Counters
       ∙ row-put without_wait (key.Packet w.port o.next) (Some (rows.Packet (news S w))) key.Counters ∙ row-put S (key.Wait n) None key.Counters)
@@ -280,7 +280,7 @@ unmet-fire : (S : State) (n : ℕ) (w : Wait) → is_met S w ≡ false → fire 
 unmet-fire S n w met = ap (λ b. if b then fire_into (object S w.port) S (n, w) else S) met
 
 -- a fact of the state after firing, from the two cases
-fire-cases : (P : State → Type 0) (S : State) (n : ℕ) (w : Wait) → kind_at S w.port ≡ Some kind.Port → P S → ((o : ObjectRow) → object S w.port ≡ Some o → P (fired S n w o)) → P (fire S (n, w))
+pub fire-cases : (P : State → Type 0) (S : State) (n : ℕ) (w : Wait) → kind_at S w.port ≡ Some kind.Port → P S → ((o : ObjectRow) → object S w.port ≡ Some o → P (fired S n w o)) → P (fire S (n, w))
 fire-cases P S n w port unmet met =
     let there = kind_at-some S w.port kind.Port port in
     elim (is_met S w) as (λ b. is_met S w ≡ b → P (fire S (n, w))) [
@@ -305,13 +305,13 @@ pub met-same : (S T : State) → ((p h : ℕ) → entry T p h ≡ entry S p h) �
 met-same S T entries signals w = ap (λ s. not (bit_and w.signals.0 s == 0)) (signals_by-same S T signals (entry T w.process w.handle) (entry S w.process w.handle) (entries w.process w.handle))
 
 -- each of these waits is for a port
-abbrev ForPorts : State → List (ℕ × Wait) → Type 0
+abbrev pub ForPorts : State → List (ℕ × Wait) → Type 0
 ForPorts S ws = (n : ℕ) (w : Wait) → In (n, w) ws → kind_at S w.port ≡ Some kind.Port
 
-ports-fire : (S : State) (n : ℕ) (w : Wait) (ws : List (ℕ × Wait)) → IsSound S → ForPorts S ((n, w) ∷ ws) → ForPorts (fire S (n, w)) ws
+pub ports-fire : (S : State) (n : ℕ) (w : Wait) (ws : List (ℕ × Wait)) → IsSound S → ForPorts S ((n, w) ∷ ws) → ForPorts (fire S (n, w)) ws
 ports-fire S n w ws sound ports m v l = kind_at-shaped S (fire S (n, w)) (framed-fire S n w sound (ports n w (inl refl))).of_shapes v.port ∙ ports m v (inr l)
 
-sound-fire : (S : State) (n : ℕ) (w : Wait) → IsSound S → kind_at S w.port ≡ Some kind.Port → IsSound (fire S (n, w))
+pub sound-fire : (S : State) (n : ℕ) (w : Wait) → IsSound S → kind_at S w.port ≡ Some kind.Port → IsSound (fire S (n, w))
 sound-fire S n w sound port = sound-framed S (fire S (n, w)) sound (framed-fire S n w sound port)
 
 framed-fold : (ws : List (ℕ × Wait)) (S : State) → IsSound S → ForPorts S ws → Framed S (fold fire S ws)
@@ -370,7 +370,7 @@ waits-in S n w h = filter_map-in wait_at (n, w) (key.Wait n, rows.Wait w) S.rows
 
 -- ---- settling
 
-ports-sound : (S : State) → IsSound S → ForPorts S (waits S)
+pub ports-sound : (S : State) → IsSound S → ForPorts S (waits S)
 ports-sound S sound n w l = (sound.of_waits n w (in-waits S n w l)).port
 
 pub framed-settle : (S : State) → IsSound S → Framed S (settle S)

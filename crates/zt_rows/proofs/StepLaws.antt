@@ -1,12 +1,12 @@
 -- Each call leaves a consistent state consistent: its checks tell what its puts rest on, the direct change is
 -- sound, and what is sound is consistent once it is collected and settled.
-use Rattle.std.proofs.Common.{◌≡◌, ℕ, Bool, true, false, refl, sym, ap, subst}
-use Rattle.std.specs.Prelude.{Option, None, Some, Result, Ok, Err, ok_or, ⊤}
+use Rattle.std.proofs.Common.{◌≡◌, ◌≤◌, ℕ, ◌+◌, Bool, true, false, inl, inr, refl, sym, ap, ◌∙◌, subst, arith}
+use Rattle.std.specs.Prelude.{Option, None, Some, Result, Ok, Err, ok_or, is_some, ⊤, ◌==◌, if◌then◌else◌}
 use Rattle.zt_bits.specs.declared.kinds.Kind.{Kind}
 use Rattle.zt_bits.specs.declared.kinds.Kind.TheVariants as kind
 use Rattle.zt_bits.specs.declared.statuses.Status.{Status}
 use Rattle.zt_bits.specs.declared.statuses.Status.TheVariants as status
-use Rattle.zt_bits.specs.Tables.{settable_signals}
+use Rattle.zt_bits.specs.Tables.{asked_rights, settable_signals}
 use Rattle.zt_rows.specs.declared.calls.Call.{Call}
 use Rattle.zt_rows.specs.declared.calls.Call.TheVariants as call
 use Rattle.zt_rows.specs.declared.calls.Reply.{Reply}
@@ -14,20 +14,23 @@ use Rattle.zt_rows.specs.declared.rows.Held.{Held}
 use Rattle.zt_rows.specs.declared.rows.ObjectRow.{ObjectRow}
 use Rattle.zt_rows.specs.State.{State}
 use Rattle.zt_rows.specs.Reads.{counters, object, entry, runs, is_live_process}
-use Rattle.zt_rows.specs.Tests.{exists, is_task as is_task_kind, any_kind, has_all}
+use Rattle.zt_rows.specs.Tests.{exists, is_task as is_task_kind, is_endpoint, any_kind, has_all, raised}
+use Rattle.zt_rows.specs.Support.{root_job}
 use Rattle.zt_rows.specs.Collect.{collect}
 use Rattle.zt_rows.specs.Settle.{settle}
-use Rattle.zt_rows.specs.Handles.{◌>>=◌, check, handle_else, answered, as_caller, caller, install, whole, fresh, next_koid, make}
-use Rattle.zt_rows.specs.ObjectCalls.{create, may_set, object_signal}
+use Rattle.zt_rows.specs.Handles.{◌>>=◌, check, handle_else, done, answered, as_caller, caller, take_out, install, whole, fresh, next_koid, make, make_pair}
+use Rattle.zt_rows.specs.ObjectCalls.{create, create_pair, received, handle_close, handle_duplicate, handle_replace, may_set, object_signal, object_signal_peer}
 use Rattle.zt_rows.specs.Step.{direct, step}
-use Rattle.zt_rows.specs.Consistent.{IsSound, IsConsistent}
+use Rattle.zt_rows.specs.Consistent.{SoundObject, IsSound, IsConsistent}
 use Rattle.zt_rows.proofs.RowLaws.{and_right}
-use Rattle.zt_rows.proofs.ReadLaws.{exists-some}
+use Rattle.zt_rows.proofs.ReadLaws.{some_one, exists-some}
 use Rattle.zt_rows.proofs.SoundLaws.{runs-some}
 use Rattle.zt_rows.proofs.CollectLaws.{sound-collect, collect-supported, stays-supported}
 use Rattle.zt_rows.proofs.SettleLaws.{consistent_settled}
-use Rattle.zt_rows.proofs.GrownLaws.{sound-install}
+use Rattle.zt_rows.proofs.GrownLaws.{sound-install, object-installed, exists-installed}
 use Rattle.zt_rows.proofs.MakeLaws.{sound-create, object-made, others-made, sound-signals}
+use Rattle.zt_rows.proofs.TakeLaws.{object-taken, sound-taken}
+use Rattle.zt_rows.proofs.PairLaws.{near-there, far-there, others-paired, sound-make_pair}
 
 -- ---- the end of a call
 
@@ -91,16 +94,82 @@ sound-create_call S p k sound live plain =
     subst (λ me. IsSound (install p me (whole (next_koid S) k) T)) (sym w.3)
     (sound-install T made p w.0 (others-made S sound (fresh k 0) p w.0 w.1) w.2 (whole (next_koid S) k) there)
 
+pub sound-create_pair : (S : State) (p : ℕ) (k : Kind) → IsSound S → runs S p ≡ true → is_endpoint k ≡ true → IsSound (create_pair k S p).0
+sound-create_pair S p k sound live ends =
+    let w = caller-is S p live in
+    let T : State = make_pair (counters S) k S in
+    let made : IsSound T = sound-make_pair S sound k ends in
+    let here : object T p ≡ Some w.0 = others-paired S sound k ends p w.0 w.1 in
+    let near : exists T (next_koid S) ≡ true = exists-some T (next_koid S) (fresh k (next_koid S + 1)) (near-there S sound k ends) in
+    let far : exists T (next_koid S + 1) ≡ true = exists-some T (next_koid S + 1) (fresh k (next_koid S)) (far-there S sound k ends) in
+    let U : State = install p w.0 (whole (next_koid S) k) T in
+    let one : IsSound U = sound-install T made p w.0 here w.2 (whole (next_koid S) k) near in
+    let still : exists U (next_koid S + 1) ≡ true = exists-installed T made p w.0 here w.2 (whole (next_koid S) k) near (next_koid S + 1) far in
+    subst (λ me. IsSound (install p (raised me) (whole (next_koid S + 1) k) (install p me (whole (next_koid S) k) T))) (sym w.3)
+    (sound-install U one p (raised w.0) (object-installed T made p w.0 here w.2 (whole (next_koid S) k) near) w.2 (whole (next_koid S + 1) k) still)
+
+-- a process that runs may receive what another of its handles names, also when entries of it were taken out
+sound-received : (rights : ℕ) (S T : State) (p : ℕ) (held : Held) → runs S p ≡ true → IsSound T → ((x : ℕ) → object T x ≡ object S x) → exists S held.koid ≡ true → IsSound (received rights S p held T).0
+sound-received rights S T p held live sound same names =
+    let w = caller-is S p live in
+    let there : exists T held.koid ≡ true = ap (λ r. is_some r) (same held.koid) ∙ names in
+    subst (λ me. IsSound (install p me (record held { rights = record { 0 = rights } }) T)) (sym w.3)
+    (sound-install T sound p w.0 (same p ∙ w.1) w.2 (record held { rights = record { 0 = rights } }) there)
+
+pub sound-handle_close : (S : State) (p h : ℕ) → IsSound S → IsSound (handle_close S p h).0
+sound-handle_close S p h sound =
+    elim (h == 0) as (λ b. IsSound (answered S (if b then Ok (S, done) else (ok_or (entry S p h) status.BadHandle >>= (λ _. Ok (take_out S p h, done))))).0) [
+      | true ↦ sound
+      | false ↦ after_some IsSound S (entry S p h) status.BadHandle _ sound (λ held e. sound-taken p (λ g. g == h) S sound)
+    ]
+
+pub sound-handle_duplicate : (S : State) (p h mask : ℕ) → IsSound S → runs S p ≡ true → IsSound (handle_duplicate S p h mask).0
+sound-handle_duplicate S p h mask sound live =
+    after_handle IsSound S status.WrongType p h any_kind 0x1 _ sound (λ held o found.
+    after_some IsSound S (asked_rights mask held.rights.0) status.InvalidArgs _ sound (λ rights e.
+    sound-received rights S S p held live sound (λ x. refl) (sound.of_entries p h held found.entry_there).names))
+
+pub sound-handle_replace : (S : State) (p h mask : ℕ) → IsSound S → runs S p ≡ true → IsSound (handle_replace S p h mask).0
+sound-handle_replace S p h mask sound live =
+    let rest : IsSound (take_out S p h) = sound-taken p (λ g. g == h) S sound in
+    after_some IsSound S (entry S p h) status.BadHandle _ sound (λ held there.
+    after_some IsSound (take_out S p h) (asked_rights mask held.rights.0) status.InvalidArgs _ rest (λ rights e.
+    sound-received rights S (take_out S p h) p held live rest (object-taken p (λ g. g == h) S) (sound.of_entries p h held there).names))
+
+-- the peer of an endpoint is of its kind
+peer_kind : (S : State) → IsSound S → (x : ℕ) (o peer : ObjectRow) → object S x ≡ Some o → is_endpoint o.kind ≡ true → object S o.link ≡ Some peer → peer.kind ≡ o.kind
+peer_kind S sound x o peer here ends there = elim ((sound.of_objects x o here).peers ends) [
+  | inl e ↦
+      let s : SoundObject S o.link peer = sound.of_objects o.link peer there in
+      let low : root_job ≤ o.link = s.low in
+      absurd (omega arith)
+  | inr q ↦ ap (λ (z : ObjectRow). z.kind) (some_one peer q.peer (sym there ∙ q.there)) ∙ q.same_kind
+]
+
 pub sound-object_signal : (S : State) (p h clear set : ℕ) → IsSound S → IsSound (object_signal S p h clear set).0
 sound-object_signal S p h clear set sound =
     after_handle IsSound S status.WrongType p h any_kind 0x1000 _ sound (λ held o found.
     after_check IsSound S (may_set o.kind clear set) status.InvalidArgs _ sound (λ settable.
     sound-signals S sound held.koid o found.object_there clear set (and_right (has_all (settable_signals o.kind) clear) _ settable)))
 
+pub sound-object_signal_peer : (S : State) (p h clear set : ℕ) → IsSound S → IsSound (object_signal_peer S p h clear set).0
+sound-object_signal_peer S p h clear set sound =
+    after_handle IsSound S status.NotSupported p h is_endpoint 0x2000 _ sound (λ held o found.
+    after_check IsSound S (may_set o.kind clear set) status.InvalidArgs _ sound (λ settable.
+    after_some IsSound S (object S o.link) status.PeerClosed _ sound (λ peer there.
+    let kinds : peer.kind ≡ o.kind = peer_kind S sound held.koid o peer found.object_there found.of_kind there in
+    let may : has_all (settable_signals peer.kind) set ≡ true = ap (λ k. has_all (settable_signals k) set) kinds ∙ and_right (has_all (settable_signals o.kind) clear) _ settable in
+    sound-signals S sound o.link peer there clear set may)))
+
 pub sound-direct : (S : State) (p : ℕ) (c : Call) → IsSound S → runs S p ≡ true → IsSound (direct S p c).0
 unfolding direct
 sound-direct S p call.EventCreate sound live = sound-create_call S p kind.Event sound live refl
+sound-direct S p call.EventPairCreate sound live = sound-create_pair S p kind.EventPair sound live refl
+sound-direct S p (call.HandleClose h) sound live = sound-handle_close S p h sound
+sound-direct S p (call.HandleDuplicate h rights) sound live = sound-handle_duplicate S p h rights sound live
+sound-direct S p (call.HandleReplace h rights) sound live = sound-handle_replace S p h rights sound live
 sound-direct S p (call.ObjectSignal h clear set) sound live = sound-object_signal S p h clear.0 set.0 sound
+sound-direct S p (call.ObjectSignalPeer h clear set) sound live = sound-object_signal_peer S p h clear.0 set.0 sound
 
 -- a call of a live process leaves a consistent state consistent
 pub step-consistent : (S : State) (p : ℕ) (c : Call) → IsConsistent S → runs S p ≡ true → IsConsistent (step S p c).0

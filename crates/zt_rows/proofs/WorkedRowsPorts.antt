@@ -1,20 +1,13 @@
 -- Worked rows on ports, packets and waits: each holds by computation.
 use Rattle.std.proofs.Common.{refl}
-use Rattle.std.specs.Prelude.{◌≡◌, ℕ, zero, suc, ◌+◌, ◌*◌, true, false, pos, negsuc, List, [], ◌∷◌, ◌++◌, Option, None, Some}
-use Rattle.zt_bits.specs.declared.kinds.Kind.TheVariants as kind
-use Rattle.zt_bits.specs.declared.statuses.Status.TheVariants.{BadHandle, WrongType, AccessDenied, InvalidArgs, NotSupported, PeerClosed, ShouldWait, TimedOut, BadState, OutOfRange, NotFound}
-use Rattle.zt_rows.specs.declared.calls.Reply.{Reply}
-use Rattle.zt_rows.specs.declared.calls.Reply.TheVariants.{Handle, Handles, Spawned, Message, TooSmall, Packet}
-use Rattle.zt_rows.specs.declared.keys.RowKey.{RowKey}
+use Rattle.std.specs.Prelude.{◌≡◌, ℕ, false, pos, List, [], ◌∷◌, Some}
+use Rattle.zt_bits.specs.declared.statuses.Status.TheVariants.{BadHandle, WrongType, AccessDenied, TimedOut, NotFound}
+use Rattle.zt_rows.specs.declared.calls.Reply.TheVariants.{Handle, Handles, Spawned, Message, Packet}
 use Rattle.zt_rows.specs.declared.keys.RowKey.TheVariants as key
-use Rattle.zt_rows.specs.declared.rows.Held.{Held}
-use Rattle.zt_rows.specs.declared.rows.Life.TheVariants as life
 use Rattle.zt_rows.specs.declared.rows.Packet.TheVariants as packet
-use Rattle.zt_rows.specs.declared.rows.Row.{Row}
 use Rattle.zt_rows.specs.declared.rows.Row.TheVariants as rows
-use Rattle.zt_rows.specs.declared.supports.Support.TheVariants as support
 use Rattle.zt_rows.specs.Handles.{done}
-use Rattle.zt_rows.proofs.WorkedRowsForm.{Asked, EventCreate, PortCreate, EventPairCreate, ChannelCreate, HandleClose, HandleDuplicate, HandleReplace, ChannelWrite, ChannelRead, ObjectSignal, ObjectSignalPeer, ObjectWaitAsync, PortQueue, PortWait, PortCancel, JobCreate, Spawn, TaskKill, ProcessExit, ran, root, by_root, replies, rows_after, row_after, supports_after, then_one, failed, object_row, held_row, counters_row}
+use Rattle.zt_rows.proofs.WorkedRowsForm.{Asked, EventCreate, PortCreate, ChannelCreate, HandleClose, HandleDuplicate, ChannelWrite, ChannelRead, ObjectSignal, ObjectWaitAsync, PortQueue, PortWait, PortCancel, Spawn, ProcessExit, ran, root, by_root, replies, row_after, then_one, failed}
 
 -- ---- waits
 

@@ -1,6 +1,6 @@
 -- What a store may be asked for beyond its rows: the next key, whether a row suits a key, and whether the
 -- numbers that calls give out still fit their types.
-use Rattle.std.specs.Prelude.{◌≡◌, ℕ, ◌-◌, ◌^◌, ◌≤◌, Bool, true, false, Option, None, Some, find, ⊤}
+use Rattle.std.specs.Prelude.{◌≡◌, ℕ, ◌+◌, ◌-◌, ◌*◌, ◌^◌, ◌≤◌, Bool, true, false, Option, None, Some, find, ⊤}
 use Rattle.std.specs.Ordering.{is_lt}
 use Rattle.zt_bits.specs.declared.kinds.Kind.{Kind}
 use Rattle.zt_bits.specs.declared.kinds.Kind.TheVariants as kind
@@ -12,6 +12,7 @@ use Rattle.zt_rows.specs.declared.rows.ObjectRow.{ObjectRow}
 use Rattle.zt_rows.specs.Keys.{rowkey_cmp}
 use Rattle.zt_rows.specs.State.{State}
 use Rattle.zt_rows.specs.Reads.{counters, object}
+use Rattle.zt_rows.specs.Tests.{count_row}
 use Rattle.zt_rows.specs.Change.{keys}
 
 -- the key is above the low one, if there is a low one
@@ -51,3 +52,28 @@ pub record HasRoom (S : State) : Type 0 where
   pub koids : (counters S).next_koid ≤ 2 ^ 62
   pub waits : (counters S).next_wait ≤ 2 ^ 62
   pub owners : (x : ℕ) (o : ObjectRow) → object S x ≡ Some o → NextFits o.kind o.next
+
+-- ---- what calls give out
+
+abbrev pub is_wait : RowKey → Row → Bool
+is_wait (key.Wait _) (rows.Wait _) = true
+is_wait _ _ = false
+
+-- how far the next number of an owner is after so many calls, where a port got no more than so many packets
+abbrev pub NextBy : ℕ → ℕ → Kind → ℕ → Type 0
+NextBy calls packets kind.Process next = next ≤ 64 * calls + 1
+NextBy calls packets kind.Channel next = next ≤ calls
+NextBy calls packets kind.Port next = next ≤ packets
+NextBy calls packets _ next = ⊤
+
+-- no more numbers were given out than so many calls give: two koids and one wait each, and 64 handles to a
+-- process, a message to a channel, and no more than so many packets to a port
+pub record HasGiven (calls packets : ℕ) (S : State) : Type 0 where
+  pub koids : (counters S).next_koid ≤ 2 * calls + 1026
+  pub waits : (counters S).next_wait ≤ calls
+  pub waiting : count_row is_wait S ≤ calls
+  pub owners : (x : ℕ) (o : ObjectRow) → object S x ≡ Some o → NextBy calls packets o.kind o.next
+
+-- after so many calls, of which each gave a port one packet and fired every wait at most
+abbrev pub HasSpent : ℕ → State → Type 0
+HasSpent calls S = HasGiven calls (2097152 * calls) S

@@ -1,5 +1,5 @@
 -- Rows stay in the order of their keys when one is put, when one goes, and when each is changed in its place.
-use Rattle.std.specs.Prelude.{◌≡◌, ℕ, Bool, true, false, cond, ◌&&◌, T, List, [], ◌∷◌, Option, None, Some, not}
+use Rattle.std.specs.Prelude.{Bool, true, false, ◌&&◌, T, List, [], ◌∷◌, Option, None, Some, not}
 use Rattle.std.specs.FinMap.Entries as entries
 use Rattle.std.specs.Ordering.{is_lt}
 use Rattle.zt_rows.specs.declared.keys.RowKey.{RowKey}

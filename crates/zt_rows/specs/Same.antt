@@ -1,6 +1,6 @@
 -- When two rows are one, as a test that computes: every field of the one is that of the other. A test by
 -- the tests of the fields is what the code's own `==` answers.
-use Rattle.std.specs.Prelude.{ℕ, ℤ, Bool, true, false, ◌==◌, ◌&&◌}
+use Rattle.std.specs.Prelude.{ℕ, Bool, true, false, ◌==◌, ◌&&◌}
 use Rattle.std.specs.Ordering.{int_eq}
 use Rattle.std.specs.Cmp.Lexicographic.{pointwise}
 use Rattle.zt_bits.specs.declared.kinds.Kind.{Kind}

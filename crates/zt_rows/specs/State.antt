@@ -1,6 +1,6 @@
 -- What the debugger knows of a system at one moment: rows under their keys, each key once and in rising
 -- order, so that two states with the same rows are one. This project's own form.
-use Rattle.std.specs.Prelude.{◌≡◌, ℕ, Bool, true, false, cond, ◌&&◌, T, List, [], ◌∷◌, Option, None, Some, not}
+use Rattle.std.specs.Prelude.{T, List, [], ◌∷◌, Option, None, Some, not}
 use Rattle.std.specs.FinMap.Entries as entries
 use Rattle.zt_rows.specs.declared.keys.RowKey.{RowKey}
 use Rattle.zt_rows.specs.declared.rows.Row.{Row}

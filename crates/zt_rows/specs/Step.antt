@@ -8,12 +8,17 @@ use Rattle.zt_rows.specs.declared.calls.Reply.{Reply}
 use Rattle.zt_rows.specs.State.{State}
 use Rattle.zt_rows.specs.Collect.{collect}
 use Rattle.zt_rows.specs.Settle.{settle}
-use Rattle.zt_rows.specs.ObjectCalls.{event_create, object_signal}
+use Rattle.zt_rows.specs.ObjectCalls.{event_create, eventpair_create, handle_close, handle_duplicate, handle_replace, object_signal, object_signal_peer}
 
 -- what the call itself does and answers
 unfoldable pub direct : State → ℕ → Call → State × Reply
 direct S p call.EventCreate = event_create S p
+direct S p call.EventPairCreate = eventpair_create S p
+direct S p (call.HandleClose h) = handle_close S p h
+direct S p (call.HandleDuplicate h rights) = handle_duplicate S p h rights
+direct S p (call.HandleReplace h rights) = handle_replace S p h rights
 direct S p (call.ObjectSignal h clear set) = object_signal S p h clear.0 set.0
+direct S p (call.ObjectSignalPeer h clear set) = object_signal_peer S p h clear.0 set.0
 
 -- the state after a call's direct change has been carried through, with its reply
 abbrev pub completed : State × Reply → State × Reply

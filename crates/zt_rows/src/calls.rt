@@ -70,7 +70,26 @@ impl Parcel {
 #[derive(Clone, Copy, Debug, PartialEq, Eq)]
 pub enum Call {
     EventCreate,
+    EventPairCreate,
+    HandleClose {
+        handle: HandleValue,
+    },
+    /// `rights` is a mask of right bits, or 0x80000000 for the same rights.
+    HandleDuplicate {
+        handle: HandleValue,
+        rights: u32,
+    },
+    /// `rights` is a mask of right bits, or 0x80000000 for the same rights.
+    HandleReplace {
+        handle: HandleValue,
+        rights: u32,
+    },
     ObjectSignal {
+        handle: HandleValue,
+        clear: Signals,
+        set: Signals,
+    },
+    ObjectSignalPeer {
         handle: HandleValue,
         clear: Signals,
         set: Signals,

@@ -1,6 +1,6 @@
 //! What holds of every state and every change of one, and of what follows every call. Each law is the contract
 //! of a function that does nothing.
-ghost use Rattle.std.specs.Prelude.{◌≡◌, ◌↔◌, true, if◌then◌else◌, List, map, Option, option_and_then, ◌||◌, ℕ, Bool, false};
+ghost use Rattle.std.specs.Prelude.{◌≡◌, ◌↔◌, ◌≤◌, ◌<◌, ◌+◌, true, if◌then◌else◌, List, map, Option, option_and_then, ◌||◌, ℕ, Bool, false};
 ghost use Rattle.std.specs.List.{IsDistinct};
 ghost use Rattle.zt_rows.specs.declared.keys.RowKey.{RowKey};
 ghost use Rattle.zt_rows.specs.declared.rows.Row.{Row};
@@ -15,6 +15,7 @@ ghost use Rattle.zt_rows.specs.Justified.{Justified};
 ghost use Rattle.zt_rows.specs.Settle.{settle};
 ghost use Rattle.zt_rows.specs.Consistent.{IsSound, IsConsistent};
 ghost use Rattle.zt_rows.specs.Reads.{runs};
+ghost use Rattle.zt_rows.specs.Room.{HasRoom, HasSpent};
 ghost use Rattle.zt_rows.specs.Opening.{opening};
 ghost use Rattle.zt_rows.specs.Step.{step};
 
@@ -104,6 +105,15 @@ pub fn calls_keep_consistency()
 #[tactic(auto, using(crate::proofs::OpeningLaws::opening_laws))]
 pub fn opening_is_consistent()
     ensures { IsConsistent opening }
+{}
+
+/// The opening has given out few numbers, each call gives out few more, and where no more calls gave them out
+/// than a history can have, there is room for one more call.
+pub fn few_calls_leave_room()
+    ensures opening { HasSpent 0 opening }
+    ensures call { (S : State) (p : ℕ) (c : Call) (calls : ℕ) → calls < 1048576 → IsConsistent S
+        → runs S p ≡ true → HasSpent calls S → HasSpent (calls + 1) (step S p c).0 }
+    ensures room { (S : State) (calls : ℕ) → calls ≤ 1048576 → HasSpent calls S → HasRoom S }
 {}
 
 /// To remove one set of objects and then another is to remove both.

@@ -57,6 +57,41 @@ fn calls_are_read(rt: HostRuntime) {
 }
 
 #[test]
+fn calls_on_handles_are_read(rt: HostRuntime) {
+    let handle = HandleValue(7);
+    let rights = 0x8000_0000;
+    assert!(rt; call_of(1025, b"1025 eventpair_create") == Some(Call::EventPairCreate));
+    assert!(rt; call_of(1025, b"1025 handle_close 7") == Some(Call::HandleClose { handle }));
+    assert!(rt;
+        call_of(1025, b"1025 handle_duplicate 7 0x80000000")
+            == Some(Call::HandleDuplicate { handle, rights })
+    );
+    assert!(rt;
+        call_of(1025, b"1025 handle_replace 7 0x80000000")
+            == Some(Call::HandleReplace { handle, rights })
+    );
+    let clear = Signals(0x8);
+    let set = Signals(0x0100_0000);
+    assert!(rt;
+        call_of(1025, b"1025 object_signal_peer 7 0x00000008 0x01000000")
+            == Some(Call::ObjectSignalPeer { handle, clear, set })
+    );
+}
+
+#[test]
+fn columns_of_handles_and_rights(rt: HostRuntime) {
+    assert_eq!(rt; column(b"1025 handle_close x"), 19);
+    assert_eq!(rt; column(b"1025 handle_close 07"), 19);
+    assert_eq!(rt; column(b"1025 handle_close"), 18);
+    assert_eq!(rt; column(b"1025 handle_close 7 "), 21);
+    assert_eq!(rt; column(b"1025 eventpair_create 7"), 23);
+    assert_eq!(rt; column(b"1025 handle_duplicate 7 80000000"), 25);
+    assert_eq!(rt; column(b"1025 handle_replace 7"), 22);
+    assert_eq!(rt; column(b"1025 handle_replace 7 0x0000000G"), 23);
+    assert_eq!(rt; column(b"1025 object_signal_peer 7 0x00000000 8"), 38);
+}
+
+#[test]
 fn commands_are_read(rt: HostRuntime) {
     assert!(rt; matches!(read_line(b"show"), Ok(Some(Command::Show))));
     assert_eq!(rt; steps_back(b"back 1"), 1);
@@ -93,8 +128,10 @@ fn columns_of_names(rt: HostRuntime) {
     assert_eq!(rt; column(b"1025  event_create"), 6);
     assert_eq!(rt; column(b"1025 event_create\r"), 6);
     assert_eq!(rt; column(b"1025 nonsense"), 6);
-    assert_eq!(rt; column(b"1025 handle_close 7"), 6);
+    assert_eq!(rt; column(b"1025 channel_create"), 6);
     assert_eq!(rt; column(b"1025 handle_cl"), 6);
+    assert_eq!(rt; column(b"1025 handle_closed 7"), 6);
+    assert_eq!(rt; column(b"1025 object_signal_peers 7"), 6);
     assert_eq!(rt; column(b"1025 show"), 6);
     assert_eq!(rt; column(b"1025 "), 6);
     assert_eq!(rt; column(b"7 event_creat"), 3);

@@ -1,8 +1,8 @@
 -- The keys come one after another, so the rows are copied in their order.
-use Rattle.std.proofs.Common.{◌≡◌, sym, ◌∙◌, ap, length, refl, Some}
+use Rattle.std.proofs.Common.{◌≡◌, sym, ◌∙◌, ap, length, Some}
 use Rattle.std.specs.List.{slice_get}
 use Rattle.zt_rows.specs.Change.{keys}
-use Rattle.zt_console.proofs.KeyLaws.{next_key-first, take_none, take_all_of, has_row, copied_more, following_more, fewer_left, none_left}
+use Rattle.zt_console.proofs.KeyLaws.{next_key-first, take_none, has_row, copied_more, following_more, fewer_left, none_left}
 use Rattle.zt_console.proofs.books.rows_of.Goals as goal
 
 pub loop-next-init : goal.loop-next-init

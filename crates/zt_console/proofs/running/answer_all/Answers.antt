@@ -1,5 +1,5 @@
 -- What was read and answered so far goes on with each chunk, to the end or to where it stops.
-use Rattle.std.proofs.Common.{◌≡◌, ◌<◌, ◌≤◌, ◌∙◌, refl, arith, length}
+use Rattle.std.proofs.Common.{◌<◌, ◌∙◌, refl, arith, length}
 use Rattle.zt_console.proofs.TalkLaws.{read_first, read_chunk, talked_chunk, talked_read, talked_all, consumes_end}
 use Rattle.zt_console.proofs.running.answer_all.Goals as goal
 

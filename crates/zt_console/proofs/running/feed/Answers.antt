@@ -1,5 +1,5 @@
 -- Each byte is fed behind those before it.
-use Rattle.std.proofs.Common.{◌≡◌, ◌∙◌, refl, arith}
+use Rattle.std.proofs.Common.{◌∙◌, refl, arith}
 use Rattle.zt_console.proofs.TalkLaws.{fed_none, fed_next, fed_no_further}
 use Rattle.zt_console.proofs.running.feed.Goals as goal
 

@@ -1,5 +1,5 @@
 -- A bad line gets its refusal.
-use Rattle.std.proofs.Common.{◌≡◌, sym, ◌∙◌, refl}
+use Rattle.std.proofs.Common.{sym, ◌∙◌, refl}
 use Rattle.zt_console.specs.Answers.{shown_refusal}
 use Rattle.zt_console.specs.Reading.{read_as}
 use Rattle.zt_console.specs.Talk.{Answers}

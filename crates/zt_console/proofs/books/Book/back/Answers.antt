@@ -1,6 +1,5 @@
 -- The position has so many ancestors or not; it has, and the client stands at the ancestor.
-use Rattle.std.proofs.Common.{◌≡◌, ◌<◌, ◌≤◌, sym, ◌∙◌, ap, arith}
-use Rattle.zt_console.specs.Session.{position}
+use Rattle.std.proofs.Common.{◌∙◌, ap, arith}
 use Rattle.zt_console.proofs.SessionLaws.{back-far, back-near, back-done}
 use Rattle.zt_console.proofs.books.Book.back.Goals as goal
 

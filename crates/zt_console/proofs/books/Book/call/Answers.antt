@@ -1,5 +1,5 @@
 -- What the history did with the call is what the session does.
-use Rattle.std.proofs.Common.{◌≡◌, sym, ◌∙◌, ap, refl}
+use Rattle.std.proofs.Common.{sym, ◌∙◌, ap, refl}
 use Rattle.zt_console.proofs.SessionLaws.{call-done, call-refused}
 use Rattle.zt_console.proofs.books.Book.call.Goals as goal
 use Rattle.zt_console.proofs.books.Book.call.Goals.{in-Ok, in-Err}

@@ -1,5 +1,5 @@
 -- The store stands at the client's position, and its rows are copied.
-use Rattle.std.proofs.Common.{◌≡◌, sym, ◌∙◌, ap}
+use Rattle.std.proofs.Common.{sym, ◌∙◌, ap}
 use Rattle.zt_console.specs.Branch.{state_of}
 use Rattle.zt_console.proofs.SessionLaws.{show-memory, show-done}
 use Rattle.zt_console.proofs.books.Book.show.Goals as goal

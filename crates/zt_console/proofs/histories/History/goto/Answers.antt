@@ -1,5 +1,5 @@
 -- Moving over as many records as lie between keeps the states, from either side.
-use Rattle.std.proofs.Common.{◌≡◌, ◌≤◌, ◌+◌, ◌-◌, sym, ◌∙◌, ap, arith, length, vec_len, Result, Ok, Err, OnOk}
+use Rattle.std.proofs.Common.{◌∙◌, ap, arith, Result, Ok, Err, OnOk}
 use Rattle.zt_console.specs.Branch.{states, last}
 use Rattle.zt_console.proofs.BranchLaws.{last-branch_of, states-otherwise, is_branch-kept, state_of-here, length-side}
 use Rattle.zt_console.proofs.histories.History.goto.Goals as goal

@@ -1,5 +1,5 @@
 -- The records on both sides are as many as the moments after the opening.
-use Rattle.std.proofs.Common.{sym, ◌∙◌, ap, arith}
+use Rattle.std.proofs.Common.{ap, arith}
 use Rattle.zt_console.specs.Branch.{states, last}
 use Rattle.zt_console.proofs.BranchLaws.{last-branch_of}
 use Rattle.zt_console.proofs.histories.History.last.Goals as goal

@@ -1,6 +1,4 @@
 -- The opening is consistent.
-use Rattle.std.proofs.Common.{◌≡◌, sym, ap, subst, arith, [], ◌≤◌, ◌+◌}
-use Rattle.zt_rows.specs.Consistent.{IsConsistent}
 use Rattle.zt_console.proofs.BranchLaws.{is_branch-opening}
 use Rattle.zt_console.proofs.histories.History.new.Goals as goal
 
