@@ -113,6 +113,60 @@ fn turns_of_all_sizes(rt: HostRuntime) -> Result<(), Fail> {
     Ok(())
 }
 
+/// A run over these lines says this.
+fn check_worked(rt: &(impl Abort + AllocGlobal), asked: &[u8], told: &[u8]) -> Result<(), Fail> {
+    let alloc = rt.alloc();
+    let book = Book::new(alloc, 1)?;
+    let (_, end, said) = talk(alloc, book, asked, Vec::new(alloc));
+    assert!(rt; end == End::Finished);
+    assert!(rt; said.as_slice() == told);
+    Ok(())
+}
+
+#[test]
+fn short_runs(rt: HostRuntime) -> Result<(), Fail> {
+    check_worked(&rt, b"", b"")?;
+    check_worked(&rt, b"1025 event_create\n", b"1 ok 7\n")?;
+    check_worked(
+        &rt,
+        b"1025 event_create\n1025 object_signal 7 0x00000000 0x00000008\n1025 object_signal 7 0x00000000 0x00000008\n",
+        b"1 ok 7\n2 ok\n3 ok\n",
+    )?;
+    check_worked(&rt, b"1025 event_create", b"1 ok 7\n")?;
+    check_worked(
+        &rt,
+        b"1025 handle_close 0\n1025 handle_close 9\n",
+        b"1 ok\n2 bad_handle\n",
+    )
+}
+
+#[test]
+fn a_duplicate_and_back_again(rt: HostRuntime) -> Result<(), Fail> {
+    check_worked(
+        &rt,
+        b"1025 event_create\n1025 handle_duplicate 7 0x80000000\n1025 handle_close 7\n1025 handle_close 11\nback 4\nshow\n",
+        b"1 ok 7\n2 ok 11\n3 ok\n4 ok\nat 0\nrows 0 4\ncounters 1026 0\nobject 1024 job 0x00000010 0 live 0\nobject 1025 process 0x00000000 1024 live 1\nentry 1025 3 1024 0x0003d203\n",
+    )
+}
+
+#[test]
+fn a_pair_of_events(rt: HostRuntime) -> Result<(), Fail> {
+    check_worked(
+        &rt,
+        b"1025 eventpair_create\n1025 object_signal_peer 7 0x00000000 0x00000008\n1025 object_signal 7 0x00000000 0x00000001\n1025 handle_close 11\n1025 object_signal_peer 7 0x00000000 0x00000008\n1025 event_create\n1025 object_signal_peer 15 0x00000000 0x00000008\nback 5\nshow\n",
+        b"1 ok 7 11\n2 ok\n3 invalid_args\n4 ok\n5 peer_closed\n6 ok 15\n7 not_supported\nat 2\nrows 2 8\ncounters 1028 0\nobject 1024 job 0x00000010 0 live 0\nobject 1025 process 0x00000000 1024 live 3\nobject 1026 eventpair 0x00000000 1027 live 0\nobject 1027 eventpair 0x00000008 1026 live 0\nentry 1025 3 1024 0x0003d203\nentry 1025 7 1026 0x0000f003\nentry 1025 11 1027 0x0000f003\n",
+    )
+}
+
+#[test]
+fn a_failed_replacement_closes(rt: HostRuntime) -> Result<(), Fail> {
+    check_worked(
+        &rt,
+        b"1025 event_create\n1025 handle_replace 7 0x00010000\n1025 handle_close 7\nshow\n",
+        b"1 ok 7\n2 invalid_args\n3 bad_handle\nrows 3 4\ncounters 1027 0\nobject 1024 job 0x00000010 0 live 0\nobject 1025 process 0x00000000 1024 live 2\nentry 1025 3 1024 0x0003d203\n",
+    )
+}
+
 /// The lines that were read whole are answered, and a run over the others goes on from there.
 fn check_failed_read(rt: &(impl Abort + AllocGlobal), good: usize) -> Result<(), Fail> {
     let alloc = rt.alloc();
