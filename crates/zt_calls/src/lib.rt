@@ -11,7 +11,5 @@ mod looks;
 mod object_calls;
 mod settling;
 mod takings;
-#[cfg(test)]
-mod tests;
 
 pub use applying::{apply, runs};

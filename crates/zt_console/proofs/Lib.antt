@@ -3,6 +3,7 @@ pub mod CutLemmas
 pub mod FieldLemmas
 pub mod ShownLemmas
 mod WorkedLines
+mod WorkedAnswers
 pub mod BranchLaws
 pub mod KeyLaws
 pub mod SessionLaws

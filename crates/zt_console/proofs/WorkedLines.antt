@@ -50,6 +50,22 @@ reads_handle_calls = record {
   rights_in_decimal = refl;
 }
 
+-- numbers at their ends
+record Ends : Type 0 where
+  no_process : read_as (codes "0 event_create") ≡ Ok (Some (commands.Call 0 calls.EventCreate))
+  last_process : read_as (codes "18446744073709551615 event_create") ≡ Ok (Some (commands.Call 18446744073709551615 calls.EventCreate))
+  last_handle : read_as (codes "9 object_signal 4294967295 0xffffffff 0x0123abcd") ≡ Ok (Some (commands.Call 9 (calls.ObjectSignal 4294967295 (record { 0 = 0xffffffff }) (record { 0 = 0x0123abcd }))))
+  no_handle : read_as (codes "9 object_signal 0 0xfedcba98 0x00000000") ≡ Ok (Some (commands.Call 9 (calls.ObjectSignal 0 (record { 0 = 0xfedcba98 }) (record { 0 = 0 }))))
+
+reads_ends : Ends
+unfolding decimal_of mask_of placed field ended event_create eventpair_create handle_close handle_duplicate handle_replace object_signal object_signal_peer handle_call_named call_named call back show command_named command read_as
+reads_ends = record {
+  no_process = refl;
+  last_process = refl;
+  last_handle = refl;
+  no_handle = refl;
+}
+
 reads_back : read_as (codes "back 1048576") ≡ Ok (Some (commands.Back 1048576))
 unfolding decimal_of mask_of placed field ended event_create eventpair_create handle_close handle_duplicate handle_replace object_signal object_signal_peer handle_call_named call_named call back show command_named command read_as
 reads_back = refl

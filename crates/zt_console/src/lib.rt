@@ -13,6 +13,3 @@ mod running;
 pub use books::Book;
 pub use counted::Counted;
 pub use running::{End, run};
-
-#[cfg(test)]
-mod tests;

@@ -10,8 +10,6 @@ mod numbers;
 mod refusals;
 mod rows;
 mod supports;
-#[cfg(test)]
-mod tests;
 
 pub use calls::{Answer, Call, Command, Parcel, Reply};
 pub use items::Items;

@@ -3,8 +3,6 @@
 #![tactic(auto)]
 
 mod renewing;
-#[cfg(test)]
-mod tests;
 mod writing;
 
 pub use writing::{refresh, set_bits};

@@ -1,6 +1,0 @@
--- Each call leaves the store consistent.
-use Rattle.zt_rows.specs.Consistent.{IsConsistent}
-use Rattle.zt_calls.proofs.tests.signals_are_cleared_and_then_set.Given as goal
-
-abbrev pub invariant-loop-call : goal.invariant-loop-call
-invariant-loop-call g l = IsConsistent l.store

@@ -1,5 +1,0 @@
-mod chains;
-mod counting;
-mod printed;
-mod read;
-mod talks;

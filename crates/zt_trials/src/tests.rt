@@ -1,0 +1,5 @@
+mod books;
+mod copies;
+mod runs;
+mod signals;
+mod tables;

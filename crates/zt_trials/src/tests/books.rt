@@ -1,0 +1,108 @@
+//! A client's commands where memory is ample, and with each request for memory refused in turn.
+ghost use Rattle.std.specs.Prelude.{◌≡◌, ◌≤◌, length};
+
+use std::process::Abort;
+use std::test::Fail;
+use zt_bits::Signals;
+use zt_console::Book;
+use zt_rows::{Answer, Call, Command, HandleValue, Items, Koid, Refusal, Reply, Row, RowKey};
+
+const ROOT: Koid = Koid(1025);
+
+const NEAR: HandleValue = HandleValue(7);
+
+const FAR: HandleValue = HandleValue(11);
+
+fn handle_of(answer: &Answer) -> Option<HandleValue> {
+    match answer {
+        Answer::Called(_, Reply::Handle(handle)) => Some(*handle),
+        _ => None,
+    }
+}
+
+#[test]
+fn always_out_of_memory(rt: HostRuntime) -> Result<(), Fail> {
+    let mut book = Book::new(rt.alloc(), 1)?;
+    let answer = book.serve(1, &Command::Call(ROOT, Call::EventCreate))?;
+    assert_eq!(rt; handle_of(&answer), Some(NEAR));
+    Ok(())
+}
+
+/// All rows at the position of the client.
+fn rows_of(book: &mut Book) -> Result<Items<(RowKey, Row)>, Refusal>
+    requires { 1 ≤ length book.old.cursors }
+    ensures { length book.new.cursors ≡ length book.old.cursors }
+{
+    match book.serve(1, &Command::Show)? {
+        Answer::Rows(_, rows) => Ok(rows),
+        _ => Err(Refusal::NoMoment),
+    }
+}
+
+/// Whether the rows at the client's position are these.
+fn has_rows(book: &mut Book, rows: &Items<(RowKey, Row)>) -> bool
+    requires { 1 ≤ length book.old.cursors }
+    ensures { length book.new.cursors ≡ length book.old.cursors }
+{
+    match rows_of(book) {
+        Ok(found) => found.as_slice() == rows.as_slice(),
+        Err(_) => false,
+    }
+}
+
+fn is_served(book: &mut Book, command: &Command) -> bool
+    requires { 1 ≤ length book.old.cursors }
+    ensures { length book.new.cursors ≡ length book.old.cursors }
+{
+    book.serve(1, command).is_ok()
+}
+
+/// Serves the command. Where memory is refused to it all rows are as before, and it is served when asked again.
+fn ask(rt: &impl Abort, book: &mut Book, command: &Command)
+    requires { 1 ≤ length book.old.cursors }
+    ensures { length book.new.cursors ≡ length book.old.cursors }
+{
+    let Ok(before) = rows_of(book) else {
+        return;
+    };
+    if !is_served(book, command) {
+        assert!(rt; has_rows(book, &before));
+        assert!(rt; is_served(book, command), "asked again");
+    }
+}
+
+/// A pair of events is made, one handle duplicated and replaced, the far end signalled, and handles closed.
+fn calls() -> [Call; 7] {
+    [
+        Call::EventPairCreate,
+        Call::HandleDuplicate {
+            handle: NEAR,
+            rights: 0x8000_0000,
+        },
+        Call::ObjectSignalPeer {
+            handle: NEAR,
+            clear: Signals(0),
+            set: Signals(0x8),
+        },
+        Call::HandleReplace {
+            handle: NEAR,
+            rights: 0x4000,
+        },
+        Call::HandleClose { handle: FAR },
+        Call::EventCreate,
+        Call::HandleClose {
+            handle: HandleValue(15),
+        },
+    ]
+}
+
+#[test]
+fn refused_memory_leaves_the_book(rt: HostRuntime) {
+    let Ok(mut book) = Book::new(rt.alloc(), 1) else {
+        return;
+    };
+    for call in calls() {
+        ask(&rt, &mut book, &Command::Call(ROOT, call));
+    }
+    ask(&rt, &mut book, &Command::Back(4));
+}

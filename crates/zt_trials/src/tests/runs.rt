@@ -1,0 +1,162 @@
+//! Runs in which one read or one write fails.
+ghost use Rattle.std.specs.Prelude.{◌≡◌, ◌≤◌, length};
+
+use std::alloc::Global;
+use std::io;
+use std::io::{ErrorKind, Read, Write};
+use std::process::Abort;
+use std::test::Fail;
+use zt_console::{Book, Counted, End, run};
+use zt_rows::Refusal;
+
+const ASKED: &[u8] =
+    b"1025 event_create\n1025 object_signal 7 0x00000000 0x00000008\nback 1\nshow\n";
+
+const TOLD: &[u8] =
+    b"1 ok 7\n2 ok\nat 1\nrows 1 6\ncounters 1027 0\nobject 1024 job 0x00000010 0 live 0\nobject 1025 process 0x00000000 1024 live 2\nobject 1026 event 0x00000000 0 live 0\nentry 1025 3 1024 0x0003d203\nentry 1025 7 1026 0x0000d003\n";
+
+/// Moves one byte in a turn, and fails once, after so many turns that did not.
+#[derive(Drop)]
+struct Turns<T> {
+    inner: T,
+    good: u64,
+}
+
+impl<T> Turns<T> {
+    fn fails(&mut self) -> bool {
+        let fails = self.good == 0;
+        self.good = self.good.wrapping_sub(1);
+        fails
+    }
+}
+
+impl<R: Read> Read for Turns<R> {
+    fn read(&mut self, buf: &mut [u8]) -> io::Result<usize> {
+        if self.fails() {
+            return Err(io::Error::from(ErrorKind::Other));
+        }
+        let size = buf.len().min(1);
+        self.inner.read(&mut buf[..size])
+    }
+}
+
+impl<W: Write> Write for Turns<W> {
+    fn write(&mut self, buf: &[u8]) -> io::Result<usize> {
+        if self.fails() {
+            return Err(io::Error::from(ErrorKind::Other));
+        }
+        let size = buf.len().min(1);
+        self.inner.write(&buf[..size])
+    }
+
+    fn flush(&mut self) -> io::Result<()> {
+        self.inner.flush()
+    }
+}
+
+/// Takes nothing and cannot be flushed.
+#[derive(Drop)]
+struct Stuck;
+
+impl Write for Stuck {
+    fn write(&mut self, _buf: &[u8]) -> io::Result<usize> {
+        Ok(0)
+    }
+
+    fn flush(&mut self) -> io::Result<()> {
+        Err(io::Error::from(ErrorKind::Other))
+    }
+}
+
+/// A run over fresh counts.
+fn talk<R: Read + Drop, W: Write>(alloc: Global, book: Book, reader: R, writer: W) -> (Book, End, W)
+    requires { 1 ≤ length book.cursors }
+    ensures { length result.0.cursors ≡ length book.cursors }
+{
+    let mut reader = Counted::new(reader);
+    let mut writer = Counted::new(writer);
+    let (book, end) = run(alloc, book, &mut reader, &mut writer);
+    (book, end, writer.into_inner())
+}
+
+fn feeds(text: &[u8]) -> usize
+    ensures { result ≤ length text.now }
+{
+    text.iter().filter(|byte| **byte == b'\n').count()
+}
+
+/// What stands behind so many line feeds; nothing, where there are fewer.
+fn behind(text: &[u8], feeds: usize) -> &[u8] {
+    let mut left = text;
+    for _ in 0..feeds {
+        left = match left.iter().position(|byte| *byte == b'\n') {
+            Some(feed) => &left[feed + 1..],
+            None => &[],
+        };
+    }
+    left
+}
+
+/// The lines that were read whole are answered, and a run over the others goes on from there.
+fn check_failed_read(rt: &(impl Abort + AllocGlobal), good: usize) -> Result<(), Fail> {
+    let alloc = rt.alloc();
+    let book = Book::new(alloc, 1)?;
+    let reader = Turns {
+        inner: ASKED,
+        good: good as u64,
+    };
+    let (book, end, told) = talk(alloc, book, reader, Vec::new(alloc));
+    assert!(rt; end == End::Stopped(Refusal::ReadFault));
+    let whole = feeds(ASKED.split_at(good.min(ASKED.len())).0);
+    let (_, end, told) = talk(alloc, book, behind(ASKED, whole), told);
+    assert!(rt; end == End::Finished);
+    assert!(rt; told.as_slice() == TOLD);
+    Ok(())
+}
+
+#[test]
+fn each_read_fails_once(rt: HostRuntime) -> Result<(), Fail> {
+    for good in 0..ASKED.len() {
+        check_failed_read(&rt, good)?;
+    }
+    check_failed_read(&rt, ASKED.len())
+}
+
+/// What was written is a prefix, and a run over the lines that were not served goes on behind them.
+fn check_failed_write(rt: &(impl Abort + AllocGlobal), good: usize) -> Result<(), Fail> {
+    let alloc = rt.alloc();
+    let book = Book::new(alloc, 1)?;
+    let writer = Turns {
+        inner: Vec::new(alloc),
+        good: good as u64,
+    };
+    let (book, end, writer) = talk(alloc, book, ASKED, writer);
+    assert!(rt; end == End::Stopped(Refusal::WriteFault));
+    let told = TOLD.split_at(good.min(TOLD.len())).0;
+    assert!(rt; writer.inner.as_slice() == told);
+    let served = feeds(told) + 1;
+    let asked = behind(ASKED, served);
+    let (_, end, told) = talk(alloc, book, asked, Vec::new(alloc));
+    assert!(rt; end == End::Finished);
+    let wanted = if asked.is_empty() {
+        &[]
+    } else {
+        behind(TOLD, served)
+    };
+    assert!(rt; told.as_slice() == wanted);
+    Ok(())
+}
+
+#[test]
+fn each_write_fails_once(rt: HostRuntime) -> Result<(), Fail> {
+    for good in 0..TOLD.len() {
+        check_failed_write(&rt, good)?;
+    }
+    Ok(())
+}
+
+#[test]
+fn a_failed_flush_is_told(rt: HostRuntime) {
+    let mut writer = Counted::new(Stuck);
+    assert!(rt; writer.flush().is_err());
+}

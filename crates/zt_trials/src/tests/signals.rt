@@ -1,0 +1,69 @@
+//! Signals of a channel, with each request for memory refused in turn.
+use std::alloc::{AllocError, Global};
+use zt_bits::{Kind, Signals};
+use zt_rows::{Koid, Life, ObjectRow, Row, RowKey};
+use zt_signals::{refresh, set_bits};
+use zt_store::{Step, Store};
+
+const MADE: Koid = Koid(1026);
+
+/// A channel without a peer, before its signals follow from the rows.
+fn channel(signals: u32) -> ObjectRow {
+    ObjectRow {
+        kind: Kind::Channel,
+        signals: Signals(signals),
+        link: Koid(0),
+        life: Life::Live,
+        next: 1,
+    }
+}
+
+fn has_channel(step: &Step, signals: u32) -> bool {
+    step.row(RowKey::Object(MADE)) == Some(&Row::Object(channel(signals)))
+}
+
+/// A step over a channel, that takes memory at its first put.
+fn over_channel(alloc: Global) -> Result<Step, AllocError> {
+    let mut step = Step::begin(Store::opening(alloc)?)?;
+    step.put(RowKey::Object(MADE), Some(Row::Object(channel(0x1000000))))?;
+    let (store, _) = step.finish()?;
+    let mut step = Step::begin(store)?;
+    step.reset();
+    Ok(step)
+}
+
+fn set(step: &mut Step) -> Result<(), AllocError> {
+    set_bits(step, MADE, Signals(0), Signals(0x2000000))
+}
+
+#[test]
+fn refused_memory_sets_nothing(rt: HostRuntime) {
+    let Ok(mut step) = over_channel(rt.alloc()) else {
+        return;
+    };
+    if set(&mut step).is_err() {
+        assert!(rt; has_channel(&step, 0x1000000));
+        assert!(rt; set(&mut step).is_ok(), "set later");
+    }
+    assert!(rt; has_channel(&step, 0x3000000));
+}
+
+#[test]
+fn refused_memory_refreshes_nothing(rt: HostRuntime) {
+    let Ok(mut step) = over_channel(rt.alloc()) else {
+        return;
+    };
+    if set(&mut step).is_err() {
+        return;
+    }
+    let mut signals = 0x3000004;
+    if refresh(rt.alloc(), &mut step, MADE).is_err() {
+        assert!(rt; has_channel(&step, 0x1000000));
+        assert!(rt;
+            refresh(rt.alloc(), &mut step, MADE).is_ok(),
+            "refreshed later"
+        );
+        signals = 0x1000004;
+    }
+    assert!(rt; has_channel(&step, signals));
+}

@@ -1,0 +1,118 @@
+//! The table of the first process, with each request for memory refused in turn.
+ghost use Rattle.std.specs.Prelude.{◌≡◌, ◌<◌, ◌^◌, ◌↔◌, IsTrue};
+ghost use Rattle.std.specs.Option.{option_copied};
+ghost use Rattle.zt_rows.specs.Reads.{as_object};
+ghost use Rattle.zt_rows.specs.Tests.{next_at, object_next};
+
+use std::alloc::{AllocError, Global};
+use std::process::Abort;
+use zt_bits::Rights;
+use zt_rows::{HandleValue, Held, Koid, Row, RowKey};
+use zt_store::{Step, Store};
+use zt_tables::{duplicate, find, install, remove};
+
+const ROOT: Koid = Koid(1025);
+
+const FIRST: HandleValue = HandleValue(3);
+
+const SECOND: HandleValue = HandleValue(7);
+
+/// A handle with all rights of an event.
+const TO_EVENT: Held = Held {
+    koid: Koid(1026),
+    rights: Rights(0xd003),
+};
+
+/// Whether the first process has numbers left for one more handle.
+fn has_room(step: &Step) -> bool
+    ensures { IsTrue result ↔ (next_at step.now.current 1025 < 2 ^ 30) }
+{
+    next_in(step.row(RowKey::Object(ROOT))) < 1 << 30
+}
+
+fn next_in(row: Option<&Row>) -> u64
+    ensures { result ≡ object_next (as_object (option_copied row.entry)) }
+{
+    match row {
+        Some(Row::Object(object)) => object.next,
+        _ => 0,
+    }
+}
+
+fn installed(rt: &impl Abort, step: &mut Step) -> Result<HandleValue, AllocError> {
+    assert!(rt; has_room(step));
+    install(step, ROOT, TO_EVENT)
+}
+
+fn duplicated(rt: &impl Abort, step: &mut Step) -> Result<HandleValue, AllocError> {
+    assert!(rt; has_room(step));
+    duplicate(step, ROOT, TO_EVENT, Rights(1))
+}
+
+/// A step over the opening that takes memory at its first put.
+fn opened(alloc: Global) -> Result<Step, AllocError> {
+    let mut step = Step::begin(Store::opening(alloc)?)?;
+    step.reset();
+    Ok(step)
+}
+
+/// Whether the first process has its first handle alone, and gives out the second next.
+fn is_as_begun(step: &Step) -> bool {
+    next_in(step.row(RowKey::Object(ROOT))) == 1
+        && step.row(RowKey::Entry(ROOT, FIRST)).is_some()
+        && step.row(RowKey::Entry(ROOT, SECOND)).is_none()
+}
+
+/// What the store after the step has at the second handle.
+fn second_of(step: Step) -> Option<Held> {
+    let Ok((store, _)) = step.finish() else {
+        return None;
+    };
+    find(&store, ROOT, SECOND)
+}
+
+#[test]
+fn refused_memory_installs_nothing(rt: HostRuntime) {
+    let Ok(mut step) = opened(rt.alloc()) else {
+        return;
+    };
+    let mut made = installed(&rt, &mut step);
+    if made.is_err() {
+        assert!(rt; is_as_begun(&step));
+        made = installed(&rt, &mut step);
+    }
+    assert!(rt; made == Ok(SECOND));
+    if let Some(held) = second_of(step) {
+        assert_eq!(rt; held, TO_EVENT);
+    }
+}
+
+#[test]
+fn refused_memory_duplicates_nothing(rt: HostRuntime) {
+    let Ok(mut step) = opened(rt.alloc()) else {
+        return;
+    };
+    let mut made = duplicated(&rt, &mut step);
+    if made.is_err() {
+        assert!(rt; is_as_begun(&step));
+        made = duplicated(&rt, &mut step);
+    }
+    assert!(rt; made == Ok(SECOND));
+    if let Some(held) = second_of(step) {
+        assert_eq!(rt; held.rights, Rights(1));
+    }
+}
+
+#[test]
+fn refused_memory_removes_nothing(rt: HostRuntime) {
+    let Ok(mut step) = opened(rt.alloc()) else {
+        return;
+    };
+    let mut taken = remove(&mut step, ROOT, FIRST);
+    if taken.is_err() {
+        assert!(rt; is_as_begun(&step));
+        taken = remove(&mut step, ROOT, FIRST);
+    }
+    assert!(rt; matches!(&taken, Ok(Some(_))));
+    assert!(rt; step.row(RowKey::Entry(ROOT, FIRST)).is_none());
+}
