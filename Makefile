@@ -2,8 +2,10 @@
 # make run    also runs it on standard input
 # make test   the gate: everything from nothing
 # make quick  runs the program on standard input before any proof
+# make cases  proves and runs the worked runs, and says of each whether it went as told
+# make times  what each crate costs the gate, in processor seconds
 # make refusals  refuses each request for memory in turn, in the tests that are to pass whichever it is
-.PHONY: all run test quick refusals
+.PHONY: all run test quick cases times refusals
 
 all:
 	cd crates/zxtt && rt run </dev/null >/dev/null
@@ -20,3 +22,10 @@ quick:
 
 refusals:
 	tools/refuse-each-request
+
+cases:
+	cd crates/worked_runs && rt run </dev/null >/dev/null
+	cd crates/worked_runs/data && ../out/worked_runs
+
+times:
+	tools/times
