@@ -4,8 +4,9 @@
 # make quick  runs the program on standard input before any proof
 # make cases  proves and runs the worked runs, and says of each whether it went as told
 # make times  what each crate costs the gate, in processor seconds
+# make bench  how the cost of a call grows with the calls before it
 # make refusals  refuses each request for memory in turn, in the tests that are to pass whichever it is
-.PHONY: all run test quick cases times refusals
+.PHONY: all run test quick cases times bench refusals
 
 all:
 	cd crates/zxtt && rt run </dev/null >/dev/null
@@ -29,3 +30,6 @@ cases:
 
 times:
 	tools/times
+
+bench:
+	tools/bench

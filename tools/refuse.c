@@ -1,5 +1,6 @@
 /* Loaded before the C library: refuses one request for memory of a program, the one whose number, counted from 1,
-   stands in REFUSE. Where the program asks for less than that many, says so at its end. */
+   stands in REFUSE, and where ON_FROM_THEN stands too, all that follow. Where the program asks for less than that
+   many, says so at its end. */
 #define _GNU_SOURCE
 #include <dlfcn.h>
 #include <stdio.h>
@@ -15,7 +16,8 @@ static unsigned long number(void)
 
 static int is_refused(void)
 {
-    return ++requests == number();
+    unsigned long refused = number();
+    return ++requests == refused || (getenv("ON_FROM_THEN") && requests > refused);
 }
 
 void *malloc(size_t size)

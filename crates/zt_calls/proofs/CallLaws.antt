@@ -1,5 +1,5 @@
 -- What the parts of a call do one after another is what the call does.
-use Rattle.std.proofs.Common.{◌≡◌, ℕ, ◌+◌, ◌-◌, ◌^◌, ◌<◌, ◌≤◌, true, ap, subst, sym, ◌∙◌, arith}
+use Rattle.std.proofs.Common.{◌≡◌, ℕ, ◌+◌, ◌-◌, ◌^◌, ◌<◌, ◌≤◌, true, ap, sym, ◌∙◌, arith}
 use Rattle.zt_bits.specs.declared.kinds.Kind.{Kind}
 use Rattle.zt_bits.specs.declared.right_bits.Rights.{Rights}
 use Rattle.zt_rows.specs.declared.calls.Reply.{Reply}
@@ -16,69 +16,70 @@ use Rattle.zt_rows.specs.Room.{HasRoom}
 use Rattle.zt_rows.specs.Handles.{◌>>=◌, answered, caller, value_of, whole, fresh, next_koid, install, make, make_pair, take_out}
 use Rattle.zt_rows.specs.ObjectCalls.{create, create_pair, received, handle_replace}
 use Rattle.zt_rows.specs.Consistent.{IsSound}
-use Rattle.zt_store.specs.Stepping.{Stepping, advanced}
+use Rattle.zt_store.specs.Stepping.{Stepping, Advanced}
 use Rattle.zt_tables.specs.Entries.{with_rights}
+use Rattle.zt_calls.proofs.GoingOn.{further, reached}
 use Rattle.zt_calls.proofs.CallerLaws.{room-installs, caller-same, next-same, caller-next, object-of-made, object-of-paired, object-of-rest, caller-of-installed, next-of-installed}
 
 -- a step went on to a state in which the caller's row is the same, and the caller received a handle there
-installed_on : (s t u : Stepping) (T : State) (p value : ℕ) (held : Held) → t ≡ advanced s T → object T p ≡ object s.current p → u ≡ advanced t (install p (caller t.current p) held t.current) → value ≡ value_of (next_at t.current p) → (u ≡ advanced s (install p (caller s.current p) held T)) × (value ≡ value_of (caller s.current p).next)
+installed_on : (s t u : Stepping) (T : State) (p value : ℕ) (held : Held) → Advanced s t T → object T p ≡ object s.current p → Advanced t u (install p (caller t.current p) held t.current) → value ≡ value_of (next_at t.current p) → (Advanced s u (install p (caller s.current p) held T)) × (value ≡ value_of (caller s.current p).next)
 installed_on s t u T p value held went same installed valued =
-    let there : u ≡ advanced s (install p (caller T p) held T) = subst (λ (w : Stepping). u ≡ advanced w (install p (caller w.current p) held w.current)) went installed in
-    let at : next_at t.current p ≡ (caller s.current p).next = ap (λ (w : Stepping). next_at w.current p) went ∙ next-same s.current T p same ∙ sym (caller-next s.current p) in
-    (there ∙ ap (λ me. advanced s (install p me held T)) (caller-same s.current T p same), valued ∙ ap value_of at)
+    let there : Advanced s u (install p (caller T p) held T) = further s t u T (λ S. install p (caller S p) held S) went installed in
+    let at : next_at t.current p ≡ (caller s.current p).next = ap (λ S. next_at S p) went.1 ∙ next-same s.current T p same ∙ sym (caller-next s.current p) in
+    (reached s u _ _ there (ap (λ me. install p me held T) (caller-same s.current T p same)), valued ∙ ap value_of at)
 
 -- the caller's next value fits in a state in which its row is the same
-fits_on : (s t : Stepping) (T : State) (p : ℕ) → t ≡ advanced s T → object T p ≡ object s.current p → HasRoom s.current → runs s.current p ≡ true → next_at t.current p ≤ 2 ^ 30 - 64
+fits_on : (s t : Stepping) (T : State) (p : ℕ) → Advanced s t T → object T p ≡ object s.current p → HasRoom s.current → runs s.current p ≡ true → next_at t.current p ≤ 2 ^ 30 - 64
 fits_on s t T p went same room live =
-    let at : next_at t.current p ≡ next_at s.current p = ap (λ (w : Stepping). next_at w.current p) went ∙ next-same s.current T p same in
+    let at : next_at t.current p ≡ next_at s.current p = ap (λ S. next_at S p) went.1 ∙ next-same s.current T p same in
     let n : next_at s.current p ≤ 2 ^ 30 - 64 = room-installs s.current p room live in
     omega arith
 
 -- ---- an object is made
 
-pub create-fits : (s t : Stepping) (p : ℕ) (k : Kind) → HasRoom s.current → IsSound s.current → runs s.current p ≡ true → t ≡ advanced s (make (counters s.current) (fresh k 0) s.current) → next_at t.current p < 2 ^ 30
+pub create-fits : (s t : Stepping) (p : ℕ) (k : Kind) → HasRoom s.current → IsSound s.current → runs s.current p ≡ true → Advanced s t (make (counters s.current) (fresh k 0) s.current) → next_at t.current p < 2 ^ 30
 create-fits s t p k room sound live made =
     let n : next_at t.current p ≤ 2 ^ 30 - 64 = fits_on s t (make (counters s.current) (fresh k 0) s.current) p made (object-of-made s.current p (fresh k 0) sound live) room live in
     omega arith
 
-pub create-does : (s t u : Stepping) (p value koid : ℕ) (k : Kind) (held : Held) → IsSound s.current → runs s.current p ≡ true → koid ≡ next_koid s.current → t ≡ advanced s (make (counters s.current) (fresh k 0) s.current) → held ≡ whole koid k → u ≡ advanced t (install p (caller t.current p) held t.current) → value ≡ value_of (next_at t.current p) → (u ≡ advanced s (create k s.current p).0) × (reply.Handle value ≡ (create k s.current p).1)
+pub create-does : (s t u : Stepping) (p value koid : ℕ) (k : Kind) (held : Held) → IsSound s.current → runs s.current p ≡ true → koid ≡ next_koid s.current → Advanced s t (make (counters s.current) (fresh k 0) s.current) → held ≡ whole koid k → Advanced t u (install p (caller t.current p) held t.current) → value ≡ value_of (next_at t.current p) → (Advanced s u (create k s.current p).0) × (reply.Handle value ≡ (create k s.current p).1)
 create-does s t u p value koid k held sound live named made is installed valued =
     let T : State = make (counters s.current) (fresh k 0) s.current in
     let w = installed_on s t u T p value held made (object-of-made s.current p (fresh k 0) sound live) installed valued in
-    (w.0 ∙ ap (λ h. advanced s (install p (caller s.current p) h T)) (is ∙ ap (λ x. whole x k) named), ap reply.Handle w.1)
+    (reached s u _ _ w.0 (ap (λ h. install p (caller s.current p) h T) (is ∙ ap (λ x. whole x k) named)), ap reply.Handle w.1)
 
 -- ---- a pair is made
 
-pub pair-fits : (s t : Stepping) (p : ℕ) (k : Kind) → HasRoom s.current → IsSound s.current → is_endpoint k ≡ true → runs s.current p ≡ true → t ≡ advanced s (make_pair (counters s.current) k s.current) → next_at t.current p < 2 ^ 30
+pub pair-fits : (s t : Stepping) (p : ℕ) (k : Kind) → HasRoom s.current → IsSound s.current → is_endpoint k ≡ true → runs s.current p ≡ true → Advanced s t (make_pair (counters s.current) k s.current) → next_at t.current p < 2 ^ 30
 pair-fits s t p k room sound ends live made =
     let n : next_at t.current p ≤ 2 ^ 30 - 64 = fits_on s t (make_pair (counters s.current) k s.current) p made (object-of-paired s.current p k sound ends live) room live in
     omega arith
 
-pub second-fits : (s t u : Stepping) (p : ℕ) (k : Kind) (held : Held) → HasRoom s.current → IsSound s.current → is_endpoint k ≡ true → runs s.current p ≡ true → t ≡ advanced s (make_pair (counters s.current) k s.current) → u ≡ advanced t (install p (caller t.current p) held t.current) → next_at u.current p < 2 ^ 30
+pub second-fits : (s t u : Stepping) (p : ℕ) (k : Kind) (held : Held) → HasRoom s.current → IsSound s.current → is_endpoint k ≡ true → runs s.current p ≡ true → Advanced s t (make_pair (counters s.current) k s.current) → Advanced t u (install p (caller t.current p) held t.current) → next_at u.current p < 2 ^ 30
 second-fits s t u p k held room sound ends live made installed =
     let first : next_at t.current p ≤ 2 ^ 30 - 64 = fits_on s t (make_pair (counters s.current) k s.current) p made (object-of-paired s.current p k sound ends live) room live in
-    let n : next_at u.current p ≡ (caller t.current p).next + 1 = ap (λ (w : Stepping). next_at w.current p) installed ∙ next-of-installed t.current p (caller t.current p) held in
+    let n : next_at u.current p ≡ (caller t.current p).next + 1 = ap (λ S. next_at S p) installed.1 ∙ next-of-installed t.current p (caller t.current p) held in
     let m : (caller t.current p).next ≡ next_at t.current p = caller-next t.current p in
     omega arith
 
-pub pair-does : (s t u v : Stepping) (p first second near far : ℕ) (k : Kind) (a b : Held) → IsSound s.current → is_endpoint k ≡ true → runs s.current p ≡ true → near ≡ next_koid s.current → far ≡ next_koid s.current + 1 → t ≡ advanced s (make_pair (counters s.current) k s.current) → a ≡ whole near k → u ≡ advanced t (install p (caller t.current p) a t.current) → first ≡ value_of (next_at t.current p) → b ≡ whole far k → v ≡ advanced u (install p (caller u.current p) b u.current) → second ≡ value_of (next_at u.current p) → (v ≡ advanced s (create_pair k s.current p).0) × (reply.Handles first second ≡ (create_pair k s.current p).1)
+pub pair-does : (s t u v : Stepping) (p first second near far : ℕ) (k : Kind) (a b : Held) → IsSound s.current → is_endpoint k ≡ true → runs s.current p ≡ true → near ≡ next_koid s.current → far ≡ next_koid s.current + 1 → Advanced s t (make_pair (counters s.current) k s.current) → a ≡ whole near k → Advanced t u (install p (caller t.current p) a t.current) → first ≡ value_of (next_at t.current p) → b ≡ whole far k → Advanced u v (install p (caller u.current p) b u.current) → second ≡ value_of (next_at u.current p) → (Advanced s v (create_pair k s.current p).0) × (reply.Handles first second ≡ (create_pair k s.current p).1)
 pair-does s t u v p first second near far k a b sound ends live one two made is installed valued other again value =
     let S : State = s.current in
     let me : ObjectRow = caller S p in
     let T : State = make_pair (counters S) k S in
     let w = installed_on s t u T p first a made (object-of-paired S p k sound ends live) installed valued in
     let U : State = install p me (whole (next_koid S) k) T in
-    let came : u ≡ advanced s U = w.0 ∙ ap (λ h. advanced s (install p me h T)) (is ∙ ap (λ x. whole x k) one) in
-    let there : v ≡ advanced s (install p (caller U p) b U) = subst (λ (z : Stepping). v ≡ advanced z (install p (caller z.current p) b z.current)) came again in
+    let came : Advanced s u U = reached s u _ _ w.0 (ap (λ h. install p me h T) (is ∙ ap (λ x. whole x k) one)) in
+    let there : Advanced s v (install p (caller U p) b U) = further s u v U (λ S. install p (caller S p) b S) came again in
     let owner : caller U p ≡ raised me = caller-of-installed T p me (whole (next_koid S) k) in
-    let at : next_at u.current p ≡ me.next + 1 = ap (λ (z : Stepping). next_at z.current p) came ∙ next-of-installed T p me (whole (next_koid S) k) in (
-      there ∙ ap (λ o. advanced s (install p o b U)) owner ∙ ap (λ h. advanced s (install p (raised me) h U)) (other ∙ ap (λ x. whole x k) two),
+    let at : next_at u.current p ≡ me.next + 1 = ap (λ S. next_at S p) came.1 ∙ next-of-installed T p me (whole (next_koid S) k) in (
+      reached s v _ _ there (ap (λ o. install p o b U) owner ∙ ap (λ h. install p (raised me) h U) (other ∙ ap (λ x. whole x k) two)),
       λ i. reply.Handles (w.1 i) ((value ∙ ap value_of at) i),
     )
 
 -- ---- a handle takes the place of another
 
-pub replace-fits : (s t : Stepping) (p h : ℕ) → HasRoom s.current → runs s.current p ≡ true → t ≡ advanced s (take_out s.current p h) → next_at t.current p < 2 ^ 30
+pub replace-fits : (s t : Stepping) (p h : ℕ) → HasRoom s.current → runs s.current p ≡ true → Advanced s t (take_out s.current p h) → next_at t.current p < 2 ^ 30
 replace-fits s t p h room live went =
     let n : next_at t.current p ≤ 2 ^ 30 - 64 = fits_on s t (take_out s.current p h) p went (object-of-rest s.current p h) room live in
     omega arith
@@ -89,11 +90,11 @@ replaced S p h mask rights held there granted =
     ap (λ o. answered S (ok_or o status.BadHandle >>= (λ (g : Held). Ok (answered (take_out S p h) (ok_or (asked_rights mask g.rights.0) status.InvalidArgs >>= (λ r. Ok (received r S p g (take_out S p h)))))))) there
     ∙ ap (λ o. answered (take_out S p h) (ok_or o status.InvalidArgs >>= (λ r. Ok (received r S p held (take_out S p h))))) granted
 
-pub replace-does : (s t u : Stepping) (p h mask value : ℕ) (held : Held) (rights : Rights) → entry s.current p h ≡ Some held → asked_rights mask held.rights.0 ≡ Some rights.0 → t ≡ advanced s (take_out s.current p h) → u ≡ advanced t (install p (caller t.current p) (with_rights held rights) t.current) → value ≡ value_of (next_at t.current p) → (u ≡ advanced s (handle_replace s.current p h mask).0) × (reply.Handle value ≡ (handle_replace s.current p h mask).1)
+pub replace-does : (s t u : Stepping) (p h mask value : ℕ) (held : Held) (rights : Rights) → entry s.current p h ≡ Some held → asked_rights mask held.rights.0 ≡ Some rights.0 → Advanced s t (take_out s.current p h) → Advanced t u (install p (caller t.current p) (with_rights held rights) t.current) → value ≡ value_of (next_at t.current p) → (Advanced s u (handle_replace s.current p h mask).0) × (reply.Handle value ≡ (handle_replace s.current p h mask).1)
 replace-does s t u p h mask value held rights there granted went installed valued =
     let w = installed_on s t u (take_out s.current p h) p value (with_rights held rights) went (object-of-rest s.current p h) installed valued in
     let is : handle_replace s.current p h mask ≡ received rights.0 s.current p held (take_out s.current p h) = replaced s.current p h mask rights.0 held there granted in
-    (w.0 ∙ ap (λ (d : State × Reply). advanced s d.0) (sym is), ap reply.Handle w.1 ∙ ap (λ (d : State × Reply). d.1) (sym is))
+    (reached s u _ _ w.0 (ap (λ (d : State × Reply). d.0) (sym is)), ap reply.Handle w.1 ∙ ap (λ (d : State × Reply). d.1) (sym is))
 
 -- ---- a second handle
 

@@ -1,7 +1,8 @@
+pub mod GoingOn
 pub mod CallerLaws
 pub mod RoomLaws
 pub mod WalkLaws
-pub mod CollectLaws
+pub mod LosingLaws
 pub mod SettleLaws
 pub mod TakingLaws
 pub mod CallLaws

@@ -20,7 +20,7 @@ use Rattle.zt_rows.proofs.StateLaws.{row-change, row-put}
 use Rattle.zt_rows.proofs.RowLaws.{In, in-row, in-filter_map}
 use Rattle.zt_calls.specs.Walks.{wait_under}
 use Rattle.zt_calls.specs.Firing.{HasRoomToFire}
-use Rattle.zt_calls.proofs.CollectLaws.{filter_map-alike}
+use Rattle.zt_calls.proofs.WalkLaws.{filter_map-alike}
 
 -- ---- the waits under all keys
 

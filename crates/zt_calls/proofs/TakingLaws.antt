@@ -1,5 +1,5 @@
 -- An entry is taken out with the waits made on it: first the entry, then the waits one after another.
-use Rattle.std.proofs.Common.{◌≡◌, ℕ, Bool, true, false, cond, ◌&&◌, option_and_then, refl, sym, ap, ◌∙◌, subst}
+use Rattle.std.proofs.Common.{◌≡◌, ℕ, Bool, true, false, cond, ◌&&◌, option_and_then, refl, sym, ap, ◌∙◌}
 use Rattle.std.specs.Prelude.{Option, None, Some, is_some, ◌==◌, if◌then◌else◌}
 use Rattle.std.specs.Option.{option_map_or}
 use Rattle.zt_rows.specs.declared.keys.RowKey.{RowKey}
@@ -15,8 +15,9 @@ use Rattle.zt_rows.specs.Room.{SuitsKey}
 use Rattle.zt_rows.specs.Handles.{taken, take_out}
 use Rattle.zt_rows.proofs.StateLaws.{row-put, row-change, same_state, put-row}
 use Rattle.zt_rows.proofs.ReadLaws.{entry-row}
-use Rattle.zt_store.specs.Stepping.{Stepping, advanced}
-use Rattle.zt_signals.specs.Walks.{passes_under}
+use Rattle.zt_store.specs.Stepping.{Stepping, Advanced}
+use Rattle.zt_calls.specs.Walks.{passes_under}
+use Rattle.zt_calls.proofs.GoingOn.{further, reached}
 use Rattle.zt_calls.specs.Taking.{is_wait_on, without_waits_on}
 
 -- ---- one key
@@ -96,8 +97,7 @@ some_of (Some x) e = (x, refl)
 some_of None e = cc
 
 -- a step went on without the entry, and then without the waits made on it
-pub take_out-does : (s t u : Stepping) (p h : ℕ) → is_some (entry s.current p h) ≡ true → t ≡ advanced s (put s.current (key.Entry p h) None) → u ≡ advanced t (change (without_waits_on p h) t.current) → u ≡ advanced s (take_out s.current p h)
+pub take_out-does : (s t u : Stepping) (p h : ℕ) → is_some (entry s.current p h) ≡ true → Advanced s t (put s.current (key.Entry p h) None) → Advanced t u (change (without_waits_on p h) t.current) → Advanced s u (take_out s.current p h)
 take_out-does s t u p h there removed dropped =
     let w = some_of (entry s.current p h) there in
-    subst (λ (z : Stepping). u ≡ advanced z (change (without_waits_on p h) z.current)) removed dropped
-    ∙ ap (advanced s) (taken-out s.current p h w.0 w.1)
+    reached s u _ _ (further s t u (put s.current (key.Entry p h) None) (change (without_waits_on p h)) removed dropped) (taken-out s.current p h w.0 w.1)

@@ -3,3 +3,4 @@ pub mod Outcomes
 pub mod Walks
 pub mod Firing
 pub mod Taking
+pub mod Losing

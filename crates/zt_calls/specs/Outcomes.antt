@@ -3,12 +3,12 @@ use Rattle.std.specs.Prelude.{◌≡◌, Result, Ok, Err}
 use Rattle.zt_rows.specs.declared.calls.Reply.{Reply}
 use Rattle.zt_rows.specs.declared.calls.Reply.TheVariants as reply
 use Rattle.zt_rows.specs.State.{State}
-use Rattle.zt_store.specs.Stepping.{Stepping, advanced, begun}
+use Rattle.zt_store.specs.Stepping.{Stepping, Advanced, AsBegun}
 use Rattle.zt_calls.specs.declared.failures.Failure.{Failure}
 use Rattle.zt_calls.specs.declared.failures.Failure.TheVariants as failure
 
 -- the step went on to the state of d, with the reply of d; or memory was refused, and the step is as begun
 abbrev pub Does : State × Reply → Stepping → Stepping → Result Reply Failure → Type 0
-Does d old new (Ok answer) = (new ≡ advanced old d.0) × (answer ≡ d.1)
-Does d old new (Err (failure.Status wrong)) = (new ≡ advanced old d.0) × (reply.Status wrong ≡ d.1)
-Does d old new (Err failure.OutOfMemory) = new ≡ begun old.beginning
+Does d old new (Ok answer) = Advanced old new d.0 × (answer ≡ d.1)
+Does d old new (Err (failure.Status wrong)) = Advanced old new d.0 × (reply.Status wrong ≡ d.1)
+Does d old new (Err failure.OutOfMemory) = AsBegun old new

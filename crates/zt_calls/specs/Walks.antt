@@ -1,24 +1,17 @@
 -- What a walk over the keys of a state reads under each of them. This project's own form.
-use Rattle.std.specs.Prelude.{ℕ, if◌then◌else◌, Option, None, Some}
-use Rattle.std.specs.Option.{option_map}
+use Rattle.std.specs.Prelude.{ℕ, Bool, false, Option, None}
+use Rattle.std.specs.Option.{option_map, option_map_or}
 use Rattle.zt_rows.specs.declared.keys.RowKey.{RowKey}
 use Rattle.zt_rows.specs.declared.keys.RowKey.TheVariants as key
-use Rattle.zt_rows.specs.declared.rows.ObjectRow.{ObjectRow}
 use Rattle.zt_rows.specs.declared.rows.Wait.{Wait}
-use Rattle.zt_rows.specs.State.{State}
-use Rattle.zt_rows.specs.Reads.{object, wait}
-use Rattle.zt_rows.specs.Collect.{goes}
+use Rattle.zt_rows.specs.declared.rows.Row.{Row}
+use Rattle.zt_rows.specs.State.{State, row}
+use Rattle.zt_rows.specs.Reads.{wait}
 use Rattle.zt_signals.specs.Written.{refreshed_object}
 
--- the object under the key, with its koid
-abbrev pub object_under : State → RowKey → Option (ℕ × ObjectRow)
-object_under S (key.Object x) = option_map (λ o. (x, o)) (object S x)
-object_under S _ = None
-
--- the koid of the object under the key, where nothing supports it
-abbrev pub unsupported_under : State → RowKey → Option ℕ
-unsupported_under S (key.Object x) = if goes S x then Some x else None
-unsupported_under S _ = None
+-- there is a row under the key, and it passes
+abbrev pub passes_under : (RowKey → Row → Bool) → State → RowKey → Bool
+passes_under test S k = option_map_or (test k) (row S k) false
 
 -- the state with the derived signals of the object under the key anew, if there is one
 abbrev pub refreshed_under : State → RowKey → State

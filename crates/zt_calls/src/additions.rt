@@ -1,7 +1,8 @@
 ghost use Rattle.std.specs.Prelude.{◌≡◌, ◌<◌, ◌+◌, ◌^◌, IfOk, OnErr};
 ghost use Rattle.zt_rows.specs.Reads.{counters};
 ghost use Rattle.zt_rows.specs.Handles.{fresh, make, make_pair, next_koid, whole};
-ghost use Rattle.zt_store.specs.Stepping.{advanced, begun};
+ghost use Rattle.zt_store.specs.Places.{Keeps};
+ghost use Rattle.zt_store.specs.Stepping.{Advanced, AsBegun};
 
 use crate::looks::counters_of;
 use std::alloc::AllocError;
@@ -37,8 +38,9 @@ pub fn new_object(step: &mut Step, kind: Kind, link: Koid) -> Result<Koid, Alloc
     requires { next_koid step.old.current < 2 ^ 63 }
     ensures koid { IfOk result (λ koid. koid ≡ next_koid step.old.current) }
     ensures made { let S = step.old.current in
-        IfOk result (λ _. step.new ≡ advanced step.old (make (counters S) (fresh kind link) S)) }
-    ensures err { OnErr result (step.new ≡ begun step.old.beginning) }
+        IfOk result (λ _. Advanced step.old step.new (make (counters S) (fresh kind link) S)) }
+    ensures err { OnErr result (AsBegun step.old step.new) }
+    ensures kept { Keeps step.old.places step.new.places }
 {
     let counters = counters_of(step);
     let koid = counters.next_koid;
@@ -56,8 +58,9 @@ pub fn new_pair(step: &mut Step, kind: Kind) -> Result<(Koid, Koid), AllocError>
     requires { next_koid step.old.current < 2 ^ 63 }
     ensures koids { let k = next_koid step.old.current in IfOk result (λ koids. koids ≡ (k, k + 1)) }
     ensures made { let S = step.old.current in
-        IfOk result (λ _. step.new ≡ advanced step.old (make_pair (counters S) kind S)) }
-    ensures err { OnErr result (step.new ≡ begun step.old.beginning) }
+        IfOk result (λ _. Advanced step.old step.new (make_pair (counters S) kind S)) }
+    ensures err { OnErr result (AsBegun step.old step.new) }
+    ensures kept { Keeps step.old.places step.new.places }
 {
     let counters = counters_of(step);
     let near = counters.next_koid;

@@ -4,22 +4,24 @@ ghost use Rattle.zt_rows.specs.Room.{HasRoom};
 ghost use Rattle.zt_rows.specs.Step.{direct, completed, step};
 ghost use Rattle.zt_rows.specs.Change.{before};
 ghost use Rattle.zt_rows.specs.Consistent.{IsSound, IsConsistent};
-ghost use Rattle.zt_store.specs.Stepping.{begun};
+ghost use Rattle.zt_store.specs.Places.{Keeps, fits};
+ghost use Rattle.zt_store.specs.Stepping.{AsBegun};
 
-use crate::collecting::collect;
 use crate::failures::Failure;
 use crate::handle_calls::{handle_close, handle_duplicate, handle_replace};
+use crate::losing::lost;
 use crate::object_calls::{event_create, eventpair_create, object_signal, object_signal_peer};
 use crate::settling::settle;
-use std::alloc::{AllocError, AllocFailed, Global};
+use std::alloc::{AllocError, Global};
 use std::mem;
 use zt_bits::Kind;
+use zt_cascade::release;
 use zt_rows::{Call, Koid, Life, Refusal, Reply, Row, RowKey};
 use zt_store::{Record, Step, Store};
 
 /// Whether the koid is that of a live process: only such a process may call.
 pub fn runs(store: &Store, process: Koid) -> bool
-    ensures { result ≡ runs store.now process }
+    ensures { result ≡ runs store.now.state process }
 {
     match store.row(RowKey::Object(process)) {
         Some(Row::Object(object)) => object.kind == Kind::Process && object.life == Life::Live,
@@ -27,65 +29,49 @@ pub fn runs(store: &Store, process: Koid) -> bool
     }
 }
 
-/// Runs one call of a process: the store's rows after it, its reply, and the record by which it is undone.
-/// Refused, the store's rows are as before: `NoProcess` where the caller is not a live process, and
+/// Runs one call of a process: the store's rows after it, its reply, and the record by which it is undone,
+/// which fits the store. Refused, the store's rows are as before: `NoProcess` where the caller is not a live process, and
 /// `OutOfMemory` where memory was refused on the way.
+#[tactic(auto, unfolding(zt_rows::specs::Step::step))]
 pub fn apply(
     alloc: Global,
     store: &mut Store,
     process: Koid,
     call: &Call,
 ) -> Result<(Reply, Record), Refusal>
-    requires room { HasRoom store.old }
-    requires consistent { IsConsistent store.old }
-    ensures ok { IfOk result (λ answer. (store.new, answer.0) ≡ step store.old process call.now) }
-    ensures recorded { IfOk result (λ answer. answer.1 ≡ before store.old store.new) }
-    ensures no_process { IsErrOf result Refusal.NoProcess ↔ (runs store.old process ≡ false) }
+    requires room { HasRoom store.old.state }
+    requires consistent { IsConsistent store.old.state }
+    ensures ok { IfOk result (λ answer. (store.new.state, answer.0) ≡ step store.old.state process call.now) }
+    ensures recorded { IfOk result (λ answer. answer.1 ≡ before store.old.state store.new.state) }
+    ensures fits { IfOk result (λ answer. fits store.new.places answer.1 ≡ true) }
+    ensures no_process { IsErrOf result Refusal.NoProcess ↔ (runs store.old.state process ≡ false) }
     ensures refusals { IfErr result (λ refusal. (refusal ≡ Refusal.NoProcess) ⊎ (refusal ≡ Refusal.OutOfMemory)) }
-    ensures err { OnErr result (store.new ≡ store.old) }
-    ensures consistent { IsConsistent store.new }
+    ensures err { OnErr result (store.new.state ≡ store.old.state) }
+    ensures consistent { IsConsistent store.new.state }
+    ensures kept { Keeps store.old.places store.new.places }
 {
     if !runs(store, process) {
         return Err(Refusal::NoProcess);
     }
-    let begun = mem::replace(store, Store::hollow(alloc));
-    match stepped(alloc, begun, process, call) {
-        Ok((after, reply, record)) => {
-            *store = after;
+    let mut step = Step::begin(mem::replace(store, Store::hollow(alloc)));
+    match carried_out(alloc, &mut step, process, call) {
+        Ok(reply) => {
+            let (after, record) = step.finish();
+            put_in_place(store, after);
             Ok((reply, record))
         }
-        Err(refused) => {
-            *store = refused.value;
+        Err(_) => {
+            put_in_place(store, step.abandon());
             Err(Refusal::OutOfMemory)
         }
     }
 }
 
-/// The store after the call, its reply and the record, or where memory is refused the store again.
-#[tactic(auto, unfolding(zt_rows::specs::Step::step))]
-fn stepped(
-    alloc: Global,
-    store: Store,
-    process: Koid,
-    call: &Call,
-) -> Result<(Store, Reply, Record), AllocFailed<Store>>
-    requires room { HasRoom store }
-    requires consistent { IsConsistent store }
-    requires running { runs store process ≡ true }
-    ensures ok { IfOk result (λ answer. (answer.0, answer.1) ≡ step store process call.now) }
-    ensures recorded { IfOk result (λ answer. answer.2 ≡ before store answer.0) }
-    ensures err { IfErr result (λ refused. refused.value ≡ store) }
+/// Puts the store in the place of what stands there.
+fn put_in_place(place: &mut Store, store: Store)
+    ensures { place.new ≡ store }
 {
-    let mut step = Step::begin(store)?;
-    match carried_out(alloc, &mut step, process, call) {
-        Ok(reply) => {
-            let (after, record) = step.finish()?;
-            Ok((after, reply, record))
-        }
-        Err(_) => Err(AllocFailed {
-            value: step.abandon(),
-        }),
-    }
+    *place = store;
 }
 
 /// The call itself, then the removal of what nothing supports, the derived signals and the firing of waits.
@@ -98,11 +84,14 @@ fn carried_out(
     requires room { HasRoom step.old.current }
     requires consistent { IsConsistent step.old.current }
     requires running { runs step.old.current process ≡ true }
+    requires begun { step.old.current ≡ step.old.beginning }
     ensures beginning { step.new.beginning ≡ step.old.beginning }
     ensures ok { IfOk result (λ reply. (step.new.current, reply) ≡ completed (direct step.old.current process call.now)) }
+    ensures kept { Keeps step.old.places step.new.places }
 {
     let reply = direct(alloc, step, process, call)?;
-    collect(alloc, step)?;
+    let released = lost(alloc, step)?;
+    release(step, alloc, released)?;
     settle(alloc, step)?;
     Ok(reply)
 }
@@ -115,7 +104,8 @@ fn direct(alloc: Global, step: &mut Step, process: Koid, call: &Call) -> Result<
     requires running { runs step.old.current process ≡ true }
     ensures beginning { step.new.beginning ≡ step.old.beginning }
     ensures ok { IfOk result (λ reply. (step.new.current, reply) ≡ direct step.old.current process call.now) }
-    ensures err { OnErr result (step.new ≡ begun step.old.beginning) }
+    ensures err { OnErr result (AsBegun step.old step.new) }
+    ensures kept { Keeps step.old.places step.new.places }
 {
     let answered = match call {
         Call::EventCreate => event_create(step, process),

@@ -2,6 +2,7 @@ ghost use Rattle.std.specs.Prelude.{◌≡◌, true};
 ghost use Rattle.zt_rows.specs.Reads.{runs};
 ghost use Rattle.zt_rows.specs.Room.{HasRoom};
 ghost use Rattle.zt_rows.specs.ObjectCalls.{handle_close, handle_duplicate, handle_replace};
+ghost use Rattle.zt_store.specs.Places.{Keeps};
 ghost use Rattle.zt_calls.specs.Outcomes.{Does};
 
 use crate::arguments::{Wanted, handle_to};
@@ -21,7 +22,8 @@ pub fn handle_close(
     process: Koid,
     handle: HandleValue,
 ) -> Result<Reply, Failure>
-    ensures { Does (handle_close step.old.current process handle) step.old step.new result }
+    ensures does { Does (handle_close step.old.current process handle) step.old step.new result }
+    ensures kept { Keeps step.old.places step.new.places }
 {
     if handle != HandleValue(0) {
         held_by(step, process, handle).ok_or(Status::BadHandle)?;
@@ -39,7 +41,8 @@ pub fn handle_duplicate(
 ) -> Result<Reply, Failure>
     requires room { HasRoom step.old.current }
     requires running { runs step.old.current process ≡ true }
-    ensures { Does (handle_duplicate step.old.current process handle rights) step.old step.new result }
+    ensures does { Does (handle_duplicate step.old.current process handle rights) step.old step.new result }
+    ensures kept { Keeps step.old.places step.new.places }
 {
     let (held, _) = handle_to(step, process, handle, Wanted::Any, Rights::DUPLICATE)?;
     let rights = asked(rights, held.rights).ok_or(Status::InvalidArgs)?;
@@ -58,7 +61,8 @@ pub fn handle_replace(
 ) -> Result<Reply, Failure>
     requires room { HasRoom step.old.current }
     requires running { runs step.old.current process ≡ true }
-    ensures { Does (handle_replace step.old.current process handle rights) step.old step.new result }
+    ensures does { Does (handle_replace step.old.current process handle rights) step.old step.new result }
+    ensures kept { Keeps step.old.places step.new.places }
 {
     let held = held_by(step, process, handle).ok_or(Status::BadHandle)?;
     let granted = asked(rights, held.rights);

@@ -4,10 +4,10 @@
 mod additions;
 mod applying;
 mod arguments;
-mod collecting;
 mod failures;
 mod handle_calls;
 mod looks;
+mod losing;
 mod object_calls;
 mod settling;
 mod takings;

@@ -4,6 +4,7 @@ ghost use Rattle.zt_rows.specs.Room.{HasRoom};
 ghost use Rattle.zt_rows.specs.Tests.{is_endpoint};
 ghost use Rattle.zt_rows.specs.ObjectCalls.{create, create_pair, event_create, eventpair_create, object_signal, object_signal_peer};
 ghost use Rattle.zt_rows.specs.Consistent.{IsSound};
+ghost use Rattle.zt_store.specs.Places.{Keeps};
 ghost use Rattle.zt_calls.specs.Outcomes.{Does};
 
 use crate::additions::{new_object, new_pair, whole};
@@ -21,7 +22,8 @@ fn create(step: &mut Step, process: Koid, kind: Kind) -> Result<Reply, Failure>
     requires room { HasRoom step.old.current }
     requires sound { IsSound step.old.current }
     requires running { runs step.old.current process ≡ true }
-    ensures { Does (create kind step.old.current process) step.old step.new result }
+    ensures does { Does (create kind step.old.current process) step.old step.new result }
+    ensures kept { Keeps step.old.places step.new.places }
 {
     let koid = new_object(step, kind, Koid(0))?;
     let handle = install(step, process, whole(koid, kind))?;
@@ -34,7 +36,8 @@ fn create_pair(step: &mut Step, process: Koid, kind: Kind) -> Result<Reply, Fail
     requires room { HasRoom step.old.current }
     requires sound { IsSound step.old.current }
     requires running { runs step.old.current process ≡ true }
-    ensures { Does (create_pair kind step.old.current process) step.old step.new result }
+    ensures does { Does (create_pair kind step.old.current process) step.old step.new result }
+    ensures kept { Keeps step.old.places step.new.places }
 {
     let (near, far) = new_pair(step, kind)?;
     let first = install(step, process, whole(near, kind))?;
@@ -47,7 +50,8 @@ pub fn event_create(step: &mut Step, process: Koid) -> Result<Reply, Failure>
     requires room { HasRoom step.old.current }
     requires sound { IsSound step.old.current }
     requires running { runs step.old.current process ≡ true }
-    ensures { Does (event_create step.old.current process) step.old step.new result }
+    ensures does { Does (event_create step.old.current process) step.old step.new result }
+    ensures kept { Keeps step.old.places step.new.places }
 {
     create(step, process, Kind::Event)
 }
@@ -57,7 +61,8 @@ pub fn eventpair_create(step: &mut Step, process: Koid) -> Result<Reply, Failure
     requires room { HasRoom step.old.current }
     requires sound { IsSound step.old.current }
     requires running { runs step.old.current process ≡ true }
-    ensures { Does (eventpair_create step.old.current process) step.old step.new result }
+    ensures does { Does (eventpair_create step.old.current process) step.old step.new result }
+    ensures kept { Keeps step.old.places step.new.places }
 {
     create_pair(step, process, Kind::EventPair)
 }
@@ -70,7 +75,8 @@ pub fn object_signal(
     clear: Signals,
     set: Signals,
 ) -> Result<Reply, Failure>
-    ensures { Does (object_signal step.old.current process handle clear.0 set.0) step.old step.new result }
+    ensures does { Does (object_signal step.old.current process handle clear.0 set.0) step.old step.new result }
+    ensures kept { Keeps step.old.places step.new.places }
 {
     let (held, object) = handle_to(step, process, handle, Wanted::Any, Rights::SIGNAL)?;
     if !may_set(object.kind, clear, set) {
@@ -88,7 +94,8 @@ pub fn object_signal_peer(
     clear: Signals,
     set: Signals,
 ) -> Result<Reply, Failure>
-    ensures { Does (object_signal_peer step.old.current process handle clear.0 set.0) step.old step.new result }
+    ensures does { Does (object_signal_peer step.old.current process handle clear.0 set.0) step.old step.new result }
+    ensures kept { Keeps step.old.places step.new.places }
 {
     let (_, object) = handle_to(step, process, handle, Wanted::Endpoint, Rights::SIGNAL_PEER)?;
     if !may_set(object.kind, clear, set) {

@@ -4,6 +4,7 @@ ghost use Rattle.zt_rows.specs.Change.{keys};
 ghost use Rattle.zt_rows.specs.Reads.{object, waits};
 ghost use Rattle.zt_rows.specs.Tests.{next_at, signals_at};
 ghost use Rattle.zt_rows.specs.Settle.{fire, observed, push_packet, refresh, settle};
+ghost use Rattle.zt_store.specs.Places.{Keeps};
 ghost use Rattle.zt_calls.specs.Walks.{refreshed_under, wait_under};
 ghost use Rattle.zt_calls.specs.Firing.{HasRoomToFire};
 
@@ -20,6 +21,7 @@ pub(crate) fn settle(alloc: Global, step: &mut Step) -> Result<(), AllocError>
     requires { HasRoomToFire step.old.current }
     ensures beginning { step.new.beginning ≡ step.old.beginning }
     ensures ok { OnOk result (step.new.current ≡ settle step.old.current) }
+    ensures kept { Keeps step.old.places step.new.places }
 {
     refresh(alloc, step)?;
     fire_all(alloc, step)
@@ -29,20 +31,22 @@ pub(crate) fn settle(alloc: Global, step: &mut Step) -> Result<(), AllocError>
 fn refresh(alloc: Global, step: &mut Step) -> Result<(), AllocError>
     ensures beginning { step.new.beginning ≡ step.old.beginning }
     ensures ok { OnOk result (step.new.current ≡ refresh step.old.current) }
+    ensures kept { Keeps step.old.places step.new.places }
 {
     for key in &step.keys(alloc)? {
-        refresh_under(alloc, step, key)?;
+        refresh_under(step, key)?;
     }
     Ok(())
 }
 
 /// Writes the derived signals of the object under the key anew, if there is one.
-fn refresh_under(alloc: Global, step: &mut Step, key: &RowKey) -> Result<(), AllocError>
+fn refresh_under(step: &mut Step, key: &RowKey) -> Result<(), AllocError>
     ensures beginning { step.new.beginning ≡ step.old.beginning }
     ensures ok { OnOk result (step.new.current ≡ refreshed_under step.old.current key.now) }
+    ensures kept { Keeps step.old.places step.new.places }
 {
     match key {
-        RowKey::Object(koid) => zt_signals::refresh(alloc, step, *koid),
+        RowKey::Object(koid) => zt_signals::refresh(step, *koid),
         _ => Ok(()),
     }
 }
@@ -54,6 +58,7 @@ fn fire_all(alloc: Global, step: &mut Step) -> Result<(), AllocError>
     requires { HasRoomToFire step.old.current }
     ensures beginning { step.new.beginning ≡ step.old.beginning }
     ensures ok { OnOk result (step.new.current ≡ fold fire step.old.current (waits step.old.current)) }
+    ensures kept { Keeps step.old.places step.new.places }
 {
     for (number, wait) in &waits_of(alloc, step)? {
         fire(step, *number, wait)?;
@@ -89,6 +94,7 @@ fn fire(step: &mut Step, number: u64, wait: &Wait) -> Result<(), AllocError>
     requires { next_at step.old.current wait.now.port + 1 < 2 ^ 64 }
     ensures beginning { step.new.beginning ≡ step.old.beginning }
     ensures ok { OnOk result (step.new.current ≡ fire step.old.current (number, wait.now)) }
+    ensures kept { Keeps step.old.places step.new.places }
 {
     let observed = observed(step, wait);
     if !wait.signals.intersects(observed) {
@@ -138,6 +144,7 @@ fn push_packet(
     requires { port.now.next + 1 < 2 ^ 64 }
     ensures beginning { step.new.beginning ≡ step.old.beginning }
     ensures ok { OnOk result (step.new.current ≡ push_packet koid port.now packet step.old.current) }
+    ensures kept { Keeps step.old.places step.new.places }
 {
     step.put(RowKey::Packet(koid, port.next), Some(Row::Packet(packet)))?;
     let port = ObjectRow {

@@ -3,9 +3,10 @@ ghost use Rattle.std.specs.Option.{option_and_then};
 ghost use Rattle.zt_rows.specs.State.{row, put, change};
 ghost use Rattle.zt_rows.specs.Reads.{entry};
 ghost use Rattle.zt_rows.specs.Handles.{take_out};
-ghost use Rattle.zt_store.specs.Stepping.{advanced, begun};
-ghost use Rattle.zt_signals.specs.Walks.{passes_under};
+ghost use Rattle.zt_store.specs.Places.{Keeps};
+ghost use Rattle.zt_store.specs.Stepping.{Advanced, AsBegun};
 ghost use Rattle.zt_calls.specs.Taking.{is_wait_on, without_waits_on};
+ghost use Rattle.zt_calls.specs.Walks.{passes_under};
 
 use std::alloc::{AllocError, Global};
 use zt_rows::{HandleValue, Koid, Row, RowKey};
@@ -20,8 +21,9 @@ pub fn take_out(
     handle: HandleValue,
 ) -> Result<(), AllocError>
     requires there { IsSome (entry step.old.current process handle) }
-    ensures ok { OnOk result (step.new ≡ advanced step.old (take_out step.old.current process handle)) }
-    ensures err { OnErr result (step.new ≡ begun step.old.beginning) }
+    ensures ok { OnOk result (Advanced step.old step.new (take_out step.old.current process handle)) }
+    ensures err { OnErr result (AsBegun step.old step.new) }
+    ensures kept { Keeps step.old.places step.new.places }
 {
     remove(step, process, handle)?;
     drop_waits(alloc, step, process, handle)
@@ -34,8 +36,9 @@ fn drop_waits(
     process: Koid,
     handle: HandleValue,
 ) -> Result<(), AllocError>
-    ensures ok { OnOk result (step.new ≡ advanced step.old (change (without_waits_on process handle) step.old.current)) }
-    ensures err { OnErr result (step.new ≡ begun step.old.beginning) }
+    ensures ok { OnOk result (Advanced step.old step.new (change (without_waits_on process handle) step.old.current)) }
+    ensures err { OnErr result (AsBegun step.old step.new) }
+    ensures kept { Keeps step.old.places step.new.places }
 {
     let Ok(keys) = step.keys(alloc) else {
         step.reset();
@@ -54,9 +57,10 @@ fn drop_wait(
     handle: HandleValue,
     key: &RowKey,
 ) -> Result<(), AllocError>
-    ensures ok { let S = step.old.current in OnOk result (step.new ≡ advanced step.old
+    ensures ok { let S = step.old.current in OnOk result (Advanced step.old step.new
         (put S key.now (option_and_then (without_waits_on process handle key.now) (row S key.now)))) }
-    ensures err { OnErr result (step.new ≡ begun step.old.beginning) }
+    ensures err { OnErr result (AsBegun step.old step.new) }
+    ensures kept { Keeps step.old.places step.new.places }
 {
     if is_wait_on(step, process, handle, key) {
         step.put(*key, None)

@@ -19,7 +19,9 @@ use Rattle.zt_rows.proofs.ChangeLaws.{with_rows-before}
 use Rattle.zt_rows.specs.Room.{HasRoom, HasSpent}
 use Rattle.zt_rows.proofs.OpeningLaws.{opening-consistent}
 use Rattle.zt_rows.proofs.SpentLaws.{spent-opening, spent-step, spent-room}
-use Rattle.zt_console.specs.Branch.{reached, branch_of, states, state_of, last, Branch, IsBranch, IsCalled}
+use Rattle.zt_store.specs.Seen.{Stored}
+use Rattle.zt_store.specs.Recorded.{all_fit}
+use Rattle.zt_console.specs.Branch.{reached, branch_of, states, state_of, last, Branch, IsBranch, IsHistory, IsCalled}
 
 -- ---- exchanging
 
@@ -174,6 +176,17 @@ is_branch-opening S past future s p f = record {
   consistent = rw (p, f) (subst IsConsistent (sym s) opening-consistent);
   spent = rw (p, f) (subst (HasSpent 0) (sym s) spent-opening);
 }
+
+pub is_history-opening : (store : Stored) (past future : List (List (RowKey × Option Row))) → store.state ≡ opening → past ≡ [] → future ≡ [] → IsHistory store past future
+is_history-opening store past future s p f = record {
+  branch = is_branch-opening store.state past future s p f;
+  past_fits = ap (all_fit store.places) p;
+  future_fits = ap (all_fit store.places) f;
+}
+
+pub branch-same : (old new : Stored) (past past' future future' : List (List (RowKey × Option Row))) → new ≡ old → past' ≡ past → future' ≡ future
+    → branch_of new.state past' future' ≡ branch_of old.state past future
+branch-same old new past past' future future' s p f = λ i. branch_of (s i).state (p i) (f i)
 
 -- where the store stands at the head, what was given out so far
 head_spent : (S : State) (past future : List (List (RowKey × Option Row))) (b : Branch) (Ss : List State)

@@ -8,3 +8,4 @@ pub mod BranchLaws
 pub mod KeyLaws
 pub mod SessionLaws
 pub mod TalkLaws
+pub mod FitLaws

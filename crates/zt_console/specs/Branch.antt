@@ -14,6 +14,8 @@ use Rattle.zt_rows.specs.Room.{HasSpent}
 use Rattle.zt_rows.specs.Opening.{opening}
 use Rattle.zt_rows.specs.Reads.{runs}
 use Rattle.zt_rows.specs.Step.{step}
+use Rattle.zt_store.specs.Seen.{Stored}
+use Rattle.zt_store.specs.Recorded.{all_fit}
 
 -- the states that the records lead to from S, one after another
 abbrev pub reached : State → List (List (RowKey × Option Row)) → List State
@@ -52,6 +54,12 @@ pub record IsBranch (S : State) (past future : List (List (RowKey × Option Row)
   pub few : length past + length future ≤ 1048576
   pub consistent : IsConsistent (state_of (states (branch_of S past future)) (last (states (branch_of S past future))))
   pub spent : HasSpent (last (states (branch_of S past future))) (state_of (states (branch_of S past future)) (last (states (branch_of S past future))))
+
+-- what a history keeps: a branch, and records that all fit the store, so that moving asks it for nothing
+pub record IsHistory (store : Stored) (past future : List (List (RowKey × Option Row))) : Type 0 where
+  pub branch : IsBranch store.state past future
+  pub past_fits : all_fit store.places past ≡ true
+  pub future_fits : all_fit store.places future ≡ true
 
 -- a call at the last moment made the next one, with this reply
 pub record IsCalled (old new : List State) (process : ℕ) (call : Call) (moment : ℕ) (reply : Reply) : Type 0 where

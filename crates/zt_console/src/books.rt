@@ -167,7 +167,7 @@ fn new_moment(called: (Moment, Reply)) -> Answer
 
 /// Equal rows of the store with their keys, in the keys' order.
 fn rows_of(alloc: Global, store: &Store) -> Result<Items<(RowKey, Row)>, AllocError>
-    ensures { IfOk result (λ rows. rows ≡ store.now.rows) }
+    ensures { IfOk result (λ rows. rows ≡ store.now.state.rows) }
 {
     let mut rows = Vec::new(alloc);
     let mut next = store.after(None);
@@ -180,8 +180,8 @@ fn rows_of(alloc: Global, store: &Store) -> Result<Items<(RowKey, Row)>, AllocEr
 
 /// Puts an equal row with its key behind the others.
 fn push_row(rows: &mut Vec<(RowKey, Row)>, store: &Store, key: &RowKey) -> Result<(), AllocError>
-    requires { IsSome (row store.now key.now) }
-    ensures { OnOk result (IfSome (row store.now key.now) (λ r. rows.new.items ≡ rows.old.items ++ (key.now, r) ∷ [])) }
+    requires { IsSome (row store.now.state key.now) }
+    ensures { OnOk result (IfSome (row store.now.state key.now) (λ r. rows.new.items ≡ rows.old.items ++ (key.now, r) ∷ [])) }
 {
     match store.row(*key) {
         Some(row) => {

@@ -4,6 +4,8 @@ ghost use Rattle.zt_rows.specs.Step.{step};
 ghost use Rattle.zt_rows.specs.Change.{before};
 ghost use Rattle.zt_rows.specs.Room.{HasRoom};
 ghost use Rattle.zt_rows.specs.Consistent.{IsConsistent};
+ghost use Rattle.zt_store.specs.Places.{Keeps};
+ghost use Rattle.zt_store.specs.Recorded.{all_fit};
 ghost use Rattle.zt_console.specs.Branch.{at_opening, branch_of, states, state_of, last, IsCalled, IsRefusedCall};
 
 use std::alloc::{AllocError, Global};
@@ -17,7 +19,8 @@ pub const LAST_MOMENT: u32 = 1_048_576;
 
 /// The moments of the one branch, `main`, with the store at one of them, the position. The records of the
 /// moments up to the position hold the rows before their calls, those beyond it the rows after theirs; in
-/// either list the record next to the position stands last.
+/// either list the record next to the position stands last. Each of them fits the store, so that moving needs
+/// room for the records alone.
 #[derive(Drop)]
 pub struct History {
     store: Store,
@@ -26,13 +29,13 @@ pub struct History {
 }
 
 impl Model for History {
-    ghost use Rattle.zt_console.specs.Branch.{Branch, branch_of, IsBranch};
+    ghost use Rattle.zt_console.specs.Branch.{Branch, branch_of, IsHistory};
 
     ghost Value = { Branch };
 
-    ghost view = { λ h. branch_of h.store h.past.items h.future.items };
+    ghost view = { λ h. branch_of h.store.state h.past.items h.future.items };
 
-    ghost invariant = { λ h. IsBranch h.store h.past.items h.future.items };
+    ghost invariant = { λ h. IsHistory h.store h.past.items h.future.items };
 }
 
 impl History {
@@ -49,7 +52,7 @@ impl History {
 
     /// The store at the position.
     pub fn store(&self) -> &Store
-        ensures { result.now ≡ self.now.here }
+        ensures { result.now.state ≡ self.now.here }
     {
         &self.store
     }
@@ -84,12 +87,13 @@ impl History {
         Ok((Moment(last.0 + 1), reply))
     }
 
-    /// Moves the store to a moment. Where memory is refused on the way it stays where it is by then.
+    /// Moves the store to a moment. Where memory is refused nothing changes.
     pub fn goto(&mut self, target: Moment) -> Result<(), AllocError>
         requires { target ≤ last (states self.old) }
         ensures states { states self.new ≡ states self.old }
         ensures ok { OnOk result (self.new.here ≡ state_of (states self.old) target) }
         ensures at { OnOk result (length self.new.earlier ≡ target) }
+        ensures err { OnErr result (self.new ≡ self.old) }
     {
         let target = target.0 as usize;
         let position = self.past.len();
@@ -111,84 +115,81 @@ impl History {
     }
 }
 
-/// Runs a call of a process that runs, and keeps its record. Refused, store and records are as before.
+/// Runs a call of a process that runs, and keeps its record. Refused, state and records are as before.
 fn called(
     store: &mut Store,
     records: &mut Vec<Record>,
     process: Koid,
     call: &Call,
 ) -> Result<Reply, AllocError>
-    requires running { runs store.old process ≡ true }
-    requires room { HasRoom store.old }
-    requires consistent { IsConsistent store.old }
-    ensures ok { IfOk result (λ reply. (store.new, reply) ≡ step store.old process call.now) }
-    ensures recorded { OnOk result (records.new.items ≡ records.old.items ++ before store.old store.new ∷ []) }
-    ensures consistent { IsConsistent store.new }
-    ensures err { OnErr result (store.new ≡ store.old) }
+    requires running { runs store.old.state process ≡ true }
+    requires room { HasRoom store.old.state }
+    requires consistent { IsConsistent store.old.state }
+    requires fit { all_fit store.old.places records.old.items ≡ true }
+    ensures ok { IfOk result (λ reply. (store.new.state, reply) ≡ step store.old.state process call.now) }
+    ensures recorded { OnOk result (records.new.items ≡ records.old.items ++ before store.old.state store.new.state ∷ []) }
+    ensures consistent { IsConsistent store.new.state }
+    ensures err { OnErr result (store.new.state ≡ store.old.state) }
     ensures err_records { OnErr result (records.new.items ≡ records.old.items) }
+    ensures kept { Keeps store.old.places store.new.places }
+    ensures fit { all_fit store.new.places records.new.items ≡ true }
 {
     records.reserve(1)?;
     let alloc = *records.allocator();
     match apply(alloc, store, process, call) {
         Ok((reply, record)) => {
-            put_behind(records, record);
+            records.push_reserved(record);
             Ok(reply)
         }
         Err(_) => Err(AllocError),
     }
 }
 
-/// Puts the record where there is room for it.
-fn put_behind(records: &mut Vec<Record>, made: Record)
-    requires { vec_len records.old < vec_capacity records.old }
-    ensures { records.new.items ≡ records.old.items ++ made ∷ [] }
-{
-    if records.push(made).is_err() {
-        unreachable!()
-    }
-}
-
-/// Moves the store over so many of the records, which go from the one list to the other.
+/// Moves the store over so many of the records, which go from the one list to the other. Memory is asked for
+/// before the first move, and where it is refused nothing changes.
 fn pass(
     store: &mut Store,
     from: &mut Vec<Record>,
     to: &mut Vec<Record>,
     count: usize,
 ) -> Result<(), AllocError>
-    requires { count ≤ vec_len from.old }
-    ensures states { states (branch_of store.new from.new.items to.new.items) ≡ states (branch_of store.old from.old.items to.old.items) }
+    requires count { count ≤ vec_len from.old }
+    requires from_fits { all_fit store.old.places from.old.items ≡ true }
+    requires to_fits { all_fit store.old.places to.old.items ≡ true }
+    ensures states { states (branch_of store.new.state from.new.items to.new.items) ≡ states (branch_of store.old.state from.old.items to.old.items) }
     ensures moved { OnOk result (vec_len from.new + count ≡ vec_len from.old) }
     ensures all { vec_len from.new + vec_len to.new ≡ vec_len from.old + vec_len to.old }
+    ensures places { store.new.places ≡ store.old.places }
+    ensures from_fits { all_fit store.new.places from.new.items ≡ true }
+    ensures to_fits { all_fit store.new.places to.new.items ≡ true }
+    ensures err { OnErr result (store.new ≡ store.old) }
+    ensures err_from { OnErr result (from.new.items ≡ from.old.items) }
+    ensures err_to { OnErr result (to.new.items ≡ to.old.items) }
 {
+    to.reserve(count)?;
     for _ in 0..count {
-        pass_one(store, from, to)?;
+        pass_one(store, from, to);
     }
     Ok(())
 }
 
 /// Moves the store over the last of the records: they exchange their rows.
-fn pass_one(
-    store: &mut Store,
-    from: &mut Vec<Record>,
-    to: &mut Vec<Record>,
-) -> Result<(), AllocError>
-    requires { 0 < vec_len from.old }
-    ensures states { states (branch_of store.new from.new.items to.new.items) ≡ states (branch_of store.old from.old.items to.old.items) }
-    ensures moved { OnOk result (vec_len from.new + 1 ≡ vec_len from.old) }
-    ensures all { vec_len from.new + vec_len to.new ≡ vec_len from.old + vec_len to.old }
+fn pass_one(store: &mut Store, from: &mut Vec<Record>, to: &mut Vec<Record>)
+    requires some { 0 < vec_len from.old }
+    requires room { vec_len to.old < vec_capacity to.old }
+    requires from_fits { all_fit store.old.places from.old.items ≡ true }
+    requires to_fits { all_fit store.old.places to.old.items ≡ true }
+    ensures states { states (branch_of store.new.state from.new.items to.new.items) ≡ states (branch_of store.old.state from.old.items to.old.items) }
+    ensures moved { vec_len from.new + 1 ≡ vec_len from.old }
+    ensures all { vec_len to.new ≡ vec_len to.old + 1 }
+    ensures room { vec_capacity to.new ≡ vec_capacity to.old }
+    ensures places { store.new.places ≡ store.old.places }
+    ensures from_fits { all_fit store.new.places from.new.items ≡ true }
+    ensures to_fits { all_fit store.new.places to.new.items ≡ true }
 {
-    to.reserve(1)?;
     let Some(mut record) = from.pop() else {
         unreachable!()
     };
-    match swap(store, &mut record) {
-        Ok(()) => {
-            put_behind(to, record);
-            Ok(())
-        }
-        Err(refused) => {
-            put_behind(from, record);
-            Err(refused)
-        }
-    }
+    swap(store, &mut record);
+    to.push_reserved(record);
 }

@@ -1,1 +1,1 @@
-pub mod WalkLaws
+pub mod DerivedLaws

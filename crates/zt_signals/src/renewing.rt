@@ -1,25 +1,17 @@
-ghost use Rattle.std.specs.Prelude.{◌≡◌, IfOk, bit_or};
-ghost use Rattle.zt_rows.specs.Change.{keys};
-ghost use Rattle.zt_rows.specs.Settle.{bit_if, derived, derived_mask, is_child_job_of, is_child_process_of, is_message_of, no_jobs, no_processes, peer_closed, readable, renewed, terminated, writable};
-ghost use Rattle.zt_signals.specs.Walks.{any_under, passes_under};
+ghost use Rattle.std.specs.Prelude.{◌≡◌, bit_or};
+ghost use Rattle.zt_rows.specs.Settle.{bit_if, derived, derived_mask, no_jobs, no_processes, peer_closed, readable, renewed, terminated, writable};
 
 use bitflags::Flags;
-use std::alloc::{AllocError, Global};
 use zt_bits::{Kind, Signals};
-use zt_rows::{Koid, Life, ObjectRow, Row, RowKey};
+use zt_rows::{Koid, Life, ObjectRow};
 use zt_store::Step;
 
-/// All signals of the object, the derived ones anew.
-pub(crate) fn renewed_signals(
-    alloc: Global,
-    step: &Step,
-    koid: Koid,
-    object: &ObjectRow,
-) -> Result<Signals, AllocError>
-    ensures { IfOk result (λ signals. signals.0 ≡ renewed step.now.current koid object.now) }
+/// All signals of the object, the derived ones anew. It takes no memory.
+pub(crate) fn renewed_signals(step: &Step, koid: Koid, object: &ObjectRow) -> Signals
+    ensures { result.0 ≡ renewed step.now.current koid object.now }
 {
     let lasting = object.signals.difference(derived_mask(object.kind));
-    Ok(lasting.union(derived_signals(alloc, step, koid, object)?))
+    lasting.union(derived_signals(step, koid, object))
 }
 
 /// The signals of a kind that follow from the rows.
@@ -36,33 +28,26 @@ fn derived_mask(kind: Kind) -> Signals
 }
 
 /// The derived signals that the rows give the object.
-fn derived_signals(
-    alloc: Global,
-    step: &Step,
-    koid: Koid,
-    object: &ObjectRow,
-) -> Result<Signals, AllocError>
-    ensures { IfOk result (λ signals. signals.0 ≡ derived step.now.current koid object.now) }
+fn derived_signals(step: &Step, koid: Koid, object: &ObjectRow) -> Signals
+    ensures { result.0 ≡ derived step.now.current koid object.now }
 {
     match object.kind {
-        Kind::Job => Ok(terminated(object).union(no_children(alloc, step, koid)?)),
-        Kind::Process => Ok(terminated(object)),
+        Kind::Job => terminated(object).union(no_children(step, koid)),
+        Kind::Process => terminated(object),
         Kind::Channel => {
             let of_peer = writable(object).union(peer_closed(object));
-            Ok(readable(alloc, step, koid)?.union(of_peer))
+            readable(step, koid).union(of_peer)
         }
-        Kind::EventPair => Ok(peer_closed(object)),
-        Kind::Event | Kind::Port => Ok(Signals(0)),
+        Kind::EventPair => peer_closed(object),
+        Kind::Event | Kind::Port => Signals(0),
     }
 }
 
 /// Readable while a message is queued.
-fn readable(alloc: Global, step: &Step, endpoint: Koid) -> Result<Signals, AllocError>
-    ensures { IfOk result (λ signals. signals.0 ≡ readable step.now.current endpoint) }
+fn readable(step: &Step, endpoint: Koid) -> Signals
+    ensures { result.0 ≡ readable step.now.current endpoint }
 {
-    let all = step.keys(alloc)?;
-    let any = any_message(step, all.as_slice(), endpoint);
-    Ok(signal_if(any, Signals::READABLE))
+    signal_if(step.first_message(endpoint).is_some(), Signals::READABLE)
 }
 
 /// Writable while the peer is there.
@@ -87,28 +72,24 @@ fn terminated(task: &ObjectRow) -> Signals
 }
 
 /// No jobs and no processes while none is its child.
-fn no_children(alloc: Global, step: &Step, job: Koid) -> Result<Signals, AllocError>
-    ensures { IfOk result (λ signals. signals.0 ≡ bit_or (no_jobs step.now.current job) (no_processes step.now.current job)) }
+fn no_children(step: &Step, job: Koid) -> Signals
+    ensures { result.0 ≡ bit_or (no_jobs step.now.current job) (no_processes step.now.current job) }
 {
-    let all = step.keys(alloc)?;
-    let none = no_jobs(step, all.as_slice(), job);
-    Ok(none.union(no_processes(step, all.as_slice(), job)))
+    no_jobs(step, job).union(no_processes(step, job))
 }
 
 /// No jobs while no live job is its child.
-fn no_jobs(step: &Step, all: &[RowKey], job: Koid) -> Signals
-    requires { all.now ≡ keys step.now.current }
+fn no_jobs(step: &Step, job: Koid) -> Signals
     ensures { result.0 ≡ no_jobs step.now.current job }
 {
-    signal_if(!any_child_job(step, all, job), Signals::NO_JOBS)
+    signal_if(step.child_jobs(job) == 0, Signals::NO_JOBS)
 }
 
 /// No processes while no live process is its child.
-fn no_processes(step: &Step, all: &[RowKey], job: Koid) -> Signals
-    requires { all.now ≡ keys step.now.current }
+fn no_processes(step: &Step, job: Koid) -> Signals
     ensures { result.0 ≡ no_processes step.now.current job }
 {
-    signal_if(!any_child_process(step, all, job), Signals::NO_PROCESSES)
+    signal_if(step.child_processes(job) == 0, Signals::NO_PROCESSES)
 }
 
 /// The signal, where the test holds.
@@ -116,62 +97,4 @@ fn signal_if(holds: bool, signal: Signals) -> Signals
     ensures { result.0 ≡ bit_if holds signal.0 }
 {
     if holds { signal } else { Signals(0) }
-}
-
-/// Whether a message is queued at the endpoint.
-fn any_message(step: &Step, all: &[RowKey], endpoint: Koid) -> bool
-    requires { all.now ≡ keys step.now.current }
-    ensures { result ≡ any_under (is_message_of endpoint) step.now.current }
-{
-    all.iter().any(|key| is_message(step, key, endpoint))
-}
-
-/// Whether a live job is a child of the job.
-fn any_child_job(step: &Step, all: &[RowKey], job: Koid) -> bool
-    requires { all.now ≡ keys step.now.current }
-    ensures { result ≡ any_under (is_child_job_of job) step.now.current }
-{
-    all.iter().any(|key| is_child_job(step, key, job))
-}
-
-/// Whether a live process is a child of the job.
-fn any_child_process(step: &Step, all: &[RowKey], job: Koid) -> bool
-    requires { all.now ≡ keys step.now.current }
-    ensures { result ≡ any_under (is_child_process_of job) step.now.current }
-{
-    all.iter().any(|key| is_child_process(step, key, job))
-}
-
-/// Whether a message of the endpoint is under the key.
-fn is_message(step: &Step, key: &RowKey, endpoint: Koid) -> bool
-    ensures { result ≡ passes_under (is_message_of endpoint) step.now.current key.now }
-{
-    match (key, step.row(*key)) {
-        (RowKey::Msg(owner, _), Some(Row::Msg(_))) => *owner == endpoint,
-        _ => false,
-    }
-}
-
-/// Whether a live job of the job is under the key.
-fn is_child_job(step: &Step, key: &RowKey, job: Koid) -> bool
-    ensures { result ≡ passes_under (is_child_job_of job) step.now.current key.now }
-{
-    match (key, step.row(*key)) {
-        (RowKey::Object(_), Some(Row::Object(child))) => {
-            child.kind == Kind::Job && child.life == Life::Live && child.link == job
-        }
-        _ => false,
-    }
-}
-
-/// Whether a live process of the job is under the key.
-fn is_child_process(step: &Step, key: &RowKey, job: Koid) -> bool
-    ensures { result ≡ passes_under (is_child_process_of job) step.now.current key.now }
-{
-    match (key, step.row(*key)) {
-        (RowKey::Object(_), Some(Row::Object(child))) => {
-            child.kind == Kind::Process && child.life == Life::Live && child.link == job
-        }
-        _ => false,
-    }
 }

@@ -1,19 +1,21 @@
-ghost use Rattle.std.specs.Prelude.{◌≡◌, IfOk, OnOk, OnErr};
+ghost use Rattle.std.specs.Prelude.{◌≡◌, OnOk, OnErr};
 ghost use Rattle.zt_rows.specs.Reads.{object};
-ghost use Rattle.zt_store.specs.Stepping.{advanced, begun};
+ghost use Rattle.zt_store.specs.Places.{Keeps};
+ghost use Rattle.zt_store.specs.Stepping.{Advanced, AsBegun};
 ghost use Rattle.zt_signals.specs.Written.{anew, refreshed_object, signals_set};
 
 use crate::renewing::renewed_signals;
 use bitflags::Flags;
-use std::alloc::{AllocError, Global};
+use std::alloc::AllocError;
 use zt_bits::Signals;
 use zt_rows::{Koid, ObjectRow, Row, RowKey};
 use zt_store::Step;
 
 /// Clears and then sets signals of the object. Where there is no such object, nothing changes.
 pub fn set_bits(step: &mut Step, koid: Koid, clear: Signals, set: Signals) -> Result<(), AllocError>
-    ensures ok { OnOk result (step.new ≡ advanced step.old (signals_set step.old.current koid clear.0 set.0)) }
-    ensures err { OnErr result (step.new ≡ begun step.old.beginning) }
+    ensures ok { OnOk result (Advanced step.old step.new (signals_set step.old.current koid clear.0 set.0)) }
+    ensures err { OnErr result (AsBegun step.old step.new) }
+    ensures kept { Keeps step.old.places step.new.places }
 {
     let Some(object) = object_of(step, koid) else {
         return Ok(());
@@ -24,29 +26,24 @@ pub fn set_bits(step: &mut Step, koid: Koid, clear: Signals, set: Signals) -> Re
 }
 
 /// Writes the derived signals of the object anew. Where there is no such object, nothing changes.
-pub fn refresh(alloc: Global, step: &mut Step, koid: Koid) -> Result<(), AllocError>
-    ensures ok { OnOk result (step.new ≡ advanced step.old (refreshed_object step.old.current koid)) }
-    ensures err { OnErr result (step.new ≡ begun step.old.beginning) }
+pub fn refresh(step: &mut Step, koid: Koid) -> Result<(), AllocError>
+    ensures ok { OnOk result (Advanced step.old step.new (refreshed_object step.old.current koid)) }
+    ensures err { OnErr result (AsBegun step.old step.new) }
+    ensures kept { Keeps step.old.places step.new.places }
 {
-    match anew(alloc, step, koid) {
-        Ok(Some(object)) => step.put(RowKey::Object(koid), Some(Row::Object(object))),
-        Ok(None) => Ok(()),
-        Err(refused) => {
-            step.reset();
-            Err(refused)
-        }
+    match anew(step, koid) {
+        Some(object) => step.put(RowKey::Object(koid), Some(Row::Object(object))),
+        None => Ok(()),
     }
 }
 
 /// The object with its derived signals anew.
-fn anew(alloc: Global, step: &Step, koid: Koid) -> Result<Option<ObjectRow>, AllocError>
-    ensures { IfOk result (λ found. found ≡ anew step.now.current koid) }
+fn anew(step: &Step, koid: Koid) -> Option<ObjectRow>
+    ensures { result ≡ anew step.now.current koid }
 {
-    let Some(object) = object_of(step, koid) else {
-        return Ok(None);
-    };
-    let signals = renewed_signals(alloc, step, koid, &object)?;
-    Ok(Some(ObjectRow { signals, ..object }))
+    let object = object_of(step, koid)?;
+    let signals = renewed_signals(step, koid, &object);
+    Some(ObjectRow { signals, ..object })
 }
 
 /// The object of this koid.

@@ -1,9 +1,11 @@
--- How many supports the rows of a store give together, and whether its rows leave room.
-use Rattle.std.proofs.Common.{◌≡◌, ℕ, ◌+◌, Bool, true, false, cond, ◌&&◌, ◌||◌, ◌==◌, List, [], ◌∷◌, ◌++◌, length, count_by, filter_map, flat_map, Option, Some, None, refl, sym, ap, ◌∙◌, arith, length-append}
+-- How many supports an object has, by the numbers of its koid.
+use Rattle.std.proofs.Common.{◌≡◌, ◌≤◌, ℕ, ◌+◌, Bool, true, false, cond, ◌&&◌, ◌||◌, List, [], ◌∷◌, ◌++◌, length, count_by, filter_map, flat_map, Option, Some, None, refl, sym, ap, ◌∙◌, arith, length-append}
+use Rattle.std.specs.Prelude.{◌==◌}
 use mir.Val.{bool_byte}
 use Rattle.std.specs.List.{cons_option}
-use Rattle.std.specs.BTreeMap.{BTreeMap}
 use Rattle.std.proofs.lemmas.List.Sums.{sum_by-cons}
+use Rattle.zt_bits.specs.declared.kinds.Kind.{Kind}
+use Rattle.zt_bits.specs.declared.kinds.Kind.TheVariants as kind
 use Rattle.zt_rows.specs.declared.keys.RowKey.{RowKey}
 use Rattle.zt_rows.specs.declared.keys.RowKey.TheVariants as key
 use Rattle.zt_rows.specs.declared.rows.Held.{Held}
@@ -12,11 +14,14 @@ use Rattle.zt_rows.specs.declared.rows.Row.{Row}
 use Rattle.zt_rows.specs.declared.rows.Row.TheVariants as rows
 use Rattle.zt_rows.specs.declared.supports.Support.TheVariants as support
 use Rattle.zt_rows.specs.State.{State}
-use Rattle.zt_rows.specs.Reads.{object, is_live_job, is_live_process}
+use Rattle.zt_rows.specs.Reads.{object, is_live, is_job, is_process, is_live_job, is_live_process}
+use Rattle.zt_rows.specs.Settle.{is_child_job_of, is_child_process_of}
 use Rattle.zt_rows.specs.Support.{entry_support, places, message_supports, child_support, children, itself, supports, support_count, root_job}
-use Rattle.zt_store.specs.Seen.{state_with, IsStore}
-use Rattle.zt_store.specs.Counting.{given_by, given_by_all, keeps_tasks, keeps_itself}
-use Rattle.zt_store.proofs.Places.{rows_seen}
+use Rattle.zt_store.specs.declared.tallies.Numbers.{Numbers}
+use Rattle.zt_rows.specs.Tests.{count_row}
+use Rattle.zt_store.specs.Numbers.{named_by, job_by, process_by, sum_rows, total, numbers_of, numbers_at, keeps_tasks, keeps_itself}
+use Rattle.zt_store.specs.Seen.{IsTallied}
+use Rattle.zt_store.proofs.Totals.{count-total}
 
 abbrev many : {A : Type 0} → Option A → ℕ
 many (Some x) = 1
@@ -35,65 +40,61 @@ length-places x e n index (h ∷ hs) =
     here true rest = omega arith
     here false rest = omega arith
 
--- the supports that one row gives
-abbrev one_row : Bool → ℕ → RowKey × Row → ℕ
-one_row kept x e = many (entry_support x e) + length (message_supports x e) + cond kept (many (child_support x e)) 0
+-- ---- what one row gives
 
 many_if : {A : Type 0} (b : Bool) (x : A) → many (cond b (Some x) None) ≡ cond b 1 0
 many_if true x = refl
 many_if false x = refl
 
-zero_if : (kept : Bool) → 0 + 0 + cond kept 0 0 ≡ 0
-zero_if true = refl
-zero_if false = refl
+named-row : (x : ℕ) (k : RowKey) (r : Row) → many (entry_support x (k, r)) + length (message_supports x (k, r)) ≡ named_by x k r
+named-row x (key.Entry p h) (rows.Entry held) = let one = many_if (held.koid == x) (support.Entry p h) in omega (arith, one)
+named-row x (key.Msg e n) (rows.Msg m) = omega (arith, length-places x e n 0 m.handles)
+named-row x key.Counters r = refl
+named-row x (key.Object _) r = refl
+named-row x (key.Packet _ _) r = refl
+named-row x (key.Wait _) r = refl
+named-row x (key.Entry _ _) _ = refl
+named-row x (key.Msg _ _) _ = refl
 
-one_row-is : (kept : Bool) (x : ℕ) (k : RowKey) (r : Row) → one_row kept x (k, r) ≡ given_by kept x k r
-one_row-is kept x (key.Entry p h) (rows.Entry held) = at (held.koid == x) kept
-  where
-    at : (b kept : Bool) → many (cond b (Some (support.Entry p h)) None) + 0 + cond kept 0 0 ≡ cond b 1 0
-    at true true = refl
-    at true false = refl
-    at false true = refl
-    at false false = refl
-one_row-is kept x (key.Msg e n) (rows.Msg m) =
-    let e = length-places x e n 0 m.handles in
-    at kept _ _ e
-  where
-    at : (kept : Bool) (a b : ℕ) → a ≡ b → 0 + a + cond kept 0 0 ≡ b
-    at true a b e = omega arith
-    at false a b e = omega arith
-one_row-is kept x (key.Object y) (rows.Object o) = at kept ((is_live_job o || is_live_process o) && (o.link == x))
-  where
-    at : (kept b : Bool) → 0 + 0 + cond kept (many (cond b (Some (support.Child y)) None)) 0 ≡ cond (kept && b) 1 0
-    at true true = refl
-    at true false = refl
-    at false b = refl
-one_row-is kept x key.Counters r = zero_if kept
-one_row-is kept x (key.Packet _ _) r = zero_if kept
-one_row-is kept x (key.Wait _) r = zero_if kept
-one_row-is kept x (key.Entry _ _) _ = zero_if kept
-one_row-is kept x (key.Msg _ _) _ = zero_if kept
-one_row-is kept x (key.Object _) _ = zero_if kept
+one_kind : (j p l : Bool) (k : Kind) → is_job k ≡ j → is_process k ≡ p → (b : Bool) → cond {A = ℕ} (((j && l) || (p && l)) && b) 1 0 ≡ cond {A = ℕ} ((j && l) && b) 1 0 + cond {A = ℕ} ((p && l) && b) 1 0
+one_kind true true l kind.Job e f b = cc
+one_kind true true l kind.Process e f b = cc
+one_kind true true l kind.Channel e f b = cc
+one_kind true true l kind.Event e f b = cc
+one_kind true true l kind.EventPair e f b = cc
+one_kind true true l kind.Port e f b = cc
+one_kind true false true k e f true = refl
+one_kind true false true k e f false = refl
+one_kind true false false k e f b = refl
+one_kind false true true k e f true = refl
+one_kind false true true k e f false = refl
+one_kind false true false k e f b = refl
+one_kind false false l k e f b = refl
 
--- the supports that the rows of a list give
-abbrev of_rows : Bool → ℕ → List (RowKey × Row) → ℕ
-of_rows kept x es =
-    length (filter_map (entry_support x) es) + length (flat_map (message_supports x) es) + cond kept (length (filter_map (child_support x) es)) 0
+tasks-row : (x : ℕ) (k : RowKey) (r : Row) → many (child_support x (k, r)) ≡ job_by x k r + process_by x k r
+tasks-row x (key.Object y) (rows.Object o) =
+    many_if ((is_live_job o || is_live_process o) && (o.link == x)) (support.Child y)
+    ∙ one_kind (is_job o.kind) (is_process o.kind) (is_live o.life) o.kind refl refl (o.link == x)
+tasks-row x key.Counters r = refl
+tasks-row x (key.Packet _ _) r = refl
+tasks-row x (key.Wait _) r = refl
+tasks-row x (key.Entry _ _) _ = refl
+tasks-row x (key.Msg _ _) _ = refl
+tasks-row x (key.Object _) _ = refl
 
-of_rows-is : (kept : Bool) (x : ℕ) (es : List (RowKey × Row)) → of_rows kept x es ≡ given_by_all kept x es
-of_rows-is kept x [] = zero_if kept
-of_rows-is kept x (e ∷ es) =
-    sum kept (many (entry_support x e)) (length (message_supports x e)) (many (child_support x e))
-    (length (filter_map (entry_support x) es)) (length (flat_map (message_supports x) es)) (length (filter_map (child_support x) es))
-    _ _ _ (given_by kept x e.0 e.1) (given_by_all kept x es)
-    (length-cons_option (entry_support x e) (filter_map (entry_support x) es))
-    (length-append (message_supports x e) (flat_map (message_supports x) es))
-    (length-cons_option (child_support x e) (filter_map (child_support x) es))
-    (one_row-is kept x e.0 e.1) (of_rows-is kept x es)
-  where
-    sum : (kept : Bool) (a b c d f g l m n p q : ℕ) → l ≡ a + d → m ≡ b + f → n ≡ c + g → a + b + cond kept c 0 ≡ p → d + f + cond kept g 0 ≡ q → l + m + cond kept n 0 ≡ p + q
-    sum true a b c d f g l m n p q e1 e2 e3 e4 e5 = omega arith
-    sum false a b c d f g l m n p q e1 e2 e3 e4 e5 = omega arith
+-- ---- what all rows give
+
+named-rows : (x : ℕ) (es : List (RowKey × Row)) → length (filter_map (entry_support x) es) + length (flat_map (message_supports x) es) ≡ sum_rows (named_by x) es
+named-rows x [] = refl
+named-rows x (e ∷ es) =
+    let rest : length (filter_map (entry_support x) es) + length (flat_map (message_supports x) es) ≡ sum_rows (named_by x) es = named-rows x es in
+    omega (arith, rest, named-row x e.0 e.1, length-cons_option (entry_support x e) (filter_map (entry_support x) es), length-append (message_supports x e) (flat_map (message_supports x) es))
+
+tasks-rows : (x : ℕ) (es : List (RowKey × Row)) → length (filter_map (child_support x) es) ≡ sum_rows (job_by x) es + sum_rows (process_by x) es
+tasks-rows x [] = refl
+tasks-rows x (e ∷ es) =
+    let rest : length (filter_map (child_support x) es) ≡ sum_rows (job_by x) es + sum_rows (process_by x) es = tasks-rows x es in
+    omega (arith, rest, tasks-row x e.0 e.1, length-cons_option (child_support x e) (filter_map (child_support x) es))
 
 length-children : (o : Option ObjectRow) (x : ℕ) (es : List (RowKey × Row)) → length (children o x es) ≡ cond (keeps_tasks o) (length (filter_map (child_support x) es)) 0
 length-children (Some o) x es = at (is_live_job o) (filter_map (child_support x) es)
@@ -111,34 +112,41 @@ length-itself (Some o) x = at (is_live_process o || (x == root_job))
     at false = refl
 length-itself None x = refl
 
-pub support_count-is : (c : Row) (m : BTreeMap RowKey Row) (S : State) (x : ℕ) → state_with c m.entries ≡ S → IsStore c m
-    → support_count S x ≡ cond (keeps_itself x (object S x)) 1 0 + given_by_all (keeps_tasks (object S x)) x m.entries
-unfolding support_count supports
-support_count-is c m S x seen is =
-    let es = m.entries in
+-- an object is supported by what names it, by the live tasks below a live job, and by itself
+pub support_count-numbers : (S : State) (x : ℕ) → support_count S x ≡ (numbers_of S x).named + cond {A = ℕ} (keeps_tasks (object S x)) ((numbers_of S x).jobs + (numbers_of S x).processes) 0 + cond {A = ℕ} (keeps_itself x (object S x)) 1 0
+unfolding support_count supports total
+support_count-numbers S x =
     let o = object S x in
-    let rs = rows_seen c m S seen is in
     let A = filter_map (entry_support x) S.rows in
     let B = flat_map (message_supports x) S.rows in
     let C = children o x S.rows in
-    let D = itself o x in
-    let e1 = length-append ((A ++ B) ++ C) D in
-    let e2 = length-append (A ++ B) C in
-    let e3 = length-append A B in
-    let e4 = length-children o x S.rows in
-    let e5 = length-itself o x in
-    let e6 : of_rows (keeps_tasks o) x S.rows ≡ given_by_all (keeps_tasks o) x S.rows = of_rows-is (keeps_tasks o) x S.rows in
-    let e7 : given_by_all (keeps_tasks o) x S.rows ≡ 0 + given_by_all (keeps_tasks o) x es = ap (given_by_all (keeps_tasks o) x) rs in
-    omega (arith, e1, e2, e3, e4, e5, e6, e7)
+    let tasks : cond {A = ℕ} (keeps_tasks o) (length (filter_map (child_support x) S.rows)) 0 ≡ cond {A = ℕ} (keeps_tasks o) (sum_rows (job_by x) S.rows + sum_rows (process_by x) S.rows) 0 =
+    ap (λ n. cond {A = ℕ} (keeps_tasks o) n 0) (tasks-rows x S.rows) in
+    omega (arith, length-append ((A ++ B) ++ C) (itself o x), length-append (A ++ B) C, length-append A B, length-children o x S.rows, length-itself o x, named-rows x S.rows, tasks)
 
 byte_of : (b : Bool) → bool_byte b ≡ cond b 1 0
 byte_of true = refl
 byte_of false = refl
 
-pub counted : (c : Row) (m : BTreeMap RowKey Row) (S : State) (x : ℕ) (o q : Option ObjectRow) (kept own : Bool) (a b : ℕ) → state_with c m.entries ≡ S → IsStore c m
-    → o ≡ object S x → kept ≡ keeps_tasks o → q ≡ object S x → own ≡ keeps_itself x q → a ≡ bool_byte own → b ≡ given_by_all kept x m.entries → a + b ≡ support_count S x
-counted c m S x o q kept own a b seen is at_o is_kept at_q is_own is_a is_b =
-    (λ i. (is_a ∙ byte_of own) i + is_b i)
-    ∙ (λ i. cond (is_own i) 1 0 + given_by_all (is_kept i) x m.entries)
-    ∙ (λ i. cond (keeps_itself x (at_q i)) 1 0 + given_by_all (keeps_tasks (at_o i)) x m.entries)
-    ∙ sym (support_count-is c m S x seen is)
+pub bit-small : (b : Bool) (n : ℕ) → n ≡ bool_byte b → n ≤ 1
+bit-small true n e = omega (arith, e)
+bit-small false n e = omega (arith, e)
+
+-- what the numbers of the koid give together is the count
+pub counted : (S T : State) (list : List Numbers) (x : ℕ) (n : Numbers) (o : Option ObjectRow) (tasks own : ℕ) (kept : Bool) → S ≡ T → IsTallied S list → n ≡ numbers_at list x → o ≡ object T x
+    → tasks ≡ cond {A = ℕ} (keeps_tasks o) (n.jobs + n.processes) 0 → kept ≡ keeps_itself x o → own ≡ bool_byte kept → n.named + tasks + own ≡ support_count T x
+counted S T list x n o tasks own kept seen tallied at_n at_o is_tasks is_kept is_own =
+    let numbers : n ≡ numbers_of T x = at_n ∙ tallied x ∙ ap (λ U. numbers_of U x) seen in
+    let t : tasks ≡ cond {A = ℕ} (keeps_tasks (object T x)) ((numbers_of T x).jobs + (numbers_of T x).processes) 0 =
+    is_tasks ∙ (λ i. cond {A = ℕ} (keeps_tasks (at_o i)) ((numbers i).jobs + (numbers i).processes) 0) in
+    let s : own ≡ cond {A = ℕ} (keeps_itself x (object T x)) 1 0 = is_own ∙ byte_of kept ∙ ap (λ b. cond {A = ℕ} b 1 0) (is_kept ∙ ap (keeps_itself x) at_o) in
+    let named : n.named ≡ (numbers_of T x).named = ap (λ (m : Numbers). m.named) numbers in
+    omega (arith, support_count-numbers T x)
+
+pub jobs-counted : (S T : State) (list : List Numbers) (x : ℕ) (n : Numbers) → S ≡ T → IsTallied S list → n ≡ numbers_at list x → n.jobs ≡ count_row (is_child_job_of x) T
+jobs-counted S T list x n seen tallied at_n =
+    ap (λ (m : Numbers). m.jobs) (at_n ∙ tallied x ∙ ap (λ U. numbers_of U x) seen) ∙ sym (count-total (is_child_job_of x) T)
+
+pub processes-counted : (S T : State) (list : List Numbers) (x : ℕ) (n : Numbers) → S ≡ T → IsTallied S list → n ≡ numbers_at list x → n.processes ≡ count_row (is_child_process_of x) T
+processes-counted S T list x n seen tallied at_n =
+    ap (λ (m : Numbers). m.processes) (at_n ∙ tallied x ∙ ap (λ U. numbers_of U x) seen) ∙ sym (count-total (is_child_process_of x) T)

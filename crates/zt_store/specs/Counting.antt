@@ -1,52 +1,38 @@
--- How many supports of an object one row gives, and what a row leaves of room.
-use Rattle.std.specs.Prelude.{ℕ, ◌+◌, ◌^◌, ◌-◌, Bool, true, false, ◌==◌, nat_le, ◌&&◌, ◌||◌, if◌then◌else◌, List, [], ◌∷◌, count_by, Option, None, Some}
-use Rattle.zt_bits.specs.declared.kinds.Kind.{Kind}
-use Rattle.zt_bits.specs.declared.kinds.Kind.TheVariants as kind
-use Rattle.zt_rows.specs.declared.keys.RowKey.{RowKey}
-use Rattle.zt_rows.specs.declared.keys.RowKey.TheVariants as key
+-- What a row counts for: nothing, one koid, or each koid that a handle of a message names.
+use Rattle.std.specs.Prelude.{ℕ, ◌≤◌, ◌==◌, Bool, true, if◌then◌else◌, nat_lt, List, length, count_by, ⊤, Option, Some, None}
+use Rattle.std.specs.List.{list_all}
+use Rattle.zt_rows.specs.declared.rows.Held.{Held}
 use Rattle.zt_rows.specs.declared.rows.ObjectRow.{ObjectRow}
-use Rattle.zt_rows.specs.declared.rows.Row.{Row}
-use Rattle.zt_rows.specs.declared.rows.Row.TheVariants as rows
-use Rattle.zt_rows.specs.Reads.{is_live_process, is_live_job}
-use Rattle.zt_rows.specs.Support.{root_job}
+use Rattle.zt_rows.specs.Reads.{is_live_job, is_live_process}
+use Rattle.zt_store.specs.declared.tallies.Counted.{Counted}
+use Rattle.zt_store.specs.declared.tallies.Counted.TheVariants as counted
+use Rattle.zt_store.specs.declared.tallies.Numbers.{Numbers}
+use Rattle.zt_store.specs.Numbers.{none_given}
 
--- how many supports of x the row gives, where tasks support their parents if they are kept
-abbrev pub given_by : Bool → ℕ → RowKey → Row → ℕ
-given_by kept x (key.Entry p h) (rows.Entry held) = if held.koid == x then 1 else 0
-given_by kept x (key.Msg e n) (rows.Msg m) = count_by (λ held. held.koid == x) m.handles
-given_by kept x (key.Object y) (rows.Object o) =
-    if kept && ((is_live_job o || is_live_process o) && (o.link == x)) then 1 else 0
-given_by kept x _ _ = 0
+-- what a live job or process gives its parent
+abbrev pub task_given : ObjectRow → Option Numbers
+task_given o =
+    if is_live_job o then Some (record { named = 0; jobs = 1; processes = 0 })
+    else (if is_live_process o then Some (record { named = 0; jobs = 0; processes = 1 }) else None)
 
-abbrev pub given_by_all : Bool → ℕ → List (RowKey × Row) → ℕ
-given_by_all kept x [] = 0
-given_by_all kept x (e ∷ es) = given_by kept x e.0 e.1 + given_by_all kept x es
+-- the names that handles give x
+abbrev pub names_given : ℕ → List Held → Numbers
+names_given x handles = record { named = count_by (λ held. held.koid == x) handles; jobs = 0; processes = 0 }
 
--- the object keeps the live tasks below it as its supports
-abbrev pub keeps_tasks : Option ObjectRow → Bool
-keeps_tasks (Some o) = is_live_job o
-keeps_tasks None = false
+-- what x gets of it
+abbrev pub counted_for : ℕ → Counted → Numbers
+counted_for x counted.Nothing = none_given
+counted_for x (counted.One koid more) = if koid == x then more else none_given
+counted_for x (counted.Handles handles) = names_given x handles.now
 
--- whether the object supports itself
-abbrev pub keeps_itself : ℕ → Option ObjectRow → Bool
-keeps_itself x (Some o) = is_live_process o || (x == root_job)
-keeps_itself x None = false
+-- the koids are all below n
+abbrev pub counted_within : ℕ → Counted → Bool
+counted_within n counted.Nothing = true
+counted_within n (counted.One koid more) = nat_lt koid n
+counted_within n (counted.Handles handles) = list_all (λ held. nat_lt held.koid n) handles.now
 
--- what an owner gives out next leaves room for one more call
-abbrev pub next_fits : Kind → ℕ → Bool
-next_fits kind.Process next = nat_le next (2 ^ 30 - 64)
-next_fits kind.Channel next = nat_le next (2 ^ 62)
-next_fits kind.Port next = nat_le next (2 ^ 62)
-next_fits _ next = true
-
-abbrev pub row_fits : RowKey → Row → Bool
-row_fits (key.Object y) (rows.Object o) = next_fits o.kind o.next
-row_fits _ _ = true
-
-abbrev pub rows_fit : List (RowKey × Row) → Bool
-rows_fit [] = true
-rows_fit (e ∷ es) = row_fits e.0 e.1 && rows_fit es
-
-abbrev pub counters_fit : Row → Bool
-counters_fit (rows.Counters c) = nat_le c.next_koid (2 ^ 62) && nat_le c.next_wait (2 ^ 62)
-counters_fit _ = true
+-- one row gives little
+abbrev pub IsSmall : Counted → Type 0
+IsSmall counted.Nothing = ⊤
+IsSmall (counted.One koid more) = (more.named ≤ 1) × (more.jobs ≤ 1) × (more.processes ≤ 1)
+IsSmall (counted.Handles handles) = length handles.now ≤ 64

@@ -1,3 +1,12 @@
+pub mod Shelves
+pub mod Grids
+pub mod Cabinets
+pub mod Numbers
+pub mod Places
 pub mod Seen
+pub mod Recorded
 pub mod Stepping
+pub mod Touching
+pub mod Walks
+pub mod KeyColumns
 pub mod Counting

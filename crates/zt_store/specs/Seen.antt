@@ -1,34 +1,37 @@
--- How a store's counters and the rows beside them are seen as one state, and what is true of them.
-use Rattle.std.specs.Prelude.{◌≡◌, ◌^◌, ◌≤◌, true, false, List, [], ◌∷◌, map, Option, Some, ⊤}
-use Rattle.std.specs.BTreeMap.{BTreeMap, IsOrdered, btree_map_len}
+-- How a store is seen: its state, and the places that it has for rows.
+use Rattle.std.specs.Prelude.{◌≡◌, ℕ, ◌*◌, ◌≤◌, ◌^◌, ◌<◌, List, [], ◌∷◌, Option, Some, ⊤}
 use Rattle.zt_rows.specs.declared.keys.RowKey.{RowKey}
-use Rattle.zt_rows.specs.declared.keys.RowKey.TheVariants as key
 use Rattle.zt_rows.specs.declared.rows.Row.{Row}
-use Rattle.zt_rows.specs.Keys.{rowkey_cmp, rowkey_eq}
-use Rattle.zt_rows.specs.State.{State, put, state_of}
-use Rattle.zt_rows.specs.Room.{suits, SuitsKey}
+use Rattle.zt_rows.specs.State.{State, row}
+use Rattle.zt_rows.specs.Room.{SuitsKey}
+use Rattle.zt_rows.specs.Change.{exchange}
+use Rattle.zt_store.specs.Shelves.{Shelves}
+use Rattle.zt_store.specs.Numbers.{named_by, numbers_at, numbers_of}
+use Rattle.zt_store.specs.Places.{Places}
+use Rattle.zt_store.specs.declared.tallies.Numbers.{Numbers}
 
--- the state of these counters and the rows beside them
-unfoldable pub state_with : Row → List (RowKey × Row) → State
-state_with c es = put (state_of es) key.Counters (Some c)
+-- the rows, and the places for rows
+pub record Shelved : Type 0 where
+  pub state : State
+  pub shelves : Shelves
 
--- each row suits its key, and none is the counters'
-abbrev pub AllBeside : List (RowKey × Row) → Type 0
-AllBeside [] = ⊤
-AllBeside (e ∷ es) = (suits e.0 e.1 ≡ true) × (rowkey_eq e.0 key.Counters ≡ false) × AllBeside es
+pub record Stored : Type 0 where
+  pub state : State
+  pub places : Places
 
-pub record IsStore (c : Row) (m : BTreeMap RowKey Row) : Type 0 where
-  pub suited : suits key.Counters c ≡ true
-  pub beside : AllBeside m.entries
-  pub ordered : IsOrdered rowkey_cmp m
-  pub few : btree_map_len m ≤ 2 ^ 48
+-- the store stands at another state, with the same places
+abbrev pub standing : Stored → State → Stored
+standing s T = record { state = T; places = s.places }
 
 -- each row, or none, suits its key
 abbrev pub AllSuit : List (RowKey × Option Row) → Type 0
 AllSuit [] = ⊤
 AllSuit (e ∷ es) = SuitsKey e.0 e.1 × AllSuit es
 
-pub record IsRecord (ks : List RowKey) (m : BTreeMap RowKey (Option Row)) : Type 0 where
-  pub listed : ks ≡ map (λ e. e.0) m.entries
-  pub suited : AllSuit m.entries
-  pub ordered : IsOrdered rowkey_cmp m
+-- no row names an object more often than a message has handles
+abbrev pub NamesFew : State → Type 0
+NamesFew S = (x : ℕ) (k : RowKey) (r : Row) → row S k ≡ Some r → named_by x k r ≤ 64
+
+-- the numbers by koid are those of the rows
+abbrev pub IsTallied : State → List Numbers → Type 0
+IsTallied S list = (x : ℕ) → numbers_at list x ≡ numbers_of S x

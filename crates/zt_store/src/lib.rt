@@ -2,12 +2,13 @@
 //! undone and made again.
 #![tactic(auto)]
 
+mod cells;
 mod changes;
 mod records;
 mod steps;
 mod stores;
-#[cfg(test)]
-mod tests;
+mod tallies;
+mod walks;
 
 pub use changes::{swap, undo};
 pub use records::Record;

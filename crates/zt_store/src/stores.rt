@@ -1,69 +1,66 @@
-ghost use Rattle.std.specs.Prelude.{◌≡◌, ◌≤◌, ◌↔◌, ◌+◌, ◌*◌, ◌^◌, ◌==◌, ◌&&◌, ◌||◌, length, find, count_by, IsTrue, IfOk, OnErr, OnOk, Option, true, false, if◌then◌else◌};
-ghost use Rattle.std.specs.BTreeMap.{btree_map_len, get, insert_entry, IsOrdered, IsUnchanged, Updates};
-ghost use Rattle.std.specs.Map.{keys_of};
+ghost use Rattle.std.specs.Prelude.{◌≡◌, ◌<◌, ◌+◌, ◌^◌, ◌↔◌, true, IsTrue, IfOk, OnOk, Option, if◌then◌else◌};
 ghost use Rattle.std.specs.Option.{option_copied};
 ghost use Rattle.zt_rows.specs.declared.keys.RowKey.{RowKey};
 ghost use Rattle.zt_rows.specs.declared.keys.RowKey.TheVariants as key_variant;
-ghost use Rattle.zt_rows.specs.Keys.{rowkey_cmp, rowkey_eq};
 ghost use Rattle.zt_rows.specs.Opening.{opening, hollow};
-ghost use Rattle.zt_rows.specs.Reads.{object, is_live, is_live_job, is_live_process};
-ghost use Rattle.zt_rows.specs.Room.{SuitsKey, HasRoom, is_above, next_key, suits};
+ghost use Rattle.zt_rows.specs.Reads.{object};
+ghost use Rattle.zt_rows.specs.Room.{SuitsKey, HasRoom, next_key};
+ghost use Rattle.zt_rows.specs.Settle.{is_child_job_of, is_child_process_of};
 ghost use Rattle.zt_rows.specs.State.{row, put};
 ghost use Rattle.zt_rows.specs.Support.{support_count};
-ghost use Rattle.zt_store.specs.Counting.{counters_fit, given_by, given_by_all, keeps_itself, keeps_tasks, next_fits, row_fits, rows_fit};
+ghost use Rattle.zt_rows.specs.Tests.{count_row};
+ghost use Rattle.zt_store.specs.Numbers.{keeps_itself, keeps_tasks};
+ghost use Rattle.zt_store.specs.Places.{Keeps, fits, fits_row, no_places};
+ghost use Rattle.zt_store.specs.Seen.{Stored, standing};
+ghost use Rattle.zt_store.specs.Walks.{IsFirst};
 
+use crate::cells::Cells;
 use crate::records::Record;
+use crate::tallies::{Numbers, Tally};
+use crate::walks::{has_room, key_after};
 use std::alloc::{AllocError, Global};
-use std::collections::BTreeMap;
 use std::marker::Model;
-use std::mem;
-use std::ops::Bound;
 use zt_bits::{Kind, Rights, Signals};
 use zt_rows::{Counters, HandleValue, Held, Koid, Life, ObjectRow, Row, RowKey};
-
-/// The most rows that a store keeps beside its counters.
-const MOST_ROWS: usize = 1 << 48;
 
 /// The koid of the root job, which keeps itself.
 const ROOT_JOB: Koid = Koid(1024);
 
-/// The rows of a system, each under its key.
+/// The rows of a system, each under its key, and how often they name each object.
 #[derive(Drop)]
 pub struct Store {
-    alloc: Global,
-    counters: Row,
-    rows: BTreeMap<RowKey, Row>,
+    cells: Cells,
+    tally: Tally,
 }
 
 impl Model for Store {
-    ghost use Rattle.zt_rows.specs.State.{State};
-    ghost use Rattle.zt_store.specs.Seen.{state_with, IsStore};
+    ghost use Rattle.std.specs.Prelude.{length};
+    ghost use Rattle.zt_store.specs.Seen.{Stored, IsTallied, NamesFew};
 
-    ghost Value = { State };
+    ghost Value = { Stored };
 
-    ghost view = { λ s. state_with s.counters s.rows.entries };
+    ghost view = { λ s. record {
+      state = s.cells.state;
+      places = record { shelves = s.cells.shelves; koids = length s.tally };
+    } };
 
-    ghost invariant = { λ s. IsStore s.counters s.rows };
+    ghost invariant = { λ s. IsTallied s.cells.state s.tally × NamesFew s.cells.state };
 }
 
 impl Store {
     /// A store of counters that stand at 0. It takes no memory.
     pub fn hollow(alloc: Global) -> Store
-        ensures { result ≡ hollow }
+        ensures { result ≡ record { state = hollow; places = no_places } }
     {
         Store {
-            alloc,
-            counters: Row::Counters(Counters {
-                next_koid: Koid(0),
-                next_wait: 0,
-            }),
-            rows: BTreeMap::new(alloc),
+            cells: Cells::hollow(alloc),
+            tally: Tally::new(alloc),
         }
     }
 
     /// The store that a history begins with: the root job with its first process.
     pub fn opening(alloc: Global) -> Result<Store, AllocError>
-        ensures { IfOk result (λ store. store ≡ opening) }
+        ensures { IfOk result (λ store. store.state ≡ opening) }
     {
         let mut store = Store::hollow(alloc);
         store.keep(
@@ -103,37 +100,66 @@ impl Store {
         Ok(store)
     }
 
-    /// The row under the key.
+    /// The row under the key. It takes no memory.
     pub fn row(&self, key: RowKey) -> Option<&Row>
-        ensures { option_copied result ≡ row self.now key }
+        ensures { option_copied result ≡ row self.now.state key }
     {
-        if key == RowKey::Counters {
-            return Some(&self.counters);
-        }
-        self.rows.get(&key)
+        self.cells.row(key)
     }
 
     /// The least key above the low one, or the least of all. It takes no memory.
     pub fn after(&self, low: Option<RowKey>) -> Option<RowKey>
-        ensures { result ≡ next_key self.now low }
+        ensures { result ≡ next_key self.now.state low }
     {
-        match low {
-            None => Some(RowKey::Counters),
-            Some(low) => key_above(&self.rows, low),
-        }
+        key_after(&self.cells, low)
     }
 
     /// How many supports the object has. It takes no memory.
     pub fn count(&self, koid: Koid) -> u64
-        ensures { result ≡ support_count self.now koid }
+        ensures { result ≡ support_count self.now.state koid }
     {
-        let kept = keeps_tasks(self.object(koid));
-        let itself = u64::from(keeps_itself(koid, self.object(koid)));
-        itself + all_given(&self.rows, kept, koid)
+        self.cells.limits();
+        let object = self.object(koid);
+        let numbers = self.tally.at(koid);
+        let itself = u64::from(keeps_itself(koid, &object));
+        numbers.named + tasks_kept(&object, numbers) + itself
     }
 
+    /// How many live jobs have the koid as their parent. It takes no memory.
+    pub fn child_jobs(&self, koid: Koid) -> u64
+        ensures { result ≡ count_row (is_child_job_of koid) self.now.state }
+    {
+        self.tally.at(koid).jobs
+    }
+
+    /// How many live processes have the koid as their parent. It takes no memory.
+    pub fn child_processes(&self, koid: Koid) -> u64
+        ensures { result ≡ count_row (is_child_process_of koid) self.now.state }
+    {
+        self.tally.at(koid).processes
+    }
+
+    /// The least number of a message in the endpoint's queue. It takes no memory.
+    pub fn first_message(&self, endpoint: Koid) -> Option<u64>
+        ensures first { IsFirst self.now.state (λ n. key_variant.Msg endpoint n) result }
+        ensures suited { (key : RowKey) → SuitsKey key (row self.now.state key) }
+    {
+        self.cells.limits();
+        self.cells.first_message(endpoint)
+    }
+
+    /// The least number of a packet in the port. It takes no memory.
+    pub fn first_packet(&self, port: Koid) -> Option<u64>
+        ensures first { IsFirst self.now.state (λ n. key_variant.Packet port n) result }
+        ensures suited { (key : RowKey) → SuitsKey key (row self.now.state key) }
+    {
+        self.cells.limits();
+        self.cells.first_packet(port)
+    }
+
+    /// The object of the koid. It takes no memory.
     fn object(&self, koid: Koid) -> Option<ObjectRow>
-        ensures { result ≡ object self.now koid }
+        ensures { result ≡ object self.now.state koid }
     {
         match self.row(RowKey::Object(koid)) {
             Some(Row::Object(object)) => Some(*object),
@@ -141,248 +167,131 @@ impl Store {
         }
     }
 
-    /// Whether every number that a call may raise leaves room for one more call.
+    /// Whether every number that a call may raise leaves room for one more call. It takes no memory.
     pub fn room(&self) -> bool
-        ensures { IsTrue result ↔ HasRoom self.now }
+        ensures { IsTrue result ↔ HasRoom self.now.state }
     {
-        counters_fit(&self.counters) && rows_fit(&self.rows)
+        has_room(&self.cells)
     }
 
-    /// Whether the record's rows can be exchanged with the store's without taking memory for keys.
-    pub fn fits(&self, _record: &Record) -> bool
-        ensures { IsTrue result }
+    /// Whether each key of the record, and each koid that its rows count for, has a place in the store, so that
+    /// they can exchange their rows. It takes no memory.
+    pub fn fits(&self, kept: &Record) -> bool
+        ensures { result ≡ fits self.now.places kept.now }
     {
+        for (key, row) in kept.rows() {
+            if !self.fits_row(*key, row) {
+                return false;
+            }
+        }
         true
     }
 
-    /// An equal store in memory of its own.
+    /// Whether the key, and each koid that the row counts for, has a place in the store. It takes no memory.
+    fn fits_row(&self, key: RowKey, row: &Option<Row>) -> bool
+        ensures { result ≡ fits_row self.now.places key row.now }
+    {
+        let asked = key;
+        self.cells.has_place(key) && self.tally.covers_if(asked, row)
+    }
+
+    /// An equal store in memory of its own, with the same places.
     pub fn copy(&self) -> Result<Store, AllocError>
         ensures { IfOk result (λ copied. copied ≡ self.now) }
     {
         Ok(Store {
-            alloc: self.alloc,
-            counters: self.counters.copy()?,
-            rows: copy_rows(self.alloc, &self.rows)?,
+            cells: self.cells.copy()?,
+            tally: self.tally.copy()?,
         })
     }
 
-    /// Puts the row under the key, or takes away what is there. Refused, the store is as it was.
-    pub(crate) fn put(&mut self, key: RowKey, row: Option<Row>) -> Result<(), AllocError>
-        requires { SuitsKey key row }
-        ensures ok { OnOk result (self.new ≡ put self.old key row) }
-        ensures err { OnErr result (self.new ≡ self.old) }
-    {
-        match row {
-            Some(row) => self.keep(key, row),
-            None => {
-                self.forget(key);
-                Ok(())
-            }
-        }
-    }
-
-    fn keep(&mut self, key: RowKey, row: Row) -> Result<(), AllocError>
-        requires { suits key row ≡ true }
-        ensures ok { OnOk result (self.new ≡ put self.old key (Some row)) }
-        ensures err { OnErr result (self.new ≡ self.old) }
-    {
-        if key == RowKey::Counters {
-            discard(Some(mem::replace(&mut self.counters, row)));
-            return Ok(());
-        }
-        insert_row(&mut self.rows, key, row)
-    }
-
-    fn forget(&mut self, key: RowKey)
-        requires { rowkey_eq key key_variant.Counters ≡ false }
-        ensures { self.new ≡ put self.old key None }
-    {
-        discard(self.rows.remove(&key));
-    }
-
     pub(crate) fn alloc(&self) -> Global {
-        self.alloc
+        self.cells.alloc()
     }
 
-    /// The rows beside the counters.
-    pub(crate) fn rows(&self) -> &BTreeMap<RowKey, Row>
-        ensures found { (q : RowKey)
-            → row self.now q
-            ≡ (if rowkey_eq q key_variant.Counters then row self.now q else get rowkey_cmp result.now q) }
-        ensures suited { (q : RowKey) → SuitsKey q (row self.now q) }
+    /// What holds of the rows: each suits its key.
+    pub(crate) fn limits(&self)
+        ensures { (key : RowKey) → SuitsKey key (row self.now.state key) }
     {
-        &self.rows
+        self.cells.limits();
+    }
+
+    /// Makes what the row needs under the key: the place of the key, and the numbers of the koids that it counts
+    /// for. The rows stay as they are, also where memory is refused. Koids from 2^48 on are refused.
+    pub(crate) fn make_room(&mut self, key: RowKey, row: Option<&Row>) -> Result<(), AllocError>
+        ensures state { self.new.state ≡ self.old.state }
+        ensures kept { Keeps self.old.places self.new.places }
+        ensures made { OnOk result (fits_row self.new.places key (option_copied row.entry) ≡ true) }
+    {
+        let asked = key;
+        self.cells.make_place(key)?;
+        self.tally.grow_if(asked, row)
+    }
+
+    /// Exchanges the row, or none, with what stands under the key. It takes no memory.
+    pub(crate) fn exchange(&mut self, key: RowKey, kept: &mut Option<Row>)
+        requires placed { fits_row self.old.places key kept.old ≡ true }
+        requires suited { SuitsKey key kept.old }
+        ensures put { self.new ≡ standing self.old (put self.old.state key kept.old) }
+        ensures was { kept.new ≡ row self.old.state key }
+        ensures fit { fits_row self.new.places key kept.new ≡ true }
+        ensures suited { SuitsKey key kept.new }
+    {
+        let (came, went) = (key, key);
+        self.cells.limits();
+        self.tally.raise_if(came, kept);
+        self.cells.exchange(key, kept);
+        self.tally.lower_if(went, kept);
+    }
+
+    /// Puts the row under the key.
+    fn keep(&mut self, key: RowKey, row: Row) -> Result<(), AllocError>
+        requires { SuitsKey key (Option.Some row) }
+        ensures { OnOk result (self.new.state ≡ put self.old.state key (Option.Some row)) }
+    {
+        let asked = key;
+        self.make_room(key, Some(&row))?;
+        let mut kept = Some(row);
+        self.exchange(asked, &mut kept);
+        discard(kept);
+        Ok(())
     }
 }
 
 fn discard(_row: Option<Row>) {}
 
-/// Puts the row into the map, within the limit of rows. Refused, the map is as it was.
-fn insert_row(rows: &mut BTreeMap<RowKey, Row>, key: RowKey, row: Row) -> Result<(), AllocError>
-    requires few { btree_map_len rows.old ≤ 2 ^ 48 }
-    ensures entries { OnOk result (rows.new.entries ≡ insert_entry rowkey_cmp rows.old.entries key row) }
-    ensures updates { OnOk result (Updates rowkey_cmp rows.old rows.new key (Some row)) }
-    ensures err { OnErr result (IsUnchanged rows.old rows.new) }
-    ensures few { btree_map_len rows.new ≤ 2 ^ 48 }
-    ensures ordered { IsOrdered rowkey_cmp rows.new }
-{
-    if rows.len() >= MOST_ROWS && !rows.contains_key(&key) {
-        return Err(AllocError);
-    }
-    discard(rows.insert(key, row)?);
-    Ok(())
-}
-
-/// Equal rows under equal keys.
-fn copy_rows(
-    alloc: Global,
-    rows: &BTreeMap<RowKey, Row>,
-) -> Result<BTreeMap<RowKey, Row>, AllocError>
-    ensures { IfOk result (λ copied. copied.entries ≡ rows.now.entries) }
-{
-    let mut copied = BTreeMap::new(alloc);
-    for (key, row) in rows {
-        discard(copied.insert(*key, row.copy()?)?);
-    }
-    Ok(copied)
-}
-
-/// The least of the map's keys above the low one.
-fn key_above(rows: &BTreeMap<RowKey, Row>, low: RowKey) -> Option<RowKey>
-    ensures { result ≡ find (is_above (Some low)) (keys_of rows.now.entries) }
-{
-    let mut above = rows.range((Bound::Excluded(low), Bound::Unbounded));
-    match above.next() {
-        Some((key, _)) => Some(*key),
-        None => None,
-    }
-}
-
-fn is_live_task(object: &ObjectRow, is_kind: bool) -> bool
-    ensures { result ≡ (is_kind && is_live object.now.life) }
-{
-    match object.life {
-        Life::Live => is_kind,
-        _ => false,
-    }
-}
-
-fn is_live_job(object: &ObjectRow) -> bool
-    ensures { result ≡ is_live_job object.now }
-{
-    match object.kind {
-        Kind::Job => is_live_task(object, true),
-        _ => false,
-    }
-}
-
-fn is_live_process(object: &ObjectRow) -> bool
-    ensures { result ≡ is_live_process object.now }
-{
-    match object.kind {
-        Kind::Process => is_live_task(object, true),
-        _ => false,
-    }
-}
-
 /// Whether the live tasks below the object are its supports.
-fn keeps_tasks(object: Option<ObjectRow>) -> bool
-    ensures { result ≡ keeps_tasks object }
+fn keeps_tasks(object: &Option<ObjectRow>) -> bool
+    ensures { result ≡ keeps_tasks object.now }
 {
     match object {
-        Some(object) => is_live_job(&object),
+        Some(object) => object.kind == Kind::Job && object.life == Life::Live,
         None => false,
+    }
+}
+
+/// How many tasks support the object, by the numbers of its koid.
+fn tasks_kept(object: &Option<ObjectRow>, numbers: Numbers) -> u64
+    requires jobs { numbers.jobs < 2 ^ 62 }
+    requires processes { numbers.processes < 2 ^ 62 }
+    ensures count { result ≡ (if keeps_tasks object.now then numbers.jobs + numbers.processes else 0) }
+    ensures few { result < 2 ^ 63 }
+{
+    if keeps_tasks(object) {
+        numbers.jobs + numbers.processes
+    } else {
+        0
     }
 }
 
 /// Whether the object supports itself.
-fn keeps_itself(koid: Koid, object: Option<ObjectRow>) -> bool
-    ensures { result ≡ keeps_itself koid object }
+fn keeps_itself(koid: Koid, object: &Option<ObjectRow>) -> bool
+    ensures { result ≡ keeps_itself koid object.now }
 {
     match object {
-        Some(object) => is_live_process(&object) || koid == ROOT_JOB,
+        Some(object) => {
+            (object.kind == Kind::Process && object.life == Life::Live) || koid == ROOT_JOB
+        }
         None => false,
-    }
-}
-
-/// How many supports of the object all rows give, where tasks support their parents if they are kept.
-fn all_given(rows: &BTreeMap<RowKey, Row>, kept: bool, koid: Koid) -> u64
-    requires { btree_map_len rows.now ≤ 2 ^ 48 }
-    ensures count { result ≡ given_by_all kept koid rows.now.entries }
-    ensures few { result ≤ 64 * 2 ^ 48 }
-{
-    let mut count = 0;
-    for (key, row) in rows {
-        count += given_by(kept, koid, *key, row);
-    }
-    count
-}
-
-/// How many supports of the object one row gives, where tasks support their parents if they are kept.
-fn given_by(kept: bool, koid: Koid, key: RowKey, row: &Row) -> u64
-    ensures count { result ≡ given_by kept koid key row.now }
-    ensures few { result ≤ 64 }
-{
-    match (key, row) {
-        (RowKey::Entry(_, _), Row::Entry(held)) => u64::from(held.koid == koid),
-        (RowKey::Msg(_, _), Row::Msg(message)) => naming(message.handles().as_slice(), koid),
-        (RowKey::Object(_), Row::Object(object)) => u64::from(kept && is_task_below(object, koid)),
-        _ => 0,
-    }
-}
-
-/// Whether the object is a live task of the job.
-fn is_task_below(object: &ObjectRow, koid: Koid) -> bool
-    ensures { result ≡ ((is_live_job object.now || is_live_process object.now) && (object.now.link == koid)) }
-{
-    (is_live_job(object) || is_live_process(object)) && object.link == koid
-}
-
-/// How many of the handles name the object.
-fn naming(handles: &[Held], koid: Koid) -> u64
-    ensures count { result ≡ count_by (λ held. held.koid == koid) handles.now }
-    ensures few { result ≤ length handles.now }
-{
-    handles.iter().filter(|held| held.koid == koid).count() as u64
-}
-
-fn counters_fit(counters: &Row) -> bool
-    ensures { result ≡ counters_fit counters.now }
-{
-    match counters {
-        Row::Counters(counters) => {
-            counters.next_koid.0 <= 1 << 62 && counters.next_wait <= 1 << 62
-        }
-        _ => true,
-    }
-}
-
-fn rows_fit(rows: &BTreeMap<RowKey, Row>) -> bool
-    ensures { result ≡ rows_fit rows.now.entries }
-{
-    for (key, row) in rows {
-        if !row_fits(*key, row) {
-            return false;
-        }
-    }
-    true
-}
-
-fn row_fits(key: RowKey, row: &Row) -> bool
-    ensures { result ≡ row_fits key row.now }
-{
-    match (key, row) {
-        (RowKey::Object(_), Row::Object(object)) => next_fits(object.kind, object.next),
-        _ => true,
-    }
-}
-
-fn next_fits(kind: Kind, next: u64) -> bool
-    ensures { result ≡ next_fits kind next }
-{
-    match kind {
-        Kind::Process => next <= (1 << 30) - 64,
-        Kind::Channel | Kind::Port => next <= 1 << 62,
-        _ => true,
     }
 }

@@ -3,7 +3,8 @@ ghost use Rattle.std.specs.Option.{option_copied};
 ghost use Rattle.zt_rows.specs.Reads.{as_entry, entry};
 ghost use Rattle.zt_rows.specs.Tests.{next_at};
 ghost use Rattle.zt_rows.specs.Handles.{caller, install, value_of};
-ghost use Rattle.zt_store.specs.Stepping.{advanced, begun};
+ghost use Rattle.zt_store.specs.Places.{Keeps};
+ghost use Rattle.zt_store.specs.Stepping.{Advanced, AsBegun};
 ghost use Rattle.zt_tables.specs.Entries.{with_rights, without_entry};
 
 use std::alloc::AllocError;
@@ -13,7 +14,7 @@ use zt_store::{Step, Store};
 
 /// What the process holds by this handle value. It takes no memory.
 pub fn find(store: &Store, process: Koid, value: HandleValue) -> Option<Held>
-    ensures { result ≡ entry store.now process value }
+    ensures { result ≡ entry store.now.state process value }
 {
     as_entry(store.row(RowKey::Entry(process, value)))
 }
@@ -24,8 +25,9 @@ pub fn install(step: &mut Step, process: Koid, held: Held) -> Result<HandleValue
     requires { next_at step.old.current process < 2 ^ 30 }
     ensures value { IfOk result (λ value. value ≡ value_of (next_at step.old.current process)) }
     ensures installed { let S = step.old.current in
-        IfOk result (λ _. step.new ≡ advanced step.old (install process (caller S process) held S)) }
-    ensures err { OnErr result (step.new ≡ begun step.old.beginning) }
+        IfOk result (λ _. Advanced step.old step.new (install process (caller S process) held S)) }
+    ensures err { OnErr result (AsBegun step.old step.new) }
+    ensures kept { Keeps step.old.places step.new.places }
 {
     let owner = owner_of(step, process);
     let value = HandleValue((4 * owner.next + 3) as u32);
@@ -45,8 +47,9 @@ pub fn remove(
     value: HandleValue,
 ) -> Result<Option<Held>, AllocError>
     ensures held { IfOk result (λ held. held ≡ entry step.old.current process value) }
-    ensures removed { IfOk result (λ _. step.new ≡ advanced step.old (without_entry step.old.current process value)) }
-    ensures err { OnErr result (step.new ≡ begun step.old.beginning) }
+    ensures removed { IfOk result (λ _. Advanced step.old step.new (without_entry step.old.current process value)) }
+    ensures err { OnErr result (AsBegun step.old step.new) }
+    ensures kept { Keeps step.old.places step.new.places }
 {
     let held = as_entry(step.row(RowKey::Entry(process, value)));
     step.put(RowKey::Entry(process, value), None)?;
@@ -63,8 +66,9 @@ pub fn duplicate(
     requires { next_at step.old.current process < 2 ^ 30 }
     ensures value { IfOk result (λ value. value ≡ value_of (next_at step.old.current process)) }
     ensures installed { let S = step.old.current in
-        IfOk result (λ _. step.new ≡ advanced step.old (install process (caller S process) (with_rights held rights) S)) }
-    ensures err { OnErr result (step.new ≡ begun step.old.beginning) }
+        IfOk result (λ _. Advanced step.old step.new (install process (caller S process) (with_rights held rights) S)) }
+    ensures err { OnErr result (AsBegun step.old step.new) }
+    ensures kept { Keeps step.old.places step.new.places }
 {
     install(step, process, Held { rights, ..held })
 }

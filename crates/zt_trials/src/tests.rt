@@ -1,5 +1,7 @@
 mod books;
 mod copies;
+mod queues;
 mod runs;
 mod signals;
+mod stores;
 mod tables;

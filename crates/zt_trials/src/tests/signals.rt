@@ -22,14 +22,12 @@ fn has_channel(step: &Step, signals: u32) -> bool {
     step.row(RowKey::Object(MADE)) == Some(&Row::Object(channel(signals)))
 }
 
-/// A step over a channel, that takes memory at its first put.
+/// A step over a channel.
 fn over_channel(alloc: Global) -> Result<Step, AllocError> {
-    let mut step = Step::begin(Store::opening(alloc)?)?;
+    let mut step = Step::begin(Store::opening(alloc)?);
     step.put(RowKey::Object(MADE), Some(Row::Object(channel(0x1000000))))?;
-    let (store, _) = step.finish()?;
-    let mut step = Step::begin(store)?;
-    step.reset();
-    Ok(step)
+    let (store, _) = step.finish();
+    Ok(Step::begin(store))
 }
 
 fn set(step: &mut Step) -> Result<(), AllocError> {
@@ -57,12 +55,9 @@ fn refused_memory_refreshes_nothing(rt: HostRuntime) {
         return;
     }
     let mut signals = 0x3000004;
-    if refresh(rt.alloc(), &mut step, MADE).is_err() {
+    if refresh(&mut step, MADE).is_err() {
         assert!(rt; has_channel(&step, 0x1000000));
-        assert!(rt;
-            refresh(rt.alloc(), &mut step, MADE).is_ok(),
-            "refreshed later"
-        );
+        assert!(rt; refresh(&mut step, MADE).is_ok(), "refreshed later");
         signals = 0x1000004;
     }
     assert!(rt; has_channel(&step, signals));

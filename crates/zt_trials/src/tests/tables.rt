@@ -49,11 +49,8 @@ fn duplicated(rt: &impl Abort, step: &mut Step) -> Result<HandleValue, AllocErro
     duplicate(step, ROOT, TO_EVENT, Rights(1))
 }
 
-/// A step over the opening that takes memory at its first put.
 fn opened(alloc: Global) -> Result<Step, AllocError> {
-    let mut step = Step::begin(Store::opening(alloc)?)?;
-    step.reset();
-    Ok(step)
+    Ok(Step::begin(Store::opening(alloc)?))
 }
 
 /// Whether the first process has its first handle alone, and gives out the second next.
@@ -65,9 +62,7 @@ fn is_as_begun(step: &Step) -> bool {
 
 /// What the store after the step has at the second handle.
 fn second_of(step: Step) -> Option<Held> {
-    let Ok((store, _)) = step.finish() else {
-        return None;
-    };
+    let (store, _) = step.finish();
     find(&store, ROOT, SECOND)
 }
 

@@ -9,8 +9,8 @@ pub duplicate-requires : goal.duplicate-requires
 duplicate-requires c =
     replace-fits c.args.step.now c.take_out.new.step c.args.process c.args.handle c.requires.room c.requires.running c.in_ok-take_out.ensures.ok
 
-pub returns : goal.returns
-returns c =
+pub returns-clause-does : goal.returns-clause-does
+returns-clause-does c =
     replace-does c.args.step.now c.take_out.new.step c.duplicate.new.step c.args.process c.args.handle c.args.rights c.in_ok-value.value c.in_ok-held.held c.in_ok-rights.rights
     (sym c.held_by.ensures ∙ c.in_ok-held.ensures.ok_part)
     (sym c.asked-granted.ensures ∙ ap (option_map (λ (r : Rights). r.0)) c.in_ok-rights.ensures.ok_part)

@@ -24,6 +24,7 @@ loop-number-preserved c =
           c.in_ok-fire.ensures.ok
           ∙ ap (λ C. fire C c.loop-number-item.result) c.loop-number.invariant.current
           ∙ sym (fold-next fire c.args.step.now.current c.deref-number-items.result.now c.loop-number.number-index c.loop-number-item.result below c.loop-number-item.is);
+      kept = λ R fit. c.fire.ensures.kept R (c.loop-number.invariant.kept R fit);
     }
 
 pub returns-clause-ok : goal.returns-clause-ok

@@ -14,6 +14,7 @@ loop-key-preserved c =
           c.in_ok-refresh_under.ensures.ok
           ∙ ap (λ C. refreshed_under C c.key-item.result) c.loop-key.invariant.current
           ∙ sym (fold-next refreshed_under c.args.step.now.current c.deref-key-items.result.now c.loop-key.key-index c.key-item.result below c.key-item.is);
+      kept = λ R fit. c.refresh_under.ensures.kept R (c.loop-key.invariant.kept R fit);
     }
 
 pub returns-clause-ok : goal.returns-clause-ok

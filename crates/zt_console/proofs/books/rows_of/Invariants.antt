@@ -5,9 +5,9 @@ use Rattle.zt_console.proofs.books.rows_of.Given as goal
 
 abbrev pub invariant-loop-next : goal.invariant-loop-next
 invariant-loop-next l = record {
-  copied : l.rows.items ≡ take (length l.rows.items) l.store.rows;
-  following : l.next ≡ slice_get (map (λ e. e.0) l.store.rows) (length l.rows.items);
+  copied : l.rows.items ≡ take (length l.rows.items) l.store.state.rows;
+  following : l.next ≡ slice_get (map (λ e. e.0) l.store.state.rows) (length l.rows.items);
 }
 
 abbrev pub decreases-loop-next : goal.decreases-loop-next
-decreases-loop-next l = length l.store.rows - length l.rows.items
+decreases-loop-next l = length l.store.state.rows - length l.rows.items

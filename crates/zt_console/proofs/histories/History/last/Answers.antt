@@ -6,4 +6,4 @@ use Rattle.zt_console.proofs.histories.History.last.Goals as goal
 
 pub returns-clause-last : goal.returns-clause-last
 returns-clause-last c =
-    omega (arith, last-branch_of c.self.inside.store c.self.inside.past.items c.self.inside.future.items, ap (λ b. last (states b)) c.self.view_is, c.self.inside.past.ok.0, c.self.inside.future.ok.0)
+    omega (arith, last-branch_of c.self.inside.store.state c.self.inside.past.items c.self.inside.future.items, ap (λ b. last (states b)) c.self.view_is, c.self.inside.past.ok.0, c.self.inside.future.ok.0)

@@ -1,8 +1,5 @@
-use Rattle.std.proofs.Common.{refl}
-use Rattle.zt_rows.specs.Opening.{hollow}
-use Rattle.zt_store.specs.Seen.{state_with}
+use Rattle.zt_store.proofs.Tallied.{tallied-hollow, names_few-hollow}
 use Rattle.zt_store.proofs.stores.Store.hollow.Goals as goal
 
-pub returns : goal.returns
-unfolding state_with hollow
-returns c = rw c.new.ensures.empty refl
+pub invariant_of-result : goal.invariant_of-result
+invariant_of-result c = rw c.hollow.ensures (tallied-hollow c.new.result c.new.ensures, names_few-hollow)

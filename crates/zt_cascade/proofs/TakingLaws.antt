@@ -1,0 +1,280 @@
+-- An object taken out stage by stage: its row, its queue, its packets and the waits for it.
+use Rattle.std.proofs.Common.{◌≡◌, ◌≤◌, ◌<◌, ℕ, ◌+◌, true, false, ◌||◌, List, [], ◌∷◌, ◌++◌, length, ◌⊎◌, inl, inr, refl, sym, ap, ◌∙◌, subst, arith}
+use Rattle.std.specs.Prelude.{Option, None, Some, if◌then◌else◌, ◌==◌, IsSome}
+use Rattle.std.specs.Option.{option_map}
+use Rattle.std.proofs.lemmas.Bool.{eqb-true, eq-eqb, cases_lt}
+use borrow.Author.Count.{below_more}
+use Rattle.std.proofs.lemmas.List.{length-map, length-append}
+use Rattle.std.proofs.lemmas.List.Folds.{list_any-append}
+use Rattle.zt_bits.specs.declared.kinds.Kind.TheVariants as kind
+use Rattle.zt_rows.specs.declared.keys.RowKey.{RowKey}
+use Rattle.zt_rows.specs.declared.keys.RowKey.TheVariants as key
+use Rattle.zt_rows.specs.declared.rows.Held.{Held}
+use Rattle.zt_rows.specs.declared.rows.ObjectRow.{ObjectRow}
+use Rattle.zt_rows.specs.declared.rows.Wait.{Wait}
+use Rattle.zt_rows.specs.declared.rows.Row.{Row}
+use Rattle.zt_rows.specs.declared.rows.Row.TheVariants as rows
+use Rattle.zt_rows.specs.Contents.{MessageContent}
+use Rattle.zt_rows.specs.State.{State, row}
+use Rattle.zt_rows.specs.Reads.{as_message, as_wait, counters, as_counters, object, message, wait}
+use Rattle.zt_rows.specs.Room.{SuitsKey}
+use Rattle.zt_rows.specs.Tests.{is_endpoint, among, link_at, object_link, kind_at}
+use Rattle.zt_rows.specs.Collect.{left, without}
+use Rattle.zt_rows.proofs.StateLaws.{row-put-other}
+use Rattle.zt_rows.proofs.RowLaws.{and_left, and_right, or_left, or_right, not_true, true≢false}
+use Rattle.zt_rows.specs.declared.rows.Counters.{Counters}
+use Rattle.zt_rows.proofs.ReadLaws.{some_one, object-row, message-row, counters-without, row-without, wait-stayed}
+use Rattle.zt_rows.proofs.SoundLaws.{and_no_right}
+use Rattle.zt_cascade.specs.OnTheWay.{only, is_named, IsLetGo, by_message, by_link}
+use Rattle.zt_cascade.specs.Joined.{IsJoined, WaitsForPorts}
+use Rattle.zt_store.specs.Stepping.{Stepping}
+use Rattle.zt_cascade.specs.Leaving.{IsAhead, left_at, left_behind, IsLeft, weighs, weight, IsPartly, koids, handles_in, IsNoted}
+use Rattle.zt_cascade.proofs.LeavingLaws.{left-none, left-object, left-wait, left-stays, behind-left, behind-lighter, behind-gone, partly-behind, partly-more, partly-then, partly-end, all-left, suited-partly}
+
+-- ---- later moments of the step
+
+pub ahead-itself : (s : Stepping) → IsAhead s s
+ahead-itself s = record { beginning = refl; kept = λ R f. f }
+
+pub ahead-then : (s t u : Stepping) → IsAhead s t → IsAhead t u → IsAhead s u
+ahead-then s t u first second = record { beginning = second.beginning ∙ first.beginning; kept = λ R f. second.kept R (first.kept R f) }
+
+-- ---- its row, and the link of its peer
+
+none-self : {A : Type 0} (x : ℕ) (v : A) → (if x == x then None else Some v) ≡ None
+none-self x v = ap (λ b. if b then None else Some v) (eq-eqb x x refl)
+
+module _ (x : ℕ) (S : State) (o : ObjectRow) (there : object S x ≡ Some o) where
+  abbrev without_row : State
+  without_row = left_behind x S (key.Object x)
+
+  abbrev pub without_link : State
+  without_link = left_behind x without_row (key.Object o.link)
+
+  pub row-partly : IsPartly x S without_link
+  row-partly = partly-then x S without_row without_link (partly-behind x S (key.Object x)) (partly-behind x without_row (key.Object o.link))
+
+  pub row-messages : (n : ℕ) → message without_link x n ≡ message S x n
+  row-messages n =
+      ap as_message
+      (row-put-other without_row (key.Object o.link) (left_at x without_row (key.Object o.link)) (key.Msg x n) refl
+      ∙ row-put-other S (key.Object x) (left_at x S (key.Object x)) (key.Msg x n) refl)
+
+  pub row-lighter : weight without_link + 1 ≤ weight S
+  row-lighter =
+      let a : weight without_row + 1 ≡ weight S = behind-gone x S (key.Object x) (rows.Object o) (object-row S x o there) (none-self x _) in
+      let b : weight without_link ≤ weight without_row = behind-lighter x without_row (key.Object o.link) in
+      omega arith
+
+  -- what has x as its link is what x has as its link
+  other-object : IsJoined S → (y : ℕ) → (y == x) ≡ false → (y == o.link) ≡ false → IsLeft x S (key.Object y)
+  other-object joined y t u = left-object x y t (row S (key.Object y)) (λ p here h.
+      let named : p.link ≡ x = eqb-true p.link x (and_right (is_endpoint p.kind) (p.link == x) h) in
+      elim (joined.back y p here (and_left (is_endpoint p.kind) (p.link == x) h)) [
+        | inl none ↦ none
+        | inr back ↦
+            let mine : o.link ≡ y = sym (ap object_link there) ∙ ap (link_at S) (sym named) ∙ back in
+            absurd (true≢false (y == o.link) (eq-eqb y o.link (sym mine)) u)
+      ])
+
+  pub row-objects : IsJoined S → (y : ℕ) → IsLeft x without_link (key.Object y)
+  row-objects joined y =
+      elim (y == x) as (λ b. (y == x) ≡ b → IsLeft x without_link (key.Object y)) [
+        | true ↦ λ t.
+            subst (λ z. IsLeft x without_link (key.Object z)) (sym (eqb-true y x t))
+            (left-stays x without_row without_link (key.Object x) (partly-behind x without_row (key.Object o.link)) (behind-left x S (key.Object x)))
+        | false ↦ λ t.
+            elim (y == o.link) as (λ b. (y == o.link) ≡ b → IsLeft x without_link (key.Object y)) [
+              | true ↦ λ u. subst (λ z. IsLeft x without_link (key.Object z)) (sym (eqb-true y o.link u)) (behind-left x without_row (key.Object o.link))
+              | false ↦ λ u. left-stays x S without_link (key.Object y) row-partly (other-object joined y t u)
+            ] refl
+      ] refl
+
+-- ---- its queue
+
+pub some-message : (S : State) (x n : ℕ) → IsSome (row S (key.Msg x n)) → SuitsKey (key.Msg x n) (row S (key.Msg x n)) → (m : MessageContent) × (message S x n ≡ Some m)
+some-message S x n some suits = message_of (row S (key.Msg x n)) some suits
+  where
+    message_of : (r : Option Row) → IsSome r → SuitsKey (key.Msg x n) r → (m : MessageContent) × (as_message r ≡ Some m)
+    message_of None e h = cc
+    message_of (Some (rows.Msg m)) e h = (m, refl)
+    message_of (Some _) e h = cc
+
+pub among-koids : (handles : List Held) (y : ℕ) → among (koids handles) y ≡ is_named handles y
+among-koids [] y = refl
+among-koids (held ∷ rest) y = ap (λ b. (held.koid == y) || b) (among-koids rest y)
+
+pub among-left : (xs ys : List ℕ) (y : ℕ) → among xs y ≡ true → among (xs ++ ys) y ≡ true
+among-left xs ys y e = list_any-append (λ m. m == y) xs ys ∙ or_left (among xs y) (among ys y) e
+
+pub among-right : (xs ys : List ℕ) (y : ℕ) → among ys y ≡ true → among (xs ++ ys) y ≡ true
+among-right xs ys y e = list_any-append (λ m. m == y) xs ys ∙ or_right (among xs y) (among ys y) e
+
+pub noted-none : (x : ℕ) (S : State) (list : List ℕ) → IsNoted x S list S list
+noted-none x S list = record { noted = λ n m e y g. inl e; grown = λ y e. e; lighter = omega arith }
+
+module _ (x n : ℕ) (S T : State) (list later : List ℕ) (m : MessageContent) (there : message T x n ≡ Some m) where
+  abbrev after : State
+  after = left_behind x T (key.Msg x n)
+
+  pub message-lighter : weight after + (1 + length m.handles) ≡ weight T
+  message-lighter = behind-gone x T (key.Msg x n) (rows.Msg m) (message-row T x n m there) (none-self x (rows.Msg m))
+
+  noted_at : IsNoted x S list T later → (k : ℕ) (p : MessageContent) → message S x k ≡ Some p → (y : ℕ) → is_named p.handles y ≡ true → (message after x k ≡ Some p) ⊎ (among (later ++ koids m.handles) y ≡ true)
+  noted_at h k p e y g = elim (h.noted k p e y g) [
+    | inl still ↦ elim (k == n) as (λ b. (k == n) ≡ b → (message after x k ≡ Some p) ⊎ (among (later ++ koids m.handles) y ≡ true)) [
+      | true ↦ λ t.
+          let same : Some m ≡ Some p = sym there ∙ ap (λ z. message T x z) (sym (eqb-true k n t)) ∙ still in
+          let one : m ≡ p = some_one m p same in
+          inr (among-right later (koids m.handles) y (among-koids m.handles y ∙ ap (λ (z : MessageContent). is_named z.handles y) one ∙ g))
+      | false ↦ λ t. inl (ap as_message (row-put-other T (key.Msg x n) (left_at x T (key.Msg x n)) (key.Msg x k) (and_no_right (x == x) (k == n) t)) ∙ still)
+    ] refl
+    | inr found ↦ inr (among-left later (koids m.handles) y found)
+  ]
+
+  pub noted-more : IsNoted x S list T later → IsNoted x S list after (later ++ koids m.handles)
+  noted-more h = record {
+    noted = noted_at h;
+    grown = λ y e. among-left later (koids m.handles) y (h.grown y e);
+    lighter =
+        let w : weight after + (1 + length m.handles) ≡ weight T = message-lighter in
+        let a : length (later ++ koids m.handles) ≡ length later + length (koids m.handles) = length-append later (koids m.handles) in
+        let b : length (koids m.handles) ≡ length m.handles = length-map m.handles (λ held. held.koid) in
+        let l : weight T + length later ≤ weight S + length list = h.lighter in
+        omega arith;
+  }
+
+pub messages-step : (x n : ℕ) (S T U : State) (list later more : List ℕ) → IsSome (row T (key.Msg x n)) → SuitsKey (key.Msg x n) (row T (key.Msg x n))
+    → IsPartly x S T → IsNoted x S list T later → U ≡ left_behind x T (key.Msg x n) → more ≡ later ++ koids (handles_in (message T x n))
+    → IsPartly x S U × IsNoted x S list U more × (weight U < weight T)
+messages-step x n S T U list later more some suits partly noted next added =
+    let w = some-message T x n some suits in
+    let V : State = left_behind x T (key.Msg x n) in
+    let all : more ≡ later ++ koids w.0.handles = added ∙ ap (λ z. later ++ koids (handles_in z)) w.1 in
+    let here : IsNoted x S list V (later ++ koids w.0.handles) = noted-more x n S T list later w.0 w.1 noted in
+    let less : weight V + (1 + length w.0.handles) ≡ weight T = message-lighter x n S T list later w.0 w.1 in
+    let same : weight U ≡ weight V = ap weight next in (
+      subst (IsPartly x S) (sym next) (partly-more x S T (key.Msg x n) partly),
+      subst (λ s. IsNoted x S list s more) (sym next) (subst (IsNoted x S list V) (sym all) here),
+      omega arith,
+    )
+
+-- ---- its packets
+
+some-packet_row : (p n : ℕ) (r : Option Row) → IsSome r → SuitsKey (key.Packet p n) r → (s : Row) × (r ≡ Some s) × (left (only p) (key.Packet p n) s ≡ None)
+some-packet_row p n None e h = cc
+some-packet_row p n (Some (rows.Packet k)) e h = (rows.Packet k, refl, none-self p (rows.Packet k))
+some-packet_row p n (Some _) e h = cc
+
+pub packet-lighter : (p n : ℕ) (T : State) → IsSome (row T (key.Packet p n)) → SuitsKey (key.Packet p n) (row T (key.Packet p n)) → weight (left_behind p T (key.Packet p n)) < weight T
+packet-lighter p n T some suits =
+    let w = some-packet_row p n (row T (key.Packet p n)) some suits in
+    let e : weight (left_behind p T (key.Packet p n)) + weighs (key.Packet p n) w.0 ≡ weight T = behind-gone p T (key.Packet p n) w.0 w.1 w.2 in
+    let l : 1 ≤ weighs (key.Packet p n) w.0 = weighs-some (key.Packet p n) w.0 in
+    omega arith
+  where
+    weighs-some : (k : RowKey) (r : Row) → 1 ≤ weighs k r
+    weighs-some k (rows.Msg m) = omega arith
+    weighs-some k _ = omega arith
+
+pub packets-step : (p n : ℕ) (S T U : State) → IsSome (row T (key.Packet p n)) → ((k : RowKey) → SuitsKey k (row T k)) → IsPartly p S T → U ≡ left_behind p T (key.Packet p n)
+    → IsPartly p S U × ((k : RowKey) → SuitsKey k (row U k)) × (weight U < weight T)
+packets-step p n S T U some suited partly next =
+    let V : State = left_behind p T (key.Packet p n) in
+    let less : weight V < weight T = packet-lighter p n T some (suited (key.Packet p n)) in
+    let same : weight U ≡ weight V = ap weight next in (
+      subst (IsPartly p S) (sym next) (partly-more p S T (key.Packet p n) partly),
+      subst (λ s. (k : RowKey) → SuitsKey k (row s k)) (sym next) (suited-partly p T V (partly-behind p T (key.Packet p n)) suited),
+      omega arith,
+    )
+
+-- ---- the waits for it
+
+partly-row : (x : ℕ) (S T : State) (k : RowKey) → IsPartly x S T → (row T k ≡ row S k) ⊎ (row T k ≡ row (without S (only x)) k)
+partly-row x S T k h = elim (h.at k) [ inl d ↦ inl d | inr d ↦ inr (d ∙ sym (row-without (only x) S k)) ]
+
+pub partly-wait : (x : ℕ) (S T : State) (n : ℕ) (w : Wait) → IsPartly x S T → wait T n ≡ Some w → wait S n ≡ Some w
+partly-wait x S T n w h e = elim (partly-row x S T (key.Wait n) h) [
+  | inl d ↦ ap as_wait (sym d) ∙ e
+  | inr d ↦ (wait-stayed (only x) S n w (ap as_wait (sym d) ∙ e)).0
+]
+
+pub partly-counters : (x : ℕ) (S T : State) → IsPartly x S T → counters T ≡ counters S
+partly-counters x S T h = elim (partly-row x S T key.Counters h) [
+  | inl d ↦ ap as_counters d
+  | inr d ↦ ap as_counters d ∙ counters-without (only x) S
+]
+
+pub partly-number : (x : ℕ) (S T : State) → IsPartly x S T → WaitsForPorts S → (n : ℕ) (w : Wait) → wait T n ≡ Some w → n < (counters T).next_wait
+partly-number x S T h waits n w e =
+    subst (λ (c : Counters). n < c.next_wait) (sym (partly-counters x S T h)) (waits.number n w (partly-wait x S T n w h e))
+
+pub partly-port : (x : ℕ) (S T : State) (o : ObjectRow) → object S x ≡ Some o → IsPartly x S T → WaitsForPorts S → (n : ℕ) (w : Wait) → wait T n ≡ Some w → w.port ≡ x → o.kind ≡ kind.Port
+partly-port x S T o there h waits n w e mine =
+    let port : kind_at S w.port ≡ Some kind.Port = waits.port n w (partly-wait x S T n w h e) in
+    let here : kind_at S x ≡ Some o.kind = ap (option_map (λ (z : ObjectRow). z.kind)) there in
+    some_one o.kind kind.Port (sym here ∙ ap (kind_at S) (sym mine) ∙ port)
+
+-- no wait is for what is not a port
+pub left-unawaited : (x : ℕ) (T : State) → ((n : ℕ) (w : Wait) → wait T n ≡ Some w → w.port ≡ x → ⊥) → (n : ℕ) → IsLeft x T (key.Wait n)
+left-unawaited x T none n = left-wait x T n (λ w e. not_true (w.port == x) (λ t. none n w e (eqb-true w.port x t)))
+
+-- beyond the numbers that were given out there is no wait
+pub left-beyond : (x : ℕ) (T : State) (n next : ℕ) → ((m : ℕ) (w : Wait) → wait T m ≡ Some w → m < next) → next ≤ n → IsLeft x T (key.Wait n)
+left-beyond x T n next below past = left-wait x T n (λ w e. absurd (none_beyond w e))
+  where
+    none_beyond : (w : Wait) → wait T n ≡ Some w → ⊥
+    none_beyond w e = let l : n < next = below n w e in omega arith
+
+pub waits-step : (x n : ℕ) (S T U : State) → IsPartly x S T → ((m : ℕ) → m < n → IsLeft x T (key.Wait m)) → U ≡ left_behind x T (key.Wait n)
+    → IsPartly x S U × ((m : ℕ) → m < n + 1 → IsLeft x U (key.Wait m))
+waits-step x n S T U partly seen next =
+    let V : State = left_behind x T (key.Wait n) in
+    let earlier : (m : ℕ) → m < n → IsLeft x V (key.Wait m) = λ m l. left-stays x T V (key.Wait m) (partly-behind x T (key.Wait n)) (seen m l) in (
+      subst (IsPartly x S) (sym next) (partly-more x S T (key.Wait n) partly),
+      subst (λ s. (m : ℕ) → m < n + 1 → IsLeft x s (key.Wait m)) (sym next) (below_more (λ m. IsLeft x V (key.Wait m)) n earlier (behind-left x T (key.Wait n))),
+    )
+
+pub waits-end : (x next n : ℕ) (S T : State) → IsPartly x S T → ((m : ℕ) (w : Wait) → wait S m ≡ Some w → m < next) → ((m : ℕ) → m < n → IsLeft x T (key.Wait m)) → next ≤ n → (m : ℕ) → IsLeft x T (key.Wait m)
+waits-end x next n S T partly below seen past m = elim (cases_lt m n) [
+  | inl l ↦ seen m l
+  | inr g ↦ left-stays x S T (key.Wait m) partly (left-beyond x S m next below (omega arith))
+]
+
+-- ---- all of it
+
+pub taken-out : (x : ℕ) (S A B C D : State) → IsPartly x S A → ((y : ℕ) → IsLeft x A (key.Object y))
+    → IsPartly x A B → ((n : ℕ) → row B (key.Msg x n) ≡ None)
+    → IsPartly x B C → ((n : ℕ) → row C (key.Packet x n) ≡ None)
+    → IsPartly x C D → ((n : ℕ) → IsLeft x D (key.Wait n)) → D ≡ without S (only x)
+taken-out x S A B C D a objects b messages c packets d waits =
+    let bd : IsPartly x B D = partly-then x B C D c d in
+    let ad : IsPartly x A D = partly-then x A B D b bd in
+    partly-end x S D (partly-then x S A D a ad)
+    (all-left x D (λ y. left-stays x A D (key.Object y) ad (objects y)) (λ n. left-stays x B D (key.Msg x n) bd (left-none x B (key.Msg x n) (messages n)))
+    (λ n. left-stays x C D (key.Packet x n) d (left-none x C (key.Packet x n) (packets n))) waits)
+
+-- what the object may let go was noted
+pub taken-noted : (x : ℕ) (S A B : State) (o : ObjectRow) (list later : List ℕ) → object S x ≡ Some o → ((n : ℕ) → message A x n ≡ message S x n)
+    → IsNoted x A list B later → ((n : ℕ) → row B (key.Msg x n) ≡ None) → (y : ℕ) → IsLetGo S x y → among (later ++ o.link ∷ []) y ≡ true
+taken-noted x S A B o list later there same h gone y (by_message n m e g) = elim (h.noted n m (same n ∙ e) y g) [
+  | inl still ↦ absurd (no_message (row B (key.Msg x n)) (gone n) still)
+  | inr found ↦ among-left later (o.link ∷ []) y found
+]
+  where
+    no_message : {m : MessageContent} (r : Option Row) → r ≡ None → as_message r ≡ Some m → ⊥
+    no_message r e f = let none : as_message r ≡ None = ap as_message e in cc
+taken-noted x S A B o list later there same h gone y (by_link e) =
+    let mine : o.link ≡ y = sym (ap object_link there) ∙ e in
+    among-right later (o.link ∷ []) y (or_left (o.link == y) false (eq-eqb o.link y mine))
+
+pub taken-grown : (x : ℕ) (A B : State) (list later more : List ℕ) → IsNoted x A list B later → (y : ℕ) → among list y ≡ true → among (later ++ more) y ≡ true
+taken-grown x A B list later more h y e = among-left later more y (h.grown y e)
+
+pub taken-lighter : (x : ℕ) (S A B C D : State) (list later : List ℕ) (l : ℕ) → weight A + 1 ≤ weight S → IsNoted x A list B later → IsPartly x B C → IsPartly x C D → weight D + length (later ++ l ∷ []) ≤ weight S + length list
+taken-lighter x S A B C D list later l a b c d =
+    let p : weight B + length later ≤ weight A + length list = b.lighter in
+    let q : weight C ≤ weight B = c.lighter in
+    let r : weight D ≤ weight C = d.lighter in
+    let e : length (later ++ l ∷ []) ≡ length later + 1 = length-append later (l ∷ []) in
+    omega arith

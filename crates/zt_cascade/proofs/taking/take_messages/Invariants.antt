@@ -1,0 +1,12 @@
+use Rattle.zt_cascade.specs.Leaving.{IsAhead, IsNoted, IsPartly, weight}
+use Rattle.zt_cascade.proofs.taking.take_messages.Given as goal
+
+abbrev pub invariant-loop-number : goal.invariant-loop-number
+invariant-loop-number l = record {
+  ahead : IsAhead l.fn.step l.step;
+  partly : IsPartly l.endpoint l.fn.step.current l.step.current;
+  noted : IsNoted l.endpoint l.fn.step.current l.fn.list.items l.step.current l.list.items;
+}
+
+abbrev pub decreases-loop-number : goal.decreases-loop-number
+decreases-loop-number l = weight l.step.current

@@ -1,0 +1,5 @@
+pub mod OnTheWay
+pub mod Joined
+pub mod Covered
+pub mod Leaving
+pub mod Under

@@ -1,0 +1,46 @@
+//! What holds of removal one object at a time. Each law is the contract of a function that does nothing.
+ghost use Rattle.std.specs.Prelude.{◌≡◌, ℕ, Bool, true, false, List};
+ghost use Rattle.zt_rows.specs.declared.rows.Held.{Held};
+ghost use Rattle.zt_rows.specs.State.{State};
+ghost use Rattle.zt_rows.specs.Collect.{collect, goes, without};
+ghost use Rattle.zt_rows.specs.Consistent.{IsSound};
+ghost use Rattle.zt_rows.specs.Support.{is_supported};
+ghost use Rattle.zt_rows.specs.Tests.{exists};
+ghost use Rattle.zt_store.specs.Stepping.{DiffersAtTouched, Stepping};
+ghost use Rattle.zt_cascade.specs.Covered.{IsCovered, NamesLost};
+ghost use Rattle.zt_cascade.specs.OnTheWay.{IsLetGo, IsOnTheWay, only};
+ghost use Rattle.zt_cascade.specs.Joined.{IsJoined, WaitsForPorts};
+
+/// A state is on the way from itself; one more object that goes leads further; and where nothing goes any more,
+/// the way has ended at what collecting gives.
+pub fn one_at_a_time_is_collecting()
+    ensures begun { (S : State) → IsOnTheWay S S }
+    ensures more { (S T : State) (x : ℕ) → IsOnTheWay S T → goes T x ≡ true → IsOnTheWay S (without T (only x)) }
+    ensures ended { (S T : State) → IsOnTheWay S T → ((x : ℕ) → goes T x ≡ false) → T ≡ collect S }
+{}
+
+/// What goes once an object is gone, and did not go before, was named by a handle in that object's queue, or by
+/// its link.
+pub fn what_newly_goes_was_named()
+    ensures { (S : State) (x y : ℕ) → goes (without S (only x)) y ≡ true → goes S y ≡ false → IsLetGo S x y }
+{}
+
+/// Where objects go, links of endpoints still join both ways.
+pub fn removal_keeps_links_joined()
+    ensures sound { (S : State) → IsSound S → IsJoined S }
+    ensures kept { (S : State) (going : ℕ → Bool) → IsJoined S → IsJoined (without S going) }
+{}
+
+/// Where objects go, waits are still for ports that are there.
+pub fn removal_keeps_ports_of_waits()
+    ensures sound { (S : State) → IsSound S → WaitsForPorts S }
+    ensures kept { (S : State) (going : ℕ → Bool) → WaitsForPorts S → WaitsForPorts (without S going) }
+{}
+
+/// Where every object was supported at the beginning of a step, and what the lost entries and messages named is in
+/// the list, the step and the list tell of every object that goes.
+pub fn what_a_step_loses_is_told()
+    ensures { (s : Stepping) (released : List Held)
+        → ((x : ℕ) → exists s.beginning x ≡ true → is_supported s.beginning x ≡ true)
+        → DiffersAtTouched s → NamesLost s released → IsCovered s released }
+{}

@@ -1,0 +1,9 @@
+//! Closing by a worklist: what goes when handles are released, each object looked at once.
+#![tactic(auto)]
+
+pub mod laws;
+mod leaving;
+mod releasing;
+mod taking;
+
+pub use releasing::release;

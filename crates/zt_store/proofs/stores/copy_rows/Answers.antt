@@ -1,7 +1,0 @@
-use Rattle.zt_store.proofs.RowMaps.{insert-next}
-use Rattle.zt_store.proofs.stores.copy_rows.Goals as goal
-
-pub loop-key-preserved : goal.loop-key-preserved
-loop-key-preserved c =
-    rw (c.in_ok-insert.ensures.entries, c.in_ok-copy.ensures)
-    (insert-next _ _ _ _ _ _ c.into_iter-key-iterator.ensures.into_iter_gives.5 c.loop-key.invariant c.in-Some.ensures.steps)

@@ -1,0 +1,139 @@
+ghost use Rattle.std.specs.Prelude.{◌≡◌, ◌≤◌, ◌<◌, ◌+◌, ◌^◌, ℕ, true, false, IfOk, OnOk, OnErr};
+ghost use Rattle.std.specs.Option.{option_copied};
+ghost use Rattle.zt_store.specs.Cabinets.{cabinet_of, look, places_in, shelves_of, Exchanged, MadeFor, Widened};
+ghost use Rattle.zt_store.specs.Shelves.{has_place, length_at, place_of};
+
+use crate::cells::entries::Entries;
+use crate::cells::shelf::Shelf;
+use crate::cells::table::{Table, copy_place};
+use std::alloc::{AllocError, Global};
+use std::mem;
+use zt_rows::{Row, RowKey};
+
+/// All tables of a store. Each key has one place in one of them.
+#[derive(Drop)]
+pub(crate) struct Cabinet {
+    pub counters: Option<Row>,
+    pub objects: Table,
+    pub entries: Entries,
+    pub messages: Shelf,
+    pub packets: Shelf,
+    pub waits: Table,
+}
+
+impl Cabinet {
+    /// No row but the counters, and no other place. It takes no memory.
+    pub fn new(alloc: Global, counters: Row) -> Cabinet
+        ensures { result ≡ cabinet_of counters }
+    {
+        Cabinet {
+            counters: Some(counters),
+            objects: Table::new(alloc),
+            entries: Entries::new(alloc),
+            messages: Shelf::new(alloc),
+            packets: Shelf::new(alloc),
+            waits: Table::new(alloc),
+        }
+    }
+
+    /// Equal tables in memory of their own.
+    pub fn copy(&self) -> Result<Cabinet, AllocError>
+        ensures { IfOk result (λ copied. copied ≡ self.now) }
+    {
+        Ok(Cabinet {
+            counters: copy_place(&self.counters)?,
+            objects: self.objects.copy()?,
+            entries: self.entries.copy()?,
+            messages: self.messages.copy()?,
+            packets: self.packets.copy()?,
+            waits: self.waits.copy()?,
+        })
+    }
+
+    /// The row in the place of the key. It takes no memory.
+    #[tactic(auto, unfolding(crate::specs::Cabinets::look))]
+    pub fn row(&self, key: RowKey) -> Option<&Row>
+        ensures { option_copied result ≡ look self.now key }
+    {
+        match key {
+            RowKey::Counters => self.counters.as_ref(),
+            RowKey::Object(koid) => self.objects.row(koid.0 as usize),
+            RowKey::Entry(process, value) => self.entries.row(process, value),
+            RowKey::Msg(owner, number) => self.messages.row(owner.0 as usize, number as usize),
+            RowKey::Packet(owner, number) => self.packets.row(owner.0 as usize, number as usize),
+            RowKey::Wait(number) => self.waits.row(number as usize),
+        }
+    }
+
+    /// How many places the table of the key has.
+    #[tactic(auto, using(crate::proofs::CabinetLaws::length_laws), unfolding(crate::specs::Cabinets::shelves_of))]
+    pub fn len_at(&self, key: RowKey) -> usize
+        ensures { result ≡ length_at (shelves_of self.now) key }
+    {
+        match key {
+            RowKey::Counters => 1,
+            RowKey::Object(_) => self.objects.len(),
+            RowKey::Entry(process, value) => self.entries.len_of(process, value),
+            RowKey::Msg(owner, _) => self.messages.len_of(owner.0 as usize),
+            RowKey::Packet(owner, _) => self.packets.len_of(owner.0 as usize),
+            RowKey::Wait(_) => self.waits.len(),
+        }
+    }
+
+    /// Exchanges the row, or none, with what stands in the place of the key. It takes no memory.
+    #[tactic(auto, using(crate::proofs::CabinetLaws::length_laws), unfolding(crate::specs::Cabinets::shelves_of))]
+    pub fn exchange(&mut self, key: RowKey, kept: &mut Option<Row>)
+        requires { place_of key < length_at (shelves_of self.old) key }
+        ensures { Exchanged self.old self.new key kept.old kept.new }
+    {
+        match key {
+            RowKey::Counters => mem::swap(&mut self.counters, kept),
+            RowKey::Object(koid) => self.objects.exchange(koid.0 as usize, kept),
+            RowKey::Entry(process, value) => self.entries.exchange(process, value, kept),
+            RowKey::Msg(owner, number) => {
+                self.messages
+                    .exchange(owner.0 as usize, number as usize, kept);
+            }
+            RowKey::Packet(owner, number) => {
+                self.packets
+                    .exchange(owner.0 as usize, number as usize, kept);
+            }
+            RowKey::Wait(number) => self.waits.exchange(number as usize, kept),
+        }
+    }
+
+    /// Makes the places in the table of the key, up to its own.
+    #[tactic(auto, using(crate::proofs::CabinetLaws::length_laws), unfolding(crate::specs::Cabinets::shelves_of))]
+    pub fn grow(&mut self, key: RowKey) -> Result<(), AllocError>
+        requires absent { length_at (shelves_of self.old) key ≤ place_of key }
+        requires near { place_of key < 2 ^ 62 }
+        ensures widened { Widened self.old self.new }
+        ensures ok { OnOk result (MadeFor key self.old self.new) }
+        ensures err { OnErr result (places_in self.new ≡ places_in self.old) }
+    {
+        let asked = key;
+        let len = place_of(asked) + 1;
+        match key {
+            RowKey::Counters => Ok(()),
+            RowKey::Object(_) => self.objects.grow(len),
+            RowKey::Entry(process, value) => self.entries.grow(process, value),
+            RowKey::Msg(owner, _) => self.messages.grow(owner.0 as usize, len),
+            RowKey::Packet(owner, _) => self.packets.grow(owner.0 as usize, len),
+            RowKey::Wait(_) => self.waits.grow(len),
+        }
+    }
+}
+
+/// The place of the key in its table.
+pub(crate) fn place_of(key: RowKey) -> usize
+    ensures { result ≡ place_of key }
+{
+    match key {
+        RowKey::Counters => 0,
+        RowKey::Object(koid) => koid.0 as usize,
+        RowKey::Entry(_, value) => (value.0 / 4) as usize,
+        RowKey::Msg(_, number) | RowKey::Packet(_, number) | RowKey::Wait(number) => {
+            number as usize
+        }
+    }
+}
