@@ -1,4 +1,4 @@
-//! Closing by a worklist: what goes when handles are released, each object looked at once.
+//! Closing by a worklist: what goes when handles are released, each object taken out once.
 #![tactic(auto)]
 
 pub mod laws;
