@@ -12,9 +12,11 @@ pub mod GrownLaws
 pub mod MakeLaws
 pub mod TakeLaws
 pub mod PairLaws
+pub mod PortLaws
 pub mod StepLaws
 pub mod OpeningLaws
 pub mod SpentLaws
+pub mod PortSteps
 pub mod WorkedRowsForm
 pub mod WorkedRows
 pub mod WorkedRowsChannels

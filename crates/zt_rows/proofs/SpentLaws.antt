@@ -67,13 +67,17 @@ next-more calls packets more larger kind.Job next few small h = tt
 next-more calls packets more larger kind.Event next few small h = tt
 next-more calls packets more larger kind.EventPair next few small h = tt
 
-given-more : (S : State) (calls packets larger : ℕ) → packets ≤ larger → HasGiven calls packets S → HasGiven calls larger S
-given-more S calls packets larger small given = record {
-  koids = given.koids;
-  waits = given.waits;
-  waiting = given.waiting;
-  owners = λ x o e. next-more calls packets calls larger o.kind o.next (omega arith) small (given.owners x o e);
+-- what so many calls and packets gave out is within what more give out
+pub given-later : (S : State) (calls packets more larger : ℕ) → calls ≤ more → packets ≤ larger → HasGiven calls packets S → HasGiven more larger S
+given-later S calls packets more larger few small given = record {
+  koids = let a : next_koid S ≤ 2 * calls + 1026 = given.koids in omega arith;
+  waits = let a : (counters S).next_wait ≤ calls = given.waits in omega arith;
+  waiting = let a : count_row is_wait S ≤ calls = given.waiting in omega arith;
+  owners = λ x o e. next-more calls packets more larger o.kind o.next few small (given.owners x o e);
 }
+
+pub given-more : (S : State) (calls packets larger : ℕ) → packets ≤ larger → HasGiven calls packets S → HasGiven calls larger S
+given-more S calls packets larger small given = given-later S calls packets calls larger (omega arith) small given
 
 -- ---- the opening
 
@@ -96,7 +100,7 @@ spent-opening = record {
 -- ---- what a change gives out
 
 -- how many more numbers an owner of this kind gives out
-abbrev growth : ℕ → Kind → ℕ
+abbrev pub growth : ℕ → Kind → ℕ
 growth handles kind.Process = handles
 growth handles _ = 0
 
@@ -117,12 +121,12 @@ growth-more b d kind.EventPair h = omega arith
 growth-more b d kind.Port h = omega arith
 
 -- an object that was there is of the kind
-abbrev OfKind : Option ObjectRow → Kind → Type 0
+abbrev pub OfKind : Option ObjectRow → Kind → Type 0
 OfKind (Some o) on = o.kind ≡ on
 OfKind None on = ⊤
 
 -- T gave out no more than so many koids, and so many handles to a process
-record Spends (koids_given handles_given : ℕ) (S T : State) : Type 0 where
+pub record Spends (koids_given handles_given : ℕ) (S T : State) : Type 0 where
   koids : next_koid T ≤ next_koid S + koids_given
   waits : (counters T).next_wait ≤ (counters S).next_wait
   waiting : count_row is_wait T ≤ count_row is_wait S
@@ -311,7 +315,7 @@ spends-signals S x o clear set here =
 -- ---- the calls
 
 -- what a call may give out
-abbrev Called : State → State → Type 0
+abbrev pub Called : State → State → Type 0
 Called S T = Spends 2 64 S T
 
 called-nothing : (S : State) → Called S S
@@ -324,7 +328,7 @@ called-received rights S T p held live s same =
     (spends-more 0 1 2 64 S (install p w.0 (record held { rights = record { 0 = rights } }) T) (omega arith) (omega arith)
     (spends-spends 0 0 0 1 S T (install p w.0 (record held { rights = record { 0 = rights } }) T) s (spends-install T p w.0 (record held { rights = record { 0 = rights } }) (same ∙ w.1) w.2)))
 
-called-create : (S : State) (p : ℕ) (k : Kind) → IsSound S → runs S p ≡ true → Called S (create k S p).0
+pub called-create : (S : State) (p : ℕ) (k : Kind) → IsSound S → runs S p ≡ true → Called S (create k S p).0
 called-create S p k sound live =
     let w = caller-is S p live in
     let T : State = make (counters S) (fresh k 0) S in
@@ -411,7 +415,7 @@ next-new calls packets kind.Job b g = tt
 next-new calls packets kind.Event b g = tt
 next-new calls packets kind.EventPair b g = tt
 
-given-called : (S T : State) (calls packets : ℕ) → HasGiven calls packets S → Called S T → HasGiven (calls + 1) packets T
+pub given-called : (S T : State) (calls packets : ℕ) → HasGiven calls packets S → Called S T → HasGiven (calls + 1) packets T
 given-called S T calls packets given s = record {
   koids = let a : next_koid S ≤ 2 * calls + 1026 = given.koids in let b : next_koid T ≤ next_koid S + 2 = s.koids in omega arith;
   waits = let a : (counters S).next_wait ≤ calls = given.waits in let b : (counters T).next_wait ≤ (counters S).next_wait = s.waits in omega arith;
