@@ -13,6 +13,8 @@ pub mod MakeLaws
 pub mod TakeLaws
 pub mod PairLaws
 pub mod PortLaws
+pub mod ChainLaws
+pub mod MadeTaskLaws
 pub mod StepLaws
 pub mod OpeningLaws
 pub mod SpentLaws

@@ -78,7 +78,7 @@ module _ (S : State) (sound : IsSound S) (o : ObjectRow) where
   wait-made : (n : ℕ) → wait made n ≡ wait S n
   wait-made n = ap as_wait (row-put with_object key.Counters (Some (rows.Counters raised_counters)) (key.Wait n) ∙ row-put S (key.Object (next_koid S)) (Some (rows.Object o)) (key.Wait n))
 
-  koids-made : next_koid made ≡ next_koid S + 1
+  pub koids-made : next_koid made ≡ next_koid S + 1
   koids-made = ap (λ (c : Counters). c.next_koid) counters-made
 
   -- the object that was made is there
