@@ -15,6 +15,7 @@ pub mod PairLaws
 pub mod PortLaws
 pub mod ChainLaws
 pub mod MadeTaskLaws
+pub mod EndLaws
 pub mod StepLaws
 pub mod OpeningLaws
 pub mod SpentLaws
