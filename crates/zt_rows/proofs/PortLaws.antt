@@ -1,7 +1,7 @@
 -- A new wait, a packet that comes to the end of a port or leaves it, and what is cancelled, leave a sound state
--- sound.
+-- sound; a call gives out one number at most with them.
 use Rattle.std.proofs.Common.{◌≡◌, ◌≤◌, ◌<◌, ℕ, ◌+◌, Bool, true, false, cond, ◌&&◌, ◌⊎◌, inl, inr, refl, sym, ap, ◌∙◌, subst, arith}
-use Rattle.std.specs.Prelude.{Option, None, Some, option_and_then, if◌then◌else◌, ◌==◌}
+use Rattle.std.specs.Prelude.{Option, None, Some, option_and_then, is_some, if◌then◌else◌, ◌==◌}
 use Rattle.std.specs.Option.{option_map}
 use Rattle.std.proofs.lemmas.Bool.{eqb-true}
 use Rattle.zt_bits.specs.declared.kinds.Kind.{Kind}
@@ -17,32 +17,26 @@ use Rattle.zt_rows.specs.declared.rows.Row.{Row}
 use Rattle.zt_rows.specs.declared.rows.Row.TheVariants as rows
 use Rattle.zt_rows.specs.State.{State, row, put}
 use Rattle.zt_rows.specs.Reads.{as_counters, as_object, as_entry, as_message, as_packet, as_wait, counters, object, entry, message, packet, wait}
-use Rattle.zt_rows.specs.Tests.{kind_at, next_at, object_next, is_port, without_bits, count_row, raised}
+use Rattle.zt_rows.specs.Tests.{kind_at, next_at, object_next, is_port, count_row, raised}
 use Rattle.zt_rows.specs.Room.{suits, is_wait}
 use Rattle.zt_rows.specs.Settle.{push_packet}
 use Rattle.zt_rows.specs.PortCalls.{add_wait, is_user, is_user_packet_of, pending, most_pending, is_cancelled, cancel}
 use Rattle.zt_rows.specs.Handles.{next_koid}
-use Rattle.zt_rows.specs.Consistent.{possible_signals, SoundPacket, SoundWait, IsSound}
+use Rattle.zt_rows.specs.Consistent.{SoundPacket, SoundWait, IsSound}
 use Rattle.zt_rows.proofs.StateLaws.{row-put, row-change}
 use Rattle.zt_rows.proofs.RowLaws.{and_left, and_right, count_row-change, count_row-put, count_row-put-out, count_row-take}
-use Rattle.zt_rows.proofs.ReadLaws.{some_one, exists-some, object-put, over-same, typed-put, chosen, only_if, if_none}
+use Rattle.zt_rows.proofs.ReadLaws.{some_one, exists-some, typed-put, chosen, if_none}
 use Rattle.zt_rows.proofs.SoundLaws.{changed-suits}
-use Rattle.zt_rows.proofs.FramedLaws.{shaped, Framed, SameShapes, kind_at-shaped, packet-framed, sound-framed}
 use Rattle.zt_rows.proofs.GrownLaws.{Grown, kept_itself, sound-grown}
+use Rattle.zt_rows.proofs.PutLaws.{put-apart, count_row-put-any, sound-raised, object-raised, Beside, sound-beside}
+use Rattle.zt_rows.proofs.GivenLaws.{growth, as_it_was, Spends, spends-none, spends-spends, spends-raised}
 
 -- ---- ports
 
-is_port-port : (k : Kind) → is_port k ≡ true → k ≡ kind.Port
-is_port-port kind.Port e = refl
-is_port-port kind.Job e = cc
-is_port-port kind.Process e = cc
-is_port-port kind.Channel e = cc
-is_port-port kind.Event e = cc
-is_port-port kind.EventPair e = cc
+pub is_port-is : (k : Kind) → is_port k ≡ true → k ≡ kind.Port
+is_port-is kind.Port e = refl
+is_port-is _ e = cc
 
--- an object of a port's kind is a port
-pub port-there : (S : State) (x : ℕ) (o : ObjectRow) → object S x ≡ Some o → is_port o.kind ≡ true → kind_at S x ≡ Some kind.Port
-port-there S x o here port = ap (option_map (λ (q : ObjectRow). q.kind)) here ∙ ap Some (is_port-port o.kind port)
 
 -- ---- a new wait
 
@@ -117,154 +111,127 @@ module _ (S : State) (w : Wait) where
     pub sound-add_wait : IsSound (add_wait (counters S) w S)
     sound-add_wait = sound-grown S added sound grown-add_wait
 
+-- a call gives out one number with it
+pub spends-add_wait : (S : State) (w : Wait) → Spends 0 0 1 S (add_wait (counters S) w S)
+spends-add_wait S w =
+    let T : State = put S (key.Wait (counters S).next_wait) (Some (rows.Wait w)) in
+    let same : counters T ≡ counters S = ap as_counters (row-put S (key.Wait (counters S).next_wait) (Some (rows.Wait w)) key.Counters) in
+    let at : (x : ℕ) → object (add_wait (counters S) w S) x ≡ object S x = object-added S w in
+    record {
+      koids = let k : next_koid (add_wait (counters S) w S) ≡ next_koid S = ap (λ (c : Counters). c.next_koid) (counters-added S w) in omega arith;
+      waits = let k : (counters (add_wait (counters S) w S)).next_wait ≡ (counters S).next_wait + 1 = ap (λ (c : Counters). c.next_wait) (counters-added S w) in omega arith;
+      waiting =
+          let a : count_row is_wait (add_wait (counters S) w S) ≤ count_row is_wait T = count_row-put-out is_wait T key.Counters (rows.Counters (record (counters S) { next_wait = (counters S).next_wait + 1 })) refl in
+          let b : count_row is_wait T ≤ 1 + count_row is_wait S = count_row-put is_wait S (key.Wait (counters S).next_wait) (rows.Wait w) in
+          omega arith;
+      still = λ x e. ap (λ r. is_some r) (at x) ∙ e;
+      owners = λ x q e. as_it_was S 0 1 x q (sym (at x) ∙ e);
+    }
+
+-- ---- a packet at its place
+
+module _ (S : State) (x n : ℕ) (new : Option Packet) where
+  abbrev packed_anew : State
+  packed_anew = put S (key.Packet x n) (option_map rows.Packet new)
+
+  object-packet : (y : ℕ) → object packed_anew y ≡ object S y
+  object-packet y = ap as_object (row-put S (key.Packet x n) (option_map rows.Packet new) (key.Object y))
+
+  counters-packet : counters packed_anew ≡ counters S
+  counters-packet = ap as_counters (row-put S (key.Packet x n) (option_map rows.Packet new) key.Counters)
+
+  as-packet : (r : Option Packet) → as_packet (option_map rows.Packet r) ≡ r
+  as-packet (Some k) = refl
+  as-packet None = refl
+
+  packet-packet : (p m : ℕ) → packet packed_anew p m ≡ cond ((p == x) && (m == n)) new (packet S p m)
+  packet-packet p m =
+      ap as_packet (row-put S (key.Packet x n) (option_map rows.Packet new) (key.Packet p m))
+      ∙ chosen as_packet ((p == x) && (m == n)) (option_map rows.Packet new) (row S (key.Packet p m))
+      ∙ ap (λ r. cond ((p == x) && (m == n)) r (packet S p m)) (as-packet new)
+
+  suits-packet : (o : Option Packet) (r : Row) → option_map rows.Packet o ≡ Some r → suits (key.Packet x n) r ≡ true
+  suits-packet (Some k) r q = subst (λ z. suits (key.Packet x n) z ≡ true) (some_one _ r q) refl
+  suits-packet None r q = cc
+
+  beside-packet : IsSound S → ((k : Packet) → new ≡ Some k → SoundPacket S x n) → ((y : ℕ) → pending packed_anew y ≤ most_pending) → Beside S packed_anew
+  beside-packet sound fits few = record {
+    of_rows = typed-put S sound.typed (key.Packet x n) (option_map rows.Packet new) (suits-packet new);
+    of_objects = object-packet;
+    of_counters = counters-packet;
+    of_entries = λ p h. ap as_entry (row-put S (key.Packet x n) (option_map rows.Packet new) (key.Entry p h));
+    new_messages = λ e m c h. inl (sym (ap as_message (row-put S (key.Packet x n) (option_map rows.Packet new) (key.Msg e m))) ∙ h);
+    new_packets = λ p m k h. elim ((p == x) && (m == n)) as (λ b. ((p == x) && (m == n)) ≡ b → cond b new (packet S p m) ≡ Some k → (packet S p m ≡ Some k) ⊎ SoundPacket S p m) [
+      | true ↦ λ t g.
+          let owner : p ≡ x = eqb-true p x (and_left (p == x) _ t) in
+          let number : m ≡ n = eqb-true m n (and_right (p == x) _ t) in
+          inr (subst (λ z. SoundPacket S z m) (sym owner) (subst (λ z. SoundPacket S x z) (sym number) (fits k g)))
+      | false ↦ λ t g. inl g
+    ] refl (sym (packet-packet p m) ∙ h);
+    of_waits = λ m w h. sym (ap as_wait (row-put S (key.Packet x n) (option_map rows.Packet new) (key.Wait m))) ∙ h;
+    of_pending = few;
+  }
+
+  only-packet : (o : Option Packet) (r : Row) → option_map rows.Packet o ≡ Some r → is_wait (key.Packet x n) r ≡ false
+  only-packet (Some k) r q = subst (λ z. is_wait (key.Packet x n) z ≡ false) (some_one _ r q) refl
+  only-packet None r q = cc
+
+  spends-packet : Spends 0 0 0 S packed_anew
+  spends-packet = spends-none S packed_anew object-packet counters-packet (count_row-put-any is_wait S (key.Packet x n) (option_map rows.Packet new) (only-packet new))
+
+-- any packet may leave
+pub sound-unpack : (S : State) → IsSound S → (x n : ℕ) → IsSound (put S (key.Packet x n) None)
+sound-unpack S sound x n =
+    let T : State = put S (key.Packet x n) None in
+    let few : (y : ℕ) → pending T y ≤ most_pending = λ y.
+        let a : pending T y ≤ pending S y = count_row-take (is_user_packet_of y) S (key.Packet x n) in
+        let b : pending S y ≤ most_pending = sound.ports y in
+        omega arith in
+    sound-beside S T sound (beside-packet S x n None sound (λ k e. cc) few)
+
+pub spends-unpack : (S : State) (x n : ℕ) → Spends 0 0 0 S (put S (key.Packet x n) None)
+spends-unpack S x n = spends-packet S x n None
+
 -- ---- a packet at the end of a port
+
+-- the port gives out the number before the packet is put
+pushed : (S : State) (x : ℕ) (o : ObjectRow) (k : Packet) → push_packet x o k S ≡ put (put S (key.Object x) (Some (rows.Object (raised o)))) (key.Packet x o.next) (option_map rows.Packet (Some k))
+pushed S x o k = put-apart S (key.Packet x o.next) (key.Object x) (Some (rows.Packet k)) (Some (rows.Object (raised o))) refl
 
 bit-one : (b : Bool) → cond b 1 0 ≤ 1
 bit-one true = omega arith
 bit-one false = omega arith
 
-module _ (S : State) (x : ℕ) (o : ObjectRow) (k : Packet) where
-  abbrev pushed : State
-  pushed = push_packet x o k S
+-- with one packet more in a port that has room no port has too many
+pending-pushed : (T : State) (x n : ℕ) (k : Packet) → ((y : ℕ) → pending T y ≤ most_pending) → pending T x < most_pending → (y : ℕ) → pending (put T (key.Packet x n) (Some (rows.Packet k))) y ≤ most_pending
+pending-pushed T x n k few room y =
+    let a : pending (put T (key.Packet x n) (Some (rows.Packet k))) y ≤ cond ((x == y) && is_user k) 1 0 + pending T y = count_row-put (is_user_packet_of y) T (key.Packet x n) (rows.Packet k) in
+    elim (x == y) as (λ b. (x == y) ≡ b → pending (put T (key.Packet x n) (Some (rows.Packet k))) y ≤ cond (b && is_user k) 1 0 + pending T y → pending (put T (key.Packet x n) (Some (rows.Packet k))) y ≤ most_pending) [
+      | true ↦ λ t e.
+          let c : cond (is_user k) 1 0 ≤ 1 = bit-one (is_user k) in
+          let d : pending T y < most_pending = subst (λ z. pending T z < most_pending) (eqb-true x y t) room in
+          omega arith
+      | false ↦ λ t e. let c : pending T y ≤ most_pending = few y in omega arith
+    ] refl a
 
-  abbrev with_packet : State
-  with_packet = put S (key.Packet x o.next) (Some (rows.Packet k))
+-- a port with room takes a packet more
+pub sound-push_packet : (S : State) → IsSound S → (x : ℕ) (o : ObjectRow) → object S x ≡ Some o → o.kind ≡ kind.Port → (k : Packet) → pending S x < most_pending → IsSound (push_packet x o k S)
+sound-push_packet S sound x o here port k room =
+    let T : State = put S (key.Object x) (Some (rows.Object (raised o))) in
+    let made : IsSound T = sound-raised S sound x o here in
+    let there : object T x ≡ Some (raised o) = object-raised S x o in
+    let next : next_at T x ≡ o.next + 1 = ap object_next there in
+    let one : SoundPacket T x o.next = record { owner = ap (option_map (λ (q : ObjectRow). q.kind)) there ∙ ap Some port; number = omega arith } in
+    let same : pending T x ≤ pending S x = count_row-put-out (is_user_packet_of x) S (key.Object x) (rows.Object (raised o)) refl in
+    subst IsSound (sym (pushed S x o k))
+    (sound-beside T (put T (key.Packet x o.next) (Some (rows.Packet k))) made (beside-packet T x o.next (Some k) made (λ _ e. one) (pending-pushed T x o.next k made.ports (omega arith))))
 
-  pub object-pushed : (y : ℕ) → object (push_packet x o k S) y ≡ cond (y == x) (Some (raised o)) (object S y)
-  object-pushed y =
-      object-put with_packet x (Some (rows.Object (raised o))) y
-      ∙ ap (cond (y == x) (Some (raised o))) (ap as_object (row-put S (key.Packet x o.next) (Some (rows.Packet k)) (key.Object y)))
-
-  entry-pushed : (p h : ℕ) → entry pushed p h ≡ entry S p h
-  entry-pushed p h = ap as_entry (row-put with_packet (key.Object x) (Some (rows.Object (raised o))) (key.Entry p h) ∙ row-put S (key.Packet x o.next) (Some (rows.Packet k)) (key.Entry p h))
-
-  message-pushed : (e m : ℕ) → message pushed e m ≡ message S e m
-  message-pushed e m = ap as_message (row-put with_packet (key.Object x) (Some (rows.Object (raised o))) (key.Msg e m) ∙ row-put S (key.Packet x o.next) (Some (rows.Packet k)) (key.Msg e m))
-
-  wait-pushed : (m : ℕ) → wait pushed m ≡ wait S m
-  wait-pushed m = ap as_wait (row-put with_packet (key.Object x) (Some (rows.Object (raised o))) (key.Wait m) ∙ row-put S (key.Packet x o.next) (Some (rows.Packet k)) (key.Wait m))
-
-  pub counters-pushed : counters (push_packet x o k S) ≡ counters S
-  counters-pushed = ap as_counters (row-put with_packet (key.Object x) (Some (rows.Object (raised o))) key.Counters ∙ row-put S (key.Packet x o.next) (Some (rows.Packet k)) key.Counters)
-
-  packet-pushed : (p m : ℕ) → packet pushed p m ≡ cond ((p == x) && (m == o.next)) (Some k) (packet S p m)
-  packet-pushed p m =
-      ap as_packet (row-put with_packet (key.Object x) (Some (rows.Object (raised o))) (key.Packet p m) ∙ row-put S (key.Packet x o.next) (Some (rows.Packet k)) (key.Packet p m))
-      ∙ chosen as_packet ((p == x) && (m == o.next)) (Some (rows.Packet k)) (row S (key.Packet p m))
-
-  module _ (sound : IsSound S) (here : object S x ≡ Some o) (port : kind_at S x ≡ Some kind.Port) (room : pending S x < most_pending) where
-    at_port : (y : ℕ) → y ≡ x → object S y ≡ Some o
-    at_port y e = ap (object S) e ∙ here
-
-    shapes-pushed : SameShapes S pushed
-    shapes-pushed y = ap (option_map shaped) (object-pushed y) ∙ over-same (option_map shaped) y x (raised o) o (object S y) (at_port y) refl
-
-    nexts-pushed : (y : ℕ) → next_at S y ≤ next_at pushed y
-    nexts-pushed y =
-        elim (y == x) as (λ b. (y == x) ≡ b → object pushed y ≡ cond b (Some (raised o)) (object S y) → next_at S y ≤ next_at pushed y) [
-          | true ↦ λ t e.
-              let a : next_at pushed y ≡ o.next + 1 = ap object_next e in
-              let b : next_at S y ≡ o.next = ap object_next (at_port y (eqb-true y x t)) in
-              omega arith
-          | false ↦ λ t e. let a : next_at pushed y ≡ next_at S y = ap object_next e in omega arith
-        ] refl (object-pushed y)
-
-    signals-pushed : (y : ℕ) (q : ObjectRow) → object pushed y ≡ Some q → without_bits q.signals.0 (possible_signals q.kind) ≡ 0
-    signals-pushed y q h =
-        elim (y == x) as (λ b. cond b (Some (raised o)) (object S y) ≡ Some q → without_bits q.signals.0 (possible_signals q.kind) ≡ 0) [
-          | true ↦ λ e. subst (λ (z : ObjectRow). without_bits z.signals.0 (possible_signals z.kind) ≡ 0) (some_one (raised o) q e) (sound.of_objects x o here).signals
-          | false ↦ λ e. (sound.of_objects y q e).signals
-        ] (sym (object-pushed y) ∙ h)
-
-    packets-pushed : (p m : ℕ) (c : Packet) → packet pushed p m ≡ Some c → SoundPacket pushed p m
-    packets-pushed p m c h =
-        elim ((p == x) && (m == o.next)) as (λ b. ((p == x) && (m == o.next)) ≡ b → cond b (Some k) (packet S p m) ≡ Some c → SoundPacket pushed p m) [
-          | true ↦ λ t e.
-              let same : p ≡ x = eqb-true p x (and_left (p == x) _ t) in
-              let number : m ≡ o.next = eqb-true m o.next (and_right (p == x) _ t) in
-              let next : next_at pushed p ≡ o.next + 1 = ap object_next (object-pushed p ∙ ap (λ b. cond b (Some (raised o)) (object S p)) (and_left (p == x) _ t)) in
-              record { owner = kind_at-shaped S pushed shapes-pushed p ∙ ap (kind_at S) same ∙ port; number = omega arith }
-          | false ↦ λ t e. packet-framed S pushed shapes-pushed nexts-pushed p m (sound.of_packets p m c e)
-        ] refl (sym (packet-pushed p m) ∙ h)
-
-    pending-with : (y : ℕ) → pending with_packet y ≤ most_pending
-    pending-with y =
-        let a : pending with_packet y ≤ cond ((x == y) && is_user k) 1 0 + pending S y = count_row-put (is_user_packet_of y) S (key.Packet x o.next) (rows.Packet k) in
-        elim (x == y) as (λ b. (x == y) ≡ b → pending with_packet y ≤ cond (b && is_user k) 1 0 + pending S y → pending with_packet y ≤ most_pending) [
-          | true ↦ λ t e.
-              let c : cond (is_user k) 1 0 ≤ 1 = bit-one (is_user k) in
-              let d : pending S y < most_pending = subst (λ z. pending S z < most_pending) (eqb-true x y t) room in
-              omega arith
-          | false ↦ λ t e. let c : pending S y ≤ most_pending = sound.ports y in omega arith
-        ] refl a
-
-    framed-pushed : Framed S pushed
-    framed-pushed = record {
-      of_rows = typed-put with_packet (typed-put S sound.typed (key.Packet x o.next) (Some (rows.Packet k)) (λ r e. subst (λ z. suits (key.Packet x o.next) z ≡ true) (some_one _ r e) refl)) (key.Object x) (Some (rows.Object (raised o))) (λ r e. subst (λ z. suits (key.Object x) z ≡ true) (some_one _ r e) refl);
-      of_shapes = shapes-pushed;
-      of_nexts = nexts-pushed;
-      of_signals = signals-pushed;
-      of_entries = entry-pushed;
-      of_messages = message-pushed;
-      of_counters = counters-pushed;
-      of_waits = λ m v h. sym (wait-pushed m) ∙ h;
-      of_packets = packets-pushed;
-      of_pending = λ y.
-          let a : pending pushed y ≤ pending with_packet y = count_row-put-out (is_user_packet_of y) with_packet (key.Object x) (rows.Object (raised o)) refl in
-          let b : pending with_packet y ≤ most_pending = pending-with y in
-          omega arith;
-    }
-
-    -- a port with room takes a packet more
-    pub sound-push_packet : IsSound (push_packet x o k S)
-    sound-push_packet = sound-framed S pushed sound framed-pushed
-
--- ---- a packet that leaves
-
--- T is S but for packets and waits that went
-pub record Lessened (S T : State) : Type 0 where
-  pub of_rows : (k : RowKey) (r : Row) → row T k ≡ Some r → suits k r ≡ true
-  pub of_objects : (x : ℕ) → object T x ≡ object S x
-  pub of_entries : (p h : ℕ) → entry T p h ≡ entry S p h
-  pub of_messages : (e n : ℕ) → message T e n ≡ message S e n
-  pub of_counters : counters T ≡ counters S
-  pub of_waits : (n : ℕ) (w : Wait) → wait T n ≡ Some w → wait S n ≡ Some w
-  pub of_packets : (p n : ℕ) (k : Packet) → packet T p n ≡ Some k → packet S p n ≡ Some k
-  pub of_pending : (x : ℕ) → pending T x ≤ pending S x
-  pub of_waiting : count_row is_wait T ≤ count_row is_wait S
-
--- a state with fewer packets and waits is as sound
-pub sound-lessened : (S T : State) → IsSound S → Lessened S T → IsSound T
-sound-lessened S T sound less =
-    let shapes : SameShapes S T = λ x. ap (option_map shaped) (less.of_objects x) in
-    let nexts : (x : ℕ) → next_at S x ≤ next_at T x = λ x. let e : next_at T x ≡ next_at S x = ap object_next (less.of_objects x) in omega arith in
-    sound-framed S T sound (record {
-      of_rows = less.of_rows;
-      of_shapes = shapes;
-      of_nexts = nexts;
-      of_signals = λ x o h. (sound.of_objects x o (sym (less.of_objects x) ∙ h)).signals;
-      of_entries = less.of_entries;
-      of_messages = less.of_messages;
-      of_counters = less.of_counters;
-      of_waits = less.of_waits;
-      of_packets = λ p n k h. packet-framed S T shapes nexts p n (sound.of_packets p n k (less.of_packets p n k h));
-      of_pending = λ x. let a : pending T x ≤ pending S x = less.of_pending x in let b : pending S x ≤ most_pending = sound.ports x in omega arith;
-    })
-
-pub lessened-take_packet : (S : State) → IsSound S → (x n : ℕ) → Lessened S (put S (key.Packet x n) None)
-lessened-take_packet S sound x n =
-    let T : State = put S (key.Packet x n) None in
-    record {
-      of_rows = typed-put S sound.typed (key.Packet x n) None (λ r e. cc);
-      of_objects = λ y. ap as_object (row-put S (key.Packet x n) None (key.Object y));
-      of_entries = λ p h. ap as_entry (row-put S (key.Packet x n) None (key.Entry p h));
-      of_messages = λ e m. ap as_message (row-put S (key.Packet x n) None (key.Msg e m));
-      of_counters = ap as_counters (row-put S (key.Packet x n) None key.Counters);
-      of_waits = λ m w h. sym (ap as_wait (row-put S (key.Packet x n) None (key.Wait m))) ∙ h;
-      of_packets = λ p m k h. (only_if ((p == x) && (m == n)) (packet S p m) k (sym (chosen as_packet ((p == x) && (m == n)) None (row S (key.Packet p m))) ∙ sym (ap as_packet (row-put S (key.Packet x n) None (key.Packet p m))) ∙ h)).1;
-      of_pending = λ y. count_row-take (is_user_packet_of y) S (key.Packet x n);
-      of_waiting = count_row-take is_wait S (key.Packet x n);
-    }
+-- a call gives out one number with it
+pub spends-push_packet : (S : State) (x : ℕ) (o : ObjectRow) → object S x ≡ Some o → o.kind ≡ kind.Port → (k : Packet) → Spends 0 0 1 S (push_packet x o k S)
+spends-push_packet S x o here port k =
+    let T : State = put S (key.Object x) (Some (rows.Object (raised o))) in
+    let U : State = put T (key.Packet x o.next) (Some (rows.Packet k)) in
+    subst (Spends 0 0 1 S) (sym (pushed S x o k)) (spends-spends 0 0 1 0 0 0 S T U (spends-raised S x o here (ap (growth 0 1) port)) (spends-packet T x o.next (Some k)))
 
 -- ---- what is cancelled
 
@@ -304,15 +271,34 @@ module _ (x p h l : ℕ) where
         | false ↦ λ f. f
       ] e
 
-  pub lessened-cancel : (S : State) → IsSound S → Lessened S (cancel (is_cancelled x p h l) S)
-  lessened-cancel S sound = record {
-    of_rows = λ k r e. changed-suits uncancelled k (λ r s f g. subst (λ z. suits k z ≡ true) (left-is k r s f) g) (row S k) (sound.typed k) r (sym (row-change uncancelled S k) ∙ e);
-    of_objects = λ y. ap as_object (row-change uncancelled S (key.Object y)) ∙ object-left y (row S (key.Object y));
-    of_entries = λ q g. ap as_entry (row-change uncancelled S (key.Entry q g)) ∙ entry-left q g (row S (key.Entry q g));
-    of_messages = λ e n. ap as_message (row-change uncancelled S (key.Msg e n)) ∙ message-left e n (row S (key.Msg e n));
-    of_counters = ap as_counters (row-change uncancelled S key.Counters) ∙ counters-left (row S key.Counters);
-    of_waits = λ n w e. was-seen as_wait (key.Wait n) (row S (key.Wait n)) w refl (sym (ap as_wait (row-change uncancelled S (key.Wait n))) ∙ e);
-    of_packets = λ q n k e. was-seen as_packet (key.Packet q n) (row S (key.Packet q n)) k refl (sym (ap as_packet (row-change uncancelled S (key.Packet q n))) ∙ e);
-    of_pending = λ y. count_row-change (is_user_packet_of y) uncancelled (λ k r s f g. subst (λ z. is_user_packet_of y k z ≡ true) (sym (left-is k r s f)) g) S;
-    of_waiting = count_row-change is_wait uncancelled (λ k r s f g. subst (λ z. is_wait k z ≡ true) (sym (left-is k r s f)) g) S;
-  }
+  module _ (S : State) where
+    abbrev rest : State
+    rest = cancel (is_cancelled x p h l) S
+
+    object-cancel : (y : ℕ) → object rest y ≡ object S y
+    object-cancel y = ap as_object (row-change uncancelled S (key.Object y)) ∙ object-left y (row S (key.Object y))
+
+    counters-cancel : counters rest ≡ counters S
+    counters-cancel = ap as_counters (row-change uncancelled S key.Counters) ∙ counters-left (row S key.Counters)
+
+    beside-cancel : IsSound S → Beside S rest
+    beside-cancel sound = record {
+      of_rows = λ k r e. changed-suits uncancelled k (λ r s f g. subst (λ z. suits k z ≡ true) (left-is k r s f) g) (row S k) (sound.typed k) r (sym (row-change uncancelled S k) ∙ e);
+      of_objects = object-cancel;
+      of_counters = counters-cancel;
+      of_entries = λ q g. ap as_entry (row-change uncancelled S (key.Entry q g)) ∙ entry-left q g (row S (key.Entry q g));
+      new_messages = λ e n m f. inl (sym (ap as_message (row-change uncancelled S (key.Msg e n)) ∙ message-left e n (row S (key.Msg e n))) ∙ f);
+      new_packets = λ q n k e. inl (was-seen as_packet (key.Packet q n) (row S (key.Packet q n)) k refl (sym (ap as_packet (row-change uncancelled S (key.Packet q n))) ∙ e));
+      of_waits = λ n w e. was-seen as_wait (key.Wait n) (row S (key.Wait n)) w refl (sym (ap as_wait (row-change uncancelled S (key.Wait n))) ∙ e);
+      of_pending = λ y.
+          let a : pending rest y ≤ pending S y = count_row-change (is_user_packet_of y) uncancelled (λ k r s f g. subst (λ z. is_user_packet_of y k z ≡ true) (sym (left-is k r s f)) g) S in
+          let b : pending S y ≤ most_pending = sound.ports y in
+          omega arith;
+    }
+
+    -- waits and packets may be cancelled
+    pub sound-cancel : IsSound S → IsSound (cancel (is_cancelled x p h l) S)
+    sound-cancel sound = sound-beside S rest sound (beside-cancel sound)
+
+    pub spends-cancel : Spends 0 0 0 S (cancel (is_cancelled x p h l) S)
+    spends-cancel = spends-none S rest object-cancel counters-cancel (count_row-change is_wait uncancelled (λ k r s f g. subst (λ z. is_wait k z ≡ true) (sym (left-is k r s f)) g) S)
