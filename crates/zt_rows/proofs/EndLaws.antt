@@ -21,11 +21,12 @@ use Rattle.zt_rows.specs.declared.rows.Row.TheVariants as rows
 use Rattle.zt_rows.specs.Contents.{MessageContent}
 use Rattle.zt_rows.specs.State.{State, row}
 use Rattle.zt_rows.specs.Reads.{as_counters, as_object, as_entry, as_message, as_packet, as_wait, counters, object, entry, message, packet, wait, is_live, is_job, is_process, is_live_process, is_live_job, runs}
-use Rattle.zt_rows.specs.Tests.{exists, kind_at, link_at, next_at, object_link, object_next, is_endpoint, among}
-use Rattle.zt_rows.specs.Room.{suits}
+use Rattle.zt_rows.specs.Tests.{exists, kind_at, link_at, next_at, object_link, object_next, is_endpoint, among, count_row}
+use Rattle.zt_rows.specs.Room.{suits, is_wait}
 use Rattle.zt_rows.specs.Support.{root_job}
 use Rattle.zt_rows.specs.PortCalls.{is_user_packet_of, pending, most_pending}
 use Rattle.zt_rows.specs.JobCalls.{most_depth}
+use Rattle.zt_rows.specs.Handles.{next_koid}
 use Rattle.zt_rows.specs.End.{chain, depth, is_live_task, is_under, ends_with, left_by, end}
 use Rattle.zt_rows.specs.Consistent.{IsPeer, IsChild, has_parent, may_be, SoundObject, SoundEntry, SoundMessage, SoundPacket, SoundWait, IsSound}
 use Rattle.zt_rows.proofs.StateLaws.{row-change}
@@ -33,6 +34,7 @@ use Rattle.zt_rows.proofs.RowLaws.{or_true, or_left, or_right, and_left, and_rig
 use Rattle.zt_rows.proofs.ReadLaws.{some_one, exists-some, some-exists, kind_at-some, only_if, none_either, if_none}
 use Rattle.zt_rows.proofs.SoundLaws.{is_task, task-not-endpoint, has_parent-task, runs-some, some-runs, all_map, SameLinks, same_depth, sound-above, changed-suits, and_no_right}
 use Rattle.zt_rows.proofs.ChainLaws.{chain-child}
+use Rattle.zt_rows.proofs.GivenLaws.{growth, OfKind, as_it_was, Spends}
 
 module _ (ending : ℕ → Bool) (how : Life) where
   -- ---- what stands under each key
@@ -111,6 +113,15 @@ module _ (ending : ℕ → Bool) (how : Life) where
     unfolding end
     pending-end x = count_row-change (is_user_packet_of x) (left_by ending how) (left-user x) S
 
+    left-wait : (k : RowKey) (r s : Row) → left_by ending how k r ≡ Some s → is_wait k s ≡ true → is_wait k r ≡ true
+    left-wait (key.Wait n) (rows.Wait w) s e h = refl
+    left-wait (key.Wait n) r s e h = subst (λ z. is_wait (key.Wait n) z ≡ true) (sym (some_one r s e)) h
+    left-wait _ r s e h = cc
+
+    waiting-end : count_row is_wait rest ≤ count_row is_wait S
+    unfolding end
+    waiting-end = count_row-change is_wait (left_by ending how) left-wait S
+
     -- ---- what is kept
 
     -- an object that is there was there
@@ -148,6 +159,18 @@ module _ (ending : ℕ → Bool) (how : Life) where
         of_map : (r : Option ObjectRow) → is_some (option_map (ended x) r) ≡ is_some r
         of_map (Some o) = refl
         of_map None = refl
+
+    -- a call gives out nothing with it
+    pub spends-end : Spends 0 0 0 S (end S ending how)
+    spends-end = record {
+      koids = let e : next_koid rest ≡ next_koid S = ap (λ (c : Counters). c.next_koid) counters-end in omega arith;
+      waits = let e : (counters rest).next_wait ≡ (counters S).next_wait = ap (λ (c : Counters). c.next_wait) counters-end in omega arith;
+      waiting = let e : count_row is_wait rest ≤ count_row is_wait S = waiting-end in omega arith;
+      still = λ x e. exists-end x ∙ e;
+      owners = λ x o e.
+          let w = ended-was x o e in
+          subst (λ (z : ObjectRow). OfKind (object S x) z.kind × (z.next ≤ next_at S x + growth 0 0 z.kind)) (sym w.2) (as_it_was S 0 0 x w.0 w.1);
+    }
 
     -- ---- a set of tasks with all that is under them
 

@@ -206,14 +206,20 @@ not_yet S sound x on above (Some o) h =
     absurd (omega arith)
 not_yet S sound x on above None h = tt
 
-pub spends-make : (S : State) → IsSound S → (o : ObjectRow) → o.next ≡ 0 → Spends 1 0 0 S (make (counters S) o S)
-spends-make S sound o none =
+-- a new object that has given out so many handles
+pub spends-make_given : (S : State) → IsSound S → (b : ℕ) (o : ObjectRow) → o.next ≤ growth b 0 o.kind → Spends 1 b 0 S (make (counters S) o S)
+spends-make_given S sound b o few =
     let U : State = put S (key.Object (next_koid S)) (Some (rows.Object o)) in
+    let T : State = make (counters S) o S in
     let same : counters U ≡ counters S = ap as_counters (row-put S (key.Object (next_koid S)) (Some (rows.Object o)) key.Counters) in
     let k : next_koid U ≡ next_koid S = ap (λ (c : Counters). c.next_koid) same in
     let n : (counters U).next_wait ≡ (counters S).next_wait = ap (λ (c : Counters). c.next_wait) same in
-    let one : Spends 0 0 0 S U = spends-object S 0 0 (next_koid S) o (not_yet S sound (next_koid S) o.kind (omega arith) (object S (next_koid S)) refl) (omega arith) in
-    spends-spends 0 0 0 1 0 0 S U (make (counters S) o S) one (spends-counters U 1 0 (record (counters S) { next_koid = next_koid S + 1 }) (omega arith) (omega arith))
+    let one : Spends 0 b 0 S U = spends-object S b 0 (next_koid S) o (not_yet S sound (next_koid S) o.kind (omega arith) (object S (next_koid S)) refl) (omega arith) in
+    let two : Spends 1 0 0 U T = spends-counters U 1 0 (record (counters S) { next_koid = next_koid S + 1 }) (omega arith) (omega arith) in
+    spends-more 1 (b + 0) 0 1 b 0 S T (omega arith) (omega arith) (omega arith) (spends-spends 0 b 0 1 0 0 S U T one two)
+
+pub spends-make : (S : State) → IsSound S → (o : ObjectRow) → o.next ≡ 0 → Spends 1 0 0 S (make (counters S) o S)
+spends-make S sound o none = spends-make_given S sound 0 o (omega arith)
 
 apart : (k : ℕ) → (k + 1 == k) ≡ false
 apart k = grind (arith, nat_tests)

@@ -12,9 +12,6 @@ pub mod GrownLaws
 pub mod MakeLaws
 pub mod TakeLaws
 pub mod PairLaws
-pub mod ChainLaws
-pub mod MadeTaskLaws
-pub mod EndLaws
 pub mod StepLaws
 pub mod PutLaws
 pub mod GivenLaws
@@ -22,6 +19,10 @@ pub mod SentLaws
 pub mod ReceivedLaws
 pub mod PortLaws
 pub mod PortSteps
+pub mod ChainLaws
+pub mod MadeTaskLaws
+pub mod EndLaws
+pub mod JobSteps
 pub mod CallLaws
 pub mod OpeningLaws
 pub mod SpentLaws

@@ -23,11 +23,12 @@ use Rattle.zt_rows.specs.Handles.{value_of, install, whole, fresh, next_koid, ma
 use Rattle.zt_rows.specs.Consistent.{has_parent, possible_signals, SoundObject, SoundEntry, IsSound}
 use Rattle.zt_rows.proofs.StateLaws.{row-put}
 use Rattle.zt_rows.proofs.RowLaws.{true≢false, or_left, and_left, and_right, count_row-put-out}
-use Rattle.zt_rows.proofs.ReadLaws.{some_one, exists-some, typed-put, chosen}
+use Rattle.zt_rows.proofs.ReadLaws.{some_one, exists-some, some-exists, typed-put, chosen}
 use Rattle.zt_rows.proofs.SoundLaws.{is_task, some-runs, runs-some, same_links, sound-above}
 use Rattle.zt_rows.proofs.GrownLaws.{KeepsObjects, Grown, kept_itself, links-kept, exists-kept, sound-grown, sound-install}
-use Rattle.zt_rows.proofs.MakeLaws.{fresh-koid, koid-low, koids-made, object-made, others-made, sound-make, may_be-live}
+use Rattle.zt_rows.proofs.MakeLaws.{fresh-koid, entry-made, koid-low, koids-made, object-made, others-made, sound-make, may_be-live}
 use Rattle.zt_rows.proofs.ChainLaws.{chain-from, links-chain}
+use Rattle.zt_rows.proofs.GivenLaws.{Spends, spends-spends, spends-entry, spends-make_given, spends-make, spends-install}
 
 -- ---- a new task
 
@@ -165,3 +166,65 @@ module _ (S : State) (sound : IsSound S) (p h : ℕ) (held : Held) (free : (old 
   -- a process that runs may hold what exists by a value that it was given and that it does not hold
   pub sound-hand : IsSound (put S (key.Entry p h) (Some (rows.Entry held)))
   sound-hand = sound-grown S handed sound grown-handed
+
+-- ---- a process with its first handle or none
+
+module _ (S : State) (sound : IsSound S) (p : ℕ) (me : ObjectRow) (here : object S p ≡ Some me) (live : is_live_process me ≡ true) (l : ℕ) (job : ObjectRow) (there : object S l ≡ Some job) (lives : is_live_job job ≡ true) where
+  -- ---- none
+
+  abbrev bare : State
+  bare = make (counters S) (new_task kind.Process l 0) S
+
+  pub sound-spawn_bare : IsSound (install p me (whole (next_koid S) kind.Process) (make (counters S) (new_task kind.Process l 0) S))
+  sound-spawn_bare =
+      let made : IsSound bare = sound-task S sound l job there lives kind.Process refl 0 (λ e. cc) in
+      let new : exists bare (next_koid S) ≡ true = exists-some bare (next_koid S) (new_task kind.Process l 0) (object-made S sound (new_task kind.Process l 0)) in
+      sound-install bare made p me (others-made S sound (new_task kind.Process l 0) p me here) live (whole (next_koid S) kind.Process) new
+
+  pub spends-spawn_bare : Spends 1 1 0 S (install p me (whole (next_koid S) kind.Process) (make (counters S) (new_task kind.Process l 0) S))
+  spends-spawn_bare =
+      spends-spends 1 0 0 0 1 0 S bare (install p me (whole (next_koid S) kind.Process) bare) (spends-make S sound (new_task kind.Process l 0) refl)
+      (spends-install bare p me (whole (next_koid S) kind.Process) (others-made S sound (new_task kind.Process l 0) p me here) live)
+
+  -- ---- a handle to what exists
+
+  module _ (held : Held) (names : exists S held.koid ≡ true) where
+    abbrev receiver : ObjectRow
+    receiver = new_task kind.Process l 1
+
+    abbrev ready : State
+    ready = make (counters S) receiver S
+
+    abbrev supplied : State
+    supplied = put ready (key.Entry (next_koid S) (value_of 0)) (Some (rows.Entry held))
+
+    ready-there : object ready (next_koid S) ≡ Some receiver
+    ready-there = object-made S sound receiver
+
+    supplied-is : (x : ℕ) (o : ObjectRow) → object ready x ≡ Some o → object supplied x ≡ Some o
+    supplied-is x o e = ap as_object (row-put ready (key.Entry (next_koid S) (value_of 0)) (Some (rows.Entry held)) (key.Object x)) ∙ e
+
+    -- a process that is not there yet holds nothing
+    nothing-yet : (h : ℕ) (old : Held) → entry ready (next_koid S) h ≡ Some old → ⊥
+    nothing-yet h old e =
+        let w = runs-some S (next_koid S) (sound.of_entries (next_koid S) h old (sym (entry-made S sound receiver (next_koid S) h) ∙ e)).owner in
+        fresh-koid S sound w.0 w.1
+
+    sound-supplied : IsSound supplied
+    sound-supplied =
+        let made : IsSound ready = sound-task S sound l job there lives kind.Process refl 1 (λ e. cc) in
+        let next : next_at ready (next_koid S) ≡ 1 = ap object_next ready-there in
+        let named = some-exists S held.koid names in
+        sound-hand ready made (next_koid S) (value_of 0) held (nothing-yet (value_of 0)) (some-runs ready (next_koid S) receiver ready-there refl) 0 refl (omega arith)
+        (exists-some ready held.koid named.0 (others-made S sound receiver held.koid named.0 named.1))
+
+    pub sound-spawn_given : IsSound (install p me (whole (next_koid S) kind.Process) (put (make (counters S) (new_task kind.Process l 1) S) (key.Entry (next_koid S) (value_of 0)) (Some (rows.Entry held))))
+    sound-spawn_given =
+        sound-install supplied sound-supplied p me (supplied-is p me (others-made S sound receiver p me here)) live (whole (next_koid S) kind.Process)
+        (exists-some supplied (next_koid S) receiver (supplied-is (next_koid S) receiver ready-there))
+
+    pub spends-spawn_given : Spends 1 2 0 S (install p me (whole (next_koid S) kind.Process) (put (make (counters S) (new_task kind.Process l 1) S) (key.Entry (next_koid S) (value_of 0)) (Some (rows.Entry held))))
+    spends-spawn_given =
+        spends-spends 1 1 0 0 1 0 S supplied (install p me (whole (next_koid S) kind.Process) supplied)
+        (spends-spends 1 1 0 0 0 0 S ready supplied (spends-make_given S sound 1 receiver (omega arith)) (spends-entry ready (next_koid S) (value_of 0) held))
+        (spends-install supplied p me (whole (next_koid S) kind.Process) (supplied-is p me (others-made S sound receiver p me here)) live)

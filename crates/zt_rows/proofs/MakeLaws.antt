@@ -66,7 +66,7 @@ module _ (S : State) (sound : IsSound S) (o : ObjectRow) where
   counters-made : counters made ≡ raised_counters
   counters-made = ap as_counters (row-put with_object key.Counters (Some (rows.Counters raised_counters)) key.Counters)
 
-  entry-made : (p h : ℕ) → entry made p h ≡ entry S p h
+  pub entry-made : (p h : ℕ) → entry made p h ≡ entry S p h
   entry-made p h = ap as_entry (row-put with_object key.Counters (Some (rows.Counters raised_counters)) (key.Entry p h) ∙ row-put S (key.Object (next_koid S)) (Some (rows.Object o)) (key.Entry p h))
 
   message-made : (e n : ℕ) → message made e n ≡ message S e n

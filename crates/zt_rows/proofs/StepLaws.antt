@@ -56,7 +56,7 @@ after_some P S (Some v) wrong f base next = next v refl
 after_some P S None wrong f base next = base
 
 -- the two results that one after another give are given by the first and the rest
-chained : {A B C : Type 0} (r : Result A Status) (f : A → Result B Status) (g : B → Result C Status) → ((r >>= f) >>= g) ≡ (r >>= (λ x. f x >>= g))
+pub chained : {A B C : Type 0} (r : Result A Status) (f : A → Result B Status) (g : B → Result C Status) → ((r >>= f) >>= g) ≡ (r >>= (λ x. f x >>= g))
 chained (Ok x) f g = refl
 chained (Err e) f g = refl
 
