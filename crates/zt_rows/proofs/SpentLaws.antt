@@ -1,9 +1,7 @@
 -- So many calls give out no more numbers than so many, and a history's calls are too few to use them up.
-use Rattle.std.proofs.Common.{◌≡◌, ◌≤◌, ◌<◌, ℕ, zero, suc, ◌+◌, ◌*◌, ◌^◌, Bool, true, false, cond, ◌&&◌, List, [], ◌∷◌, length, inl, refl, sym, ap, ◌∙◌, subst, arith}
-use Rattle.std.specs.Prelude.{Option, None, Some, Ok, ok_or, is_some, count_by, fold, if◌then◌else◌, ◌==◌, ⊤}
+use Rattle.std.proofs.Common.{◌≡◌, ◌≤◌, ◌<◌, ℕ, zero, suc, ◌+◌, ◌*◌, ◌^◌, Bool, true, false, cond, List, [], ◌∷◌, length, inl, refl, sym, ap, ◌∙◌, subst, arith}
+use Rattle.std.specs.Prelude.{Option, None, Some, Ok, ok_or, count_by, fold, if◌then◌else◌, ◌==◌}
 use Rattle.std.specs.List.{filter_map, cons_option}
-use Rattle.std.proofs.lemmas.Bool.{eqb-true, eq-eqb}
-use Rattle.std.proofs.lemmas.Bool.Decides.{nat_tests}
 use Rattle.zt_bits.specs.declared.kinds.Kind.{Kind}
 use Rattle.zt_bits.specs.declared.kinds.Kind.TheVariants as kind
 use Rattle.zt_bits.specs.declared.statuses.Status.TheVariants as status
@@ -19,24 +17,23 @@ use Rattle.zt_rows.specs.declared.rows.Wait.{Wait}
 use Rattle.zt_rows.specs.declared.rows.Row.{Row}
 use Rattle.zt_rows.specs.declared.rows.Row.TheVariants as rows
 use Rattle.zt_rows.specs.State.{State, row, put}
-use Rattle.zt_rows.specs.Reads.{as_counters, as_object, counters, object, objects, entry, wait_at, waits, is_process, is_live, is_live_process, runs}
-use Rattle.zt_rows.specs.Tests.{any_kind, is_endpoint, exists, kind_at, next_at, object_next, count_row, raised}
+use Rattle.zt_rows.specs.Reads.{as_counters, counters, object, objects, entry, wait_at, waits, runs}
+use Rattle.zt_rows.specs.Tests.{any_kind, is_endpoint, kind_at, next_at, object_next, count_row, raised}
 use Rattle.zt_rows.specs.Room.{HasRoom, NextFits, is_wait, NextBy, HasGiven, HasSpent}
 use Rattle.zt_rows.specs.Opening.{opening}
 use Rattle.zt_rows.specs.Collect.{left, without, goes, rounds, collect}
 use Rattle.zt_rows.specs.Settle.{refreshed, refresh, news, fire, settle}
-use Rattle.zt_rows.specs.Handles.{◌>>=◌, answered, done, taken, take_out, install, value_of, whole, fresh, next_koid, make, make_pair}
+use Rattle.zt_rows.specs.Handles.{◌>>=◌, answered, done, take_out, install, whole, fresh, next_koid, make, make_pair}
 use Rattle.zt_rows.specs.ObjectCalls.{create, create_pair, received, handle_close, handle_duplicate, handle_replace, may_set, set_signals, object_signal, object_signal_peer}
 use Rattle.zt_rows.specs.Step.{IsCall, direct, step}
-use Rattle.zt_rows.specs.Consistent.{SoundObject, IsSound}
-use Rattle.zt_rows.proofs.StateLaws.{row-put}
+use Rattle.zt_rows.specs.Consistent.{IsSound}
 use Rattle.zt_rows.proofs.RowLaws.{count-cons, count_row-change, count_row-put-out, count_row-take}
-use Rattle.zt_rows.proofs.ReadLaws.{some_one, exists-some, kind_at-some, object-put, stayed, counters-without}
+use Rattle.zt_rows.proofs.ReadLaws.{some_one, kind_at-some, stayed, counters-without}
 use Rattle.zt_rows.proofs.CollectLaws.{sound-collect}
 use Rattle.zt_rows.proofs.FramedLaws.{sound-framed}
 use Rattle.zt_rows.proofs.SettleLaws.{object-refresh, other-refresh, map-renew, framed-refresh, fired, without_wait, with_packet, object-fired, counters-fired, fire-cases, ForPorts, ports-fire, sound-fire, ports-sound}
 use Rattle.zt_rows.proofs.MakeLaws.{others-made}
-use Rattle.zt_rows.proofs.TakeLaws.{object-taken, counters-taken}
+use Rattle.zt_rows.proofs.TakeLaws.{object-taken}
 use Rattle.zt_rows.proofs.PairLaws.{others-paired}
 use Rattle.zt_rows.proofs.StepLaws.{after_check, after_some, after_handle, caller-is}
 use Rattle.zt_rows.proofs.GivenLaws.{growth, OfKind, Spends, spends-itself, spends-spends, spends-make, spends-make_pair, object-received, spends-install, spends-take_out_all, spends-signals, Called, spends-called, called-nothing}

@@ -61,7 +61,7 @@ impl Parcel {
     pub fn limits(&self)
         ensures { IsWithinMessage self.now.bytes self.now.handles }
     {
-        let _bytes = &self.bytes;
+        let _ = &self.bytes;
     }
 
     /// An equal parcel in memory of its own.
@@ -132,19 +132,34 @@ impl Call {
     pub fn copy(&self) -> Result<Call, AllocError>
         ensures { IfOk result (λ copied. copied ≡ self.now) }
     {
-        Ok(match self {
+        Ok(match *self {
             Call::EventCreate => Call::EventCreate,
             Call::EventPairCreate => Call::EventPairCreate,
-            Call::HandleClose { handle } => Call::HandleClose { handle: *handle },
-            Call::HandleDuplicate { handle, rights } => Call::HandleDuplicate { handle: *handle, rights: *rights },
-            Call::HandleReplace { handle, rights } => Call::HandleReplace { handle: *handle, rights: *rights },
-            Call::ObjectSignal { handle, clear, set } => Call::ObjectSignal { handle: *handle, clear: *clear, set: *set },
-            Call::ObjectSignalPeer { handle, clear, set } => Call::ObjectSignalPeer { handle: *handle, clear: *clear, set: *set },
+            Call::HandleClose { handle } => Call::HandleClose { handle },
+            Call::HandleDuplicate { handle, rights } => Call::HandleDuplicate { handle, rights },
+            Call::HandleReplace { handle, rights } => Call::HandleReplace { handle, rights },
+            Call::ObjectSignal { handle, clear, set } => Call::ObjectSignal { handle, clear, set },
+            Call::ObjectSignalPeer { handle, clear, set } => Call::ObjectSignalPeer {
+                handle,
+                clear,
+                set,
+            },
             Call::ChannelCreate => Call::ChannelCreate,
-            Call::ChannelWrite { handle, parcel } => Call::ChannelWrite { handle: *handle, parcel: parcel.copy()? },
-            Call::ChannelRead { handle, bytes, handles, discard } => {
-                Call::ChannelRead { handle: *handle, bytes: *bytes, handles: *handles, discard: *discard }
+            Call::ChannelWrite { handle, ref parcel } => {
+                let parcel = parcel.copy()?;
+                Call::ChannelWrite { handle, parcel }
             }
+            Call::ChannelRead {
+                handle,
+                bytes,
+                handles,
+                discard,
+            } => Call::ChannelRead {
+                handle,
+                bytes,
+                handles,
+                discard,
+            },
         })
     }
 }
