@@ -1,13 +1,13 @@
 -- The jobs above a live process or job: each step upward leads to a smaller koid, so that the bound on the walk
 -- never cuts it short, and the jobs above a child are its parent and those above that.
-use Rattle.std.proofs.Common.{◌≡◌, ◌≤◌, ◌<◌, ℕ, zero, suc, ◌+◌, true, false, List, [], ◌∷◌, ◌⊎◌, inl, inr, length, refl, sym, ap, ◌∙◌, arith}
+use Rattle.std.proofs.Common.{◌≡◌, ◌≤◌, ◌<◌, ℕ, zero, suc, ◌+◌, true, false, List, ◌∷◌, ◌⊎◌, inl, inr, refl, sym, ap, ◌∙◌, arith}
 use Rattle.std.specs.Prelude.{Some}
 use Rattle.zt_rows.specs.declared.rows.ObjectRow.{ObjectRow}
 use Rattle.zt_rows.specs.State.{State}
 use Rattle.zt_rows.specs.Reads.{object}
 use Rattle.zt_rows.specs.Tests.{link_at, object_link}
 use Rattle.zt_rows.specs.Support.{root_job}
-use Rattle.zt_rows.specs.End.{upward, links, chain, depth}
+use Rattle.zt_rows.specs.End.{upward, links, chain}
 use Rattle.zt_rows.specs.Consistent.{IsChild, has_parent, SoundObject, IsSound}
 use Rattle.zt_rows.proofs.RowLaws.{or_left}
 use Rattle.zt_rows.proofs.SoundLaws.{is_task, task-not-endpoint, upward-same}

@@ -1,10 +1,9 @@
 -- A set of live processes and jobs that ends leaves a sound state sound where no live process or job is left under
 -- a job that ended; what ends with a job is such a set.
-use Rattle.std.proofs.Common.{◌≡◌, ◌≤◌, ◌<◌, ℕ, ◌+◌, Bool, true, false, cond, not, ◌&&◌, ◌||◌, List, [], ◌∷◌, inl, inr, refl, sym, ap, ◌∙◌, subst, arith}
+use Rattle.std.proofs.Common.{◌≡◌, ◌≤◌, ◌<◌, ℕ, ◌+◌, Bool, true, false, cond, ◌&&◌, ◌||◌, ◌∷◌, inl, inr, refl, sym, ap, ◌∙◌, subst, arith}
 use Rattle.std.specs.Prelude.{Option, None, Some, option_and_then, is_some, if◌then◌else◌, ◌==◌}
 use Rattle.std.specs.Option.{option_map}
-use Rattle.std.specs.List.{list_any}
-use Rattle.std.proofs.lemmas.Bool.{eqb-true, eq-eqb}
+use Rattle.std.proofs.lemmas.Bool.{eqb-true}
 use Rattle.zt_bits.specs.declared.kinds.Kind.{Kind}
 use Rattle.zt_bits.specs.declared.kinds.Kind.TheVariants as kind
 use Rattle.zt_rows.specs.declared.keys.RowKey.{RowKey}
@@ -21,18 +20,18 @@ use Rattle.zt_rows.specs.declared.rows.Row.TheVariants as rows
 use Rattle.zt_rows.specs.Contents.{MessageContent}
 use Rattle.zt_rows.specs.State.{State, row}
 use Rattle.zt_rows.specs.Reads.{as_counters, as_object, as_entry, as_message, as_packet, as_wait, counters, object, entry, message, packet, wait, is_live, is_job, is_process, is_live_process, is_live_job, runs}
-use Rattle.zt_rows.specs.Tests.{exists, kind_at, link_at, next_at, object_link, object_next, is_endpoint, among, count_row}
+use Rattle.zt_rows.specs.Tests.{exists, kind_at, next_at, object_link, object_next, is_endpoint, among, count_row}
 use Rattle.zt_rows.specs.Room.{suits, is_wait}
 use Rattle.zt_rows.specs.Support.{root_job}
 use Rattle.zt_rows.specs.PortCalls.{is_user_packet_of, pending, most_pending}
 use Rattle.zt_rows.specs.JobCalls.{most_depth}
 use Rattle.zt_rows.specs.Handles.{next_koid}
-use Rattle.zt_rows.specs.End.{chain, depth, is_live_task, is_under, ends_with, left_by, end}
+use Rattle.zt_rows.specs.End.{chain, depth, is_live_task, is_under, left_by, end}
 use Rattle.zt_rows.specs.Consistent.{IsPeer, IsChild, has_parent, may_be, SoundObject, SoundEntry, SoundMessage, SoundPacket, SoundWait, IsSound}
 use Rattle.zt_rows.proofs.StateLaws.{row-change}
-use Rattle.zt_rows.proofs.RowLaws.{or_true, or_left, or_right, and_left, and_right, and_both, true≢false, not_true, list_any-in, count_row-change}
-use Rattle.zt_rows.proofs.ReadLaws.{some_one, exists-some, some-exists, kind_at-some, only_if, none_either, if_none}
-use Rattle.zt_rows.proofs.SoundLaws.{is_task, task-not-endpoint, has_parent-task, runs-some, some-runs, all_map, SameLinks, same_depth, sound-above, changed-suits, and_no_right}
+use Rattle.zt_rows.proofs.RowLaws.{or_true, or_left, or_right, and_left, and_right, and_both, true≢false, not_true, count_row-change}
+use Rattle.zt_rows.proofs.ReadLaws.{some_one, only_if, none_either, if_none}
+use Rattle.zt_rows.proofs.SoundLaws.{is_task, task-not-endpoint, has_parent-task, runs-some, some-runs, all_map, SameLinks, same_depth, sound-above, changed-suits}
 use Rattle.zt_rows.proofs.ChainLaws.{chain-child}
 use Rattle.zt_rows.proofs.GivenLaws.{growth, OfKind, as_it_was, Spends}
 
@@ -328,11 +327,11 @@ sound-end_process S sound p live how over =
     let here : (x : ℕ) (o : ObjectRow) → object S x ≡ Some o → (x == p) ≡ true → o ≡ w.0 = λ x o e t. some_one o w.0 (sym e ∙ ap (object S) (eqb-true x p t) ∙ w.1) in
     sound-end (λ x. x == p) how S sound
     (λ x o e t.
-      let same : o ≡ w.0 = here x o e t in
-      (ap is_task same ∙ or_right (is_live_job w.0) _ w.2, ap (λ (z : ObjectRow). may_be z.kind how) same ∙ any_end w.0.kind (is_live w.0.life) w.2))
+    let same : o ≡ w.0 = here x o e t in
+    (ap is_task same ∙ or_right (is_live_job w.0) _ w.2, ap (λ (z : ObjectRow). may_be z.kind how) same ∙ any_end w.0.kind (is_live w.0.life) w.2))
     (λ x o e h t.
-      let c : IsChild S x o = (sound.of_objects x o e).parents h in
-      absurd (not_both c.parent (ap is_live_process (here o.link c.parent c.there t) ∙ w.2) c.live))
+    let c : IsChild S x o = (sound.of_objects x o e).parents h in
+    absurd (not_both c.parent (ap is_live_process (here o.link c.parent c.there t) ∙ w.2) c.live))
     over
   where
     any_end : (k : Kind) (lives : Bool) → (is_process k && lives) ≡ true → may_be k how ≡ true

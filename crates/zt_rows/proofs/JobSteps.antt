@@ -1,24 +1,23 @@
 -- The calls on jobs and processes leave a sound state sound, and give out no more than a call gives.
 use Rattle.std.proofs.Common.{◌≡◌, ◌<◌, ℕ, Bool, true, false, refl, sym, ap, ◌∙◌, subst, arith}
-use Rattle.std.specs.Prelude.{ℤ, Option, None, Some, Result, Ok, Err, is_some, nat_lt, if◌then◌else◌, ◌==◌, ◌&&◌}
+use Rattle.std.specs.Prelude.{ℤ, Option, None, Some, Result, Ok, nat_lt, if◌then◌else◌, ◌==◌, ◌&&◌}
 use Rattle.std.proofs.lemmas.Bool.{ltb-true}
 use Rattle.zt_bits.specs.declared.kinds.Kind.{Kind}
 use Rattle.zt_bits.specs.declared.kinds.Kind.TheVariants as kind
 use Rattle.zt_bits.specs.declared.statuses.Status.{Status}
 use Rattle.zt_bits.specs.declared.statuses.Status.TheVariants as status
 use Rattle.zt_rows.specs.declared.calls.Reply.{Reply}
-use Rattle.zt_rows.specs.declared.keys.RowKey.TheVariants as key
 use Rattle.zt_rows.specs.declared.rows.Counters.{Counters}
 use Rattle.zt_rows.specs.declared.rows.Held.{Held}
 use Rattle.zt_rows.specs.declared.rows.Life.{Life}
 use Rattle.zt_rows.specs.declared.rows.Life.TheVariants as life
 use Rattle.zt_rows.specs.declared.rows.ObjectRow.{ObjectRow}
 use Rattle.zt_rows.specs.State.{State}
-use Rattle.zt_rows.specs.Reads.{counters, object, is_job, is_process, is_live, is_live_process, is_live_job, runs}
-use Rattle.zt_rows.specs.Tests.{exists, any_kind, is_task as is_task_kind}
+use Rattle.zt_rows.specs.Reads.{counters, object, is_job, is_process, is_live, runs}
+use Rattle.zt_rows.specs.Tests.{any_kind, is_task as is_task_kind}
 use Rattle.zt_rows.specs.End.{depth, ends_with, end}
-use Rattle.zt_rows.specs.Handles.{◌>>=◌, handle, answered, done, take_out, install, whole, fresh, next_koid, make}
-use Rattle.zt_rows.specs.JobCalls.{most_depth, job_create, argument, child, hand_over, give_up, spawn, task_kill, process_exit}
+use Rattle.zt_rows.specs.Handles.{◌>>=◌, handle, answered, take_out, install, whole, fresh, next_koid, make}
+use Rattle.zt_rows.specs.JobCalls.{most_depth, job_create, argument, child, hand_over, spawn, task_kill, process_exit}
 use Rattle.zt_rows.specs.Consistent.{IsSound}
 use Rattle.zt_rows.proofs.RowLaws.{and_both}
 use Rattle.zt_rows.proofs.ReadLaws.{exists-some}
@@ -27,8 +26,8 @@ use Rattle.zt_rows.proofs.GrownLaws.{sound-install}
 use Rattle.zt_rows.proofs.MakeLaws.{object-made, others-made}
 use Rattle.zt_rows.proofs.TakeLaws.{object-taken, counters-taken, sound-taken}
 use Rattle.zt_rows.proofs.StepLaws.{Found, chained, after_check, after_handle, caller-is}
-use Rattle.zt_rows.proofs.GivenLaws.{Spends, spends-spends, spends-make, spends-take_out_all, spends-install, Called, spends-called, called-nothing}
-use Rattle.zt_rows.proofs.MadeTaskLaws.{new_task, sound-task, sound-spawn_bare, spends-spawn_bare, sound-spawn_given, spends-spawn_given}
+use Rattle.zt_rows.proofs.GivenLaws.{spends-spends, spends-make, spends-take_out_all, spends-install, Called, spends-called, called-nothing}
+use Rattle.zt_rows.proofs.MadeTaskLaws.{sound-task, sound-spawn_bare, spends-spawn_bare, sound-spawn_given, spends-spawn_given}
 use Rattle.zt_rows.proofs.EndLaws.{spends-end, sound-end_process, sound-kill_job}
 
 -- ---- a job under a job
@@ -79,15 +78,15 @@ sound-spawn S p h arg sound live =
     after_handle IsSound S status.WrongType p h is_job 0x20000 _ sound (λ held job found.
     after_argument IsSound S p arg _ sound
     (after_check IsSound S (is_live job.life) status.BadState _ sound (λ lives.
-      subst (λ me. IsSound (spawned p me held.koid None (counters S) S)) (sym w.3)
-      (sound-spawn_bare S sound p w.0 w.1 w.2 held.koid job found.object_there (and_both (is_job job.kind) _ found.of_kind lives))))
+    subst (λ me. IsSound (spawned p me held.koid None (counters S) S)) (sym w.3)
+    (sound-spawn_bare S sound p w.0 w.1 w.2 held.koid job found.object_there (and_both (is_job job.kind) _ found.of_kind lives))))
     (λ given o handed. after_check IsSound S (is_live job.life) status.BadState _ sound (λ lives.
-      let T : State = take_out S p arg in
-      let same : (x : ℕ) → object T x ≡ object S x = object-taken p (λ g. g == arg) S in
-      subst (λ me. IsSound (spawned p me held.koid (Some given) (counters S) T)) (sym w.3)
-      (subst (λ c. IsSound (spawned p w.0 held.koid (Some given) c T)) (counters-taken p (λ g. g == arg) S)
-      (sound-spawn_given T (sound-taken p (λ g. g == arg) S sound) p w.0 (same p ∙ w.1) w.2 held.koid job (same held.koid ∙ found.object_there) (and_both (is_job job.kind) _ found.of_kind lives) given
-      (exists-some T given.koid o (same given.koid ∙ handed.object_there)))))))
+    let T : State = take_out S p arg in
+    let same : (x : ℕ) → object T x ≡ object S x = object-taken p (λ g. g == arg) S in
+    subst (λ me. IsSound (spawned p me held.koid (Some given) (counters S) T)) (sym w.3)
+    (subst (λ c. IsSound (spawned p w.0 held.koid (Some given) c T)) (counters-taken p (λ g. g == arg) S)
+    (sound-spawn_given T (sound-taken p (λ g. g == arg) S sound) p w.0 (same p ∙ w.1) w.2 held.koid job (same held.koid ∙ found.object_there) (and_both (is_job job.kind) _ found.of_kind lives) given
+    (exists-some T given.koid o (same given.koid ∙ handed.object_there)))))))
 
 pub called-spawn : (S : State) (p h arg : ℕ) → IsSound S → runs S p ≡ true → Called S (spawn S p h arg).0
 called-spawn S p h arg sound live =
@@ -95,19 +94,19 @@ called-spawn S p h arg sound live =
     after_handle (Called S) S status.WrongType p h is_job 0x20000 _ (called-nothing S) (λ held job found.
     after_argument (Called S) S p arg _ (called-nothing S)
     (after_check (Called S) S (is_live job.life) status.BadState _ (called-nothing S) (λ lives.
-      subst (λ me. Called S (spawned p me held.koid None (counters S) S)) (sym w.3)
-      (spends-called 1 1 0 S (spawned p w.0 held.koid None (counters S) S) (omega arith) (omega arith) (omega arith)
-      (spends-spawn_bare S sound p w.0 w.1 w.2 held.koid job found.object_there (and_both (is_job job.kind) _ found.of_kind lives)))))
+    subst (λ me. Called S (spawned p me held.koid None (counters S) S)) (sym w.3)
+    (spends-called 1 1 0 S (spawned p w.0 held.koid None (counters S) S) (omega arith) (omega arith) (omega arith)
+    (spends-spawn_bare S sound p w.0 w.1 w.2 held.koid job found.object_there (and_both (is_job job.kind) _ found.of_kind lives)))))
     (λ given o handed. after_check (Called S) S (is_live job.life) status.BadState _ (called-nothing S) (λ lives.
-      let T : State = take_out S p arg in
-      let same : (x : ℕ) → object T x ≡ object S x = object-taken p (λ g. g == arg) S in
-      let U : State = spawned p w.0 held.koid (Some given) (counters T) T in
-      subst (λ me. Called S (spawned p me held.koid (Some given) (counters S) T)) (sym w.3)
-      (subst (λ c. Called S (spawned p w.0 held.koid (Some given) c T)) (counters-taken p (λ g. g == arg) S)
-      (spends-called 1 2 0 S U (omega arith) (omega arith) (omega arith)
-      (spends-spends 0 0 0 1 2 0 S T U (spends-take_out_all S p (λ g. g == arg))
-      (spends-spawn_given T (sound-taken p (λ g. g == arg) S sound) p w.0 (same p ∙ w.1) w.2 held.koid job (same held.koid ∙ found.object_there) (and_both (is_job job.kind) _ found.of_kind lives) given
-      (exists-some T given.koid o (same given.koid ∙ handed.object_there)))))))))
+    let T : State = take_out S p arg in
+    let same : (x : ℕ) → object T x ≡ object S x = object-taken p (λ g. g == arg) S in
+    let U : State = spawned p w.0 held.koid (Some given) (counters T) T in
+    subst (λ me. Called S (spawned p me held.koid (Some given) (counters S) T)) (sym w.3)
+    (subst (λ c. Called S (spawned p w.0 held.koid (Some given) c T)) (counters-taken p (λ g. g == arg) S)
+    (spends-called 1 2 0 S U (omega arith) (omega arith) (omega arith)
+    (spends-spends 0 0 0 1 2 0 S T U (spends-take_out_all S p (λ g. g == arg))
+    (spends-spawn_given T (sound-taken p (λ g. g == arg) S sound) p w.0 (same p ∙ w.1) w.2 held.koid job (same held.koid ∙ found.object_there) (and_both (is_job job.kind) _ found.of_kind lives) given
+    (exists-some T given.koid o (same given.koid ∙ handed.object_there)))))))))
 
 -- ---- what ends
 

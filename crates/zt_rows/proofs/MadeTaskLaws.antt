@@ -1,5 +1,5 @@
 -- A new process or job under a live job, also with its first handle, leaves a sound state sound.
-use Rattle.std.proofs.Common.{◌≡◌, ◌≤◌, ◌<◌, ℕ, suc, ◌+◌, ◌*◌, ◌-◌, Bool, true, false, cond, not, ◌&&◌, ◌||◌, List, ◌∷◌, ◌⊎◌, inl, inr, length, refl, sym, ap, ◌∙◌, subst, arith}
+use Rattle.std.proofs.Common.{◌≡◌, ◌≤◌, ◌<◌, ℕ, suc, ◌+◌, ◌*◌, ◌-◌, true, false, cond, ◌&&◌, List, ◌∷◌, ◌⊎◌, inl, inr, length, refl, sym, ap, ◌∙◌, subst, arith}
 use Rattle.std.specs.Prelude.{Some, ◌==◌}
 use Rattle.std.specs.Int.Bits.{and_zero_l}
 use Rattle.std.proofs.lemmas.Bool.{eqb-true}
@@ -12,7 +12,7 @@ use Rattle.zt_rows.specs.declared.rows.Held.{Held}
 use Rattle.zt_rows.specs.declared.rows.ObjectRow.{ObjectRow}
 use Rattle.zt_rows.specs.declared.rows.Row.TheVariants as rows
 use Rattle.zt_rows.specs.State.{State, row, put}
-use Rattle.zt_rows.specs.Reads.{as_counters, as_object, as_entry, as_message, as_packet, as_wait, counters, object, entry, message, packet, wait, is_live_process, is_live_job, runs}
+use Rattle.zt_rows.specs.Reads.{as_counters, as_object, as_entry, as_message, as_packet, as_wait, counters, object, entry, is_live_process, is_live_job, runs}
 use Rattle.zt_rows.specs.Tests.{exists, link_at, next_at, object_link, object_next, is_task as is_task_kind, is_endpoint}
 use Rattle.zt_rows.specs.Room.{suits}
 use Rattle.zt_rows.specs.Support.{root_job}
@@ -24,9 +24,9 @@ use Rattle.zt_rows.specs.Consistent.{has_parent, possible_signals, SoundObject, 
 use Rattle.zt_rows.proofs.StateLaws.{row-put}
 use Rattle.zt_rows.proofs.RowLaws.{true≢false, or_left, and_left, and_right, count_row-put-out}
 use Rattle.zt_rows.proofs.ReadLaws.{some_one, exists-some, some-exists, typed-put, chosen}
-use Rattle.zt_rows.proofs.SoundLaws.{is_task, some-runs, runs-some, same_links, sound-above}
+use Rattle.zt_rows.proofs.SoundLaws.{some-runs, runs-some, same_links, sound-above}
 use Rattle.zt_rows.proofs.GrownLaws.{KeepsObjects, Grown, kept_itself, links-kept, exists-kept, sound-grown, sound-install}
-use Rattle.zt_rows.proofs.MakeLaws.{fresh-koid, entry-made, koid-low, koids-made, object-made, others-made, sound-make, may_be-live}
+use Rattle.zt_rows.proofs.MakeLaws.{fresh-koid, entry-made, koids-made, object-made, others-made, sound-make, may_be-live}
 use Rattle.zt_rows.proofs.ChainLaws.{chain-from, links-chain}
 use Rattle.zt_rows.proofs.GivenLaws.{Spends, spends-spends, spends-entry, spends-make_given, spends-make, spends-install}
 
@@ -87,8 +87,8 @@ module _ (S : State) (sound : IsSound S) (l : ℕ) (job : ObjectRow) (there : ob
       let link : link_at spawned (next_koid S) ≡ l = ap object_link (object-made S sound (new_task k l n)) in
       let same : links (next_koid S) S l ≡ links (next_koid S) spawned l = same_links S spawned (sound-above S sound.of_objects) (links-kept S spawned keeps-spawned) (next_koid S) l job there (or_left _ _ live) in
       let whole : chain spawned (next_koid S) ≡ l ∷ chain S l =
-          chain-from spawned (next_koid S) l link (omega arith)
-          ∙ ap (λ c. l ∷ c) (sym same ∙ links-chain S sound (next_koid S) l job there (or_left _ _ live) parent-high) in
+      chain-from spawned (next_koid S) l link (omega arith)
+      ∙ ap (λ c. l ∷ c) (sym same ∙ links-chain S sound (next_koid S) l job there (or_left _ _ live) parent-high) in
       let e : depth spawned (next_koid S) ≡ suc (depth S l) = ap (λ (c : List ℕ). length c) whole in
       omega arith
 

@@ -37,7 +37,6 @@ pub is_port-is : (k : Kind) → is_port k ≡ true → k ≡ kind.Port
 is_port-is kind.Port e = refl
 is_port-is _ e = cc
 
-
 -- ---- a new wait
 
 module _ (S : State) (w : Wait) where
@@ -184,9 +183,9 @@ pub sound-unpack : (S : State) → IsSound S → (x n : ℕ) → IsSound (put S 
 sound-unpack S sound x n =
     let T : State = put S (key.Packet x n) None in
     let few : (y : ℕ) → pending T y ≤ most_pending = λ y.
-        let a : pending T y ≤ pending S y = count_row-take (is_user_packet_of y) S (key.Packet x n) in
-        let b : pending S y ≤ most_pending = sound.ports y in
-        omega arith in
+    let a : pending T y ≤ pending S y = count_row-take (is_user_packet_of y) S (key.Packet x n) in
+    let b : pending S y ≤ most_pending = sound.ports y in
+    omega arith in
     sound-beside S T sound (beside-packet S x n None sound (λ k e. cc) few)
 
 pub spends-unpack : (S : State) (x n : ℕ) → Spends 0 0 0 S (put S (key.Packet x n) None)

@@ -1,16 +1,15 @@
 -- The calls on ports leave a sound state sound, and give out no more than a call gives.
-use Rattle.std.proofs.Common.{◌≡◌, ◌<◌, ℕ, true, List, refl, ap, ◌∙◌, arith}
+use Rattle.std.proofs.Common.{ℕ, List, ap, ◌∙◌, arith}
 use Rattle.std.specs.Prelude.{None, Some, nat_lt}
 use Rattle.std.specs.Option.{option_map}
 use Rattle.std.proofs.lemmas.Bool.{ltb-true}
-use Rattle.zt_bits.specs.declared.kinds.Kind.TheVariants as kind
 use Rattle.zt_bits.specs.declared.statuses.Status.TheVariants as status
 use Rattle.zt_rows.specs.declared.keys.RowKey.TheVariants as key
 use Rattle.zt_rows.specs.declared.rows.ObjectRow.{ObjectRow}
 use Rattle.zt_rows.specs.declared.rows.Packet.TheVariants as packet
 use Rattle.zt_rows.specs.declared.rows.Wait.{Wait}
 use Rattle.zt_rows.specs.State.{State, put}
-use Rattle.zt_rows.specs.Reads.{counters, object, packets}
+use Rattle.zt_rows.specs.Reads.{counters, packets}
 use Rattle.zt_rows.specs.Tests.{any_kind, is_port, first, any_row}
 use Rattle.zt_rows.specs.Settle.{push_packet}
 use Rattle.zt_rows.specs.PortCalls.{add_wait, object_wait_async, pending, most_pending, port_queue, port_wait, is_cancelled, cancel, port_cancel}

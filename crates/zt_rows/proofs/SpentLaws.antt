@@ -39,6 +39,7 @@ use Rattle.zt_rows.proofs.StepLaws.{after_check, after_some, after_handle, calle
 use Rattle.zt_rows.proofs.GivenLaws.{growth, OfKind, Spends, spends-itself, spends-spends, spends-make, spends-make_pair, object-received, spends-install, spends-take_out_all, spends-signals, Called, spends-called, called-nothing}
 use Rattle.zt_rows.proofs.SentLaws.{called-channel_write}
 use Rattle.zt_rows.proofs.ReceivedLaws.{called-channel_read}
+use Rattle.zt_rows.proofs.PortSteps.{called-object_wait_async, called-port_queue, called-port_wait, called-port_cancel}
 use Rattle.zt_rows.proofs.CallLaws.{sound-direct}
 use Rattle.zt_rows.proofs.OpeningLaws.{of_both, counters-opening}
 
@@ -176,6 +177,11 @@ called-direct S p (call.ObjectSignalPeer h clear set) sound live = called-object
 called-direct S p call.ChannelCreate sound live = called-create_pair S p kind.Channel sound live refl
 called-direct S p (call.ChannelWrite h parcel) sound live = called-channel_write S p h parcel.bytes parcel.handles sound
 called-direct S p (call.ChannelRead h bytes handles discard) sound live = called-channel_read S p h bytes handles discard sound live
+called-direct S p call.PortCreate sound live = called-create S p kind.Port sound live
+called-direct S p (call.ObjectWaitAsync h port packet_key signals) sound live = called-object_wait_async S p h port packet_key signals.0
+called-direct S p (call.PortQueue port packet_key bytes) sound live = called-port_queue S p port packet_key bytes
+called-direct S p (call.PortWait port) sound live = called-port_wait S p port
+called-direct S p (call.PortCancel port source packet_key) sound live = called-port_cancel S p port source packet_key
 
 next-grown : (calls packets : ℕ) (on : Kind) (a b : ℕ) → NextBy calls packets on a → b ≤ a + growth 64 1 on → NextBy (calls + 1) (packets + 1) on b
 next-grown calls packets kind.Process a b h g = omega arith

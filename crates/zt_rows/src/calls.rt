@@ -116,6 +116,29 @@ pub enum Call {
         handles: u32,
         discard: bool,
     },
+    PortCreate,
+    /// When one of the signals stands on what the handle names, a packet under this key comes to the port.
+    ObjectWaitAsync {
+        handle: HandleValue,
+        port: HandleValue,
+        key: u64,
+        signals: Signals,
+    },
+    PortQueue {
+        port: HandleValue,
+        key: u64,
+        bytes: [u8; 32],
+    },
+    /// The deadline has always passed: a port with no packet answers at once.
+    PortWait {
+        port: HandleValue,
+    },
+    /// The caller's waits on the handle `source` under this key leave the port, and so do their packets.
+    PortCancel {
+        port: HandleValue,
+        source: HandleValue,
+        key: u64,
+    },
 }
 
 impl Call {
@@ -160,6 +183,21 @@ impl Call {
                 handles,
                 discard,
             },
+            Call::PortCreate => Call::PortCreate,
+            Call::ObjectWaitAsync {
+                handle,
+                port,
+                key,
+                signals,
+            } => Call::ObjectWaitAsync {
+                handle,
+                port,
+                key,
+                signals,
+            },
+            Call::PortQueue { port, key, bytes } => Call::PortQueue { port, key, bytes },
+            Call::PortWait { port } => Call::PortWait { port },
+            Call::PortCancel { port, source, key } => Call::PortCancel { port, source, key },
         })
     }
 }
