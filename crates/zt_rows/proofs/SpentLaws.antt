@@ -40,6 +40,7 @@ use Rattle.zt_rows.proofs.GivenLaws.{growth, OfKind, Spends, spends-itself, spen
 use Rattle.zt_rows.proofs.SentLaws.{called-channel_write}
 use Rattle.zt_rows.proofs.ReceivedLaws.{called-channel_read}
 use Rattle.zt_rows.proofs.PortSteps.{called-object_wait_async, called-port_queue, called-port_wait, called-port_cancel}
+use Rattle.zt_rows.proofs.JobSteps.{called-job_create, called-spawn, called-task_kill, called-process_exit}
 use Rattle.zt_rows.proofs.CallLaws.{sound-direct}
 use Rattle.zt_rows.proofs.OpeningLaws.{of_both, counters-opening}
 
@@ -182,6 +183,10 @@ called-direct S p (call.ObjectWaitAsync h port packet_key signals) sound live = 
 called-direct S p (call.PortQueue port packet_key bytes) sound live = called-port_queue S p port packet_key bytes
 called-direct S p (call.PortWait port) sound live = called-port_wait S p port
 called-direct S p (call.PortCancel port source packet_key) sound live = called-port_cancel S p port source packet_key
+called-direct S p (call.JobCreate job) sound live = called-job_create S p job sound live
+called-direct S p (call.Spawn job argument) sound live = called-spawn S p job argument sound live
+called-direct S p (call.TaskKill h) sound live = called-task_kill S p h
+called-direct S p (call.ProcessExit code) sound live = called-process_exit S p code
 
 next-grown : (calls packets : ℕ) (on : Kind) (a b : ℕ) → NextBy calls packets on a → b ≤ a + growth 64 1 on → NextBy (calls + 1) (packets + 1) on b
 next-grown calls packets kind.Process a b h g = omega arith

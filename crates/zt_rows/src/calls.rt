@@ -139,6 +139,22 @@ pub enum Call {
         source: HandleValue,
         key: u64,
     },
+    JobCreate {
+        job: HandleValue,
+    },
+    /// A process under the job, which receives the handle `argument`, or none where that is 0.
+    Spawn {
+        job: HandleValue,
+        argument: HandleValue,
+    },
+    /// The process or job ends, and with a job all that is under it.
+    TaskKill {
+        handle: HandleValue,
+    },
+    /// The caller ends with this code.
+    ProcessExit {
+        code: i64,
+    },
 }
 
 impl Call {
@@ -198,6 +214,10 @@ impl Call {
             Call::PortQueue { port, key, bytes } => Call::PortQueue { port, key, bytes },
             Call::PortWait { port } => Call::PortWait { port },
             Call::PortCancel { port, source, key } => Call::PortCancel { port, source, key },
+            Call::JobCreate { job } => Call::JobCreate { job },
+            Call::Spawn { job, argument } => Call::Spawn { job, argument },
+            Call::TaskKill { handle } => Call::TaskKill { handle },
+            Call::ProcessExit { code } => Call::ProcessExit { code },
         })
     }
 }
