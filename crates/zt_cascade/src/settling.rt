@@ -51,7 +51,8 @@ fn renew_near(step: &mut Step, alloc: Global) -> Result<(), AllocError>
     ensures ok { OnOk result (step.new.current ≡ refresh step.old.current) }
 {
     // All are gathered before the first is renewed, since renewing puts rows.
-    for koid in &near_touched(step, alloc)? {
+    let near = near_touched(step, alloc)?;
+    for koid in &near {
         zt_signals::refresh(step, *koid)?;
     }
     Ok(())

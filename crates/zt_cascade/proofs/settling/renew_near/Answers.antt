@@ -11,5 +11,5 @@ returns-clause-ok c =
     let past : length c.deref-koid-items.result.now ≤ c.loop-koid.koid-index = omega arith in
     c.loop-koid.invariant.current
     ∙ fold-all refreshed_object s.current c.deref-koid-items.result.now c.loop-koid.koid-index past
-    ∙ ap (fold refreshed_object s.current) (c.deref-koid-items.ensures.value ∙ c.in_ok-near_touched.ensures.near)
-    ∙ refresh-near s c.requires c.in_ok-near_touched.ensures.differs
+    ∙ ap (fold refreshed_object s.current) (c.deref-koid-items.ensures.value ∙ c.in_ok-near.ensures.near)
+    ∙ refresh-near s c.requires c.in_ok-near.ensures.differs
