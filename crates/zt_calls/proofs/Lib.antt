@@ -3,7 +3,5 @@ pub mod CallerLaws
 pub mod RoomLaws
 pub mod WalkLaws
 pub mod LosingLaws
-pub mod SettleLaws
 pub mod TakingLaws
 pub mod CallLaws
-pub mod RefreshLaws

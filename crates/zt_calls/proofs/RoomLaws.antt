@@ -30,7 +30,7 @@ use Rattle.zt_rows.proofs.ReadLaws.{some_one, object-row, kind_at-some, stayed}
 use Rattle.zt_rows.proofs.CollectLaws.{sound-collect}
 use Rattle.zt_rows.proofs.TakeLaws.{object-taken}
 use Rattle.zt_rows.proofs.StepLaws.{after_check, after_some, after_handle, caller-is, sound-direct}
-use Rattle.zt_calls.specs.Firing.{HasRoomToFire}
+use Rattle.zt_cascade.specs.Firing.{HasRoomToFire}
 
 -- the next number of a row, if it is a port's, leaves room for more packets than memory has place for
 abbrev pub PortFits : ObjectRow → Type 0

@@ -1,6 +1,5 @@
 pub mod Wanting
 pub mod Outcomes
 pub mod Walks
-pub mod Firing
 pub mod Taking
 pub mod Losing

@@ -11,11 +11,10 @@ use crate::failures::Failure;
 use crate::handle_calls::{handle_close, handle_duplicate, handle_replace};
 use crate::losing::lost;
 use crate::object_calls::{event_create, eventpair_create, object_signal, object_signal_peer};
-use crate::settling::settle;
 use std::alloc::{AllocError, Global};
 use std::mem;
 use zt_bits::Kind;
-use zt_cascade::release;
+use zt_cascade::{release, settle};
 use zt_rows::{Call, Koid, Life, Refusal, Reply, Row, RowKey};
 use zt_store::{Record, Step, Store};
 
@@ -92,7 +91,7 @@ fn carried_out(
     let reply = direct(alloc, step, process, call)?;
     let released = lost(alloc, step)?;
     release(step, alloc, released)?;
-    settle(alloc, step)?;
+    settle(step, alloc)?;
     Ok(reply)
 }
 

@@ -9,7 +9,6 @@ mod handle_calls;
 mod looks;
 mod losing;
 mod object_calls;
-mod settling;
 mod takings;
 
 pub use applying::{apply, runs};

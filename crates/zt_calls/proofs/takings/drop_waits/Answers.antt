@@ -2,7 +2,8 @@ use Rattle.std.proofs.Common.{◌≤◌, length, ap, ◌∙◌, arith}
 use Rattle.std.specs.List.{fold}
 use Rattle.zt_calls.specs.Taking.{without_waits_on}
 use Rattle.zt_calls.proofs.GoingOn.{reached}
-use Rattle.zt_calls.proofs.WalkLaws.{change_at, fold-all, walk-change}
+use Rattle.zt_cascade.proofs.ListLaws.{fold-all}
+use Rattle.zt_calls.proofs.WalkLaws.{change_at, walk-change}
 use Rattle.zt_calls.proofs.takings.drop_waits.Goals as goal
 
 pub returns-clause-ok : goal.returns-clause-ok

@@ -1,8 +1,8 @@
--- Settling by walks: the waits under all keys, and how far firing raises a port's next number.
-use Rattle.std.proofs.Common.{◌≡◌, ◌<◌, ◌≤◌, ◌^◌, ℕ, zero, suc, ◌+◌, Bool, true, false, cond, List, [], ◌∷◌, length, take, get_or, Option, Some, None, option_and_then, refl, sym, ap, ◌∙◌, subst, arith, inl, inr}
-use Rattle.std.specs.Prelude.{if◌then◌else◌, ◌==◌, Result, Ok, Err, OnOk}
-use Rattle.std.specs.Option.{option_map}
-use Rattle.std.specs.List.{filter_map, fold}
+-- Firing by a walk over the waits: the walk comes past each of them once, and each raises the next number of a port
+-- by one at most.
+use Rattle.std.proofs.Common.{◌≡◌, ◌<◌, ◌≤◌, ◌^◌, ℕ, zero, suc, ◌+◌, Bool, true, false, cond, List, [], ◌∷◌, ◌++◌, length, map, take, get_or, Option, Some, None, option_and_then, refl, sym, ap, ◌∙◌, subst, arith, append_assoc, inl, inr}
+use Rattle.std.specs.Prelude.{if◌then◌else◌, ◌==◌}
+use Rattle.std.specs.List.{cons_option, filter, filter_map, flat_map, fold}
 use Rattle.std.proofs.lemmas.Bool.{eqb-true}
 use Rattle.zt_rows.specs.declared.keys.RowKey.{RowKey}
 use Rattle.zt_rows.specs.declared.keys.RowKey.TheVariants as key
@@ -14,30 +14,78 @@ use Rattle.zt_rows.specs.declared.rows.Row.TheVariants as rows
 use Rattle.zt_rows.specs.State.{State, row, put, change}
 use Rattle.zt_rows.specs.Change.{keys}
 use Rattle.zt_rows.specs.Reads.{as_object, as_wait, object, wait, waits, wait_at}
+use Rattle.zt_rows.specs.Room.{is_above, next_key}
 use Rattle.zt_rows.specs.Tests.{next_at, object_next, raised}
 use Rattle.zt_rows.specs.Settle.{refreshed, refresh, fire, fire_into, push_packet, is_met, news, settle}
 use Rattle.zt_rows.proofs.StateLaws.{row-change, row-put}
-use Rattle.zt_rows.proofs.RowLaws.{In, in-row, in-filter_map}
-use Rattle.zt_calls.specs.Walks.{wait_under}
-use Rattle.zt_calls.specs.Firing.{HasRoomToFire}
-use Rattle.zt_calls.proofs.WalkLaws.{filter_map-alike}
+use Rattle.zt_rows.proofs.RowLaws.{In, in-row}
+use Rattle.zt_rows.proofs.SettleLaws.{in-waits}
+use Rattle.zt_store.proofs.KeyWalks.{next_filtered, none-filter}
+use Rattle.zt_cascade.specs.Firing.{HasRoomToFire}
+use Rattle.zt_cascade.specs.Under.{numbered, waits_under}
 
 -- ---- the waits under all keys
 
-some_one : {A : Type 0} (x y : A) → Some x ≡ Some y → x ≡ y
-some_one x y e = cc
+wait-numbered : (n : ℕ) (r : Row) (ws : List (ℕ × Wait)) → numbered n (as_wait (Some r)) ++ ws ≡ cons_option (wait_at (key.Wait n, r)) ws
+wait-numbered n (rows.Wait w) ws = refl
+wait-numbered n _ ws = refl
 
-wait_row : (n : ℕ) (r : Row) → option_map (λ w. (n, w)) (as_wait (Some r)) ≡ wait_at (key.Wait n, r)
-wait_row n (rows.Wait w) = refl
-wait_row n _ = refl
+under-at : (S : State) (k : RowKey) (r : Row) (ws : List (ℕ × Wait)) → row S k ≡ Some r → waits_under S k ++ ws ≡ cons_option (wait_at (k, r)) ws
+under-at S (key.Wait n) r ws h = ap (λ o. numbered n (as_wait o) ++ ws) h ∙ wait-numbered n r ws
+under-at S _ r ws h = refl
 
-under-at : (S : State) (k : RowKey) (r : Row) → row S k ≡ Some r → wait_under S k ≡ wait_at (k, r)
-under-at S (key.Wait n) r h = ap (λ o. option_map (λ w. (n, w)) (as_wait o)) h ∙ wait_row n r
-under-at S _ r h = refl
+along : (S : State) (es : List (RowKey × Row)) → ((e : RowKey × Row) → In e es → row S e.0 ≡ Some e.1) → flat_map (waits_under S) (map (λ e. e.0) es) ≡ filter_map wait_at es
+along S [] there = refl
+along S (e ∷ es) there =
+    ap (λ ws. waits_under S e.0 ++ ws) (along S es (λ d m. there d (inr m)))
+    ∙ under-at S e.0 e.1 (filter_map wait_at es) (there e (inl refl))
 
-pub waits-keys : (S : State) → filter_map (wait_under S) (keys S) ≡ waits S
+waits-keys : (S : State) → flat_map (waits_under S) (keys S) ≡ waits S
 unfolding waits
-waits-keys S = filter_map-alike (λ e. e.0) (wait_under S) wait_at S.rows (λ e m. under-at S e.0 e.1 (in-row S e.0 e.1 m))
+waits-keys S = along S S.rows (λ e m. in-row S e.0 e.1 m)
+
+-- ---- the walk
+
+-- the waits found so far, and those under the keys above the low one, are all
+abbrev pub IsFound : State → RowKey → List (ℕ × Wait) → Type 0
+IsFound S low found = found ++ flat_map (waits_under S) (filter (is_above (Some low)) (keys S)) ≡ waits S
+
+-- a key of no wait does not count
+filtered : (S : State) (p : RowKey → Bool) (ks : List RowKey) → ((k : RowKey) → p k ≡ false → waits_under S k ≡ []) → flat_map (waits_under S) (filter p ks) ≡ flat_map (waits_under S) ks
+filtered S p [] h = refl
+filtered S p (k ∷ ks) h =
+    elim (p k) as (λ b. p k ≡ b → flat_map (waits_under S) (cond b (k ∷ filter p ks) (filter p ks)) ≡ waits_under S k ++ flat_map (waits_under S) ks) [
+      | true ↦ λ t. ap (λ ws. waits_under S k ++ ws) (filtered S p ks h)
+      | false ↦ λ t. filtered S p ks h ∙ ap (λ ws. ws ++ flat_map (waits_under S) ks) (sym (h k t))
+    ] refl
+
+below-waits : (S : State) (p n : ℕ) (k : RowKey) → is_above (Some (key.Packet p n)) k ≡ false → waits_under S k ≡ []
+below-waits S p n (key.Wait m) e = cc
+below-waits S p n _ e = refl
+
+pub found-start : (S : State) (p n : ℕ) → IsFound S (key.Packet p n) []
+found-start S p n = filtered S (is_above (Some (key.Packet p n))) (keys S) (below-waits S p n) ∙ waits-keys S
+
+pub found-next : (S : State) (low k : RowKey) (found : List (ℕ × Wait)) → IsFound S low found → next_key S (Some low) ≡ Some k → IsFound S k (found ++ waits_under S k)
+found-next S low k found h next =
+    append_assoc found (waits_under S k) (flat_map (waits_under S) (filter (is_above (Some k)) (keys S)))
+    ∙ ap (λ ks. found ++ flat_map (waits_under S) ks) (sym (next_filtered (Some low) k S.rows S.sorted next))
+    ∙ h
+
+pub found-shorter : (S : State) (low k : RowKey) → next_key S (Some low) ≡ Some k → length (filter (is_above (Some k)) (keys S)) < length (filter (is_above (Some low)) (keys S))
+found-shorter S low k next =
+    let e : length (filter (is_above (Some low)) (keys S)) ≡ length (k ∷ filter (is_above (Some k)) (keys S)) = ap length (next_filtered (Some low) k S.rows S.sorted next) in
+    omega arith
+
+pub found-all : (S : State) (low : RowKey) (found : List (ℕ × Wait)) → IsFound S low found → next_key S (Some low) ≡ None → found ≡ waits S
+found-all S low found h next =
+    sym (append-nil found)
+    ∙ ap (λ ks. found ++ flat_map (waits_under S) ks) (sym (none-filter (is_above (Some low)) (keys S) next))
+    ∙ h
+  where
+    append-nil : {A : Type 0} (xs : List A) → xs ++ [] ≡ xs
+    append-nil [] = refl
+    append-nil (x ∷ xs) = ap (λ l. x ∷ l) (append-nil xs)
 
 -- ---- room to fire
 
@@ -105,22 +153,11 @@ in-get [] i d h = absurd (omega arith)
 in-get (x ∷ xs) zero d h = inl refl
 in-get (x ∷ xs) (suc i) d h = inr (in-get xs i d (omega arith))
 
-named_wait : (S : State) (k : RowKey) (e : ℕ × Wait) → wait_under S k ≡ Some e → wait S e.0 ≡ Some e.1
-named_wait S (key.Wait n) e h = of_option (wait S n) refl h
-  where
-    of_option : (r : Option Wait) → wait S n ≡ r → option_map {U = ℕ × Wait} (λ w. (n, w)) r ≡ Some e → wait S e.0 ≡ Some e.1
-    of_option (Some w) is h =
-        let pairs : ◌≡◌ {A = ℕ × Wait} (n, w) e = some_one (n, w) e h in
-        subst (λ (q : ℕ × Wait). wait S q.0 ≡ Some q.1) pairs is
-    of_option None is h = cc
-named_wait S _ e h = cc
-
 -- the port of the next wait has room for its packet
-pub room-fires : (S : State) (found : List (ℕ × Wait)) (i : ℕ) (e : ℕ × Wait) → HasRoomToFire S → found ≡ filter_map (wait_under S) (keys S) → i < length found → i < 2 ^ 63 → e ≡ get_or found i e → next_at (fold fire S (take i found)) e.1.port + 1 < 2 ^ 64
+pub room-fires : (S : State) (found : List (ℕ × Wait)) (i : ℕ) (e : ℕ × Wait) → HasRoomToFire S → found ≡ waits S → i < length found → i < 2 ^ 63 → e ≡ get_or found i e → next_at (fold fire S (take i found)) e.1.port + 1 < 2 ^ 64
 room-fires S found i e room is below few at =
-    let m : In e (filter_map (wait_under S) (keys S)) = subst (In e) is (subst (λ d. In d found) (sym at) (in-get found i e below)) in
-    let w = in-filter_map (wait_under S) e (keys S) m in
-    let first : next_at S e.1.port < 2 ^ 63 = room e.0 e.1 (named_wait S w.0 e w.2) in
+    let m : In e (waits S) = subst (In e) is (subst (λ d. In d found) (sym at) (in-get found i e below)) in
+    let first : next_at S e.1.port < 2 ^ 63 = room e.0 e.1 (in-waits S e.0 e.1 m) in
     let raised : next_at (fold fire S (take i found)) e.1.port ≤ next_at S e.1.port + length (take i found) = next-fires (take i found) S e.1.port in
     let n : length (take i found) ≤ i = length-taken i found in
     omega arith
@@ -128,7 +165,3 @@ room-fires S found i e room is below few at =
 pub settled : (S : State) → fold fire (refresh S) (waits (refresh S)) ≡ settle S
 unfolding settle
 settled S = refl
-
-pub on_ok : {A E : Type 0} {P Q : Type 0} (r : Result A E) → OnOk r P → (P → Q) → OnOk r Q
-on_ok (Ok x) p f = f p
-on_ok (Err e) p f = tt

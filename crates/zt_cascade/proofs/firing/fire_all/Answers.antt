@@ -3,9 +3,9 @@ use Rattle.std.specs.List.{fold}
 use Rattle.zt_rows.specs.State.{State}
 use Rattle.zt_rows.specs.Tests.{next_at}
 use Rattle.zt_rows.specs.Settle.{fire}
-use Rattle.zt_calls.proofs.WalkLaws.{fold-next, fold-all}
-use Rattle.zt_calls.proofs.SettleLaws.{room-fires, waits-keys}
-use Rattle.zt_calls.proofs.settling.fire_all.Goals as goal
+use Rattle.zt_cascade.proofs.ListLaws.{fold-all}
+use Rattle.zt_cascade.proofs.FiringLaws.{room-fires}
+use Rattle.zt_cascade.proofs.firing.fire_all.Goals as goal
 
 pub fire-requires : goal.fire-requires
 fire-requires c =
@@ -15,20 +15,8 @@ fire-requires c =
     (room-fires c.args.step.now.current c.deref-number-items.result.now c.loop-number.number-index c.loop-number-item.result
     c.requires (c.deref-number-items.ensures.value ∙ c.in_ok-waits_of.ensures) below few c.loop-number-item.is)
 
-pub loop-number-preserved : goal.loop-number-preserved
-loop-number-preserved c =
-    let below : c.loop-number.number-index < length c.deref-number-items.result.now = omega arith in
-    record {
-      beginning = c.fire.ensures.beginning ∙ c.loop-number.invariant.beginning;
-      current =
-          c.in_ok-fire.ensures.ok
-          ∙ ap (λ C. fire C c.loop-number-item.result) c.loop-number.invariant.current
-          ∙ sym (fold-next fire c.args.step.now.current c.deref-number-items.result.now c.loop-number.number-index c.loop-number-item.result below c.loop-number-item.is);
-      kept = λ R fit. c.fire.ensures.kept R (c.loop-number.invariant.kept R fit);
-    }
-
 pub returns-clause-ok : goal.returns-clause-ok
 returns-clause-ok c =
     c.loop-number.invariant.current
     ∙ fold-all fire c.args.step.now.current c.deref-number-items.result.now c.loop-number.number-index c.loop-number-test.false
-    ∙ ap (fold fire c.args.step.now.current) (c.deref-number-items.ensures.value ∙ c.in_ok-waits_of.ensures ∙ waits-keys c.args.step.now.current)
+    ∙ ap (fold fire c.args.step.now.current) (c.deref-number-items.ensures.value ∙ c.in_ok-waits_of.ensures)
