@@ -1,1 +1,3 @@
 pub mod DerivedLaws
+pub mod NextKeyLaws
+pub mod DroppingLaws
