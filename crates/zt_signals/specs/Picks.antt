@@ -1,12 +1,13 @@
 -- What a walk over waits looks for, and where it goes on. This project's own form.
-use Rattle.std.specs.Prelude.{◌≡◌, ◌<◌, ◌-◌, ◌^◌, ℕ, Bool, false, ⊤, Option, None, Some, IsSome}
-use Rattle.std.specs.Option.{MatchOption, option_map_or}
+use Rattle.std.specs.Prelude.{◌-◌, ◌^◌, ℕ, Bool, false, Option, None, Some}
+use Rattle.std.specs.Option.{option_map_or}
 use Rattle.zt_rows.specs.declared.keys.RowKey.{RowKey}
 use Rattle.zt_rows.specs.declared.keys.RowKey.TheVariants as key
 use Rattle.zt_rows.specs.declared.rows.Wait.{Wait}
 use Rattle.zt_rows.specs.State.{State, row}
 use Rattle.zt_signals.specs.declared.dropping.Picked.{Picked}
 use Rattle.zt_signals.specs.declared.dropping.Picked.TheVariants as picked
+use Rattle.zt_signals.specs.Columns.{IsNext}
 use Rattle.zt_signals.specs.Waits.{is_wait_where, made_on, made_for, made_under}
 
 -- the wait is one of those that are picked
@@ -19,11 +20,6 @@ picks (picked.Under x p h packet_key) = made_under x p h packet_key
 abbrev pub is_picked : (Wait → Bool) → State → ℕ → Bool
 is_picked test S n = option_map_or (is_wait_where test (key.Wait n)) (row S (key.Wait n)) false
 
--- the number is after the low one, if there is a low one
-abbrev pub IsAfter : Option ℕ → ℕ → Type 0
-IsAfter None n = ⊤
-IsAfter (Some low) n = low < n
-
 -- the key of the wait, or the last key before those of waits
 abbrev pub key_below : Option ℕ → RowKey
 key_below (Some n) = key.Wait n
@@ -31,6 +27,4 @@ key_below None = key.Packet (2 ^ 64 - 1) (2 ^ 64 - 1)
 
 -- the least number of a wait after the low one, or none where there is none
 abbrev pub IsNextWait : State → Option ℕ → Option ℕ → Type 0
-IsNextWait S low found =
-    MatchOption found ((n : ℕ) → IsAfter low n → row S (key.Wait n) ≡ None)
-    (λ n. IsAfter low n × IsSome (row S (key.Wait n)) × ((m : ℕ) → IsAfter low m → m < n → row S (key.Wait m) ≡ None))
+IsNextWait S low found = IsNext S (λ n. key.Wait n) low found
