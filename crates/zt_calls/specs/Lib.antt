@@ -2,5 +2,4 @@ pub mod Wanting
 pub mod Outcomes
 pub mod Walks
 pub mod Firing
-pub mod Taking
 pub mod Losing

@@ -1,17 +1,12 @@
 -- What a walk over the keys of a state reads under each of them. This project's own form.
-use Rattle.std.specs.Prelude.{ℕ, Bool, false, Option, None}
-use Rattle.std.specs.Option.{option_map, option_map_or}
+use Rattle.std.specs.Prelude.{ℕ, Option, None}
+use Rattle.std.specs.Option.{option_map}
 use Rattle.zt_rows.specs.declared.keys.RowKey.{RowKey}
 use Rattle.zt_rows.specs.declared.keys.RowKey.TheVariants as key
 use Rattle.zt_rows.specs.declared.rows.Wait.{Wait}
-use Rattle.zt_rows.specs.declared.rows.Row.{Row}
-use Rattle.zt_rows.specs.State.{State, row}
+use Rattle.zt_rows.specs.State.{State}
 use Rattle.zt_rows.specs.Reads.{wait}
 use Rattle.zt_signals.specs.Written.{refreshed_object}
-
--- there is a row under the key, and it passes
-abbrev pub passes_under : (RowKey → Row → Bool) → State → RowKey → Bool
-passes_under test S k = option_map_or (test k) (row S k) false
 
 -- the state with the derived signals of the object under the key anew, if there is one
 abbrev pub refreshed_under : State → RowKey → State
