@@ -1,7 +1,6 @@
 -- An entry is taken out with the waits made on it: first the entry, then the waits one after another.
 use Rattle.std.proofs.Common.{◌≡◌, ℕ, Bool, true, false, cond, ◌&&◌, option_and_then, refl, sym, ap, ◌∙◌}
 use Rattle.std.specs.Prelude.{Option, None, Some, is_some, ◌==◌, if◌then◌else◌}
-use Rattle.std.specs.Option.{option_map_or}
 use Rattle.zt_rows.specs.declared.keys.RowKey.{RowKey}
 use Rattle.zt_rows.specs.declared.keys.RowKey.TheVariants as key
 use Rattle.zt_rows.specs.declared.rows.Held.{Held}
@@ -11,46 +10,12 @@ use Rattle.zt_rows.specs.State.{State, row, put, change}
 use Rattle.zt_rows.specs.Keys.{rowkey_eq}
 use Rattle.zt_rows.specs.KeyOrder.{rowkey_eq-equal}
 use Rattle.zt_rows.specs.Reads.{entry}
-use Rattle.zt_rows.specs.Room.{SuitsKey}
 use Rattle.zt_rows.specs.Handles.{taken, take_out}
-use Rattle.zt_rows.proofs.StateLaws.{row-put, row-change, same_state, put-row}
+use Rattle.zt_rows.proofs.StateLaws.{row-put, row-change, same_state}
 use Rattle.zt_rows.proofs.ReadLaws.{entry-row}
 use Rattle.zt_store.specs.Stepping.{Stepping, Advanced}
-use Rattle.zt_calls.specs.Walks.{passes_under}
 use Rattle.zt_calls.proofs.GoingOn.{further, reached}
-use Rattle.zt_calls.specs.Taking.{is_wait_on, without_waits_on}
-
--- ---- one key
-
-module _ (p h : ℕ) (k : RowKey) where
-  suits_of : (k : RowKey) (r : Option Row) → option_map_or (is_wait_on p h k) r false ≡ true → SuitsKey k None
-  suits_of key.Counters (Some r) e = cc
-  suits_of key.Counters None e = cc
-  suits_of (key.Object x) r e = tt
-  suits_of (key.Entry q g) r e = tt
-  suits_of (key.Msg x n) r e = tt
-  suits_of (key.Packet x n) r e = tt
-  suits_of (key.Wait n) r e = tt
-
-  -- where a wait stands a row may go
-  pub wait-suits : (S : State) → passes_under (is_wait_on p h) S k ≡ true → SuitsKey k None
-  wait-suits S e = suits_of k (row S k) e
-
-  gone : (r : Option Row) → option_map_or (is_wait_on p h k) r false ≡ true → option_and_then (without_waits_on p h k) r ≡ None
-  gone (Some r) e = ap (λ b. if b then None else Some r) e
-  gone None e = refl
-
-  stays : (r : Option Row) → option_map_or (is_wait_on p h k) r false ≡ false → option_and_then (without_waits_on p h k) r ≡ r
-  stays (Some r) e = ap (λ b. if b then None else Some r) e
-  stays None e = refl
-
-  pub wait-gone : (S : State) → passes_under (is_wait_on p h) S k ≡ true → put S k None ≡ put S k (option_and_then (without_waits_on p h k) (row S k))
-  wait-gone S e = ap (put S k) (sym (gone (row S k) e))
-
-  pub other-stays : (S : State) → passes_under (is_wait_on p h) S k ≡ false → put S k (option_and_then (without_waits_on p h k) (row S k)) ≡ S
-  other-stays S e = ap (put S k) (stays (row S k) e) ∙ put-row S k
-
--- ---- all keys
+use Rattle.zt_signals.specs.Waits.{without_waits_on}
 
 module _ (S : State) (p h : ℕ) (held : Held) (there : entry S p h ≡ Some held) where
   abbrev values : ℕ → Bool

@@ -88,7 +88,7 @@ fn carried_out(
     ensures ok { IfOk result (λ reply. (step.new.current, reply) ≡ completed (direct step.old.current process call.now)) }
     ensures kept { Keeps step.old.places step.new.places }
 {
-    let reply = direct(alloc, step, process, call)?;
+    let reply = direct(step, process, call)?;
     let released = lost(alloc, step)?;
     release(step, alloc, released)?;
     settle(step, alloc)?;
@@ -97,7 +97,7 @@ fn carried_out(
 
 /// The checks of the call in order, and then its change of rows.
 #[tactic(auto, unfolding(zt_rows::specs::Step::direct))]
-fn direct(alloc: Global, step: &mut Step, process: Koid, call: &Call) -> Result<Reply, AllocError>
+fn direct(step: &mut Step, process: Koid, call: &Call) -> Result<Reply, AllocError>
     requires room { HasRoom step.old.current }
     requires sound { IsSound step.old.current }
     requires running { runs step.old.current process ≡ true }
@@ -109,12 +109,12 @@ fn direct(alloc: Global, step: &mut Step, process: Koid, call: &Call) -> Result<
     let answered = match call {
         Call::EventCreate => event_create(step, process),
         Call::EventPairCreate => eventpair_create(step, process),
-        Call::HandleClose { handle } => handle_close(alloc, step, process, *handle),
+        Call::HandleClose { handle } => handle_close(step, process, *handle),
         Call::HandleDuplicate { handle, rights } => {
             handle_duplicate(step, process, *handle, *rights)
         }
         Call::HandleReplace { handle, rights } => {
-            handle_replace(alloc, step, process, *handle, *rights)
+            handle_replace(step, process, *handle, *rights)
         }
         Call::ObjectSignal { handle, clear, set } => {
             object_signal(step, process, *handle, *clear, *set)

@@ -2,8 +2,15 @@
 //! cancelled, and the news of waits that fire.
 #![tactic(auto)]
 
+mod cancelling;
+mod counting;
 mod firing;
 mod queueing;
+mod taking;
+mod walking;
 
+pub use cancelling::cancel;
+pub use counting::pending;
 pub use firing::fire;
 pub use queueing::queue;
+pub use taking::{front, take_front};
