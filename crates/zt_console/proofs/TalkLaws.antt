@@ -10,10 +10,10 @@ use Rattle.zt_rows.specs.declared.calls.Answer.{Answer}
 use Rattle.zt_rows.specs.declared.calls.Command.{Command}
 use Rattle.zt_rows.specs.declared.refusals.Refusal.{Refusal}
 use Rattle.zt_rows.specs.declared.refusals.Refusal.TheVariants as refusal
-use Rattle.zt_console.specs.Answers.{shown_answer, shown_refusal}
+use Rattle.zt_text.specs.Answers.{shown_answer, shown_refusal}
 use Rattle.zt_console.specs.Counting.{faults_after}
-use Rattle.zt_console.specs.Lines.{lines_of}
-use Rattle.zt_console.specs.Reading.{read_as}
+use Rattle.zt_text.specs.Lines.{lines_of}
+use Rattle.zt_text.specs.Reading.{read_as}
 use Rattle.zt_console.specs.Session.{Session, serve, IsRefused}
 use Rattle.zt_console.specs.Talk.{Gets, IsServed, Answers, Talk, Spoken, IsWritten, has_no_feed, Fed, HasRead, HasTalked, most_reads}
 

@@ -1,7 +1,7 @@
 -- A bad line gets its refusal.
 use Rattle.std.proofs.Common.{sym, ◌∙◌, refl}
-use Rattle.zt_console.specs.Answers.{shown_refusal}
-use Rattle.zt_console.specs.Reading.{read_as}
+use Rattle.zt_text.specs.Answers.{shown_refusal}
+use Rattle.zt_text.specs.Reading.{read_as}
 use Rattle.zt_console.specs.Talk.{Answers}
 use Rattle.zt_console.proofs.TalkLaws.{answers_err, printed}
 use Rattle.zt_console.proofs.running.text_for.Goals as goal

@@ -1,0 +1,21 @@
+-- What is left of a line, as the fields that are to be read.
+use Rattle.std.specs.Prelude.{◌≡◌, ℕ, ◌+◌, ◌-◌, ◌^◌, ◌<◌, ◌≤◌, List, [], ◌∷◌, length, Option, Some, None}
+use Rattle.std.specs.Option.{ForSome}
+use denote.Ref.{Bor}
+use Rattle.zt_text.specs.Fields.{Unread, placed, fields_of}
+
+-- the fields of what is left behind a space of a line of this length; none where no space was left
+abbrev pub unread_of : Option (Bor (List ℕ)) → ℕ → Unread
+unread_of None line = record { fields = []; behind = line + 1 }
+unread_of (Some left) line =
+    record { fields = placed (line - length left.now + 1) (fields_of left.now); behind = line + 1 }
+
+-- what is left is no longer than the line, and the column behind the line is a number
+abbrev pub IsBehind : Option (Bor (List ℕ)) → ℕ → Type 0
+IsBehind left line = ForSome left (λ bytes. length bytes.now ≤ line) × (line + 1 < 2 ^ 64)
+
+-- the first field of some bytes, and what is left behind its space
+abbrev pub IsCut : List ℕ → List ℕ → Option (Bor (List ℕ)) → Type 0
+IsCut bytes first None = (fields_of bytes ≡ first ∷ []) × (length first ≡ length bytes)
+IsCut bytes first (Some left) =
+    (fields_of bytes ≡ first ∷ fields_of left.now) × (length first + 1 + length left.now ≡ length bytes)

@@ -1,0 +1,121 @@
+-- What a line of a client reads as.
+use Rattle.std.specs.Prelude.{ℕ, Bool, true, ◌==◌, List, [], ◌∷◌, Option, Some, None, Result, Ok, Err, if◌then◌else◌, codes}
+use Rattle.std.specs.Str.{bytes_eq}
+use Rattle.zt_rows.specs.declared.refusals.Refusal.{Refusal}
+use Rattle.zt_rows.specs.declared.refusals.Refusal.TheVariants.{BadLine}
+use Rattle.zt_rows.specs.declared.calls.Call.{Call}
+use Rattle.zt_rows.specs.declared.calls.Call.TheVariants as calls
+use Rattle.zt_rows.specs.declared.calls.Command.{Command}
+use Rattle.zt_rows.specs.declared.calls.Command.TheVariants as commands
+use Rattle.zt_text.specs.Numbers.{process_of, handle_of, mask_of, signals_of, count_of}
+use Rattle.zt_text.specs.Fields.{Placed, Unread, unread, ◌>>=◌, next, field, ended}
+
+-- the arguments of each call
+unfoldable pub event_create : Unread → Result Call Refusal
+event_create left = do
+  _ ← ended left
+  Ok calls.EventCreate
+
+unfoldable pub eventpair_create : Unread → Result Call Refusal
+eventpair_create left = do
+  _ ← ended left
+  Ok calls.EventPairCreate
+
+unfoldable pub handle_close : Unread → Result Call Refusal
+handle_close left = do
+  handle ← field handle_of left
+  _ ← ended handle.1
+  Ok (calls.HandleClose handle.0)
+
+unfoldable pub handle_duplicate : Unread → Result Call Refusal
+handle_duplicate left = do
+  handle ← field handle_of left
+  rights ← field mask_of handle.1
+  _ ← ended rights.1
+  Ok (calls.HandleDuplicate handle.0 rights.0)
+
+unfoldable pub handle_replace : Unread → Result Call Refusal
+handle_replace left = do
+  handle ← field handle_of left
+  rights ← field mask_of handle.1
+  _ ← ended rights.1
+  Ok (calls.HandleReplace handle.0 rights.0)
+
+unfoldable pub object_signal : Unread → Result Call Refusal
+object_signal left = do
+  handle ← field handle_of left
+  clear ← field signals_of handle.1
+  set ← field signals_of clear.1
+  _ ← ended set.1
+  Ok (calls.ObjectSignal handle.0 clear.0 set.0)
+
+unfoldable pub object_signal_peer : Unread → Result Call Refusal
+object_signal_peer left = do
+  handle ← field handle_of left
+  clear ← field signals_of handle.1
+  set ← field signals_of clear.1
+  _ ← ended set.1
+  Ok (calls.ObjectSignalPeer handle.0 clear.0 set.0)
+
+-- the call of this name, of those on handles
+unfoldable pub handle_call_named : Placed → Unread → Result Call Refusal
+handle_call_named name left =
+    if bytes_eq name.bytes (codes "handle_close") then handle_close left
+    else (if bytes_eq name.bytes (codes "handle_duplicate") then handle_duplicate left
+    else (if bytes_eq name.bytes (codes "handle_replace") then handle_replace left
+    else Err (BadLine name.column)))
+
+-- the call of this name
+unfoldable pub call_named : Placed → Unread → Result Call Refusal
+call_named name left =
+    if bytes_eq name.bytes (codes "event_create") then event_create left
+    else (if bytes_eq name.bytes (codes "eventpair_create") then eventpair_create left
+    else (if bytes_eq name.bytes (codes "object_signal") then object_signal left
+    else (if bytes_eq name.bytes (codes "object_signal_peer") then object_signal_peer left
+    else handle_call_named name left)))
+
+unfoldable pub call : Unread → Result Call Refusal
+call left = do
+  name ← next left
+  call_named name.0 name.1
+
+-- the arguments of each command
+unfoldable pub back : Unread → Result Command Refusal
+back left = do
+  count ← field count_of left
+  _ ← ended count.1
+  Ok (commands.Back count.0)
+
+unfoldable pub show : Unread → Result Command Refusal
+show left = do
+  _ ← ended left
+  Ok commands.Show
+
+-- the command of this name
+unfoldable pub command_named : Placed → Unread → Result Command Refusal
+command_named name left =
+    if bytes_eq name.bytes (codes "back") then back left
+    else (if bytes_eq name.bytes (codes "show") then show left else Err (BadLine name.column))
+
+-- a line that begins with a process's number is a call, and all else begins with the name of a command
+abbrev pub call_or_command : Option ℕ → Placed → Unread → Result Command Refusal
+call_or_command (Some process) first left = do
+  made ← call left
+  Ok (commands.Call process made)
+call_or_command None first left = command_named first left
+
+unfoldable pub command : Unread → Result Command Refusal
+command left = do
+  first ← next left
+  call_or_command (process_of first.0.bytes) first.0 first.1
+
+-- an empty line, and one that begins with `#`
+abbrev pub is_skipped : List ℕ → Bool
+is_skipped [] = true
+is_skipped (first ∷ _) = first == 35
+
+-- a skipped line asks nothing; every other line is a command, or has its first fault from the left at a column
+unfoldable pub read_as : List ℕ → Result (Option Command) Refusal
+read_as line = if is_skipped line then Ok None else (do
+  asked ← command (unread line)
+  Ok (Some asked))

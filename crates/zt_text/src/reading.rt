@@ -1,0 +1,170 @@
+ghost use Rattle.std.specs.Prelude.{◌≡◌};
+ghost use Rattle.zt_text.specs.Reading.{read_as, command, command_named, back, show, call, call_named, handle_call_named, event_create, eventpair_create, handle_close, handle_duplicate, handle_replace, object_signal, object_signal_peer};
+
+use crate::fields::{Field, Fields};
+use crate::numbers::decimal;
+use zt_rows::{Call, Command, Koid, Refusal};
+
+/// What a line asks; nothing, where it is empty or begins with `#`.
+#[tactic(auto, unfolding(crate::specs::Reading::read_as))]
+pub fn read_line(line: &[u8]) -> Result<Option<Command>, Refusal>
+    ensures { result ≡ read_as line.now }
+{
+    match line {
+        [] | [b'#', ..] => Ok(None),
+        _ => Ok(Some(command(Fields::new(line))?)),
+    }
+}
+
+/// A line that begins with a number is a call of that process.
+#[tactic(auto, unfolding(crate::specs::Reading::command))]
+fn command(fields: Fields<'_>) -> Result<Command, Refusal>
+    ensures { result ≡ command fields.entry }
+{
+    let (first, rest) = fields.next()?;
+    match decimal(first.bytes(), u64::MAX) {
+        Some(process) => Ok(Command::Call(Koid(process), call(rest)?)),
+        None => command_named(&first, rest),
+    }
+}
+
+/// The command of this name, with the arguments behind it.
+#[tactic(auto, unfolding(crate::specs::Reading::command_named))]
+fn command_named(name: &Field<'_>, rest: Fields<'_>) -> Result<Command, Refusal>
+    ensures { result ≡ command_named name.now rest.entry }
+{
+    if name.is("back") {
+        back(rest)
+    } else if name.is("show") {
+        show(rest)
+    } else {
+        Err(name.fault())
+    }
+}
+
+#[tactic(auto, unfolding(crate::specs::Reading::back))]
+fn back(fields: Fields<'_>) -> Result<Command, Refusal>
+    ensures { result ≡ back fields.entry }
+{
+    let (count, rest) = fields.count()?;
+    rest.end()?;
+    Ok(Command::Back(count))
+}
+
+#[tactic(auto, unfolding(crate::specs::Reading::show))]
+fn show(fields: Fields<'_>) -> Result<Command, Refusal>
+    ensures { result ≡ show fields.entry }
+{
+    fields.end()?;
+    Ok(Command::Show)
+}
+
+/// The call that the fields behind the process write.
+#[tactic(auto, unfolding(crate::specs::Reading::call))]
+fn call(fields: Fields<'_>) -> Result<Call, Refusal>
+    ensures { result ≡ call fields.entry }
+{
+    let (name, rest) = fields.next()?;
+    call_named(&name, rest)
+}
+
+/// The call of this name, with the arguments behind it.
+#[tactic(auto, unfolding(crate::specs::Reading::call_named))]
+fn call_named(name: &Field<'_>, rest: Fields<'_>) -> Result<Call, Refusal>
+    ensures { result ≡ call_named name.now rest.entry }
+{
+    if name.is("event_create") {
+        event_create(rest)
+    } else if name.is("eventpair_create") {
+        eventpair_create(rest)
+    } else if name.is("object_signal") {
+        object_signal(rest)
+    } else if name.is("object_signal_peer") {
+        object_signal_peer(rest)
+    } else {
+        handle_call_named(name, rest)
+    }
+}
+
+/// The call of this name, of those on handles, with the arguments behind it.
+#[tactic(auto, unfolding(crate::specs::Reading::handle_call_named))]
+fn handle_call_named(name: &Field<'_>, rest: Fields<'_>) -> Result<Call, Refusal>
+    ensures { result ≡ handle_call_named name.now rest.entry }
+{
+    if name.is("handle_close") {
+        handle_close(rest)
+    } else if name.is("handle_duplicate") {
+        handle_duplicate(rest)
+    } else if name.is("handle_replace") {
+        handle_replace(rest)
+    } else {
+        Err(name.fault())
+    }
+}
+
+#[tactic(auto, unfolding(crate::specs::Reading::event_create))]
+fn event_create(fields: Fields<'_>) -> Result<Call, Refusal>
+    ensures { result ≡ event_create fields.entry }
+{
+    fields.end()?;
+    Ok(Call::EventCreate)
+}
+
+#[tactic(auto, unfolding(crate::specs::Reading::eventpair_create))]
+fn eventpair_create(fields: Fields<'_>) -> Result<Call, Refusal>
+    ensures { result ≡ eventpair_create fields.entry }
+{
+    fields.end()?;
+    Ok(Call::EventPairCreate)
+}
+
+#[tactic(auto, unfolding(crate::specs::Reading::handle_close))]
+fn handle_close(fields: Fields<'_>) -> Result<Call, Refusal>
+    ensures { result ≡ handle_close fields.entry }
+{
+    let (handle, rest) = fields.handle()?;
+    rest.end()?;
+    Ok(Call::HandleClose { handle })
+}
+
+#[tactic(auto, unfolding(crate::specs::Reading::handle_duplicate))]
+fn handle_duplicate(fields: Fields<'_>) -> Result<Call, Refusal>
+    ensures { result ≡ handle_duplicate fields.entry }
+{
+    let (handle, rest) = fields.handle()?;
+    let (rights, rest) = rest.mask()?;
+    rest.end()?;
+    Ok(Call::HandleDuplicate { handle, rights })
+}
+
+#[tactic(auto, unfolding(crate::specs::Reading::handle_replace))]
+fn handle_replace(fields: Fields<'_>) -> Result<Call, Refusal>
+    ensures { result ≡ handle_replace fields.entry }
+{
+    let (handle, rest) = fields.handle()?;
+    let (rights, rest) = rest.mask()?;
+    rest.end()?;
+    Ok(Call::HandleReplace { handle, rights })
+}
+
+#[tactic(auto, unfolding(crate::specs::Reading::object_signal))]
+fn object_signal(fields: Fields<'_>) -> Result<Call, Refusal>
+    ensures { result ≡ object_signal fields.entry }
+{
+    let (handle, rest) = fields.handle()?;
+    let (clear, rest) = rest.signals()?;
+    let (set, rest) = rest.signals()?;
+    rest.end()?;
+    Ok(Call::ObjectSignal { handle, clear, set })
+}
+
+#[tactic(auto, unfolding(crate::specs::Reading::object_signal_peer))]
+fn object_signal_peer(fields: Fields<'_>) -> Result<Call, Refusal>
+    ensures { result ≡ object_signal_peer fields.entry }
+{
+    let (handle, rest) = fields.handle()?;
+    let (clear, rest) = rest.signals()?;
+    let (set, rest) = rest.signals()?;
+    rest.end()?;
+    Ok(Call::ObjectSignalPeer { handle, clear, set })
+}
