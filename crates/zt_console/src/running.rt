@@ -177,7 +177,7 @@ fn text_for(alloc: Global, book: &mut Book, line: &[u8]) -> Result<Vec<u8>, Allo
         (λ _. (text : List ℕ) × Answers book.old (read_as line.now) text book.new) }
     ensures clients { length book.new.cursors ≡ length book.old.cursors }
 {
-    match read_line(line) {
+    match read_line(alloc, line) {
         Ok(None) => Ok(Vec::new(alloc)),
         Ok(Some(command)) => text_served(alloc, book, &command),
         Err(refusal) => print_refusal(alloc, refusal),

@@ -25,7 +25,7 @@ unfolding ended
 ended_none left e h = nothing left.fields left.behind e h
 
 -- the next field is what is cut off in front of the first space
-pub next_cut : (view : Unread) (left : Option (Bor (List ℕ))) (l : Bor (List ℕ)) (n : ℕ) (first : List ℕ) (rest : Option (Bor (List ℕ))) → left ≡ Some l → unread_of left n ≡ view → length l.now ≤ n → IsCut l.now first rest → Ok (record { column = n - length l.now + 1; bytes = first }, unread_of rest n) ≡ next view
+pub next_cut : (view : Unread) (left : Option (Bor (List ℕ))) (l : Bor (List ℕ)) (n : ℕ) (first : List ℕ) (rest : Option (Bor (List ℕ))) → left ≡ Some l → unread_of left n ≡ view → length l.now ≤ n → IsCut 32 l.now first rest → Ok (record { column = n - length l.now + 1; bytes = first }, unread_of rest n) ≡ next view
 unfolding placed
 next_cut view left l n first None is seen low (fields, same) =
     let at : unread_of (Some l) n ≡ view = ap (λ o. unread_of o n) (sym is) ∙ seen in

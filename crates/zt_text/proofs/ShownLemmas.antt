@@ -1,5 +1,6 @@
 -- What holes of a format write, and lists with commas.
 use Rattle.std.proofs.Common.{◌≡◌, ℕ, ◌^◌, ◌-◌, false, List, [], ◌∷◌, ◌++◌, map, ap, length, get_or, take, drop, length-drop, ◌≤◌, arith, append_assoc, sym, ◌∙◌}
+use Rattle.std.specs.Prelude.{Result, Ok, Err, is_ok, OnOk, if◌then◌else◌}
 use Rattle.std.specs.List.{flat_map, join_with_byte}
 use Rattle.std.specs.Fmt.{digits, padded_integral, format_spec, char_count}
 use Rattle.std.proofs.lemmas.List.{append-nil, take_all}
@@ -31,3 +32,8 @@ list_written {A} show xs x i old start text some first begun written past =
     let others : take (length xs - 1) (drop 1 xs) ≡ drop 1 xs = take_all (length xs - 1) (drop 1 xs) (omega arith) in
     let all : take i (take (length xs - 1) (drop 1 xs)) ≡ take (length xs - 1) (drop 1 xs) = take_all i (take (length xs - 1) (drop 1 xs)) past in
     written ∙ rw (all, others, begun, append_assoc) (ap (λ ys. old ++ ys) (sym (shown_list_at show xs x some first)))
+
+-- what is written once digits are pushed that are those to be shown
+pub pushed : {E : Type 0} (r : Result (Unit {0}) E) (new old digits shown : List ℕ) → new ≡ (if is_ok r then old ++ digits else old) → digits ≡ shown → OnOk r (new ≡ old ++ shown)
+pushed (Ok _) new old digits shown made same = made ∙ ap (λ ys. old ++ ys) same
+pushed (Err _) new old digits shown made same = tt

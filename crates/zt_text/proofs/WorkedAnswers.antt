@@ -14,6 +14,7 @@ use Rattle.zt_rows.specs.declared.rows.Row.TheVariants as rows
 use Rattle.zt_rows.specs.declared.rows.Life.TheVariants as life
 use Rattle.zt_rows.specs.declared.rows.Packet.{Packet}
 use Rattle.zt_rows.specs.declared.rows.Packet.TheVariants as packet
+use Rattle.zt_text.specs.Bytes.{hex_text}
 use Rattle.zt_text.specs.Shown.{hexadecimal}
 use Rattle.zt_text.specs.Answers.{shown_packet, shown_reply, shown_key, shown_object, shown_wait, shown_queued, shown_row, shown_answer, shown_refusal}
 
@@ -40,7 +41,7 @@ record Replies : Type 0 where
   signal : called (reply.Packet fired) ≡ codes "4 ok signal 4 0x00000008 0xff000008" ++ (10 ∷ [])
 
 shows_replies : Replies
-unfolding digits hexadecimal shown_packet shown_reply shown_answer
+unfolding digits hexadecimal hex_text shown_packet shown_reply shown_answer
 shows_replies = record {
   handles = refl;
   spawned = refl;
@@ -71,7 +72,7 @@ record Rows : Type 0 where
   wait : alone (key.Wait 0) (rows.Wait (record { process = 1025; handle = 7; port = 1027; key = 4; signals = record { 0 = 0x8 } })) ≡ behind_rows (codes "wait 0 1025 7 1027 4 0x00000008")
 
 shows_rows : Rows
-unfolding digits hexadecimal shown_packet shown_key shown_object shown_wait shown_queued shown_row shown_answer
+unfolding digits hexadecimal hex_text shown_packet shown_key shown_object shown_wait shown_queued shown_row shown_answer
 shows_rows = record {
   counters = refl;
   killed = refl;

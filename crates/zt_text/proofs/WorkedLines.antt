@@ -1,6 +1,7 @@
 -- Lines that were read and shown by hand, as theorems.
-use Rattle.std.proofs.Common.{◌≡◌, [], ◌∷◌, ◌++◌, Some, None, Ok, Err, refl}
-use Rattle.std.specs.Prelude.{codes}
+use Rattle.std.proofs.Common.{◌≡◌, ℕ, [], ◌∷◌, ◌++◌, Some, None, Ok, Err, refl}
+use Rattle.std.specs.Prelude.{codes, ⊤, true, false, replicate}
+use Rattle.std.specs.List.{flat_map}
 use Rattle.std.specs.Fmt.{digits}
 use Rattle.zt_bits.specs.declared.kinds.Kind.TheVariants.{Job}
 use Rattle.zt_bits.specs.declared.statuses.Status.TheVariants.{BadHandle}
@@ -13,18 +14,25 @@ use Rattle.zt_rows.specs.declared.keys.RowKey.TheVariants as key
 use Rattle.zt_rows.specs.declared.rows.Row.TheVariants as rows
 use Rattle.zt_rows.specs.declared.rows.Life.TheVariants.{Live}
 use Rattle.zt_text.specs.Numbers.{decimal_of, mask_of}
-use Rattle.zt_text.specs.Fields.{placed, field, ended}
-use Rattle.zt_text.specs.Reading.{event_create, eventpair_create, handle_close, handle_duplicate, handle_replace, object_signal, object_signal_peer, handle_call_named, call_named, call, back, show, command_named, command, read_as}
+use Rattle.zt_text.specs.Bytes.{hex_bytes, bytes_of}
+use Rattle.zt_text.specs.Lists.{listed, handles_of}
+use Rattle.zt_text.specs.Fields.{placed, field, flag, ended}
+use Rattle.zt_text.specs.Reading.{event_create, eventpair_create, handle_close, handle_duplicate, handle_replace, object_signal, object_signal_peer, channel_create, channel_write, channel_read, channel_call_named, handle_call_named, call_named, any_call_named, call, back, show, command_named, command, read_as}
 use Rattle.zt_text.specs.Shown.{hexadecimal}
 use Rattle.zt_text.specs.Answers.{shown_reply, shown_key, shown_object, shown_row, shown_answer, shown_refusal}
 use Rattle.zt_text.specs.Lines.{lines_of}
 
+-- what is unfolded to read a line
+unfoldable read_on_literals : ⊤
+unfolding decimal_of mask_of hex_bytes bytes_of listed handles_of placed field flag ended event_create eventpair_create handle_close handle_duplicate handle_replace object_signal object_signal_peer channel_create channel_write channel_read channel_call_named handle_call_named call_named any_call_named call back show command_named command read_as
+read_on_literals = tt
+
 reads_event : read_as (codes "1025 event_create") ≡ Ok (Some (commands.Call 1025 calls.EventCreate))
-unfolding decimal_of mask_of placed field ended event_create eventpair_create handle_close handle_duplicate handle_replace object_signal object_signal_peer handle_call_named call_named call back show command_named command read_as
+unfolding read_on_literals
 reads_event = refl
 
 reads_signal : read_as (codes "1025 object_signal 7 0x00000000 0x00000008") ≡ Ok (Some (commands.Call 1025 (calls.ObjectSignal 7 (record { 0 = 0 }) (record { 0 = 8 }))))
-unfolding decimal_of mask_of placed field ended event_create eventpair_create handle_close handle_duplicate handle_replace object_signal object_signal_peer handle_call_named call_named call back show command_named command read_as
+unfolding read_on_literals
 reads_signal = refl
 
 record HandleCalls : Type 0 where
@@ -38,7 +46,7 @@ record HandleCalls : Type 0 where
   rights_in_decimal : read_as (codes "1025 handle_replace 7 0") ≡ Err (BadLine 23)
 
 reads_handle_calls : HandleCalls
-unfolding decimal_of mask_of placed field ended event_create eventpair_create handle_close handle_duplicate handle_replace object_signal object_signal_peer handle_call_named call_named call back show command_named command read_as
+unfolding read_on_literals
 reads_handle_calls = record {
   pair = refl;
   close = refl;
@@ -50,6 +58,68 @@ reads_handle_calls = record {
   rights_in_decimal = refl;
 }
 
+record ChannelCalls : Type 0 where
+  create : read_as (codes "1025 channel_create") ≡ Ok (Some (commands.Call 1025 calls.ChannelCreate))
+  write : read_as (codes "1025 channel_write 7 6869 15,19") ≡ Ok (Some (commands.Call 1025 (calls.ChannelWrite 7 (record { bytes = 104 ∷ 105 ∷ []; handles = 15 ∷ 19 ∷ [] }))))
+  nothing : read_as (codes "1025 channel_write 0 - -") ≡ Ok (Some (commands.Call 1025 (calls.ChannelWrite 0 (record { bytes = []; handles = [] }))))
+  read : read_as (codes "1025 channel_read 7 16 0") ≡ Ok (Some (commands.Call 1025 (calls.ChannelRead 7 16 0 false)))
+  discard : read_as (codes "1025 channel_read 7 0 4294967295 discard") ≡ Ok (Some (commands.Call 1025 (calls.ChannelRead 7 0 4294967295 true)))
+
+reads_channel_calls : ChannelCalls
+unfolding read_on_literals
+reads_channel_calls = record {
+  create = refl;
+  write = refl;
+  nothing = refl;
+  read = refl;
+  discard = refl;
+}
+
+-- faults of their bytes, of their lists and of what stands at their end
+record ChannelColumns : Type 0 where
+  odd : read_as (codes "1025 channel_write 7 686 -") ≡ Err (BadLine 22)
+  upper : read_as (codes "1025 channel_write 7 6A -") ≡ Err (BadLine 22)
+  no_digit : read_as (codes "1025 channel_write 7 6g -") ≡ Err (BadLine 22)
+  no_bytes : read_as (codes "1025 channel_write 7  -") ≡ Err (BadLine 22)
+  empty_element : read_as (codes "1025 channel_write 7 - 3,,7") ≡ Err (BadLine 24)
+  empty_end : read_as (codes "1025 channel_write 7 - 3,") ≡ Err (BadLine 24)
+  dash_in_a_list : read_as (codes "1025 channel_write 7 - 3,-") ≡ Err (BadLine 24)
+  wide_element : read_as (codes "1025 channel_write 7 - 4294967296") ≡ Err (BadLine 24)
+  no_list : read_as (codes "1025 channel_write 7 -") ≡ Err (BadLine 23)
+  behind : read_as (codes "1025 channel_write 7 - - -") ≡ Err (BadLine 26)
+  no_rights : read_as (codes "1025 handle_duplicate 7") ≡ Err (BadLine 24)
+  misspelt : read_as (codes "1025 channel_read 7 0 0 discar") ≡ Err (BadLine 25)
+  twice : read_as (codes "1025 channel_read 7 0 0 discard discard") ≡ Err (BadLine 33)
+  no_amount : read_as (codes "1025 channel_read 7 0 discard") ≡ Err (BadLine 23)
+
+channel_columns : ChannelColumns
+unfolding read_on_literals
+channel_columns = record {
+  odd = refl;
+  upper = refl;
+  no_digit = refl;
+  no_bytes = refl;
+  empty_element = refl;
+  empty_end = refl;
+  dash_in_a_list = refl;
+  wide_element = refl;
+  no_list = refl;
+  behind = refl;
+  no_rights = refl;
+  misspelt = refl;
+  twice = refl;
+  no_amount = refl;
+}
+
+-- a list is as long as a message's, and no longer
+record ListsAtTheirEnds : Type 0 where
+  longest : handles_of (codes "7" ++ flat_map (λ (_ : ℕ). codes ",7") (replicate 63 0)) ≡ Some (replicate 64 7)
+  too_long : handles_of (codes "7" ++ flat_map (λ (_ : ℕ). codes ",7") (replicate 64 0)) ≡ None
+
+lists_at_their_ends : ListsAtTheirEnds
+unfolding decimal_of listed handles_of
+lists_at_their_ends = record { longest = refl; too_long = refl }
+
 -- numbers at their ends
 record Ends : Type 0 where
   no_process : read_as (codes "0 event_create") ≡ Ok (Some (commands.Call 0 calls.EventCreate))
@@ -58,7 +128,7 @@ record Ends : Type 0 where
   no_handle : read_as (codes "9 object_signal 0 0xfedcba98 0x00000000") ≡ Ok (Some (commands.Call 9 (calls.ObjectSignal 0 (record { 0 = 0xfedcba98 }) (record { 0 = 0 }))))
 
 reads_ends : Ends
-unfolding decimal_of mask_of placed field ended event_create eventpair_create handle_close handle_duplicate handle_replace object_signal object_signal_peer handle_call_named call_named call back show command_named command read_as
+unfolding read_on_literals
 reads_ends = record {
   no_process = refl;
   last_process = refl;
@@ -67,7 +137,7 @@ reads_ends = record {
 }
 
 reads_back : read_as (codes "back 1048576") ≡ Ok (Some (commands.Back 1048576))
-unfolding decimal_of mask_of placed field ended event_create eventpair_create handle_close handle_duplicate handle_replace object_signal object_signal_peer handle_call_named call_named call back show command_named command read_as
+unfolding read_on_literals
 reads_back = refl
 
 skips : (read_as [] ≡ Ok None) × (read_as (codes "# show") ≡ Ok None)
@@ -88,7 +158,7 @@ record Columns : Type 0 where
   upper : read_as (codes "1025 object_signal 7 0x00000000 0x0000000A") ≡ Err (BadLine 33)
 
 columns : Columns
-unfolding decimal_of mask_of placed field ended event_create eventpair_create handle_close handle_duplicate handle_replace object_signal object_signal_peer handle_call_named call_named call back show command_named command read_as
+unfolding read_on_literals
 columns = record {
   front = refl;
   behind = refl;

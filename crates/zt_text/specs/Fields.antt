@@ -1,13 +1,18 @@
 -- The fields of a line and their columns, and the fault where one has not the form wanted in its place.
-use Rattle.std.specs.Prelude.{ℕ, ◌+◌, ◌==◌, List, [], ◌∷◌, length, Option, Result, Ok, Err}
+use Rattle.std.specs.Prelude.{ℕ, ◌+◌, ◌==◌, Bool, true, false, List, [], ◌∷◌, length, Option, Result, Ok, Err, if◌then◌else◌}
 use Rattle.std.specs.Option.{ok_or}
 use Rattle.std.specs.List.{slice_split}
+use Rattle.std.specs.Str.{bytes_eq}
 use Rattle.zt_rows.specs.declared.refusals.Refusal.{Refusal}
 use Rattle.zt_rows.specs.declared.refusals.Refusal.TheVariants.{BadLine}
 
+-- bytes are cut at each separator
+abbrev pub parts_of : ℕ → List ℕ → List (List ℕ)
+parts_of separator bytes = slice_split (λ byte. byte == separator) bytes
+
 -- a line is cut at each single space
 abbrev pub fields_of : List ℕ → List (List ℕ)
-fields_of line = slice_split (λ byte. byte == 32) line
+fields_of line = parts_of 32 line
 
 -- a field with the column at which it begins
 pub record Placed : Type 0 where
@@ -55,3 +60,12 @@ none_of (field ∷ _) = Err (BadLine field.column)
 
 unfoldable pub ended : Unread → Result (Unit {0}) Refusal
 ended left = none_of left.fields
+
+-- a word that may stand at the end: whether it does
+abbrev pub flag_of : List ℕ → List Placed → Result Bool Refusal
+flag_of word [] = Ok false
+flag_of word (field ∷ fields) =
+    if bytes_eq field.bytes word then (none_of fields >>= λ _. Ok true) else Err (BadLine field.column)
+
+unfoldable pub flag : List ℕ → Unread → Result Bool Refusal
+flag word left = flag_of word left.fields

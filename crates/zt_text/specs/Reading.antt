@@ -1,14 +1,16 @@
 -- What a line of a client reads as.
-use Rattle.std.specs.Prelude.{ℕ, Bool, true, ◌==◌, List, [], ◌∷◌, Option, Some, None, Result, Ok, Err, if◌then◌else◌, codes}
+use Rattle.std.specs.Prelude.{◌≡◌, ℕ, Bool, true, false, ◌==◌, List, [], ◌∷◌, Option, Some, None, Result, Ok, Err, if◌then◌else◌, codes}
 use Rattle.std.specs.Str.{bytes_eq}
 use Rattle.zt_rows.specs.declared.refusals.Refusal.{Refusal}
-use Rattle.zt_rows.specs.declared.refusals.Refusal.TheVariants.{BadLine}
+use Rattle.zt_rows.specs.declared.refusals.Refusal.TheVariants.{BadLine, OutOfMemory}
 use Rattle.zt_rows.specs.declared.calls.Call.{Call}
 use Rattle.zt_rows.specs.declared.calls.Call.TheVariants as calls
 use Rattle.zt_rows.specs.declared.calls.Command.{Command}
 use Rattle.zt_rows.specs.declared.calls.Command.TheVariants as commands
-use Rattle.zt_text.specs.Numbers.{process_of, handle_of, mask_of, signals_of, count_of}
-use Rattle.zt_text.specs.Fields.{Placed, Unread, unread, ◌>>=◌, next, field, ended}
+use Rattle.zt_text.specs.Numbers.{process_of, handle_of, amount_of, mask_of, signals_of, count_of}
+use Rattle.zt_text.specs.Bytes.{bytes_of}
+use Rattle.zt_text.specs.Lists.{handles_of}
+use Rattle.zt_text.specs.Fields.{Placed, Unread, unread, ◌>>=◌, next, field, ended, flag}
 
 -- the arguments of each call
 unfoldable pub event_create : Unread → Result Call Refusal
@@ -57,13 +59,41 @@ object_signal_peer left = do
   _ ← ended set.1
   Ok (calls.ObjectSignalPeer handle.0 clear.0 set.0)
 
+unfoldable pub channel_create : Unread → Result Call Refusal
+channel_create left = do
+  _ ← ended left
+  Ok calls.ChannelCreate
+
+unfoldable pub channel_write : Unread → Result Call Refusal
+channel_write left = do
+  handle ← field handle_of left
+  bytes ← field bytes_of handle.1
+  handles ← field handles_of bytes.1
+  _ ← ended handles.1
+  Ok (calls.ChannelWrite handle.0 (record { bytes = bytes.0; handles = handles.0 }))
+
+unfoldable pub channel_read : Unread → Result Call Refusal
+channel_read left = do
+  handle ← field handle_of left
+  bytes ← field amount_of handle.1
+  handles ← field amount_of bytes.1
+  discard ← flag (codes "discard") handles.1
+  Ok (calls.ChannelRead handle.0 bytes.0 handles.0 discard)
+
+-- the call of this name, of those on channels that carry no parcel
+unfoldable pub channel_call_named : Placed → Unread → Result Call Refusal
+channel_call_named name left =
+    if bytes_eq name.bytes (codes "channel_create") then channel_create left
+    else (if bytes_eq name.bytes (codes "channel_read") then channel_read left
+    else Err (BadLine name.column))
+
 -- the call of this name, of those on handles
 unfoldable pub handle_call_named : Placed → Unread → Result Call Refusal
 handle_call_named name left =
     if bytes_eq name.bytes (codes "handle_close") then handle_close left
     else (if bytes_eq name.bytes (codes "handle_duplicate") then handle_duplicate left
     else (if bytes_eq name.bytes (codes "handle_replace") then handle_replace left
-    else Err (BadLine name.column)))
+    else channel_call_named name left))
 
 -- the call of this name
 unfoldable pub call_named : Placed → Unread → Result Call Refusal
@@ -74,10 +104,15 @@ call_named name left =
     else (if bytes_eq name.bytes (codes "object_signal_peer") then object_signal_peer left
     else handle_call_named name left)))
 
+-- the call of this name, also of the one that carries a parcel
+unfoldable pub any_call_named : Placed → Unread → Result Call Refusal
+any_call_named name left =
+    if bytes_eq name.bytes (codes "channel_write") then channel_write left else call_named name left
+
 unfoldable pub call : Unread → Result Call Refusal
 call left = do
   name ← next left
-  call_named name.0 name.1
+  any_call_named name.0 name.1
 
 -- the arguments of each command
 unfoldable pub back : Unread → Result Command Refusal
@@ -119,3 +154,23 @@ unfoldable pub read_as : List ℕ → Result (Option Command) Refusal
 read_as line = if is_skipped line then Ok None else (do
   asked ← command (unread line)
   Ok (Some asked))
+
+-- ---- memory
+
+-- a call that carries a parcel takes memory
+abbrev pub has_parcel : Call → Bool
+has_parcel (calls.ChannelWrite _ _) = true
+has_parcel _ = false
+
+abbrev pub command_has_parcel : Command → Bool
+command_has_parcel (commands.Call _ made) = has_parcel made
+command_has_parcel _ = false
+
+abbrev pub line_has_parcel : Option Command → Bool
+line_has_parcel (Some asked) = command_has_parcel asked
+line_has_parcel None = false
+
+-- why something is not read: its fault, or that memory was refused to what takes some
+abbrev pub IsUnread : {A : Type 0} → (A → Bool) → Result A Refusal → Refusal → Type 0
+IsUnread takes (Ok wanted) reason = (takes wanted ≡ true) × (reason ≡ OutOfMemory)
+IsUnread takes (Err fault) reason = reason ≡ fault

@@ -1,8 +1,9 @@
 -- How answers show numbers, bytes and lists.
 use Rattle.std.specs.Prelude.{ℕ, ◌-◌, false, List, [], ◌∷◌, ◌++◌, length, map, replicate, codes}
-use Rattle.std.specs.List.{join_with_byte, flat_map}
+use Rattle.std.specs.List.{join_with_byte}
 use Rattle.std.specs.Fmt.{decimal, digits}
 use Rattle.zt_rows.specs.declared.rows.Held.{Held}
+use Rattle.zt_text.specs.Bytes.{hex_text}
 
 -- words with a space between
 abbrev pub words : List (List ℕ) → List ℕ
@@ -19,7 +20,7 @@ shown_mask bits = codes "0x" ++ hexadecimal 8 bits
 -- two digits for each byte, or `-` for none
 abbrev pub shown_bytes : List ℕ → List ℕ
 shown_bytes [] = codes "-"
-shown_bytes (first ∷ others) = flat_map (hexadecimal 2) (first ∷ others)
+shown_bytes (first ∷ others) = hex_text (first ∷ others)
 
 -- elements with a comma between, or `-` for none
 abbrev pub shown_list : {A : Type 0} → (A → List ℕ) → List A → List ℕ

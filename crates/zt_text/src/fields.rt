@@ -1,9 +1,13 @@
-ghost use Rattle.std.specs.Prelude.{◌≡◌, ◌<◌, ◌==◌, length, position, IfSome};
-ghost use Rattle.zt_text.specs.Numbers.{handle_of, mask_of, signals_of, count_of};
-ghost use Rattle.zt_text.specs.Fields.{unread, next, field, ended};
+ghost use Rattle.std.specs.Prelude.{◌≡◌};
+ghost use Rattle.zt_text.specs.Numbers.{handle_of, amount_of, mask_of, signals_of, count_of};
+ghost use Rattle.zt_text.specs.Bytes.{bytes_of};
+ghost use Rattle.zt_text.specs.Lists.{handles_of};
+ghost use Rattle.zt_text.specs.Fields.{unread, next, field, ended, flag};
 ghost use Rattle.std.specs.Str.{bytes_eq};
-ghost use Rattle.zt_text.specs.Cut.{IsCut};
 
+use crate::bytes::Digits;
+use crate::cutting::cut;
+use crate::lists::HandleList;
 use crate::numbers::{decimal, mask};
 use std::marker::Model;
 use zt_bits::Signals;
@@ -87,7 +91,7 @@ impl<'a> Fields<'a> {
             return Err(Refusal::BadLine(line_len as u64 + 1));
         };
         let column = (line_len - left.len()) as u64 + 1;
-        let (bytes, left) = cut(left);
+        let (bytes, left) = cut(left, b' ');
         Ok((Field { column, bytes }, Fields { left, line_len }))
     }
 
@@ -136,6 +140,57 @@ impl<'a> Fields<'a> {
         }
     }
 
+    /// The number of bytes or of handles that the next field writes.
+    #[tactic(auto, unfolding(crate::specs::Fields::field))]
+    pub fn amount(self) -> Result<(u32, Fields<'a>), Refusal>
+        ensures { result ≡ field amount_of self.entry }
+    {
+        let (field, rest) = self.next()?;
+        match decimal(field.bytes(), u64::from(u32::MAX)) {
+            Some(number) => Ok((number as u32, rest)),
+            None => Err(field.fault()),
+        }
+    }
+
+    /// The bytes that the next field writes.
+    #[tactic(auto, unfolding(crate::specs::Fields::field))]
+    pub fn bytes(self) -> Result<(Digits<'a>, Fields<'a>), Refusal>
+        ensures { result ≡ field bytes_of self.entry }
+    {
+        let (field, rest) = self.next()?;
+        match Digits::of(field.bytes()) {
+            Some(digits) => Ok((digits, rest)),
+            None => Err(field.fault()),
+        }
+    }
+
+    /// The handles that the next field lists.
+    #[tactic(auto, unfolding(crate::specs::Fields::field))]
+    pub fn handles(self) -> Result<(HandleList, Fields<'a>), Refusal>
+        ensures { result ≡ field handles_of self.entry }
+    {
+        let (field, rest) = self.next()?;
+        match HandleList::of(field.bytes()) {
+            Some(list) => Ok((list, rest)),
+            None => Err(field.fault()),
+        }
+    }
+
+    /// Whether the word stands at the end, which may also be left out.
+    #[tactic(auto, unfolding(crate::specs::Fields::flag, crate::specs::Fields::ended))]
+    pub fn flag(self, word: &str) -> Result<bool, Refusal>
+        ensures { result ≡ flag word.now self.entry }
+    {
+        match self.next() {
+            Ok((field, rest)) if field.is(word) => {
+                rest.end()?;
+                Ok(true)
+            }
+            Ok((field, _)) => Err(field.fault()),
+            Err(_) => Ok(false),
+        }
+    }
+
     /// Nothing, where every field is read.
     #[tactic(auto, unfolding(crate::specs::Fields::ended))]
     pub fn end(self) -> Result<(), Refusal>
@@ -146,22 +201,4 @@ impl<'a> Fields<'a> {
             Err(_) => Ok(()),
         }
     }
-}
-
-/// The bytes before the first space, and those behind it.
-fn cut(bytes: &[u8]) -> (&[u8], Option<&[u8]>)
-    ensures { IsCut bytes.now result.0.now result.1 }
-{
-    match first_space(bytes) {
-        Some(space) => (&bytes[..space], Some(&bytes[space + 1..])),
-        None => (bytes, None),
-    }
-}
-
-/// Where the first space stands.
-fn first_space(bytes: &[u8]) -> Option<usize>
-    ensures at { result ≡ position (λ byte. byte == 32) bytes.now }
-    ensures inside { IfSome result (λ space. space < length bytes.now) }
-{
-    bytes.iter().position(|byte| *byte == b' ')
 }

@@ -74,6 +74,13 @@ fn hex_digits(bytes: &[u8]) -> Option<u32>
     Some(number)
 }
 
+/// Whether this is a digit of `0` to `9` and `a` to `f`.
+pub fn is_hex_digit(byte: u8) -> bool
+    ensures { result ≡ is_hex_digit byte }
+{
+    matches!(byte, b'0'..=b'9' | b'a'..=b'f')
+}
+
 /// What a digit of `0` to `9` and `a` to `f` stands for.
 fn hex_digit(byte: u8) -> Option<u32>
     ensures { SomeIff result (IsTrue (is_hex_digit byte)) (digit_value byte) }

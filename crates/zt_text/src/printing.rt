@@ -1,7 +1,7 @@
 ghost use Rattle.std.specs.Prelude.{◌≡◌, ◌++◌, [], ◌∷◌, codes, IfOk, OnOk, string_bytes};
 ghost use Rattle.std.specs.Fmt.{decimal};
 ghost use Rattle.std.specs.List.{flat_map};
-ghost use Rattle.zt_text.specs.Shown.{hexadecimal, shown_mask, shown_bytes, shown_list, shown_held};
+ghost use Rattle.zt_text.specs.Shown.{shown_mask, shown_bytes, shown_list, shown_held};
 ghost use Rattle.zt_text.specs.Answers.{shown_packet, shown_reply, shown_key, shown_life, shown_object, shown_wait, shown_queued, shown_row, row_line, shown_answer, shown_column, shown_refusal};
 
 use std::alloc::{AllocError, Global};
@@ -108,13 +108,6 @@ fn put_mask(text: &mut String, bits: u32) -> Result<(), AllocError>
     write!(text, "0x{bits:08x}")
 }
 
-/// Two digits.
-fn put_byte(text: &mut String, byte: u8) -> Result<(), AllocError>
-    ensures { OnOk result (string_bytes text.new ≡ string_bytes text.old ++ hexadecimal 2 byte) }
-{
-    write!(text, "{byte:02x}")
-}
-
 /// Two digits for each byte, or `-` for none.
 fn put_bytes(text: &mut String, bytes: &[u8]) -> Result<(), AllocError>
     ensures { OnOk result (string_bytes text.new ≡ string_bytes text.old ++ shown_bytes bytes.now) }
@@ -122,10 +115,8 @@ fn put_bytes(text: &mut String, bytes: &[u8]) -> Result<(), AllocError>
     if bytes.is_empty() {
         return text.push_str("-");
     }
-    for byte in bytes {
-        put_byte(text, *byte)?;
-    }
-    Ok(())
+    let digits = hex::encode(*text.allocator(), bytes)?;
+    text.push_str(digits.as_str())
 }
 
 /// The values with a comma between, or `-` for none.

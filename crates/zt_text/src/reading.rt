@@ -1,29 +1,34 @@
-ghost use Rattle.std.specs.Prelude.{◌≡◌};
-ghost use Rattle.zt_text.specs.Reading.{read_as, command, command_named, back, show, call, call_named, handle_call_named, event_create, eventpair_create, handle_close, handle_duplicate, handle_replace, object_signal, object_signal_peer};
+ghost use Rattle.std.specs.Prelude.{◌≡◌, IfOk, IfErr};
+ghost use Rattle.zt_text.specs.Reading.{IsUnread, has_parcel, command_has_parcel, line_has_parcel, read_as, command, command_named, back, show, call, any_call_named, call_named, handle_call_named, channel_call_named, channel_create, channel_write, channel_read, event_create, eventpair_create, handle_close, handle_duplicate, handle_replace, object_signal, object_signal_peer};
 
 use crate::fields::{Field, Fields};
 use crate::numbers::decimal;
+use crate::writes::Write;
+use std::alloc::Global;
 use zt_rows::{Call, Command, Koid, Refusal};
 
-/// What a line asks; nothing, where it is empty or begins with `#`.
+/// What a line asks; nothing, where it is empty or begins with `#`. Memory is asked for only where the whole line
+/// has its form, by the parcel of a call.
 #[tactic(auto, unfolding(crate::specs::Reading::read_as))]
-pub fn read_line(line: &[u8]) -> Result<Option<Command>, Refusal>
-    ensures { result ≡ read_as line.now }
+pub fn read_line(alloc: Global, line: &[u8]) -> Result<Option<Command>, Refusal>
+    ensures read { IfOk result (λ asked. read_as line.now ≡ Ok asked) }
+    ensures refused { IfErr result (λ refusal. IsUnread line_has_parcel (read_as line.now) refusal) }
 {
     match line {
         [] | [b'#', ..] => Ok(None),
-        _ => Ok(Some(command(Fields::new(line))?)),
+        _ => Ok(Some(command(alloc, Fields::new(line))?)),
     }
 }
 
 /// A line that begins with a number is a call of that process.
 #[tactic(auto, unfolding(crate::specs::Reading::command))]
-fn command(fields: Fields<'_>) -> Result<Command, Refusal>
-    ensures { result ≡ command fields.entry }
+fn command(alloc: Global, fields: Fields<'_>) -> Result<Command, Refusal>
+    ensures read { IfOk result (λ asked. command fields.entry ≡ Ok asked) }
+    ensures refused { IfErr result (λ refusal. IsUnread command_has_parcel (command fields.entry) refusal) }
 {
     let (first, rest) = fields.next()?;
     match decimal(first.bytes(), u64::MAX) {
-        Some(process) => Ok(Command::Call(Koid(process), call(rest)?)),
+        Some(process) => Ok(Command::Call(Koid(process), call(alloc, rest)?)),
         None => command_named(&first, rest),
     }
 }
@@ -61,11 +66,25 @@ fn show(fields: Fields<'_>) -> Result<Command, Refusal>
 
 /// The call that the fields behind the process write.
 #[tactic(auto, unfolding(crate::specs::Reading::call))]
-fn call(fields: Fields<'_>) -> Result<Call, Refusal>
-    ensures { result ≡ call fields.entry }
+fn call(alloc: Global, fields: Fields<'_>) -> Result<Call, Refusal>
+    ensures read { IfOk result (λ made. call fields.entry ≡ Ok made) }
+    ensures refused { IfErr result (λ refusal. IsUnread has_parcel (call fields.entry) refusal) }
 {
     let (name, rest) = fields.next()?;
-    call_named(&name, rest)
+    any_call_named(alloc, &name, rest)
+}
+
+/// The call of this name, with the arguments behind it.
+#[tactic(auto, unfolding(crate::specs::Reading::any_call_named))]
+fn any_call_named(alloc: Global, name: &Field<'_>, rest: Fields<'_>) -> Result<Call, Refusal>
+    ensures read { IfOk result (λ made. any_call_named name.now rest.entry ≡ Ok made) }
+    ensures refused { IfErr result (λ refusal. IsUnread has_parcel (any_call_named name.now rest.entry) refusal) }
+{
+    if name.is("channel_write") {
+        channel_write(rest)?.to_call(alloc)
+    } else {
+        call_named(name, rest)
+    }
 }
 
 /// The call of this name, with the arguments behind it.
@@ -98,8 +117,57 @@ fn handle_call_named(name: &Field<'_>, rest: Fields<'_>) -> Result<Call, Refusal
     } else if name.is("handle_replace") {
         handle_replace(rest)
     } else {
+        channel_call_named(name, rest)
+    }
+}
+
+/// The call of this name, of those on channels that carry no parcel, with the arguments behind it.
+#[tactic(auto, unfolding(crate::specs::Reading::channel_call_named))]
+fn channel_call_named(name: &Field<'_>, rest: Fields<'_>) -> Result<Call, Refusal>
+    ensures { result ≡ channel_call_named name.now rest.entry }
+{
+    if name.is("channel_create") {
+        channel_create(rest)
+    } else if name.is("channel_read") {
+        channel_read(rest)
+    } else {
         Err(name.fault())
     }
+}
+
+#[tactic(auto, unfolding(crate::specs::Reading::channel_create))]
+fn channel_create(fields: Fields<'_>) -> Result<Call, Refusal>
+    ensures { result ≡ channel_create fields.entry }
+{
+    fields.end()?;
+    Ok(Call::ChannelCreate)
+}
+
+#[tactic(auto, unfolding(crate::specs::Reading::channel_write))]
+fn channel_write(fields: Fields<'_>) -> Result<Write<'_>, Refusal>
+    ensures { result ≡ channel_write fields.entry }
+{
+    let (handle, rest) = fields.handle()?;
+    let (bytes, rest) = rest.bytes()?;
+    let (handles, rest) = rest.handles()?;
+    rest.end()?;
+    Ok(Write::new(handle, bytes, handles))
+}
+
+#[tactic(auto, unfolding(crate::specs::Reading::channel_read))]
+fn channel_read(fields: Fields<'_>) -> Result<Call, Refusal>
+    ensures { result ≡ channel_read fields.entry }
+{
+    let (handle, rest) = fields.handle()?;
+    let (bytes, rest) = rest.amount()?;
+    let (handles, rest) = rest.amount()?;
+    let discard = rest.flag("discard")?;
+    Ok(Call::ChannelRead {
+        handle,
+        bytes,
+        handles,
+        discard,
+    })
 }
 
 #[tactic(auto, unfolding(crate::specs::Reading::event_create))]
