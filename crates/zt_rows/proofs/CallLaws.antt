@@ -11,6 +11,8 @@ use Rattle.zt_rows.specs.Consistent.{IsSound, IsConsistent}
 use Rattle.zt_rows.proofs.StepLaws.{consistent-completed, sound-create_call, sound-create_pair, sound-handle_close, sound-handle_duplicate, sound-handle_replace, sound-object_signal, sound-object_signal_peer}
 use Rattle.zt_rows.proofs.SentLaws.{sound-channel_write}
 use Rattle.zt_rows.proofs.ReceivedLaws.{sound-channel_read}
+use Rattle.zt_rows.proofs.PortSteps.{sound-object_wait_async, sound-port_queue, sound-port_wait, sound-port_cancel}
+use Rattle.zt_rows.proofs.JobSteps.{sound-job_create, sound-spawn, sound-task_kill, sound-process_exit}
 
 pub sound-direct : (S : State) (p : ℕ) (c : Call) → IsSound S → runs S p ≡ true → IsCall c → IsSound (direct S p c).0
 unfolding direct
@@ -24,6 +26,15 @@ sound-direct S p (call.ObjectSignalPeer h clear set) sound live is = sound-objec
 sound-direct S p call.ChannelCreate sound live is = sound-create_pair S p kind.Channel sound live refl
 sound-direct S p (call.ChannelWrite h parcel) sound live is = sound-channel_write S p h parcel.bytes parcel.handles sound is
 sound-direct S p (call.ChannelRead h bytes handles discard) sound live is = sound-channel_read S p h bytes handles discard sound live
+sound-direct S p call.PortCreate sound live is = sound-create_call S p kind.Port sound live refl
+sound-direct S p (call.ObjectWaitAsync h port packet_key signals) sound live is = sound-object_wait_async S p h port packet_key signals.0 sound
+sound-direct S p (call.PortQueue port packet_key bytes) sound live is = sound-port_queue S p port packet_key bytes sound
+sound-direct S p (call.PortWait port) sound live is = sound-port_wait S p port sound
+sound-direct S p (call.PortCancel port source packet_key) sound live is = sound-port_cancel S p port source packet_key sound
+sound-direct S p (call.JobCreate job) sound live is = sound-job_create S p job sound live
+sound-direct S p (call.Spawn job argument) sound live is = sound-spawn S p job argument sound live
+sound-direct S p (call.TaskKill h) sound live is = sound-task_kill S p h sound
+sound-direct S p (call.ProcessExit code) sound live is = sound-process_exit S p code sound live
 
 -- a call of a live process leaves a consistent state consistent
 pub step-consistent : (S : State) (p : ℕ) (c : Call) → IsConsistent S → runs S p ≡ true → IsCall c → IsConsistent (step S p c).0

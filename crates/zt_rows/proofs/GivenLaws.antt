@@ -1,48 +1,31 @@
 -- How many numbers a change gives out: koids, handles to a process, and one each of what else a call gives, as
 -- messages to a channel, packets to a port and waits. Of puts, and of what calls are made of.
-use Rattle.std.proofs.Common.{◌≡◌, ◌≤◌, ◌<◌, ℕ, zero, suc, ◌+◌, ◌*◌, ◌^◌, Bool, true, false, cond, ◌&&◌, List, [], ◌∷◌, length, inl, refl, sym, ap, ◌∙◌, subst, arith}
-use Rattle.std.specs.Prelude.{Option, None, Some, Ok, ok_or, is_some, count_by, fold, if◌then◌else◌, ◌==◌, ⊤}
-use Rattle.std.specs.List.{filter_map, cons_option}
+use Rattle.std.proofs.Common.{◌≡◌, ◌≤◌, ◌<◌, ℕ, ◌+◌, Bool, true, false, cond, ◌&&◌, refl, sym, ap, ◌∙◌, subst, arith}
+use Rattle.std.specs.Prelude.{Option, None, Some, is_some, ◌==◌, ⊤}
+use Rattle.std.specs.Option.{option_map}
 use Rattle.std.proofs.lemmas.Bool.{eqb-true, eq-eqb}
 use Rattle.std.proofs.lemmas.Bool.Decides.{nat_tests}
 use Rattle.zt_bits.specs.declared.kinds.Kind.{Kind}
 use Rattle.zt_bits.specs.declared.kinds.Kind.TheVariants as kind
-use Rattle.zt_bits.specs.declared.statuses.Status.TheVariants as status
-use Rattle.zt_bits.specs.Tables.{asked_rights}
-use Rattle.zt_rows.specs.declared.calls.Call.{Call}
-use Rattle.zt_rows.specs.declared.calls.Call.TheVariants as call
 use Rattle.zt_rows.specs.declared.keys.RowKey.{RowKey}
 use Rattle.zt_rows.specs.declared.keys.RowKey.TheVariants as key
 use Rattle.zt_rows.specs.declared.rows.Counters.{Counters}
 use Rattle.zt_rows.specs.declared.rows.Held.{Held}
 use Rattle.zt_rows.specs.declared.rows.ObjectRow.{ObjectRow}
-use Rattle.zt_rows.specs.declared.rows.Wait.{Wait}
 use Rattle.zt_rows.specs.declared.rows.Row.{Row}
 use Rattle.zt_rows.specs.declared.rows.Row.TheVariants as rows
-use Rattle.zt_rows.specs.State.{State, row, put}
-use Rattle.zt_rows.specs.Reads.{as_counters, as_object, counters, object, objects, entry, wait_at, waits, is_process, is_live, is_live_process, runs}
-use Rattle.zt_rows.specs.Tests.{any_kind, is_endpoint, exists, kind_at, next_at, object_next, count_row, raised}
-use Rattle.zt_rows.specs.Room.{HasRoom, NextFits, is_wait, NextBy, HasGiven, HasSpent}
-use Rattle.zt_rows.specs.Opening.{opening}
-use Rattle.zt_rows.specs.Collect.{left, without, goes, rounds, collect}
-use Rattle.zt_rows.specs.Settle.{refreshed, refresh, news, fire, settle}
-use Rattle.zt_rows.specs.Handles.{◌>>=◌, answered, done, taken, take_out, take_out_all, install, value_of, whole, fresh, next_koid, make, make_pair}
-use Rattle.zt_rows.specs.ObjectCalls.{create, create_pair, received, handle_close, handle_duplicate, handle_replace, may_set, set_signals, object_signal, object_signal_peer}
-use Rattle.zt_rows.specs.Step.{direct, step}
+use Rattle.zt_rows.specs.Contents.{MessageContent}
+use Rattle.zt_rows.specs.State.{State, put}
+use Rattle.zt_rows.specs.Reads.{as_counters, as_object, counters, object, is_process, is_live, is_live_process}
+use Rattle.zt_rows.specs.Tests.{exists, next_at, object_next, count_row, raised}
+use Rattle.zt_rows.specs.Room.{is_wait}
+use Rattle.zt_rows.specs.Handles.{taken, take_out_all, install, value_of, fresh, next_koid, make, make_pair}
+use Rattle.zt_rows.specs.ObjectCalls.{set_signals}
 use Rattle.zt_rows.specs.Consistent.{SoundObject, IsSound}
 use Rattle.zt_rows.proofs.StateLaws.{row-put}
-use Rattle.zt_rows.proofs.RowLaws.{count-cons, count_row-change, count_row-put-out, count_row-take}
-use Rattle.zt_rows.proofs.ReadLaws.{some_one, exists-some, kind_at-some, object-put, stayed, counters-without}
-use Rattle.zt_rows.proofs.CollectLaws.{sound-collect}
-use Rattle.zt_rows.proofs.FramedLaws.{sound-framed}
-use Rattle.zt_rows.proofs.SettleLaws.{object-refresh, other-refresh, map-renew, framed-refresh, fired, without_wait, with_packet, object-fired, counters-fired, fire-cases, ForPorts, ports-fire, sound-fire, ports-sound}
-use Rattle.zt_rows.proofs.MakeLaws.{others-made}
+use Rattle.zt_rows.proofs.RowLaws.{count_row-change, count_row-put-out}
+use Rattle.zt_rows.proofs.ReadLaws.{some_one, exists-some, object-put}
 use Rattle.zt_rows.proofs.TakeLaws.{object-taken, counters-taken}
-use Rattle.zt_rows.proofs.PairLaws.{others-paired}
-use Rattle.zt_rows.proofs.StepLaws.{after_check, after_some, after_handle, caller-is}
-use Rattle.zt_rows.proofs.OpeningLaws.{of_both, counters-opening}
-use Rattle.zt_rows.specs.Contents.{MessageContent}
-use Rattle.std.specs.Option.{option_map}
 use Rattle.zt_rows.proofs.PutLaws.{object-message, counters-message, count-message}
 
 -- ---- what a change gives out
@@ -206,14 +189,20 @@ not_yet S sound x on above (Some o) h =
     absurd (omega arith)
 not_yet S sound x on above None h = tt
 
-pub spends-make : (S : State) → IsSound S → (o : ObjectRow) → o.next ≡ 0 → Spends 1 0 0 S (make (counters S) o S)
-spends-make S sound o none =
+-- a new object that has given out so many handles
+pub spends-make_given : (S : State) → IsSound S → (b : ℕ) (o : ObjectRow) → o.next ≤ growth b 0 o.kind → Spends 1 b 0 S (make (counters S) o S)
+spends-make_given S sound b o few =
     let U : State = put S (key.Object (next_koid S)) (Some (rows.Object o)) in
+    let T : State = make (counters S) o S in
     let same : counters U ≡ counters S = ap as_counters (row-put S (key.Object (next_koid S)) (Some (rows.Object o)) key.Counters) in
     let k : next_koid U ≡ next_koid S = ap (λ (c : Counters). c.next_koid) same in
     let n : (counters U).next_wait ≡ (counters S).next_wait = ap (λ (c : Counters). c.next_wait) same in
-    let one : Spends 0 0 0 S U = spends-object S 0 0 (next_koid S) o (not_yet S sound (next_koid S) o.kind (omega arith) (object S (next_koid S)) refl) (omega arith) in
-    spends-spends 0 0 0 1 0 0 S U (make (counters S) o S) one (spends-counters U 1 0 (record (counters S) { next_koid = next_koid S + 1 }) (omega arith) (omega arith))
+    let one : Spends 0 b 0 S U = spends-object S b 0 (next_koid S) o (not_yet S sound (next_koid S) o.kind (omega arith) (object S (next_koid S)) refl) (omega arith) in
+    let two : Spends 1 0 0 U T = spends-counters U 1 0 (record (counters S) { next_koid = next_koid S + 1 }) (omega arith) (omega arith) in
+    spends-more 1 (b + 0) 0 1 b 0 S T (omega arith) (omega arith) (omega arith) (spends-spends 0 b 0 1 0 0 S U T one two)
+
+pub spends-make : (S : State) → IsSound S → (o : ObjectRow) → o.next ≡ 0 → Spends 1 0 0 S (make (counters S) o S)
+spends-make S sound o none = spends-make_given S sound 0 o (omega arith)
 
 apart : (k : ℕ) → (k + 1 == k) ≡ false
 apart k = grind (arith, nat_tests)

@@ -17,6 +17,12 @@ pub mod PutLaws
 pub mod GivenLaws
 pub mod SentLaws
 pub mod ReceivedLaws
+pub mod PortLaws
+pub mod PortSteps
+pub mod ChainLaws
+pub mod MadeTaskLaws
+pub mod EndLaws
+pub mod JobSteps
 pub mod CallLaws
 pub mod OpeningLaws
 pub mod SpentLaws

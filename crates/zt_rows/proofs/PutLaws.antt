@@ -1,14 +1,13 @@
 -- Puts that leave a sound state sound, whichever call makes them: an object in its shape, as one that gave out a
 -- number, and a row of what objects own. Puts under two keys may change places, so that an owner gives out the
 -- number before what has it is put.
-use Rattle.std.proofs.Common.{◌≡◌, ◌≤◌, ℕ, ◌+◌, Bool, true, false, cond, ◌&&◌, ◌⊎◌, inl, inr, refl, sym, ap, ◌∙◌, subst, arith}
+use Rattle.std.proofs.Common.{◌≡◌, ◌≤◌, ℕ, Bool, true, false, cond, ◌&&◌, ◌⊎◌, inl, inr, refl, sym, ap, ◌∙◌, subst, arith}
 use Rattle.std.specs.Prelude.{Option, None, Some, is_some, ◌==◌}
 use Rattle.std.specs.Option.{option_map}
 use Rattle.std.proofs.lemmas.Bool.{eqb-true}
 use Rattle.zt_rows.specs.declared.keys.RowKey.{RowKey}
 use Rattle.zt_rows.specs.declared.keys.RowKey.TheVariants as key
 use Rattle.zt_rows.specs.declared.rows.Counters.{Counters}
-use Rattle.zt_rows.specs.declared.rows.Held.{Held}
 use Rattle.zt_rows.specs.declared.rows.ObjectRow.{ObjectRow}
 use Rattle.zt_rows.specs.declared.rows.Packet.{Packet}
 use Rattle.zt_rows.specs.declared.rows.Wait.{Wait}
@@ -25,7 +24,7 @@ use Rattle.zt_rows.specs.PortCalls.{is_user_packet_of, pending, most_pending}
 use Rattle.zt_rows.specs.JobCalls.{most_depth}
 use Rattle.zt_rows.specs.End.{depth}
 use Rattle.zt_rows.specs.Handles.{next_koid}
-use Rattle.zt_rows.specs.Consistent.{possible_signals, SoundMessage, SoundPacket, SoundWait, IsSound}
+use Rattle.zt_rows.specs.Consistent.{possible_signals, SoundMessage, SoundPacket, IsSound}
 use Rattle.zt_rows.proofs.StateLaws.{row-put, same_state}
 use Rattle.zt_rows.proofs.RowLaws.{true≢false, and_left, and_right, count_row-put-out, count_row-take}
 use Rattle.zt_rows.proofs.ReadLaws.{some_one, exists-some, chosen, object-put, typed-put}

@@ -1,7 +1,7 @@
 -- What a read of a channel gives: the first message leaves its queue, and the caller receives its handles. A
 -- sound state stays sound, and no more handles are given out than a message has.
 use Rattle.std.proofs.Common.{◌≡◌, ◌≤◌, ℕ, suc, ◌+◌, Bool, true, false, List, [], ◌∷◌, length, inl, refl, sym, ap, ◌∙◌, subst, arith}
-use Rattle.std.specs.Prelude.{Option, None, Some, Ok, is_some, ◌==◌, if◌then◌else◌}
+use Rattle.std.specs.Prelude.{None, Some, Ok, is_some, ◌==◌, if◌then◌else◌}
 use Rattle.std.specs.List.{AllByRecursion, filter_map}
 use Rattle.std.proofs.lemmas.Bool.{eqb-true}
 use Rattle.zt_bits.specs.declared.statuses.Status.TheVariants as status
@@ -21,7 +21,7 @@ use Rattle.zt_rows.specs.Consistent.{SoundMessage, IsSound}
 use Rattle.zt_rows.proofs.RowLaws.{In, in-filter_map, in-row}
 use Rattle.zt_rows.proofs.SoundLaws.{all_map}
 use Rattle.zt_rows.proofs.GrownLaws.{sound-install, object-installed, exists-installed}
-use Rattle.zt_rows.proofs.StepLaws.{Found, after_some, after_handle, caller-is}
+use Rattle.zt_rows.proofs.StepLaws.{after_some, after_handle, caller-is}
 use Rattle.zt_rows.proofs.PutLaws.{object-message, sound-message}
 use Rattle.zt_rows.proofs.GivenLaws.{Spends, spends-itself, spends-more, spends-spends, object-received, spends-install, spends-message, Called, spends-called, called-nothing}
 
@@ -101,8 +101,9 @@ called-channel_read S p h bytes handles discard sound live =
     let s : SoundMessage S x n m = sound.of_messages x n m there in
     let few : length m.handles ≤ 64 = s.within.1 in
     let gone : Spends 0 0 0 S T = spends-message S x n None in
-    let all : Spends 0 (length m.handles) 0 T (install_all p w.0 m.handles T) = spends-install_all m.handles T p w.0 (object-message S x n None p ∙ w.1) w.2 in
-    ( spends-called 0 0 0 S T (omega arith) (omega arith) (omega arith) gone
-    , subst (λ me. Called S (install_all p me m.handles T)) (sym w.3)
-      (spends-called 0 (0 + length m.handles) 0 S (install_all p w.0 m.handles T) (omega arith) (omega arith) (omega arith)
-      (spends-spends 0 0 0 0 (length m.handles) 0 S T (install_all p w.0 m.handles T) gone all))))
+    let all : Spends 0 (length m.handles) 0 T (install_all p w.0 m.handles T) = spends-install_all m.handles T p w.0 (object-message S x n None p ∙ w.1) w.2 in (
+      spends-called 0 0 0 S T (omega arith) (omega arith) (omega arith) gone,
+      subst (λ me. Called S (install_all p me m.handles T)) (sym w.3)
+          (spends-called 0 (0 + length m.handles) 0 S (install_all p w.0 m.handles T) (omega arith) (omega arith) (omega arith)
+          (spends-spends 0 0 0 0 (length m.handles) 0 S T (install_all p w.0 m.handles T) gone all)),
+    ))

@@ -1,6 +1,6 @@
 -- What a write to a channel sends: the handles leave the caller's table in any case, and a message with what they
 -- held comes to the end of the peer's queue. A sound state stays sound, and one number is given out.
-use Rattle.std.proofs.Common.{◌≡◌, ◌≤◌, ◌<◌, ℕ, suc, ◌+◌, Bool, true, false, List, [], ◌∷◌, length, refl, sym, ap, ◌∙◌, subst, arith}
+use Rattle.std.proofs.Common.{◌≡◌, ◌≤◌, ℕ, suc, ◌+◌, true, List, [], ◌∷◌, length, refl, sym, ap, ◌∙◌, subst, arith}
 use Rattle.std.specs.Prelude.{Option, None, Some, Result, Ok, Err, ok_or, is_some, not, ◌==◌}
 use Rattle.std.specs.List.{AllByRecursion}
 use Rattle.std.specs.Option.{option_map}
@@ -15,14 +15,14 @@ use Rattle.zt_rows.specs.declared.rows.Row.TheVariants as rows
 use Rattle.zt_rows.specs.Contents.{MessageContent, IsWithinMessage}
 use Rattle.zt_rows.specs.State.{State, put}
 use Rattle.zt_rows.specs.Reads.{object, entry}
-use Rattle.zt_rows.specs.Tests.{exists, is_channel, is_endpoint, has_all, among, kind_at, next_at, object_next, raised}
+use Rattle.zt_rows.specs.Tests.{exists, is_channel, is_endpoint, has_all, among, next_at, object_next, raised}
 use Rattle.zt_rows.specs.Handles.{◌>>=◌, check, take_out_all}
 use Rattle.zt_rows.specs.ChannelCalls.{sent, push_message, channel_write}
 use Rattle.zt_rows.specs.Consistent.{SoundMessage, IsSound}
-use Rattle.zt_rows.proofs.ReadLaws.{some_one, exists-some}
+use Rattle.zt_rows.proofs.ReadLaws.{some_one}
 use Rattle.zt_rows.proofs.SoundLaws.{all_map}
 use Rattle.zt_rows.proofs.TakeLaws.{object-taken, sound-taken}
-use Rattle.zt_rows.proofs.StepLaws.{Found, after_some, after_handle_of, after_result, peer_kind}
+use Rattle.zt_rows.proofs.StepLaws.{after_some, after_handle_of, after_result, peer_kind}
 use Rattle.zt_rows.proofs.PutLaws.{put-apart, sound-raised, object-raised, exists-raised, sound-message}
 use Rattle.zt_rows.proofs.GivenLaws.{growth, spends-spends, spends-take_out_all, spends-message, spends-raised, Called, spends-called}
 
@@ -102,8 +102,8 @@ sound-channel_write S p h bytes values sound within =
     write-cases IsSound S p h bytes values sound left (λ x peer all there channel held same.
     let few : length values ≤ 64 = within.1 in
     sound-push_message T left x peer (object-taken p (among values) S x ∙ there) channel (record { bytes = bytes; handles = all })
-        (all_map all (λ one l w. ap (λ r. is_some r) (object-taken p (among values) S one.koid) ∙ (sound.of_entries p w.0 one w.1).names) held)
-        (within.0, omega arith))
+    (all_map all (λ one l w. ap (λ r. is_some r) (object-taken p (among values) S one.koid) ∙ (sound.of_entries p w.0 one w.1).names) held)
+    (within.0, omega arith))
 
 pub called-channel_write : (S : State) (p h : ℕ) (bytes values : List ℕ) → IsSound S → Called S (channel_write S p h bytes values).0
 called-channel_write S p h bytes values sound =

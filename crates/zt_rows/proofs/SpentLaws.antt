@@ -1,9 +1,7 @@
 -- So many calls give out no more numbers than so many, and a history's calls are too few to use them up.
-use Rattle.std.proofs.Common.{◌≡◌, ◌≤◌, ◌<◌, ℕ, zero, suc, ◌+◌, ◌*◌, ◌^◌, Bool, true, false, cond, ◌&&◌, List, [], ◌∷◌, length, inl, refl, sym, ap, ◌∙◌, subst, arith}
-use Rattle.std.specs.Prelude.{Option, None, Some, Ok, ok_or, is_some, count_by, fold, if◌then◌else◌, ◌==◌, ⊤}
+use Rattle.std.proofs.Common.{◌≡◌, ◌≤◌, ◌<◌, ℕ, zero, suc, ◌+◌, ◌*◌, ◌^◌, Bool, true, false, cond, List, [], ◌∷◌, length, inl, refl, sym, ap, ◌∙◌, subst, arith}
+use Rattle.std.specs.Prelude.{Option, None, Some, Ok, ok_or, count_by, fold, if◌then◌else◌, ◌==◌}
 use Rattle.std.specs.List.{filter_map, cons_option}
-use Rattle.std.proofs.lemmas.Bool.{eqb-true, eq-eqb}
-use Rattle.std.proofs.lemmas.Bool.Decides.{nat_tests}
 use Rattle.zt_bits.specs.declared.kinds.Kind.{Kind}
 use Rattle.zt_bits.specs.declared.kinds.Kind.TheVariants as kind
 use Rattle.zt_bits.specs.declared.statuses.Status.TheVariants as status
@@ -19,29 +17,30 @@ use Rattle.zt_rows.specs.declared.rows.Wait.{Wait}
 use Rattle.zt_rows.specs.declared.rows.Row.{Row}
 use Rattle.zt_rows.specs.declared.rows.Row.TheVariants as rows
 use Rattle.zt_rows.specs.State.{State, row, put}
-use Rattle.zt_rows.specs.Reads.{as_counters, as_object, counters, object, objects, entry, wait_at, waits, is_process, is_live, is_live_process, runs}
-use Rattle.zt_rows.specs.Tests.{any_kind, is_endpoint, exists, kind_at, next_at, object_next, count_row, raised}
+use Rattle.zt_rows.specs.Reads.{as_counters, counters, object, objects, entry, wait_at, waits, runs}
+use Rattle.zt_rows.specs.Tests.{any_kind, is_endpoint, kind_at, next_at, object_next, count_row, raised}
 use Rattle.zt_rows.specs.Room.{HasRoom, NextFits, is_wait, NextBy, HasGiven, HasSpent}
 use Rattle.zt_rows.specs.Opening.{opening}
 use Rattle.zt_rows.specs.Collect.{left, without, goes, rounds, collect}
 use Rattle.zt_rows.specs.Settle.{refreshed, refresh, news, fire, settle}
-use Rattle.zt_rows.specs.Handles.{◌>>=◌, answered, done, taken, take_out, install, value_of, whole, fresh, next_koid, make, make_pair}
+use Rattle.zt_rows.specs.Handles.{◌>>=◌, answered, done, take_out, install, whole, fresh, next_koid, make, make_pair}
 use Rattle.zt_rows.specs.ObjectCalls.{create, create_pair, received, handle_close, handle_duplicate, handle_replace, may_set, set_signals, object_signal, object_signal_peer}
 use Rattle.zt_rows.specs.Step.{IsCall, direct, step}
-use Rattle.zt_rows.specs.Consistent.{SoundObject, IsSound}
-use Rattle.zt_rows.proofs.StateLaws.{row-put}
+use Rattle.zt_rows.specs.Consistent.{IsSound}
 use Rattle.zt_rows.proofs.RowLaws.{count-cons, count_row-change, count_row-put-out, count_row-take}
-use Rattle.zt_rows.proofs.ReadLaws.{some_one, exists-some, kind_at-some, object-put, stayed, counters-without}
+use Rattle.zt_rows.proofs.ReadLaws.{some_one, kind_at-some, stayed, counters-without}
 use Rattle.zt_rows.proofs.CollectLaws.{sound-collect}
 use Rattle.zt_rows.proofs.FramedLaws.{sound-framed}
 use Rattle.zt_rows.proofs.SettleLaws.{object-refresh, other-refresh, map-renew, framed-refresh, fired, without_wait, with_packet, object-fired, counters-fired, fire-cases, ForPorts, ports-fire, sound-fire, ports-sound}
 use Rattle.zt_rows.proofs.MakeLaws.{others-made}
-use Rattle.zt_rows.proofs.TakeLaws.{object-taken, counters-taken}
+use Rattle.zt_rows.proofs.TakeLaws.{object-taken}
 use Rattle.zt_rows.proofs.PairLaws.{others-paired}
 use Rattle.zt_rows.proofs.StepLaws.{after_check, after_some, after_handle, caller-is}
 use Rattle.zt_rows.proofs.GivenLaws.{growth, OfKind, Spends, spends-itself, spends-spends, spends-make, spends-make_pair, object-received, spends-install, spends-take_out_all, spends-signals, Called, spends-called, called-nothing}
 use Rattle.zt_rows.proofs.SentLaws.{called-channel_write}
 use Rattle.zt_rows.proofs.ReceivedLaws.{called-channel_read}
+use Rattle.zt_rows.proofs.PortSteps.{called-object_wait_async, called-port_queue, called-port_wait, called-port_cancel}
+use Rattle.zt_rows.proofs.JobSteps.{called-job_create, called-spawn, called-task_kill, called-process_exit}
 use Rattle.zt_rows.proofs.CallLaws.{sound-direct}
 use Rattle.zt_rows.proofs.OpeningLaws.{of_both, counters-opening}
 
@@ -179,6 +178,15 @@ called-direct S p (call.ObjectSignalPeer h clear set) sound live = called-object
 called-direct S p call.ChannelCreate sound live = called-create_pair S p kind.Channel sound live refl
 called-direct S p (call.ChannelWrite h parcel) sound live = called-channel_write S p h parcel.bytes parcel.handles sound
 called-direct S p (call.ChannelRead h bytes handles discard) sound live = called-channel_read S p h bytes handles discard sound live
+called-direct S p call.PortCreate sound live = called-create S p kind.Port sound live
+called-direct S p (call.ObjectWaitAsync h port packet_key signals) sound live = called-object_wait_async S p h port packet_key signals.0
+called-direct S p (call.PortQueue port packet_key bytes) sound live = called-port_queue S p port packet_key bytes
+called-direct S p (call.PortWait port) sound live = called-port_wait S p port
+called-direct S p (call.PortCancel port source packet_key) sound live = called-port_cancel S p port source packet_key
+called-direct S p (call.JobCreate job) sound live = called-job_create S p job sound live
+called-direct S p (call.Spawn job argument) sound live = called-spawn S p job argument sound live
+called-direct S p (call.TaskKill h) sound live = called-task_kill S p h
+called-direct S p (call.ProcessExit code) sound live = called-process_exit S p code
 
 next-grown : (calls packets : ℕ) (on : Kind) (a b : ℕ) → NextBy calls packets on a → b ≤ a + growth 64 1 on → NextBy (calls + 1) (packets + 1) on b
 next-grown calls packets kind.Process a b h g = omega arith

@@ -3,12 +3,9 @@
 use Rattle.std.proofs.Common.{◌≡◌, ◌≤◌, ℕ, ◌+◌, Bool, true, false, inl, inr, refl, sym, ap, ◌∙◌, subst, arith}
 use Rattle.std.specs.Prelude.{Option, None, Some, Result, Ok, Err, ok_or, is_some, ⊤, ◌==◌, if◌then◌else◌}
 use Rattle.zt_bits.specs.declared.kinds.Kind.{Kind}
-use Rattle.zt_bits.specs.declared.kinds.Kind.TheVariants as kind
 use Rattle.zt_bits.specs.declared.statuses.Status.{Status}
 use Rattle.zt_bits.specs.declared.statuses.Status.TheVariants as status
 use Rattle.zt_bits.specs.Tables.{asked_rights, settable_signals}
-use Rattle.zt_rows.specs.declared.calls.Call.{Call}
-use Rattle.zt_rows.specs.declared.calls.Call.TheVariants as call
 use Rattle.zt_rows.specs.declared.calls.Reply.{Reply}
 use Rattle.zt_rows.specs.declared.rows.Held.{Held}
 use Rattle.zt_rows.specs.declared.rows.ObjectRow.{ObjectRow}
@@ -20,7 +17,6 @@ use Rattle.zt_rows.specs.Collect.{collect}
 use Rattle.zt_rows.specs.Settle.{settle}
 use Rattle.zt_rows.specs.Handles.{◌>>=◌, check, handle_else, done, answered, as_caller, caller, take_out, install, whole, fresh, next_koid, make, make_pair}
 use Rattle.zt_rows.specs.ObjectCalls.{create, create_pair, received, handle_close, handle_duplicate, handle_replace, may_set, object_signal, object_signal_peer}
-use Rattle.zt_rows.specs.Step.{direct, step}
 use Rattle.zt_rows.specs.Consistent.{SoundObject, IsSound, IsConsistent}
 use Rattle.zt_rows.proofs.RowLaws.{and_right}
 use Rattle.zt_rows.proofs.ReadLaws.{some_one, exists-some}
@@ -56,7 +52,7 @@ after_some P S (Some v) wrong f base next = next v refl
 after_some P S None wrong f base next = base
 
 -- the two results that one after another give are given by the first and the rest
-chained : {A B C : Type 0} (r : Result A Status) (f : A → Result B Status) (g : B → Result C Status) → ((r >>= f) >>= g) ≡ (r >>= (λ x. f x >>= g))
+pub chained : {A B C : Type 0} (r : Result A Status) (f : A → Result B Status) (g : B → Result C Status) → ((r >>= f) >>= g) ≡ (r >>= (λ x. f x >>= g))
 chained (Ok x) f g = refl
 chained (Err e) f g = refl
 

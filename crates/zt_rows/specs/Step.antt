@@ -11,6 +11,8 @@ use Rattle.zt_rows.specs.Collect.{collect}
 use Rattle.zt_rows.specs.Settle.{settle}
 use Rattle.zt_rows.specs.ObjectCalls.{event_create, eventpair_create, handle_close, handle_duplicate, handle_replace, object_signal, object_signal_peer}
 use Rattle.zt_rows.specs.ChannelCalls.{channel_create, channel_write, channel_read}
+use Rattle.zt_rows.specs.PortCalls.{port_create, object_wait_async, port_queue, port_wait, port_cancel}
+use Rattle.zt_rows.specs.JobCalls.{job_create, spawn, task_kill, process_exit}
 
 -- a call that there can be: what it sends is within a message
 abbrev pub IsCall : Call → Type 0
@@ -29,6 +31,15 @@ direct S p (call.ObjectSignalPeer h clear set) = object_signal_peer S p h clear.
 direct S p call.ChannelCreate = channel_create S p
 direct S p (call.ChannelWrite h parcel) = channel_write S p h parcel.bytes parcel.handles
 direct S p (call.ChannelRead h bytes handles discard) = channel_read S p h bytes handles discard
+direct S p call.PortCreate = port_create S p
+direct S p (call.ObjectWaitAsync h port packet_key signals) = object_wait_async S p h port packet_key signals.0
+direct S p (call.PortQueue port packet_key bytes) = port_queue S p port packet_key bytes
+direct S p (call.PortWait port) = port_wait S p port
+direct S p (call.PortCancel port source packet_key) = port_cancel S p port source packet_key
+direct S p (call.JobCreate job) = job_create S p job
+direct S p (call.Spawn job argument) = spawn S p job argument
+direct S p (call.TaskKill h) = task_kill S p h
+direct S p (call.ProcessExit code) = process_exit S p code
 
 -- the state after a call's direct change has been carried through, with its reply
 abbrev pub completed : State × Reply → State × Reply

@@ -61,7 +61,7 @@ impl Parcel {
     pub fn limits(&self)
         ensures { IsWithinMessage self.now.bytes self.now.handles }
     {
-        let _bytes = &self.bytes;
+        let _ = &self.bytes;
     }
 
     /// An equal parcel in memory of its own.
@@ -116,6 +116,45 @@ pub enum Call {
         handles: u32,
         discard: bool,
     },
+    PortCreate,
+    /// When one of the signals stands on what the handle names, a packet under this key comes to the port.
+    ObjectWaitAsync {
+        handle: HandleValue,
+        port: HandleValue,
+        key: u64,
+        signals: Signals,
+    },
+    PortQueue {
+        port: HandleValue,
+        key: u64,
+        bytes: [u8; 32],
+    },
+    /// The deadline has always passed: a port with no packet answers at once.
+    PortWait {
+        port: HandleValue,
+    },
+    /// The caller's waits on the handle `source` under this key leave the port, and so do their packets.
+    PortCancel {
+        port: HandleValue,
+        source: HandleValue,
+        key: u64,
+    },
+    JobCreate {
+        job: HandleValue,
+    },
+    /// A process under the job, which receives the handle `argument`, or none where that is 0.
+    Spawn {
+        job: HandleValue,
+        argument: HandleValue,
+    },
+    /// The process or job ends, and with a job all that is under it.
+    TaskKill {
+        handle: HandleValue,
+    },
+    /// The caller ends with this code.
+    ProcessExit {
+        code: i64,
+    },
 }
 
 impl Call {
@@ -132,19 +171,53 @@ impl Call {
     pub fn copy(&self) -> Result<Call, AllocError>
         ensures { IfOk result (λ copied. copied ≡ self.now) }
     {
-        Ok(match self {
+        Ok(match *self {
             Call::EventCreate => Call::EventCreate,
             Call::EventPairCreate => Call::EventPairCreate,
-            Call::HandleClose { handle } => Call::HandleClose { handle: *handle },
-            Call::HandleDuplicate { handle, rights } => Call::HandleDuplicate { handle: *handle, rights: *rights },
-            Call::HandleReplace { handle, rights } => Call::HandleReplace { handle: *handle, rights: *rights },
-            Call::ObjectSignal { handle, clear, set } => Call::ObjectSignal { handle: *handle, clear: *clear, set: *set },
-            Call::ObjectSignalPeer { handle, clear, set } => Call::ObjectSignalPeer { handle: *handle, clear: *clear, set: *set },
+            Call::HandleClose { handle } => Call::HandleClose { handle },
+            Call::HandleDuplicate { handle, rights } => Call::HandleDuplicate { handle, rights },
+            Call::HandleReplace { handle, rights } => Call::HandleReplace { handle, rights },
+            Call::ObjectSignal { handle, clear, set } => Call::ObjectSignal { handle, clear, set },
+            Call::ObjectSignalPeer { handle, clear, set } => Call::ObjectSignalPeer {
+                handle,
+                clear,
+                set,
+            },
             Call::ChannelCreate => Call::ChannelCreate,
-            Call::ChannelWrite { handle, parcel } => Call::ChannelWrite { handle: *handle, parcel: parcel.copy()? },
-            Call::ChannelRead { handle, bytes, handles, discard } => {
-                Call::ChannelRead { handle: *handle, bytes: *bytes, handles: *handles, discard: *discard }
+            Call::ChannelWrite { handle, ref parcel } => {
+                let parcel = parcel.copy()?;
+                Call::ChannelWrite { handle, parcel }
             }
+            Call::ChannelRead {
+                handle,
+                bytes,
+                handles,
+                discard,
+            } => Call::ChannelRead {
+                handle,
+                bytes,
+                handles,
+                discard,
+            },
+            Call::PortCreate => Call::PortCreate,
+            Call::ObjectWaitAsync {
+                handle,
+                port,
+                key,
+                signals,
+            } => Call::ObjectWaitAsync {
+                handle,
+                port,
+                key,
+                signals,
+            },
+            Call::PortQueue { port, key, bytes } => Call::PortQueue { port, key, bytes },
+            Call::PortWait { port } => Call::PortWait { port },
+            Call::PortCancel { port, source, key } => Call::PortCancel { port, source, key },
+            Call::JobCreate { job } => Call::JobCreate { job },
+            Call::Spawn { job, argument } => Call::Spawn { job, argument },
+            Call::TaskKill { handle } => Call::TaskKill { handle },
+            Call::ProcessExit { code } => Call::ProcessExit { code },
         })
     }
 }
