@@ -1,16 +1,17 @@
 -- Bytes in digits: what the digits of a line decode to, and how many bytes they are.
-use Rattle.std.proofs.Common.{◌≡◌, ℕ, ◌+◌, ◌*◌, ◌/◌, ◌%◌, ◌≤◌, ◌⊎◌, inl, inr, true, false, List, [], ◌∷◌, length, Ok, Err, Result, Some, refl, ap, ◌∙◌, arith}
+use Rattle.std.proofs.Common.{◌≡◌, ℕ, ◌+◌, ◌*◌, ◌/◌, ◌%◌, ◌≤◌, ◌⊎◌, inl, inr, true, false, List, [], ◌∷◌, length, Ok, Err, Result, Some, None, refl, sym, ap, ◌∙◌, arith}
 use Rattle.std.specs.Prelude.{◌==◌, ◌&&◌, nat_le}
 use Rattle.std.specs.Char.{digit_value}
+use Rattle.std.specs.Result.{result_ok}
 use Rattle.std.specs.List.{list_all}
-use Rattle.std.proofs.lemmas.Bool.{and_parts, eqb-true}
+use Rattle.std.proofs.lemmas.Bool.{and_parts, eqb-true, eq-eqb}
 use Rattle.std.proofs.lemmas.Bool.Decides.{nat_tests}
-use Rattle.hex.specs.Hex.{decode_of, decode_pairs, pair_value, hex_digit_value, encode_lower, encode_with}
+use Rattle.hex.specs.Hex.{decode_of, decode_sized, decode_pairs, pair_value, hex_digit_value, encode_lower, encode_with}
 use Rattle.hex.specs.declared.error.FromHexError.{FromHexError}
 use Rattle.hex.proofs.Pairs.{decode_pairs-ok_pair, cons_byte}
-use Rattle.hex.proofs.HexLemmas.{decode_of-even}
+use Rattle.hex.proofs.HexLemmas.{decode_of-even, decode_sized-twice, decode_sized-ok}
 use Rattle.zt_text.specs.Numbers.{is_hex_digit}
-use Rattle.zt_text.specs.Bytes.{hex_digit, hex_text, hex_bytes, is_digits}
+use Rattle.zt_text.specs.Bytes.{hex_digit, hex_text, hex_bytes, is_digits, packet_bytes_of}
 use Rattle.zt_text.specs.Shown.{shown_bytes}
 
 -- the kit's value of a digit
@@ -78,3 +79,28 @@ encoded (byte ∷ bytes) = ap (λ digits. hex_digit (byte / 16) ∷ hex_digit (b
 pub shown_bytes-some : (bytes : List ℕ) → (length bytes == 0) ≡ false → encode_lower bytes ≡ shown_bytes bytes
 shown_bytes-some [] some = cc some
 shown_bytes-some (byte ∷ bytes) some = encoded (byte ∷ bytes)
+
+-- what is not 64 digits long is not read
+sized : (s : List ℕ) (r : Result (List ℕ) FromHexError) → decode_sized s 32 ≡ r → (length s ≡ 64 → ⊥) → result_ok r ≡ None
+sized s (Ok bytes) e other = absurd (other (decode_sized-ok s 32 bytes e))
+sized s (Err error) e other = refl
+
+-- what are not digits is not read
+pub packet_unread : (s : List ℕ) → list_all is_hex_digit s ≡ false → None ≡ packet_bytes_of s
+unfolding packet_bytes_of
+packet_unread s bad = rw bad refl
+
+-- what the kit reads of a packet's digits
+pub packet_read : (s : List ℕ) → list_all is_hex_digit s ≡ true → result_ok (decode_sized s 32) ≡ packet_bytes_of s
+unfolding packet_bytes_of
+packet_read s all =
+    elim (length s == 64) as (λ b. (length s == 64) ≡ b → result_ok (decode_sized s 32) ≡ packet_bytes_of s) [
+      | true ↦ λ e.
+          let len : length s ≡ 64 = eqb-true (length s) 64 e in
+          let even : length s % 2 ≡ 0 = omega arith in
+          let read : decode_sized s 32 ≡ Ok (hex_bytes s) = decode_sized-twice s 32 len ∙ decode_of-even s even ∙ pairs 0 s even all in
+          rw (read, all, e) refl
+      | false ↦ λ e.
+          let none : packet_bytes_of s ≡ None = rw (all, e) refl in
+          sized s (decode_sized s 32) refl (λ len. let same = eq-eqb (length s) 64 len in cc) ∙ sym none
+    ] refl

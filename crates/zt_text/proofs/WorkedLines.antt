@@ -14,17 +14,17 @@ use Rattle.zt_rows.specs.declared.keys.RowKey.TheVariants as key
 use Rattle.zt_rows.specs.declared.rows.Row.TheVariants as rows
 use Rattle.zt_rows.specs.declared.rows.Life.TheVariants.{Live}
 use Rattle.zt_text.specs.Numbers.{decimal_of, mask_of}
-use Rattle.zt_text.specs.Bytes.{hex_bytes, bytes_of}
+use Rattle.zt_text.specs.Bytes.{hex_bytes, bytes_of, packet_bytes_of}
 use Rattle.zt_text.specs.Lists.{listed, handles_of}
 use Rattle.zt_text.specs.Fields.{placed, field, flag, ended}
-use Rattle.zt_text.specs.Reading.{event_create, eventpair_create, handle_close, handle_duplicate, handle_replace, object_signal, object_signal_peer, channel_create, channel_write, channel_read, channel_call_named, handle_call_named, call_named, any_call_named, call, back, show, command_named, command, read_as}
+use Rattle.zt_text.specs.Reading.{event_create, eventpair_create, handle_close, handle_duplicate, handle_replace, object_signal, object_signal_peer, channel_create, channel_write, channel_read, port_create, object_wait_async, port_queue, port_wait, port_cancel, port_call_named, channel_call_named, handle_call_named, call_named, any_call_named, call, back, show, command_named, command, read_as}
 use Rattle.zt_text.specs.Shown.{hexadecimal}
 use Rattle.zt_text.specs.Answers.{shown_reply, shown_key, shown_object, shown_row, shown_answer, shown_refusal}
 use Rattle.zt_text.specs.Lines.{lines_of}
 
 -- what is unfolded to read a line
 unfoldable read_on_literals : ⊤
-unfolding decimal_of mask_of hex_bytes bytes_of listed handles_of placed field flag ended event_create eventpair_create handle_close handle_duplicate handle_replace object_signal object_signal_peer channel_create channel_write channel_read channel_call_named handle_call_named call_named any_call_named call back show command_named command read_as
+unfolding decimal_of mask_of hex_bytes bytes_of packet_bytes_of listed handles_of placed field flag ended event_create eventpair_create handle_close handle_duplicate handle_replace object_signal object_signal_peer channel_create channel_write channel_read port_create object_wait_async port_queue port_wait port_cancel port_call_named channel_call_named handle_call_named call_named any_call_named call back show command_named command read_as
 read_on_literals = tt
 
 reads_event : read_as (codes "1025 event_create") ≡ Ok (Some (commands.Call 1025 calls.EventCreate))
@@ -119,6 +119,31 @@ record ListsAtTheirEnds : Type 0 where
 lists_at_their_ends : ListsAtTheirEnds
 unfolding decimal_of listed handles_of
 lists_at_their_ends = record { longest = refl; too_long = refl }
+
+record PortCalls : Type 0 where
+  create : read_as (codes "1025 port_create") ≡ Ok (Some (commands.Call 1025 calls.PortCreate))
+  wait_async : read_as (codes "1025 object_wait_async 7 11 18446744073709551615 0x00000008") ≡ Ok (Some (commands.Call 1025 (calls.ObjectWaitAsync 7 11 18446744073709551615 (record { 0 = 8 }))))
+  queue : read_as (codes "1025 port_queue 11 1 00000000000000000000000000000000000000000000000000000000000000ff") ≡ Ok (Some (commands.Call 1025 (calls.PortQueue 11 1 (replicate 31 0 ++ 255 ∷ []))))
+  wait : read_as (codes "1025 port_wait 11") ≡ Ok (Some (commands.Call 1025 (calls.PortWait 11)))
+  cancel : read_as (codes "1025 port_cancel 11 7 9") ≡ Ok (Some (commands.Call 1025 (calls.PortCancel 11 7 9)))
+  no_bytes : read_as (codes "1025 port_queue 11 1 -") ≡ Err (BadLine 22)
+  few_digits : read_as (codes "1025 port_queue 11 1 000000000000000000000000000000000000000000000000000000000000ff") ≡ Err (BadLine 22)
+  upper : read_as (codes "1025 port_queue 11 1 00000000000000000000000000000000000000000000000000000000000000Ff") ≡ Err (BadLine 22)
+  wide_key : read_as (codes "1025 port_cancel 11 7 18446744073709551616") ≡ Err (BadLine 23)
+
+reads_port_calls : PortCalls
+unfolding read_on_literals
+reads_port_calls = record {
+  create = refl;
+  wait_async = refl;
+  queue = refl;
+  wait = refl;
+  cancel = refl;
+  no_bytes = refl;
+  few_digits = refl;
+  upper = refl;
+  wide_key = refl;
+}
 
 -- numbers at their ends
 record Ends : Type 0 where

@@ -29,3 +29,8 @@ unfoldable pub bytes_of : List ℕ → Option (List ℕ)
 bytes_of field =
     if bytes_eq field (codes "-") then Some []
     else (if nat_lt 0 (length field) && is_digits field then Some (hex_bytes field) else None)
+
+-- the bytes that a field writes for a packet: 32 of them
+unfoldable pub packet_bytes_of : List ℕ → Option (List ℕ)
+packet_bytes_of field =
+    if list_all is_hex_digit field && length field == 64 then Some (hex_bytes field) else None

@@ -31,9 +31,12 @@ is_mask field = length field == 10 && starts_with nat_eq field (codes "0x") && l
 unfoldable pub mask_of : List ℕ → Option ℕ
 mask_of field = if is_mask field then Some (digits_value 16 (drop 2 field)) else None
 
--- the numbers of processes, of handles, of bytes or handles to be read, and of steps back
+-- the numbers of processes, the keys of packets, the numbers of handles, of bytes or handles to be read, and of steps back
 abbrev pub process_of : List ℕ → Option ℕ
 process_of = decimal_of (2 ^ 64 - 1)
+
+abbrev pub key_of : List ℕ → Option ℕ
+key_of = decimal_of (2 ^ 64 - 1)
 
 abbrev pub handle_of : List ℕ → Option ℕ
 handle_of = decimal_of (2 ^ 32 - 1)

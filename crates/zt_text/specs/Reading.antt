@@ -7,8 +7,8 @@ use Rattle.zt_rows.specs.declared.calls.Call.{Call}
 use Rattle.zt_rows.specs.declared.calls.Call.TheVariants as calls
 use Rattle.zt_rows.specs.declared.calls.Command.{Command}
 use Rattle.zt_rows.specs.declared.calls.Command.TheVariants as commands
-use Rattle.zt_text.specs.Numbers.{process_of, handle_of, amount_of, mask_of, signals_of, count_of}
-use Rattle.zt_text.specs.Bytes.{bytes_of}
+use Rattle.zt_text.specs.Numbers.{process_of, key_of, handle_of, amount_of, mask_of, signals_of, count_of}
+use Rattle.zt_text.specs.Bytes.{bytes_of, packet_bytes_of}
 use Rattle.zt_text.specs.Lists.{handles_of}
 use Rattle.zt_text.specs.Fields.{Placed, Unread, unread, ◌>>=◌, next, field, ended, flag}
 
@@ -80,12 +80,58 @@ channel_read left = do
   discard ← flag (codes "discard") handles.1
   Ok (calls.ChannelRead handle.0 bytes.0 handles.0 discard)
 
+unfoldable pub port_create : Unread → Result Call Refusal
+port_create left = do
+  _ ← ended left
+  Ok calls.PortCreate
+
+unfoldable pub object_wait_async : Unread → Result Call Refusal
+object_wait_async left = do
+  handle ← field handle_of left
+  port ← field handle_of handle.1
+  key ← field key_of port.1
+  signals ← field signals_of key.1
+  _ ← ended signals.1
+  Ok (calls.ObjectWaitAsync handle.0 port.0 key.0 signals.0)
+
+unfoldable pub port_queue : Unread → Result Call Refusal
+port_queue left = do
+  port ← field handle_of left
+  key ← field key_of port.1
+  bytes ← field packet_bytes_of key.1
+  _ ← ended bytes.1
+  Ok (calls.PortQueue port.0 key.0 bytes.0)
+
+unfoldable pub port_wait : Unread → Result Call Refusal
+port_wait left = do
+  port ← field handle_of left
+  _ ← ended port.1
+  Ok (calls.PortWait port.0)
+
+unfoldable pub port_cancel : Unread → Result Call Refusal
+port_cancel left = do
+  port ← field handle_of left
+  source ← field handle_of port.1
+  key ← field key_of source.1
+  _ ← ended key.1
+  Ok (calls.PortCancel port.0 source.0 key.0)
+
+-- the call of this name, of those on ports
+unfoldable pub port_call_named : Placed → Unread → Result Call Refusal
+port_call_named name left =
+    if bytes_eq name.bytes (codes "port_create") then port_create left
+    else (if bytes_eq name.bytes (codes "object_wait_async") then object_wait_async left
+    else (if bytes_eq name.bytes (codes "port_queue") then port_queue left
+    else (if bytes_eq name.bytes (codes "port_wait") then port_wait left
+    else (if bytes_eq name.bytes (codes "port_cancel") then port_cancel left
+    else Err (BadLine name.column)))))
+
 -- the call of this name, of those on channels that carry no parcel
 unfoldable pub channel_call_named : Placed → Unread → Result Call Refusal
 channel_call_named name left =
     if bytes_eq name.bytes (codes "channel_create") then channel_create left
     else (if bytes_eq name.bytes (codes "channel_read") then channel_read left
-    else Err (BadLine name.column))
+    else port_call_named name left)
 
 -- the call of this name, of those on handles
 unfoldable pub handle_call_named : Placed → Unread → Result Call Refusal

@@ -1,11 +1,11 @@
 ghost use Rattle.std.specs.Prelude.{◌≡◌, ◌≤◌, length, IfOk, IfErr};
 ghost use Rattle.std.specs.List.{list_all};
 ghost use Rattle.zt_text.specs.Numbers.{is_hex_digit};
-ghost use Rattle.zt_text.specs.Bytes.{is_digits, bytes_of};
+ghost use Rattle.zt_text.specs.Bytes.{is_digits, bytes_of, packet_bytes_of};
 ghost use Rattle.zt_rows.specs.declared.refusals.Refusal.TheVariants.{OutOfMemory};
 
 use crate::numbers::is_hex_digit;
-use hex::FromHexError;
+use hex::{FromHex, FromHexError};
 use std::alloc::Global;
 use std::marker::Model;
 use zt_rows::Refusal;
@@ -61,6 +61,16 @@ impl<'a> Digits<'a> {
             },
         }
     }
+}
+
+/// The bytes of a packet that a field writes in 64 digits.
+pub fn packet_bytes(field: &[u8]) -> Option<[u8; 32]>
+    ensures { result ≡ packet_bytes_of field.now }
+{
+    if !is_hexadecimal(field) {
+        return None;
+    }
+    <[u8; 32] as FromHex>::from_hex(field).ok()
 }
 
 /// Whether these are pairs of digits, for no more bytes than a message takes.

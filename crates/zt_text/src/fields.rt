@@ -1,11 +1,11 @@
 ghost use Rattle.std.specs.Prelude.{◌≡◌};
-ghost use Rattle.zt_text.specs.Numbers.{handle_of, amount_of, mask_of, signals_of, count_of};
-ghost use Rattle.zt_text.specs.Bytes.{bytes_of};
+ghost use Rattle.zt_text.specs.Numbers.{handle_of, amount_of, key_of, mask_of, signals_of, count_of};
+ghost use Rattle.zt_text.specs.Bytes.{bytes_of, packet_bytes_of};
 ghost use Rattle.zt_text.specs.Lists.{handles_of};
 ghost use Rattle.zt_text.specs.Fields.{unread, next, field, ended, flag};
 ghost use Rattle.std.specs.Str.{bytes_eq};
 
-use crate::bytes::Digits;
+use crate::bytes::{Digits, packet_bytes};
 use crate::cutting::cut;
 use crate::lists::HandleList;
 use crate::numbers::{decimal, mask};
@@ -107,6 +107,18 @@ impl<'a> Fields<'a> {
         }
     }
 
+    /// The key of a packet that the next field writes.
+    #[tactic(auto, unfolding(crate::specs::Fields::field))]
+    pub fn key(self) -> Result<(u64, Fields<'a>), Refusal>
+        ensures { result ≡ field key_of self.entry }
+    {
+        let (field, rest) = self.next()?;
+        match decimal(field.bytes(), u64::MAX) {
+            Some(key) => Ok((key, rest)),
+            None => Err(field.fault()),
+        }
+    }
+
     /// The bits of the mask that the next field writes.
     #[tactic(auto, unfolding(crate::specs::Fields::field))]
     pub fn mask(self) -> Result<(u32, Fields<'a>), Refusal>
@@ -160,6 +172,18 @@ impl<'a> Fields<'a> {
         let (field, rest) = self.next()?;
         match Digits::of(field.bytes()) {
             Some(digits) => Ok((digits, rest)),
+            None => Err(field.fault()),
+        }
+    }
+
+    /// The bytes of a packet that the next field writes.
+    #[tactic(auto, unfolding(crate::specs::Fields::field))]
+    pub fn packet_bytes(self) -> Result<([u8; 32], Fields<'a>), Refusal>
+        ensures { result ≡ field packet_bytes_of self.entry }
+    {
+        let (field, rest) = self.next()?;
+        match packet_bytes(field.bytes()) {
+            Some(bytes) => Ok((bytes, rest)),
             None => Err(field.fault()),
         }
     }

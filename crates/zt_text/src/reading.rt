@@ -1,5 +1,5 @@
 ghost use Rattle.std.specs.Prelude.{◌≡◌, IfOk, IfErr};
-ghost use Rattle.zt_text.specs.Reading.{IsUnread, has_parcel, command_has_parcel, line_has_parcel, read_as, command, command_named, back, show, call, any_call_named, call_named, handle_call_named, channel_call_named, channel_create, channel_write, channel_read, event_create, eventpair_create, handle_close, handle_duplicate, handle_replace, object_signal, object_signal_peer};
+ghost use Rattle.zt_text.specs.Reading.{IsUnread, has_parcel, command_has_parcel, line_has_parcel, read_as, command, command_named, back, show, call, any_call_named, call_named, handle_call_named, channel_call_named, channel_create, channel_write, channel_read, port_call_named, port_create, object_wait_async, port_queue, port_wait, port_cancel, event_create, eventpair_create, handle_close, handle_duplicate, handle_replace, object_signal, object_signal_peer};
 
 use crate::fields::{Field, Fields};
 use crate::numbers::decimal;
@@ -131,8 +131,84 @@ fn channel_call_named(name: &Field<'_>, rest: Fields<'_>) -> Result<Call, Refusa
     } else if name.is("channel_read") {
         channel_read(rest)
     } else {
+        port_call_named(name, rest)
+    }
+}
+
+/// The call of this name, of those on ports, with the arguments behind it.
+#[tactic(auto, unfolding(crate::specs::Reading::port_call_named))]
+fn port_call_named(name: &Field<'_>, rest: Fields<'_>) -> Result<Call, Refusal>
+    ensures { result ≡ port_call_named name.now rest.entry }
+{
+    if name.is("port_create") {
+        port_create(rest)
+    } else if name.is("object_wait_async") {
+        object_wait_async(rest)
+    } else if name.is("port_queue") {
+        port_queue(rest)
+    } else if name.is("port_wait") {
+        port_wait(rest)
+    } else if name.is("port_cancel") {
+        port_cancel(rest)
+    } else {
         Err(name.fault())
     }
+}
+
+#[tactic(auto, unfolding(crate::specs::Reading::port_create))]
+fn port_create(fields: Fields<'_>) -> Result<Call, Refusal>
+    ensures { result ≡ port_create fields.entry }
+{
+    fields.end()?;
+    Ok(Call::PortCreate)
+}
+
+#[tactic(auto, unfolding(crate::specs::Reading::object_wait_async))]
+fn object_wait_async(fields: Fields<'_>) -> Result<Call, Refusal>
+    ensures { result ≡ object_wait_async fields.entry }
+{
+    let (handle, rest) = fields.handle()?;
+    let (port, rest) = rest.handle()?;
+    let (key, rest) = rest.key()?;
+    let (signals, rest) = rest.signals()?;
+    rest.end()?;
+    Ok(Call::ObjectWaitAsync {
+        handle,
+        port,
+        key,
+        signals,
+    })
+}
+
+#[tactic(auto, unfolding(crate::specs::Reading::port_queue))]
+fn port_queue(fields: Fields<'_>) -> Result<Call, Refusal>
+    ensures { result ≡ port_queue fields.entry }
+{
+    let (port, rest) = fields.handle()?;
+    let (key, rest) = rest.key()?;
+    let (bytes, rest) = rest.packet_bytes()?;
+    rest.end()?;
+    Ok(Call::PortQueue { port, key, bytes })
+}
+
+#[tactic(auto, unfolding(crate::specs::Reading::port_wait))]
+fn port_wait(fields: Fields<'_>) -> Result<Call, Refusal>
+    ensures { result ≡ port_wait fields.entry }
+{
+    let (port, rest) = fields.handle()?;
+    rest.end()?;
+    Ok(Call::PortWait { port })
+}
+
+#[tactic(auto, unfolding(crate::specs::Reading::port_cancel))]
+fn port_cancel(fields: Fields<'_>) -> Result<Call, Refusal>
+    ensures { result ≡ port_cancel fields.entry }
+{
+    let (port, rest) = fields.handle()?;
+    let (source, rest) = rest.handle()?;
+    let (key, rest) = rest.key()?;
+    rest.end()?;
+    Ok(Call::PortCancel { port, source, key })
 }
 
 #[tactic(auto, unfolding(crate::specs::Reading::channel_create))]
