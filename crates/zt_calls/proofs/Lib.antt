@@ -1,7 +1,6 @@
 pub mod GoingOn
 pub mod CallerLaws
 pub mod RoomLaws
-pub mod WalkLaws
 pub mod LosingLaws
 pub mod TakingLaws
 pub mod CallLaws

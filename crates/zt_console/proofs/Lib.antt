@@ -1,9 +1,3 @@
-pub mod NumberLemmas
-pub mod CutLemmas
-pub mod FieldLemmas
-pub mod ShownLemmas
-mod WorkedLines
-mod WorkedAnswers
 pub mod BranchLaws
 pub mod KeyLaws
 pub mod SessionLaws

@@ -10,10 +10,10 @@ use Rattle.zt_rows.specs.declared.calls.Answer.{Answer}
 use Rattle.zt_rows.specs.declared.calls.Command.{Command}
 use Rattle.zt_rows.specs.declared.refusals.Refusal.{Refusal}
 use Rattle.zt_rows.specs.declared.refusals.Refusal.TheVariants as refusal
-use Rattle.zt_console.specs.Answers.{shown_answer, shown_refusal}
+use Rattle.zt_text.specs.Answers.{shown_answer, shown_refusal}
 use Rattle.zt_console.specs.Counting.{faults_after}
-use Rattle.zt_console.specs.Lines.{lines_of}
-use Rattle.zt_console.specs.Reading.{read_as}
+use Rattle.zt_text.specs.Lines.{lines_of}
+use Rattle.zt_text.specs.Reading.{read_as, IsUnread, line_has_parcel}
 use Rattle.zt_console.specs.Session.{Session, serve, IsRefused}
 use Rattle.zt_console.specs.Talk.{Gets, IsServed, Answers, Talk, Spoken, IsWritten, has_no_feed, Fed, HasRead, HasTalked, most_reads}
 
@@ -119,8 +119,11 @@ served_err M N asked given text h n t =
       | inr e ↦ inr (t ∙ ap shown_refusal e, n)
     ]
 
-pub answers_err : (M N : Session) (line text : List ℕ) (reason : Refusal) → read_as line ≡ Err reason → N ≡ M → text ≡ shown_refusal reason → Answers M (read_as line) text N
-answers_err M N line text reason e n t = subst (λ r. Answers M r text N) (sym e) (t, n)
+-- a line that is not read gets its refusal, also where memory for its parcel was refused
+pub answers_unread : (M : Session) (read : Result (Option Command) Refusal) (text : List ℕ) (reason : Refusal) → IsUnread line_has_parcel read reason → text ≡ shown_refusal reason → Answers M read text M
+answers_unread M (Err fault) text reason same t = (t ∙ ap shown_refusal same, refl)
+answers_unread M (Ok None) text reason (takes, _) t = cc takes
+answers_unread M (Ok (Some asked)) text reason (_, memory) t = inr (t ∙ ap shown_refusal memory, refl)
 
 -- a text that is printed, or where memory for it was refused the same text all the same
 pub printed : {A E : Type 0} (shown : A → List ℕ) (P : List ℕ → Type 0) (want : List ℕ) (r : Result A E) → IfOk r (λ t. shown t ≡ want) → ((text : List ℕ) → text ≡ want → P text)

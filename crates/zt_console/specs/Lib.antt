@@ -1,11 +1,4 @@
-pub mod Numbers
-pub mod Fields
-pub mod Cut
-pub mod Reading
 pub mod Counting
-pub mod Shown
-pub mod Answers
-pub mod Lines
 pub mod Branch
 pub mod Cursors
 pub mod Session

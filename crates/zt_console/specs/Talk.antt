@@ -9,9 +9,9 @@ use Rattle.zt_rows.specs.declared.refusals.Refusal.{Refusal}
 use Rattle.zt_rows.specs.declared.refusals.Refusal.TheVariants as refusal
 use Rattle.zt_console.specs.declared.running.End.{End}
 use Rattle.zt_console.specs.declared.running.End.TheVariants.{Finished, Stopped}
-use Rattle.zt_console.specs.Answers.{shown_answer, shown_refusal}
-use Rattle.zt_console.specs.Lines.{lines_of}
-use Rattle.zt_console.specs.Reading.{read_as}
+use Rattle.zt_text.specs.Answers.{shown_answer, shown_refusal}
+use Rattle.zt_text.specs.Lines.{lines_of}
+use Rattle.zt_text.specs.Reading.{read_as}
 use Rattle.zt_console.specs.Session.{Session, serve}
 
 -- ---- one line

@@ -3,11 +3,7 @@
 
 mod books;
 mod counted;
-mod fields;
 mod histories;
-mod numbers;
-mod printing;
-mod reading;
 mod running;
 
 pub use books::Book;

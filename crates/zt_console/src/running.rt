@@ -1,16 +1,15 @@
 ghost use Rattle.std.specs.Prelude.{◌≡◌, ◌<◌, ◌≤◌, ◌-◌, ◌^◌, ◌∷◌, [], ◌++◌, List, ℕ, true, length, is_ok, OnOk, MatchResult};
 ghost use Rattle.std.specs.Io.KnownBytes.{IsAtEnd};
-ghost use Rattle.zt_console.specs.Lines.{lines_of};
-ghost use Rattle.zt_console.specs.Reading.{read_as};
+ghost use Rattle.zt_text.specs.Lines.{lines_of};
+ghost use Rattle.zt_text.specs.Reading.{read_as};
 ghost use Rattle.zt_console.specs.Talk.{Answers, IsServed, IsWritten, Spoken, Fed, has_no_feed, IsCounted, HasTalked, IsCause, outcome};
 
 use crate::books::Book;
 use crate::counted::Counted;
-use crate::printing::{print_answer, print_refusal};
-use crate::reading::read_line;
 use std::alloc::{AllocError, Global};
 use std::io::{Read, Write};
 use zt_rows::{Command, Refusal};
+use zt_text::{print_answer, print_refusal, read_line};
 
 /// The most reads of one run.
 const READS: u64 = 1_099_511_627_776;
@@ -178,7 +177,7 @@ fn text_for(alloc: Global, book: &mut Book, line: &[u8]) -> Result<Vec<u8>, Allo
         (λ _. (text : List ℕ) × Answers book.old (read_as line.now) text book.new) }
     ensures clients { length book.new.cursors ≡ length book.old.cursors }
 {
-    match read_line(line) {
+    match read_line(alloc, line) {
         Ok(None) => Ok(Vec::new(alloc)),
         Ok(Some(command)) => text_served(alloc, book, &command),
         Err(refusal) => print_refusal(alloc, refusal),

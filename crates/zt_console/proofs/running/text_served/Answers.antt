@@ -1,5 +1,5 @@
 -- The answer's or the refusal's text, or where memory for it was refused that text all the same.
-use Rattle.zt_console.specs.Answers.{shown_answer, shown_refusal}
+use Rattle.zt_text.specs.Answers.{shown_answer, shown_refusal}
 use Rattle.zt_console.specs.Talk.{IsServed}
 use Rattle.zt_console.proofs.TalkLaws.{served_ok, served_err, printed}
 use Rattle.zt_console.proofs.running.text_served.Goals as goal

@@ -1,0 +1,42 @@
+-- What a field of a form reads as, by what the next field is.
+use Rattle.std.proofs.Common.{◌≡◌, ℕ, List, [], ◌∷◌, Option, Some, None, Ok, Err, refl, ap, sym, ◌∙◌, subst, ◌+◌, ◌-◌, ◌≤◌, length, arith}
+use Rattle.zt_rows.specs.declared.refusals.Refusal.{Refusal}
+use Rattle.zt_rows.specs.declared.refusals.Refusal.TheVariants.{BadLine}
+use denote.Ref.{Bor}
+use Rattle.zt_text.specs.Fields.{Placed, Unread, placed, next, first_of, none_of, ended}
+use Rattle.zt_text.specs.Cut.{unread_of, IsCut}
+
+surplus : (fields : List Placed) (behind : ℕ) (x : Placed × Unread) → Ok x ≡ first_of fields behind → Err (BadLine x.0.column) ≡ none_of fields
+surplus [] behind x h = cc
+surplus (f ∷ fs) behind x h = let same : x ≡ (f, record { fields = fs; behind = behind }) = cc in rw same refl
+
+-- a next field is a surplus one
+pub ended_surplus : (left : Unread) (x : Placed × Unread) → Ok x ≡ next left → Err (BadLine x.0.column) ≡ ended left
+unfolding ended
+ended_surplus left x h = surplus left.fields left.behind x h
+
+nothing : (fields : List Placed) (behind : ℕ) (e : Refusal) → Err e ≡ first_of fields behind → Ok tt ≡ none_of fields
+nothing [] behind e h = refl
+nothing (f ∷ fs) behind e h = cc
+
+-- where there is none, every field is read
+pub ended_none : (left : Unread) (e : Refusal) → Err e ≡ next left → Ok tt ≡ ended left
+unfolding ended
+ended_none left e h = nothing left.fields left.behind e h
+
+-- the next field is what is cut off in front of the first space
+pub next_cut : (view : Unread) (left : Option (Bor (List ℕ))) (l : Bor (List ℕ)) (n : ℕ) (first : List ℕ) (rest : Option (Bor (List ℕ))) → left ≡ Some l → unread_of left n ≡ view → length l.now ≤ n → IsCut 32 l.now first rest → Ok (record { column = n - length l.now + 1; bytes = first }, unread_of rest n) ≡ next view
+unfolding placed
+next_cut view left l n first None is seen low (fields, same) =
+    let at : unread_of (Some l) n ≡ view = ap (λ o. unread_of o n) (sym is) ∙ seen in
+    subst (λ v. Ok (record { column = n - length l.now + 1; bytes = first }, unread_of None n) ≡ next v) at (rw fields refl)
+next_cut view left l n first (Some r) is seen low (fields, lengths) =
+    let at : unread_of (Some l) n ≡ view = ap (λ o. unread_of o n) (sym is) ∙ seen in
+    let column : n - length r.now + 1 ≡ n - length l.now + 1 + length first + 1 = omega arith in
+    subst (λ v. Ok (record { column = n - length l.now + 1; bytes = first }, unread_of (Some r) n) ≡ next v) at (rw (fields, column) refl)
+
+-- where nothing is left, the next field is missing
+pub next_missing : (view : Unread) (left : Option (Bor (List ℕ))) (n : ℕ) → left ≡ None → unread_of left n ≡ view → Err (BadLine (n + 1)) ≡ next view
+next_missing view left n is seen =
+    let at : unread_of None n ≡ view = ap (λ o. unread_of o n) (sym is) ∙ seen in
+    subst (λ v. Err (BadLine (n + 1)) ≡ next v) at refl

@@ -1,0 +1,218 @@
+-- Lines that were read and shown by hand, as theorems.
+use Rattle.std.proofs.Common.{◌≡◌, ℕ, [], ◌∷◌, ◌++◌, Some, None, Ok, Err, refl}
+use Rattle.std.specs.Prelude.{codes, ⊤, true, false, replicate}
+use Rattle.std.specs.List.{flat_map}
+use Rattle.std.specs.Fmt.{digits}
+use Rattle.zt_bits.specs.declared.kinds.Kind.TheVariants.{Job}
+use Rattle.zt_bits.specs.declared.statuses.Status.TheVariants.{BadHandle}
+use Rattle.zt_rows.specs.declared.refusals.Refusal.TheVariants.{BadLine, NoProcess}
+use Rattle.zt_rows.specs.declared.calls.Call.TheVariants as calls
+use Rattle.zt_rows.specs.declared.calls.Command.TheVariants as commands
+use Rattle.zt_rows.specs.declared.calls.Reply.TheVariants as reply
+use Rattle.zt_rows.specs.declared.calls.Answer.TheVariants as answer
+use Rattle.zt_rows.specs.declared.keys.RowKey.TheVariants as key
+use Rattle.zt_rows.specs.declared.rows.Row.TheVariants as rows
+use Rattle.zt_rows.specs.declared.rows.Life.TheVariants.{Live}
+use Rattle.zt_text.specs.Numbers.{decimal_of, mask_of}
+use Rattle.zt_text.specs.Bytes.{hex_bytes, bytes_of, packet_bytes_of}
+use Rattle.zt_text.specs.Lists.{listed, handles_of}
+use Rattle.zt_text.specs.Fields.{placed, field, flag, ended}
+use Rattle.zt_text.specs.Reading.{event_create, eventpair_create, handle_close, handle_duplicate, handle_replace, object_signal, object_signal_peer, channel_create, channel_write, channel_read, port_create, object_wait_async, port_queue, port_wait, port_cancel, port_call_named, channel_call_named, handle_call_named, call_named, any_call_named, call, back, show, command_named, command, read_as}
+use Rattle.zt_text.specs.Shown.{hexadecimal}
+use Rattle.zt_text.specs.Answers.{shown_reply, shown_key, shown_object, shown_row, shown_answer, shown_refusal}
+use Rattle.zt_text.specs.Lines.{lines_of}
+
+-- what is unfolded to read a line
+unfoldable read_on_literals : ⊤
+unfolding decimal_of mask_of hex_bytes bytes_of packet_bytes_of listed handles_of placed field flag ended event_create eventpair_create handle_close handle_duplicate handle_replace object_signal object_signal_peer channel_create channel_write channel_read port_create object_wait_async port_queue port_wait port_cancel port_call_named channel_call_named handle_call_named call_named any_call_named call back show command_named command read_as
+read_on_literals = tt
+
+reads_event : read_as (codes "1025 event_create") ≡ Ok (Some (commands.Call 1025 calls.EventCreate))
+unfolding read_on_literals
+reads_event = refl
+
+reads_signal : read_as (codes "1025 object_signal 7 0x00000000 0x00000008") ≡ Ok (Some (commands.Call 1025 (calls.ObjectSignal 7 (record { 0 = 0 }) (record { 0 = 8 }))))
+unfolding read_on_literals
+reads_signal = refl
+
+record HandleCalls : Type 0 where
+  pair : read_as (codes "1025 eventpair_create") ≡ Ok (Some (commands.Call 1025 calls.EventPairCreate))
+  close : read_as (codes "1025 handle_close 0") ≡ Ok (Some (commands.Call 1025 (calls.HandleClose 0)))
+  duplicate : read_as (codes "1025 handle_duplicate 7 0x80000000") ≡ Ok (Some (commands.Call 1025 (calls.HandleDuplicate 7 0x80000000)))
+  replace : read_as (codes "1025 handle_replace 7 0x0000c003") ≡ Ok (Some (commands.Call 1025 (calls.HandleReplace 7 0xc003)))
+  signal_peer : read_as (codes "1025 object_signal_peer 7 0x00000008 0x01000000") ≡ Ok (Some (commands.Call 1025 (calls.ObjectSignalPeer 7 (record { 0 = 8 }) (record { 0 = 0x1000000 }))))
+  close_of_a_word : read_as (codes "1025 handle_close x") ≡ Err (BadLine 19)
+  close_of_nothing : read_as (codes "1025 handle_close") ≡ Err (BadLine 18)
+  rights_in_decimal : read_as (codes "1025 handle_replace 7 0") ≡ Err (BadLine 23)
+
+reads_handle_calls : HandleCalls
+unfolding read_on_literals
+reads_handle_calls = record {
+  pair = refl;
+  close = refl;
+  duplicate = refl;
+  replace = refl;
+  signal_peer = refl;
+  close_of_a_word = refl;
+  close_of_nothing = refl;
+  rights_in_decimal = refl;
+}
+
+record ChannelCalls : Type 0 where
+  create : read_as (codes "1025 channel_create") ≡ Ok (Some (commands.Call 1025 calls.ChannelCreate))
+  write : read_as (codes "1025 channel_write 7 6869 15,19") ≡ Ok (Some (commands.Call 1025 (calls.ChannelWrite 7 (record { bytes = 104 ∷ 105 ∷ []; handles = 15 ∷ 19 ∷ [] }))))
+  nothing : read_as (codes "1025 channel_write 0 - -") ≡ Ok (Some (commands.Call 1025 (calls.ChannelWrite 0 (record { bytes = []; handles = [] }))))
+  read : read_as (codes "1025 channel_read 7 16 0") ≡ Ok (Some (commands.Call 1025 (calls.ChannelRead 7 16 0 false)))
+  discard : read_as (codes "1025 channel_read 7 0 4294967295 discard") ≡ Ok (Some (commands.Call 1025 (calls.ChannelRead 7 0 4294967295 true)))
+
+reads_channel_calls : ChannelCalls
+unfolding read_on_literals
+reads_channel_calls = record {
+  create = refl;
+  write = refl;
+  nothing = refl;
+  read = refl;
+  discard = refl;
+}
+
+-- faults of their bytes, of their lists and of what stands at their end
+record ChannelColumns : Type 0 where
+  odd : read_as (codes "1025 channel_write 7 686 -") ≡ Err (BadLine 22)
+  upper : read_as (codes "1025 channel_write 7 6A -") ≡ Err (BadLine 22)
+  no_digit : read_as (codes "1025 channel_write 7 6g -") ≡ Err (BadLine 22)
+  no_bytes : read_as (codes "1025 channel_write 7  -") ≡ Err (BadLine 22)
+  empty_element : read_as (codes "1025 channel_write 7 - 3,,7") ≡ Err (BadLine 24)
+  empty_end : read_as (codes "1025 channel_write 7 - 3,") ≡ Err (BadLine 24)
+  dash_in_a_list : read_as (codes "1025 channel_write 7 - 3,-") ≡ Err (BadLine 24)
+  wide_element : read_as (codes "1025 channel_write 7 - 4294967296") ≡ Err (BadLine 24)
+  no_list : read_as (codes "1025 channel_write 7 -") ≡ Err (BadLine 23)
+  behind : read_as (codes "1025 channel_write 7 - - -") ≡ Err (BadLine 26)
+  no_rights : read_as (codes "1025 handle_duplicate 7") ≡ Err (BadLine 24)
+  misspelt : read_as (codes "1025 channel_read 7 0 0 discar") ≡ Err (BadLine 25)
+  twice : read_as (codes "1025 channel_read 7 0 0 discard discard") ≡ Err (BadLine 33)
+  no_amount : read_as (codes "1025 channel_read 7 0 discard") ≡ Err (BadLine 23)
+
+channel_columns : ChannelColumns
+unfolding read_on_literals
+channel_columns = record {
+  odd = refl;
+  upper = refl;
+  no_digit = refl;
+  no_bytes = refl;
+  empty_element = refl;
+  empty_end = refl;
+  dash_in_a_list = refl;
+  wide_element = refl;
+  no_list = refl;
+  behind = refl;
+  no_rights = refl;
+  misspelt = refl;
+  twice = refl;
+  no_amount = refl;
+}
+
+-- a list is as long as a message's, and no longer
+record ListsAtTheirEnds : Type 0 where
+  longest : handles_of (codes "7" ++ flat_map (λ (_ : ℕ). codes ",7") (replicate 63 0)) ≡ Some (replicate 64 7)
+  too_long : handles_of (codes "7" ++ flat_map (λ (_ : ℕ). codes ",7") (replicate 64 0)) ≡ None
+
+lists_at_their_ends : ListsAtTheirEnds
+unfolding decimal_of listed handles_of
+lists_at_their_ends = record { longest = refl; too_long = refl }
+
+record PortCalls : Type 0 where
+  create : read_as (codes "1025 port_create") ≡ Ok (Some (commands.Call 1025 calls.PortCreate))
+  wait_async : read_as (codes "1025 object_wait_async 7 11 18446744073709551615 0x00000008") ≡ Ok (Some (commands.Call 1025 (calls.ObjectWaitAsync 7 11 18446744073709551615 (record { 0 = 8 }))))
+  queue : read_as (codes "1025 port_queue 11 1 00000000000000000000000000000000000000000000000000000000000000ff") ≡ Ok (Some (commands.Call 1025 (calls.PortQueue 11 1 (replicate 31 0 ++ 255 ∷ []))))
+  wait : read_as (codes "1025 port_wait 11") ≡ Ok (Some (commands.Call 1025 (calls.PortWait 11)))
+  cancel : read_as (codes "1025 port_cancel 11 7 9") ≡ Ok (Some (commands.Call 1025 (calls.PortCancel 11 7 9)))
+  no_bytes : read_as (codes "1025 port_queue 11 1 -") ≡ Err (BadLine 22)
+  few_digits : read_as (codes "1025 port_queue 11 1 000000000000000000000000000000000000000000000000000000000000ff") ≡ Err (BadLine 22)
+  upper : read_as (codes "1025 port_queue 11 1 00000000000000000000000000000000000000000000000000000000000000Ff") ≡ Err (BadLine 22)
+  wide_key : read_as (codes "1025 port_cancel 11 7 18446744073709551616") ≡ Err (BadLine 23)
+
+reads_port_calls : PortCalls
+unfolding read_on_literals
+reads_port_calls = record {
+  create = refl;
+  wait_async = refl;
+  queue = refl;
+  wait = refl;
+  cancel = refl;
+  no_bytes = refl;
+  few_digits = refl;
+  upper = refl;
+  wide_key = refl;
+}
+
+-- numbers at their ends
+record Ends : Type 0 where
+  no_process : read_as (codes "0 event_create") ≡ Ok (Some (commands.Call 0 calls.EventCreate))
+  last_process : read_as (codes "18446744073709551615 event_create") ≡ Ok (Some (commands.Call 18446744073709551615 calls.EventCreate))
+  last_handle : read_as (codes "9 object_signal 4294967295 0xffffffff 0x0123abcd") ≡ Ok (Some (commands.Call 9 (calls.ObjectSignal 4294967295 (record { 0 = 0xffffffff }) (record { 0 = 0x0123abcd }))))
+  no_handle : read_as (codes "9 object_signal 0 0xfedcba98 0x00000000") ≡ Ok (Some (commands.Call 9 (calls.ObjectSignal 0 (record { 0 = 0xfedcba98 }) (record { 0 = 0 }))))
+
+reads_ends : Ends
+unfolding read_on_literals
+reads_ends = record {
+  no_process = refl;
+  last_process = refl;
+  last_handle = refl;
+  no_handle = refl;
+}
+
+reads_back : read_as (codes "back 1048576") ≡ Ok (Some (commands.Back 1048576))
+unfolding read_on_literals
+reads_back = refl
+
+skips : (read_as [] ≡ Ok None) × (read_as (codes "# show") ≡ Ok None)
+unfolding read_as
+skips = (refl, refl)
+
+-- the columns of faults: a space in front, one behind, two in the middle, and a carriage return
+record Columns : Type 0 where
+  front : read_as (codes " show") ≡ Err (BadLine 1)
+  behind : read_as (codes "show ") ≡ Err (BadLine 6)
+  double : read_as (codes "1025  event_create") ≡ Err (BadLine 6)
+  returned : read_as (codes "1025 event_create" ++ 13 ∷ []) ≡ Err (BadLine 6)
+  zero_count : read_as (codes "back 0") ≡ Err (BadLine 6)
+  nonsense : read_as (codes "1025 nonsense") ≡ Err (BadLine 6)
+  hello : read_as (codes "hello") ≡ Err (BadLine 1)
+  wide : read_as (codes "18446744073709551616 event_create") ≡ Err (BadLine 1)
+  missing : read_as (codes "1025 object_signal 7") ≡ Err (BadLine 21)
+  upper : read_as (codes "1025 object_signal 7 0x00000000 0x0000000A") ≡ Err (BadLine 33)
+
+columns : Columns
+unfolding read_on_literals
+columns = record {
+  front = refl;
+  behind = refl;
+  double = refl;
+  returned = refl;
+  zero_count = refl;
+  nonsense = refl;
+  hello = refl;
+  wide = refl;
+  missing = refl;
+  upper = refl;
+}
+
+shows_handle : shown_answer (answer.Called 1 (reply.Handle 7)) ≡ codes "1 ok 7" ++ 10 ∷ []
+unfolding digits shown_reply shown_answer
+shows_handle = refl
+
+shows_status : shown_answer (answer.Called 3 (reply.Status BadHandle)) ≡ codes "3 bad_handle" ++ 10 ∷ []
+unfolding digits shown_reply shown_answer
+shows_status = refl
+
+shows_rows : shown_answer (answer.Rows 1 ((key.Object 1024, rows.Object (record { kind = Job; signals = record { 0 = 0x10 }; link = 0; life = Live; next = 0 })) ∷ (key.Entry 1025 7, rows.Entry (record { koid = 1026; rights = record { 0 = 0xd003 } })) ∷ [])) ≡ codes "rows 1 2" ++ (10 ∷ (codes "object 1024 job 0x00000010 0 live 0" ++ (10 ∷ (codes "entry 1025 7 1026 0x0000d003" ++ 10 ∷ []))))
+unfolding digits hexadecimal shown_key shown_object shown_row shown_answer
+shows_rows = refl
+
+shows_refusals : (shown_refusal NoProcess ≡ codes "refused 2 NoProcess" ++ 10 ∷ []) × (shown_refusal (BadLine 19) ≡ codes "refused 10 BadLine 19" ++ 10 ∷ [])
+unfolding digits shown_refusal
+shows_refusals = (refl, refl)
+
+-- a last line without a line feed counts where it is not empty
+lines : (lines_of (97 ∷ 10 ∷ 10 ∷ 98 ∷ []) ≡ (97 ∷ []) ∷ [] ∷ (98 ∷ []) ∷ []) × (lines_of (97 ∷ 10 ∷ []) ≡ (97 ∷ []) ∷ [])
+lines = (refl, refl)

@@ -1,0 +1,9 @@
+pub mod Numbers
+pub mod Fields
+pub mod Cut
+pub mod Bytes
+pub mod Lists
+pub mod Reading
+pub mod Shown
+pub mod Answers
+pub mod Lines

@@ -1,0 +1,228 @@
+ghost use Rattle.std.specs.Prelude.{◌≡◌};
+ghost use Rattle.zt_text.specs.Numbers.{handle_of, amount_of, key_of, mask_of, signals_of, count_of};
+ghost use Rattle.zt_text.specs.Bytes.{bytes_of, packet_bytes_of};
+ghost use Rattle.zt_text.specs.Lists.{handles_of};
+ghost use Rattle.zt_text.specs.Fields.{unread, next, field, ended, flag};
+ghost use Rattle.std.specs.Str.{bytes_eq};
+
+use crate::bytes::{Digits, packet_bytes};
+use crate::cutting::cut;
+use crate::lists::HandleList;
+use crate::numbers::{decimal, mask};
+use std::marker::Model;
+use zt_bits::Signals;
+use zt_rows::{HandleValue, Refusal};
+
+/// A field of a line, with the column at which it begins.
+#[derive(Drop)]
+pub struct Field<'a> {
+    column: u64,
+    bytes: &'a [u8],
+}
+
+impl<'a> Model for Field<'a> {
+    ghost use Rattle.zt_text.specs.Fields.{Placed};
+
+    ghost Value = { Placed };
+
+    ghost view = { λ f. record { column = f.column; bytes = f.bytes.now } };
+}
+
+impl<'a> Field<'a> {
+    ghost use Rattle.zt_rows.specs.declared.refusals.Refusal.TheVariants.{BadLine};
+
+    /// Whether the field is this word.
+    pub fn is(&self, word: &str) -> bool
+        ensures { result ≡ bytes_eq self.now.bytes word.now }
+    {
+        self.bytes == word.as_bytes()
+    }
+
+    /// The bytes.
+    pub fn bytes(&self) -> &'a [u8]
+        ensures { result.now ≡ self.now.bytes }
+    {
+        self.bytes
+    }
+
+    /// The fault of a field that has not the form wanted in its place.
+    pub fn fault(&self) -> Refusal
+        ensures { result ≡ BadLine self.now.column }
+    {
+        Refusal::BadLine(self.column)
+    }
+}
+
+/// The fields of a line that are not read yet. A line is cut at each single space.
+#[derive(Drop)]
+pub struct Fields<'a> {
+    left: Option<&'a [u8]>,
+    line_len: usize,
+}
+
+impl<'a> Model for Fields<'a> {
+    ghost use Rattle.zt_text.specs.Fields.{Unread};
+    ghost use Rattle.zt_text.specs.Cut.{unread_of, IsBehind};
+
+    ghost Value = { Unread };
+
+    ghost view = { λ f. unread_of f.left f.line_len };
+
+    ghost invariant = { λ f. IsBehind f.left f.line_len };
+}
+
+impl<'a> Fields<'a> {
+    /// All fields of the line, of which there is one at least.
+    pub fn new(line: &'a [u8]) -> Fields<'a>
+        ensures { result ≡ unread line.now }
+    {
+        Fields {
+            left: Some(line),
+            line_len: line.len(),
+        }
+    }
+
+    /// The next field, and those behind it.
+    pub fn next(self) -> Result<(Field<'a>, Fields<'a>), Refusal>
+        ensures { result ≡ next self.entry }
+    {
+        let Fields { left, line_len } = self;
+        let Some(left) = left else {
+            return Err(Refusal::BadLine(line_len as u64 + 1));
+        };
+        let column = (line_len - left.len()) as u64 + 1;
+        let (bytes, left) = cut(left, b' ');
+        Ok((Field { column, bytes }, Fields { left, line_len }))
+    }
+
+    /// The handle's value that the next field writes.
+    #[tactic(auto, unfolding(crate::specs::Fields::field))]
+    pub fn handle(self) -> Result<(HandleValue, Fields<'a>), Refusal>
+        ensures { result ≡ field handle_of self.entry }
+    {
+        let (field, rest) = self.next()?;
+        match decimal(field.bytes(), u64::from(u32::MAX)) {
+            Some(number) => Ok((HandleValue(number as u32), rest)),
+            None => Err(field.fault()),
+        }
+    }
+
+    /// The key of a packet that the next field writes.
+    #[tactic(auto, unfolding(crate::specs::Fields::field))]
+    pub fn key(self) -> Result<(u64, Fields<'a>), Refusal>
+        ensures { result ≡ field key_of self.entry }
+    {
+        let (field, rest) = self.next()?;
+        match decimal(field.bytes(), u64::MAX) {
+            Some(key) => Ok((key, rest)),
+            None => Err(field.fault()),
+        }
+    }
+
+    /// The bits of the mask that the next field writes.
+    #[tactic(auto, unfolding(crate::specs::Fields::field))]
+    pub fn mask(self) -> Result<(u32, Fields<'a>), Refusal>
+        ensures { result ≡ field mask_of self.entry }
+    {
+        let (field, rest) = self.next()?;
+        match mask(field.bytes()) {
+            Some(bits) => Ok((bits, rest)),
+            None => Err(field.fault()),
+        }
+    }
+
+    /// The signals that the next field writes.
+    #[tactic(auto, unfolding(crate::specs::Fields::field))]
+    pub fn signals(self) -> Result<(Signals, Fields<'a>), Refusal>
+        ensures { result ≡ field signals_of self.entry }
+    {
+        let (bits, rest) = self.mask()?;
+        Ok((Signals(bits), rest))
+    }
+
+    /// The number of steps that the next field writes.
+    #[tactic(auto, unfolding(crate::specs::Fields::field))]
+    pub fn count(self) -> Result<(u32, Fields<'a>), Refusal>
+        ensures { result ≡ field count_of self.entry }
+    {
+        let (field, rest) = self.next()?;
+        match decimal(field.bytes(), 1_048_576) {
+            Some(number) if number > 0 => Ok((number as u32, rest)),
+            _ => Err(field.fault()),
+        }
+    }
+
+    /// The number of bytes or of handles that the next field writes.
+    #[tactic(auto, unfolding(crate::specs::Fields::field))]
+    pub fn amount(self) -> Result<(u32, Fields<'a>), Refusal>
+        ensures { result ≡ field amount_of self.entry }
+    {
+        let (field, rest) = self.next()?;
+        match decimal(field.bytes(), u64::from(u32::MAX)) {
+            Some(number) => Ok((number as u32, rest)),
+            None => Err(field.fault()),
+        }
+    }
+
+    /// The bytes that the next field writes.
+    #[tactic(auto, unfolding(crate::specs::Fields::field))]
+    pub fn bytes(self) -> Result<(Digits<'a>, Fields<'a>), Refusal>
+        ensures { result ≡ field bytes_of self.entry }
+    {
+        let (field, rest) = self.next()?;
+        match Digits::of(field.bytes()) {
+            Some(digits) => Ok((digits, rest)),
+            None => Err(field.fault()),
+        }
+    }
+
+    /// The bytes of a packet that the next field writes.
+    #[tactic(auto, unfolding(crate::specs::Fields::field))]
+    pub fn packet_bytes(self) -> Result<([u8; 32], Fields<'a>), Refusal>
+        ensures { result ≡ field packet_bytes_of self.entry }
+    {
+        let (field, rest) = self.next()?;
+        match packet_bytes(field.bytes()) {
+            Some(bytes) => Ok((bytes, rest)),
+            None => Err(field.fault()),
+        }
+    }
+
+    /// The handles that the next field lists.
+    #[tactic(auto, unfolding(crate::specs::Fields::field))]
+    pub fn handles(self) -> Result<(HandleList, Fields<'a>), Refusal>
+        ensures { result ≡ field handles_of self.entry }
+    {
+        let (field, rest) = self.next()?;
+        match HandleList::of(field.bytes()) {
+            Some(list) => Ok((list, rest)),
+            None => Err(field.fault()),
+        }
+    }
+
+    /// Whether the word stands at the end, which may also be left out.
+    #[tactic(auto, unfolding(crate::specs::Fields::flag, crate::specs::Fields::ended))]
+    pub fn flag(self, word: &str) -> Result<bool, Refusal>
+        ensures { result ≡ flag word.now self.entry }
+    {
+        match self.next() {
+            Ok((field, rest)) if field.is(word) => {
+                rest.end()?;
+                Ok(true)
+            }
+            Ok((field, _)) => Err(field.fault()),
+            Err(_) => Ok(false),
+        }
+    }
+
+    /// Nothing, where every field is read.
+    #[tactic(auto, unfolding(crate::specs::Fields::ended))]
+    pub fn end(self) -> Result<(), Refusal>
+        ensures { result ≡ ended self.entry }
+    {
+        match self.next() {
+            Ok((surplus, _)) => Err(surplus.fault()),
+            Err(_) => Ok(()),
+        }
+    }
+}

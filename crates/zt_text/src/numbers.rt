@@ -1,0 +1,93 @@
+ghost use Rattle.std.specs.Prelude.{◌≡◌, ◌+◌, ◌-◌, ◌*◌, ◌<◌, ◌≤◌, ◌^◌, IsTrue, IfSome, length};
+ghost use Rattle.std.specs.Option.{SomeIff};
+ghost use Rattle.std.specs.Char.{digit_value, is_ascii_digit};
+ghost use Rattle.std.specs.List.{list_all};
+ghost use Rattle.std.specs.Str.Parse.{digits_value};
+ghost use Rattle.zt_text.specs.Numbers.{has_leading_zero, decimal_of, mask_of, is_hex_digit};
+
+/// The number that the bytes write in decimal digits, without leading zeros and up to `most`.
+#[tactic(auto, unfolding(crate::specs::Numbers::decimal_of))]
+pub fn decimal(bytes: &[u8], most: u64) -> Option<u64>
+    ensures value { result ≡ decimal_of most bytes.now }
+    ensures within { IfSome result (λ number. number ≤ most) }
+{
+    if bytes.is_empty() || has_leading_zero(bytes) {
+        return None;
+    }
+    match digits(bytes) {
+        Some(number) if number <= most => Some(number),
+        _ => None,
+    }
+}
+
+/// Whether a zero stands before other digits.
+fn has_leading_zero(bytes: &[u8]) -> bool
+    ensures { result ≡ has_leading_zero bytes.now }
+{
+    bytes.len() > 1 && bytes[0] == b'0'
+}
+
+/// The number that the digits write, where they are digits and it fits.
+fn digits(bytes: &[u8]) -> Option<u64>
+    ensures { SomeIff result (IsTrue (list_all is_ascii_digit bytes.now) × (digits_value 10 bytes.now < 2 ^ 64))
+        (digits_value 10 bytes.now) }
+{
+    let mut number = 0u64;
+    for byte in bytes {
+        number = with_digit(number, *byte)?;
+    }
+    Some(number)
+}
+
+/// The number that one digit more makes.
+fn with_digit(number: u64, byte: u8) -> Option<u64>
+    ensures { SomeIff result (IsTrue (is_ascii_digit byte) × (number * 10 + (byte - 48) < 2 ^ 64))
+        (number * 10 + (byte - 48)) }
+{
+    if !byte.is_ascii_digit() {
+        return None;
+    }
+    number.checked_mul(10)?.checked_add(u64::from(byte - b'0'))
+}
+
+/// The number that `0x` and eight digits of `0` to `9` and `a` to `f` write.
+#[tactic(auto, unfolding(crate::specs::Numbers::mask_of))]
+pub fn mask(bytes: &[u8]) -> Option<u32>
+    ensures { result ≡ mask_of bytes.now }
+{
+    if bytes.len() != 10 || !bytes.starts_with(b"0x") {
+        return None;
+    }
+    hex_digits(&bytes[2..])
+}
+
+/// The number that the digits write, where they are digits of `0` to `9` and `a` to `f`.
+fn hex_digits(bytes: &[u8]) -> Option<u32>
+    requires { length bytes.now ≤ 8 }
+    ensures { SomeIff result (IsTrue (list_all is_hex_digit bytes.now)) (digits_value 16 bytes.now) }
+{
+    let mut number = 0u32;
+    for byte in bytes {
+        let digit = hex_digit(*byte)?;
+        number = number * 16 + digit;
+    }
+    Some(number)
+}
+
+/// Whether this is a digit of `0` to `9` and `a` to `f`.
+pub fn is_hex_digit(byte: u8) -> bool
+    ensures { result ≡ is_hex_digit byte }
+{
+    matches!(byte, b'0'..=b'9' | b'a'..=b'f')
+}
+
+/// What a digit of `0` to `9` and `a` to `f` stands for.
+fn hex_digit(byte: u8) -> Option<u32>
+    ensures { SomeIff result (IsTrue (is_hex_digit byte)) (digit_value byte) }
+{
+    match byte {
+        b'0'..=b'9' => Some(u32::from(byte - b'0')),
+        b'a'..=b'f' => Some(u32::from(byte - b'a') + 10),
+        _ => None,
+    }
+}

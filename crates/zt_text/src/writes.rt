@@ -1,0 +1,53 @@
+ghost use Rattle.std.specs.Prelude.{◌≡◌, IfOk, IfErr};
+ghost use Rattle.zt_rows.specs.declared.calls.Call.TheVariants.{ChannelWrite};
+ghost use Rattle.zt_rows.specs.declared.refusals.Refusal.TheVariants.{OutOfMemory};
+
+use crate::bytes::Digits;
+use crate::lists::HandleList;
+use std::alloc::Global;
+use std::marker::Model;
+use zt_rows::{Call, HandleValue, Parcel, Refusal};
+
+/// A `channel_write` as its line writes it, which takes no memory.
+#[derive(Drop)]
+pub struct Write<'a> {
+    handle: HandleValue,
+    bytes: Digits<'a>,
+    handles: HandleList,
+}
+
+impl<'a> Model for Write<'a> {
+    ghost use Rattle.zt_rows.specs.declared.calls.Call.{Call};
+    ghost use Rattle.zt_rows.specs.declared.calls.Call.TheVariants.{ChannelWrite};
+
+    ghost Value = { Call };
+
+    ghost view = { λ w. ChannelWrite w.handle (record { bytes = w.bytes; handles = w.handles }) };
+}
+
+impl<'a> Write<'a> {
+    /// The write to a handle of these bytes and handles.
+    pub fn new(handle: HandleValue, bytes: Digits<'a>, handles: HandleList) -> Write<'a>
+        ensures { result ≡ ChannelWrite handle (record { bytes = bytes.entry; handles = handles }) }
+    {
+        Write {
+            handle,
+            bytes,
+            handles,
+        }
+    }
+
+    /// The call, whose parcel takes memory.
+    pub fn to_call(&self, alloc: Global) -> Result<Call, Refusal>
+        ensures ok { IfOk result (λ call. call ≡ self.now) }
+        ensures refused { IfErr result (λ refusal. refusal ≡ OutOfMemory) }
+    {
+        let handle = self.handle;
+        let bytes = self.bytes.to_vec(alloc)?;
+        let handles = self.handles.to_vec(alloc)?;
+        match Parcel::new(bytes, handles) {
+            Some(parcel) => Ok(Call::ChannelWrite { handle, parcel }),
+            None => unreachable!(),
+        }
+    }
+}
