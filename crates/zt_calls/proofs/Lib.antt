@@ -7,4 +7,5 @@ pub mod SettleLaws
 pub mod TakingLaws
 pub mod CallLaws
 pub mod ReceivingLaws
+pub mod SendingLaws
 pub mod RefreshLaws

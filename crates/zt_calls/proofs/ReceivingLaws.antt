@@ -9,13 +9,15 @@ use Rattle.zt_rows.specs.declared.calls.Reply.TheVariants as reply
 use Rattle.zt_rows.specs.declared.keys.RowKey.TheVariants as key
 use Rattle.zt_rows.specs.declared.rows.Held.{Held}
 use Rattle.zt_rows.specs.declared.rows.ObjectRow.{ObjectRow}
-use Rattle.zt_rows.specs.Contents.{MessageContent}
+use Rattle.zt_rows.specs.Contents.{MessageContent, IsWithinMessage}
 use Rattle.zt_rows.specs.State.{State, put}
 use Rattle.zt_rows.specs.Reads.{as_object, object, queue, runs}
 use Rattle.zt_rows.specs.Tests.{next_at, first, raised}
 use Rattle.zt_rows.specs.Room.{HasRoom}
 use Rattle.zt_rows.specs.Handles.{as_caller, caller, value_of, install, install_all, values_from}
+use Rattle.zt_rows.specs.Consistent.{IsSound}
 use Rattle.zt_rows.proofs.StateLaws.{row-put-other}
+use Rattle.zt_rows.proofs.ReceivedLaws.{first-message}
 use Rattle.zt_store.specs.Stepping.{Stepping, Advanced}
 use Rattle.zt_queues.specs.Taken.{without_message, popped}
 use Rattle.zt_calls.specs.Receiving.{received}
@@ -98,3 +100,7 @@ module _ (s t : Stepping) (p x : ℕ) where
   -- the message was taken, and its handles given to the process
   pub received-some : (m : MessageContent) (u : Stepping) (values : List ℕ) → Some m ≡ option_map (λ e. e.1) (first (queue s.current x)) → Advanced s t (popped s.current x) → Advanced t u (install_all p (caller t.current p) m.handles t.current) → values ≡ values_from (next_at t.current p) m.handles → (Advanced s u (received (first (queue s.current x)) s.current p x).0) × (reply.Message m.bytes values ≡ (received (first (queue s.current x)) s.current p x).1)
   received-some m u values is went installed valued = took (first (queue s.current x)) m u values is went installed valued
+
+-- the first message of a queue is within the limits of a message
+pub first-within : (S : State) (x n : ℕ) (m : MessageContent) → IsSound S → Some (n, m) ≡ first (queue S x) → IsWithinMessage m.bytes m.handles
+first-within S x n m sound h = (sound.of_messages x n m (first-message S x n m (sym h))).within

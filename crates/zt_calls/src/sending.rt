@@ -5,7 +5,7 @@ ghost use Rattle.zt_calls.specs.Sending.{Finds, message_for, sendable};
 use crate::arguments::{Wanted, handle_to};
 use crate::failures::Failure;
 use crate::looks::{held_by, object_of};
-use std::alloc::{AllocError, Global};
+use std::alloc::Global;
 use zt_bits::{Rights, Status};
 use zt_rows::{HandleValue, Held, Items, Koid, Message, Parcel};
 use zt_store::Step;
@@ -43,7 +43,9 @@ fn sent(
     let mut handles = Vec::new(alloc);
     for (i, value) in values.iter().enumerate() {
         let held = sendable(step, process, channel, &values[..i], *value)?;
-        handles.push(held).map_err(AllocError::from)?;
+        let Ok(()) = handles.push(held) else {
+            return Err(Failure::OutOfMemory);
+        };
     }
     Ok(Items::new(handles))
 }
