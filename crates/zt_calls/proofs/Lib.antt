@@ -4,3 +4,5 @@ pub mod RoomLaws
 pub mod LosingLaws
 pub mod TakingLaws
 pub mod CallLaws
+pub mod ReceivingLaws
+pub mod SendingLaws

@@ -1,3 +1,5 @@
 pub mod Wanting
 pub mod Outcomes
 pub mod Losing
+pub mod Sending
+pub mod Receiving
