@@ -6,6 +6,7 @@ ghost use Rattle.zt_rows.specs.Change.{before};
 ghost use Rattle.zt_rows.specs.Consistent.{IsSound, IsConsistent};
 ghost use Rattle.zt_store.specs.Places.{Keeps, fits};
 ghost use Rattle.zt_store.specs.Stepping.{AsBegun};
+ghost use Rattle.zt_calls.specs.Outcomes.{Does};
 
 use crate::channel_calls::{channel_create, channel_read, channel_write};
 use crate::failures::Failure;
@@ -99,7 +100,6 @@ fn carried_out(
 }
 
 /// The checks of the call in order, and then its change of rows.
-#[tactic(auto, unfolding(zt_rows::specs::Step::direct))]
 fn direct(
     alloc: Global,
     step: &mut Step,
@@ -114,7 +114,23 @@ fn direct(
     ensures err { OnErr result (AsBegun step.old step.new) }
     ensures kept { Keeps step.old.places step.new.places }
 {
-    let answered = match call {
+    match answered(alloc, step, process, call) {
+        Ok(reply) => Ok(reply),
+        Err(Failure::Status(status)) => Ok(Reply::Status(status)),
+        Err(Failure::OutOfMemory) => Err(AllocError),
+    }
+}
+
+/// The function of the call, with the call's arguments.
+#[tactic(auto, unfolding(zt_rows::specs::Step::direct))]
+fn answered(alloc: Global, step: &mut Step, process: Koid, call: &Call) -> Result<Reply, Failure>
+    requires room { HasRoom step.old.current }
+    requires sound { IsSound step.old.current }
+    requires running { runs step.old.current process ≡ true }
+    ensures does { Does (direct step.old.current process call.now) step.old step.new result }
+    ensures kept { Keeps step.old.places step.new.places }
+{
+    match call {
         Call::EventCreate => event_create(step, process),
         Call::EventPairCreate => eventpair_create(step, process),
         Call::HandleClose { handle } => handle_close(step, process, *handle),
@@ -140,10 +156,5 @@ fn direct(
             handles,
             discard,
         } => channel_read(alloc, step, process, *handle, *bytes, *handles, *discard),
-    };
-    match answered {
-        Ok(reply) => Ok(reply),
-        Err(Failure::Status(status)) => Ok(Reply::Status(status)),
-        Err(Failure::OutOfMemory) => Err(AllocError),
     }
 }
