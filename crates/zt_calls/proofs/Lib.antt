@@ -7,3 +7,4 @@ pub mod SettleLaws
 pub mod TakingLaws
 pub mod CallLaws
 pub mod RefreshLaws
+pub mod PortCallLaws

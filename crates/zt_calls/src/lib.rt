@@ -9,6 +9,7 @@ mod handle_calls;
 mod looks;
 mod losing;
 mod object_calls;
+mod port_calls;
 mod settling;
 mod takings;
 
