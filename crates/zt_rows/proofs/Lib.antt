@@ -13,6 +13,17 @@ pub mod MakeLaws
 pub mod TakeLaws
 pub mod PairLaws
 pub mod StepLaws
+pub mod PutLaws
+pub mod GivenLaws
+pub mod SentLaws
+pub mod ReceivedLaws
+pub mod PortLaws
+pub mod PortSteps
+pub mod ChainLaws
+pub mod MadeTaskLaws
+pub mod EndLaws
+pub mod JobSteps
+pub mod CallLaws
 pub mod OpeningLaws
 pub mod SpentLaws
 pub mod WorkedRowsForm

@@ -66,7 +66,7 @@ module _ (S : State) (sound : IsSound S) (o : ObjectRow) where
   counters-made : counters made ≡ raised_counters
   counters-made = ap as_counters (row-put with_object key.Counters (Some (rows.Counters raised_counters)) key.Counters)
 
-  entry-made : (p h : ℕ) → entry made p h ≡ entry S p h
+  pub entry-made : (p h : ℕ) → entry made p h ≡ entry S p h
   entry-made p h = ap as_entry (row-put with_object key.Counters (Some (rows.Counters raised_counters)) (key.Entry p h) ∙ row-put S (key.Object (next_koid S)) (Some (rows.Object o)) (key.Entry p h))
 
   message-made : (e n : ℕ) → message made e n ≡ message S e n
@@ -78,7 +78,7 @@ module _ (S : State) (sound : IsSound S) (o : ObjectRow) where
   wait-made : (n : ℕ) → wait made n ≡ wait S n
   wait-made n = ap as_wait (row-put with_object key.Counters (Some (rows.Counters raised_counters)) (key.Wait n) ∙ row-put S (key.Object (next_koid S)) (Some (rows.Object o)) (key.Wait n))
 
-  koids-made : next_koid made ≡ next_koid S + 1
+  pub koids-made : next_koid made ≡ next_koid S + 1
   koids-made = ap (λ (c : Counters). c.next_koid) counters-made
 
   -- the object that was made is there

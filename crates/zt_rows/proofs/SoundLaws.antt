@@ -71,7 +71,7 @@ all_map {P = P} {Q = Q} (x ∷ xs) h a = (h x (inl refl) a.0, all_map {P = P} {Q
 
 -- ---- chains of links
 
-upward-same : (l : ℕ) (f g : ℕ → List ℕ) → (l ≡ 0) ⊎ (f l ≡ g l) → upward l f ≡ upward l g
+pub upward-same : (l : ℕ) (f g : ℕ → List ℕ) → (l ≡ 0) ⊎ (f l ≡ g l) → upward l f ≡ upward l g
 upward-same zero f g h = refl
 upward-same (suc y) f g (inl e) = absurd (omega arith)
 upward-same (suc y) f g (inr e) = ap (λ z. (suc y) ∷ z) e
