@@ -6,5 +6,7 @@ pub mod LosingLaws
 pub mod SettleLaws
 pub mod TakingLaws
 pub mod CallLaws
+pub mod ReceivingLaws
+pub mod SendingLaws
 pub mod RefreshLaws
 pub mod PortCallLaws

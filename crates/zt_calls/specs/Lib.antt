@@ -3,3 +3,5 @@ pub mod Outcomes
 pub mod Walks
 pub mod Firing
 pub mod Losing
+pub mod Sending
+pub mod Receiving
