@@ -6,3 +6,4 @@ pub mod TakingLaws
 pub mod CallLaws
 pub mod ReceivingLaws
 pub mod SendingLaws
+pub mod PortCallLaws

@@ -14,9 +14,8 @@ use Rattle.zt_rows.specs.KeyOrder.{rowkey_eq-equal}
 use Rattle.zt_rows.specs.Reads.{as_entry, as_wait, entry}
 use Rattle.zt_rows.specs.Tests.{among}
 use Rattle.zt_rows.specs.Consistent.{IsSound}
-use Rattle.zt_rows.specs.Room.{SuitsKey}
 use Rattle.zt_rows.specs.Handles.{taken, take_out, take_out_all}
-use Rattle.zt_rows.proofs.StateLaws.{row-put, row-change, same_state, put-row}
+use Rattle.zt_rows.proofs.StateLaws.{row-put, row-change, same_state}
 use Rattle.zt_rows.proofs.ReadLaws.{entry-row}
 use Rattle.zt_rows.proofs.TakeLaws.{sound-taken}
 use Rattle.zt_store.specs.Stepping.{Stepping, Advanced}

@@ -15,11 +15,7 @@ use zt_store::Step;
 use zt_tables::duplicate;
 
 /// Closes a handle. To close 0 is ok and changes nothing.
-pub fn handle_close(
-    step: &mut Step,
-    process: Koid,
-    handle: HandleValue,
-) -> Result<Reply, Failure>
+pub fn handle_close(step: &mut Step, process: Koid, handle: HandleValue) -> Result<Reply, Failure>
     ensures does { Does (handle_close step.old.current process handle) step.old step.new result }
     ensures kept { Keeps step.old.places step.new.places }
 {

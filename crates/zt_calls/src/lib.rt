@@ -10,6 +10,7 @@ mod handle_calls;
 mod looks;
 mod losing;
 mod object_calls;
+mod port_calls;
 mod receiving;
 mod sending;
 mod takings;

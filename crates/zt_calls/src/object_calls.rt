@@ -18,7 +18,7 @@ use zt_store::Step;
 use zt_tables::install;
 
 /// Makes an object of the kind, and answers with the caller's handle to it.
-fn create(step: &mut Step, process: Koid, kind: Kind) -> Result<Reply, Failure>
+pub(crate) fn create(step: &mut Step, process: Koid, kind: Kind) -> Result<Reply, Failure>
     requires room { HasRoom step.old.current }
     requires sound { IsSound step.old.current }
     requires running { runs step.old.current process ≡ true }
