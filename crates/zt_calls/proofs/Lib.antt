@@ -6,4 +6,5 @@ pub mod LosingLaws
 pub mod SettleLaws
 pub mod TakingLaws
 pub mod CallLaws
+pub mod JobCallLaws
 pub mod RefreshLaws

@@ -4,3 +4,4 @@ pub mod Walks
 pub mod Firing
 pub mod Taking
 pub mod Losing
+pub mod Tasks

@@ -6,6 +6,7 @@ mod applying;
 mod arguments;
 mod failures;
 mod handle_calls;
+mod job_calls;
 mod looks;
 mod losing;
 mod object_calls;
