@@ -7,3 +7,4 @@ pub mod CallLaws
 pub mod ReceivingLaws
 pub mod SendingLaws
 pub mod PortCallLaws
+pub mod JobCallLaws

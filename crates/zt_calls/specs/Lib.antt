@@ -3,3 +3,4 @@ pub mod Outcomes
 pub mod Losing
 pub mod Sending
 pub mod Receiving
+pub mod Tasks

@@ -7,6 +7,7 @@ mod arguments;
 mod channel_calls;
 mod failures;
 mod handle_calls;
+mod job_calls;
 mod looks;
 mod losing;
 mod object_calls;
