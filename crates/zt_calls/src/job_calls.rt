@@ -63,7 +63,6 @@ fn add_job(step: &mut Step, process: Koid, parent: Koid) -> Result<Reply, Failur
 /// Makes a live process under the job that the handle names, with what the value names as its first handle, or none
 /// for 0, and answers with the caller's handle to it and with its koid. The caller gives up what it hands over.
 pub fn spawn(
-    alloc: Global,
     step: &mut Step,
     process: Koid,
     job: HandleValue,
@@ -80,7 +79,7 @@ pub fn spawn(
     if parent.life != Life::Live {
         return Err(Failure::Status(Status::BadState));
     }
-    give_up(alloc, step, process, value, &given)?;
+    give_up(step, process, value, &given)?;
     add_process(step, process, held.koid, given)
 }
 
@@ -97,7 +96,6 @@ fn argument(step: &Step, process: Koid, value: HandleValue) -> Result<Option<Hel
 
 /// Takes what is handed over out of the caller's table.
 fn give_up(
-    alloc: Global,
     step: &mut Step,
     process: Koid,
     value: HandleValue,
@@ -109,7 +107,7 @@ fn give_up(
     ensures kept { Keeps step.old.places step.new.places }
 {
     match given {
-        Some(_) => take_out(alloc, step, process, value),
+        Some(_) => take_out(step, process, value),
         None => Ok(()),
     }
 }
