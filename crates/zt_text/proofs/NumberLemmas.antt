@@ -1,10 +1,10 @@
 -- Numbers read digit by digit from the left: how the number so far bounds the whole, and what one byte that is no
 -- digit settles.
-use Rattle.std.proofs.Common.{◌≡◌, ℕ, ◌+◌, ◌*◌, ◌-◌, ◌^◌, ◌<◌, ◌≤◌, Bool, true, false, List, length, get_or, take, refl, ap, arith, lit≤, lit<, IsTrue, nat_eq, drop, Option, Some, None, length-drop}
+use Rattle.std.proofs.Common.{◌≡◌, ℕ, ◌+◌, ◌*◌, ◌-◌, ◌^◌, ◌<◌, ◌≤◌, Bool, true, false, List, [], ◌∷◌, length, get_or, take, refl, ap, arith, lit≤, lit<, IsTrue, nat_eq, drop, Option, Some, None, length-drop}
 use Rattle.std.specs.Char.{digit_value, is_ascii_digit}
 use Rattle.std.specs.List.{list_all, starts_with}
-use Rattle.std.specs.Option.{SomeIff}
-use Rattle.std.specs.Prelude.{◌==◌, codes}
+use Rattle.std.specs.Option.{SomeIff, option_map}
+use Rattle.std.specs.Prelude.{◌==◌, codes, ℤ, pos}
 use Rattle.std.proofs.lemmas.Bool.{eq-eqb}
 use Rattle.std.specs.Str.Parse.{digits_value}
 use Rattle.std.proofs.lemmas.Int.Digits.{digits_value_more}
@@ -14,7 +14,7 @@ use Rattle.std.proofs.lemmas.List.Folds.{list_all_at, list_all_more}
 use Rattle.std.proofs.lemmas.Bool.Decides.{nat_tests}
 use Rattle.std.proofs.lemmas.Grind.{pow_more}
 use Rattle.std.proofs.Math.Nat.{pow-le-pow_right}
-use Rattle.zt_text.specs.Numbers.{is_hex_digit, mask_of}
+use Rattle.zt_text.specs.Numbers.{is_hex_digit, decimal_of, code_of, mask_of}
 
 -- the value of a digit
 pub digit_value-digit : (b : ℕ) → is_ascii_digit b ≡ true → digit_value b ≡ b - 48
@@ -98,3 +98,11 @@ hex_value_more bs i n low e =
 -- the digits of a mask as a slice has them
 pub mask_digits : (bs : List ℕ) → length bs ≡ 10 → take (length bs - 2) (drop 2 bs) ≡ drop 2 bs
 mask_digits bs ten = take_all (length bs - 2) (drop 2 bs) (omega (arith, length-drop 2 bs))
+
+-- a code without a sign
+pub unsigned_code : (bs : List ℕ) (r : Option ℤ) → r ≡ option_map pos (decimal_of (2 ^ 63 - 1) bs) → 1 ≤ length bs → (get_or bs 0 0 ≡ 45 → ⊥) → r ≡ code_of bs
+unfolding code_of
+unsigned_code [] r read some other = absurd (omega arith)
+unsigned_code (first ∷ digits) r read some other =
+    let no_sign : (first == 45) ≡ false = grind (arith, nat_tests) in
+    rw no_sign read

@@ -1,6 +1,6 @@
 -- Lines that were read and shown by hand, as theorems.
 use Rattle.std.proofs.Common.{◌≡◌, ℕ, [], ◌∷◌, ◌++◌, Some, None, Ok, Err, refl}
-use Rattle.std.specs.Prelude.{codes, ⊤, true, false, replicate}
+use Rattle.std.specs.Prelude.{codes, pos, negsuc, ⊤, true, false, replicate}
 use Rattle.std.specs.List.{flat_map}
 use Rattle.std.specs.Fmt.{digits}
 use Rattle.zt_bits.specs.declared.kinds.Kind.TheVariants.{Job}
@@ -13,18 +13,18 @@ use Rattle.zt_rows.specs.declared.calls.Answer.TheVariants as answer
 use Rattle.zt_rows.specs.declared.keys.RowKey.TheVariants as key
 use Rattle.zt_rows.specs.declared.rows.Row.TheVariants as rows
 use Rattle.zt_rows.specs.declared.rows.Life.TheVariants.{Live}
-use Rattle.zt_text.specs.Numbers.{decimal_of, mask_of}
+use Rattle.zt_text.specs.Numbers.{decimal_of, code_of, mask_of}
 use Rattle.zt_text.specs.Bytes.{hex_bytes, bytes_of, packet_bytes_of}
 use Rattle.zt_text.specs.Lists.{listed, handles_of}
 use Rattle.zt_text.specs.Fields.{placed, field, flag, ended}
-use Rattle.zt_text.specs.Reading.{event_create, eventpair_create, handle_close, handle_duplicate, handle_replace, object_signal, object_signal_peer, channel_create, channel_write, channel_read, port_create, object_wait_async, port_queue, port_wait, port_cancel, port_call_named, channel_call_named, handle_call_named, call_named, any_call_named, call, back, show, command_named, command, read_as}
+use Rattle.zt_text.specs.Reading.{event_create, eventpair_create, handle_close, handle_duplicate, handle_replace, object_signal, object_signal_peer, channel_create, channel_write, channel_read, port_create, object_wait_async, port_queue, port_wait, port_cancel, job_create, spawn, task_kill, process_exit, task_call_named, port_call_named, channel_call_named, handle_call_named, call_named, any_call_named, call, back, show, command_named, command, read_as}
 use Rattle.zt_text.specs.Shown.{hexadecimal}
 use Rattle.zt_text.specs.Answers.{shown_reply, shown_key, shown_object, shown_row, shown_answer, shown_refusal}
 use Rattle.zt_text.specs.Lines.{lines_of}
 
 -- what is unfolded to read a line
 unfoldable read_on_literals : ⊤
-unfolding decimal_of mask_of hex_bytes bytes_of packet_bytes_of listed handles_of placed field flag ended event_create eventpair_create handle_close handle_duplicate handle_replace object_signal object_signal_peer channel_create channel_write channel_read port_create object_wait_async port_queue port_wait port_cancel port_call_named channel_call_named handle_call_named call_named any_call_named call back show command_named command read_as
+unfolding decimal_of code_of mask_of hex_bytes bytes_of packet_bytes_of listed handles_of placed field flag ended event_create eventpair_create handle_close handle_duplicate handle_replace object_signal object_signal_peer channel_create channel_write channel_read port_create object_wait_async port_queue port_wait port_cancel job_create spawn task_kill process_exit task_call_named port_call_named channel_call_named handle_call_named call_named any_call_named call back show command_named command read_as
 read_on_literals = tt
 
 reads_event : read_as (codes "1025 event_create") ≡ Ok (Some (commands.Call 1025 calls.EventCreate))
@@ -143,6 +143,54 @@ reads_port_calls = record {
   few_digits = refl;
   upper = refl;
   wide_key = refl;
+}
+
+record TaskCalls : Type 0 where
+  create : read_as (codes "1025 job_create 3") ≡ Ok (Some (commands.Call 1025 (calls.JobCreate 3)))
+  spawn : read_as (codes "1025 spawn 3 11") ≡ Ok (Some (commands.Call 1025 (calls.Spawn 3 11)))
+  kill : read_as (codes "1025 task_kill 15") ≡ Ok (Some (commands.Call 1025 (calls.TaskKill 15)))
+  exit : read_as (codes "1028 process_exit 5") ≡ Ok (Some (commands.Call 1028 (calls.ProcessExit (pos 5))))
+  no_argument : read_as (codes "1025 spawn 3") ≡ Err (BadLine 13)
+  no_code : read_as (codes "1028 process_exit") ≡ Err (BadLine 18)
+
+reads_task_calls : TaskCalls
+unfolding read_on_literals
+reads_task_calls = record {
+  create = refl;
+  spawn = refl;
+  kill = refl;
+  exit = refl;
+  no_argument = refl;
+  no_code = refl;
+}
+
+record Codes : Type 0 where
+  zero : code_of (codes "0") ≡ Some (pos 0)
+  five : code_of (codes "-5") ≡ Some (negsuc 4)
+  most : code_of (codes "9223372036854775807") ≡ Some (pos 9223372036854775807)
+  least : code_of (codes "-9223372036854775808") ≡ Some (negsuc 9223372036854775807)
+  too_great : code_of (codes "9223372036854775808") ≡ None
+  too_small : code_of (codes "-9223372036854775809") ≡ None
+  negative_zero : code_of (codes "-0") ≡ None
+  sign_alone : code_of (codes "-") ≡ None
+  leading_zero : code_of (codes "-05") ≡ None
+  two_signs : code_of (codes "--5") ≡ None
+  plus : code_of (codes "+5") ≡ None
+
+reads_codes : Codes
+unfolding decimal_of code_of
+reads_codes = record {
+  zero = refl;
+  five = refl;
+  most = refl;
+  least = refl;
+  too_great = refl;
+  too_small = refl;
+  negative_zero = refl;
+  sign_alone = refl;
+  leading_zero = refl;
+  two_signs = refl;
+  plus = refl;
 }
 
 -- numbers at their ends

@@ -1,7 +1,7 @@
 -- How a field of a line writes a number: in decimal digits, or as a mask of eight hexadecimal ones.
-use Rattle.std.specs.Prelude.{ℕ, ◌^◌, ◌-◌, Bool, not, ◌&&◌, ◌||◌, ◌==◌, nat_eq, nat_le, nat_lt, slice_index, List, length, drop, Option, Some, None, if◌then◌else◌, codes}
+use Rattle.std.specs.Prelude.{ℕ, ℤ, pos, negsuc, ◌^◌, ◌-◌, Bool, not, ◌&&◌, ◌||◌, ◌==◌, nat_eq, nat_le, nat_lt, slice_index, List, [], ◌∷◌, length, drop, Option, Some, None, if◌then◌else◌, codes}
 use Rattle.std.specs.Char.{is_ascii_digit}
-use Rattle.std.specs.Option.{option_map}
+use Rattle.std.specs.Option.{option_map, option_and_then}
 use Rattle.std.specs.List.{list_all, starts_with}
 use Rattle.std.specs.Str.Parse.{digits_value}
 use Rattle.zt_bits.specs.declared.signal_bits.Signals.{Signals}
@@ -54,3 +54,14 @@ positive (Some n) = if n == 0 then None else Some n
 
 abbrev pub count_of : List ℕ → Option ℕ
 count_of field = positive (decimal_of 1048576 field)
+
+-- a number below zero; there is no zero with a sign
+abbrev pub negative : ℕ → Option ℤ
+negative n = if n == 0 then None else Some (negsuc (n - 1))
+
+-- a code of 64 bits, with a sign where it is below zero
+unfoldable pub code_of : List ℕ → Option ℤ
+code_of [] = None
+code_of (first ∷ digits) =
+    if first == 45 then option_and_then negative (decimal_of (2 ^ 63) digits)
+    else option_map pos (decimal_of (2 ^ 63 - 1) (first ∷ digits))

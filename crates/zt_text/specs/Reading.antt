@@ -7,7 +7,7 @@ use Rattle.zt_rows.specs.declared.calls.Call.{Call}
 use Rattle.zt_rows.specs.declared.calls.Call.TheVariants as calls
 use Rattle.zt_rows.specs.declared.calls.Command.{Command}
 use Rattle.zt_rows.specs.declared.calls.Command.TheVariants as commands
-use Rattle.zt_text.specs.Numbers.{process_of, key_of, handle_of, amount_of, mask_of, signals_of, count_of}
+use Rattle.zt_text.specs.Numbers.{process_of, key_of, code_of, handle_of, amount_of, mask_of, signals_of, count_of}
 use Rattle.zt_text.specs.Bytes.{bytes_of, packet_bytes_of}
 use Rattle.zt_text.specs.Lists.{handles_of}
 use Rattle.zt_text.specs.Fields.{Placed, Unread, unread, ◌>>=◌, next, field, ended, flag}
@@ -116,6 +116,40 @@ port_cancel left = do
   _ ← ended key.1
   Ok (calls.PortCancel port.0 source.0 key.0)
 
+unfoldable pub job_create : Unread → Result Call Refusal
+job_create left = do
+  job ← field handle_of left
+  _ ← ended job.1
+  Ok (calls.JobCreate job.0)
+
+unfoldable pub spawn : Unread → Result Call Refusal
+spawn left = do
+  job ← field handle_of left
+  argument ← field handle_of job.1
+  _ ← ended argument.1
+  Ok (calls.Spawn job.0 argument.0)
+
+unfoldable pub task_kill : Unread → Result Call Refusal
+task_kill left = do
+  handle ← field handle_of left
+  _ ← ended handle.1
+  Ok (calls.TaskKill handle.0)
+
+unfoldable pub process_exit : Unread → Result Call Refusal
+process_exit left = do
+  code ← field code_of left
+  _ ← ended code.1
+  Ok (calls.ProcessExit code.0)
+
+-- the call of this name, of those on jobs and processes
+unfoldable pub task_call_named : Placed → Unread → Result Call Refusal
+task_call_named name left =
+    if bytes_eq name.bytes (codes "job_create") then job_create left
+    else (if bytes_eq name.bytes (codes "spawn") then spawn left
+    else (if bytes_eq name.bytes (codes "task_kill") then task_kill left
+    else (if bytes_eq name.bytes (codes "process_exit") then process_exit left
+    else Err (BadLine name.column))))
+
 -- the call of this name, of those on ports
 unfoldable pub port_call_named : Placed → Unread → Result Call Refusal
 port_call_named name left =
@@ -124,7 +158,7 @@ port_call_named name left =
     else (if bytes_eq name.bytes (codes "port_queue") then port_queue left
     else (if bytes_eq name.bytes (codes "port_wait") then port_wait left
     else (if bytes_eq name.bytes (codes "port_cancel") then port_cancel left
-    else Err (BadLine name.column)))))
+    else task_call_named name left))))
 
 -- the call of this name, of those on channels that carry no parcel
 unfoldable pub channel_call_named : Placed → Unread → Result Call Refusal

@@ -1,5 +1,5 @@
 ghost use Rattle.std.specs.Prelude.{◌≡◌};
-ghost use Rattle.zt_text.specs.Numbers.{handle_of, amount_of, key_of, mask_of, signals_of, count_of};
+ghost use Rattle.zt_text.specs.Numbers.{handle_of, amount_of, key_of, code_of, mask_of, signals_of, count_of};
 ghost use Rattle.zt_text.specs.Bytes.{bytes_of, packet_bytes_of};
 ghost use Rattle.zt_text.specs.Lists.{handles_of};
 ghost use Rattle.zt_text.specs.Fields.{unread, next, field, ended, flag};
@@ -8,7 +8,7 @@ ghost use Rattle.std.specs.Str.{bytes_eq};
 use crate::bytes::{Digits, packet_bytes};
 use crate::cutting::cut;
 use crate::lists::HandleList;
-use crate::numbers::{decimal, mask};
+use crate::numbers::{code, decimal, mask};
 use std::marker::Model;
 use zt_bits::Signals;
 use zt_rows::{HandleValue, Refusal};
@@ -115,6 +115,18 @@ impl<'a> Fields<'a> {
         let (field, rest) = self.next()?;
         match decimal(field.bytes(), u64::MAX) {
             Some(key) => Ok((key, rest)),
+            None => Err(field.fault()),
+        }
+    }
+
+    /// The code of a process that the next field writes.
+    #[tactic(auto, unfolding(crate::specs::Fields::field))]
+    pub fn code(self) -> Result<(i64, Fields<'a>), Refusal>
+        ensures { result ≡ field code_of self.entry }
+    {
+        let (field, rest) = self.next()?;
+        match code(field.bytes()) {
+            Some(number) => Ok((number, rest)),
             None => Err(field.fault()),
         }
     }

@@ -1,9 +1,9 @@
-ghost use Rattle.std.specs.Prelude.{◌≡◌, ◌+◌, ◌-◌, ◌*◌, ◌<◌, ◌≤◌, ◌^◌, IsTrue, IfSome, length};
-ghost use Rattle.std.specs.Option.{SomeIff};
+ghost use Rattle.std.specs.Prelude.{◌≡◌, ◌+◌, ◌-◌, ◌*◌, ◌<◌, ◌≤◌, ◌^◌, IsTrue, IfSome, length, pos};
+ghost use Rattle.std.specs.Option.{SomeIff, option_map};
 ghost use Rattle.std.specs.Char.{digit_value, is_ascii_digit};
 ghost use Rattle.std.specs.List.{list_all};
 ghost use Rattle.std.specs.Str.Parse.{digits_value};
-ghost use Rattle.zt_text.specs.Numbers.{has_leading_zero, decimal_of, mask_of, is_hex_digit};
+ghost use Rattle.zt_text.specs.Numbers.{has_leading_zero, decimal_of, negative, code_of, mask_of, is_hex_digit};
 
 /// The number that the bytes write in decimal digits, without leading zeros and up to `most`.
 #[tactic(auto, unfolding(crate::specs::Numbers::decimal_of))]
@@ -48,6 +48,43 @@ fn with_digit(number: u64, byte: u8) -> Option<u64>
         return None;
     }
     number.checked_mul(10)?.checked_add(u64::from(byte - b'0'))
+}
+
+/// The code that the bytes write in decimal digits, with `-` before one below zero.
+#[tactic(auto, unfolding(crate::specs::Numbers::code_of))]
+pub fn code(bytes: &[u8]) -> Option<i64>
+    ensures { result ≡ code_of bytes.now }
+{
+    match bytes {
+        [] => None,
+        [b'-', digits @ ..] => match decimal(digits, 1 << 63) {
+            Some(number) => negative(number),
+            None => None,
+        },
+        _ => unsigned(bytes),
+    }
+}
+
+/// The code that the bytes write without a sign.
+fn unsigned(bytes: &[u8]) -> Option<i64>
+    ensures { result ≡ option_map pos (decimal_of (2 ^ 63 - 1) bytes.now) }
+{
+    match decimal(bytes, i64::MAX as u64) {
+        Some(number) => Some(number as i64),
+        None => None,
+    }
+}
+
+/// The number below zero, where this is not zero.
+fn negative(number: u64) -> Option<i64>
+    requires { number ≤ 2 ^ 63 }
+    ensures { result ≡ negative number }
+{
+    if number == 0 {
+        None
+    } else {
+        Some(-((number - 1) as i64) - 1)
+    }
 }
 
 /// The number that `0x` and eight digits of `0` to `9` and `a` to `f` write.

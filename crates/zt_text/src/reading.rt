@@ -1,5 +1,5 @@
 ghost use Rattle.std.specs.Prelude.{◌≡◌, IfOk, IfErr};
-ghost use Rattle.zt_text.specs.Reading.{IsUnread, has_parcel, command_has_parcel, line_has_parcel, read_as, command, command_named, back, show, call, any_call_named, call_named, handle_call_named, channel_call_named, channel_create, channel_write, channel_read, port_call_named, port_create, object_wait_async, port_queue, port_wait, port_cancel, event_create, eventpair_create, handle_close, handle_duplicate, handle_replace, object_signal, object_signal_peer};
+ghost use Rattle.zt_text.specs.Reading.{IsUnread, has_parcel, command_has_parcel, line_has_parcel, read_as, command, command_named, back, show, call, any_call_named, call_named, handle_call_named, channel_call_named, channel_create, channel_write, channel_read, port_call_named, port_create, object_wait_async, port_queue, port_wait, port_cancel, task_call_named, job_create, spawn, task_kill, process_exit, event_create, eventpair_create, handle_close, handle_duplicate, handle_replace, object_signal, object_signal_peer};
 
 use crate::fields::{Field, Fields};
 use crate::numbers::decimal;
@@ -151,8 +151,63 @@ fn port_call_named(name: &Field<'_>, rest: Fields<'_>) -> Result<Call, Refusal>
     } else if name.is("port_cancel") {
         port_cancel(rest)
     } else {
+        task_call_named(name, rest)
+    }
+}
+
+/// The call of this name, of those on jobs and processes, with the arguments behind it.
+#[tactic(auto, unfolding(crate::specs::Reading::task_call_named))]
+fn task_call_named(name: &Field<'_>, rest: Fields<'_>) -> Result<Call, Refusal>
+    ensures { result ≡ task_call_named name.now rest.entry }
+{
+    if name.is("job_create") {
+        job_create(rest)
+    } else if name.is("spawn") {
+        spawn(rest)
+    } else if name.is("task_kill") {
+        task_kill(rest)
+    } else if name.is("process_exit") {
+        process_exit(rest)
+    } else {
         Err(name.fault())
     }
+}
+
+#[tactic(auto, unfolding(crate::specs::Reading::job_create))]
+fn job_create(fields: Fields<'_>) -> Result<Call, Refusal>
+    ensures { result ≡ job_create fields.entry }
+{
+    let (job, rest) = fields.handle()?;
+    rest.end()?;
+    Ok(Call::JobCreate { job })
+}
+
+#[tactic(auto, unfolding(crate::specs::Reading::spawn))]
+fn spawn(fields: Fields<'_>) -> Result<Call, Refusal>
+    ensures { result ≡ spawn fields.entry }
+{
+    let (job, rest) = fields.handle()?;
+    let (argument, rest) = rest.handle()?;
+    rest.end()?;
+    Ok(Call::Spawn { job, argument })
+}
+
+#[tactic(auto, unfolding(crate::specs::Reading::task_kill))]
+fn task_kill(fields: Fields<'_>) -> Result<Call, Refusal>
+    ensures { result ≡ task_kill fields.entry }
+{
+    let (handle, rest) = fields.handle()?;
+    rest.end()?;
+    Ok(Call::TaskKill { handle })
+}
+
+#[tactic(auto, unfolding(crate::specs::Reading::process_exit))]
+fn process_exit(fields: Fields<'_>) -> Result<Call, Refusal>
+    ensures { result ≡ process_exit fields.entry }
+{
+    let (code, rest) = fields.code()?;
+    rest.end()?;
+    Ok(Call::ProcessExit { code })
 }
 
 #[tactic(auto, unfolding(crate::specs::Reading::port_create))]
