@@ -1,3 +1,4 @@
+pub mod ListLemmas
 pub mod GoingOn
 pub mod CallerLaws
 pub mod RoomLaws

@@ -1,20 +1,17 @@
 -- Handles are given to a process one after another; and a message that is taken leaves its process as it was.
-use Rattle.std.proofs.Common.{◌≡◌, ◌<◌, ◌≤◌, ℕ, zero, suc, ◌+◌, ◌-◌, ◌^◌, List, [], ◌∷◌, ◌++◌, length, get_or, drop, refl, sym, ap, ◌∙◌, subst, arith, true, append_assoc, append-nil}
+use Rattle.std.proofs.Common.{◌≡◌, ◌<◌, ◌≤◌, ℕ, ◌+◌, ◌-◌, ◌^◌, List, [], ◌∷◌, ◌++◌, length, get_or, drop, refl, sym, ap, ◌∙◌, arith, true, append_assoc, append-nil}
 use Rattle.std.specs.Prelude.{Option, None, Some}
 use Rattle.std.specs.Option.{option_map}
 use Rattle.std.proofs.lemmas.List.{drop_more}
-use Rattle.zt_bits.specs.declared.statuses.Status.TheVariants as status
-use Rattle.zt_rows.specs.declared.calls.Reply.{Reply}
 use Rattle.zt_rows.specs.declared.calls.Reply.TheVariants as reply
 use Rattle.zt_rows.specs.declared.keys.RowKey.TheVariants as key
 use Rattle.zt_rows.specs.declared.rows.Held.{Held}
-use Rattle.zt_rows.specs.declared.rows.ObjectRow.{ObjectRow}
 use Rattle.zt_rows.specs.Contents.{MessageContent, IsWithinMessage}
 use Rattle.zt_rows.specs.State.{State, put}
 use Rattle.zt_rows.specs.Reads.{as_object, object, queue, runs}
-use Rattle.zt_rows.specs.Tests.{next_at, first, raised}
+use Rattle.zt_rows.specs.Tests.{next_at, first}
 use Rattle.zt_rows.specs.Room.{HasRoom}
-use Rattle.zt_rows.specs.Handles.{as_caller, caller, value_of, install, install_all, values_from}
+use Rattle.zt_rows.specs.Handles.{caller, value_of, install, install_all, values_from}
 use Rattle.zt_rows.specs.Consistent.{IsSound}
 use Rattle.zt_rows.proofs.StateLaws.{row-put-other}
 use Rattle.zt_rows.proofs.ReceivedLaws.{first-message}
@@ -22,6 +19,7 @@ use Rattle.zt_store.specs.Stepping.{Stepping, Advanced}
 use Rattle.zt_queues.specs.Taken.{without_message, popped}
 use Rattle.zt_calls.specs.Receiving.{received}
 use Rattle.zt_calls.proofs.GoingOn.{further, reached}
+use Rattle.zt_calls.proofs.ListLemmas.{drop-past}
 use Rattle.zt_calls.proofs.CallerLaws.{room-installs, caller-same, next-same, caller-next, caller-of-installed, next-of-installed}
 
 -- ---- one handle after another
@@ -54,12 +52,6 @@ module _ (s t : Stepping) (p : ℕ) (handles : List Held) (i : ℕ) (held : Held
       ∙ ap (λ me. install_all p me (drop (i + 1) handles) (install p (caller s.current p) held s.current)) (caller-of-installed s.current p (caller s.current p) held)
       ∙ ap (λ l. install_all p (caller s.current p) l s.current) (sym left)
       ∙ before
-
-drop-past : {A : Type 0} (l : List A) (i : ℕ) → length l ≤ i → drop i l ≡ []
-drop-past [] zero h = refl
-drop-past [] (suc i) h = refl
-drop-past (x ∷ l) zero h = absurd (omega arith)
-drop-past (x ∷ l) (suc i) h = drop-past l i (omega arith)
 
 module _ (handles : List Held) (i : ℕ) (past : length handles ≤ i) where
   pub values-all : (n : ℕ) (values all : List ℕ) → values ++ values_from n (drop i handles) ≡ all → values ≡ all

@@ -1,10 +1,8 @@
 -- A list is judged from its left, one value after another; what a write sends, and where, is what its checks find.
-use Rattle.std.proofs.Common.{◌≡◌, ◌<◌, ◌≤◌, ℕ, zero, suc, ◌+◌, ◌^◌, Bool, true, false, ◌||◌, List, [], ◌∷◌, ◌++◌, length, get_or, take, drop, refl, sym, ap, ◌∙◌, subst, arith, append_assoc, append-nil, add-one}
-use Rattle.std.specs.Prelude.{Option, None, Some, IsSome, Result, Ok, Err, ok_or, not, ◌==◌}
-use Rattle.std.specs.List.{list_any}
+use Rattle.std.proofs.Common.{◌≡◌, ◌<◌, ◌≤◌, ℕ, ◌+◌, ◌^◌, Bool, true, false, ◌||◌, List, [], ◌∷◌, ◌++◌, length, get_or, take, drop, refl, sym, ap, ◌∙◌, subst, arith, append_assoc, append-nil}
+use Rattle.std.specs.Prelude.{Option, None, Some, Result, Ok, Err, ok_or, not, ◌==◌}
 use Rattle.std.proofs.lemmas.List.{drop_more}
 use Rattle.std.proofs.lemmas.List.Folds.{list_any_more}
-use Rattle.zt_bits.specs.declared.kinds.Kind.{Kind}
 use Rattle.zt_bits.specs.declared.kinds.Kind.TheVariants as kind
 use Rattle.zt_bits.specs.declared.statuses.Status.{Status}
 use Rattle.zt_bits.specs.declared.statuses.Status.TheVariants as status
@@ -22,10 +20,11 @@ use Rattle.zt_rows.specs.ChannelCalls.{sent, push_message, channel_write}
 use Rattle.zt_rows.specs.Consistent.{IsSound}
 use Rattle.zt_rows.proofs.TakeLaws.{object-taken}
 use Rattle.zt_rows.proofs.StepLaws.{peer_kind}
-use Rattle.zt_rows.proofs.SentLaws.{is_channel-is}
+use Rattle.zt_rows.proofs.SentLaws.{bound, found, is_channel-is}
 use Rattle.zt_store.specs.Stepping.{Stepping, Advanced}
 use Rattle.zt_queues.specs.Pushed.{pushed_to, pushed}
 use Rattle.zt_calls.specs.Sending.{sendable, message_for}
+use Rattle.zt_calls.proofs.ListLemmas.{drop-past}
 use Rattle.zt_calls.proofs.GoingOn.{further, reached}
 
 -- ---- the list
@@ -87,19 +86,6 @@ module _ (S : State) (p h : ℕ) where
         ∙ ap (joined found) (sym here)
         ∙ before
 
-    -- a value that cannot be sent ends the list
-    pub sent-stops : (found : List Held) (wrong : Status) (all : Result (List Held) Status) → joined found (sent S p h (take i values) (drop i values)) ≡ all → sendable S p h (take i values) g ≡ Err wrong → all ≡ Err wrong
-    sent-stops found wrong all before is =
-        sym before
-        ∙ ap (joined found) here
-        ∙ ap (λ r. joined found (r >>= (λ one. sent S p h (take (i + 1) values) (drop (i + 1) values) >>= (λ others. Ok (one ∷ others))))) is
-
-  drop-past : (l : List ℕ) (i : ℕ) → length l ≤ i → drop i l ≡ []
-  drop-past [] zero past = refl
-  drop-past [] (suc i) past = refl
-  drop-past (x ∷ l) zero past = absurd (omega arith)
-  drop-past (x ∷ l) (suc i) past = drop-past l i (omega arith)
-
   -- all values can be sent
   pub sent-all : (values : List ℕ) (i : ℕ) (found : List Held) (all : Result (List Held) Status) → length values ≤ i → joined found (sent S p h (take i values) (drop i values)) ≡ all → all ≡ Ok found
   sent-all values i found all past before =
@@ -113,14 +99,6 @@ module _ (S : State) (p h : ℕ) where
 abbrev addressed : List ℕ → ℕ → List Held → Result (ℕ × MessageContent) Status
 addressed bytes x handles = Ok (x, record { bytes = bytes; handles = handles })
 
-bound : {A B : Type 0} (r : Result A Status) (f : A → Result B Status) (y : B) → (r >>= f) ≡ Ok y → (x : A) × (r ≡ Ok x) × (f x ≡ Ok y)
-bound (Ok x) f y e = (x, refl, e)
-bound (Err wrong) f y e = cc
-
-some_of : {A : Type 0} (o : Option A) (wrong : Status) (x : A) → ok_or o wrong ≡ Ok x → o ≡ Some x
-some_of (Some y) wrong x e = cc
-some_of None wrong x e = cc
-
 holds : (b : Bool) (wrong : Status) (x : Unit {0}) → check b wrong ≡ Ok x → b ≡ true
 holds true wrong x e = refl
 holds false wrong x e = cc
@@ -129,7 +107,7 @@ holds false wrong x e = cc
 
 -- the message comes to the end of the queue, or the state stays and the status is the answer
 abbrev written : Result (ℕ × MessageContent) Status → State → State × Reply
-written (Ok (x, m)) T = (pushed T x m, done)
+written (Ok to) T = (pushed T to.0 to.1, done)
 written (Err wrong) T = (T, reply.Status wrong)
 
 module _ (S : State) (p h : ℕ) (bytes values : List ℕ) where
@@ -164,7 +142,7 @@ module _ (S : State) (p h : ℕ) (bytes values : List ℕ) where
       let two = bound (sent S p h [] values) (λ handles. ok_or (object S o.link) status.PeerClosed >>= (λ _. addressed bytes o.link handles)) (x, m) one.2 in
       let three = bound (ok_or (object S o.link) status.PeerClosed) (λ _. addressed bytes o.link two.0) (x, m) two.2 in
       let peer : ObjectRow = three.0 in
-      let there : object S o.link ≡ Some peer = some_of (object S o.link) status.PeerClosed peer three.1 in
+      let there : object S o.link ≡ Some peer = found (object S o.link) status.PeerClosed peer three.1 in
       let link : o.link ≡ x = ok_first o.link x (content two.0) m three.2 in
       let near = named one.0 one.1 in
       let same : peer.kind ≡ o.kind = peer_kind S sound one.0.0.koid o peer near.0 (ap is_endpoint (is_channel-is o.kind near.1)) there in
@@ -183,17 +161,33 @@ module _ (S : State) (p h : ℕ) (bytes values : List ℕ) where
           let d = bound (check (has_all a.0.rights.0 0x8) status.AccessDenied) _ w c.2 in
           let is : ◌≡◌ {A = Held × ObjectRow} (a.0, b.0) w = cc in
           subst (λ (w : Held × ObjectRow). (object S w.0.koid ≡ Some w.1) × (is_channel w.1.kind ≡ true)) is
-          (some_of (object S a.0.koid) status.BadHandle b.0 b.1, holds (is_channel b.0.kind) status.WrongType c.0 c.1)
+          (found (object S a.0.koid) status.BadHandle b.0 b.1, holds (is_channel b.0.kind) status.WrongType c.0 c.1)
 
 -- what a step needs and does once the entries are out
-module _ (s t : Stepping) (p h : ℕ) (bytes values : List ℕ) (went : Advanced s t (take_out_all s.current p (among values))) where
-  pub push-fits : (x : ℕ) (m : MessageContent) → IsSound s.current → HasRoom s.current → message_for s.current p h bytes values ≡ Ok (x, m) → next_at t.current x + 1 < 2 ^ 64
-  push-fits x m sound room found =
-      let n : next_at s.current x ≤ 2 ^ 62 = destination-fits s.current p h bytes values x m sound room found in
-      let same : next_at t.current x ≡ next_at s.current x = ap (λ S. next_at S x) went.1 ∙ ap object_next (object-taken p (among values) s.current x) in
+module _ (s t : Stepping) (p h : ℕ) (bytes values listed : List ℕ) (all : listed ≡ values) (out : Advanced s t (take_out_all s.current p (among listed))) where
+  abbrev left : State
+  left = take_out_all s.current p (among values)
+
+  went : Advanced s t (take_out_all s.current p (among values))
+  went = subst (λ l. Advanced s t (take_out_all s.current p (among l))) all out
+
+  as_found : (r : Result (ℕ × MessageContent) Status) → message_for s.current p h bytes values ≡ r → channel_write s.current p h bytes values ≡ written r left
+  as_found r found = write-is s.current p h bytes values ∙ ap (λ r. written r left) found
+
+  pub push-fits : (to : ℕ × MessageContent) → IsSound s.current → HasRoom s.current → message_for s.current p h bytes values ≡ Ok to → next_at t.current to.0 + 1 < 2 ^ 64
+  push-fits to sound room found =
+      let n : next_at s.current to.0 ≤ 2 ^ 62 = destination-fits s.current p h bytes values to.0 to.1 sound room found in
+      let same : next_at t.current to.0 ≡ next_at s.current to.0 = ap (λ S. next_at S to.0) went.1 ∙ ap object_next (object-taken p (among values) s.current to.0) in
       omega arith
 
-  pub write-sends : (u : Stepping) (x : ℕ) (m : MessageContent) → message_for s.current p h bytes values ≡ Ok (x, m) → Advanced t u (pushed t.current x m) → (Advanced s u (channel_write s.current p h bytes values).0) × (done ≡ (channel_write s.current p h bytes values).1)
-  write-sends u x m found pushes =
-      let is : channel_write s.current p h bytes values ≡ (pushed (take_out_all s.current p (among values)) x m, done) = write-is s.current p h bytes values ∙ ap (λ r. written r (take_out_all s.current p (among values))) found in
-      (reached s u _ _ (further s t u (take_out_all s.current p (among values)) (λ S. pushed S x m) went pushes) (ap (λ (d : State × Reply). d.0) (sym is)), ap (λ (d : State × Reply). d.1) (sym is))
+  -- the message is sent
+  pub write-sends : (u : Stepping) (to : ℕ × MessageContent) → message_for s.current p h bytes values ≡ Ok to → Advanced t u (pushed t.current to.0 to.1) → (Advanced s u (channel_write s.current p h bytes values).0) × (done ≡ (channel_write s.current p h bytes values).1)
+  write-sends u to found pushes =
+      let is : channel_write s.current p h bytes values ≡ (pushed left to.0 to.1, done) = as_found (Ok to) found in
+      (reached s u _ _ (further s t u left (λ S. pushed S to.0 to.1) went pushes) (ap (λ (d : State × Reply). d.0) (sym is)), ap (λ (d : State × Reply). d.1) (sym is))
+
+  -- a check failed
+  pub write-fails : (wrong : Status) → message_for s.current p h bytes values ≡ Err wrong → (Advanced s t (channel_write s.current p h bytes values).0) × (reply.Status wrong ≡ (channel_write s.current p h bytes values).1)
+  write-fails wrong found =
+      let is : channel_write s.current p h bytes values ≡ (left, reply.Status wrong) = as_found (Err wrong) found in
+      (reached s t _ _ went (ap (λ (d : State × Reply). d.0) (sym is)), ap (λ (d : State × Reply). d.1) (sym is))

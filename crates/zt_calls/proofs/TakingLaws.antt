@@ -1,5 +1,5 @@
 -- An entry is taken out with the waits made on it: first the entry, then the waits one after another.
-use Rattle.std.proofs.Common.{◌≡◌, ◌<◌, ◌≤◌, ℕ, zero, suc, ◌+◌, Bool, true, false, cond, ◌&&◌, ◌||◌, List, [], ◌∷◌, length, get_or, drop, option_and_then, refl, sym, ap, ◌∙◌, subst, arith}
+use Rattle.std.proofs.Common.{◌≡◌, ◌<◌, ◌≤◌, ℕ, ◌+◌, Bool, true, false, cond, ◌&&◌, ◌||◌, List, [], ◌∷◌, length, get_or, drop, option_and_then, refl, sym, ap, ◌∙◌, subst, arith}
 use Rattle.std.proofs.lemmas.Bool.Decides.{nat_tests}
 use Rattle.std.proofs.lemmas.List.{drop_more}
 use Rattle.std.specs.Prelude.{Option, None, Some, is_some, ◌==◌, if◌then◌else◌}
@@ -19,6 +19,7 @@ use Rattle.zt_rows.proofs.StateLaws.{row-put, row-change, same_state}
 use Rattle.zt_rows.proofs.ReadLaws.{entry-row}
 use Rattle.zt_rows.proofs.TakeLaws.{sound-taken}
 use Rattle.zt_store.specs.Stepping.{Stepping, Advanced}
+use Rattle.zt_calls.proofs.ListLemmas.{drop-past}
 use Rattle.zt_calls.proofs.GoingOn.{further, reached}
 use Rattle.zt_signals.specs.Waits.{without_waits_on}
 
@@ -168,9 +169,3 @@ sound-rest s t p g sound went = subst IsSound (sym went.1) (sound-taken p (λ h.
 pub all-taken : (C T : State) (p i : ℕ) (values : List ℕ) → length values ≤ i → take_out_all C p (among (drop i values)) ≡ T → C ≡ T
 all-taken C T p i values past rest =
     sym (taken-none C p) ∙ ap (λ l. take_out_all C p (among l)) (sym (drop-past values i past)) ∙ rest
-  where
-    drop-past : (l : List ℕ) (i : ℕ) → length l ≤ i → drop i l ≡ []
-    drop-past [] zero h = refl
-    drop-past [] (suc i) h = refl
-    drop-past (x ∷ l) zero h = absurd (omega arith)
-    drop-past (x ∷ l) (suc i) h = drop-past l i (omega arith)

@@ -1,5 +1,5 @@
 -- What a write sends, as its checks find it one after another.
-use Rattle.std.specs.Prelude.{◌≡◌, ℕ, not, ◌==◌, ⊤, List, [], ◌∷◌, Result, Ok, Err, ok_or}
+use Rattle.std.specs.Prelude.{◌≡◌, ℕ, not, ◌==◌, ⊤, List, [], Result, Ok, Err, ok_or}
 use Rattle.zt_bits.specs.declared.statuses.Status.{Status}
 use Rattle.zt_bits.specs.declared.statuses.Status.TheVariants as status
 use Rattle.zt_rows.specs.declared.rows.Held.{Held}

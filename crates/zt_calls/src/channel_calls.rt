@@ -43,15 +43,22 @@ pub fn channel_write(
     ensures does { Does (channel_write step.old.current process handle parcel.now.bytes parcel.now.handles) step.old step.new result }
     ensures kept { Keeps step.old.places step.new.places }
 {
-    let found = message_for(alloc, step, process, handle, parcel);
-    if let Err(Failure::OutOfMemory) = &found {
-        step.reset();
-        return Err(Failure::OutOfMemory);
+    let values = parcel.handles().as_slice();
+    match message_for(alloc, step, process, handle, parcel) {
+        Ok((endpoint, message)) => {
+            take_out_all(step, process, values)?;
+            push(step, endpoint, message)?;
+            Ok(Reply::Status(Status::Ok))
+        }
+        Err(Failure::Status(wrong)) => {
+            take_out_all(step, process, values)?;
+            Err(Failure::Status(wrong))
+        }
+        Err(Failure::OutOfMemory) => {
+            step.reset();
+            Err(Failure::OutOfMemory)
+        }
     }
-    take_out_all(step, process, parcel.handles().as_slice())?;
-    let (endpoint, message) = found?;
-    push(step, endpoint, message)?;
-    Ok(Reply::Status(Status::Ok))
 }
 
 /// Takes the first message of the channel's endpoint that the handle names, where it has no more bytes and handles
@@ -75,7 +82,11 @@ pub fn channel_read(
     let (held, object) = handle_to(step, process, handle, Wanted::Channel, Rights::READ)?;
     let Some((number, message)) = front(step, held.koid) else {
         let peer_is_gone = object.link == Koid(0);
-        let empty = if peer_is_gone { Status::PeerClosed } else { Status::ShouldWait };
+        let empty = if peer_is_gone {
+            Status::PeerClosed
+        } else {
+            Status::ShouldWait
+        };
         return Err(Failure::Status(empty));
     };
     if has_room_for(bytes, handles, message) {

@@ -28,11 +28,11 @@ use Rattle.zt_rows.proofs.GivenLaws.{growth, spends-spends, spends-take_out_all,
 
 -- ---- what is sent
 
-bound : {A B : Type 0} (r : Result A Status) (f : A → Result B Status) (y : B) → (r >>= f) ≡ Ok y → (x : A) × (r ≡ Ok x) × (f x ≡ Ok y)
+pub bound : {A B : Type 0} (r : Result A Status) (f : A → Result B Status) (y : B) → (r >>= f) ≡ Ok y → (x : A) × (r ≡ Ok x) × (f x ≡ Ok y)
 bound (Ok x) f y e = (x, refl, e)
 bound (Err wrong) f y e = cc
 
-found : {A : Type 0} (o : Option A) (wrong : Status) (x : A) → ok_or o wrong ≡ Ok x → o ≡ Some x
+pub found : {A : Type 0} (o : Option A) (wrong : Status) (x : A) → ok_or o wrong ≡ Ok x → o ≡ Some x
 found (Some y) wrong x e = cc
 found None wrong x e = cc
 

@@ -2,7 +2,6 @@
 use Rattle.std.proofs.Common.{◌≡◌, ◌≤◌, List, length, sym, ap, ◌∙◌, subst}
 use Rattle.zt_rows.specs.declared.calls.Reply.TheVariants as reply
 use Rattle.zt_rows.specs.declared.rows.Held.{Held}
-use Rattle.zt_rows.specs.State.{State}
 use Rattle.zt_rows.specs.Tests.{next_at}
 use Rattle.zt_rows.specs.Handles.{caller, install_all, values_from}
 use Rattle.zt_store.specs.Stepping.{Advanced}

@@ -1,4 +1,4 @@
-use Rattle.std.proofs.Common.{refl, sym, ◌∙◌}
+use Rattle.std.proofs.Common.{refl, sym}
 use Rattle.zt_calls.proofs.TakingLaws.{absent-stays}
 use Rattle.zt_calls.proofs.takings.take_out_if_there.Goals as goal
 
