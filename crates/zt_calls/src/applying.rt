@@ -13,6 +13,7 @@ use crate::failures::Failure;
 use crate::handle_calls::{handle_close, handle_duplicate, handle_replace};
 use crate::losing::lost;
 use crate::object_calls::{event_create, eventpair_create, object_signal, object_signal_peer};
+use crate::port_calls::{object_wait_async, port_cancel, port_create, port_queue, port_wait};
 use crate::settling::settle;
 use std::alloc::{AllocError, Global};
 use std::mem;
@@ -152,5 +153,15 @@ fn answered(alloc: Global, step: &mut Step, process: Koid, call: &Call) -> Resul
             handles,
             discard,
         } => channel_read(alloc, step, process, *handle, *bytes, *handles, *discard),
+        Call::PortCreate => port_create(step, process),
+        Call::ObjectWaitAsync {
+            handle,
+            port,
+            key,
+            signals,
+        } => object_wait_async(step, process, *handle, *port, *key, *signals),
+        Call::PortQueue { port, key, bytes } => port_queue(step, process, *port, *key, *bytes),
+        Call::PortWait { port } => port_wait(step, process, *port),
+        Call::PortCancel { port, source, key } => port_cancel(step, process, *port, *source, *key),
     }
 }

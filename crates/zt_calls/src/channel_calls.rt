@@ -75,7 +75,11 @@ pub fn channel_read(
     let (held, object) = handle_to(step, process, handle, Wanted::Channel, Rights::READ)?;
     let Some((number, message)) = front(step, held.koid) else {
         let peer_is_gone = object.link == Koid(0);
-        let empty = if peer_is_gone { Status::PeerClosed } else { Status::ShouldWait };
+        let empty = if peer_is_gone {
+            Status::PeerClosed
+        } else {
+            Status::ShouldWait
+        };
         return Err(Failure::Status(empty));
     };
     if has_room_for(bytes, handles, message) {
