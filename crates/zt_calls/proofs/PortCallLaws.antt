@@ -1,5 +1,5 @@
 -- What the functions of calls on ports need: room in a port, and that to cancel nothing changes nothing.
-use Rattle.std.proofs.Common.{◌≡◌, ℕ, ◌+◌, ◌^◌, ◌<◌, ◌≤◌, Bool, true, false, Option, Some, None, Ok, Err, refl, sym, ap, ◌∙◌, arith, option_and_then}
+use Rattle.std.proofs.Common.{◌≡◌, ℕ, ◌+◌, ◌^◌, ◌<◌, ◌≤◌, Bool, true, false, Option, Some, None, Ok, refl, sym, ap, ◌∙◌, arith, option_and_then}
 use Rattle.std.specs.Prelude.{Result, ok_or, if◌then◌else◌, ⊤}
 use Rattle.zt_bits.specs.declared.kinds.Kind.{Kind}
 use Rattle.zt_bits.specs.declared.kinds.Kind.TheVariants as kind
@@ -11,7 +11,7 @@ use Rattle.zt_rows.specs.declared.keys.RowKey.{RowKey}
 use Rattle.zt_rows.specs.declared.rows.Held.{Held}
 use Rattle.zt_rows.specs.declared.rows.ObjectRow.{ObjectRow}
 use Rattle.zt_rows.specs.declared.rows.Row.{Row}
-use Rattle.zt_rows.specs.State.{State, row, change}
+use Rattle.zt_rows.specs.State.{State, row}
 use Rattle.zt_rows.specs.Reads.{entry, object}
 use Rattle.zt_rows.specs.Tests.{any_kind, any_row, has_all, is_port, next_at, object_next}
 use Rattle.zt_rows.specs.Room.{HasRoom, NextFits}

@@ -42,11 +42,7 @@ pub fn take_out_all(
 }
 
 /// Takes an entry of the process out, with the waits made on it, if there is one.
-fn take_out_if_there(
-    step: &mut Step,
-    process: Koid,
-    handle: HandleValue,
-) -> Result<(), AllocError>
+fn take_out_if_there(step: &mut Step, process: Koid, handle: HandleValue) -> Result<(), AllocError>
     requires sound { IsSound step.old.current }
     ensures ok { OnOk result (Advanced step.old step.new (take_out step.old.current process handle)) }
     ensures err { OnErr result (AsBegun step.old step.new) }

@@ -11,8 +11,8 @@ use Rattle.zt_rows.proofs.StateLaws.{row-change}
 use Rattle.zt_rows.proofs.RowLaws.{at-any_row, not_true}
 use Rattle.zt_store.proofs.Totals.{total-put, count-total, share}
 use Rattle.zt_store.specs.Numbers.{total}
-use Rattle.zt_signals.specs.Columns.{IsAfter, IsNext}
-use Rattle.zt_signals.proofs.ColumnLaws.{IsColumn, left_by, without_those, passes_under, drop-start, drop-next, drop-end, ahead}
+use Rattle.zt_signals.specs.Columns.{IsAfter, IsNext, passes_under}
+use Rattle.zt_signals.proofs.ColumnLaws.{IsColumn, left_by, without_those, drop-start, drop-next, drop-end, ahead}
 use Rattle.zt_signals.proofs.DerivedLaws.{count-none}
 
 -- ---- one row taken away where it passes

@@ -6,8 +6,8 @@ ghost use Rattle.zt_rows.specs.State.{row, put};
 ghost use Rattle.zt_rows.specs.Tests.{any_row};
 ghost use Rattle.zt_store.specs.Places.{Keeps};
 ghost use Rattle.zt_store.specs.Stepping.{Advanced, AsBegun};
+ghost use Rattle.zt_signals.specs.Columns.{passes_under};
 ghost use Rattle.zt_ports.specs.Cancelled.{is_cancelled_packet, is_news_of, without_cancelled};
-ghost use Rattle.zt_ports.specs.Walks.{passes_under};
 
 use crate::walking::packet_after;
 use std::alloc::AllocError;

@@ -12,7 +12,7 @@ use Rattle.zt_rows.specs.State.{State, row, put, change}
 use Rattle.zt_rows.specs.Tests.{any_row}
 use Rattle.zt_rows.proofs.StateLaws.{row-put, row-change, same_state, put-row}
 use Rattle.zt_rows.proofs.RowLaws.{any_row-at, at-any_row, and_left, and_right, and_both, or_true, or_left, or_right, same_test, true≢false}
-use Rattle.zt_signals.specs.Columns.{IsAfter, IsNext}
+use Rattle.zt_signals.specs.Columns.{IsAfter, IsNext, passes_under}
 
 -- ---- numbers
 
@@ -72,10 +72,6 @@ pub record IsColumn (at : ℕ → RowKey) (index : RowKey → Option ℕ) (test 
 -- what is left of a row when those that pass go
 abbrev pub without_those : (RowKey → Row → Bool) → RowKey → Row → Option Row
 without_those test k r = if test k r then None else Some r
-
--- the row under the key is there and passes
-abbrev pub passes_under : (RowKey → Row → Bool) → State → RowKey → Bool
-passes_under test S k = option_map_or (test k) (row S k) false
 
 -- a row that passes and was come past
 abbrev pub is_dropped : (RowKey → Option ℕ) → (RowKey → Row → Bool) → Option ℕ → RowKey → Row → Bool

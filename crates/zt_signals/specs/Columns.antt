@@ -1,7 +1,9 @@
--- A walk along the keys of one column, as those of waits: what comes next. This project's own form.
-use Rattle.std.specs.Prelude.{◌≡◌, ◌<◌, ℕ, ⊤, Option, None, Some, IsSome}
-use Rattle.std.specs.Option.{MatchOption}
+-- A walk along the keys of one column, as those of waits: what comes next, and whether it passes. This project's
+-- own form.
+use Rattle.std.specs.Prelude.{◌≡◌, ◌<◌, ℕ, Bool, false, ⊤, Option, None, Some, IsSome}
+use Rattle.std.specs.Option.{MatchOption, option_map_or}
 use Rattle.zt_rows.specs.declared.keys.RowKey.{RowKey}
+use Rattle.zt_rows.specs.declared.rows.Row.{Row}
 use Rattle.zt_rows.specs.State.{State, row}
 
 -- the number is after the low one, if there is a low one
@@ -14,3 +16,7 @@ abbrev pub IsNext : State → (ℕ → RowKey) → Option ℕ → Option ℕ →
 IsNext S key_of low found =
     MatchOption found ((n : ℕ) → IsAfter low n → row S (key_of n) ≡ None)
     (λ n. IsAfter low n × IsSome (row S (key_of n)) × ((m : ℕ) → IsAfter low m → m < n → row S (key_of m) ≡ None))
+
+-- there is a row under the key, and it passes
+abbrev pub passes_under : (RowKey → Row → Bool) → State → RowKey → Bool
+passes_under test S k = option_map_or (test k) (row S k) false

@@ -1,13 +1,12 @@
 -- What a walk over waits looks for, and where it goes on. This project's own form.
-use Rattle.std.specs.Prelude.{◌-◌, ◌^◌, ℕ, Bool, false, Option, None, Some}
-use Rattle.std.specs.Option.{option_map_or}
+use Rattle.std.specs.Prelude.{◌-◌, ◌^◌, ℕ, Bool, Option, None, Some}
 use Rattle.zt_rows.specs.declared.keys.RowKey.{RowKey}
 use Rattle.zt_rows.specs.declared.keys.RowKey.TheVariants as key
 use Rattle.zt_rows.specs.declared.rows.Wait.{Wait}
-use Rattle.zt_rows.specs.State.{State, row}
+use Rattle.zt_rows.specs.State.{State}
 use Rattle.zt_signals.specs.declared.dropping.Picked.{Picked}
 use Rattle.zt_signals.specs.declared.dropping.Picked.TheVariants as picked
-use Rattle.zt_signals.specs.Columns.{IsNext}
+use Rattle.zt_signals.specs.Columns.{IsNext, passes_under}
 use Rattle.zt_signals.specs.Waits.{is_wait_where, made_on, made_for, made_under}
 
 -- the wait is one of those that are picked
@@ -18,7 +17,7 @@ picks (picked.Under x p h packet_key) = made_under x p h packet_key
 
 -- the wait of this number passes
 abbrev pub is_picked : (Wait → Bool) → State → ℕ → Bool
-is_picked test S n = option_map_or (is_wait_where test (key.Wait n)) (row S (key.Wait n)) false
+is_picked test S n = passes_under (is_wait_where test) S (key.Wait n)
 
 -- the key of the wait, or the last key before those of waits
 abbrev pub key_below : Option ℕ → RowKey

@@ -73,7 +73,6 @@ fn number_of(key: RowKey) -> Option<u64>
 {
     match key {
         RowKey::Wait(number) => Some(number),
-        RowKey::Packet(Koid(_port), _number) => None,
         _ => None,
     }
 }

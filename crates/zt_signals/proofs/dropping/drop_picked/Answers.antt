@@ -1,5 +1,4 @@
-use Rattle.std.proofs.Common.{◌≡◌, ◌||◌, refl, sym, ap, ◌∙◌}
-use Rattle.zt_rows.specs.State.{change}
+use Rattle.std.proofs.Common.{◌||◌, refl, sym, ap, ◌∙◌}
 use Rattle.zt_rows.specs.Tests.{any_row}
 use Rattle.zt_signals.specs.Picks.{picks}
 use Rattle.zt_signals.specs.Waits.{is_wait_where}
