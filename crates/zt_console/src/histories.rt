@@ -81,6 +81,7 @@ impl History {
         if !runs(&self.store, process) {
             return Err(Refusal::NoProcess);
         }
+        call.limits();
         let Ok(reply) = called(&mut self.store, &mut self.past, process, call) else {
             return Err(Refusal::OutOfMemory);
         };

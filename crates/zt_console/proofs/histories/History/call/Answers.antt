@@ -20,7 +20,7 @@ invariant_of-self-2 c =
     let spent =
     more_spent c.self.inside.store.state c.called.new.store.state c.self.inside.past.items c.self.inside.future.items c.goto.new.self (states c.args.self.now) c.args.process c.args.call.now c.in-Ok-called.reply
     c.self.invariant.branch c.self.view_is c.in-Ok.ensures.states (c.in-Ok.ensures.ok ∙ ap (λ n. state_of (states c.args.self.now) n) c.last-last.ensures.last) few
-    running c.in-Ok-called.ensures.ok in
+    running c.limits.ensures c.in-Ok-called.ensures.ok in
     record {
       branch =
           is_branch-more c.called.new.store.state (states c.args.self.now) c.called.new.records.items c.self.inside.future.items few (some_states c.args.self.now) c.called.ensures.consistent spent
