@@ -22,7 +22,7 @@ use Rattle.zt_calls.proofs.GoingOn.{further, reached}
 use Rattle.zt_calls.proofs.CallerLaws.{room-installs, caller-same, next-same, caller-next, object-of-made, object-of-paired, object-of-rest, caller-of-installed, next-of-installed}
 
 -- a step went on to a state in which the caller's row is the same, and the caller received a handle there
-installed_on : (s t u : Stepping) (T : State) (p value : ℕ) (held : Held) → Advanced s t T → object T p ≡ object s.current p → Advanced t u (install p (caller t.current p) held t.current) → value ≡ value_of (next_at t.current p) → (Advanced s u (install p (caller s.current p) held T)) × (value ≡ value_of (caller s.current p).next)
+pub installed_on : (s t u : Stepping) (T : State) (p value : ℕ) (held : Held) → Advanced s t T → object T p ≡ object s.current p → Advanced t u (install p (caller t.current p) held t.current) → value ≡ value_of (next_at t.current p) → (Advanced s u (install p (caller s.current p) held T)) × (value ≡ value_of (caller s.current p).next)
 installed_on s t u T p value held went same installed valued =
     let there : Advanced s u (install p (caller T p) held T) = further s t u T (λ S. install p (caller S p) held S) went installed in
     let at : next_at t.current p ≡ (caller s.current p).next = ap (λ S. next_at S p) went.1 ∙ next-same s.current T p same ∙ sym (caller-next s.current p) in

@@ -1,9 +1,10 @@
 pub mod GoingOn
 pub mod CallerLaws
 pub mod RoomLaws
-pub mod WalkLaws
 pub mod LosingLaws
-pub mod SettleLaws
 pub mod TakingLaws
 pub mod CallLaws
-pub mod RefreshLaws
+pub mod ReceivingLaws
+pub mod SendingLaws
+pub mod PortCallLaws
+pub mod JobCallLaws

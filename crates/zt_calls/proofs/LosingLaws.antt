@@ -1,12 +1,9 @@
 -- What the rows under the touched keys named at the beginning is all that a step can lose.
-use Rattle.std.proofs.Common.{◌≡◌, ℕ, ◌+◌, true, false, List, [], ◌∷◌, ◌++◌, take, ◌⊎◌, inl, inr, refl, sym, ap, ◌∙◌, subst, add-one}
-use Rattle.std.specs.Prelude.{Option, None, Some, ◌==◌, slice_get}
+use Rattle.std.proofs.Common.{◌≡◌, ℕ, true, false, List, [], ◌∷◌, ◌⊎◌, inl, inr, refl, ap, ◌∙◌, subst}
+use Rattle.std.specs.Prelude.{◌==◌}
 use Rattle.std.specs.List.{flat_map}
-use Rattle.std.proofs.Math.Seq.{take-suc}
 use Rattle.std.proofs.lemmas.List.Folds.{list_any-append}
 use Rattle.std.proofs.lemmas.Bool.{eq-eqb}
-use Rattle.std.proofs.lemmas.Option.{slice_get_cases}
-use Rattle.std.proofs.lemmas.Grind.{flat_map-append}
 use Rattle.zt_rows.specs.declared.keys.RowKey.{RowKey}
 use Rattle.zt_rows.specs.declared.keys.RowKey.TheVariants as key
 use Rattle.zt_rows.specs.declared.rows.Held.{Held}
@@ -20,42 +17,10 @@ use Rattle.zt_store.specs.Stepping.{Stepping, listed, DiffersAtTouched}
 use Rattle.zt_cascade.specs.OnTheWay.{is_named}
 use Rattle.zt_cascade.specs.Covered.{NamesLost}
 use Rattle.zt_calls.specs.Losing.{named_by}
-use Rattle.zt_calls.proofs.WalkLaws.{take-past}
 
 -- what the rows of B under these keys name
 abbrev pub all_named : State → List RowKey → List Held
 all_named B ks = flat_map (λ k. named_by (row B k)) ks
-
--- ---- one key after another
-
-pub named-more : (B : State) (ks : List RowKey) (i : ℕ) (k : RowKey) → slice_get ks i ≡ Some k → all_named B (take (i + 1) ks) ≡ all_named B (take i ks) ++ named_by (row B k)
-named-more B ks i k here = elim (slice_get_cases ks i).1 [
-  | inl w ↦
-      let same : w.0 ≡ k = one_key w.0 k (sym w.2 ∙ here) in
-      let more : take (i + 1) ks ≡ take i ks ++ k ∷ [] =
-      ap (λ n. take n ks) (add-one i) ∙ take-suc ks i w.0 w.1 ∙ ap (λ z. take i ks ++ z ∷ []) (w.3 ∙ same) in
-      ap (all_named B) more ∙ flat_map-append (λ k. named_by (row B k)) (take i ks) (k ∷ []) ∙ ap (λ l. all_named B (take i ks) ++ l) (append-nil (named_by (row B k)))
-  | inr w ↦ absurd (no_key (slice_get ks i) k w.1 here)
-]
-  where
-    one_key : (a b : RowKey) → Some a ≡ Some b → a ≡ b
-    one_key a b e = cc
-
-    no_key : (r : Option RowKey) (k : RowKey) → r ≡ None → r ≡ Some k → ⊥
-    no_key r k e f = cc
-
-    append-nil : (l : List Held) → l ++ [] ≡ l
-    append-nil [] = refl
-    append-nil (x ∷ l) = ap (λ m. x ∷ m) (append-nil l)
-
-pub named-end : (B : State) (ks : List RowKey) (i : ℕ) → slice_get ks i ≡ None → all_named B (take i ks) ≡ all_named B ks
-named-end B ks i end = elim (slice_get_cases ks i).1 [
-  | inl w ↦ absurd (some_key (slice_get ks i) w.0 end w.2)
-  | inr w ↦ ap (all_named B) (take-past ks i w.0)
-]
-  where
-    some_key : (r : Option RowKey) (k : RowKey) → r ≡ None → r ≡ Some k → ⊥
-    some_key r k e f = cc
 
 -- ---- what a key of the list names is named
 

@@ -1,21 +1,24 @@
 ghost use Rattle.std.specs.Prelude.{◌≡◌, ◌↔◌, ◌⊎◌, true, false, IfOk, IfErr, OnErr, IsErrOf};
 ghost use Rattle.zt_rows.specs.Reads.{runs};
 ghost use Rattle.zt_rows.specs.Room.{HasRoom};
-ghost use Rattle.zt_rows.specs.Step.{direct, completed, step};
+ghost use Rattle.zt_rows.specs.Step.{IsCall, direct, completed, step};
 ghost use Rattle.zt_rows.specs.Change.{before};
 ghost use Rattle.zt_rows.specs.Consistent.{IsSound, IsConsistent};
 ghost use Rattle.zt_store.specs.Places.{Keeps, fits};
 ghost use Rattle.zt_store.specs.Stepping.{AsBegun};
+ghost use Rattle.zt_calls.specs.Outcomes.{Does};
 
+use crate::channel_calls::{channel_create, channel_read, channel_write};
 use crate::failures::Failure;
+use crate::job_calls::{job_create, process_exit, spawn, task_kill};
 use crate::handle_calls::{handle_close, handle_duplicate, handle_replace};
 use crate::losing::lost;
 use crate::object_calls::{event_create, eventpair_create, object_signal, object_signal_peer};
-use crate::settling::settle;
+use crate::port_calls::{object_wait_async, port_cancel, port_create, port_queue, port_wait};
 use std::alloc::{AllocError, Global};
 use std::mem;
 use zt_bits::Kind;
-use zt_cascade::release;
+use zt_cascade::{release, settle};
 use zt_rows::{Call, Koid, Life, Refusal, Reply, Row, RowKey};
 use zt_store::{Record, Step, Store};
 
@@ -53,6 +56,7 @@ pub fn apply(
     if !runs(store, process) {
         return Err(Refusal::NoProcess);
     }
+    call.limits();
     let mut step = Step::begin(mem::replace(store, Store::hollow(alloc)));
     match carried_out(alloc, &mut step, process, call) {
         Ok(reply) => {
@@ -85,6 +89,7 @@ fn carried_out(
     requires consistent { IsConsistent step.old.current }
     requires running { runs step.old.current process ≡ true }
     requires begun { step.old.current ≡ step.old.beginning }
+    requires limits { IsCall call.now }
     ensures beginning { step.new.beginning ≡ step.old.beginning }
     ensures ok { IfOk result (λ reply. (step.new.current, reply) ≡ completed (direct step.old.current process call.now)) }
     ensures kept { Keeps step.old.places step.new.places }
@@ -92,13 +97,17 @@ fn carried_out(
     let reply = direct(alloc, step, process, call)?;
     let released = lost(alloc, step)?;
     release(step, alloc, released)?;
-    settle(alloc, step)?;
+    settle(step, alloc)?;
     Ok(reply)
 }
 
 /// The checks of the call in order, and then its change of rows.
-#[tactic(auto, unfolding(zt_rows::specs::Step::direct))]
-fn direct(alloc: Global, step: &mut Step, process: Koid, call: &Call) -> Result<Reply, AllocError>
+fn direct(
+    alloc: Global,
+    step: &mut Step,
+    process: Koid,
+    call: &Call,
+) -> Result<Reply, AllocError>
     requires room { HasRoom step.old.current }
     requires sound { IsSound step.old.current }
     requires running { runs step.old.current process ≡ true }
@@ -107,15 +116,31 @@ fn direct(alloc: Global, step: &mut Step, process: Koid, call: &Call) -> Result<
     ensures err { OnErr result (AsBegun step.old step.new) }
     ensures kept { Keeps step.old.places step.new.places }
 {
-    let answered = match call {
+    match answered(alloc, step, process, call) {
+        Ok(reply) => Ok(reply),
+        Err(Failure::Status(status)) => Ok(Reply::Status(status)),
+        Err(Failure::OutOfMemory) => Err(AllocError),
+    }
+}
+
+/// The function of the call, with the call's arguments.
+#[tactic(auto, unfolding(zt_rows::specs::Step::direct))]
+fn answered(alloc: Global, step: &mut Step, process: Koid, call: &Call) -> Result<Reply, Failure>
+    requires room { HasRoom step.old.current }
+    requires sound { IsSound step.old.current }
+    requires running { runs step.old.current process ≡ true }
+    ensures does { Does (direct step.old.current process call.now) step.old step.new result }
+    ensures kept { Keeps step.old.places step.new.places }
+{
+    match call {
         Call::EventCreate => event_create(step, process),
         Call::EventPairCreate => eventpair_create(step, process),
-        Call::HandleClose { handle } => handle_close(alloc, step, process, *handle),
+        Call::HandleClose { handle } => handle_close(step, process, *handle),
         Call::HandleDuplicate { handle, rights } => {
             handle_duplicate(step, process, *handle, *rights)
         }
         Call::HandleReplace { handle, rights } => {
-            handle_replace(alloc, step, process, *handle, *rights)
+            handle_replace(step, process, *handle, *rights)
         }
         Call::ObjectSignal { handle, clear, set } => {
             object_signal(step, process, *handle, *clear, *set)
@@ -123,10 +148,31 @@ fn direct(alloc: Global, step: &mut Step, process: Koid, call: &Call) -> Result<
         Call::ObjectSignalPeer { handle, clear, set } => {
             object_signal_peer(step, process, *handle, *clear, *set)
         }
-    };
-    match answered {
-        Ok(reply) => Ok(reply),
-        Err(Failure::Status(status)) => Ok(Reply::Status(status)),
-        Err(Failure::OutOfMemory) => Err(AllocError),
+        Call::ChannelCreate => channel_create(step, process),
+        Call::ChannelWrite { handle, parcel } => {
+            channel_write(alloc, step, process, *handle, parcel)
+        }
+        Call::ChannelRead {
+            handle,
+            bytes,
+            handles,
+            discard,
+        } => channel_read(alloc, step, process, *handle, *bytes, *handles, *discard),
+        Call::PortCreate => port_create(step, process),
+        Call::ObjectWaitAsync {
+            handle,
+            port,
+            key,
+            signals,
+        } => object_wait_async(step, process, *handle, *port, *key, *signals),
+        Call::PortQueue { port, key, bytes } => port_queue(step, process, *port, *key, *bytes),
+        Call::PortWait { port } => port_wait(step, process, *port),
+        Call::PortCancel { port, source, key } => {
+            port_cancel(step, process, *port, *source, *key)
+        }
+        Call::JobCreate { job } => job_create(step, process, *job),
+        Call::Spawn { job, argument } => spawn(step, process, *job, *argument),
+        Call::TaskKill { handle } => task_kill(alloc, step, process, *handle),
+        Call::ProcessExit { code } => process_exit(alloc, step, process, *code),
     }
 }

@@ -9,25 +9,19 @@ use crate::arguments::{Wanted, handle_to};
 use crate::failures::Failure;
 use crate::looks::held_by;
 use crate::takings::take_out;
-use std::alloc::Global;
 use zt_bits::{Rights, Status, asked};
 use zt_rows::{HandleValue, Koid, Reply};
 use zt_store::Step;
 use zt_tables::duplicate;
 
 /// Closes a handle. To close 0 is ok and changes nothing.
-pub fn handle_close(
-    alloc: Global,
-    step: &mut Step,
-    process: Koid,
-    handle: HandleValue,
-) -> Result<Reply, Failure>
+pub fn handle_close(step: &mut Step, process: Koid, handle: HandleValue) -> Result<Reply, Failure>
     ensures does { Does (handle_close step.old.current process handle) step.old step.new result }
     ensures kept { Keeps step.old.places step.new.places }
 {
     if handle != HandleValue(0) {
         held_by(step, process, handle).ok_or(Status::BadHandle)?;
-        take_out(alloc, step, process, handle)?;
+        take_out(step, process, handle)?;
     }
     Ok(Reply::Status(Status::Ok))
 }
@@ -53,7 +47,6 @@ pub fn handle_duplicate(
 /// Gives the caller a handle with the rights asked for in the place of the old one, which is closed also where
 /// they are refused.
 pub fn handle_replace(
-    alloc: Global,
     step: &mut Step,
     process: Koid,
     handle: HandleValue,
@@ -66,7 +59,7 @@ pub fn handle_replace(
 {
     let held = held_by(step, process, handle).ok_or(Status::BadHandle)?;
     let granted = asked(rights, held.rights);
-    take_out(alloc, step, process, handle)?;
+    take_out(step, process, handle)?;
     let rights = granted.ok_or(Status::InvalidArgs)?;
     let value = duplicate(step, process, held, rights)?;
     Ok(Reply::Handle(value))

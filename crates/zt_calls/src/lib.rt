@@ -4,12 +4,16 @@
 mod additions;
 mod applying;
 mod arguments;
+mod channel_calls;
 mod failures;
 mod handle_calls;
+mod job_calls;
 mod looks;
 mod losing;
 mod object_calls;
-mod settling;
+mod port_calls;
+mod receiving;
+mod sending;
 mod takings;
 
 pub use applying::{apply, runs};

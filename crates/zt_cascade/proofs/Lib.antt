@@ -4,3 +4,6 @@ pub mod LeavingLaws
 pub mod TakingLaws
 pub mod ReleasingLaws
 pub mod CoveredLaws
+pub mod ListLaws
+pub mod NearLaws
+pub mod FiringLaws

@@ -3,3 +3,5 @@ pub mod Joined
 pub mod Covered
 pub mod Leaving
 pub mod Under
+pub mod Near
+pub mod Firing

@@ -86,7 +86,7 @@ fn add_key(step: &Step, key: RowKey, list: &mut Vec<Koid>) -> Result<(), AllocEr
 }
 
 /// The link of the object at the beginning of the step, 0 for none.
-fn first_link(step: &Step, koid: Koid) -> Koid
+pub(crate) fn first_link(step: &Step, koid: Koid) -> Koid
     ensures { result ≡ link_at step.now.beginning koid }
 {
     match step.was(RowKey::Object(koid)) {

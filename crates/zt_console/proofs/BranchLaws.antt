@@ -203,14 +203,14 @@ head_room S past future b Ss branch v h at few = spent-room S (last Ss) (omega a
 
 -- what one more call gave out
 pub more_spent : (S T : State) (past future : List (List (RowKey × Option Row))) (b : Branch) (Ss : List State) (process : ℕ) (made : Call) (answer : Reply)
-    → IsBranch S past future → branch_of S past future ≡ b → states b ≡ Ss → b.here ≡ state_of Ss (last Ss) → last Ss < 1048576 → runs S process ≡ true
-    → IsCall made → (T, answer) ≡ step S process made → HasSpent (last Ss + 1) T
-more_spent S T past future b Ss process made answer branch v h at few live within d =
+    → IsBranch S past future → branch_of S past future ≡ b → states b ≡ Ss → b.here ≡ state_of Ss (last Ss) → last Ss < 1048576 → runs S process ≡ true → IsCall made
+    → (T, answer) ≡ step S process made → HasSpent (last Ss + 1) T
+more_spent S T past future b Ss process made answer branch v h at few live limits d =
     let e : states (branch_of S past future) ≡ Ss = ap states v ∙ h in
     let same : S ≡ state_of Ss (last Ss) = ap (λ x. x.here) v ∙ at in
     let consistent : IsConsistent S = subst IsConsistent (sym same) (subst (λ Xs. IsConsistent (state_of Xs (last Xs))) e branch.consistent) in
     let t : T ≡ (step S process made).0 = ap (λ (x : State × Reply). x.0) d in
-    subst (HasSpent (last Ss + 1)) (sym t) (spent-step S process made (last Ss) few consistent.sound live within (head_spent S past future b Ss branch v h at))
+    subst (HasSpent (last Ss + 1)) (sym t) (spent-step S process made (last Ss) few consistent.sound live limits (head_spent S past future b Ss branch v h at))
 
 pub some_states : (b : Branch) → 0 < length (states b)
 some_states b = omega (arith, length-seam b.earlier b.later b.here)

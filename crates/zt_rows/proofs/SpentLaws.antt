@@ -166,7 +166,7 @@ called-object_signal_peer S p h clear set =
     after_some (Called S) S (object S o.link) status.PeerClosed _ (called-nothing S) (λ peer there.
     called-signals S o.link peer clear set there)))
 
-called-direct : (S : State) (p : ℕ) (c : Call) → IsSound S → runs S p ≡ true → Called S (direct S p c).0
+pub called-direct : (S : State) (p : ℕ) (c : Call) → IsSound S → runs S p ≡ true → Called S (direct S p c).0
 unfolding direct
 called-direct S p call.EventCreate sound live = called-create S p kind.Event sound live
 called-direct S p call.EventPairCreate sound live = called-create_pair S p kind.EventPair sound live refl

@@ -1,1 +1,4 @@
 pub mod DerivedLaws
+pub mod NextKeyLaws
+pub mod ColumnLaws
+pub mod DroppingLaws

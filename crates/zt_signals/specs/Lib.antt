@@ -1,1 +1,4 @@
 pub mod Written
+pub mod Columns
+pub mod Waits
+pub mod Picks

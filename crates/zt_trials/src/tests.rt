@@ -1,4 +1,5 @@
 mod books;
+mod cascades;
 mod copies;
 mod queues;
 mod runs;

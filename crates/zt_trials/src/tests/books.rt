@@ -29,7 +29,7 @@ fn always_out_of_memory(rt: HostRuntime) -> Result<(), Fail> {
 }
 
 /// All rows at the position of the client.
-fn rows_of(book: &mut Book) -> Result<Items<(RowKey, Row)>, Refusal>
+pub(super) fn rows_of(book: &mut Book) -> Result<Items<(RowKey, Row)>, Refusal>
     requires { 1 ≤ length book.old.cursors }
     ensures { length book.new.cursors ≡ length book.old.cursors }
 {
@@ -40,7 +40,7 @@ fn rows_of(book: &mut Book) -> Result<Items<(RowKey, Row)>, Refusal>
 }
 
 /// Whether the rows at the client's position are these.
-fn has_rows(book: &mut Book, rows: &Items<(RowKey, Row)>) -> bool
+pub(super) fn has_rows(book: &mut Book, rows: &Items<(RowKey, Row)>) -> bool
     requires { 1 ≤ length book.old.cursors }
     ensures { length book.new.cursors ≡ length book.old.cursors }
 {
@@ -50,7 +50,7 @@ fn has_rows(book: &mut Book, rows: &Items<(RowKey, Row)>) -> bool
     }
 }
 
-fn is_served(book: &mut Book, command: &Command) -> bool
+pub(super) fn is_served(book: &mut Book, command: &Command) -> bool
     requires { 1 ≤ length book.old.cursors }
     ensures { length book.new.cursors ≡ length book.old.cursors }
 {

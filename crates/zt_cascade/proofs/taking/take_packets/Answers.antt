@@ -1,5 +1,4 @@
 use Rattle.std.specs.Prelude.{IsSome}
-use Rattle.std.proofs.Common.{ℕ, ◌<◌}
 use Rattle.zt_rows.specs.declared.keys.RowKey.TheVariants as key
 use Rattle.zt_rows.specs.State.{row}
 use Rattle.zt_cascade.proofs.TakingLaws.{ahead-then, packets-step}

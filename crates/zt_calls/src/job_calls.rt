@@ -1,0 +1,183 @@
+ghost use Rattle.std.specs.Prelude.{◌≡◌, ◌<◌, ◌+◌, ◌^◌, true, IfSome, IsSome, OnOk, OnErr};
+ghost use Rattle.zt_rows.specs.declared.rows.Life.TheVariants as life_variant;
+ghost use Rattle.zt_rows.specs.Consistent.{IsSound};
+ghost use Rattle.zt_rows.specs.End.{end, ends_with};
+ghost use Rattle.zt_rows.specs.Handles.{next_koid};
+ghost use Rattle.zt_rows.specs.JobCalls.{argument, give_up, job_create, process_exit, spawn, task_kill};
+ghost use Rattle.zt_rows.specs.Reads.{entry, runs};
+ghost use Rattle.zt_rows.specs.Room.{HasRoom};
+ghost use Rattle.zt_rows.specs.Tests.{next_at};
+ghost use Rattle.zt_store.specs.Places.{Keeps};
+ghost use Rattle.zt_store.specs.Stepping.{Advanced, AsBegun};
+ghost use Rattle.zt_calls.specs.Outcomes.{Does};
+ghost use Rattle.zt_calls.specs.Tasks.{job_made, process_made};
+
+use crate::additions::whole;
+use crate::arguments::{Wanted, handle_to};
+use crate::failures::Failure;
+use crate::takings::take_out;
+use std::alloc::{AllocError, Global};
+use zt_bits::{Kind, Rights, Status};
+use zt_jobs::{depth, end_process, end_subtree, make_job, make_process};
+use zt_rows::{HandleValue, Held, Koid, Life, Reply};
+use zt_store::Step;
+use zt_tables::install;
+
+/// The most jobs above a job; the root job has none.
+const MOST_DEPTH: u64 = 32;
+
+// ---- making jobs and processes
+
+/// Makes a live job under the job that the handle names, and answers with the caller's handle to it.
+pub fn job_create(step: &mut Step, process: Koid, job: HandleValue) -> Result<Reply, Failure>
+    requires room { HasRoom step.old.current }
+    requires sound { IsSound step.old.current }
+    requires running { runs step.old.current process ≡ true }
+    ensures does { Does (job_create step.old.current process job) step.old step.new result }
+    ensures kept { Keeps step.old.places step.new.places }
+{
+    let (held, parent) = handle_to(step, process, job, Wanted::Job, Rights::MANAGE_JOB)?;
+    if parent.life != Life::Live {
+        return Err(Failure::Status(Status::BadState));
+    }
+    if depth(step, held.koid) >= MOST_DEPTH {
+        return Err(Failure::Status(Status::OutOfRange));
+    }
+    add_job(step, process, held.koid)
+}
+
+/// Makes a live job under the parent, and answers with the caller's handle to it.
+fn add_job(step: &mut Step, process: Koid, parent: Koid) -> Result<Reply, Failure>
+    requires koids { next_koid step.old.current + 1 < 2 ^ 64 }
+    requires values { next_at step.old.current process < 2 ^ 30 }
+    requires sound { IsSound step.old.current }
+    requires running { runs step.old.current process ≡ true }
+    ensures does { Does (job_made step.old.current process parent) step.old step.new result }
+    ensures kept { Keeps step.old.places step.new.places }
+{
+    let koid = make_job(step, parent)?;
+    let handle = install(step, process, whole(koid, Kind::Job))?;
+    Ok(Reply::Handle(handle))
+}
+
+/// Makes a live process under the job that the handle names, with what the value names as its first handle, or none
+/// for 0, and answers with the caller's handle to it and with its koid. The caller gives up what it hands over.
+pub fn spawn(
+    step: &mut Step,
+    process: Koid,
+    job: HandleValue,
+    value: HandleValue,
+) -> Result<Reply, Failure>
+    requires room { HasRoom step.old.current }
+    requires sound { IsSound step.old.current }
+    requires running { runs step.old.current process ≡ true }
+    ensures does { Does (spawn step.old.current process job value) step.old step.new result }
+    ensures kept { Keeps step.old.places step.new.places }
+{
+    let (held, parent) = handle_to(step, process, job, Wanted::Job, Rights::MANAGE_PROCESS)?;
+    let given = argument(step, process, value)?;
+    if parent.life != Life::Live {
+        return Err(Failure::Status(Status::BadState));
+    }
+    give_up(step, process, value, &given)?;
+    add_process(step, process, held.koid, given)
+}
+
+/// What the value hands over to a new process: nothing for 0.
+fn argument(step: &Step, process: Koid, value: HandleValue) -> Result<Option<Held>, Status>
+    ensures { result ≡ argument step.now.current process value }
+{
+    if value == HandleValue(0) {
+        return Ok(None);
+    }
+    let (held, _) = handle_to(step, process, value, Wanted::Any, Rights::TRANSFER)?;
+    Ok(Some(held))
+}
+
+/// Takes what is handed over out of the caller's table.
+fn give_up(
+    step: &mut Step,
+    process: Koid,
+    value: HandleValue,
+    given: &Option<Held>,
+) -> Result<(), AllocError>
+    requires { IfSome given.now (λ _. IsSome (entry step.old.current process value)) }
+    ensures ok { OnOk result (Advanced step.old step.new (give_up given.now process value step.old.current)) }
+    ensures err { OnErr result (AsBegun step.old step.new) }
+    ensures kept { Keeps step.old.places step.new.places }
+{
+    match given {
+        Some(_) => take_out(step, process, value),
+        None => Ok(()),
+    }
+}
+
+/// Makes a live process under the job with what is handed over, and answers with the caller's handle to it and with
+/// its koid.
+fn add_process(
+    step: &mut Step,
+    process: Koid,
+    job: Koid,
+    given: Option<Held>,
+) -> Result<Reply, Failure>
+    requires koids { next_koid step.old.current + 1 < 2 ^ 64 }
+    requires values { next_at step.old.current process < 2 ^ 30 }
+    requires sound { IsSound step.old.current }
+    requires running { runs step.old.current process ≡ true }
+    ensures does { Does (process_made step.old.current process job given) step.old step.new result }
+    ensures kept { Keeps step.old.places step.new.places }
+{
+    let koid = make_process(step, job, given)?;
+    let handle = install(step, process, whole(koid, Kind::Process))?;
+    Ok(Reply::Spawned(handle, koid))
+}
+
+// ---- ending them
+
+/// Kills the process or the job that the handle names, and with a job all that is under it. To kill what has ended
+/// is ok and changes nothing.
+pub fn task_kill(
+    alloc: Global,
+    step: &mut Step,
+    process: Koid,
+    handle: HandleValue,
+) -> Result<Reply, Failure>
+    requires sound { IsSound step.old.current }
+    ensures does { Does (task_kill step.old.current process handle) step.old step.new result }
+    ensures kept { Keeps step.old.places step.new.places }
+{
+    let (held, task) = handle_to(step, process, handle, Wanted::Task, Rights::DESTROY)?;
+    if task.life == Life::Live {
+        kill(alloc, step, held.koid, task.kind)?;
+    }
+    Ok(Reply::Status(Status::Ok))
+}
+
+/// Kills the process, or the job with all that is under it.
+fn kill(alloc: Global, step: &mut Step, task: Koid, kind: Kind) -> Result<(), AllocError>
+    requires sound { IsSound step.old.current }
+    ensures ok { let S = step.old.current in
+        OnOk result (Advanced step.old step.new (end S (ends_with S kind task) life_variant.Killed)) }
+    ensures err { OnErr result (AsBegun step.old step.new) }
+    ensures kept { Keeps step.old.places step.new.places }
+{
+    match kind {
+        Kind::Job => end_subtree(alloc, step, task, Life::Killed)?,
+        _ => end_process(alloc, step, task, Life::Killed)?,
+    };
+    Ok(())
+}
+
+/// Ends the caller with the code.
+pub fn process_exit(
+    alloc: Global,
+    step: &mut Step,
+    process: Koid,
+    code: i64,
+) -> Result<Reply, Failure>
+    ensures does { Does (process_exit step.old.current process code) step.old step.new result }
+    ensures kept { Keeps step.old.places step.new.places }
+{
+    end_process(alloc, step, process, Life::Exited(code))?;
+    Ok(Reply::Status(Status::Ok))
+}

@@ -1,0 +1,204 @@
+-- Chains of links: how many there are above, and that what is under a job is closed under children.
+use Rattle.std.proofs.Common.{◌≡◌, ◌≢◌, ◌≤◌, ◌<◌, ℕ, zero, suc, ◌+◌, ◌-◌, Bool, true, false, not, cond, ◌&&◌, ◌||◌, List, [], ◌∷◌, length, ◌⊎◌, inl, inr, refl, sym, ap, ◌∙◌, subst, arith, add-one}
+use Rattle.std.specs.Prelude.{Option, None, Some, ◌==◌}
+use Rattle.std.proofs.lemmas.Bool.{eqb-true, eq-eqb}
+use Rattle.std.proofs.lemmas.Bool.Decides.{nat_tests}
+use Rattle.zt_rows.specs.declared.rows.ObjectRow.{ObjectRow}
+use Rattle.zt_rows.specs.State.{State}
+use Rattle.zt_rows.specs.Reads.{object, is_live_job, is_live_process}
+use Rattle.zt_rows.specs.Tests.{among, link_at, object_link}
+use Rattle.zt_rows.specs.End.{upward, links, chain, depth, is_live_task, is_under}
+use Rattle.zt_rows.specs.Consistent.{IsChild, has_parent, SoundObject, IsSound}
+use Rattle.zt_rows.proofs.RowLaws.{and_left, and_right, or_left, true≢false, not_true}
+use Rattle.zt_rows.proofs.SoundLaws.{task-not-endpoint}
+use Rattle.zt_jobs.specs.Above.{HasParents, is_child_in}
+
+-- ---- parents
+
+pub sound-parents : (S : State) → IsSound S → HasParents S
+sound-parents S sound = record {
+  above = λ x o there live.
+      let s : SoundObject S x o = sound.of_objects x o there in
+      elim (has_parent x o) as (λ b. has_parent x o ≡ b → (o.link ≡ 0) ⊎ ((o.link < x) × (is_live_task (object S o.link) ≡ true))) [
+        | true ↦ λ h. let c : IsChild S x o = s.parents h in inr (c.smaller, ap is_live_task c.there ∙ or_left (is_live_job c.parent) (is_live_process c.parent) c.live)
+        | false ↦ λ h. inl (s.alone (task-not-endpoint o live) h)
+      ] refl;
+}
+
+live-some : (r : Option ObjectRow) → is_live_task r ≡ true → (o : ObjectRow) × (r ≡ Some o)
+live-some (Some o) e = (o, refl)
+live-some None e = cc
+
+pub link-above : (S : State) → HasParents S → (x : ℕ) → is_live_task (object S x) ≡ true → (link_at S x ≡ 0) ⊎ ((link_at S x < x) × (is_live_task (object S (link_at S x)) ≡ true))
+link-above S parents x live =
+    let w = live-some (object S x) live in
+    let l : link_at S x ≡ w.0.link = ap object_link w.1 in
+    subst (λ y. (y ≡ 0) ⊎ ((y < x) × (is_live_task (object S y) ≡ true))) (sym l) (parents.above x w.0 w.1 (sym (ap is_live_task w.1) ∙ live))
+
+-- ---- one link
+
+not_zero : (k : ℕ) → (suc k == 0) ≡ false
+not_zero k = grind (arith, nat_tests)
+
+upward-alike : (l : ℕ) (f g : ℕ → List ℕ) → (l ≡ 0) ⊎ (f l ≡ g l) → upward l f ≡ upward l g
+upward-alike zero f g h = refl
+upward-alike (suc k) f g (inl e) = absurd (omega arith)
+upward-alike (suc k) f g (inr e) = ap (λ z. (suc k) ∷ z) e
+
+upward-among : (l job : ℕ) (f : ℕ → List ℕ) → among (upward l f) job ≡ (not (l == 0) && ((l == job) || among (f l) job))
+upward-among zero job f = refl
+upward-among (suc k) job f = sym (ap (λ b. not b && ((suc k == job) || among (f (suc k)) job)) (not_zero k))
+
+upward-length : (l : ℕ) (f : ℕ → List ℕ) → length (upward l f) ≡ cond (l == 0) 0 (1 + length (f l))
+upward-length zero f = refl
+upward-length (suc k) f = let n : length ((suc k) ∷ f (suc k)) ≡ 1 + length (f (suc k)) = omega arith in n ∙ sym (ap (λ b. cond b 0 (1 + length (f (suc k)))) (not_zero k))
+
+pub links-among : (n : ℕ) (S : State) (x job : ℕ) → among (links (n + 1) S x) job ≡ (not (link_at S x == 0) && ((link_at S x == job) || among (links n S (link_at S x)) job))
+unfolding links
+links-among n S x job = ap (λ m. among (links m S x) job) (add-one n) ∙ upward-among (link_at S x) job (λ y. links n S y)
+
+links-length : (n : ℕ) (S : State) (x : ℕ) → length (links (n + 1) S x) ≡ cond (link_at S x == 0) 0 (1 + length (links n S (link_at S x)))
+unfolding links
+links-length n S x = ap (λ m. length (links m S x)) (add-one n) ∙ upward-length (link_at S x) (λ y. links n S y)
+
+pub links-none : (S : State) (x : ℕ) → links 0 S x ≡ []
+unfolding links
+links-none S x = refl
+
+pub chain-links : (S : State) (x : ℕ) → chain S x ≡ links (x + 1) S x
+unfolding chain
+chain-links S x = refl
+
+-- more links than there are smaller koids make no difference
+links-enough : (S : State) → HasParents S → (n m x : ℕ) → x < n → x < m → is_live_task (object S x) ≡ true → links n S x ≡ links m S x
+unfolding links
+links-enough S parents zero m x a b live = absurd (omega arith)
+links-enough S parents (suc n) zero x a b live = absurd (omega arith)
+links-enough S parents (suc n) (suc m) x a b live =
+    let next : (link_at S x ≡ 0) ⊎ (links n S (link_at S x) ≡ links m S (link_at S x)) =
+    elim (link-above S parents x live) [
+      | inl z ↦ inl z
+      | inr w ↦ let l : link_at S x < x = w.0 in inr (links-enough S parents n m (link_at S x) (omega arith) (omega arith) w.1)
+    ] in
+    upward-alike (link_at S x) (λ y. links n S y) (λ y. links m S y) next
+
+-- ---- what is under a job
+
+module _ (S : State) (parents : HasParents S) (job : ℕ) where
+  step-zero : (l : ℕ) (a b : Bool) → l ≡ 0 → (not (l == 0) && a) ≡ (not (l == 0) && b)
+  step-zero l a b e = let z : (l == 0) ≡ true = eq-eqb l 0 e in ap (λ t. not t && a) z ∙ sym (ap (λ t. not t && b) z)
+
+  -- what is above a live process or job is its parent, and what is above that
+  chain-step : (x : ℕ) → is_live_task (object S x) ≡ true → among (chain S x) job ≡ (not (link_at S x == 0) && is_under S job (link_at S x))
+  chain-step x live =
+      let l : ℕ = link_at S x in
+      let first : among (chain S x) job ≡ (not (l == 0) && ((l == job) || among (links x S l) job)) = ap (λ z. among z job) (chain-links S x) ∙ links-among x S x job in
+      elim (link-above S parents x live) [
+        | inl z ↦ first ∙ step-zero l _ _ z
+        | inr w ↦
+            let less : l < x = w.0 in
+            let same : links x S l ≡ chain S l = links-enough S parents x (l + 1) l less (omega arith) w.1 ∙ sym (chain-links S l) in
+            first
+            ∙ ap (λ z. not (l == 0) && ((l == job) || among z job)) same
+            ∙ sym (ap (λ b. not (l == 0) && ((l == job) || (b && among (chain S l) job))) w.1)
+      ]
+
+  pub under-step : (x : ℕ) → x ≢ job → is_under S job x ≡ is_child_in S (is_under S job) x
+  under-step x apart =
+      let other : (x == job) ≡ false = not_true (x == job) (λ e. apart (eqb-true x job e)) in
+      ap (λ b. b || (is_live_task (object S x) && among (chain S x) job)) other
+      ∙ elim (is_live_task (object S x)) as (λ b. is_live_task (object S x) ≡ b → (b && among (chain S x) job) ≡ (b && (not (link_at S x == 0) && is_under S job (link_at S x)))) [
+        | true ↦ λ live. chain-step x live
+        | false ↦ λ _. refl
+      ] refl
+
+  pub under-itself : is_under S job job ≡ true
+  under-itself = or_left (job == job) _ (eq-eqb job job refl)
+
+  above-from : (n x : ℕ) → x < n → is_under S job x ≡ true → job ≤ x
+  above-from zero x a under = absurd (omega arith)
+  above-from (suc n) x a under =
+      elim (x == job) as (λ b. (x == job) ≡ b → job ≤ x) [
+        | true ↦ λ e. let same : x ≡ job = eqb-true x job e in omega arith
+        | false ↦ λ e.
+            let child : is_child_in S (is_under S job) x ≡ true = sym (under-step x (λ same. true≢false (x == job) (eq-eqb x job same) e)) ∙ under in
+            let live : is_live_task (object S x) ≡ true = and_left _ _ child in
+            let rest : (not (link_at S x == 0) && is_under S job (link_at S x)) ≡ true = and_right (is_live_task (object S x)) _ child in
+            elim (link-above S parents x live) [
+              | inl z ↦ absurd (true≢false (not (link_at S x == 0)) (and_left _ _ rest) (ap not (eq-eqb (link_at S x) 0 z)))
+              | inr w ↦
+                  let less : link_at S x < x = w.0 in
+                  let le : job ≤ link_at S x = above-from n (link_at S x) (omega arith) (and_right (not (link_at S x == 0)) _ rest) in
+                  omega arith
+            ]
+      ] refl
+
+  -- what is under a job has no smaller koid
+  pub under-above : (x : ℕ) → is_under S job x ≡ true → job ≤ x
+  under-above x under = above-from (x + 1) x (omega arith) under
+
+-- ---- loops over links
+
+-- so many links were followed, from koid to `at`
+abbrev pub IsFollowed : State → ℕ → ℕ → ℕ → Type 0
+IsFollowed S koid above at = above + length (links (koid + 1 - above) S at) ≡ depth S koid
+
+pub followed-none : (S : State) (koid : ℕ) → IsFollowed S koid 0 koid
+followed-none S koid =
+    let n : koid + 1 - 0 ≡ koid + 1 = omega arith in
+    let e : length (links (koid + 1 - 0) S koid) ≡ depth S koid = ap (λ m. length (links m S koid)) n ∙ ap (λ l. length l) (sym (chain-links S koid)) in
+    omega arith
+
+pub followed-step : (S : State) (koid above at : ℕ) → above ≤ koid → IsFollowed S koid above at → above + cond (link_at S at == 0) 0 (1 + length (links (koid + 1 - (above + 1)) S (link_at S at))) ≡ depth S koid
+followed-step S koid above at le h =
+    let n : koid + 1 - above ≡ (koid + 1 - (above + 1)) + 1 = omega arith in
+    let e : length (links (koid + 1 - above) S at) ≡ cond (link_at S at == 0) 0 (1 + length (links (koid + 1 - (above + 1)) S (link_at S at))) = ap (λ m. length (links m S at)) n ∙ links-length (koid + 1 - (above + 1)) S at in
+    ap (λ m. above + m) (sym e) ∙ h
+
+pub followed-end : (S : State) (koid above at up : ℕ) → above ≤ koid → IsFollowed S koid above at → up ≡ link_at S at → (up == 0) ≡ true → above ≡ depth S koid
+followed-end S koid above at up le h is z =
+    let e : cond (link_at S at == 0) 0 (1 + length (links (koid + 1 - (above + 1)) S (link_at S at))) ≡ 0 = ap (λ b. cond b 0 (1 + length (links (koid + 1 - (above + 1)) S (link_at S at)))) (ap (λ l. l == 0) (sym is) ∙ z) in
+    let f : above + cond (link_at S at == 0) 0 (1 + length (links (koid + 1 - (above + 1)) S (link_at S at))) ≡ depth S koid = followed-step S koid above at le h in
+    omega arith
+
+pub followed-more : (S : State) (koid above at up : ℕ) → above ≤ koid → IsFollowed S koid above at → up ≡ link_at S at → (up == 0) ≡ false → IsFollowed S koid (above + 1) up
+followed-more S koid above at up le h is some =
+    let e : cond (link_at S at == 0) 0 (1 + length (links (koid + 1 - (above + 1)) S (link_at S at))) ≡ 1 + length (links (koid + 1 - (above + 1)) S (link_at S at)) = ap (λ b. cond b 0 (1 + length (links (koid + 1 - (above + 1)) S (link_at S at)))) (ap (λ l. l == 0) (sym is) ∙ some) in
+    let f : above + cond (link_at S at == 0) 0 (1 + length (links (koid + 1 - (above + 1)) S (link_at S at))) ≡ depth S koid = followed-step S koid above at le h in
+    let g : length (links (koid + 1 - (above + 1)) S up) ≡ length (links (koid + 1 - (above + 1)) S (link_at S at)) = ap (λ x. length (links (koid + 1 - (above + 1)) S x)) is in
+    omega arith
+
+pub followed-all : (S : State) (koid above at : ℕ) → koid < above → IsFollowed S koid above at → above ≡ depth S koid
+followed-all S koid above at past h =
+    let n : koid + 1 - above ≡ 0 = omega arith in
+    let e : length (links (koid + 1 - above) S at) ≡ 0 = ap (λ m. length (links m S at)) n ∙ ap (λ (l : List ℕ). length l) (links-none S at) in
+    omega arith
+
+-- the job is above koid exactly where it is among the links that are left
+abbrev pub IsSought : State → ℕ → ℕ → ℕ → ℕ → Type 0
+IsSought S koid job left at = among (links (left + 1) S at) job ≡ among (chain S koid) job
+
+pub sought-start : (S : State) (koid job left : ℕ) → left ≡ koid → IsSought S koid job left koid
+sought-start S koid job left e = ap (λ n. among (links (n + 1) S koid) job) e ∙ ap (λ z. among z job) (sym (chain-links S koid))
+
+module _ (S : State) (koid job left at up : ℕ) (h : IsSought S koid job left at) (is : up ≡ link_at S at) where
+  sought-link : (not (up == 0) && ((up == job) || among (links left S up) job)) ≡ among (chain S koid) job
+  sought-link = ap (λ l. not (l == 0) && ((l == job) || among (links left S l) job)) is ∙ sym (links-among left S at job) ∙ h
+
+  pub sought-end : (up == 0) ≡ true → false ≡ among (chain S koid) job
+  sought-end z = sym (ap (λ b. not b && ((up == job) || among (links left S up) job)) z) ∙ sought-link
+
+  not_end : (up == 0) ≡ false → ((up == job) || among (links left S up) job) ≡ among (chain S koid) job
+  not_end some = sym (ap (λ b. not b && ((up == job) || among (links left S up) job)) some) ∙ sought-link
+
+  pub sought-found : (up == 0) ≡ false → (up == job) ≡ true → true ≡ among (chain S koid) job
+  sought-found some e = sym (ap (λ b. b || among (links left S up) job) e) ∙ not_end some
+
+  not_found : (up == 0) ≡ false → (up == job) ≡ false → among (links left S up) job ≡ among (chain S koid) job
+  not_found some other = sym (ap (λ b. b || among (links left S up) job) other) ∙ not_end some
+
+  pub sought-none : (up == 0) ≡ false → (up == job) ≡ false → left ≡ 0 → false ≡ among (chain S koid) job
+  sought-none some other z = sym (ap (λ l. among l job) (ap (λ n. links n S up) z ∙ links-none S up)) ∙ not_found some other
+
+  pub sought-more : (less : ℕ) → (up == 0) ≡ false → (up == job) ≡ false → less + 1 ≡ left → IsSought S koid job less up
+  sought-more less some other e = ap (λ n. among (links n S up) job) e ∙ not_found some other

@@ -1,0 +1,3 @@
+pub mod Above
+pub mod Parts
+pub mod Walks

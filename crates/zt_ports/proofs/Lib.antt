@@ -1,0 +1,4 @@
+pub mod FrontLaws
+pub mod PacketLaws
+pub mod PendingLaws
+pub mod CancelLaws

@@ -1,0 +1,4 @@
+pub mod Queued
+pub mod Taken
+pub mod Walks
+pub mod Cancelled

@@ -1,0 +1,16 @@
+-- A walk along the keys of one column, as those of waits: what comes next. This project's own form.
+use Rattle.std.specs.Prelude.{◌≡◌, ◌<◌, ℕ, ⊤, Option, None, Some, IsSome}
+use Rattle.std.specs.Option.{MatchOption}
+use Rattle.zt_rows.specs.declared.keys.RowKey.{RowKey}
+use Rattle.zt_rows.specs.State.{State, row}
+
+-- the number is after the low one, if there is a low one
+abbrev pub IsAfter : Option ℕ → ℕ → Type 0
+IsAfter None n = ⊤
+IsAfter (Some low) n = low < n
+
+-- the least number after the low one under whose key there is a row, or none where there is none
+abbrev pub IsNext : State → (ℕ → RowKey) → Option ℕ → Option ℕ → Type 0
+IsNext S key_of low found =
+    MatchOption found ((n : ℕ) → IsAfter low n → row S (key_of n) ≡ None)
+    (λ n. IsAfter low n × IsSome (row S (key_of n)) × ((m : ℕ) → IsAfter low m → m < n → row S (key_of m) ≡ None))

@@ -1,0 +1,115 @@
+ghost use Rattle.std.specs.Prelude.{◌≡◌, false, None, Some, IfOk, OnOk, OnErr};
+ghost use Rattle.std.specs.Option.{MatchOption, option_and_then};
+ghost use Rattle.zt_rows.specs.declared.keys.RowKey.TheVariants as key_variant;
+ghost use Rattle.zt_rows.specs.Room.{is_above};
+ghost use Rattle.zt_rows.specs.State.{row, put, change};
+ghost use Rattle.zt_rows.specs.Tests.{any_row};
+ghost use Rattle.zt_store.specs.Places.{Keeps};
+ghost use Rattle.zt_store.specs.Stepping.{Advanced, AsBegun};
+ghost use Rattle.zt_signals.specs.Picks.{IsNextWait, is_picked, key_below, picks};
+ghost use Rattle.zt_signals.specs.Waits.{is_wait_where, without_waits};
+
+use std::alloc::AllocError;
+use zt_rows::{HandleValue, Koid, Row, RowKey, Wait};
+use zt_store::Step;
+
+/// The waits that go together.
+#[derive(Clone, Copy, Debug)]
+pub(crate) enum Picked {
+    /// Those that the process made on the handle.
+    On(Koid, HandleValue),
+    /// Those for the port.
+    For(Koid),
+    /// Those for the port that the process made on the handle under the key.
+    Under(Koid, Koid, HandleValue, u64),
+}
+
+impl Picked {
+    /// Whether the wait is one of them.
+    fn takes(&self, wait: &Wait) -> bool
+        ensures { result ≡ picks self.now wait.now }
+    {
+        match *self {
+            Picked::On(process, handle) => wait.process == process && wait.handle == handle,
+            Picked::For(port) => wait.port == port,
+            Picked::Under(port, process, handle, key) => {
+                wait.port == port
+                    && wait.process == process
+                    && wait.handle == handle
+                    && wait.key == key
+            }
+        }
+    }
+}
+
+/// Takes away the waits that are picked, and tells whether there was any.
+pub(crate) fn drop_picked(step: &mut Step, picked: Picked) -> Result<bool, AllocError>
+    ensures ok { OnOk result (Advanced step.old step.new (change (without_waits (picks picked)) step.old.current)) }
+    ensures any { IfOk result (λ any. any ≡ any_row (is_wait_where (picks picked)) step.old.current) }
+    ensures err { OnErr result (AsBegun step.old step.new) }
+    ensures kept { Keeps step.old.places step.new.places }
+{
+    let mut any = false;
+    let mut low = None;
+    while let Some(number) = wait_after(step, low) {
+        let told = drop_if(step, number, &picked)?;
+        any |= told;
+        low = Some(number);
+    }
+    Ok(any)
+}
+
+/// The number of the first wait after the low one, or of the first of all. It takes no memory.
+fn wait_after(step: &Step, low: Option<u64>) -> Option<u64>
+    ensures { IsNextWait step.now.current low result }
+{
+    let key = step.after(Some(key_below(low)))?;
+    number_of(key)
+}
+
+/// The number of the wait whose key it is. Every other key comes before those of waits.
+fn number_of(key: RowKey) -> Option<u64>
+    ensures { MatchOption result (is_above (Some (key_below None)) key ≡ false) (λ n. key ≡ key_variant.Wait n) }
+{
+    match key {
+        RowKey::Wait(number) => Some(number),
+        RowKey::Packet(Koid(_port), _number) => None,
+        _ => None,
+    }
+}
+
+/// The key of the wait, or the last key before those of waits.
+fn key_below(low: Option<u64>) -> RowKey
+    ensures { result ≡ key_below low }
+{
+    match low {
+        Some(number) => RowKey::Wait(number),
+        None => RowKey::Packet(Koid(u64::MAX), u64::MAX),
+    }
+}
+
+/// Takes the wait of this number away, if it is picked, and tells whether it was.
+fn drop_if(step: &mut Step, number: u64, picked: &Picked) -> Result<bool, AllocError>
+    ensures ok { let S = step.old.current in OnOk result (Advanced step.old step.new
+        (put S (key_variant.Wait number) (option_and_then (without_waits (picks picked.now) (key_variant.Wait number)) (row S (key_variant.Wait number))))) }
+    ensures told { IfOk result (λ told. told ≡ is_picked (picks picked.now) step.old.current number) }
+    ensures err { OnErr result (AsBegun step.old step.new) }
+    ensures kept { Keeps step.old.places step.new.places }
+{
+    if is_picked(step, number, picked) {
+        step.put(RowKey::Wait(number), None)?;
+        Ok(true)
+    } else {
+        Ok(false)
+    }
+}
+
+/// Whether the wait of this number is picked.
+fn is_picked(step: &Step, number: u64, picked: &Picked) -> bool
+    ensures { result ≡ is_picked (picks picked.now) step.now.current number }
+{
+    match step.row(RowKey::Wait(number)) {
+        Some(Row::Wait(wait)) => picked.takes(wait),
+        _ => false,
+    }
+}

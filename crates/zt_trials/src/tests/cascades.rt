@@ -1,0 +1,65 @@
+//! Calls that bring down nested channels, fire waits over several ports and kill many processes, with each request for
+//! memory refused in turn.
+ghost use Rattle.std.specs.Prelude.{◌≤◌, IfOk, length};
+
+use super::books::{has_rows, is_served, rows_of};
+use super::runs::talk;
+use std::alloc::Global;
+use std::process::Abort;
+use zt_bits::Signals;
+use zt_console::Book;
+use zt_rows::{Call, Command, HandleValue, Koid, Refusal};
+
+const ROOT: Koid = Koid(1025);
+
+/// The book that these lines leave.
+fn book_after(alloc: Global, lines: &[u8]) -> Result<Book, Refusal>
+    ensures { IfOk result (λ book. 1 ≤ length book.cursors) }
+{
+    let book = Book::new(alloc, 1)?;
+    let (book, _, _) = talk(alloc, book, lines, Vec::new(alloc));
+    Ok(book)
+}
+
+/// Serves the call behind these lines, and goes back over it. Where memory is refused to it, all rows are as before, and
+/// it is served when asked again; taken back, all rows are as before.
+fn check_taken_back(rt: &(impl Abort + AllocGlobal), lines: &[u8], call: Call) {
+    let Ok(mut book) = book_after(rt.alloc(), lines) else {
+        return;
+    };
+    let Ok(before) = rows_of(&mut book) else {
+        return;
+    };
+    let command = Command::Call(ROOT, call);
+    if !is_served(&mut book, &command) {
+        assert!(rt; has_rows(&mut book, &before), "refused");
+        assert!(rt; is_served(&mut book, &command), "asked again");
+    }
+    let back = Command::Back(1);
+    let moved = is_served(&mut book, &back) || is_served(&mut book, &back);
+    assert!(rt; moved, "gone back");
+    let same = has_rows(&mut book, &before) || has_rows(&mut book, &before);
+    assert!(rt; same, "taken back");
+}
+
+/// The far end of each channel lies in the queue of the next one's.
+#[test]
+fn refused_memory_leaves_no_half_a_cascade(rt: HostRuntime) {
+    let lines = b"1025 channel_create\n1025 channel_create\n1025 channel_create\n1025 event_create\n1025 channel_write 15 6869 11,31\n1025 channel_write 23 - 19\n";
+    let call = Call::HandleClose {
+        handle: HandleValue(27),
+    };
+    check_taken_back(&rt, lines, call);
+}
+
+/// Ten waits on one event, for three ports.
+#[test]
+fn refused_memory_fires_no_wait(rt: HostRuntime) {
+    let lines = b"1025 event_create\n1025 port_create\n1025 port_create\n1025 port_create\n1025 object_wait_async 7 11 1 0x00000008\n1025 object_wait_async 7 15 2 0x00000008\n1025 object_wait_async 7 19 3 0x00000008\n1025 object_wait_async 7 11 4 0x00000008\n1025 object_wait_async 7 15 5 0x00000008\n1025 object_wait_async 7 19 6 0x00000008\n1025 object_wait_async 7 11 7 0x00000008\n1025 object_wait_async 7 15 8 0x00000008\n1025 object_wait_async 7 19 9 0x00000008\n1025 object_wait_async 7 11 10 0x00000008\n";
+    let call = Call::ObjectSignal {
+        handle: HandleValue(7),
+        clear: Signals(0),
+        set: Signals(0x8),
+    };
+    check_taken_back(&rt, lines, call);
+}
