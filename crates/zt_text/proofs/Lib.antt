@@ -6,3 +6,4 @@ pub mod FieldLemmas
 pub mod ShownLemmas
 mod WorkedLines
 mod WorkedAnswers
+mod LongLines
