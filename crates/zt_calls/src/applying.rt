@@ -10,8 +10,8 @@ ghost use Rattle.zt_calls.specs.Outcomes.{Does};
 
 use crate::channel_calls::{channel_create, channel_read, channel_write};
 use crate::failures::Failure;
-use crate::job_calls::{job_create, process_exit, spawn, task_kill};
 use crate::handle_calls::{handle_close, handle_duplicate, handle_replace};
+use crate::job_calls::{job_create, process_exit, spawn, task_kill};
 use crate::losing::lost;
 use crate::object_calls::{event_create, eventpair_create, object_signal, object_signal_peer};
 use crate::port_calls::{object_wait_async, port_cancel, port_create, port_queue, port_wait};
@@ -102,12 +102,7 @@ fn carried_out(
 }
 
 /// The checks of the call in order, and then its change of rows.
-fn direct(
-    alloc: Global,
-    step: &mut Step,
-    process: Koid,
-    call: &Call,
-) -> Result<Reply, AllocError>
+fn direct(alloc: Global, step: &mut Step, process: Koid, call: &Call) -> Result<Reply, AllocError>
     requires room { HasRoom step.old.current }
     requires sound { IsSound step.old.current }
     requires running { runs step.old.current process ≡ true }

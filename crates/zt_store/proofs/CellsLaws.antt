@@ -1,5 +1,5 @@
 -- The cells as they are seen: a state and its places, after looks, an exchange and a growth of all tables.
-use Rattle.std.proofs.Common.{◌≡◌, ◌≤◌, ◌<◌, ℕ, zero, suc, ◌+◌, ◌*◌, ◌^◌, ◌/◌, ◌%◌, Bool, true, false, cond, List, [], ◌∷◌, length, map, get_or, Option, Some, None, IsSome, refl, sym, ap, ◌∙◌, subst, arith, ◌⊎◌, ⊎_elim}
+use Rattle.std.proofs.Common.{◌≡◌, ◌≤◌, ◌<◌, ℕ, zero, suc, ◌+◌, ◌^◌, ◌/◌, ◌%◌, true, false, cond, List, [], ◌∷◌, length, map, Option, Some, None, IsSome, refl, sym, ap, ◌∙◌, subst, arith}
 use Rattle.std.specs.List.{sum}
 use Rattle.std.proofs.lemmas.Bool.{ltb-true, lt-ltb}
 use Rattle.std.proofs.lemmas.List.{get_or_past}
@@ -12,7 +12,7 @@ use Rattle.zt_rows.specs.Room.{SuitsKey}
 use Rattle.zt_rows.specs.State.{State, row, put}
 use Rattle.zt_rows.proofs.StateLaws.{row-put, same_state}
 use Rattle.zt_store.specs.Grids.{cell, table, cell_at, lengths, shelf, entry, entry_places, IsFirstCell}
-use Rattle.zt_store.specs.Cabinets.{cabinet_of, look, shelves_of, places_in, state_in, Exchanged, Widened, MadeFor, IsCells}
+use Rattle.zt_store.specs.Cabinets.{cabinet_of, look, shelves_of, places_in, state_in, Exchanged, Widened, IsCells}
 use Rattle.zt_store.specs.Seen.{Shelved}
 use Rattle.zt_store.specs.Shelves.{Shelves, place_of, length_at, has_place}
 use Rattle.zt_store.specs.Walks.{IsFirst}

@@ -1,11 +1,11 @@
 -- Tables of places and shelves of tables: what stands at a place after an exchange and after a growth.
-use Rattle.std.proofs.Common.{zero, suc, ◌≡◌, ◌≢◌, ◌≤◌, ◌<◌, ℕ, ◌+◌, ◌-◌, Bool, true, false, cond, ◌&&◌, ◌==◌, eqb, List, [], ◌∷◌, ◌++◌, map, length, get_or, set, Option, Some, None, is_some, refl, sym, ap, ◌∙◌, subst, arith, ◌⊎◌, ⊎_elim, get_or-set_same, get_or-set_other}
-use Rattle.std.proofs.lemmas.Bool.{cases_eq, cases_lt, eq-eqb, ne_eqb}
-use Rattle.std.proofs.lemmas.List.{get_or_past, length-set, map-append}
+use Rattle.std.proofs.Common.{zero, suc, ◌≡◌, ◌≢◌, ◌≤◌, ◌<◌, ℕ, ◌+◌, false, List, [], ◌∷◌, ◌++◌, length, get_or, set, Option, Some, None, is_some, refl, ap, ◌∙◌, subst, arith, ⊎_elim, get_or-set_same, get_or-set_other}
+use Rattle.std.proofs.lemmas.Bool.{cases_eq, cases_lt}
+use Rattle.std.proofs.lemmas.List.{get_or_past, map-append}
 use Rattle.std.proofs.lemmas.List.Sums.{sum_by-set, sum_by_push, sum-map, get_or-le-sum_by}
 use Rattle.std.specs.List.{sum}
 use Rattle.zt_rows.specs.declared.rows.Row.{Row}
-use Rattle.zt_store.specs.Grids.{cell, table, cell_at, set_at, lengths, IsEmptyBelow, IsFirstCell, shelf, entry_places}
+use Rattle.zt_store.specs.Grids.{table, lengths, IsEmptyBelow, shelf, entry_places}
 
 none_of : {A : Type 0} (o : Option A) → is_some o ≡ false → o ≡ None
 none_of None e = refl

@@ -11,7 +11,7 @@ use Rattle.zt_rows.specs.Keys.{rowkey_cmp, rowkey_eq}
 use Rattle.zt_rows.specs.KeyOrder.{rowkey_eq-equal}
 use Rattle.zt_rows.specs.State.{State, row, put, nothing}
 use Rattle.zt_rows.proofs.StateLaws.{row-put, row-put-same, row-nothing}
-use Rattle.zt_store.specs.Grids.{cell, table, cell_at, lengths, shelf, entry, entry_places}
+use Rattle.zt_store.specs.Grids.{cell, cell_at, lengths, shelf}
 use Rattle.zt_store.specs.Cabinets.{look, places_in, put_cells, put_tables, put_entries, entry_key, state_in}
 use Rattle.zt_store.specs.declared.cells.cabinet.Cabinet.{Cabinet}
 

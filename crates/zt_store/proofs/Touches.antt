@@ -1,5 +1,5 @@
 -- What a step's parts say of the step: which keys were put, what stood under them, and what one more put makes of it.
-use Rattle.std.proofs.Common.{◌≡◌, ℕ, ◌+◌, ◌<◌, zero, suc, Bool, true, false, cond, ◌||◌, List, [], ◌∷◌, ◌++◌, get_or, length, Option, Some, None, is_some, option_copied, refl, sym, ap, ◌∙◌, subst, unwrap_or, arith}
+use Rattle.std.proofs.Common.{◌≡◌, ℕ, ◌<◌, zero, suc, Bool, true, false, cond, ◌||◌, List, [], ◌∷◌, ◌++◌, get_or, length, Option, Some, None, is_some, option_copied, refl, sym, ap, ◌∙◌, subst, unwrap_or, arith}
 use denote.Bor.{Bor}
 use Rattle.std.specs.Prelude.{slice_get}
 use Rattle.std.specs.BTreeMap.{BTreeMap, get, Updates, is_at}

@@ -1,10 +1,9 @@
 -- How a store is seen: its state, and the places that it has for rows.
-use Rattle.std.specs.Prelude.{◌≡◌, ℕ, ◌*◌, ◌≤◌, ◌^◌, ◌<◌, List, [], ◌∷◌, Option, Some, ⊤}
+use Rattle.std.specs.Prelude.{◌≡◌, ℕ, ◌≤◌, List, [], ◌∷◌, Option, Some, ⊤}
 use Rattle.zt_rows.specs.declared.keys.RowKey.{RowKey}
 use Rattle.zt_rows.specs.declared.rows.Row.{Row}
 use Rattle.zt_rows.specs.State.{State, row}
 use Rattle.zt_rows.specs.Room.{SuitsKey}
-use Rattle.zt_rows.specs.Change.{exchange}
 use Rattle.zt_store.specs.Shelves.{Shelves}
 use Rattle.zt_store.specs.Numbers.{named_by, numbers_at, numbers_of}
 use Rattle.zt_store.specs.Places.{Places}

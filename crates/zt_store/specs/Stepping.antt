@@ -1,13 +1,12 @@
 -- A step as it is seen: the state at its beginning, the state after the puts so far, the keys that were put in the
 -- order of their first puts, and the places of the store that it changes.
-use Rattle.std.specs.Prelude.{◌≡◌, Bool, true, false, if◌then◌else◌, List, [], ◌∷◌, ◌++◌, Option}
+use Rattle.std.specs.Prelude.{◌≡◌, Bool, false, if◌then◌else◌, List, [], ◌∷◌, ◌++◌, Option}
 use Rattle.std.specs.List.{list_any}
 use Rattle.zt_rows.specs.declared.keys.RowKey.{RowKey}
 use Rattle.zt_rows.specs.declared.rows.Row.{Row}
 use Rattle.zt_rows.specs.Keys.{rowkey_eq}
 use Rattle.zt_rows.specs.State.{State, row, put}
-use Rattle.zt_store.specs.Places.{Places, Keeps}
-use Rattle.zt_store.specs.Seen.{Stored}
+use Rattle.zt_store.specs.Places.{Places}
 
 pub record Stepping : Type 0 where
   pub beginning : State

@@ -45,7 +45,8 @@ fn check_taken_back(rt: &(impl Abort + AllocGlobal), lines: &[u8], call: Call) {
 /// The far end of each channel lies in the queue of the next one's.
 #[test]
 fn refused_memory_leaves_no_half_a_cascade(rt: HostRuntime) {
-    let lines = b"1025 channel_create\n1025 channel_create\n1025 channel_create\n1025 event_create\n1025 channel_write 15 6869 11,31\n1025 channel_write 23 - 19\n";
+    let lines =
+        b"1025 channel_create\n1025 channel_create\n1025 channel_create\n1025 event_create\n1025 channel_write 15 6869 11,31\n1025 channel_write 23 - 19\n";
     let call = Call::HandleClose {
         handle: HandleValue(27),
     };
@@ -55,7 +56,8 @@ fn refused_memory_leaves_no_half_a_cascade(rt: HostRuntime) {
 /// Ten waits on one event, for three ports.
 #[test]
 fn refused_memory_fires_no_wait(rt: HostRuntime) {
-    let lines = b"1025 event_create\n1025 port_create\n1025 port_create\n1025 port_create\n1025 object_wait_async 7 11 1 0x00000008\n1025 object_wait_async 7 15 2 0x00000008\n1025 object_wait_async 7 19 3 0x00000008\n1025 object_wait_async 7 11 4 0x00000008\n1025 object_wait_async 7 15 5 0x00000008\n1025 object_wait_async 7 19 6 0x00000008\n1025 object_wait_async 7 11 7 0x00000008\n1025 object_wait_async 7 15 8 0x00000008\n1025 object_wait_async 7 19 9 0x00000008\n1025 object_wait_async 7 11 10 0x00000008\n";
+    let lines =
+        b"1025 event_create\n1025 port_create\n1025 port_create\n1025 port_create\n1025 object_wait_async 7 11 1 0x00000008\n1025 object_wait_async 7 15 2 0x00000008\n1025 object_wait_async 7 19 3 0x00000008\n1025 object_wait_async 7 11 4 0x00000008\n1025 object_wait_async 7 15 5 0x00000008\n1025 object_wait_async 7 19 6 0x00000008\n1025 object_wait_async 7 11 7 0x00000008\n1025 object_wait_async 7 15 8 0x00000008\n1025 object_wait_async 7 19 9 0x00000008\n1025 object_wait_async 7 11 10 0x00000008\n";
     let call = Call::ObjectSignal {
         handle: HandleValue(7),
         clear: Signals(0),

@@ -69,7 +69,12 @@ impl Write for Stuck {
 }
 
 /// A run over fresh counts.
-pub(super) fn talk<R: Read + Drop, W: Write>(alloc: Global, book: Book, reader: R, writer: W) -> (Book, End, W)
+pub(super) fn talk<R: Read + Drop, W: Write>(
+    alloc: Global,
+    book: Book,
+    reader: R,
+    writer: W,
+) -> (Book, End, W)
     requires { 1 ≤ length book.cursors }
     ensures { length result.0.cursors ≡ length book.cursors }
 {
