@@ -1,1 +1,2 @@
 pub mod ReachLaws
+pub mod FollowLaws
