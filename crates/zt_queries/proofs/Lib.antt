@@ -1,2 +1,3 @@
 pub mod ReachLaws
 pub mod FollowLaws
+pub mod CallsFollow
