@@ -1,3 +1,4 @@
 pub mod ReachLaws
 pub mod FollowLaws
 pub mod CallsFollow
+pub mod LeakLaws
