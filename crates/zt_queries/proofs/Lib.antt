@@ -2,3 +2,4 @@ pub mod ReachLaws
 pub mod FollowLaws
 pub mod CallsFollow
 pub mod LeakLaws
+pub mod OnceLaws

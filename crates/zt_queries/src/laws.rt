@@ -1,9 +1,16 @@
 //! What holds of leaks and of the moments at which something happens to an object. Each law is the contract of a
 //! function that does nothing.
-ghost use Rattle.std.specs.Prelude.{◌≡◌, ℕ, Bool, true};
+ghost use Rattle.std.specs.Prelude.{◌≡◌, ◌≤◌, ℕ, Bool, true, false, List};
+ghost use Rattle.std.specs.List.{AllByRecursion};
+ghost use Rattle.zt_rows.specs.declared.calls.Call.{Call};
 ghost use Rattle.zt_rows.specs.State.{State};
-ghost use Rattle.zt_rows.specs.Tests.{among};
+ghost use Rattle.zt_rows.specs.Reads.{object, on_object, runs};
+ghost use Rattle.zt_rows.specs.Tests.{among, exists, is_endpoint};
+ghost use Rattle.zt_rows.specs.Step.{IsCall, step};
+ghost use Rattle.zt_rows.specs.Consistent.{IsConsistent};
 ghost use Rattle.zt_queries.specs.Reach.{reached, IsClosed};
+ghost use Rattle.zt_queries.specs.Leaks.{is_leaked};
+ghost use Rattle.zt_queries.specs.Happenings.{made, ended, peer_closed, leaked, IsPath, times};
 
 /// What is reached is the least closed set: it is closed, and it is inside every closed set.
 #[tactic(auto, using(crate::proofs::ReachLaws::reach_laws))]
@@ -11,4 +18,29 @@ pub fn reached_is_least()
     ensures closed { (S : State) → IsClosed S (among (reached S)) }
     ensures least { (S : State) (set : ℕ → Bool) → IsClosed S set → (x : ℕ)
         → among (reached S) x ≡ true → set x ≡ true }
+{}
+
+/// What is leaked is leaked or gone after any call of a live process, and a leaked endpoint is never gone. On the
+/// paths that lead on no process reaches it again.
+pub fn what_leaked_stays_leaked()
+    ensures leaked_or_gone { (S : State) (p : ℕ) (c : Call) (x : ℕ) → IsConsistent S → runs S p ≡ true → IsCall c
+        → is_leaked S x ≡ true → exists (step S p c).0 x ≡ true → is_leaked (step S p c).0 x ≡ true }
+    ensures endpoint { (S : State) (p : ℕ) (c : Call) (x : ℕ) → IsConsistent S → runs S p ≡ true → IsCall c
+        → is_leaked S x ≡ true → on_object (λ o. is_endpoint o.kind) (object S x) ≡ true
+        → is_leaked (step S p c).0 x ≡ true }
+    ensures out_of_reach { (S : State) (path : List State) (x : ℕ) → IsConsistent S → IsPath S path
+        → is_leaked S x ≡ true → AllByRecursion (λ T. among (reached T) x ≡ false) path }
+{}
+
+/// On a path of calls an object is made at one moment at most, ends at one at most, loses its peer at one at most,
+/// and is leaked at one at most.
+pub fn once_each()
+    ensures made { (S : State) (path : List State) (x : ℕ) → IsConsistent S → IsPath S path
+        → times (made x) S path ≤ 1 }
+    ensures ended { (S : State) (path : List State) (x : ℕ) → IsConsistent S → IsPath S path
+        → times (ended x) S path ≤ 1 }
+    ensures peer_closed { (S : State) (path : List State) (x : ℕ) → IsConsistent S → IsPath S path
+        → times (peer_closed x) S path ≤ 1 }
+    ensures leaked { (S : State) (path : List State) (x : ℕ) → IsConsistent S → IsPath S path
+        → times (leaked x) S path ≤ 1 }
 {}
