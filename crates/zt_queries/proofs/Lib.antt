@@ -3,3 +3,4 @@ pub mod FollowLaws
 pub mod CallsFollow
 pub mod LeakLaws
 pub mod OnceLaws
+pub mod WorkedLeaks
