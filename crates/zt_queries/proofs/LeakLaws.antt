@@ -1,7 +1,7 @@
 -- What is leaked stays leaked: the state after a call follows from the one before it, what follows reaches nothing
 -- that had been out of reach, and nothing new is below what was leaked. A leaked endpoint does not go, since the
 -- message that names it waits at another one.
-use Rattle.std.proofs.Common.{◌≡◌, ◌≤◌, ◌<◌, ℕ, zero, suc, ◌+◌, Bool, true, false, cond, not, ◌&&◌, ◌||◌, List, [], ◌∷◌, ◌⊎◌, inl, inr, refl, sym, ap, ◌∙◌, subst, arith}
+use Rattle.std.proofs.Common.{◌≡◌, ◌≤◌, ◌<◌, ℕ, zero, suc, ◌+◌, Bool, true, false, cond, not, ◌&&◌, ◌||◌, List, [], ◌∷◌, map, ◌⊎◌, inl, inr, refl, sym, ap, ◌∙◌, subst, arith}
 use Rattle.std.specs.Prelude.{Option, None, Some, is_some, if◌then◌else◌, ◌==◌}
 use Rattle.std.specs.List.{filter_map, list_any}
 use Rattle.std.proofs.lemmas.Bool.{eqb-true, eq-eqb}
@@ -25,7 +25,7 @@ use Rattle.zt_rows.specs.End.{upward, links, chain}
 use Rattle.zt_rows.specs.Handles.{next_koid}
 use Rattle.zt_rows.specs.Step.{IsCall, direct, step}
 use Rattle.zt_rows.specs.Consistent.{IsPeer, IsChild, has_parent, SoundObject, SoundMessage, IsSound, IsConsistent}
-use Rattle.zt_rows.proofs.RowLaws.{In, row-in, in-row, filter_map-in, in-filter_map, list_any-in, in-list_any, or_true, or_left, or_right, and_left, and_right, and_both, true≢false, not_true}
+use Rattle.zt_rows.proofs.RowLaws.{In, row-in, in-row, filter_map-in, in-filter_map, list_any-in, in-list_any, or_true, or_left, or_right, and_left, and_right, and_both, true≢false, same_test, not_true}
 use Rattle.zt_rows.proofs.ReadLaws.{some_one, exists-some, some-exists, kind_at-some, object-row, object-without, message-without, stayed, stays}
 use Rattle.zt_rows.proofs.SupportLaws.{KeptBy, by_entry, by_message, by_child, by_itself, supported-kept, kept-supported}
 use Rattle.zt_rows.proofs.SoundLaws.{runs-some, some-runs}
@@ -36,8 +36,8 @@ use Rattle.zt_rows.proofs.WithoutLaws.{IsLast, collect-set}
 use Rattle.zt_rows.proofs.ChainLaws.{chain-from, links-chain}
 use Rattle.zt_rows.proofs.CallLaws.{sound-direct, step-consistent}
 use Rattle.zt_queries.specs.Reach.{reached}
-use Rattle.zt_queries.specs.Leaks.{keeps_above, is_above, is_kept, is_lost, is_leaked}
-use Rattle.zt_queries.proofs.ReachLaws.{among-in, in-among, entry-reached, message-reached, reached-least}
+use Rattle.zt_queries.specs.Leaks.{keeps_above, is_above, is_kept, is_lost, is_leaked, lost_at, leaks}
+use Rattle.zt_queries.proofs.ReachLaws.{in-map, map-in, among-in, in-among, entry-reached, message-reached, reached-least}
 use Rattle.zt_queries.proofs.FollowLaws.{Aged, Was, is_new, is_old, IsFresh, is_known, known-closed, known-low, Follows, Direct, low-koid, follows-without, follows-framed}
 use Rattle.zt_queries.proofs.CallsFollow.{direct-call}
 
@@ -126,6 +126,34 @@ lost-leaked S x lost =
         lost.not_above w.0.0 w.0.1 (in-object S w.0.0 w.0.1 w.1) keeps (among-in x (chain S w.0.0) (and_right (keeps_above known w.0) _ w.2))) in
     let kept : is_kept S known x ≡ false = neither ((x == root_job) || runs S x) _ (neither (x == root_job) _ lost.not_root lost.not_running) above in
     and_both (exists S x) _ lost.there (ap not (neither (among known x) _ lost.unreached kept))
+
+-- ---- the list of what is leaked
+
+if_same : {A : Type 0} (b : Bool) (v w : A) → (if b then Some v else None) ≡ Some w → (b ≡ true) × (v ≡ w)
+if_same true v w e = (refl, some_one v w e)
+if_same false v w e = cc
+
+listed-leaked : (S : State) (x : ℕ) → among (map (λ (e : ℕ × Kind). e.0) (leaks S)) x ≡ true → is_leaked S x ≡ true
+unfolding leaks is_leaked
+listed-leaked S x h =
+    let known : List ℕ = reached S in
+    let one = in-map (λ (e : ℕ × Kind). e.0) x (leaks S) (among-in x (map (λ (e : ℕ × Kind). e.0) (leaks S)) h) in
+    let w = in-filter_map (lost_at S known) one.0 (objects S) one.1 in
+    let lost = if_same (is_lost S known w.0.0) (w.0.0, w.0.1.kind) one.0 w.2 in
+    ap (is_lost S known) (one.2 ∙ sym (ap (λ (e : ℕ × Kind). e.0) lost.1)) ∙ lost.0
+
+leaked-listed : (S : State) (x : ℕ) → is_leaked S x ≡ true → among (map (λ (e : ℕ × Kind). e.0) (leaks S)) x ≡ true
+unfolding leaks is_leaked
+leaked-listed S x h =
+    let known : List ℕ = reached S in
+    let o = some-exists S x (and_left (exists S x) _ h) in
+    let there : In (x, o.0.kind) (leaks S) = filter_map-in (lost_at S known) (x, o.0.kind) (x, o.0) (objects S) (object-in S x o.0 o.1) (ap (λ b. if b then Some (x, o.0.kind) else None) h) in
+    in-among x (map (λ (e : ℕ × Kind). e.0) (leaks S)) (map-in (λ (e : ℕ × Kind). e.0) (x, o.0.kind) (leaks S) there)
+
+pub listed-is : (S : State) (x : ℕ) → among (map (λ e. e.0) (leaks S)) x ≡ is_leaked S x
+listed-is S x = same_test _ _ (listed-leaked S x) (leaked-listed S x)
+
+pub ruleset list_laws = (listed-is)
 
 -- ---- what is above an object
 

@@ -1,9 +1,9 @@
 -- Each happening holds of one object at most once on a path: afterwards the object is past it, and what is past it
 -- stays so, since a koid is given out once, what has ended does not live again, what lost its peer finds no other,
 -- and what is leaked stays so.
-use Rattle.std.proofs.Common.{◌≡◌, ◌≤◌, ◌<◌, ℕ, ◌+◌, ◌-◌, Bool, true, false, cond, not, ◌&&◌, List, [], ◌∷◌, ◌⊎◌, inl, inr, refl, sym, ap, ◌∙◌, subst, arith}
+use Rattle.std.proofs.Common.{◌≡◌, ◌≤◌, ◌<◌, ℕ, ◌+◌, ◌-◌, Bool, true, false, cond, not, ◌&&◌, List, [], ◌∷◌, length, ◌⊎◌, inl, inr, refl, sym, ap, ◌∙◌, subst, arith}
 use Rattle.std.specs.Prelude.{Option, None, Some, if◌then◌else◌, ◌==◌, bit_and, bit_or}
-use Rattle.std.specs.List.{AllByRecursion}
+use Rattle.std.specs.List.{AllByRecursion, last_or}
 use Rattle.std.specs.Int.Bits.{and_comm, and_zero_l}
 use Rattle.std.proofs.lemmas.Nat.{and_assoc, and_or_self, and_or_apart}
 use Rattle.std.proofs.lemmas.Bool.{eqb-true, eq-eqb}
@@ -20,11 +20,11 @@ use Rattle.zt_rows.specs.Handles.{next_koid}
 use Rattle.zt_rows.specs.Step.{IsCall, step}
 use Rattle.zt_rows.specs.Consistent.{SoundObject, SoundMessage, IsSound, IsConsistent}
 use Rattle.zt_rows.proofs.RowLaws.{and_left, and_right, and_both, true≢false, not_true}
-use Rattle.zt_rows.proofs.ReadLaws.{exists-some, some-exists}
+use Rattle.zt_rows.proofs.ReadLaws.{some_one, exists-some, some-exists}
 use Rattle.zt_rows.proofs.CallLaws.{step-consistent}
 use Rattle.zt_queries.specs.Reach.{reached}
 use Rattle.zt_queries.specs.Leaks.{is_leaked}
-use Rattle.zt_queries.specs.Happenings.{lives, is_cut_off, lacks_peer, made, ended, peer_closed, leaked, IsNext, IsPath, times}
+use Rattle.zt_queries.specs.Happenings.{lives, is_cut_off, lacks_peer, made, ended, peer_closed, leaked, IsNext, IsPath, moments, last_moment}
 use Rattle.zt_queries.proofs.ReachLaws.{reached-least}
 use Rattle.zt_queries.proofs.FollowLaws.{Aged, Was, is_new, is_old, Follows, low-koid}
 use Rattle.zt_queries.proofs.LeakLaws.{Lost, leaked-lost, lost-leaked, lost-follows, follows-step}
@@ -47,27 +47,32 @@ record Passes (happens : State → State → Bool) (Past : State → Type 0) : T
 
 module _ (happens : State → State → Bool) (Past : State → Type 0) (w : Passes happens Past) where
   -- what is past it does not happen any more
-  times-none : (S : State) (path : List State) → IsConsistent S → IsPath S path → Past S → times happens S path ≡ 0
-  times-none S [] consistent is past = refl
-  times-none S (T ∷ path) consistent is past =
+  moments-none : (S : State) (path : List (ℕ × State)) → IsConsistent S → IsPath S path → Past S → moments happens S path ≡ []
+  moments-none S [] consistent is past = refl
+  moments-none S ((n, T) ∷ path) consistent is past =
       let later : IsConsistent T = next-consistent S T consistent is.0 in
       let f : Follows S T = next-follows S T consistent is.0 in
-      let rest : times happens T path ≡ 0 = times-none T path later is.1 (w.stays S T consistent later f past) in
+      let rest : moments happens T path ≡ [] = moments-none T path later is.1 (w.stays S T consistent later f past) in
       let here : happens S T ≡ false = not_true (happens S T) (w.never S T consistent later f past) in
-      let bit : ◌≡◌ {A = ℕ} (if happens S T then 1 else 0) 0 = ap (λ b. if b then 1 else 0) here in
-      omega arith
+      ap (λ b. if b then n ∷ moments happens T path else moments happens T path) here ∙ rest
 
-  times-once : (S : State) (path : List State) → IsConsistent S → IsPath S path → times happens S path ≤ 1
-  times-once S [] consistent is = omega arith
-  times-once S (T ∷ path) consistent is =
+  moments-once : (S : State) (path : List (ℕ × State)) → IsConsistent S → IsPath S path → length (moments happens S path) ≤ 1
+  moments-once S [] consistent is = omega arith
+  moments-once S ((n, T) ∷ path) consistent is =
       let later : IsConsistent T = next-consistent S T consistent is.0 in
       let f : Follows S T = next-follows S T consistent is.0 in
-      elim (happens S T) as (λ b. happens S T ≡ b → (if b then 1 else 0) + times happens T path ≤ 1) [
+      elim (happens S T) as (λ b. happens S T ≡ b → length (if b then n ∷ moments happens T path else moments happens T path) ≤ 1) [
         | true ↦ λ t.
-            let rest : times happens T path ≡ 0 = times-none T path later is.1 (w.begins S T consistent later f t) in
+            let rest : length (moments happens T path) ≡ 0 = ap length (moments-none T path later is.1 (w.begins S T consistent later f t)) in
             omega arith
-        | false ↦ λ t. let rest : times happens T path ≤ 1 = times-once T path later is.1 in omega arith
+        | false ↦ λ t. moments-once T path later is.1
       ] refl
+
+-- the last of at most one is the only one
+last-only : (ms : List ℕ) (n : ℕ) → length ms ≤ 1 → last_or None ms ≡ Some n → ms ≡ n ∷ []
+last-only [] n few e = cc
+last-only (m ∷ []) n few e = ap (λ k. k ∷ []) (some_one m n e)
+last-only (m ∷ k ∷ ms) n few e = absurd (omega arith)
 
 -- ---- an object of before
 
@@ -227,18 +232,18 @@ leaked-passes x = record {
 
 -- ---- the laws
 
-module _ (S : State) (path : List State) (x : ℕ) (consistent : IsConsistent S) (is : IsPath S path) where
-  pub made-once : times (made x) S path ≤ 1
-  made-once = times-once (made x) (given x) (made-passes x) S path consistent is
+module _ (S : State) (path : List (ℕ × State)) (x : ℕ) (consistent : IsConsistent S) (is : IsPath S path) where
+  pub made-once : length (moments (made x) S path) ≤ 1
+  made-once = moments-once (made x) (given x) (made-passes x) S path consistent is
 
-  pub ended-once : times (ended x) S path ≤ 1
-  ended-once = times-once (ended x) (has_ended x) (ended-passes x) S path consistent is
+  pub ended-once : length (moments (ended x) S path) ≤ 1
+  ended-once = moments-once (ended x) (has_ended x) (ended-passes x) S path consistent is
 
-  pub peer_closed-once : times (peer_closed x) S path ≤ 1
-  peer_closed-once = times-once (peer_closed x) (has_no_peer x) (peer_closed-passes x) S path consistent is
+  pub peer_closed-once : length (moments (peer_closed x) S path) ≤ 1
+  peer_closed-once = moments-once (peer_closed x) (has_no_peer x) (peer_closed-passes x) S path consistent is
 
-  pub leaked-once : times (leaked x) S path ≤ 1
-  leaked-once = times-once (leaked x) (has_leaked x) (leaked-passes x) S path consistent is
+  pub leaked-once : length (moments (leaked x) S path) ≤ 1
+  leaked-once = moments-once (leaked x) (has_leaked x) (leaked-passes x) S path consistent is
 
 -- ---- out of reach for good
 
@@ -252,13 +257,18 @@ reached-there S sound x e = reached-least S (exists S) (record {
 unreached : (S : State) (x : ℕ) → IsConsistent S → has_leaked x S → among (reached S) x ≡ false
 unreached S x c p = not_true (among (reached S) x) (λ t. true≢false (among (reached S) x) t (leaked-lost S x (p.1 (reached-there S c.sound x t))).unreached)
 
-never-reached : (S : State) (path : List State) (x : ℕ) → IsConsistent S → IsPath S path → has_leaked x S → AllByRecursion (λ T. among (reached T) x ≡ false) path
+never-reached : (S : State) (path : List (ℕ × State)) (x : ℕ) → IsConsistent S → IsPath S path → has_leaked x S → AllByRecursion (λ m. among (reached m.1) x ≡ false) path
 never-reached S [] x consistent is p = tt
-never-reached S (T ∷ path) x consistent is p =
+never-reached S ((n, T) ∷ path) x consistent is p =
     let later : IsConsistent T = next-consistent S T consistent is.0 in
     let q : has_leaked x T = (leaked-passes x).stays S T consistent later (next-follows S T consistent is.0) p in
     (unreached T x later q, never-reached T path x later is.1 q)
 
 -- what is leaked is reached at no later state of a path
-pub leaked-unreached : (S : State) (path : List State) (x : ℕ) → IsConsistent S → IsPath S path → is_leaked S x ≡ true → AllByRecursion (λ T. among (reached T) x ≡ false) path
+pub leaked-unreached : (S : State) (path : List (ℕ × State)) (x : ℕ) → IsConsistent S → IsPath S path → is_leaked S x ≡ true → AllByRecursion (λ m. among (reached m.1) x ≡ false) path
 leaked-unreached S path x consistent is e = never-reached S path x consistent is (low-koid S consistent.sound x (leaked-exists S x e), λ there. e)
+
+pub last-moment-only : (happens : State → State → Bool) (S : State) (path : List (ℕ × State)) (n : ℕ) → length (moments happens S path) ≤ 1 → last_moment happens S path ≡ Some n → moments happens S path ≡ n ∷ []
+last-moment-only happens S path n few e = last-only (moments happens S path) n few e
+
+pub ruleset last_laws = (last-moment-only)

@@ -52,12 +52,12 @@ flat_map-in f b y [] m e = absurd m
 flat_map-in f b y (x ∷ xs) (inl p) e = append-left b (f x) _ (subst (λ z. In b (f z)) p e)
 flat_map-in f b y (x ∷ xs) (inr m) e = append-right b (f x) _ (flat_map-in f b y xs m e)
 
-in-map : {A B : Type 0} (f : A → B) (b : B) (xs : List A) → In b (map f xs) → (x : A) × In x xs × (b ≡ f x)
+pub in-map : {A B : Type 0} (f : A → B) (b : B) (xs : List A) → In b (map f xs) → (x : A) × In x xs × (b ≡ f x)
 in-map f b [] m = absurd m
 in-map f b (x ∷ xs) (inl e) = (x, inl refl, e)
 in-map f b (x ∷ xs) (inr m) = let w = in-map f b xs m in (w.0, inr w.1, w.2)
 
-map-in : {A B : Type 0} (f : A → B) (x : A) (xs : List A) → In x xs → In (f x) (map f xs)
+pub map-in : {A B : Type 0} (f : A → B) (x : A) (xs : List A) → In x xs → In (f x) (map f xs)
 map-in f x [] m = absurd m
 map-in f x (y ∷ ys) (inl e) = inl (ap f e)
 map-in f x (y ∷ ys) (inr m) = inr (map-in f x ys m)

@@ -1,7 +1,7 @@
 -- Worked cases of what is reached, kept and leaked, and of the moments at which something happens: each holds by
 -- computation. Calls are written as in the worked rows of the semantics.
 use Rattle.std.proofs.Common.{refl}
-use Rattle.std.specs.Prelude.{◌≡◌, ℕ, ◌+◌, Bool, pos, if◌then◌else◌, List, [], ◌∷◌, ◌++◌}
+use Rattle.std.specs.Prelude.{◌≡◌, ℕ, ◌+◌, Bool, pos, List, [], ◌∷◌, ◌++◌}
 use Rattle.zt_bits.specs.declared.kinds.Kind.{Kind}
 use Rattle.zt_bits.specs.declared.kinds.Kind.TheVariants as kind
 use Rattle.zt_rows.specs.State.{State, row, put, change}
@@ -16,7 +16,7 @@ use Rattle.zt_rows.specs.Step.{completed}
 use Rattle.zt_rows.proofs.WorkedRowsForm.{Asked, EventCreate, EventPairCreate, ChannelCreate, HandleClose, ChannelWrite, ChannelRead, JobCreate, Spawn, TaskKill, ProcessExit, performed, ran, root, by_root}
 use Rattle.zt_queries.specs.Reach.{found, reached}
 use Rattle.zt_queries.specs.Leaks.{is_above, is_leaked, leaks}
-use Rattle.zt_queries.specs.Happenings.{made, ended, peer_closed, leaked}
+use Rattle.zt_queries.specs.Happenings.{made, ended, peer_closed, leaked, moments}
 
 -- what is leaked after the calls
 unfoldable leaks_after : List (ℕ × Asked) → List (ℕ × Kind)
@@ -27,18 +27,17 @@ unfoldable reached_after : List (ℕ × Asked) → List ℕ
 unfolding ran found reached messages
 reached_after cs = reached (ran cs).0
 
--- the moments behind moment n, which has the state S, at which it happens
-abbrev moments_from : ℕ → (State → State → Bool) → State → List (ℕ × Asked) → List ℕ
-moments_from n happens S [] = []
-moments_from n happens S (c ∷ cs) =
+-- the moments behind moment n, which has the state S, with their states
+abbrev path_from : ℕ → State → List (ℕ × Asked) → List (ℕ × State)
+path_from n S [] = []
+path_from n S (c ∷ cs) =
     let T = (completed (performed S c.0 c.1)).0 in
-    let rest = moments_from (n + 1) happens T cs in
-    if happens S T then (n + 1) ∷ rest else rest
+    (n + 1, T) ∷ path_from (n + 1) T cs
 
 -- the moments of the calls at which it happens
-unfoldable moments : (State → State → Bool) → List (ℕ × Asked) → List ℕ
+unfoldable moments_of : (State → State → Bool) → List (ℕ × Asked) → List ℕ
 unfolding row put change objects messages waits queue packets any_row count_row supports support_count is_supported without goes rounds collect refresh settle links chain end found reached is_above is_leaked
-moments happens cs = moments_from 0 happens opening cs
+moments_of happens cs = moments happens opening (path_from 0 opening cs)
 
 -- ---- what is reached
 
@@ -133,51 +132,51 @@ leaks_of_nothing_left = refl
 -- ---- the moments at which something happens
 
 -- sent into its own queue at moment 2, and left by its peer at moment 3
-leaked_in_its_own_queue : moments (leaked 1027) into_its_own_queue ≡ 2 ∷ []
-unfolding moments
+leaked_in_its_own_queue : moments_of (leaked 1027) into_its_own_queue ≡ 2 ∷ []
+unfolding moments_of
 leaked_in_its_own_queue = refl
 
-peer_closed_in_its_own_queue : moments (peer_closed 1027) into_its_own_queue ≡ 3 ∷ []
-unfolding moments
+peer_closed_in_its_own_queue : moments_of (peer_closed 1027) into_its_own_queue ≡ 3 ∷ []
+unfolding moments_of
 peer_closed_in_its_own_queue = refl
 
-ended_in_its_own_queue : moments (ended 1027) into_its_own_queue ≡ []
-unfolding moments
+ended_in_its_own_queue : moments_of (ended 1027) into_its_own_queue ≡ []
+unfolding moments_of
 ended_in_its_own_queue = refl
 
 -- the process ends at moment 5, and then it and its job are leaked
-leaked_by_an_exit : moments (leaked 1026) (process_out_of_reach ++ (1027, ProcessExit (pos 0)) ∷ []) ≡ 5 ∷ []
-unfolding moments
+leaked_by_an_exit : moments_of (leaked 1026) (process_out_of_reach ++ (1027, ProcessExit (pos 0)) ∷ []) ≡ 5 ∷ []
+unfolding moments_of
 leaked_by_an_exit = refl
 
 -- both ends of a pair are made at once; the opening's objects are made at no moment
-made_at_once : moments (made 1027) (by_root (EventCreate ∷ EventPairCreate ∷ HandleClose 7 ∷ [])) ≡ 2 ∷ []
-unfolding moments
+made_at_once : moments_of (made 1027) (by_root (EventCreate ∷ EventPairCreate ∷ HandleClose 7 ∷ [])) ≡ 2 ∷ []
+unfolding moments_of
 made_at_once = refl
 
-made_never : moments (made 1025) (by_root (EventCreate ∷ EventPairCreate ∷ [])) ≡ []
-unfolding moments
+made_never : moments_of (made 1025) (by_root (EventCreate ∷ EventPairCreate ∷ [])) ≡ []
+unfolding moments_of
 made_never = refl
 
 -- an event ends as it goes, and so does a live job
-ended_event : moments (ended 1026) (by_root (EventCreate ∷ EventCreate ∷ HandleClose 7 ∷ HandleClose 11 ∷ [])) ≡ 3 ∷ []
-unfolding moments
+ended_event : moments_of (ended 1026) (by_root (EventCreate ∷ EventCreate ∷ HandleClose 7 ∷ HandleClose 11 ∷ [])) ≡ 3 ∷ []
+unfolding moments_of
 ended_event = refl
 
-ended_job : moments (ended 1026) (by_root (JobCreate 3 ∷ HandleClose 7 ∷ [])) ≡ 2 ∷ []
-unfolding moments
+ended_job : moments_of (ended 1026) (by_root (JobCreate 3 ∷ HandleClose 7 ∷ [])) ≡ 2 ∷ []
+unfolding moments_of
 ended_job = refl
 
 -- a process ends as it exits, and not once more as it goes
-ended_process : moments (ended 1026) (root (Spawn 3 0) ∷ (1026, ProcessExit (pos 0)) ∷ root (HandleClose 7) ∷ []) ≡ 2 ∷ []
-unfolding moments
+ended_process : moments_of (ended 1026) (root (Spawn 3 0) ∷ (1026, ProcessExit (pos 0)) ∷ root (HandleClose 7) ∷ []) ≡ 2 ∷ []
+unfolding moments_of
 ended_process = refl
 
 -- a peer is closed where the last handle of the other end goes; an event has no peer
-peer_closed_pair : moments (peer_closed 1026) (by_root (EventPairCreate ∷ HandleClose 11 ∷ HandleClose 7 ∷ [])) ≡ 2 ∷ []
-unfolding moments
+peer_closed_pair : moments_of (peer_closed 1026) (by_root (EventPairCreate ∷ HandleClose 11 ∷ HandleClose 7 ∷ [])) ≡ 2 ∷ []
+unfolding moments_of
 peer_closed_pair = refl
 
-peer_closed_never : moments (peer_closed 1026) (by_root (EventCreate ∷ HandleClose 7 ∷ [])) ≡ []
-unfolding moments
+peer_closed_never : moments_of (peer_closed 1026) (by_root (EventCreate ∷ HandleClose 7 ∷ [])) ≡ []
+unfolding moments_of
 peer_closed_never = refl

@@ -1,7 +1,8 @@
 -- What happens to an object between one state and the next: that it is made, that it ends, that its peer is
 -- closed, that it is leaked; and the paths over which such moments are looked for. Signals as in Fuchsia's
 -- reference of the channel and event pair objects; the four happenings are this project's own.
-use Rattle.std.specs.Prelude.{◌≡◌, ℕ, ◌+◌, Bool, true, not, ◌&&◌, if◌then◌else◌, ⊤, List, [], ◌∷◌}
+use Rattle.std.specs.Prelude.{◌≡◌, ℕ, Bool, true, not, ◌&&◌, if◌then◌else◌, ⊤, List, [], ◌∷◌, Option, None}
+use Rattle.std.specs.List.{last_or}
 use Rattle.zt_rows.specs.declared.calls.Call.{Call}
 use Rattle.zt_rows.specs.declared.rows.ObjectRow.{ObjectRow}
 use Rattle.zt_rows.specs.State.{State}
@@ -51,12 +52,19 @@ pub record IsNext (S T : State) : Type 0 where
   pub is : IsCall call
   pub made : T ≡ (step S process call).0
 
--- each state of the list is what a call makes of the one before it, and the first what one makes of S
-abbrev pub IsPath : State → List State → Type 0
+-- a path that begins at S: its moments as they rise, each with its state, which is what a call makes of the one
+-- before it
+abbrev pub IsPath : State → List (ℕ × State) → Type 0
 IsPath S [] = ⊤
-IsPath S (T ∷ Ts) = IsNext S T × IsPath T Ts
+IsPath S ((n, T) ∷ path) = IsNext S T × IsPath T path
 
--- at how many states of a path that begins at S it happens
-abbrev pub times : (State → State → Bool) → State → List State → ℕ
-times happens S [] = 0
-times happens S (T ∷ Ts) = (if happens S T then 1 else 0) + times happens T Ts
+-- the moments of a path that begins at S at which it happens
+abbrev pub moments : (State → State → Bool) → State → List (ℕ × State) → List ℕ
+moments happens S [] = []
+moments happens S ((n, T) ∷ path) =
+    let rest = moments happens T path in
+    if happens S T then n ∷ rest else rest
+
+-- the last of these moments, if there is one
+abbrev pub last_moment : (State → State → Bool) → State → List (ℕ × State) → Option ℕ
+last_moment happens S path = last_or None (moments happens S path)

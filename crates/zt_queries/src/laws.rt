@@ -1,6 +1,6 @@
 //! What holds of leaks and of the moments at which something happens to an object. Each law is the contract of a
 //! function that does nothing.
-ghost use Rattle.std.specs.Prelude.{◌≡◌, ◌≤◌, ℕ, Bool, true, false, List};
+ghost use Rattle.std.specs.Prelude.{◌≡◌, ◌≤◌, ℕ, Bool, true, false, List, [], ◌∷◌, length, map, Some};
 ghost use Rattle.std.specs.List.{AllByRecursion};
 ghost use Rattle.zt_rows.specs.declared.calls.Call.{Call};
 ghost use Rattle.zt_rows.specs.State.{State};
@@ -9,8 +9,8 @@ ghost use Rattle.zt_rows.specs.Tests.{among, exists, is_endpoint};
 ghost use Rattle.zt_rows.specs.Step.{IsCall, step};
 ghost use Rattle.zt_rows.specs.Consistent.{IsConsistent};
 ghost use Rattle.zt_queries.specs.Reach.{reached, IsClosed};
-ghost use Rattle.zt_queries.specs.Leaks.{is_leaked};
-ghost use Rattle.zt_queries.specs.Happenings.{made, ended, peer_closed, leaked, IsPath, times};
+ghost use Rattle.zt_queries.specs.Leaks.{is_leaked, leaks};
+ghost use Rattle.zt_queries.specs.Happenings.{made, ended, peer_closed, leaked, IsPath, moments, last_moment};
 
 /// What is reached is the least closed set: it is closed, and it is inside every closed set.
 #[tactic(auto, using(crate::proofs::ReachLaws::reach_laws))]
@@ -18,6 +18,12 @@ pub fn reached_is_least()
     ensures closed { (S : State) → IsClosed S (among (reached S)) }
     ensures least { (S : State) (set : ℕ → Bool) → IsClosed S set → (x : ℕ)
         → among (reached S) x ≡ true → set x ≡ true }
+{}
+
+/// The list of what is leaked has the leaked objects and no others.
+#[tactic(auto, using(crate::proofs::LeakLaws::list_laws))]
+pub fn leaks_are_listed()
+    ensures { (S : State) (x : ℕ) → among (map (λ e. e.0) (leaks S)) x ≡ is_leaked S x }
 {}
 
 /// What is leaked is leaked or gone after any call of a live process, and a leaked endpoint is never gone. On the
@@ -28,19 +34,27 @@ pub fn what_leaked_stays_leaked()
     ensures endpoint { (S : State) (p : ℕ) (c : Call) (x : ℕ) → IsConsistent S → runs S p ≡ true → IsCall c
         → is_leaked S x ≡ true → on_object (λ o. is_endpoint o.kind) (object S x) ≡ true
         → is_leaked (step S p c).0 x ≡ true }
-    ensures out_of_reach { (S : State) (path : List State) (x : ℕ) → IsConsistent S → IsPath S path
-        → is_leaked S x ≡ true → AllByRecursion (λ T. among (reached T) x ≡ false) path }
+    ensures out_of_reach { (S : State) (path : List (ℕ × State)) (x : ℕ) → IsConsistent S → IsPath S path
+        → is_leaked S x ≡ true → AllByRecursion (λ m. among (reached m.1) x ≡ false) path }
 {}
 
 /// On a path of calls an object is made at one moment at most, ends at one at most, loses its peer at one at most,
 /// and is leaked at one at most.
 pub fn once_each()
-    ensures made { (S : State) (path : List State) (x : ℕ) → IsConsistent S → IsPath S path
-        → times (made x) S path ≤ 1 }
-    ensures ended { (S : State) (path : List State) (x : ℕ) → IsConsistent S → IsPath S path
-        → times (ended x) S path ≤ 1 }
-    ensures peer_closed { (S : State) (path : List State) (x : ℕ) → IsConsistent S → IsPath S path
-        → times (peer_closed x) S path ≤ 1 }
-    ensures leaked { (S : State) (path : List State) (x : ℕ) → IsConsistent S → IsPath S path
-        → times (leaked x) S path ≤ 1 }
+    ensures made { (S : State) (path : List (ℕ × State)) (x : ℕ) → IsConsistent S → IsPath S path
+        → length (moments (made x) S path) ≤ 1 }
+    ensures ended { (S : State) (path : List (ℕ × State)) (x : ℕ) → IsConsistent S → IsPath S path
+        → length (moments (ended x) S path) ≤ 1 }
+    ensures peer_closed { (S : State) (path : List (ℕ × State)) (x : ℕ) → IsConsistent S → IsPath S path
+        → length (moments (peer_closed x) S path) ≤ 1 }
+    ensures leaked { (S : State) (path : List (ℕ × State)) (x : ℕ) → IsConsistent S → IsPath S path
+        → length (moments (leaked x) S path) ≤ 1 }
+{}
+
+/// Where something happens at one moment of a path at most, the last such moment is the only one.
+#[tactic(auto, using(crate::proofs::OnceLaws::last_laws))]
+pub fn the_last_is_the_only_one()
+    ensures { (happens : State → State → Bool) (S : State) (path : List (ℕ × State)) (n : ℕ)
+        → length (moments happens S path) ≤ 1 → last_moment happens S path ≡ Some n
+        → moments happens S path ≡ n ∷ [] }
 {}
