@@ -1,8 +1,7 @@
 -- What each call does directly follows from the state before it: it names only what its caller holds, what a
 -- message of an endpoint that its caller holds names, and what it makes.
-use Rattle.std.proofs.Common.{◌≡◌, ◌≤◌, ◌<◌, ℕ, ◌+◌, Bool, true, false, ◌&&◌, List, [], ◌∷◌, ◌⊎◌, inl, inr, refl, sym, ap, ◌∙◌, subst, arith}
+use Rattle.std.proofs.Common.{◌≡◌, ◌<◌, ℕ, ◌+◌, Bool, true, false, List, [], inl, inr, refl, sym, ap, ◌∙◌, subst, arith}
 use Rattle.std.specs.Prelude.{ℤ, Option, None, Some, Result, Ok, ok_or, if◌then◌else◌, ◌==◌, nat_lt, bit_or}
-use Rattle.std.specs.List.{AllByRecursion}
 use Rattle.zt_bits.specs.declared.kinds.Kind.{Kind}
 use Rattle.zt_bits.specs.declared.kinds.Kind.TheVariants as kind
 use Rattle.zt_bits.specs.declared.statuses.Status.{Status}
@@ -11,10 +10,8 @@ use Rattle.zt_bits.specs.Tables.{asked_rights}
 use Rattle.zt_rows.specs.declared.calls.Call.{Call}
 use Rattle.zt_rows.specs.declared.calls.Call.TheVariants as call
 use Rattle.zt_rows.specs.declared.calls.Reply.{Reply}
-use Rattle.zt_rows.specs.declared.keys.RowKey.{RowKey}
 use Rattle.zt_rows.specs.declared.keys.RowKey.TheVariants as key
 use Rattle.zt_rows.specs.declared.rows.Held.{Held}
-use Rattle.zt_rows.specs.declared.rows.Life.{Life}
 use Rattle.zt_rows.specs.declared.rows.Life.TheVariants as life
 use Rattle.zt_rows.specs.declared.rows.ObjectRow.{ObjectRow}
 use Rattle.zt_rows.specs.declared.rows.Packet.{Packet}
@@ -24,15 +21,15 @@ use Rattle.zt_rows.specs.declared.rows.Row.TheVariants as rows
 use Rattle.zt_rows.specs.declared.rows.Wait.{Wait}
 use Rattle.zt_rows.specs.Contents.{MessageContent}
 use Rattle.zt_rows.specs.State.{State, put}
-use Rattle.zt_rows.specs.Reads.{as_counters, as_object, as_entry, as_message, counters, object, entry, message, queue, packets, is_job, is_live, is_live_job, runs}
+use Rattle.zt_rows.specs.Reads.{as_counters, as_object, as_entry, as_message, counters, object, entry, message, queue, packets, is_job, is_live, runs}
 use Rattle.zt_rows.specs.Tests.{any_kind, is_channel, is_port, is_endpoint, is_task, among, first, raised, next_at, object_next, without_bits, any_row}
 use Rattle.zt_rows.specs.Settle.{push_packet}
 use Rattle.zt_rows.specs.End.{depth, ends_with, end}
-use Rattle.zt_rows.specs.Handles.{◌>>=◌, handle, answered, done, caller, take_out, take_out_all, install, install_all, whole, fresh, next_koid, make, make_pair}
+use Rattle.zt_rows.specs.Handles.{◌>>=◌, handle, answered, done, caller, take_out, take_out_all, install, whole, fresh, next_koid, make, make_pair}
 use Rattle.zt_rows.specs.ObjectCalls.{create, create_pair, received, handle_close, handle_duplicate, handle_replace, may_set, set_signals, object_signal, object_signal_peer}
 use Rattle.zt_rows.specs.ChannelCalls.{sent, push_message, channel_write, has_room_for, take_message, refuse_message, channel_read}
-use Rattle.zt_rows.specs.PortCalls.{add_wait, object_wait_async, pending, most_pending, port_queue, port_wait, is_cancelled, cancel, port_cancel}
-use Rattle.zt_rows.specs.JobCalls.{most_depth, job_create, argument, give_up, child, hand_over, spawn, task_kill, process_exit}
+use Rattle.zt_rows.specs.PortCalls.{object_wait_async, pending, most_pending, port_queue, port_wait, is_cancelled, port_cancel}
+use Rattle.zt_rows.specs.JobCalls.{most_depth, job_create, argument, child, hand_over, spawn, task_kill, process_exit}
 use Rattle.zt_rows.specs.Step.{direct}
 use Rattle.zt_rows.specs.Consistent.{SoundMessage, IsSound}
 use Rattle.zt_rows.proofs.StateLaws.{row-put}
@@ -40,11 +37,11 @@ use Rattle.zt_rows.proofs.RowLaws.{and_both, true≢false}
 use Rattle.zt_rows.proofs.ReadLaws.{some_one}
 use Rattle.zt_rows.proofs.SoundLaws.{all_map}
 use Rattle.zt_rows.proofs.StepLaws.{Found, chained, after_check, after_some, after_result, after_handle_of, after_handle, caller-is}
-use Rattle.zt_rows.proofs.SentLaws.{IsHeld, sent-held}
+use Rattle.zt_rows.proofs.SentLaws.{sent-held}
 use Rattle.zt_rows.proofs.ReceivedLaws.{first-message}
 use Rattle.zt_queries.specs.Reach.{reached}
 use Rattle.zt_queries.proofs.ReachLaws.{in-all, entry-reached, message-reached}
-use Rattle.zt_queries.proofs.FollowLaws.{Aged, aged_itself, Was, is_old, was-aged, was-raised, IsFresh, plain-fresh, is_known, AllKnown, known-reached, known-new, known-entry, Direct, direct-itself, direct-less, direct-object, direct-counters, direct-entry, direct-message, direct-taken, direct-end, direct-cancel, direct-install, direct-install_all, direct-made, direct-paired}
+use Rattle.zt_queries.proofs.FollowLaws.{aged_itself, Was, is_old, was-raised, IsFresh, plain-fresh, is_known, AllKnown, known-reached, known-new, known-entry, Direct, direct-itself, direct-less, direct-object, direct-counters, direct-entry, direct-message, direct-taken, direct-end, direct-cancel, direct-install, direct-install_all, direct-made, direct-paired}
 
 -- ---- what changes waits and packets alone
 

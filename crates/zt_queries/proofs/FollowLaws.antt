@@ -19,14 +19,14 @@ use Rattle.zt_rows.specs.declared.rows.Row.TheVariants as rows
 use Rattle.zt_rows.specs.Contents.{MessageContent}
 use Rattle.zt_rows.specs.State.{State, row, put}
 use Rattle.zt_rows.specs.Reads.{as_counters, as_object, as_entry, as_message, counters, object, entry, message, is_live, is_live_job}
-use Rattle.zt_rows.specs.Tests.{exists, kind_at, among, is_task, is_endpoint, raised}
+use Rattle.zt_rows.specs.Tests.{exists, among, is_task, is_endpoint, raised}
 use Rattle.zt_rows.specs.Collect.{unlinked, without}
 use Rattle.zt_rows.specs.End.{left_by, end}
 use Rattle.zt_rows.specs.PortCalls.{is_cancelled, cancel}
-use Rattle.zt_rows.specs.Handles.{taken, take_out_all, value_of, install, install_all, fresh, next_koid, make, make_pair}
+use Rattle.zt_rows.specs.Handles.{take_out_all, value_of, install, install_all, fresh, next_koid, make, make_pair}
 use Rattle.zt_rows.specs.Consistent.{IsSound}
 use Rattle.zt_rows.proofs.StateLaws.{row-put, row-change}
-use Rattle.zt_rows.proofs.RowLaws.{In, or_true, or_left, or_right, and_left, and_right, true≢false}
+use Rattle.zt_rows.proofs.RowLaws.{or_true, or_left, or_right, and_left, and_right, true≢false}
 use Rattle.zt_rows.proofs.ReadLaws.{some_one, exists-some, some-exists, kind_at-some, chosen, only_if, object-put, entry-without, counters-without, stayed, message-stayed}
 use Rattle.zt_rows.proofs.TakeLaws.{object-taken, counters-taken, message-taken, entry-taken}
 use Rattle.zt_rows.proofs.EndLaws.{ended, object-end, counters-end, ended-was}
@@ -230,9 +230,9 @@ module _ (S T : State) (d : Direct S T) where
       let same : counters U ≡ counters T = ap as_counters (row-put T (key.Msg e n) (option_map rows.Msg new) key.Counters) in
       let at : (x : ℕ) → object U x ≡ object T x = (λ x. ap as_object (row-put T (key.Msg e n) (option_map rows.Msg new) (key.Object x))) in
       let message_at : (f l : ℕ) → message U f l ≡ cond ((f == e) && (l == n)) new (message T f l) = (λ f l.
-          ap as_message (row-put T (key.Msg e n) (option_map rows.Msg new) (key.Msg f l))
-          ∙ chosen as_message ((f == e) && (l == n)) (option_map rows.Msg new) (row T (key.Msg f l))
-          ∙ ap (λ r. cond ((f == e) && (l == n)) r (message T f l)) (as-message new)) in
+      ap as_message (row-put T (key.Msg e n) (option_map rows.Msg new) (key.Msg f l))
+      ∙ chosen as_message ((f == e) && (l == n)) (option_map rows.Msg new) (row T (key.Msg f l))
+      ∙ ap (λ r. cond ((f == e) && (l == n)) r (message T f l)) (as-message new)) in
       record {
         follows = record {
           koids = let k : next_koid S ≤ next_koid T = d.follows.koids in let g : next_koid U ≡ next_koid T = ap (λ (c : Counters). c.next_koid) same in omega arith;

@@ -1,10 +1,9 @@
 -- What is leaked stays leaked: the state after a call follows from the one before it, what follows reaches nothing
 -- that had been out of reach, and nothing new is below what was leaked. A leaked endpoint does not go, since the
 -- message that names it waits at another one.
-use Rattle.std.proofs.Common.{◌≡◌, ◌≤◌, ◌<◌, ℕ, zero, suc, ◌+◌, Bool, true, false, cond, not, ◌&&◌, ◌||◌, List, [], ◌∷◌, map, ◌⊎◌, inl, inr, refl, sym, ap, ◌∙◌, subst, arith}
-use Rattle.std.specs.Prelude.{Option, None, Some, is_some, if◌then◌else◌, ◌==◌}
-use Rattle.std.specs.List.{filter_map, list_any}
-use Rattle.std.proofs.lemmas.Bool.{eqb-true, eq-eqb}
+use Rattle.std.proofs.Common.{◌≡◌, ◌≤◌, ◌<◌, ℕ, zero, suc, ◌+◌, Bool, true, false, cond, not, ◌&&◌, ◌||◌, List, map, ◌⊎◌, inl, inr, refl, sym, ap, ◌∙◌, subst, arith}
+use Rattle.std.specs.Prelude.{Option, None, Some, if◌then◌else◌, ◌==◌}
+use Rattle.std.proofs.lemmas.Bool.{eqb-true}
 use Rattle.zt_bits.specs.declared.kinds.Kind.{Kind}
 use Rattle.zt_bits.specs.declared.kinds.Kind.TheVariants as kind
 use Rattle.zt_rows.specs.declared.calls.Call.{Call}
@@ -16,17 +15,17 @@ use Rattle.zt_rows.specs.declared.rows.Row.{Row}
 use Rattle.zt_rows.specs.declared.rows.Row.TheVariants as rows
 use Rattle.zt_rows.specs.Contents.{MessageContent}
 use Rattle.zt_rows.specs.State.{State, row}
-use Rattle.zt_rows.specs.Reads.{as_object, object, object_at, objects, entry, message, is_live, is_job, is_process, is_live_process, is_live_job, on_object, runs}
-use Rattle.zt_rows.specs.Tests.{exists, kind_at, among, is_task, is_endpoint, link_at, object_link}
-use Rattle.zt_rows.specs.Support.{root_job, is_supported}
-use Rattle.zt_rows.specs.Collect.{unlinked, without, goes, collect}
+use Rattle.zt_rows.specs.Reads.{as_object, object, object_at, objects, message, is_live, is_job, is_process, is_live_process, is_live_job, on_object, runs}
+use Rattle.zt_rows.specs.Tests.{exists, among, is_task, is_endpoint, link_at, object_link}
+use Rattle.zt_rows.specs.Support.{root_job}
+use Rattle.zt_rows.specs.Collect.{unlinked, without, collect}
 use Rattle.zt_rows.specs.Settle.{settle}
 use Rattle.zt_rows.specs.End.{upward, links, chain}
 use Rattle.zt_rows.specs.Handles.{next_koid}
 use Rattle.zt_rows.specs.Step.{IsCall, direct, step}
-use Rattle.zt_rows.specs.Consistent.{IsPeer, IsChild, has_parent, SoundObject, SoundMessage, IsSound, IsConsistent}
+use Rattle.zt_rows.specs.Consistent.{IsChild, has_parent, SoundObject, IsSound, IsConsistent}
 use Rattle.zt_rows.proofs.RowLaws.{In, row-in, in-row, filter_map-in, in-filter_map, list_any-in, in-list_any, or_true, or_left, or_right, and_left, and_right, and_both, true≢false, same_test, not_true}
-use Rattle.zt_rows.proofs.ReadLaws.{some_one, exists-some, some-exists, kind_at-some, object-row, object-without, message-without, stayed, stays}
+use Rattle.zt_rows.proofs.ReadLaws.{some_one, exists-some, some-exists, kind_at-some, object-row, message-without, stayed, stays}
 use Rattle.zt_rows.proofs.SupportLaws.{KeptBy, by_entry, by_message, by_child, by_itself, supported-kept, kept-supported}
 use Rattle.zt_rows.proofs.SoundLaws.{runs-some, some-runs}
 use Rattle.zt_rows.proofs.CollectLaws.{sound-collect, supported-stays}
@@ -34,7 +33,7 @@ use Rattle.zt_rows.proofs.FramedLaws.{Framed, exists-shaped}
 use Rattle.zt_rows.proofs.SettleLaws.{framed-settle}
 use Rattle.zt_rows.proofs.WithoutLaws.{IsLast, collect-set}
 use Rattle.zt_rows.proofs.ChainLaws.{chain-from, links-chain}
-use Rattle.zt_rows.proofs.CallLaws.{sound-direct, step-consistent}
+use Rattle.zt_rows.proofs.CallLaws.{sound-direct}
 use Rattle.zt_queries.specs.Reach.{reached}
 use Rattle.zt_queries.specs.Leaks.{keeps_above, is_above, is_kept, is_lost, is_leaked, lost_at, leaks}
 use Rattle.zt_queries.proofs.ReachLaws.{in-map, map-in, among-in, in-among, entry-reached, message-reached, reached-least}
@@ -121,9 +120,9 @@ unfolding is_leaked is_above
 lost-leaked S x lost =
     let known : List ℕ = reached S in
     let above : is_above S known x ≡ false = not_true (is_above S known x) (λ t.
-        let w = in-list_any (λ (w : ℕ × ObjectRow). keeps_above known w && among (chain S w.0) x) (objects S) t in
-        let keeps : keeps_above known w.0 ≡ true = and_left (keeps_above known w.0) _ w.2 in
-        lost.not_above w.0.0 w.0.1 (in-object S w.0.0 w.0.1 w.1) keeps (among-in x (chain S w.0.0) (and_right (keeps_above known w.0) _ w.2))) in
+    let w = in-list_any (λ (w : ℕ × ObjectRow). keeps_above known w && among (chain S w.0) x) (objects S) t in
+    let keeps : keeps_above known w.0 ≡ true = and_left (keeps_above known w.0) _ w.2 in
+    lost.not_above w.0.0 w.0.1 (in-object S w.0.0 w.0.1 w.1) keeps (among-in x (chain S w.0.0) (and_right (keeps_above known w.0) _ w.2))) in
     let kept : is_kept S known x ≡ false = neither ((x == root_job) || runs S x) _ (neither (x == root_job) _ lost.not_root lost.not_running) above in
     and_both (exists S x) _ lost.there (ap not (neither (among known x) _ lost.unreached kept))
 
@@ -245,7 +244,7 @@ module _ (S U : State) (sound : IsSound S) (f : Follows S U) where
   aged-keeps y o q there a e = elim (or_true (is_live_process q) _ e) [
     | inl l ↦ or_left (is_live_process o) _ (aged-process o q a l)
     | inr j ↦ or_right (is_live_process o) _ (and_both (is_job o.kind) _ (ap is_job (sym a.kind) ∙ and_left (is_job q.kind) _ j)
-    (later-reached y (low-koid S sound y (exists-some S y o there)) (and_right (is_job q.kind) _ j)))
+        (later-reached y (low-koid S sound y (exists-some S y o there)) (and_right (is_job q.kind) _ j)))
   ]
 
   kind-task : (k : Kind) (b c : Bool) → ((is_process k && b) || (is_job k && c)) ≡ true → is_task k ≡ true
@@ -401,7 +400,7 @@ module _ (S : State) (consistent : IsConsistent S) where
       let n : Named S x = strayed-named x (true_of (strayed S x) p.3) in
       let still : message T n.endpoint n.number ≡ Some n.content = d.unread n.endpoint n.number n.content n.there (out-of-reach n.endpoint n.out) in
       let left : message (without T rest) n.endpoint n.number ≡ Some n.content =
-          message-without rest T n.endpoint n.number ∙ ap (λ b. cond (not b) None (message T n.endpoint n.number)) n.out ∙ still in
+      message-without rest T n.endpoint n.number ∙ ap (λ b. cond (not b) None (message T n.endpoint n.number)) n.out ∙ still in
       kept-supported (without T rest) x (by_message n.endpoint n.number n.content n.held left n.among_handles n.names))
 
   strayed-stays : (p : ℕ) → runs S p ≡ true → (c : Call) → IsCall c → (x : ℕ) → strayed S x ≡ true → exists (step S p c).0 x ≡ true

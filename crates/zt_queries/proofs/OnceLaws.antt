@@ -1,7 +1,7 @@
 -- Each happening holds of one object at most once on a path: afterwards the object is past it, and what is past it
 -- stays so, since a koid is given out once, what has ended does not live again, what lost its peer finds no other,
 -- and what is leaked stays so.
-use Rattle.std.proofs.Common.{◌≡◌, ◌≤◌, ◌<◌, ℕ, ◌+◌, ◌-◌, Bool, true, false, cond, not, ◌&&◌, List, [], ◌∷◌, length, ◌⊎◌, inl, inr, refl, sym, ap, ◌∙◌, subst, arith}
+use Rattle.std.proofs.Common.{◌≡◌, ◌≤◌, ◌<◌, ℕ, ◌-◌, Bool, true, false, not, ◌&&◌, List, [], ◌∷◌, length, inl, inr, refl, sym, ap, ◌∙◌, subst, arith}
 use Rattle.std.specs.Prelude.{Option, None, Some, if◌then◌else◌, ◌==◌, bit_and, bit_or}
 use Rattle.std.specs.List.{AllByRecursion, last_or}
 use Rattle.std.specs.Int.Bits.{and_comm, and_zero_l}
@@ -9,16 +9,13 @@ use Rattle.std.proofs.lemmas.Nat.{and_assoc, and_or_self, and_or_apart}
 use Rattle.std.proofs.lemmas.Bool.{eqb-true, eq-eqb}
 use Rattle.zt_bits.specs.declared.kinds.Kind.{Kind}
 use Rattle.zt_bits.specs.declared.kinds.Kind.TheVariants as kind
-use Rattle.zt_rows.specs.declared.calls.Call.{Call}
-use Rattle.zt_rows.specs.declared.rows.Held.{Held}
 use Rattle.zt_rows.specs.declared.rows.ObjectRow.{ObjectRow}
 use Rattle.zt_rows.specs.State.{State}
-use Rattle.zt_rows.specs.Reads.{object, is_live, on_object, runs}
+use Rattle.zt_rows.specs.Reads.{object, is_live, on_object}
 use Rattle.zt_rows.specs.Tests.{exists, among, is_endpoint, has_all, without_bits, any_row}
-use Rattle.zt_rows.specs.Settle.{is_message_of, derived_mask, bit_if, derived_by, renewed}
+use Rattle.zt_rows.specs.Settle.{is_message_of, derived_mask, bit_if, derived_by}
 use Rattle.zt_rows.specs.Handles.{next_koid}
-use Rattle.zt_rows.specs.Step.{IsCall, step}
-use Rattle.zt_rows.specs.Consistent.{SoundObject, SoundMessage, IsSound, IsConsistent}
+use Rattle.zt_rows.specs.Consistent.{IsSound, IsConsistent}
 use Rattle.zt_rows.proofs.RowLaws.{and_left, and_right, and_both, true≢false, not_true}
 use Rattle.zt_rows.proofs.ReadLaws.{some_one, exists-some, some-exists}
 use Rattle.zt_rows.proofs.CallLaws.{step-consistent}
@@ -27,15 +24,15 @@ use Rattle.zt_queries.specs.Leaks.{is_leaked}
 use Rattle.zt_queries.specs.Happenings.{lives, is_cut_off, lacks_peer, made, ended, peer_closed, leaked, IsNext, IsPath, moments, last_moment}
 use Rattle.zt_queries.proofs.ReachLaws.{reached-least}
 use Rattle.zt_queries.proofs.FollowLaws.{Aged, Was, is_new, is_old, Follows, low-koid}
-use Rattle.zt_queries.proofs.LeakLaws.{Lost, leaked-lost, lost-leaked, lost-follows, follows-step}
+use Rattle.zt_queries.proofs.LeakLaws.{leaked-lost, lost-leaked, lost-follows, follows-step}
 
 -- ---- what holds from one state of a path to the next
 
 pub next-consistent : (S T : State) → IsConsistent S → IsNext S T → IsConsistent T
-next-consistent S T consistent n = subst IsConsistent (sym n.made) (step-consistent S n.process n.call consistent n.live n.is)
+next-consistent S T consistent n = subst IsConsistent (sym n.gives) (step-consistent S n.process n.call consistent n.live n.is)
 
 pub next-follows : (S T : State) → IsConsistent S → IsNext S T → Follows S T
-next-follows S T consistent n = subst (Follows S) (sym n.made) (follows-step S consistent.sound n.process n.live n.call n.is)
+next-follows S T consistent n = subst (Follows S) (sym n.gives) (follows-step S consistent.sound n.process n.live n.call n.is)
 
 -- ---- what happens once
 
@@ -172,8 +169,11 @@ renewed-bits S x o kind.Event e = cc
 renewed-bits S x o kind.Port e = cc
 
 -- in a consistent state the signal stands on an endpoint where it has no peer
-pub cut_off-is : (S : State) → IsConsistent S → (x : ℕ) (o : ObjectRow) → object S x ≡ Some o → is_endpoint o.kind ≡ true → has_all o.signals.0 0x4 ≡ (o.link == 0)
+cut_off-is : (S : State) → IsConsistent S → (x : ℕ) (o : ObjectRow) → object S x ≡ Some o → is_endpoint o.kind ≡ true → has_all o.signals.0 0x4 ≡ (o.link == 0)
 cut_off-is S c x o there ends = ap (λ s. has_all s 4) (sym (c.agrees x o there)) ∙ renewed-bits S x o o.kind ends
+
+pub lacks_peer-is : (S : State) (x : ℕ) (o : ObjectRow) → IsConsistent S → object S x ≡ Some o → is_endpoint o.kind ≡ true → lacks_peer S x ≡ (o.link == 0)
+lacks_peer-is S x o c there ends = ap (on_object is_cut_off) there ∙ ap (λ b. b && has_all o.signals.0 0x4) ends ∙ cut_off-is S c x o there ends
 
 -- what is there and was an endpoint without a peer is one
 still-cut-off : (S T : State) → IsConsistent S → IsConsistent T → (x : ℕ) (o q : ObjectRow) → object S x ≡ Some o → object T x ≡ Some q → Aged o q → is_cut_off o ≡ true → is_cut_off q ≡ true

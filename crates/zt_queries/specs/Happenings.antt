@@ -50,7 +50,7 @@ pub record IsNext (S T : State) : Type 0 where
   pub call : Call
   pub live : runs S process ≡ true
   pub is : IsCall call
-  pub made : T ≡ (step S process call).0
+  pub gives : T ≡ (step S process call).0
 
 -- a path that begins at S: its moments as they rise, each with its state, which is what a call makes of the one
 -- before it

@@ -1,8 +1,9 @@
 //! What holds of leaks and of the moments at which something happens to an object. Each law is the contract of a
 //! function that does nothing.
-ghost use Rattle.std.specs.Prelude.{◌≡◌, ◌≤◌, ℕ, Bool, true, false, List, [], ◌∷◌, length, map, Some};
+ghost use Rattle.std.specs.Prelude.{◌≡◌, ◌≤◌, ℕ, Bool, true, false, List, [], ◌∷◌, length, map, Some, ◌==◌};
 ghost use Rattle.std.specs.List.{AllByRecursion};
 ghost use Rattle.zt_rows.specs.declared.calls.Call.{Call};
+ghost use Rattle.zt_rows.specs.declared.rows.ObjectRow.{ObjectRow};
 ghost use Rattle.zt_rows.specs.State.{State};
 ghost use Rattle.zt_rows.specs.Reads.{object, on_object, runs};
 ghost use Rattle.zt_rows.specs.Tests.{among, exists, is_endpoint};
@@ -10,7 +11,7 @@ ghost use Rattle.zt_rows.specs.Step.{IsCall, step};
 ghost use Rattle.zt_rows.specs.Consistent.{IsConsistent};
 ghost use Rattle.zt_queries.specs.Reach.{reached, IsClosed};
 ghost use Rattle.zt_queries.specs.Leaks.{is_leaked, leaks};
-ghost use Rattle.zt_queries.specs.Happenings.{made, ended, peer_closed, leaked, IsPath, moments, last_moment};
+ghost use Rattle.zt_queries.specs.Happenings.{lacks_peer, made, ended, peer_closed, leaked, IsPath, moments, last_moment};
 
 /// What is reached is the least closed set: it is closed, and it is inside every closed set.
 #[tactic(auto, using(crate::proofs::ReachLaws::reach_laws))]
@@ -24,6 +25,12 @@ pub fn reached_is_least()
 #[tactic(auto, using(crate::proofs::LeakLaws::list_laws))]
 pub fn leaks_are_listed()
     ensures { (S : State) (x : ℕ) → among (map (λ e. e.0) (leaks S)) x ≡ is_leaked S x }
+{}
+
+/// In a consistent state the signal that the peer is closed stands on an endpoint exactly where it has no peer.
+pub fn the_signal_tells_of_the_peer()
+    ensures { (S : State) (x : ℕ) (o : ObjectRow) → IsConsistent S → object S x ≡ Some o
+        → is_endpoint o.kind ≡ true → lacks_peer S x ≡ (o.link == 0) }
 {}
 
 /// What is leaked is leaked or gone after any call of a live process, and a leaked endpoint is never gone. On the
@@ -57,4 +64,12 @@ pub fn the_last_is_the_only_one()
     ensures { (happens : State → State → Bool) (S : State) (path : List (ℕ × State)) (n : ℕ)
         → length (moments happens S path) ≤ 1 → last_moment happens S path ≡ Some n
         → moments happens S path ≡ n ∷ [] }
+{}
+
+/// That an object is made, that it ends and that its peer is closed shows in its row: where the row is as it was,
+/// nothing of it happened. What leaks an object may leave its row as it is.
+pub fn what_happens_shows_in_the_row()
+    ensures made { (S T : State) (x : ℕ) → object S x ≡ object T x → made x S T ≡ false }
+    ensures ended { (S T : State) (x : ℕ) → object S x ≡ object T x → ended x S T ≡ false }
+    ensures peer_closed { (S T : State) (x : ℕ) → object S x ≡ object T x → peer_closed x S T ≡ false }
 {}
