@@ -1,0 +1,6 @@
+pub mod ReachLaws
+pub mod FollowLaws
+pub mod CallsFollow
+pub mod LeakLaws
+pub mod OnceLaws
+pub mod WorkedLeaks

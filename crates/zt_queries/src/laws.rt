@@ -1,0 +1,75 @@
+//! What holds of leaks and of the moments at which something happens to an object. Each law is the contract of a
+//! function that does nothing.
+ghost use Rattle.std.specs.Prelude.{◌≡◌, ◌≤◌, ℕ, Bool, true, false, List, [], ◌∷◌, length, map, Some, ◌==◌};
+ghost use Rattle.std.specs.List.{AllByRecursion};
+ghost use Rattle.zt_rows.specs.declared.calls.Call.{Call};
+ghost use Rattle.zt_rows.specs.declared.rows.ObjectRow.{ObjectRow};
+ghost use Rattle.zt_rows.specs.State.{State};
+ghost use Rattle.zt_rows.specs.Reads.{object, on_object, runs};
+ghost use Rattle.zt_rows.specs.Tests.{among, exists, is_endpoint};
+ghost use Rattle.zt_rows.specs.Step.{IsCall, step};
+ghost use Rattle.zt_rows.specs.Consistent.{IsConsistent};
+ghost use Rattle.zt_queries.specs.Reach.{reached, IsClosed};
+ghost use Rattle.zt_queries.specs.Leaks.{is_leaked, leaks};
+ghost use Rattle.zt_queries.specs.Happenings.{lacks_peer, made, ended, peer_closed, leaked, IsPath, moments, last_moment};
+
+/// What is reached is the least closed set: it is closed, and it is inside every closed set.
+#[tactic(auto, using(crate::proofs::ReachLaws::reach_laws))]
+pub fn reached_is_least()
+    ensures closed { (S : State) → IsClosed S (among (reached S)) }
+    ensures least { (S : State) (set : ℕ → Bool) → IsClosed S set → (x : ℕ)
+        → among (reached S) x ≡ true → set x ≡ true }
+{}
+
+/// The list of what is leaked has the leaked objects and no others.
+#[tactic(auto, using(crate::proofs::LeakLaws::list_laws))]
+pub fn leaks_are_listed()
+    ensures { (S : State) (x : ℕ) → among (map (λ e. e.0) (leaks S)) x ≡ is_leaked S x }
+{}
+
+/// In a consistent state the signal that the peer is closed stands on an endpoint exactly where it has no peer.
+pub fn the_signal_tells_of_the_peer()
+    ensures { (S : State) (x : ℕ) (o : ObjectRow) → IsConsistent S → object S x ≡ Some o
+        → is_endpoint o.kind ≡ true → lacks_peer S x ≡ (o.link == 0) }
+{}
+
+/// What is leaked is leaked or gone after any call of a live process, and a leaked endpoint is never gone. On the
+/// paths that lead on no process reaches it again.
+pub fn what_leaked_stays_leaked()
+    ensures leaked_or_gone { (S : State) (p : ℕ) (c : Call) (x : ℕ) → IsConsistent S → runs S p ≡ true → IsCall c
+        → is_leaked S x ≡ true → exists (step S p c).0 x ≡ true → is_leaked (step S p c).0 x ≡ true }
+    ensures endpoint { (S : State) (p : ℕ) (c : Call) (x : ℕ) → IsConsistent S → runs S p ≡ true → IsCall c
+        → is_leaked S x ≡ true → on_object (λ o. is_endpoint o.kind) (object S x) ≡ true
+        → is_leaked (step S p c).0 x ≡ true }
+    ensures out_of_reach { (S : State) (path : List (ℕ × State)) (x : ℕ) → IsConsistent S → IsPath S path
+        → is_leaked S x ≡ true → AllByRecursion (λ m. among (reached m.1) x ≡ false) path }
+{}
+
+/// On a path of calls an object is made at one moment at most, ends at one at most, loses its peer at one at most,
+/// and is leaked at one at most.
+pub fn once_each()
+    ensures made { (S : State) (path : List (ℕ × State)) (x : ℕ) → IsConsistent S → IsPath S path
+        → length (moments (made x) S path) ≤ 1 }
+    ensures ended { (S : State) (path : List (ℕ × State)) (x : ℕ) → IsConsistent S → IsPath S path
+        → length (moments (ended x) S path) ≤ 1 }
+    ensures peer_closed { (S : State) (path : List (ℕ × State)) (x : ℕ) → IsConsistent S → IsPath S path
+        → length (moments (peer_closed x) S path) ≤ 1 }
+    ensures leaked { (S : State) (path : List (ℕ × State)) (x : ℕ) → IsConsistent S → IsPath S path
+        → length (moments (leaked x) S path) ≤ 1 }
+{}
+
+/// Where something happens at one moment of a path at most, the last such moment is the only one.
+#[tactic(auto, using(crate::proofs::OnceLaws::last_laws))]
+pub fn the_last_is_the_only_one()
+    ensures { (happens : State → State → Bool) (S : State) (path : List (ℕ × State)) (n : ℕ)
+        → length (moments happens S path) ≤ 1 → last_moment happens S path ≡ Some n
+        → moments happens S path ≡ n ∷ [] }
+{}
+
+/// That an object is made, that it ends and that its peer is closed shows in its row: where the row is as it was,
+/// nothing of it happened. What leaks an object may leave its row as it is.
+pub fn what_happens_shows_in_the_row()
+    ensures made { (S T : State) (x : ℕ) → object S x ≡ object T x → made x S T ≡ false }
+    ensures ended { (S T : State) (x : ℕ) → object S x ≡ object T x → ended x S T ≡ false }
+    ensures peer_closed { (S T : State) (x : ℕ) → object S x ≡ object T x → peer_closed x S T ≡ false }
+{}
