@@ -65,7 +65,7 @@ above-all x q [] below less = refl
 above-all x q (e ∷ es) below less =
     elim (rowkey_eq q e.0) as (λ b. rowkey_eq q e.0 ≡ b → (b || among q (map (λ e. e.0) es)) ≡ false) [
       | true ↦ λ t.
-          let up : rowkey_cmp x q ≡ Less = subst (λ z. rowkey_cmp x z ≡ Less) (sym (rowkey_eq-equal q e.0 t)) (is_less _ (left_of _ _ below)) in
+          let up : rowkey_cmp x q ≡ Less = subst (λ z. rowkey_cmp x z ≡ Less) (sym (rowkey_eq-equal q e.0 t)) (is_less (rowkey_cmp x e.0) (left_of (is_lt (rowkey_cmp x e.0)) _ below)) in
           let down : rowkey_cmp x q ≡ Greater = rowkey_cmp_total.antisymm x q ∙ ap ordering_reverse less in
           cc
       | false ↦ λ t. above-all x q es (right_of _ _ below) less
