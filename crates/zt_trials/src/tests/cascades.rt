@@ -5,6 +5,8 @@ ghost use Rattle.std.specs.Prelude.{◌≤◌, IfOk, length};
 use super::books::{has_rows, is_served, rows_of};
 use super::runs::talk;
 use std::alloc::Global;
+use std::io;
+use std::io::Write;
 use std::process::Abort;
 use zt_bits::Signals;
 use zt_console::Book;
@@ -64,4 +66,33 @@ fn refused_memory_fires_no_wait(rt: HostRuntime) {
         set: Signals(0x8),
     };
     check_taken_back(&rt, lines, call);
+}
+
+/// A process under the job of handle 7, with an event, a port and a wait of its own.
+fn add_process(lines: &mut Vec<u8>, process: u64) -> io::Result<()> {
+    lines.write_all(b"1025 spawn 7 0\n")?;
+    writeln!(lines, "{process} event_create")?;
+    writeln!(lines, "{process} port_create")?;
+    writeln!(lines, "{process} object_wait_async 3 7 1 0x00000008")
+}
+
+/// A job with forty processes: each takes three koids.
+fn forty_processes(alloc: Global) -> io::Result<Vec<u8>> {
+    let mut lines = Vec::new(alloc);
+    lines.write_all(b"1025 job_create 3\n")?;
+    for n in 0..40 {
+        add_process(&mut lines, 1027 + 3 * n)?;
+    }
+    Ok(lines)
+}
+
+#[test]
+fn refused_memory_kills_no_process(rt: HostRuntime) {
+    let Ok(lines) = forty_processes(rt.alloc()) else {
+        return;
+    };
+    let call = Call::TaskKill {
+        handle: HandleValue(7),
+    };
+    check_taken_back(&rt, lines.as_slice(), call);
 }
