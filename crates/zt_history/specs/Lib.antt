@@ -1,0 +1,4 @@
+pub mod Tree
+pub mod Refusing
+pub mod Timeline
+pub mod Standing
