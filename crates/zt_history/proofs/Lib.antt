@@ -1,3 +1,7 @@
 pub mod ListLaws
 pub mod PathLaws
+pub mod RunLaws
+pub mod MoreLaws
+pub mod RecordLaws
+pub mod HistoryLaws
 mod WorkedTrees

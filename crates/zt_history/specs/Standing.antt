@@ -65,5 +65,6 @@ recorded_at made position m = option_map (λ _. record_of made position m) (made
 pub record IsHistory (made : List Made) (position : ℕ) (store : Stored) (records : List (List (RowKey × Option Row))) : Type 0 where
   pub within : position ≤ length made
   pub here : store.state ≡ state_at made position
+  pub many : length records ≡ length made
   pub each : (i : ℕ) → slice_get records i ≡ recorded_at made position (suc i)
   pub fit : all_fit store.places records ≡ true
