@@ -4,4 +4,5 @@ pub mod RunLaws
 pub mod MoreLaws
 pub mod RecordLaws
 pub mod HistoryLaws
+pub mod GrownLaws
 mod WorkedTrees

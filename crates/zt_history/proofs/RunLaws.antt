@@ -69,7 +69,7 @@ module _ (made : List Made) (are : AreMoments made) where
       let before : List Reply = (run opening (calls_to made e.parent)).1 in
       ap (λ cs. (run opening cs).1) (calls-step made are.falls i e at)
       ∙ ap (λ (r : State × List Reply). r.1) (run-push opening (calls_to made e.parent) (e.process, e.call))
-      ∙ ap (λ r. before ++ r ∷ []) (sym (are.each (suc i) e at).answered)
+      ∙ ap (λ r. before ++ r ∷ []) (sym (are.each i e at).answered)
       ∙ ap (λ rs. rs ++ e.reply ∷ []) rest
       ∙ sym (replies-step made are.falls i e at)
 
@@ -107,7 +107,7 @@ module _ (made : List Made) (are : AreMoments made) where
       one i rest h =
           let there = made-there i h in
           let e = there.0 in
-          let is = are.each (suc i) e there.1 in
+          let is = are.each i e there.1 in
           let p = parent-is i e there.1 in
           let P : ℕ → Type 0 = λ p. IsConsistent (state_at made p) × HasSpent (length (path made p)) (state_at made p) in
           let before : P e.parent = subst P p (rest (parent-within i h)) in

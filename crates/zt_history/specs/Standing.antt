@@ -30,7 +30,7 @@ pub record IsMade (made : List Made) (e : Made) : Type 0 where
 pub record AreMoments (made : List Made) : Type 0 where
   pub few : length made ≤ most_moments
   pub falls : Falls made
-  pub each : (m : ℕ) (e : Made) → made_at made m ≡ Some e → IsMade made e
+  pub each : (i : ℕ) (e : Made) → slice_get made i ≡ Some e → IsMade made e
 
 abbrev pub names_of : List Branch → List (List ℕ)
 names_of branches = map (λ b. b.name) branches
