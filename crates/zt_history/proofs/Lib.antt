@@ -5,4 +5,5 @@ pub mod MoreLaws
 pub mod RecordLaws
 pub mod HistoryLaws
 pub mod GrownLaws
+pub mod BranchLaws
 mod WorkedTrees

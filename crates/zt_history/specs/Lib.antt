@@ -1,4 +1,5 @@
 pub mod Tree
 pub mod Refusing
+pub mod Branches
 pub mod Timeline
 pub mod Standing

@@ -1,3 +1,7 @@
 //! The tree of moments: every call that was answered, on branches of futures, with a store that goes to any of them by
 //! exchanging rows.
 #![tactic(auto)]
+
+mod branches;
+
+pub use branches::BranchId;
