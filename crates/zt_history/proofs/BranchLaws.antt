@@ -11,14 +11,11 @@ use Rattle.indexmap.specs.Layout.{set_value_at}
 use Rattle.indexmap.proofs.MapLemmas.{some_index}
 use Rattle.zt_history.specs.Tree.{Branch, branch_named, branch_head, head_at, headed}
 use Rattle.zt_history.specs.Branches.{branches_by}
+use Rattle.zt_history.proofs.ListLaws.{length-mapped}
 
 position_or_len-map : {A B : Type 0} (test : B → Bool) (f : A → B) (xs : List A) → position_or_len test (map f xs) ≡ position_or_len (λ x. test (f x)) xs
 position_or_len-map test f [] = refl
 position_or_len-map test f (x ∷ xs) = ap (λ n. cond (not (test (f x))) (1 + n) 0) (position_or_len-map test f xs)
-
-length-mapped : {A B : Type 0} (f : A → B) (xs : List A) → length (map f xs) ≡ length xs
-length-mapped f [] = refl
-length-mapped f (x ∷ xs) = ap suc (length-mapped f xs)
 
 position-map : {A B : Type 0} (test : B → Bool) (f : A → B) (xs : List A) → position test (map f xs) ≡ position (λ x. test (f x)) xs
 position-map test f xs = λ i. cond (nat_lt (position_or_len-map test f xs i) (length-mapped f xs i)) (Some (position_or_len-map test f xs i)) None

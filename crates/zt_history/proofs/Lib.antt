@@ -6,4 +6,5 @@ pub mod RecordLaws
 pub mod HistoryLaws
 pub mod GrownLaws
 pub mod BranchLaws
+pub mod NodeLaws
 mod WorkedTrees

@@ -1,6 +1,7 @@
 -- More moments change nothing of those that are there.
 use Rattle.std.proofs.Common.{◌≡◌, ℕ, zero, suc, ◌+◌, ◌≤◌, ◌<◌, true, List, [], ◌∷◌, ◌++◌, length, Option, Some, None, refl, sym, ◌∙◌, ap, subst, inl, inr, arith}
 use Rattle.std.specs.Prelude.{slice_get, if◌then◌else◌}
+use Rattle.std.proofs.lemmas.Bool.{cases_lt}
 use Rattle.std.proofs.lemmas.Option.{slice_get_past, slice_get_within, same_Some}
 use Rattle.zt_rows.specs.Change.{before}
 use Rattle.zt_rows.specs.Step.{step}
@@ -32,6 +33,14 @@ falls-push made e falls h i =
         inl at ↦ omega (arith, h, at, ap parent_of (get-last made e i at))
       | inr past ↦ omega (arith, ap parent_of (slice_get_past (made ++ e ∷ []) i past))
       ]
+    ]
+
+-- fewer, the first of them
+pub falls-left : (made more : List Made) → Falls (made ++ more) → Falls made
+falls-left made more falls i =
+    elim (cases_lt i (length made)) [
+      inl l ↦ omega (arith, falls i, parent-more made more (suc i) (omega (arith, l)))
+    | inr past ↦ omega (arith, ap parent_of (slice_get_past made i past))
     ]
 
 module _ (made more : List Made) (falls : Falls made) where

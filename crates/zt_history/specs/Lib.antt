@@ -3,3 +3,4 @@ pub mod Refusing
 pub mod Branches
 pub mod Timeline
 pub mod Standing
+pub mod Nodes

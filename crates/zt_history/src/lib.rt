@@ -3,5 +3,6 @@
 #![tactic(auto)]
 
 mod branches;
+mod moments;
 
 pub use branches::BranchId;
