@@ -7,4 +7,5 @@ pub mod HistoryLaws
 pub mod GrownLaws
 pub mod BranchLaws
 pub mod NodeLaws
+pub mod KeptLaws
 mod WorkedTrees

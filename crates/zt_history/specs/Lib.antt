@@ -4,3 +4,4 @@ pub mod Branches
 pub mod Timeline
 pub mod Standing
 pub mod Nodes
+pub mod Keeping

@@ -3,6 +3,8 @@
 #![tactic(auto)]
 
 mod branches;
+mod histories;
 mod moments;
 
 pub use branches::BranchId;
+pub use histories::{History, LAST_MOMENT};

@@ -1,0 +1,44 @@
+-- What a history keeps: at the opening, while it moves, and what of it the store's rows tell.
+use Rattle.std.proofs.Common.{◌≡◌, ℕ, zero, suc, ◌+◌, ◌-◌, ◌≤◌, ◌<◌, true, List, [], ◌∷◌, ◌++◌, length, set, Option, Some, None, refl, sym, ◌∙◌, ap, subst, arith}
+use Rattle.std.specs.Prelude.{slice_get}
+use Rattle.std.specs.List.{IsDistinct, AllByRecursion}
+use Rattle.std.specs.Str.{bytes_eq}
+use Rattle.std.proofs.lemmas.Option.{none-some}
+use Rattle.zt_rows.specs.declared.calls.Reply.{Reply}
+use Rattle.zt_rows.specs.Opening.{opening}
+use Rattle.zt_rows.specs.State.{State}
+use Rattle.zt_rows.specs.Step.{run}
+use Rattle.zt_store.specs.Seen.{Stored}
+use Rattle.zt_history.specs.declared.histories.Undo.{Undo}
+use Rattle.zt_history.specs.declared.histories.Undo.TheVariants as undo
+use Rattle.zt_history.specs.Tree.{Made, Branch, Tree, opening_tree, parent_at, path, state_at, calls_to, replies_to}
+use Rattle.zt_history.specs.Timeline.{Timeline}
+use Rattle.zt_history.specs.Standing.{AreMoments, AreBranches, IsHistory}
+use Rattle.zt_history.specs.Nodes.{Chronicle, IsTurned}
+use Rattle.zt_history.specs.Keeping.{IsKept, timeline_of}
+use Rattle.zt_history.proofs.HistoryLaws.{history-opening, history-back, history-forth}
+use Rattle.zt_history.proofs.RunLaws.{run-path}
+
+no_moments : AreMoments []
+no_moments = record { few = omega arith; falls = λ i. omega arith; each = λ i e h. absurd (none-some e h) }
+
+one_branch : AreBranches 0 opening_tree.branches
+unfolding IsDistinct
+one_branch = record { main = refl; names = (tt, tt); heads = (omega arith, tt) }
+
+pub kept-opening : (store : Stored) (moments : Chronicle) (branches : List Branch) → store.state ≡ opening → moments ≡ record { made = []; records = [] } → branches ≡ opening_tree.branches
+    → IsKept store moments branches 0 undo.Nothing
+kept-opening store moments branches here none one =
+    let P : Chronicle → List Branch → Type 0 = λ m b. IsKept store m b 0 undo.Nothing in
+    subst (λ m. P m branches) (sym none) (subst (P (record { made = []; records = [] })) (sym one)
+    (record { moments_stand = no_moments; branches_stand = one_branch; history = history-opening store here; undo = tt }))
+
+-- the store is where running the calls on the path leads, and the moments' replies are those of the run
+pub kept-run : (store : Stored) (moments : Chronicle) (branches : List Branch) (position : ℕ) (last : Undo) (h : Timeline)
+    → IsKept store moments branches position last → timeline_of (record { made = moments.made; branches = branches }) position last ≡ h
+    → ◌≡◌ {A = State × List Reply} (store.state, replies_to h.tree.made h.position) (run opening (calls_to h.tree.made h.position))
+kept-run store moments branches position last h is seen =
+    ap (λ (S : State). (S, replies_to h.tree.made h.position)) (is.history.here ∙ (λ i. state_at (seen i).tree.made (seen i).position))
+    ∙ (λ i. (state_at (sym seen i).tree.made (sym seen i).position, replies_to (sym seen i).tree.made (sym seen i).position))
+    ∙ sym (run-path moments.made is.moments_stand position is.history.within)
+    ∙ (λ i. run opening (calls_to (seen i).tree.made (seen i).position))
