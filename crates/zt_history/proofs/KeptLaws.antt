@@ -42,3 +42,35 @@ kept-run store moments branches position last h is seen =
     ∙ (λ i. (state_at (sym seen i).tree.made (sym seen i).position, replies_to (sym seen i).tree.made (sym seen i).position))
     ∙ sym (run-path moments.made is.moments_stand position is.history.within)
     ∙ (λ i. run opening (calls_to (seen i).tree.made (seen i).position))
+
+-- ---- moving
+
+module _ (old new : Stored) (from to : Chronicle) (branches : List Branch) (last : Undo) (i m : ℕ) (turned : IsTurned from to old new i) (place : m ≡ suc i) where
+  kept-turned : (p q : ℕ) → IsKept old from branches p last → IsHistory from.made q new (set from.records i turned.kept) → IsKept new to branches q undo.Nothing
+  kept-turned p q is there = record {
+    moments_stand = subst AreMoments (sym turned.made) is.moments_stand;
+    branches_stand = let P : List Made → Type 0 = λ made. AreBranches (length made) branches in subst P (sym turned.made) is.branches_stand;
+    history =
+        let P : List Made → Type 0 = λ made. IsHistory made q new (set from.records i turned.kept) in
+        subst (IsHistory to.made q new) (sym turned.records) (subst P (sym turned.made) there);
+    undo = tt;
+  }
+
+  -- back from the moment, to its parent
+  pub kept-back : (q : ℕ) → q ≡ parent_at to.made m → IsKept old from branches m last → IsKept new to branches q undo.Nothing
+  kept-back q up is =
+      let P : ℕ → Type 0 = λ m. IsHistory from.made m old from.records in
+      let at : IsHistory from.made (suc i) old from.records = subst P place is.history in
+      let parent : parent_at from.made (suc i) ≡ q = (λ j. parent_at (sym turned.made j) (sym place j)) ∙ sym up in
+      kept-turned m q is
+      (subst (λ q. IsHistory from.made q new (set from.records i turned.kept)) parent
+      (history-back from.made is.moments_stand.falls i old new from.records turned.was turned.kept (omega (arith, at.within)) turned.at turned.exchanged turned.places turned.fit at))
+
+  -- forth to the moment, from its parent
+  pub kept-forth : (p : ℕ) → parent_at from.made m ≡ p → m ≤ length from.made → IsKept old from branches p last → IsKept new to branches m undo.Nothing
+  kept-forth p up there is =
+      let parent : p ≡ parent_at from.made (suc i) = sym up ∙ ap (parent_at from.made) place in
+      let P : ℕ → Type 0 = λ p. IsHistory from.made p old from.records in
+      kept-turned p m is
+      (subst (λ q. IsHistory from.made q new (set from.records i turned.kept)) (sym place)
+      (history-forth from.made is.moments_stand.falls i old new from.records turned.was turned.kept (omega (arith, there, place)) turned.at turned.exchanged turned.places turned.fit (subst P parent is.history)))

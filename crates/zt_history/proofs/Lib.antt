@@ -8,4 +8,5 @@ pub mod GrownLaws
 pub mod BranchLaws
 pub mod NodeLaws
 pub mod KeptLaws
+pub mod WayLaws
 mod WorkedTrees

@@ -7,7 +7,7 @@ ghost use Rattle.zt_rows.specs.State.{State};
 ghost use Rattle.zt_rows.specs.Step.{run};
 ghost use Rattle.zt_history.specs.Tree.{call_at, reply_at, parent_at, path, end_of, state_at, calls_to, replies_to, head_at, branch_named};
 ghost use Rattle.zt_history.specs.Refusing.{IsRefused, call_on, branch_on, moment_on};
-ghost use Rattle.zt_history.specs.Standing.{recorded_at, IsTree};
+ghost use Rattle.zt_history.specs.Standing.{recorded_at, Falls, IsTree};
 ghost use Rattle.zt_history.specs.Timeline.{at_opening, moved_to, unmoved, point_of, at_head, IsAtMost, IsPath};
 
 use crate::branches::{BranchId, Branches};
@@ -150,5 +150,116 @@ impl History {
             Undo::Call(_) => true,
             Undo::Branch => true,
         }
+    }
+
+    /// The moments after the opening up to a moment: what `along` is to be given to go there. It takes memory for the
+    /// list alone, in one request.
+    pub fn path(&self, moment: Moment) -> Result<Vec<Moment>, Refusal>
+        ensures ok { IfOk result (λ way. way.items ≡ path self.now.tree.made moment) }
+        ensures end { IfOk result (λ way. end_of way.items ≡ moment) }
+        ensures within { OnOk result (moment_on self.now.tree moment ≡ Ok moment) }
+        ensures refused { IfErr result (IsRefused (moment_on self.now.tree moment)) }
+    {
+        self.moments.limits();
+        let last = self.last();
+        if moment > last {
+            return Err(Refusal::NoMoment);
+        }
+        match self.moments.path(moment) {
+            Ok(way) => Ok(way),
+            Err(_) => Err(Refusal::OutOfMemory),
+        }
+    }
+
+    /// Moves the store along a list that `path` gives, to its last moment: back to the last moment that both paths
+    /// share, and forth from there. It takes no memory and cannot fail.
+    pub fn along(&mut self, way: &[Moment])
+        requires { IsPath self.old.tree.made way.now }
+        ensures { self.new ≡ moved_to self.old (end_of way.now) }
+    {
+        let shared = self.back_to(way);
+        for place in shared..way.len() {
+            self.forth(way[place]);
+        }
+    }
+
+    /// Moves the store to a moment, at the cost of the list of its path and of the records on the way. Refused, it
+    /// stays where it is.
+    pub fn goto(&mut self, moment: Moment) -> Result<(), Refusal>
+        ensures ok { OnOk result (self.new ≡ moved_to self.old moment) }
+        ensures within { OnOk result (moment_on self.old.tree moment ≡ Ok moment) }
+        ensures refused { IfErr result (IsRefused (moment_on self.old.tree moment)) }
+        ensures err { OnErr result (self.new ≡ unmoved self.old) }
+    {
+        self.forget();
+        let way = self.path(moment)?;
+        self.along(way.as_slice());
+        Ok(())
+    }
+
+    /// From here on nothing can be taken back.
+    fn forget(&mut self)
+        ensures { self.new ≡ unmoved self.old }
+    {
+        self.undo = Undo::Nothing;
+    }
+
+    /// Moves the store back to the last moment that its path shares with this one, and tells how many they share.
+    fn back_to(&mut self, way: &[Moment]) -> usize
+        requires { IsPath self.old.tree.made way.now }
+        ensures moved { self.new ≡ moved_to self.old self.new.position }
+        ensures within { result ≤ length way.now }
+        ensures shared { path self.old.tree.made self.new.position ≡ take result way.now }
+        ensures falls { Falls self.old.tree.made }
+    {
+        self.forget();
+        let mut depth = self.depth() as usize;
+        while depth > 0 && !stands_at(way, depth - 1, self.position()) {
+            self.back();
+            depth -= 1;
+        }
+        depth
+    }
+
+    /// How many moments there are on the path to the position.
+    fn depth(&self) -> u32
+        ensures depth { result ≡ length (path self.now.tree.made self.now.position) }
+        ensures falls { Falls self.now.tree.made }
+    {
+        self.moments.limits();
+        self.moments.depth(self.position)
+    }
+
+    /// Moves the store to the parent of the position.
+    fn back(&mut self)
+        requires { 0 < self.old.position }
+        ensures { self.new ≡ moved_to self.old (parent_at self.old.tree.made self.old.position) }
+    {
+        let position = self.position;
+        self.moments.turn(&mut self.store, position);
+        self.position = self.moments.parent(position);
+        self.undo = Undo::Nothing;
+    }
+
+    /// Moves the store to a moment whose parent is the position.
+    fn forth(&mut self, moment: Moment)
+        requires some { 0 < moment }
+        requires there { moment ≤ length self.old.tree.made }
+        requires next { parent_at self.old.tree.made moment ≡ self.old.position }
+        ensures { self.new ≡ moved_to self.old moment }
+    {
+        self.moments.turn(&mut self.store, moment);
+        self.position = moment;
+        self.undo = Undo::Nothing;
+    }
+}
+
+/// Whether the moment stands at the place of the list.
+fn stands_at(way: &[Moment], place: usize, moment: Moment) -> bool
+    ensures { IsTrue result ↔ (slice_get way.now place ≡ Some moment) }
+{
+    match way.get(place) {
+        Some(there) => *there == moment,
+        None => false,
     }
 }

@@ -10,7 +10,7 @@ ghost use Rattle.zt_store.specs.Recorded.{all_fit};
 ghost use Rattle.zt_history.specs.Branches.{without_last};
 ghost use Rattle.zt_history.specs.Nodes.{IsTurned, made_as, run_at};
 ghost use Rattle.zt_history.specs.Standing.{Falls};
-ghost use Rattle.zt_history.specs.Tree.{made_at, parent_at, call_at, reply_at, path};
+ghost use Rattle.zt_history.specs.Tree.{made_at, parent_at, path};
 
 use std::alloc::{AllocError, Global};
 use std::marker::Model;
@@ -105,13 +105,13 @@ impl Moments {
     }
 
     /// The moments after the opening up to a moment.
-    pub(crate) fn path(&self, alloc: Global, moment: Moment) -> Result<Vec<Moment>, AllocError>
+    pub(crate) fn path(&self, moment: Moment) -> Result<Vec<Moment>, AllocError>
         requires { moment ≤ length self.now.made }
         ensures { IfOk result (λ way. way.items ≡ path self.now.made moment) }
     {
         self.limits();
         let depth = self.depth(moment) as usize;
-        let mut way = Vec::with_capacity(alloc, depth)?;
+        let mut way = Vec::with_capacity(*self.nodes.allocator(), depth)?;
         let mut at = moment;
         for _ in 0..depth {
             way.push_reserved(at);
