@@ -17,7 +17,7 @@ position_or_len-map : {A B : Type 0} (test : B → Bool) (f : A → B) (xs : Lis
 position_or_len-map test f [] = refl
 position_or_len-map test f (x ∷ xs) = ap (λ n. cond (not (test (f x))) (1 + n) 0) (position_or_len-map test f xs)
 
-position-map : {A B : Type 0} (test : B → Bool) (f : A → B) (xs : List A) → position test (map f xs) ≡ position (λ x. test (f x)) xs
+pub position-map : {A B : Type 0} (test : B → Bool) (f : A → B) (xs : List A) → position test (map f xs) ≡ position (λ x. test (f x)) xs
 position-map test f xs = λ i. cond (nat_lt (position_or_len-map test f xs i) (length-mapped f xs i)) (Some (position_or_len-map test f xs i)) None
 
 module _ {K : Type 0} (name : K → List ℕ) where

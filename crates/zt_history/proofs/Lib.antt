@@ -9,4 +9,5 @@ pub mod BranchLaws
 pub mod NodeLaws
 pub mod KeptLaws
 pub mod WayLaws
+pub mod TreeLaws
 mod WorkedTrees

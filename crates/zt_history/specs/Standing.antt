@@ -37,7 +37,7 @@ names_of branches = map (λ b. b.name) branches
 
 -- what holds of branches beside so many moments: the first is `main`, each has a name of its own, and its head is a moment
 pub record AreBranches (moments : ℕ) (branches : List Branch) : Type 0 where
-  pub main : option_map (λ b. b.name) (slice_get branches 0) ≡ Some main_name
+  pub main : slice_get (names_of branches) 0 ≡ Some main_name
   pub names : IsDistinct bytes_eq (names_of branches)
   pub heads : AllByRecursion (λ b. b.head ≤ moments) branches
 

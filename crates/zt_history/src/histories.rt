@@ -23,7 +23,7 @@ pub const LAST_MOMENT: u32 = 1_048_576;
 
 /// The last change, if it can be taken back.
 #[derive(Clone, Copy)]
-enum Undo {
+pub(crate) enum Undo {
     Nothing,
     /// A call on this branch, which made the last moment.
     Call(BranchId),
@@ -35,11 +35,11 @@ enum Undo {
 /// over the call that made it: back where the moment is on the path to the position, and forth where it is not.
 #[derive(Drop)]
 pub struct History {
-    store: Store,
-    moments: Moments,
-    branches: Branches,
-    position: Moment,
-    undo: Undo,
+    pub(crate) store: Store,
+    pub(crate) moments: Moments,
+    pub(crate) branches: Branches,
+    pub(crate) position: Moment,
+    pub(crate) undo: Undo,
 }
 
 impl Model for History {
@@ -198,7 +198,7 @@ impl History {
     }
 
     /// From here on nothing can be taken back.
-    fn forget(&mut self)
+    pub(crate) fn forget(&mut self)
         ensures { self.new ≡ unmoved self.old }
     {
         self.undo = Undo::Nothing;

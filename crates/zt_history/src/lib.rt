@@ -3,6 +3,8 @@
 #![tactic(auto)]
 
 mod branches;
+mod changes;
+mod growing;
 mod histories;
 mod moments;
 
