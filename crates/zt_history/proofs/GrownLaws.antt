@@ -1,24 +1,21 @@
 -- What a history keeps while a call makes one moment more, and while the last moment is dropped.
-use Rattle.std.proofs.Common.{◌≡◌, ℕ, zero, suc, ◌+◌, ◌≤◌, ◌<◌, true, List, [], ◌∷◌, ◌++◌, length, Option, Some, None, refl, sym, ◌∙◌, ap, subst, inl, inr, length-append, arith}
+use Rattle.std.proofs.Common.{◌≡◌, ℕ, suc, ◌≤◌, ◌<◌, true, List, [], ◌∷◌, ◌++◌, length, Some, refl, sym, ◌∙◌, ap, subst, inl, inr, length-append, arith}
 use Rattle.std.specs.Prelude.{slice_get}
 use Rattle.std.specs.Option.{option_map}
 use Rattle.std.proofs.lemmas.Bool.{cases_lt}
 use Rattle.std.proofs.lemmas.Option.{slice_get_past, slice_get_within, same_Some, none-some}
-use Rattle.zt_rows.specs.declared.calls.Call.{Call}
-use Rattle.zt_rows.specs.declared.calls.Reply.{Reply}
 use Rattle.zt_rows.specs.Change.{before}
 use Rattle.zt_rows.specs.Reads.{runs}
-use Rattle.zt_rows.specs.State.{State}
 use Rattle.zt_rows.specs.Step.{step}
 use Rattle.zt_rows.proofs.ChangeLaws.{Rows}
 use Rattle.zt_store.specs.Places.{Keeps, fits}
 use Rattle.zt_store.specs.Seen.{Stored}
 use Rattle.zt_store.proofs.Fitting.{all_fit-push, all_fit-kept, all_fit-left}
-use Rattle.zt_history.specs.Tree.{Made, made_at, parent_of, parent_at, made_by, grown, state_at}
+use Rattle.zt_history.specs.Tree.{Made, made_at, parent_of, parent_at, state_at}
 use Rattle.zt_history.specs.Refusing.{most_moments}
 use Rattle.zt_history.specs.Standing.{Falls, IsMade, AreMoments, record_of, recorded_at, IsHistory}
 use Rattle.zt_history.proofs.ListLaws.{get-left, get-last, place}
-use Rattle.zt_history.proofs.MoreLaws.{falls-push, made_at-more, state-more, record_of-more}
+use Rattle.zt_history.proofs.MoreLaws.{falls-left, falls-push, state-more, record_of-more}
 use Rattle.zt_history.proofs.RecordLaws.{record_of-here, record_of-others}
 use Rattle.zt_history.proofs.RunLaws.{state-step}
 
@@ -54,7 +51,7 @@ module _ (made : List Made) (e : Made) (falls : Falls made) (within : e.parent �
   recorded-own =
       let still = falls-push made e falls within in
       let above : state_at (made ++ e ∷ []) (parent_at (made ++ e ∷ []) (suc (length made))) ≡ state_at made e.parent =
-          ap (λ o. state_at (made ++ e ∷ []) (parent_of o)) made_at-end ∙ state-more made (e ∷ []) falls still e.parent within in
+      ap (λ o. state_at (made ++ e ∷ []) (parent_of o)) made_at-end ∙ state-more made (e ∷ []) falls still e.parent within in
       ap (option_map (λ _. record_of (made ++ e ∷ []) (suc (length made)) (suc (length made)))) made_at-end
       ∙ ap Some (record_of-here (made ++ e ∷ []) still (length made) ∙ (λ i. before (above i) (state-end i)))
 
@@ -71,19 +68,19 @@ module _ (made : List Made) (e : Made) (falls : Falls made) (within : e.parent �
         here = after ∙ sym state-end;
         many = sym size;
         each = λ i. elim (place made e i) [
-            inl l ↦
-                get-left records (R ∷ []) i (omega (arith, l, is.many))
-                ∙ is.each i
-                ∙ sym (recorded-end i l)
+          | inl l ↦
+              get-left records (R ∷ []) i (omega (arith, l, is.many))
+              ∙ is.each i
+              ∙ sym (recorded-end i l)
           | inr r ↦ elim r [
-              inl at ↦
-                  let P : ℕ → Type 0 = λ i. slice_get (records ++ R ∷ []) i ≡ recorded_at (made ++ e ∷ []) (suc (length made)) (suc i) in
-                  subst P (sym at) (get-last records R (length made) (sym is.many) ∙ ap Some own ∙ sym recorded-own)
+            | inl at ↦
+                let P : ℕ → Type 0 = λ i. slice_get (records ++ R ∷ []) i ≡ recorded_at (made ++ e ∷ []) (suc (length made)) (suc i) in
+                subst P (sym at) (get-last records R (length made) (sym is.many) ∙ ap Some own ∙ sym recorded-own)
             | inr past ↦
-                  slice_get_past (records ++ R ∷ []) i (omega (arith, past, size))
-                  ∙ sym (ap (option_map (λ _. record_of (made ++ e ∷ []) (suc (length made)) (suc i))) (slice_get_past (made ++ e ∷ []) i past))
-            ]
-          ];
+                slice_get_past (records ++ R ∷ []) i (omega (arith, past, size))
+                ∙ sym (ap (option_map (λ _. record_of (made ++ e ∷ []) (suc (length made)) (suc i))) (slice_get_past (made ++ e ∷ []) i past))
+          ]
+        ];
         fit = all_fit-push new.places records R (all_fit-kept old.places new.places kept records is.fit) fit;
       }
 
@@ -97,14 +94,14 @@ module _ (made : List Made) (e : Made) (falls : Falls made) (within : e.parent �
         here = is.here ∙ state-more made (e ∷ []) falls (falls-push made e falls within) position there;
         many = size;
         each = λ i. elim (cases_lt i (length made)) [
-            inl l ↦
-                sym (get-left records (R ∷ []) i (omega (arith, l, size)))
-                ∙ is.each i
-                ∙ recorded-more position i there l
+          | inl l ↦
+              sym (get-left records (R ∷ []) i (omega (arith, l, size)))
+              ∙ is.each i
+              ∙ recorded-more position i there l
           | inr past ↦
-                slice_get_past records i (omega (arith, past, size))
-                ∙ sym (ap (option_map (λ _. record_of made position (suc i))) (slice_get_past made i past))
-          ];
+              slice_get_past records i (omega (arith, past, size))
+              ∙ sym (ap (option_map (λ _. record_of made position (suc i))) (slice_get_past made i past))
+        ];
         fit = all_fit-left store.places records (R ∷ []) is.fit;
       }
 
@@ -114,9 +111,9 @@ module _ (made : List Made) (e : Made) (falls : Falls made) (within : e.parent �
       let still = falls-push made e falls within in
       let kept : (m : ℕ) → m ≤ length made → state_at (made ++ e ∷ []) m ≡ state_at made m = state-more made (e ∷ []) falls still in
       let made_there : (d : Made) → d.parent ≤ length made → IsMade made d → IsMade (made ++ e ∷ []) d = λ d h i. record {
-            running = ap (λ S. runs S d.process) (kept d.parent h) ∙ i.running;
-            answered = i.answered ∙ ap (λ S. (step S d.process d.call).1) (sym (kept d.parent h));
-          } in
+        running = ap (λ S. runs S d.process) (kept d.parent h) ∙ i.running;
+        answered = i.answered ∙ ap (λ S. (step S d.process d.call).1) (sym (kept d.parent h));
+      } in
       record {
         few = omega (arith, length-push made e, few);
         falls = still;
@@ -125,11 +122,29 @@ module _ (made : List Made) (e : Made) (falls : Falls made) (within : e.parent �
     where
       each : ((d : Made) → d.parent ≤ length made → IsMade made d → IsMade (made ++ e ∷ []) d) → (i : ℕ) (d : Made) → slice_get (made ++ e ∷ []) i ≡ Some d → IsMade (made ++ e ∷ []) d
       each there i d h = elim (place made e i) [
-          inl l ↦
-              let at : slice_get made i ≡ Some d = sym (get-left made (e ∷ []) i l) ∙ h in
-              there d (omega (arith, l, falls i, ap parent_of at)) (are.each i d at)
+        | inl l ↦
+            let at : slice_get made i ≡ Some d = sym (get-left made (e ∷ []) i l) ∙ h in
+            there d (omega (arith, l, falls i, ap parent_of at)) (are.each i d at)
         | inr r ↦ elim r [
-            inl at ↦ subst (λ d. IsMade (made ++ e ∷ []) d) (same_Some e d (sym (get-last made e i at) ∙ h)) (there e within is)
+          | inl at ↦ subst (λ d. IsMade (made ++ e ∷ []) d) (same_Some e d (sym (get-last made e i at) ∙ h)) (there e within is)
           | inr past ↦ absurd (none-some d (sym (slice_get_past (made ++ e ∷ []) i past) ∙ h))
-          ]
         ]
+      ]
+
+-- the first moments of a list of moments
+pub moments-left : (made : List Made) (e : Made) → AreMoments (made ++ e ∷ []) → AreMoments made
+moments-left made e are =
+    let falls = falls-left made (e ∷ []) are.falls in
+    record {
+      few = omega (arith, are.few, length-push made e);
+      falls = falls;
+      each = λ i d at.
+          let there : i < length made = slice_get_within made i d at in
+          let h : d.parent ≤ length made = omega (arith, there, falls i, ap parent_of at) in
+          let is = are.each i d (get-left made (e ∷ []) i there ∙ at) in
+          let kept : state_at (made ++ e ∷ []) d.parent ≡ state_at made d.parent = state-more made (e ∷ []) falls are.falls d.parent h in
+          record {
+            running = ap (λ S. runs S d.process) (sym kept) ∙ is.running;
+            answered = is.answered ∙ ap (λ S. (step S d.process d.call).1) kept;
+          };
+    }

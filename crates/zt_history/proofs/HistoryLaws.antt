@@ -1,28 +1,24 @@
 -- What a history keeps while its store goes over a moment, back or forth, while a call makes one more, and while the
 -- last one is dropped.
-use Rattle.std.proofs.Common.{◌≡◌, ℕ, zero, suc, ◌+◌, ◌≤◌, ◌<◌, Bool, true, false, eqb, List, [], ◌∷◌, ◌++◌, length, set, Option, Some, None, refl, sym, ◌∙◌, ap, subst, inl, inr, length-append, arith}
+use Rattle.std.proofs.Common.{◌≡◌, ℕ, suc, ◌≤◌, ◌<◌, Bool, true, false, eqb, List, [], length, set, Some, refl, sym, ◌∙◌, ap, subst, arith}
 use Rattle.std.specs.Prelude.{slice_get}
 use Rattle.std.specs.Option.{option_map}
 use Rattle.std.proofs.lemmas.Bool.{eqb-true, eqb-false}
 use Rattle.std.proofs.lemmas.List.{length-set}
-use Rattle.std.proofs.lemmas.Option.{slice_get_past, slice_get_within, same_Some}
-use Rattle.zt_rows.specs.declared.calls.Call.{Call}
-use Rattle.zt_rows.specs.declared.calls.Reply.{Reply}
-use Rattle.zt_rows.specs.Change.{before, exchange}
+use Rattle.std.proofs.lemmas.Option.{same_Some}
+use Rattle.zt_rows.specs.Change.{exchange}
 use Rattle.zt_rows.specs.Opening.{opening}
 use Rattle.zt_rows.specs.State.{State}
-use Rattle.zt_rows.specs.Step.{step}
 use Rattle.zt_rows.proofs.ChangeLaws.{Rows}
-use Rattle.zt_store.specs.Places.{Places, Keeps, fits}
+use Rattle.zt_store.specs.Places.{fits}
 use Rattle.zt_store.specs.Recorded.{all_fit}
 use Rattle.zt_store.specs.Seen.{Stored}
-use Rattle.zt_store.proofs.Fitting.{all_fit-set, all_fit-push, all_fit-kept, all_fit-left}
-use Rattle.zt_history.specs.Tree.{Made, made_at, parent_of, parent_at, made_by, grown, state_at}
+use Rattle.zt_store.proofs.Fitting.{all_fit-set}
+use Rattle.zt_history.specs.Tree.{Made, parent_at, state_at}
 use Rattle.zt_history.specs.Standing.{Falls, record_of, recorded_at, IsHistory}
-use Rattle.zt_history.proofs.ListLaws.{get-left, get-last, get-within, get-set_same, get-set_other, place}
-use Rattle.zt_history.proofs.MoreLaws.{falls-push, made_at-more, state-more, record_of-more}
-use Rattle.zt_history.proofs.RecordLaws.{record_of-here, record_of-others, exchange-back, exchange-forth}
-use Rattle.zt_history.proofs.RunLaws.{state-opening, state-step}
+use Rattle.zt_history.proofs.ListLaws.{get-within, get-set_same, get-set_other}
+use Rattle.zt_history.proofs.RecordLaws.{record_of-others, exchange-back, exchange-forth}
+use Rattle.zt_history.proofs.RunLaws.{state-opening}
 
 pub history-opening : (store : Stored) → store.state ≡ opening → IsHistory [] 0 store []
 history-opening store is = record {
@@ -50,19 +46,19 @@ turned made p q j old new records R kept over others within there is at done pla
     let was : R ≡ record_of made p (suc j) = same_Some R (record_of made p (suc j)) (sym at ∙ is.each j ∙ recorded-there made p j there) in
     let gone : ◌≡◌ {A = State × Rows} (new.state, kept) (state_at made q, record_of made q (suc j)) = done ∙ (λ i. exchange (is.here i) (was i)) ∙ over in
     let each : (i : ℕ) (b : Bool) → eqb i j ≡ b → slice_get (set records j kept) i ≡ recorded_at made q (suc i) =
-        λ i b. elim b as (λ b. eqb i j ≡ b → slice_get (set records j kept) i ≡ recorded_at made q (suc i)) [
-          true ↦ λ e.
-            let same : i ≡ j = eqb-true i j e in
-            let P : ℕ → Type 0 = λ i. slice_get (set records j kept) i ≡ recorded_at made q (suc i) in
-            subst P (sym same)
-            (get-set_same records j kept (omega (arith, there, is.many))
-            ∙ ap Some (ap (λ (x : State × Rows). x.1) gone)
-            ∙ sym (recorded-there made q j there))
-        | false ↦ λ e.
-            get-set_other records j i kept (eqb-false i j e)
-            ∙ is.each i
-            ∙ ap (λ (R : Rows). option_map (λ _. R) (slice_get made i)) (others (suc i) (λ h. eqb-false i j e (omega (arith, h))))
-        ] in
+    λ i b. elim b as (λ b. eqb i j ≡ b → slice_get (set records j kept) i ≡ recorded_at made q (suc i)) [
+      | true ↦ λ e.
+          let same : i ≡ j = eqb-true i j e in
+          let P : ℕ → Type 0 = λ i. slice_get (set records j kept) i ≡ recorded_at made q (suc i) in
+          subst P (sym same)
+          (get-set_same records j kept (omega (arith, there, is.many))
+          ∙ ap Some (ap (λ (x : State × Rows). x.1) gone)
+          ∙ sym (recorded-there made q j there))
+      | false ↦ λ e.
+          get-set_other records j i kept (eqb-false i j e)
+          ∙ is.each i
+          ∙ ap (λ (R : Rows). option_map (λ _. R) (slice_get made i)) (others (suc i) (λ h. eqb-false i j e (omega (arith, h))))
+    ] in
     record {
       within = within;
       here = ap (λ (x : State × Rows). x.0) gone;

@@ -1,8 +1,6 @@
 -- What a history keeps: at the opening, while it moves, and what of it the store's rows tell.
-use Rattle.std.proofs.Common.{◌≡◌, ℕ, zero, suc, ◌+◌, ◌-◌, ◌≤◌, ◌<◌, true, List, [], ◌∷◌, ◌++◌, length, set, Option, Some, None, refl, sym, ◌∙◌, ap, subst, arith}
-use Rattle.std.specs.Prelude.{slice_get}
-use Rattle.std.specs.List.{IsDistinct, AllByRecursion}
-use Rattle.std.specs.Str.{bytes_eq}
+use Rattle.std.proofs.Common.{◌≡◌, ℕ, suc, ◌≤◌, List, [], length, set, refl, sym, ◌∙◌, ap, subst, arith}
+use Rattle.std.specs.List.{IsDistinct}
 use Rattle.std.proofs.lemmas.Option.{none-some}
 use Rattle.zt_rows.specs.declared.calls.Reply.{Reply}
 use Rattle.zt_rows.specs.Opening.{opening}
@@ -11,7 +9,7 @@ use Rattle.zt_rows.specs.Step.{run}
 use Rattle.zt_store.specs.Seen.{Stored}
 use Rattle.zt_history.specs.declared.histories.Undo.{Undo}
 use Rattle.zt_history.specs.declared.histories.Undo.TheVariants as undo
-use Rattle.zt_history.specs.Tree.{Made, Branch, Tree, opening_tree, parent_at, path, state_at, calls_to, replies_to}
+use Rattle.zt_history.specs.Tree.{Made, Branch, opening_tree, parent_at, state_at, calls_to, replies_to}
 use Rattle.zt_history.specs.Timeline.{Timeline}
 use Rattle.zt_history.specs.Standing.{AreMoments, AreBranches, IsHistory}
 use Rattle.zt_history.specs.Nodes.{Chronicle, IsTurned}

@@ -10,4 +10,5 @@ pub mod NodeLaws
 pub mod KeptLaws
 pub mod WayLaws
 pub mod TreeLaws
+pub mod ChangedLaws
 mod WorkedTrees

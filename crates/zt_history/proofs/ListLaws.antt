@@ -1,9 +1,7 @@
 -- What the other laws want to know of lists: the element at a place of a longer list, and the last one.
-use Rattle.std.proofs.Common.{◌≡◌, ℕ, zero, suc, ◌+◌, ◌-◌, ◌≤◌, ◌<◌, Bool, true, false, ◌⊎◌, List, [], ◌∷◌, ◌++◌, length, map, get_or, set, take, Option, Some, None, refl, sym, ◌∙◌, ap, inl, inr, length-append, arith}
-use Rattle.std.specs.Prelude.{slice_get, ⊤}
-use Rattle.std.specs.List.{AllByRecursion}
+use Rattle.std.proofs.Common.{◌≡◌, ℕ, zero, suc, ◌-◌, ◌≤◌, ◌<◌, ◌⊎◌, List, [], ◌∷◌, ◌++◌, length, map, get_or, set, Some, refl, ◌∙◌, ap, inl, inr, length-append, arith}
+use Rattle.std.specs.Prelude.{slice_get}
 use Rattle.std.proofs.lemmas.Bool.{cases_lt}
-use Rattle.std.proofs.lemmas.Option.{slice_get_past, slice_get_within, slice_get-get_or}
 use Rattle.std.proofs.Math.Seq.{get_or-append_seam}
 use Rattle.zt_history.specs.Tree.{end_of}
 
@@ -29,8 +27,8 @@ module _ {A : Type 0} where
   pub place : (xs : List A) (x : A) (i : ℕ) → (i < length xs) ⊎ (i ≡ length xs) ⊎ (length (xs ++ x ∷ []) ≤ i)
   place xs x i =
       elim (cases_lt i (length xs)) [
-        inl h ↦ inl h
-      | inr h ↦ elim (cases_lt (length xs) i) [ inl g ↦ inr (inr (omega (arith, g, length-append xs (x ∷ [])))) | inr g ↦ inr (inl (omega (arith, h, g))) ]
+        | inl h ↦ inl h
+        | inr h ↦ elim (cases_lt (length xs) i) [ inl g ↦ inr (inr (omega (arith, g, length-append xs (x ∷ [])))) | inr g ↦ inr (inl (omega (arith, h, g))) ]
       ]
 
   pub get-set_same : (xs : List A) (i : ℕ) (x : A) → i < length xs → slice_get (set xs i x) i ≡ Some x

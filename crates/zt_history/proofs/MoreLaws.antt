@@ -1,11 +1,10 @@
 -- More moments change nothing of those that are there.
-use Rattle.std.proofs.Common.{◌≡◌, ℕ, zero, suc, ◌+◌, ◌≤◌, ◌<◌, true, List, [], ◌∷◌, ◌++◌, length, Option, Some, None, refl, sym, ◌∙◌, ap, subst, inl, inr, arith}
-use Rattle.std.specs.Prelude.{slice_get, if◌then◌else◌}
+use Rattle.std.proofs.Common.{◌≡◌, ℕ, zero, suc, ◌≤◌, List, [], ◌∷◌, ◌++◌, length, refl, sym, ◌∙◌, ap, subst, inl, inr, arith}
+use Rattle.std.specs.Prelude.{if◌then◌else◌}
 use Rattle.std.proofs.lemmas.Bool.{cases_lt}
-use Rattle.std.proofs.lemmas.Option.{slice_get_past, slice_get_within, same_Some}
+use Rattle.std.proofs.lemmas.Option.{slice_get_past}
 use Rattle.zt_rows.specs.Change.{before}
 use Rattle.zt_rows.specs.Step.{step}
-use Rattle.zt_rows.specs.State.{State}
 use Rattle.zt_rows.specs.Tests.{among}
 use Rattle.zt_history.specs.Tree.{Made, made_at, parent_of, parent_at, upto, path, state_at}
 use Rattle.zt_history.specs.Standing.{Falls, record_of}
@@ -28,10 +27,10 @@ parent-early made falls (suc i) = omega (arith, falls i)
 pub falls-push : (made : List Made) (e : Made) → Falls made → e.parent ≤ length made → Falls (made ++ e ∷ [])
 falls-push made e falls h i =
     elim (place made e i) [
-      inl l ↦ omega (arith, falls i, parent-more made (e ∷ []) (suc i) (omega (arith, l)))
-    | inr r ↦ elim r [
-        inl at ↦ omega (arith, h, at, ap parent_of (get-last made e i at))
-      | inr past ↦ omega (arith, ap parent_of (slice_get_past (made ++ e ∷ []) i past))
+      | inl l ↦ omega (arith, falls i, parent-more made (e ∷ []) (suc i) (omega (arith, l)))
+      | inr r ↦ elim r [
+        | inl at ↦ omega (arith, h, at, ap parent_of (get-last made e i at))
+        | inr past ↦ omega (arith, ap parent_of (slice_get_past (made ++ e ∷ []) i past))
       ]
     ]
 
@@ -39,8 +38,8 @@ falls-push made e falls h i =
 pub falls-left : (made more : List Made) → Falls (made ++ more) → Falls made
 falls-left made more falls i =
     elim (cases_lt i (length made)) [
-      inl l ↦ omega (arith, falls i, parent-more made more (suc i) (omega (arith, l)))
-    | inr past ↦ omega (arith, ap parent_of (slice_get_past made i past))
+      | inl l ↦ omega (arith, falls i, parent-more made more (suc i) (omega (arith, l)))
+      | inr past ↦ omega (arith, ap parent_of (slice_get_past made i past))
     ]
 
 module _ (made more : List Made) (falls : Falls made) where
@@ -80,5 +79,5 @@ module _ (made more : List Made) (falls : Falls made) where
       let way : path (made ++ more) position ≡ path made position = path-more position h in
       let here : state_at (made ++ more) m ≡ state_at made m = state-more still m g in
       let above : state_at (made ++ more) (parent_at (made ++ more) m) ≡ state_at made (parent_at made m) =
-          ap (state_at (made ++ more)) (parent-more made more m g) ∙ state-more still (parent_at made m) (omega (arith, parent-early made falls m, g)) in
+      ap (state_at (made ++ more)) (parent-more made more m g) ∙ state-more still (parent_at made m) (omega (arith, parent-early made falls m, g)) in
       λ j. if among (way j) m then before (above j) (here j) else before (here j) (above j)

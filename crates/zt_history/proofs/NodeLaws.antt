@@ -1,10 +1,10 @@
 -- Moments as they are kept: look-ups, depths, a record that changes, one more and one less.
-use Rattle.std.proofs.Common.{◌≡◌, ℕ, zero, suc, ◌+◌, ◌-◌, ◌≤◌, ◌<◌, Bool, true, false, eqb, ◌⊎◌, inl, inr, List, [], ◌∷◌, ◌++◌, length, map, reverse, set, get_or, Option, Some, None, refl, sym, ◌∙◌, ap, subst, arith, Bor}
+use Rattle.std.proofs.Common.{◌≡◌, ℕ, zero, suc, ◌+◌, ◌-◌, ◌≤◌, ◌<◌, Bool, true, false, eqb, inl, inr, List, [], ◌∷◌, ◌++◌, length, reverse, set, get_or, Option, Some, None, refl, sym, ◌∙◌, ap, subst, arith, Bor}
 use Rattle.std.specs.Prelude.{slice_get, IfSome}
 use Rattle.std.specs.Option.{option_copied, option_map}
 use Rattle.std.specs.Slice.{IsItemAt}
 use Rattle.std.proofs.lemmas.Bool.{eqb-true, eqb-false}
-use Rattle.std.proofs.lemmas.List.{reverse-append, append_assoc, length-append, length-reverse,  length-set, map-append, map-set}
+use Rattle.std.proofs.lemmas.List.{reverse-append, append_assoc, length-append, length-reverse, length-set, map-append, map-set}
 use Rattle.std.proofs.Math.Seq.{map-set_same}
 use Rattle.std.proofs.lemmas.Option.{slice_get-map, slice_get-get_or, get_or_from_slice_get, slice_get_past, slice_get_within, none-some, same_Some}
 use Rattle.zt_rows.specs.Change.{exchange}
@@ -148,17 +148,17 @@ nodes-push nodes n there deep few are = record {
   few = omega (arith, few, length-append nodes (n ∷ []));
   falls = falls;
   deep = λ i k at. elim (place nodes n i) [
-      inl l ↦
-          are.deep i k (sym (get-left nodes (n ∷ []) i l) ∙ at)
-          ∙ ap length (sym (path-more (made_in nodes) (made_as n ∷ []) are.falls (suc i) (omega (arith, l, length-made_in nodes))) ∙ ap (λ made. path made (suc i)) (sym all))
+    | inl l ↦
+        are.deep i k (sym (get-left nodes (n ∷ []) i l) ∙ at)
+        ∙ ap length (sym (path-more (made_in nodes) (made_as n ∷ []) are.falls (suc i) (omega (arith, l, length-made_in nodes))) ∙ ap (λ made. path made (suc i)) (sym all))
     | inr r ↦ elim r [
-        inl end ↦
-            ap (λ (k : Node). k.depth) (sym (same_Some n k (sym (get-last nodes n i end) ∙ at)))
-            ∙ deep_end
-            ∙ ap (λ i. length (path (made_in (nodes ++ n ∷ [])) (suc i))) (sym end)
+      | inl end ↦
+          ap (λ (k : Node). k.depth) (sym (same_Some n k (sym (get-last nodes n i end) ∙ at)))
+          ∙ deep_end
+          ∙ ap (λ i. length (path (made_in (nodes ++ n ∷ [])) (suc i))) (sym end)
       | inr past ↦ absurd (none-some k (sym (slice_get_past (nodes ++ n ∷ []) i past) ∙ at))
-      ]
-    ];
+    ]
+  ];
 }
   where
     all : made_in (nodes ++ n ∷ []) ≡ made_in nodes ++ made_as n ∷ []
@@ -173,7 +173,7 @@ nodes-push nodes n there deep few are = record {
         let still : Falls longer = subst Falls all falls in
         let parent : parent_at longer (suc (length nodes)) ≡ n.parent = ap parent_of (get-last (made_in nodes) (made_as n) (length nodes) (sym (length-made_in nodes))) in
         let above : path longer (parent_at longer (suc (length nodes))) ≡ path (made_in nodes) n.parent =
-            ap (path longer) parent ∙ path-more (made_in nodes) (made_as n ∷ []) are.falls n.parent (omega (arith, there, length-made_in nodes)) in
+        ap (path longer) parent ∙ path-more (made_in nodes) (made_as n ∷ []) are.falls n.parent (omega (arith, there, length-made_in nodes)) in
         deep
         ∙ omega (arith, length-path longer still (length nodes), ap length above)
         ∙ ap (λ made. length (path made (suc (length nodes)))) (sym all)
@@ -183,7 +183,7 @@ nodes-push nodes n there deep few are = record {
 pub record_fits : (p : Places) (nodes : List Node) (i : ℕ) (n : Node) → i < length nodes → n ≡ get_or nodes i n → all_fit p (records_in nodes) ≡ true → fits p n.change ≡ true
 record_fits p nodes i n within is fit =
     let at : get_or (records_in nodes) i n.change ≡ n.change =
-        get_or_from_slice_get (records_in nodes) i n.change n.change (slice_get-map (λ n. n.change) nodes i ∙ ap (option_map (λ n. n.change)) (slice_get-get_or nodes i n within ∙ ap Some (sym is))) in
+    get_or_from_slice_get (records_in nodes) i n.change n.change (slice_get-map (λ n. n.change) nodes i ∙ ap (option_map (λ n. n.change)) (slice_get-get_or nodes i n within ∙ ap Some (sym is))) in
     ap (fits p) (sym at) ∙ all_fit-at p (records_in nodes) i n.change (omega (arith, within, length-mapped (λ (n : Node). n.change) nodes)) fit
 
 -- the record of the i-th node exchanged its rows with the store's

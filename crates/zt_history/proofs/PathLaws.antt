@@ -1,14 +1,13 @@
 -- Laws of paths: a parent is earlier, so the path to a moment is its parent's, and the moment.
-use Rattle.std.proofs.Common.{◌≡◌, ℕ, zero, suc, ◌+◌, ◌-◌, ◌≤◌, ◌<◌, Bool, true, false, ◌||◌, ◌⊎◌, List, [], ◌∷◌, ◌++◌, length, take, Option,  Some, None, refl, sym, ◌∙◌, ap, subst, inl, inr, ⊎_elim, length-append, arith}
+use Rattle.std.proofs.Common.{◌≡◌, ℕ, zero, suc, ◌≤◌, Bool, true, false, ◌||◌, List, [], ◌∷◌, ◌++◌, length, take, Some, refl, sym, ◌∙◌, ap, inl, inr, length-append, arith}
 use Rattle.std.specs.Prelude.{slice_get, ◌==◌}
-use Rattle.std.specs.List.{list_any}
-use Rattle.std.proofs.lemmas.Bool.{cases_lt, true≢false, eqb-true, eq-eqb, ne_eqb}
+use Rattle.std.proofs.lemmas.Bool.{cases_lt, true≢false, eq-eqb, ne_eqb}
 use Rattle.std.proofs.lemmas.List.{take-append-le}
 use Rattle.std.proofs.Math.Seq.{take-length}
-use Rattle.std.proofs.lemmas.Option.{slice_get_past, slice_get_within, same_Some, none-some}
+use Rattle.std.proofs.lemmas.Option.{slice_get_past, same_Some, none-some}
 use Rattle.std.proofs.lemmas.List.Folds.{list_any-append}
 use Rattle.zt_rows.specs.Tests.{among}
-use Rattle.zt_history.specs.Tree.{Made, made_at, parent_of, parent_at, upto, path, end_of}
+use Rattle.zt_history.specs.Tree.{Made, parent_at, upto, path, end_of}
 use Rattle.zt_history.specs.Standing.{Falls}
 use Rattle.zt_history.proofs.ListLaws.{get-left, get-last, place, end_of-push}
 
@@ -79,16 +78,16 @@ module _ (made : List Made) (falls : Falls made) where
           let xs = path made (parent_at made (suc j)) in
           let there : slice_get (xs ++ suc j ∷ []) i ≡ Some q = ap (λ p. slice_get p i) (sym (path-step j)) ∙ h in
           elim (place xs (suc j) i) [
-            inl l ↦
+            | inl l ↦
                 rest i q (sym (get-left xs (suc j ∷ []) i l) ∙ there)
                 ∙ sym (take-append-le (suc i) xs (suc j ∷ []) (omega (arith, l)))
                 ∙ ap (take (suc i)) (sym (path-step j))
-          | inr r ↦ elim r [
-              inl e ↦
+            | inr r ↦ elim r [
+              | inl e ↦
                   let same : q ≡ suc j = same_Some q (suc j) (sym there ∙ get-last xs (suc j) i e) in
                   let n : suc i ≡ length (path made (suc j)) = omega (arith, e, length-path j) in
                   ap (path made) same ∙ sym (take-length (path made (suc j))) ∙ ap (λ n. take n (path made (suc j))) (sym n)
-            | inr past ↦ absurd (none-some q (sym (slice_get_past (xs ++ suc j ∷ []) i past) ∙ there))
+              | inr past ↦ absurd (none-some q (sym (slice_get_past (xs ++ suc j ∷ []) i past) ∙ there))
             ]
           ]
 
@@ -112,10 +111,10 @@ module _ (made : List Made) (falls : Falls made) where
       step : (i : ℕ) → (among (path made (parent_at made (suc i))) q ≡ true → q ≤ parent_at made (suc i)) → among (path made (suc i)) q ≡ true → q ≤ suc i
       step i rest h =
           elim (cases_lt (suc i) q) [
-            inl later ↦
+            | inl later ↦
                 let r : q ≤ parent_at made (suc i) = rest (sym (among-other i q (λ e. omega (arith, e, later))) ∙ h) in
                 omega (arith, r, falls i)
-          | inr g ↦ g
+            | inr g ↦ g
           ]
 
   -- a moment is not on its parent's path

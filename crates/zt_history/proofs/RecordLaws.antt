@@ -1,13 +1,9 @@
 -- The record by which a store goes over one moment, and what it leaves of the others.
-use Rattle.std.proofs.Common.{◌≡◌, ℕ, zero, suc, ◌+◌, ◌≤◌, ◌<◌, Bool, true, false, List, [], ◌∷◌, ◌++◌, length, Option, Some, None, refl, sym, ◌∙◌, ap, subst, inl, inr, arith}
-use Rattle.std.specs.Prelude.{slice_get, if◌then◌else◌}
-use Rattle.zt_rows.specs.declared.keys.RowKey.{RowKey}
-use Rattle.zt_rows.specs.declared.rows.Row.{Row}
+use Rattle.std.proofs.Common.{◌≡◌, ℕ, suc, List, sym, ◌∙◌, ap}
+use Rattle.std.specs.Prelude.{if◌then◌else◌}
 use Rattle.zt_rows.specs.Change.{before, exchange}
-use Rattle.zt_rows.specs.State.{State}
-use Rattle.zt_rows.specs.Tests.{among}
 use Rattle.zt_rows.proofs.ChangeLaws.{Rows, exchange-before}
-use Rattle.zt_history.specs.Tree.{Made, made_at, parent_of, parent_at, path, state_at}
+use Rattle.zt_history.specs.Tree.{Made, parent_at, state_at}
 use Rattle.zt_history.specs.Standing.{Falls, record_of}
 use Rattle.zt_history.proofs.PathLaws.{among-self, among-other, among-parent}
 

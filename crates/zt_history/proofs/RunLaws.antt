@@ -1,10 +1,8 @@
 -- The state of a moment is one step from its parent's, the replies on its path are those of running its calls from the
 -- opening, and every moment of a tree is consistent and has room.
-use Rattle.std.proofs.Common.{◌≡◌, ℕ, zero, suc, ◌+◌, ◌≤◌, ◌<◌, true, List, [], ◌∷◌, ◌++◌, length, Option, Some, None, refl, sym, ◌∙◌, ap, subst, arith}
-use Rattle.std.specs.Prelude.{slice_get}
+use Rattle.std.proofs.Common.{◌≡◌, ℕ, suc, ◌+◌, ◌≤◌, ◌<◌, List, [], ◌∷◌, ◌++◌, length, Some, refl, sym, ◌∙◌, ap, subst, arith}
 use Rattle.std.specs.List.{filter_map}
 use Rattle.std.proofs.lemmas.List.Elements.{filter_map-append}
-use Rattle.std.proofs.lemmas.Option.{slice_get_within}
 use Rattle.zt_rows.specs.declared.calls.Call.{Call}
 use Rattle.zt_rows.specs.declared.calls.Reply.{Reply}
 use Rattle.zt_rows.specs.Consistent.{IsConsistent}
@@ -16,7 +14,7 @@ use Rattle.zt_rows.proofs.OpeningLaws.{opening-consistent}
 use Rattle.zt_rows.proofs.SpentLaws.{spent-opening, spent-step, spent-room}
 use Rattle.zt_rows.proofs.StepLaws.{step-consistent}
 use Rattle.zt_history.specs.Tree.{Made, made_at, parent_of, parent_at, call_at, reply_at, path, calls_to, replies_to, state_at}
-use Rattle.zt_history.specs.Standing.{Falls, IsMade, AreMoments}
+use Rattle.zt_history.specs.Standing.{Falls, AreMoments}
 use Rattle.zt_history.proofs.ListLaws.{get-within}
 use Rattle.zt_history.proofs.PathLaws.{path-opening, path-step, by_parents, short-path, length-path}
 
@@ -97,10 +95,11 @@ module _ (made : List Made) (are : AreMoments made) where
   at-rest m = by_parents made are.falls (λ m. m ≤ length made → IsConsistent (state_at made m) × HasSpent (length (path made m)) (state_at made m)) base one m
     where
       base : 0 ≤ length made → IsConsistent (state_at made 0) × HasSpent (length (path made 0)) (state_at made 0)
-      base h =
-          (subst IsConsistent (sym (state-opening made)) opening-consistent,
-          let P : ℕ → Type 0 = λ n. HasSpent n (state_at made 0) in
-          subst P (ap length (sym (path-opening made))) (subst (HasSpent 0) (sym (state-opening made)) spent-opening))
+      base h = (
+        subst IsConsistent (sym (state-opening made)) opening-consistent,
+        let P : ℕ → Type 0 = λ n. HasSpent n (state_at made 0) in
+            subst P (ap length (sym (path-opening made))) (subst (HasSpent 0) (sym (state-opening made)) spent-opening),
+      )
 
       one : (i : ℕ) → (parent_at made (suc i) ≤ length made → IsConsistent (state_at made (parent_at made (suc i))) × HasSpent (length (path made (parent_at made (suc i)))) (state_at made (parent_at made (suc i))))
           → suc i ≤ length made → IsConsistent (state_at made (suc i)) × HasSpent (length (path made (suc i))) (state_at made (suc i))
@@ -116,10 +115,11 @@ module _ (made : List Made) (are : AreMoments made) where
           let longer : n + 1 ≡ length (path made (suc i)) = omega (arith, length-path made are.falls i, ap (λ p. length (path made p)) p) in
           let T : State = (step (state_at made e.parent) e.process e.call).0 in
           let Q : State → Type 0 = λ S. IsConsistent S × HasSpent (length (path made (suc i))) S in
-          subst Q (sym (state-step made are.falls i e there.1))
-          (step-consistent (state_at made e.parent) e.process e.call before.0 is.running,
-          let R : ℕ → Type 0 = λ k. HasSpent k T in
-          subst R longer (spent-step (state_at made e.parent) e.process e.call n few before.0.sound is.running before.1))
+          subst Q (sym (state-step made are.falls i e there.1)) (
+            step-consistent (state_at made e.parent) e.process e.call before.0 is.running,
+            let R : ℕ → Type 0 = λ k. HasSpent k T in
+                subst R longer (spent-step (state_at made e.parent) e.process e.call n few before.0.sound is.running before.1),
+          )
 
   pub moment-consistent : (m : ℕ) → m ≤ length made → IsConsistent (state_at made m)
   moment-consistent m h = (at-rest m h).0

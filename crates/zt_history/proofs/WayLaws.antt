@@ -1,16 +1,15 @@
 -- Going along a path: how many moments of it two paths share, and the moment that comes next.
-use Rattle.std.proofs.Common.{◌≡◌, ℕ, zero, suc, ◌+◌, ◌-◌, ◌≤◌, ◌<◌, true, List, [], ◌∷◌, ◌++◌, length, take, Option, Some, None, refl, sym, ◌∙◌, ap, subst, arith, length-append}
+use Rattle.std.proofs.Common.{◌≡◌, ℕ, zero, suc, ◌-◌, ◌≤◌, ◌<◌, List, [], ◌∷◌, ◌++◌, length, take, Some, refl, sym, ◌∙◌, ap, arith}
 use Rattle.std.specs.Prelude.{slice_get, ◌==◌}
 use Rattle.std.proofs.lemmas.Bool.{eq-eqb}
 use Rattle.std.proofs.lemmas.List.{take-take, length-take}
 use Rattle.std.proofs.Math.Seq.{take-append_seam, take-length}
 use Rattle.std.proofs.lemmas.Map.Keys.{any_passes_from_place}
 use Rattle.std.proofs.lemmas.Option.{slice_get_within}
-use Rattle.zt_rows.specs.Tests.{among}
 use Rattle.zt_history.specs.Tree.{Made, parent_at, path, end_of}
 use Rattle.zt_history.specs.Standing.{Falls}
 use Rattle.zt_history.specs.Timeline.{Timeline, IsPath, moved_to}
-use Rattle.zt_history.proofs.PathLaws.{path-opening, path-step, path-at, path-end, length-path, among-early, opening-path}
+use Rattle.zt_history.proofs.PathLaws.{path-opening, path-step, path-at, path-end, length-path, among-early}
 
 module _ (made : List Made) (falls : Falls made) (way : List ℕ) (is : IsPath made way) where
   -- the path to a moment of the way is the way up to it
@@ -36,9 +35,9 @@ module _ (made : List Made) (falls : Falls made) (way : List ℕ) (is : IsPath m
       let up : ℕ = parent_at made (suc j) in
       let size : length (path made up) ≡ i = omega (arith, length-way-at i (suc j) at, length-path made falls j) in
       let front : take i (path made (suc j)) ≡ path made up =
-          ap (take i) (path-step made falls j) ∙ ap (λ n. take n (path made up ++ suc j ∷ [])) (sym size) ∙ take-append_seam (path made up) (suc j ∷ []) in
+      ap (take i) (path-step made falls j) ∙ ap (λ n. take n (path made up ++ suc j ∷ [])) (sym size) ∙ take-append_seam (path made up) (suc j ∷ []) in
       let same : path made up ≡ path made position =
-          sym front ∙ ap (take i) (way-at i (suc j) at) ∙ take-take i (suc i) way (omega arith) ∙ sym so_far in
+      sym front ∙ ap (take i) (way-at i (suc j) at) ∙ take-take i (suc i) way (omega arith) ∙ sym so_far in
       sym (path-end made falls up) ∙ ap end_of same ∙ path-end made falls position
 
 -- where the path to the position is the whole way, the position is its end

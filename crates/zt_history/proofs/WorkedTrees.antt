@@ -1,18 +1,15 @@
 -- Worked trees: paths, heads, states and replies, and what is refused. Each holds by computation.
 use Rattle.std.proofs.Common.{refl}
-use Rattle.std.specs.Prelude.{◌≡◌, ℕ, Bool, true, false, is_some, List, [], ◌∷◌, map, codes, Option, Some, None, Result, Ok, Err}
+use Rattle.std.specs.Prelude.{◌≡◌, ℕ, Bool, true, false, is_some, List, [], ◌∷◌, map, codes, Some, None, Ok, Err}
 use Rattle.zt_bits.specs.declared.statuses.Status.TheVariants.{BadHandle}
-use Rattle.zt_rows.specs.declared.calls.Answer.{Answer}
 use Rattle.zt_rows.specs.declared.calls.Answer.TheVariants.{Called}
 use Rattle.zt_rows.specs.declared.calls.Call.{Call}
 use Rattle.zt_rows.specs.declared.calls.Call.TheVariants as call
-use Rattle.zt_rows.specs.declared.calls.Reply.{Reply}
 use Rattle.zt_rows.specs.declared.calls.Reply.TheVariants.{Handle, Handles, Status}
 use Rattle.zt_rows.specs.declared.keys.RowKey.{RowKey}
 use Rattle.zt_rows.specs.declared.keys.RowKey.TheVariants as key
-use Rattle.zt_rows.specs.declared.refusals.Refusal.{Refusal}
 use Rattle.zt_rows.specs.declared.refusals.Refusal.TheVariants as refusal
-use Rattle.zt_rows.specs.State.{State, row, put, change}
+use Rattle.zt_rows.specs.State.{row, put, change}
 use Rattle.zt_rows.specs.Reads.{objects, waits, queue, packets}
 use Rattle.zt_rows.specs.Tests.{any_row, count_row}
 use Rattle.zt_rows.specs.Support.{supports, support_count, is_supported}
@@ -23,7 +20,6 @@ use Rattle.zt_rows.specs.End.{links, chain, end}
 use Rattle.zt_rows.specs.Step.{direct, step}
 use Rattle.zt_bits.specs.declared.kinds.Kind.TheVariants as kind
 use Rattle.zt_rows.specs.declared.rows.Life.TheVariants as life
-use Rattle.zt_rows.specs.declared.rows.Row.{Row}
 use Rattle.zt_rows.proofs.WorkedRowsForm.{object_row}
 use Rattle.zt_history.specs.Tree.{Tree, opening_tree, called, branched, path, parent_at, reply_at, replies_to, state_at, head_at, branch_named}
 use Rattle.zt_history.specs.Refusing.{call_on, branch_on, moment_on}

@@ -1,5 +1,5 @@
 -- The branches as the entries of a map from names to heads, and lists without their last element.
-use Rattle.std.specs.Prelude.{ℕ, ◌-◌, List, [], ◌∷◌, map, take, length}
+use Rattle.std.specs.Prelude.{ℕ, ◌-◌, List, map, take, length}
 use Rattle.zt_history.specs.Tree.{Branch}
 
 abbrev pub branches_by : {K : Type 0} → (K → List ℕ) → List (K × ℕ) → List Branch

@@ -3,7 +3,7 @@ use Rattle.std.specs.Prelude.{◌≡◌, ℕ, ◌-◌, ◌<◌, ⊤, List, lengt
 use Rattle.zt_store.specs.Seen.{Stored}
 use Rattle.zt_history.specs.declared.histories.Undo.{Undo}
 use Rattle.zt_history.specs.declared.histories.Undo.TheVariants as undo
-use Rattle.zt_history.specs.Tree.{Made, Branch, Tree, last_moment, parent_at, headed}
+use Rattle.zt_history.specs.Tree.{Branch, Tree, last_moment, parent_at, headed}
 use Rattle.zt_history.specs.Branches.{without_last}
 use Rattle.zt_history.specs.Timeline.{Point, Timeline}
 use Rattle.zt_history.specs.Standing.{AreMoments, AreBranches, IsHistory}

@@ -7,7 +7,7 @@ use Rattle.zt_rows.specs.declared.calls.Call.{Call}
 use Rattle.zt_rows.specs.declared.refusals.Refusal.{Refusal}
 use Rattle.zt_rows.specs.declared.refusals.Refusal.TheVariants as refusal
 use Rattle.zt_rows.specs.Reads.{runs}
-use Rattle.zt_history.specs.Tree.{Tree, Made, last_moment, state_at, head_at, made_by, called, branched, branch_named}
+use Rattle.zt_history.specs.Tree.{Tree, last_moment, state_at, head_at, made_by, called, branched, branch_named}
 
 -- the most moments after the opening
 abbrev pub most_moments : ℕ

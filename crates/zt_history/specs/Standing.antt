@@ -1,6 +1,6 @@
 -- What holds of every tree, and what a history keeps: a store at one of the moments, and for each moment the record by
 -- which the store goes over the call that made it, back or forth.
-use Rattle.std.specs.Prelude.{◌≡◌, ℕ, zero, suc, ◌≤◌, ◌<◌, Bool, true, if◌then◌else◌, List, [], ◌∷◌, length, map, Option, None, Some, slice_get}
+use Rattle.std.specs.Prelude.{◌≡◌, ℕ, suc, ◌≤◌, true, if◌then◌else◌, List, length, map, Option, Some, slice_get}
 use Rattle.std.specs.List.{AllByRecursion, IsDistinct}
 use Rattle.std.specs.Option.{option_map}
 use Rattle.std.specs.Str.{bytes_eq}

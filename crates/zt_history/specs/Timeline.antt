@@ -2,7 +2,7 @@
 -- is taken back. The state of the store is no part of it, since it is that of the moment.
 use Rattle.std.specs.Prelude.{◌≡◌, ◌⊎◌, ℕ, suc, ◌≤◌, List, length, Option, None, Some}
 use Rattle.zt_rows.specs.declared.calls.Call.{Call}
-use Rattle.zt_history.specs.Tree.{Made, Branch, Tree, last_moment, opening_tree, path, head_at, called, branched}
+use Rattle.zt_history.specs.Tree.{Made, Tree, last_moment, opening_tree, path, head_at, called, branched}
 
 -- a tree, and one of its moments
 pub record Point : Type 0 where

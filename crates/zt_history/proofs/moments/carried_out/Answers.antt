@@ -1,6 +1,6 @@
 -- Exchanged back, the store has the rows of before.
-use Rattle.std.proofs.Common.{◌≡◌, List, Option, sym, ◌∙◌, ap}
-use Rattle.zt_rows.specs.Change.{exchange, with_rows}
+use Rattle.std.proofs.Common.{◌∙◌, ap}
+use Rattle.zt_rows.specs.Change.{with_rows}
 use Rattle.zt_rows.specs.State.{State}
 use Rattle.zt_rows.proofs.ChangeLaws.{Rows, with_rows-before}
 use Rattle.zt_history.proofs.moments.carried_out.Goals as goal

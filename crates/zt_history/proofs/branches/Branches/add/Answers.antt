@@ -1,10 +1,7 @@
 -- A name that no branch has is a key that is not there, and goes last.
-use Rattle.std.proofs.Common.{sym, ◌∙◌, ap, ◌++◌, ◌∷◌, []}
-use Rattle.std.specs.Prelude.{None, nat_eq}
-use Rattle.std.specs.Map.{lookup}
-use Rattle.std.specs.Str.{bytes_eq}
+use Rattle.std.proofs.Common.{◌∙◌, ap, ◌++◌, ◌∷◌, []}
 use Rattle.indexmap.proofs.CallerLemmas.{insert_entry-new}
-use Rattle.zt_history.specs.Tree.{Branch, branch_named}
+use Rattle.zt_history.specs.Tree.{branch_named}
 use Rattle.zt_history.specs.Branches.{branches_by}
 use Rattle.zt_history.proofs.BranchLaws.{lookup-unnamed, branches_by-push}
 use Rattle.zt_history.proofs.branches.Branches.add.Goals as goal

@@ -1,6 +1,5 @@
 -- The value at the index is the head.
-use Rattle.std.proofs.Common.{sym, ◌∙◌, ap}
-use Rattle.std.specs.Prelude.{slice_get, Some}
+use Rattle.std.proofs.Common.{sym, ◌∙◌}
 use Rattle.zt_history.specs.Tree.{head_at}
 use Rattle.zt_history.proofs.BranchLaws.{head_at-values}
 use Rattle.zt_history.proofs.branches.Branches.head.Goals as goal

@@ -1,5 +1,5 @@
 -- A write of the value at the index moves the head.
-use Rattle.std.proofs.Common.{sym, ◌∙◌, ap}
+use Rattle.std.proofs.Common.{◌∙◌}
 use Rattle.zt_history.specs.Tree.{headed}
 use Rattle.zt_history.proofs.BranchLaws.{headed-value}
 use Rattle.zt_history.proofs.branches.Branches.set_head.Goals as goal

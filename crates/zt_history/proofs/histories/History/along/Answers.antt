@@ -1,5 +1,5 @@
 -- The next moment of the way is made at the position; in the end the position's path is the way.
-use Rattle.std.proofs.Common.{◌≡◌, ℕ, ◌+◌, suc, length, take, refl, sym, ◌∙◌, ap, arith}
+use Rattle.std.proofs.Common.{◌≡◌, ◌+◌, suc, length, take, refl, ◌∙◌, ap, arith}
 use Rattle.std.specs.Prelude.{slice_get, Some}
 use Rattle.std.proofs.lemmas.Option.{slice_get_read}
 use Rattle.zt_history.specs.Tree.{path, parent_at}
@@ -16,8 +16,11 @@ forth-requires-clause-some c =
 
 pub forth-requires-clause-there : goal.forth-requires-clause-there
 forth-requires-clause-there c =
-    omega (arith, way-within c.args.self.now.tree.made c.back_to-shared.ensures.falls c.args.way.now c.requires c.loop-place.place c.index-way-place.result (next_there c),
-    ap (λ (h : Timeline). length h.tree.made) c.loop-place.invariant.moved)
+    omega (
+      arith,
+      way-within c.args.self.now.tree.made c.back_to-shared.ensures.falls c.args.way.now c.requires c.loop-place.place c.index-way-place.result (next_there c),
+      ap (λ (h : Timeline). length h.tree.made) c.loop-place.invariant.moved,
+    )
 
 pub forth-requires-clause-next : goal.forth-requires-clause-next
 forth-requires-clause-next c =
@@ -27,7 +30,7 @@ forth-requires-clause-next c =
 pub loop-place-preserved : goal.loop-place-preserved
 loop-place-preserved c =
     let there : slice_get c.args.way.now c.loop-place.place ≡ Some c.index-way-place.result =
-        slice_get_read c.args.way.now (length c.args.way.now) c.loop-place.place c.index-way-place.result refl c.loop-place-test.true c.index-way-place.is in
+    slice_get_read c.args.way.now (length c.args.way.now) c.loop-place.place c.index-way-place.result refl c.loop-place-test.true c.index-way-place.is in
     let more : suc c.loop-place.place ≡ c.loop-place.place + 1 = omega arith in
     record {
       moved = moved-again c.args.self.now c.loop-place.self c.forth.new.self c.index-way-place.result c.loop-place.invariant.moved c.forth.ensures;

@@ -1,5 +1,5 @@
 -- One record back.
-use Rattle.std.proofs.Common.{◌≡◌, ◌-◌, suc, ap, arith}
+use Rattle.std.proofs.Common.{◌-◌, ap, arith}
 use Rattle.zt_history.specs.Timeline.{Timeline}
 use Rattle.zt_history.proofs.KeptLaws.{kept-back}
 use Rattle.zt_history.proofs.histories.History.back.Goals as goal

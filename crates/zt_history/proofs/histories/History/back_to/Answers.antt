@@ -1,8 +1,7 @@
 -- While the position is not the moment of the way at its depth, it is not on the way.
-use Rattle.std.proofs.Common.{◌≡◌, ◌<◌, ◌-◌, suc, length, take, refl, sym, ◌∙◌, ap, arith}
+use Rattle.std.proofs.Common.{◌≡◌, ◌-◌, suc, take, refl, ◌∙◌, ap, arith}
 use Rattle.std.specs.Prelude.{slice_get, Some}
 use Rattle.std.proofs.lemmas.Option.{slice_get_within}
-use Rattle.zt_history.specs.Tree.{path}
 use Rattle.zt_history.proofs.WayLaws.{way-at, later-path, moved-again, depth-back}
 use Rattle.zt_history.proofs.histories.History.back_to.Goals as goal
 

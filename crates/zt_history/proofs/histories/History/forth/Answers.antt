@@ -1,5 +1,5 @@
 -- One record forth.
-use Rattle.std.proofs.Common.{◌≡◌, ◌-◌, ◌≤◌, length, suc, sym, ◌∙◌, ap, arith}
+use Rattle.std.proofs.Common.{◌-◌, length, sym, ◌∙◌, ap, arith}
 use Rattle.zt_history.specs.Tree.{parent_at}
 use Rattle.zt_history.specs.Timeline.{Timeline}
 use Rattle.zt_history.proofs.KeptLaws.{kept-forth}

@@ -1,8 +1,6 @@
 -- A path ends with its moment.
-use Rattle.std.proofs.Common.{sym, ◌∙◌, ap}
-use Rattle.zt_history.specs.Tree.{end_of, path}
-use Rattle.zt_history.specs.Timeline.{Timeline}
-use Rattle.zt_history.specs.Nodes.{Chronicle}
+use Rattle.std.proofs.Common.{◌∙◌, ap}
+use Rattle.zt_history.specs.Tree.{end_of}
 use Rattle.zt_history.proofs.PathLaws.{path-end}
 use Rattle.zt_history.proofs.histories.History.path.Goals as goal
 

@@ -1,5 +1,5 @@
 -- The element before the moment's number, of the nodes as they are seen.
-use Rattle.std.proofs.Common.{◌≡◌, suc, ◌-◌, sym, ◌∙◌, arith}
+use Rattle.std.proofs.Common.{◌≡◌, suc, ◌-◌, arith}
 use Rattle.zt_history.proofs.NodeLaws.{node-made, node-kept, node-depth}
 use Rattle.zt_history.proofs.moments.Moments.node.Goals as goal
 

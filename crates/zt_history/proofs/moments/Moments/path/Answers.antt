@@ -1,7 +1,7 @@
 -- One more moment is gathered, its parent is next; in the end all are, the last first.
-use Rattle.std.proofs.Common.{◌<◌, length, sym, ◌∙◌, ap, arith}
+use Rattle.std.proofs.Common.{◌<◌, length, arith}
 use Rattle.zt_history.specs.Tree.{path}
-use Rattle.zt_history.proofs.NodeLaws.{gathered-step, gathered-all}
+use Rattle.zt_history.proofs.NodeLaws.{gathered-step}
 use Rattle.zt_history.proofs.moments.Moments.path.Goals as goal
 
 pub loop-preserved : goal.loop-preserved

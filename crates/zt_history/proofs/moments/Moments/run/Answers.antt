@@ -1,7 +1,5 @@
 -- The depth is one more than the parent's; the new node is a node.
-use Rattle.std.proofs.Common.{◌≡◌, ◌<◌, ◌+◌, length, sym, ◌∙◌, ap, subst, arith}
-use Rattle.zt_history.specs.Nodes.{AreNodes, Chronicle}
-use Rattle.zt_history.specs.Tree.{path}
+use Rattle.std.proofs.Common.{◌+◌, ap, arith}
 use Rattle.zt_history.proofs.PathLaws.{short-path}
 use Rattle.zt_history.proofs.NodeLaws.{nodes-pushed}
 use Rattle.zt_history.proofs.moments.Moments.run.Goals as goal
