@@ -14,7 +14,7 @@ use Rattle.zt_rows.specs.Tests.{next_at, object_next, is_endpoint, raised}
 use Rattle.zt_rows.specs.Handles.{as_caller, caller, value_of, install, make, make_pair, take_out}
 use Rattle.zt_rows.specs.declared.calls.Call.{Call}
 use Rattle.zt_rows.specs.declared.calls.Reply.{Reply}
-use Rattle.zt_rows.specs.Step.{step, direct, completed}
+use Rattle.zt_rows.specs.Step.{IsCall, step, direct, completed}
 use Rattle.zt_rows.specs.Consistent.{IsSound, IsConsistent}
 use Rattle.zt_rows.specs.Room.{HasRoom, NextFits}
 use Rattle.zt_rows.proofs.StateLaws.{row-put-same}
@@ -22,7 +22,7 @@ use Rattle.zt_rows.proofs.SoundLaws.{runs-some}
 use Rattle.zt_rows.proofs.MakeLaws.{others-made}
 use Rattle.zt_rows.proofs.PairLaws.{others-paired}
 use Rattle.zt_rows.proofs.TakeLaws.{object-taken}
-use Rattle.zt_rows.proofs.StepLaws.{sound-direct, step-consistent}
+use Rattle.zt_rows.proofs.CallLaws.{sound-direct, step-consistent}
 
 process_fits : (on : Kind) (lives : Bool) (n : ℕ) → NextFits on n → (is_process on && lives) ≡ true → n ≤ 2 ^ 30 - 64
 process_fits kind.Process lives n h r = h
@@ -38,15 +38,15 @@ caller_fits S p o e room r = process_fits o.kind (is_live o.life) o.next (room.o
 
 -- the state that a call of a process that runs leaves is consistent, if the one before is: B is where its step
 -- begins, T where it ends
-pub consistent_after : (S B T U : State) (p : ℕ) (c : Call) (r : Reply) → B ≡ S → U ≡ T → ◌≡◌ {A = State × Reply} (T, r) (completed (direct B p c)) → IsConsistent S → runs S p ≡ true → IsConsistent U
+pub consistent_after : (S B T U : State) (p : ℕ) (c : Call) (r : Reply) → B ≡ S → U ≡ T → ◌≡◌ {A = State × Reply} (T, r) (completed (direct B p c)) → IsConsistent S → runs S p ≡ true → IsCall c → IsConsistent U
 unfolding step
-consistent_after S B T U p c r from left e before running =
-    let is : U ≡ (step S p c).0 = left ∙ ap (λ d. d.0) e ∙ ap (λ b. (step b p c).0) from in rw is (step-consistent S p c before running)
+consistent_after S B T U p c r from left e before running is_call =
+    let is : U ≡ (step S p c).0 = left ∙ ap (λ d. d.0) e ∙ ap (λ b. (step b p c).0) from in rw is (step-consistent S p c before running is_call)
 
 -- the state T that the call itself leaves is sound
-pub sound_after : (S T : State) (p : ℕ) (c : Call) (r : Reply) → ◌≡◌ {A = State × Reply} (T, r) (direct S p c) → IsSound S → runs S p ≡ true → IsSound T
-sound_after S T p c r e before running =
-    let is : T ≡ (direct S p c).0 = ap (λ d. d.0) e in rw is (sound-direct S p c before running)
+pub sound_after : (S T : State) (p : ℕ) (c : Call) (r : Reply) → ◌≡◌ {A = State × Reply} (T, r) (direct S p c) → IsSound S → runs S p ≡ true → IsCall c → IsSound T
+sound_after S T p c r e before running is_call =
+    let is : T ≡ (direct S p c).0 = ap (λ d. d.0) e in rw is (sound-direct S p c before running is_call)
 
 -- ---- the caller's row while its call goes on
 

@@ -6,4 +6,6 @@ pub mod LosingLaws
 pub mod SettleLaws
 pub mod TakingLaws
 pub mod CallLaws
+pub mod ReceivingLaws
+pub mod SendingLaws
 pub mod RefreshLaws

@@ -4,3 +4,5 @@ pub mod Walks
 pub mod Firing
 pub mod Taking
 pub mod Losing
+pub mod Sending
+pub mod Receiving

@@ -1,12 +1,14 @@
 ghost use Rattle.std.specs.Prelude.{◌≡◌, ◌↔◌, ◌⊎◌, true, false, IfOk, IfErr, OnErr, IsErrOf};
 ghost use Rattle.zt_rows.specs.Reads.{runs};
 ghost use Rattle.zt_rows.specs.Room.{HasRoom};
-ghost use Rattle.zt_rows.specs.Step.{direct, completed, step};
+ghost use Rattle.zt_rows.specs.Step.{IsCall, direct, completed, step};
 ghost use Rattle.zt_rows.specs.Change.{before};
 ghost use Rattle.zt_rows.specs.Consistent.{IsSound, IsConsistent};
 ghost use Rattle.zt_store.specs.Places.{Keeps, fits};
 ghost use Rattle.zt_store.specs.Stepping.{AsBegun};
+ghost use Rattle.zt_calls.specs.Outcomes.{Does};
 
+use crate::channel_calls::{channel_create, channel_read, channel_write};
 use crate::failures::Failure;
 use crate::handle_calls::{handle_close, handle_duplicate, handle_replace};
 use crate::losing::lost;
@@ -53,6 +55,7 @@ pub fn apply(
     if !runs(store, process) {
         return Err(Refusal::NoProcess);
     }
+    call.limits();
     let mut step = Step::begin(mem::replace(store, Store::hollow(alloc)));
     match carried_out(alloc, &mut step, process, call) {
         Ok(reply) => {
@@ -85,6 +88,7 @@ fn carried_out(
     requires consistent { IsConsistent step.old.current }
     requires running { runs step.old.current process ≡ true }
     requires begun { step.old.current ≡ step.old.beginning }
+    requires limits { IsCall call.now }
     ensures beginning { step.new.beginning ≡ step.old.beginning }
     ensures ok { IfOk result (λ reply. (step.new.current, reply) ≡ completed (direct step.old.current process call.now)) }
     ensures kept { Keeps step.old.places step.new.places }
@@ -97,7 +101,6 @@ fn carried_out(
 }
 
 /// The checks of the call in order, and then its change of rows.
-#[tactic(auto, unfolding(zt_rows::specs::Step::direct))]
 fn direct(alloc: Global, step: &mut Step, process: Koid, call: &Call) -> Result<Reply, AllocError>
     requires room { HasRoom step.old.current }
     requires sound { IsSound step.old.current }
@@ -107,7 +110,23 @@ fn direct(alloc: Global, step: &mut Step, process: Koid, call: &Call) -> Result<
     ensures err { OnErr result (AsBegun step.old step.new) }
     ensures kept { Keeps step.old.places step.new.places }
 {
-    let answered = match call {
+    match answered(alloc, step, process, call) {
+        Ok(reply) => Ok(reply),
+        Err(Failure::Status(status)) => Ok(Reply::Status(status)),
+        Err(Failure::OutOfMemory) => Err(AllocError),
+    }
+}
+
+/// The function of the call, with the call's arguments.
+#[tactic(auto, unfolding(zt_rows::specs::Step::direct))]
+fn answered(alloc: Global, step: &mut Step, process: Koid, call: &Call) -> Result<Reply, Failure>
+    requires room { HasRoom step.old.current }
+    requires sound { IsSound step.old.current }
+    requires running { runs step.old.current process ≡ true }
+    ensures does { Does (direct step.old.current process call.now) step.old step.new result }
+    ensures kept { Keeps step.old.places step.new.places }
+{
+    match call {
         Call::EventCreate => event_create(step, process),
         Call::EventPairCreate => eventpair_create(step, process),
         Call::HandleClose { handle } => handle_close(alloc, step, process, *handle),
@@ -123,10 +142,15 @@ fn direct(alloc: Global, step: &mut Step, process: Koid, call: &Call) -> Result<
         Call::ObjectSignalPeer { handle, clear, set } => {
             object_signal_peer(step, process, *handle, *clear, *set)
         }
-    };
-    match answered {
-        Ok(reply) => Ok(reply),
-        Err(Failure::Status(status)) => Ok(Reply::Status(status)),
-        Err(Failure::OutOfMemory) => Err(AllocError),
+        Call::ChannelCreate => channel_create(step, process),
+        Call::ChannelWrite { handle, parcel } => {
+            channel_write(alloc, step, process, *handle, parcel)
+        }
+        Call::ChannelRead {
+            handle,
+            bytes,
+            handles,
+            discard,
+        } => channel_read(alloc, step, process, *handle, *bytes, *handles, *discard),
     }
 }

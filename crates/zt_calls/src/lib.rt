@@ -4,11 +4,14 @@
 mod additions;
 mod applying;
 mod arguments;
+mod channel_calls;
 mod failures;
 mod handle_calls;
 mod looks;
 mod losing;
 mod object_calls;
+mod receiving;
+mod sending;
 mod settling;
 mod takings;
 

@@ -31,7 +31,7 @@ fn create(step: &mut Step, process: Koid, kind: Kind) -> Result<Reply, Failure>
 }
 
 /// Makes two objects of the kind, each the other's peer, and answers with the caller's handles to them.
-fn create_pair(step: &mut Step, process: Koid, kind: Kind) -> Result<Reply, Failure>
+pub fn create_pair(step: &mut Step, process: Koid, kind: Kind) -> Result<Reply, Failure>
     requires endpoint { is_endpoint kind ≡ true }
     requires room { HasRoom step.old.current }
     requires sound { IsSound step.old.current }

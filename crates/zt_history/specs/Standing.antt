@@ -8,7 +8,7 @@ use Rattle.zt_rows.specs.declared.keys.RowKey.{RowKey}
 use Rattle.zt_rows.specs.declared.rows.Row.{Row}
 use Rattle.zt_rows.specs.Change.{before}
 use Rattle.zt_rows.specs.Reads.{runs}
-use Rattle.zt_rows.specs.Step.{step}
+use Rattle.zt_rows.specs.Step.{IsCall, step}
 use Rattle.zt_rows.specs.Tests.{among}
 use Rattle.zt_store.specs.Seen.{Stored}
 use Rattle.zt_store.specs.Recorded.{all_fit}
@@ -21,9 +21,11 @@ use Rattle.zt_history.specs.Refusing.{most_moments}
 abbrev pub Falls : List Made → Type 0
 Falls made = (i : ℕ) → parent_at made (suc i) ≤ i
 
--- the moment was made as it says: by a process that runs in its parent's state, with the reply of that call there
+-- the moment was made as it says: by a process that runs in its parent's state, by a call that there can be, with the
+-- reply of that call there
 pub record IsMade (made : List Made) (e : Made) : Type 0 where
   pub running : runs (state_at made e.parent) e.process ≡ true
+  pub limits : IsCall e.call
   pub answered : e.reply ≡ (step (state_at made e.parent) e.process e.call).1
 
 -- what holds of moments, whatever branches there are

@@ -13,6 +13,11 @@ pub mod MakeLaws
 pub mod TakeLaws
 pub mod PairLaws
 pub mod StepLaws
+pub mod PutLaws
+pub mod GivenLaws
+pub mod SentLaws
+pub mod ReceivedLaws
+pub mod CallLaws
 pub mod OpeningLaws
 pub mod SpentLaws
 pub mod WorkedRowsForm

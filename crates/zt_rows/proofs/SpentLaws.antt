@@ -1,9 +1,7 @@
 -- So many calls give out no more numbers than so many, and a history's calls are too few to use them up.
-use Rattle.std.proofs.Common.{◌≡◌, ◌≤◌, ◌<◌, ℕ, zero, suc, ◌+◌, ◌*◌, ◌^◌, Bool, true, false, cond, ◌&&◌, List, [], ◌∷◌, length, inl, refl, sym, ap, ◌∙◌, subst, arith}
-use Rattle.std.specs.Prelude.{Option, None, Some, Ok, ok_or, is_some, count_by, fold, if◌then◌else◌, ◌==◌, ⊤}
+use Rattle.std.proofs.Common.{◌≡◌, ◌≤◌, ◌<◌, ℕ, zero, suc, ◌+◌, ◌*◌, ◌^◌, Bool, true, false, cond, List, [], ◌∷◌, length, inl, refl, sym, ap, ◌∙◌, subst, arith}
+use Rattle.std.specs.Prelude.{Option, None, Some, Ok, ok_or, count_by, fold, if◌then◌else◌, ◌==◌}
 use Rattle.std.specs.List.{filter_map, cons_option}
-use Rattle.std.proofs.lemmas.Bool.{eqb-true, eq-eqb}
-use Rattle.std.proofs.lemmas.Bool.Decides.{nat_tests}
 use Rattle.zt_bits.specs.declared.kinds.Kind.{Kind}
 use Rattle.zt_bits.specs.declared.kinds.Kind.TheVariants as kind
 use Rattle.zt_bits.specs.declared.statuses.Status.TheVariants as status
@@ -19,26 +17,29 @@ use Rattle.zt_rows.specs.declared.rows.Wait.{Wait}
 use Rattle.zt_rows.specs.declared.rows.Row.{Row}
 use Rattle.zt_rows.specs.declared.rows.Row.TheVariants as rows
 use Rattle.zt_rows.specs.State.{State, row, put}
-use Rattle.zt_rows.specs.Reads.{as_counters, as_object, counters, object, objects, entry, wait_at, waits, is_process, is_live, is_live_process, runs}
-use Rattle.zt_rows.specs.Tests.{any_kind, is_endpoint, exists, kind_at, next_at, object_next, count_row, raised}
+use Rattle.zt_rows.specs.Reads.{as_counters, counters, object, objects, entry, wait_at, waits, runs}
+use Rattle.zt_rows.specs.Tests.{any_kind, is_endpoint, kind_at, next_at, object_next, count_row, raised}
 use Rattle.zt_rows.specs.Room.{HasRoom, NextFits, is_wait, NextBy, HasGiven, HasSpent}
 use Rattle.zt_rows.specs.Opening.{opening}
 use Rattle.zt_rows.specs.Collect.{left, without, goes, rounds, collect}
 use Rattle.zt_rows.specs.Settle.{refreshed, refresh, news, fire, settle}
-use Rattle.zt_rows.specs.Handles.{◌>>=◌, answered, done, taken, take_out, install, value_of, whole, fresh, next_koid, make, make_pair}
+use Rattle.zt_rows.specs.Handles.{◌>>=◌, answered, done, take_out, install, whole, fresh, next_koid, make, make_pair}
 use Rattle.zt_rows.specs.ObjectCalls.{create, create_pair, received, handle_close, handle_duplicate, handle_replace, may_set, set_signals, object_signal, object_signal_peer}
-use Rattle.zt_rows.specs.Step.{direct, step}
-use Rattle.zt_rows.specs.Consistent.{SoundObject, IsSound}
-use Rattle.zt_rows.proofs.StateLaws.{row-put}
+use Rattle.zt_rows.specs.Step.{IsCall, direct, step}
+use Rattle.zt_rows.specs.Consistent.{IsSound}
 use Rattle.zt_rows.proofs.RowLaws.{count-cons, count_row-change, count_row-put-out, count_row-take}
-use Rattle.zt_rows.proofs.ReadLaws.{some_one, exists-some, kind_at-some, object-put, stayed, counters-without}
+use Rattle.zt_rows.proofs.ReadLaws.{some_one, kind_at-some, stayed, counters-without}
 use Rattle.zt_rows.proofs.CollectLaws.{sound-collect}
 use Rattle.zt_rows.proofs.FramedLaws.{sound-framed}
 use Rattle.zt_rows.proofs.SettleLaws.{object-refresh, other-refresh, map-renew, framed-refresh, fired, without_wait, with_packet, object-fired, counters-fired, fire-cases, ForPorts, ports-fire, sound-fire, ports-sound}
 use Rattle.zt_rows.proofs.MakeLaws.{others-made}
-use Rattle.zt_rows.proofs.TakeLaws.{object-taken, counters-taken}
+use Rattle.zt_rows.proofs.TakeLaws.{object-taken}
 use Rattle.zt_rows.proofs.PairLaws.{others-paired}
-use Rattle.zt_rows.proofs.StepLaws.{after_check, after_some, after_handle, caller-is, sound-direct}
+use Rattle.zt_rows.proofs.StepLaws.{after_check, after_some, after_handle, caller-is}
+use Rattle.zt_rows.proofs.GivenLaws.{growth, OfKind, Spends, spends-itself, spends-spends, spends-make, spends-make_pair, object-received, spends-install, spends-take_out_all, spends-signals, Called, spends-called, called-nothing}
+use Rattle.zt_rows.proofs.SentLaws.{called-channel_write}
+use Rattle.zt_rows.proofs.ReceivedLaws.{called-channel_read}
+use Rattle.zt_rows.proofs.CallLaws.{sound-direct}
 use Rattle.zt_rows.proofs.OpeningLaws.{of_both, counters-opening}
 
 -- ---- few calls leave room
@@ -93,236 +94,14 @@ spent-opening = record {
   owners = of_both (λ x o. NextBy 0 0 o.kind o.next) tt (omega arith);
 }
 
--- ---- what a change gives out
-
--- how many more numbers an owner of this kind gives out
-abbrev growth : ℕ → Kind → ℕ
-growth handles kind.Process = handles
-growth handles _ = 0
-
-growth-both : (b d : ℕ) (on : Kind) → growth b on + growth d on ≡ growth (b + d) on
-growth-both b d kind.Process = refl
-growth-both b d kind.Job = refl
-growth-both b d kind.Channel = refl
-growth-both b d kind.Event = refl
-growth-both b d kind.EventPair = refl
-growth-both b d kind.Port = refl
-
-growth-more : (b d : ℕ) (on : Kind) → b ≤ d → growth b on ≤ growth d on
-growth-more b d kind.Process h = h
-growth-more b d kind.Job h = omega arith
-growth-more b d kind.Channel h = omega arith
-growth-more b d kind.Event h = omega arith
-growth-more b d kind.EventPair h = omega arith
-growth-more b d kind.Port h = omega arith
-
--- an object that was there is of the kind
-abbrev OfKind : Option ObjectRow → Kind → Type 0
-OfKind (Some o) on = o.kind ≡ on
-OfKind None on = ⊤
-
--- T gave out no more than so many koids, and so many handles to a process
-record Spends (koids_given handles_given : ℕ) (S T : State) : Type 0 where
-  koids : next_koid T ≤ next_koid S + koids_given
-  waits : (counters T).next_wait ≤ (counters S).next_wait
-  waiting : count_row is_wait T ≤ count_row is_wait S
-  still : (x : ℕ) → exists S x ≡ true → exists T x ≡ true
-  owners : (x : ℕ) (q : ObjectRow) → object T x ≡ Some q → OfKind (object S x) q.kind × (q.next ≤ next_at S x + growth handles_given q.kind)
-
--- an object that is as it was
-as_it_was : (S : State) (b x : ℕ) (q : ObjectRow) → object S x ≡ Some q → OfKind (object S x) q.kind × (q.next ≤ next_at S x + growth b q.kind)
-as_it_was S b x q e =
-    let n : next_at S x ≡ q.next = ap object_next e in
-    (subst (λ r. OfKind r q.kind) (sym e) refl, omega arith)
-
-spends-itself : (S : State) → Spends 0 0 S S
-spends-itself S = record { koids = omega arith; waits = omega arith; waiting = omega arith; still = λ x e. e; owners = λ x q e. as_it_was S 0 x q e }
-
-spends-more : (a b c d : ℕ) (S T : State) → a ≤ c → b ≤ d → Spends a b S T → Spends c d S T
-spends-more a b c d S T more further s = record {
-  koids = let k : next_koid T ≤ next_koid S + a = s.koids in omega arith;
-  waits = s.waits;
-  waiting = s.waiting;
-  still = s.still;
-  owners = λ x q e.
-      let w = s.owners x q e in
-      let n : q.next ≤ next_at S x + growth b q.kind = w.1 in
-      let g : growth b q.kind ≤ growth d q.kind = growth-more b d q.kind further in
-      (w.0, omega arith);
-}
-
-spends-spends : (a b c d : ℕ) (S U T : State) → Spends a b S U → Spends c d U T → Spends (a + c) (b + d) S T
-spends-spends a b c d S U T s t = record {
-  koids = let m : next_koid U ≤ next_koid S + a = s.koids in let n : next_koid T ≤ next_koid U + c = t.koids in omega arith;
-  waits = let m : (counters U).next_wait ≤ (counters S).next_wait = s.waits in let n : (counters T).next_wait ≤ (counters U).next_wait = t.waits in omega arith;
-  waiting = let m : count_row is_wait U ≤ count_row is_wait S = s.waiting in let n : count_row is_wait T ≤ count_row is_wait U = t.waiting in omega arith;
-  still = λ x e. t.still x (s.still x e);
-  owners = λ x q e. through x q (object U x) refl (t.owners x q e);
-}
-  where
-    not_before : (x : ℕ) (on : Kind) → object U x ≡ None → (r : Option ObjectRow) → object S x ≡ r → OfKind r on
-    not_before x on none (Some o) h =
-        let there : exists U x ≡ true = s.still x (exists-some S x o h) in
-        let gone : exists U x ≡ false = ap (λ r. is_some r) none in
-        cc
-    not_before x on none None h = tt
-
-    through : (x : ℕ) (q : ObjectRow) (r : Option ObjectRow) → object U x ≡ r → OfKind (object U x) q.kind × (q.next ≤ next_at U x + growth d q.kind) → OfKind (object S x) q.kind × (q.next ≤ next_at S x + growth (b + d) q.kind)
-    through x q (Some u) g w =
-        let same : u.kind ≡ q.kind = subst (λ r. OfKind r q.kind) g w.0 in
-        let n : next_at U x ≡ u.next = ap object_next g in
-        let v = s.owners x u g in
-        let first : u.next ≤ next_at S x + growth b q.kind = subst (λ z. u.next ≤ next_at S x + growth b z) same v.1 in
-        let second : q.next ≤ next_at U x + growth d q.kind = w.1 in
-        let both : growth b q.kind + growth d q.kind ≡ growth (b + d) q.kind = growth-both b d q.kind in
-        (subst (λ z. OfKind (object S x) z) same v.0, omega arith)
-    through x q None g w =
-        let n : next_at U x ≡ 0 = ap object_next g in
-        let second : q.next ≤ next_at U x + growth d q.kind = w.1 in
-        let both : growth b q.kind + growth d q.kind ≡ growth (b + d) q.kind = growth-both b d q.kind in
-        (not_before x q.kind g (object S x) refl, omega arith)
-
--- ---- puts
-
-spends-object : (S : State) (b y : ℕ) (q : ObjectRow) → OfKind (object S y) q.kind → q.next ≤ next_at S y + growth b q.kind → Spends 0 b S (put S (key.Object y) (Some (rows.Object q)))
-spends-object S b y q of_kind next =
-    let T : State = put S (key.Object y) (Some (rows.Object q)) in
-    let same : counters T ≡ counters S = ap as_counters (row-put S (key.Object y) (Some (rows.Object q)) key.Counters) in
-    let at : (x : ℕ) → object T x ≡ cond (x == y) (Some q) (object S x) = object-put S y (Some (rows.Object q)) in
-    record {
-      koids = let k : next_koid T ≡ next_koid S = ap (λ (c : Counters). c.next_koid) same in omega arith;
-      waits = let k : (counters T).next_wait ≡ (counters S).next_wait = ap (λ (c : Counters). c.next_wait) same in omega arith;
-      waiting = count_row-put-out is_wait S (key.Object y) (rows.Object q) refl;
-      still = λ x e. elim (x == y) as (λ b. object T x ≡ cond b (Some q) (object S x) → exists T x ≡ true) [
-        | true ↦ λ h. exists-some T x q h
-        | false ↦ λ h. ap (λ r. is_some r) h ∙ e
-      ] (at x);
-      owners = λ x z e. elim (x == y) as (λ t. (x == y) ≡ t → cond t (Some q) (object S x) ≡ Some z → OfKind (object S x) z.kind × (z.next ≤ next_at S x + growth b z.kind)) [
-        | true ↦ λ t h.
-            let is : y ≡ x = sym (eqb-true x y t) in
-            subst (λ (w : ObjectRow). OfKind (object S x) w.kind × (w.next ≤ next_at S x + growth b w.kind)) (some_one q z h)
-            (subst (λ w. OfKind (object S w) q.kind × (q.next ≤ next_at S w + growth b q.kind)) is (of_kind, next))
-        | false ↦ λ t h. as_it_was S b x z h
-      ] refl (sym (at x) ∙ e);
-    }
-
-spends-entry : (S : State) (p h : ℕ) (held : Held) → Spends 0 0 S (put S (key.Entry p h) (Some (rows.Entry held)))
-spends-entry S p h held =
-    let T : State = put S (key.Entry p h) (Some (rows.Entry held)) in
-    let same : counters T ≡ counters S = ap as_counters (row-put S (key.Entry p h) (Some (rows.Entry held)) key.Counters) in
-    let at : (x : ℕ) → object T x ≡ object S x = (λ x. ap as_object (row-put S (key.Entry p h) (Some (rows.Entry held)) (key.Object x))) in
-    record {
-      koids = let k : next_koid T ≡ next_koid S = ap (λ (c : Counters). c.next_koid) same in omega arith;
-      waits = let k : (counters T).next_wait ≡ (counters S).next_wait = ap (λ (c : Counters). c.next_wait) same in omega arith;
-      waiting = count_row-put-out is_wait S (key.Entry p h) (rows.Entry held) refl;
-      still = λ x e. ap (λ r. is_some r) (at x) ∙ e;
-      owners = λ x z e. as_it_was S 0 x z (sym (at x) ∙ e);
-    }
-
-spends-counters : (S : State) (a : ℕ) (c : Counters) → c.next_koid ≤ next_koid S + a → c.next_wait ≤ (counters S).next_wait → Spends a 0 S (put S key.Counters (Some (rows.Counters c)))
-spends-counters S a c few fewer =
-    let T : State = put S key.Counters (Some (rows.Counters c)) in
-    let is : counters T ≡ c = ap as_counters (row-put S key.Counters (Some (rows.Counters c)) key.Counters) in
-    let at : (x : ℕ) → object T x ≡ object S x = (λ x. ap as_object (row-put S key.Counters (Some (rows.Counters c)) (key.Object x))) in
-    record {
-      koids = let k : next_koid T ≡ c.next_koid = ap (λ (c : Counters). c.next_koid) is in omega arith;
-      waits = let k : (counters T).next_wait ≡ c.next_wait = ap (λ (c : Counters). c.next_wait) is in omega arith;
-      waiting = count_row-put-out is_wait S key.Counters (rows.Counters c) refl;
-      still = λ x e. ap (λ r. is_some r) (at x) ∙ e;
-      owners = λ x z e. as_it_was S 0 x z (sym (at x) ∙ e);
-    }
-
--- ---- what calls are made of
-
--- no object stands yet at the next koid or above it
-not_yet : (S : State) → IsSound S → (x : ℕ) (on : Kind) → next_koid S ≤ x → (r : Option ObjectRow) → object S x ≡ r → OfKind r on
-not_yet S sound x on above (Some o) h =
-    let s : SoundObject S x o = sound.of_objects x o h in
-    let a : x < next_koid S = s.high in
-    absurd (omega arith)
-not_yet S sound x on above None h = tt
-
-spends-make : (S : State) → IsSound S → (o : ObjectRow) → o.next ≡ 0 → Spends 1 0 S (make (counters S) o S)
-spends-make S sound o none =
-    let U : State = put S (key.Object (next_koid S)) (Some (rows.Object o)) in
-    let same : counters U ≡ counters S = ap as_counters (row-put S (key.Object (next_koid S)) (Some (rows.Object o)) key.Counters) in
-    let k : next_koid U ≡ next_koid S = ap (λ (c : Counters). c.next_koid) same in
-    let n : (counters U).next_wait ≡ (counters S).next_wait = ap (λ (c : Counters). c.next_wait) same in
-    let one : Spends 0 0 S U = spends-object S 0 (next_koid S) o (not_yet S sound (next_koid S) o.kind (omega arith) (object S (next_koid S)) refl) (omega arith) in
-    spends-spends 0 0 1 0 S U (make (counters S) o S) one (spends-counters U 1 (record (counters S) { next_koid = next_koid S + 1 }) (omega arith) (omega arith))
-
-apart : (k : ℕ) → (k + 1 == k) ≡ false
-apart k = grind (arith, nat_tests)
-
-spends-make_pair : (S : State) → IsSound S → (made : Kind) → Spends 2 0 S (make_pair (counters S) made S)
-spends-make_pair S sound made =
-    let k : ℕ = next_koid S in
-    let U : State = put S (key.Object k) (Some (rows.Object (fresh made (k + 1)))) in
-    let V : State = put U (key.Object (k + 1)) (Some (rows.Object (fresh made k))) in
-    let first : counters U ≡ counters S = ap as_counters (row-put S (key.Object k) (Some (rows.Object (fresh made (k + 1)))) key.Counters) in
-    let same : counters V ≡ counters S = ap as_counters (row-put U (key.Object (k + 1)) (Some (rows.Object (fresh made k))) key.Counters) ∙ first in
-    let m : next_koid V ≡ k = ap (λ (c : Counters). c.next_koid) same in
-    let n : (counters V).next_wait ≡ (counters S).next_wait = ap (λ (c : Counters). c.next_wait) same in
-    let one : Spends 0 0 S U = spends-object S 0 k (fresh made (k + 1)) (not_yet S sound k made (omega arith) (object S k) refl) (omega arith) in
-    let at : object U (k + 1) ≡ object S (k + 1) = object-put S k (Some (rows.Object (fresh made (k + 1)))) (k + 1) ∙ ap (λ b. cond b (Some (fresh made (k + 1))) (object S (k + 1))) (apart k) in
-    let two : Spends 0 0 U V = spends-object U 0 (k + 1) (fresh made k) (subst (λ r. OfKind r made) (sym at) (not_yet S sound (k + 1) made (omega arith) (object S (k + 1)) refl)) (omega arith) in
-    spends-spends 0 0 2 0 S V (make_pair (counters S) made S) (spends-spends 0 0 0 0 S U V one two)
-    (spends-counters V 2 (record (counters S) { next_koid = k + 2 }) (omega arith) (omega arith))
-
-process-grows : (on : Kind) (lives : Bool) → (is_process on && lives) ≡ true → growth 1 on ≡ 1
-process-grows kind.Process lives e = refl
-process-grows kind.Job lives e = cc
-process-grows kind.Channel lives e = cc
-process-grows kind.Event lives e = cc
-process-grows kind.EventPair lives e = cc
-process-grows kind.Port lives e = cc
-
-spends-install : (S : State) (p : ℕ) (me : ObjectRow) (held : Held) → object S p ≡ Some me → is_live_process me ≡ true → Spends 0 1 S (install p me held S)
-spends-install S p me held here live =
-    let U : State = put S (key.Entry p (value_of me.next)) (Some (rows.Entry held)) in
-    let at : object U p ≡ Some me = ap as_object (row-put S (key.Entry p (value_of me.next)) (Some (rows.Entry held)) (key.Object p)) ∙ here in
-    let n : next_at U p ≡ me.next = ap object_next at in
-    let g : growth 1 me.kind ≡ 1 = process-grows me.kind (is_live me.life) live in
-    spends-spends 0 0 0 1 S U (install p me held S) (spends-entry S p (value_of me.next) held)
-    (spends-object U 1 p (raised me) (subst (λ r. OfKind r me.kind) (sym at) refl) (omega arith))
-
-taken-wait : (p : ℕ) (values : ℕ → Bool) (k : RowKey) (r s : Row) → taken p values k r ≡ Some s → is_wait k s ≡ true → is_wait k r ≡ true
-taken-wait p values (key.Wait n) (rows.Wait w) s e h = refl
-taken-wait p values (key.Wait n) r s e h = subst (λ z. is_wait (key.Wait n) z ≡ true) (sym (some_one r s e)) h
-taken-wait p values _ r s e h = cc
-
-spends-take_out : (S : State) (p h : ℕ) → Spends 0 0 S (take_out S p h)
-spends-take_out S p h =
-    let T : State = take_out S p h in
-    let same : counters T ≡ counters S = counters-taken p (λ g. g == h) S in
-    record {
-      koids = let k : next_koid T ≡ next_koid S = ap (λ (c : Counters). c.next_koid) same in omega arith;
-      waits = let k : (counters T).next_wait ≡ (counters S).next_wait = ap (λ (c : Counters). c.next_wait) same in omega arith;
-      waiting = count_row-change is_wait (taken p (λ g. g == h)) (taken-wait p (λ g. g == h)) S;
-      still = λ x e. ap (λ r. is_some r) (object-taken p (λ g. g == h) S x) ∙ e;
-      owners = λ x z e. as_it_was S 0 x z (sym (object-taken p (λ g. g == h) S x) ∙ e);
-    }
-
-spends-signals : (S : State) (x : ℕ) (o : ObjectRow) (clear set : ℕ) → object S x ≡ Some o → Spends 0 0 S (set_signals x o clear set S)
-spends-signals S x o clear set here =
-    let n : next_at S x ≡ o.next = ap object_next here in
-    spends-object S 0 x _ (subst (λ r. OfKind r o.kind) (sym here) refl) (omega arith)
-
 -- ---- the calls
 
--- what a call may give out
-abbrev Called : State → State → Type 0
-Called S T = Spends 2 64 S T
-
-called-nothing : (S : State) → Called S S
-called-nothing S = spends-more 0 0 2 64 S S (omega arith) (omega arith) (spends-itself S)
-
-called-received : (rights : ℕ) (S T : State) (p : ℕ) (held : Held) → runs S p ≡ true → Spends 0 0 S T → object T p ≡ object S p → Called S (received rights S p held T).0
+called-received : (rights : ℕ) (S T : State) (p : ℕ) (held : Held) → runs S p ≡ true → Spends 0 0 0 S T → object T p ≡ object S p → Called S (received rights S p held T).0
 called-received rights S T p held live s same =
     let w = caller-is S p live in
     subst (λ me. Called S (install p me (record held { rights = record { 0 = rights } }) T)) (sym w.3)
-    (spends-more 0 1 2 64 S (install p w.0 (record held { rights = record { 0 = rights } }) T) (omega arith) (omega arith)
-    (spends-spends 0 0 0 1 S T (install p w.0 (record held { rights = record { 0 = rights } }) T) s (spends-install T p w.0 (record held { rights = record { 0 = rights } }) (same ∙ w.1) w.2)))
+    (spends-called 0 1 0 S (install p w.0 (record held { rights = record { 0 = rights } }) T) (omega arith) (omega arith) (omega arith)
+    (spends-spends 0 0 0 0 1 0 S T (install p w.0 (record held { rights = record { 0 = rights } }) T) s (spends-install T p w.0 (record held { rights = record { 0 = rights } }) (same ∙ w.1) w.2)))
 
 called-create : (S : State) (p : ℕ) (k : Kind) → IsSound S → runs S p ≡ true → Called S (create k S p).0
 called-create S p k sound live =
@@ -330,8 +109,8 @@ called-create S p k sound live =
     let T : State = make (counters S) (fresh k 0) S in
     let here : object T p ≡ Some w.0 = others-made S sound (fresh k 0) p w.0 w.1 in
     subst (λ me. Called S (install p me (whole (next_koid S) k) T)) (sym w.3)
-    (spends-more 1 1 2 64 S (install p w.0 (whole (next_koid S) k) T) (omega arith) (omega arith)
-    (spends-spends 1 0 0 1 S T (install p w.0 (whole (next_koid S) k) T) (spends-make S sound (fresh k 0) refl) (spends-install T p w.0 (whole (next_koid S) k) here w.2)))
+    (spends-called 1 1 0 S (install p w.0 (whole (next_koid S) k) T) (omega arith) (omega arith) (omega arith)
+    (spends-spends 1 0 0 0 1 0 S T (install p w.0 (whole (next_koid S) k) T) (spends-make S sound (fresh k 0) refl) (spends-install T p w.0 (whole (next_koid S) k) here w.2)))
 
 called-create_pair : (S : State) (p : ℕ) (k : Kind) → IsSound S → runs S p ≡ true → is_endpoint k ≡ true → Called S (create_pair k S p).0
 called-create_pair S p k sound live ends =
@@ -339,16 +118,16 @@ called-create_pair S p k sound live ends =
     let T : State = make_pair (counters S) k S in
     let here : object T p ≡ Some w.0 = others-paired S sound k ends p w.0 w.1 in
     let U : State = install p w.0 (whole (next_koid S) k) T in
-    let there : object U p ≡ Some (raised w.0) = object-put (put T (key.Entry p (value_of w.0.next)) (Some (rows.Entry (whole (next_koid S) k)))) p (Some (rows.Object (raised w.0))) p ∙ ap (λ b. cond b (Some (raised w.0)) (object (put T (key.Entry p (value_of w.0.next)) (Some (rows.Entry (whole (next_koid S) k)))) p)) (eq-eqb p p refl) in
+    let there : object U p ≡ Some (raised w.0) = object-received T p w.0 (whole (next_koid S) k) in
     let V : State = install p (raised w.0) (whole (next_koid S + 1) k) U in
     subst (λ me. Called S (install p (raised me) (whole (next_koid S + 1) k) (install p me (whole (next_koid S) k) T))) (sym w.3)
-    (spends-more 2 2 2 64 S V (omega arith) (omega arith)
-    (spends-spends 2 1 0 1 S U V
-    (spends-spends 2 0 0 1 S T U (spends-make_pair S sound k) (spends-install T p w.0 (whole (next_koid S) k) here w.2))
+    (spends-called 2 2 0 S V (omega arith) (omega arith) (omega arith)
+    (spends-spends 2 1 0 0 1 0 S U V
+    (spends-spends 2 0 0 0 1 0 S T U (spends-make_pair S sound k) (spends-install T p w.0 (whole (next_koid S) k) here w.2))
     (spends-install U p (raised w.0) (whole (next_koid S + 1) k) there w.2)))
 
 called-take_out : (S : State) (p h : ℕ) → Called S (take_out S p h)
-called-take_out S p h = spends-more 0 0 2 64 S (take_out S p h) (omega arith) (omega arith) (spends-take_out S p h)
+called-take_out S p h = spends-called 0 0 0 S (take_out S p h) (omega arith) (omega arith) (omega arith) (spends-take_out_all S p (λ g. g == h))
 
 called-handle_close : (S : State) (p h : ℕ) → Called S (handle_close S p h).0
 called-handle_close S p h =
@@ -367,10 +146,10 @@ called-handle_replace : (S : State) (p h mask : ℕ) → runs S p ≡ true → C
 called-handle_replace S p h mask live =
     after_some (Called S) S (entry S p h) status.BadHandle _ (called-nothing S) (λ held there.
     after_some (Called S) (take_out S p h) (asked_rights mask held.rights.0) status.InvalidArgs _ (called-take_out S p h) (λ rights e.
-    called-received rights S (take_out S p h) p held live (spends-take_out S p h) (object-taken p (λ g. g == h) S p)))
+    called-received rights S (take_out S p h) p held live (spends-take_out_all S p (λ g. g == h)) (object-taken p (λ g. g == h) S p)))
 
 called-signals : (S : State) (x : ℕ) (o : ObjectRow) (clear set : ℕ) → object S x ≡ Some o → Called S (set_signals x o clear set S)
-called-signals S x o clear set here = spends-more 0 0 2 64 S (set_signals x o clear set S) (omega arith) (omega arith) (spends-signals S x o clear set here)
+called-signals S x o clear set here = spends-called 0 0 0 S (set_signals x o clear set S) (omega arith) (omega arith) (omega arith) (spends-signals S x o clear set here)
 
 called-object_signal : (S : State) (p h clear set : ℕ) → Called S (object_signal S p h clear set).0
 called-object_signal S p h clear set =
@@ -385,7 +164,7 @@ called-object_signal_peer S p h clear set =
     after_some (Called S) S (object S o.link) status.PeerClosed _ (called-nothing S) (λ peer there.
     called-signals S o.link peer clear set there)))
 
-called-direct : (S : State) (p : ℕ) (c : Call) → IsSound S → runs S p ≡ true → Called S (direct S p c).0
+pub called-direct : (S : State) (p : ℕ) (c : Call) → IsSound S → runs S p ≡ true → Called S (direct S p c).0
 unfolding direct
 called-direct S p call.EventCreate sound live = called-create S p kind.Event sound live
 called-direct S p call.EventPairCreate sound live = called-create_pair S p kind.EventPair sound live refl
@@ -394,8 +173,11 @@ called-direct S p (call.HandleDuplicate h rights) sound live = called-handle_dup
 called-direct S p (call.HandleReplace h rights) sound live = called-handle_replace S p h rights live
 called-direct S p (call.ObjectSignal h clear set) sound live = called-object_signal S p h clear.0 set.0
 called-direct S p (call.ObjectSignalPeer h clear set) sound live = called-object_signal_peer S p h clear.0 set.0
+called-direct S p call.ChannelCreate sound live = called-create_pair S p kind.Channel sound live refl
+called-direct S p (call.ChannelWrite h parcel) sound live = called-channel_write S p h parcel.bytes parcel.handles sound
+called-direct S p (call.ChannelRead h bytes handles discard) sound live = called-channel_read S p h bytes handles discard sound live
 
-next-grown : (calls packets : ℕ) (on : Kind) (a b : ℕ) → NextBy calls packets on a → b ≤ a + growth 64 on → NextBy (calls + 1) packets on b
+next-grown : (calls packets : ℕ) (on : Kind) (a b : ℕ) → NextBy calls packets on a → b ≤ a + growth 64 1 on → NextBy (calls + 1) (packets + 1) on b
 next-grown calls packets kind.Process a b h g = omega arith
 next-grown calls packets kind.Channel a b h g = omega arith
 next-grown calls packets kind.Port a b h g = omega arith
@@ -403,7 +185,7 @@ next-grown calls packets kind.Job a b h g = tt
 next-grown calls packets kind.Event a b h g = tt
 next-grown calls packets kind.EventPair a b h g = tt
 
-next-new : (calls packets : ℕ) (on : Kind) (b : ℕ) → b ≤ growth 64 on → NextBy (calls + 1) packets on b
+next-new : (calls packets : ℕ) (on : Kind) (b : ℕ) → b ≤ growth 64 1 on → NextBy (calls + 1) (packets + 1) on b
 next-new calls packets kind.Process b g = omega arith
 next-new calls packets kind.Channel b g = omega arith
 next-new calls packets kind.Port b g = omega arith
@@ -411,23 +193,23 @@ next-new calls packets kind.Job b g = tt
 next-new calls packets kind.Event b g = tt
 next-new calls packets kind.EventPair b g = tt
 
-given-called : (S T : State) (calls packets : ℕ) → HasGiven calls packets S → Called S T → HasGiven (calls + 1) packets T
+given-called : (S T : State) (calls packets : ℕ) → HasGiven calls packets S → Called S T → HasGiven (calls + 1) (packets + 1) T
 given-called S T calls packets given s = record {
   koids = let a : next_koid S ≤ 2 * calls + 1026 = given.koids in let b : next_koid T ≤ next_koid S + 2 = s.koids in omega arith;
-  waits = let a : (counters S).next_wait ≤ calls = given.waits in let b : (counters T).next_wait ≤ (counters S).next_wait = s.waits in omega arith;
-  waiting = let a : count_row is_wait S ≤ calls = given.waiting in let b : count_row is_wait T ≤ count_row is_wait S = s.waiting in omega arith;
+  waits = let a : (counters S).next_wait ≤ calls = given.waits in let b : (counters T).next_wait ≤ (counters S).next_wait + 1 = s.waits in omega arith;
+  waiting = let a : count_row is_wait S ≤ calls = given.waiting in let b : count_row is_wait T ≤ count_row is_wait S + 1 = s.waiting in omega arith;
   owners = λ x q e. of_owner x q (object S x) refl (s.owners x q e);
 }
   where
-    of_owner : (x : ℕ) (q : ObjectRow) (r : Option ObjectRow) → object S x ≡ r → OfKind (object S x) q.kind × (q.next ≤ next_at S x + growth 64 q.kind) → NextBy (calls + 1) packets q.kind q.next
+    of_owner : (x : ℕ) (q : ObjectRow) (r : Option ObjectRow) → object S x ≡ r → OfKind (object S x) q.kind × (q.next ≤ next_at S x + growth 64 1 q.kind) → NextBy (calls + 1) (packets + 1) q.kind q.next
     of_owner x q (Some o) h w =
         let same : o.kind ≡ q.kind = subst (λ r. OfKind r q.kind) h w.0 in
         let n : next_at S x ≡ o.next = ap object_next h in
-        let g : q.next ≤ next_at S x + growth 64 q.kind = w.1 in
+        let g : q.next ≤ next_at S x + growth 64 1 q.kind = w.1 in
         next-grown calls packets q.kind o.next q.next (subst (λ z. NextBy calls packets z o.next) same (given.owners x o h)) (omega arith)
     of_owner x q None h w =
         let n : next_at S x ≡ 0 = ap object_next h in
-        let g : q.next ≤ next_at S x + growth 64 q.kind = w.1 in
+        let g : q.next ≤ next_at S x + growth 64 1 q.kind = w.1 in
         next-new calls packets q.kind q.next (omega arith)
 
 -- ---- removal
@@ -538,10 +320,10 @@ given-settle S calls packets sound given =
     given-more (fold fire R (waits R)) calls (packets + length (waits R)) (packets + calls) (omega arith) (given-fold (waits R) R calls packets s (ports-sound R s) g)
 
 -- one call more gives out no more than a call gives
-pub spent-step : (S : State) (p : ℕ) (c : Call) (calls : ℕ) → calls < 1048576 → IsSound S → runs S p ≡ true → HasSpent calls S → HasSpent (calls + 1) (step S p c).0
+pub spent-step : (S : State) (p : ℕ) (c : Call) (calls : ℕ) → calls < 1048576 → IsSound S → runs S p ≡ true → IsCall c → HasSpent calls S → HasSpent (calls + 1) (step S p c).0
 unfolding step
-spent-step S p c calls few sound live given =
+spent-step S p c calls few sound live is given =
     let T : State = (direct S p c).0 in
-    let s : IsSound (collect T) = sound-collect T (sound-direct S p c sound live) in
-    let g : HasGiven (calls + 1) (2097152 * calls) (collect T) = given-collect T (calls + 1) (2097152 * calls) (given-called S T calls (2097152 * calls) given (called-direct S p c sound live)) in
-    given-more (settle (collect T)) (calls + 1) (2097152 * calls + (calls + 1)) (2097152 * (calls + 1)) (omega arith) (given-settle (collect T) (calls + 1) (2097152 * calls) s g)
+    let s : IsSound (collect T) = sound-collect T (sound-direct S p c sound live is) in
+    let g : HasGiven (calls + 1) (2097152 * calls + 1) (collect T) = given-collect T (calls + 1) (2097152 * calls + 1) (given-called S T calls (2097152 * calls) given (called-direct S p c sound live)) in
+    given-more (settle (collect T)) (calls + 1) (2097152 * calls + 1 + (calls + 1)) (2097152 * (calls + 1)) (omega arith) (given-settle (collect T) (calls + 1) (2097152 * calls + 1) s g)

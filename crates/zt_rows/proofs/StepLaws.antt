@@ -1,14 +1,11 @@
--- Each call leaves a consistent state consistent: its checks tell what its puts rest on, the direct change is
--- sound, and what is sound is consistent once it is collected and settled.
+-- What calls are made of: the end of a call, by which what is sound becomes consistent, and the checks, which
+-- tell what its puts rest on. With them the direct changes of the calls on handles, events and signals are sound.
 use Rattle.std.proofs.Common.{◌≡◌, ◌≤◌, ℕ, ◌+◌, Bool, true, false, inl, inr, refl, sym, ap, ◌∙◌, subst, arith}
 use Rattle.std.specs.Prelude.{Option, None, Some, Result, Ok, Err, ok_or, is_some, ⊤, ◌==◌, if◌then◌else◌}
 use Rattle.zt_bits.specs.declared.kinds.Kind.{Kind}
-use Rattle.zt_bits.specs.declared.kinds.Kind.TheVariants as kind
 use Rattle.zt_bits.specs.declared.statuses.Status.{Status}
 use Rattle.zt_bits.specs.declared.statuses.Status.TheVariants as status
 use Rattle.zt_bits.specs.Tables.{asked_rights, settable_signals}
-use Rattle.zt_rows.specs.declared.calls.Call.{Call}
-use Rattle.zt_rows.specs.declared.calls.Call.TheVariants as call
 use Rattle.zt_rows.specs.declared.calls.Reply.{Reply}
 use Rattle.zt_rows.specs.declared.rows.Held.{Held}
 use Rattle.zt_rows.specs.declared.rows.ObjectRow.{ObjectRow}
@@ -20,7 +17,6 @@ use Rattle.zt_rows.specs.Collect.{collect}
 use Rattle.zt_rows.specs.Settle.{settle}
 use Rattle.zt_rows.specs.Handles.{◌>>=◌, check, handle_else, done, answered, as_caller, caller, take_out, install, whole, fresh, next_koid, make, make_pair}
 use Rattle.zt_rows.specs.ObjectCalls.{create, create_pair, received, handle_close, handle_duplicate, handle_replace, may_set, object_signal, object_signal_peer}
-use Rattle.zt_rows.specs.Step.{direct, step}
 use Rattle.zt_rows.specs.Consistent.{SoundObject, IsSound, IsConsistent}
 use Rattle.zt_rows.proofs.RowLaws.{and_right}
 use Rattle.zt_rows.proofs.ReadLaws.{some_one, exists-some}
@@ -60,24 +56,32 @@ chained : {A B C : Type 0} (r : Result A Status) (f : A → Result B Status) (g 
 chained (Ok x) f g = refl
 chained (Err e) f g = refl
 
-pub after_handle : (P : State → Type 0) (S : State) (wrong : Status) (p h : ℕ) (wanted : Kind → Bool) (rights : ℕ) (f : Held × ObjectRow → Result (State × Reply) Status) → P S → ((held : Held) (o : ObjectRow) → Found S p h wanted rights held o → P (answered S (f (held, o))).0) → P (answered S (handle_else wrong S p h wanted rights >>= f)).0
-after_handle P S wrong p h wanted rights f base next = by_entry (entry S p h) refl
+pub after_result : {A : Type 0} (P : State → Type 0) (S : State) (r : Result A Status) (f : A → Result (State × Reply) Status) → P S → ((v : A) → r ≡ Ok v → P (answered S (f v)).0) → P (answered S (r >>= f)).0
+after_result P S (Ok v) f base next = next v refl
+after_result P S (Err wrong) f base next = base
+
+-- the same of a handle; T is the state that a failed call leaves
+pub after_handle_of : (P : State → Type 0) (S T : State) (wrong : Status) (p h : ℕ) (wanted : Kind → Bool) (rights : ℕ) (f : Held × ObjectRow → Result (State × Reply) Status) → P T → ((held : Held) (o : ObjectRow) → Found S p h wanted rights held o → P (answered T (f (held, o))).0) → P (answered T (handle_else wrong S p h wanted rights >>= f)).0
+after_handle_of P S T wrong p h wanted rights f base next = by_entry (entry S p h) refl
   where
-    by_rights : (held : Held) (o : ObjectRow) → entry S p h ≡ Some held → object S held.koid ≡ Some o → wanted o.kind ≡ true → (b : Bool) → has_all held.rights.0 rights ≡ b → P (answered S ((check b status.AccessDenied >>= (λ _. Ok (held, o))) >>= f)).0
+    by_rights : (held : Held) (o : ObjectRow) → entry S p h ≡ Some held → object S held.koid ≡ Some o → wanted o.kind ≡ true → (b : Bool) → has_all held.rights.0 rights ≡ b → P (answered T ((check b status.AccessDenied >>= (λ _. Ok (held, o))) >>= f)).0
     by_rights held o e g k true r = next held o (record { entry_there = e; object_there = g; of_kind = k; with_rights = r })
     by_rights held o e g k false r = base
 
-    by_kind : (held : Held) (o : ObjectRow) → entry S p h ≡ Some held → object S held.koid ≡ Some o → (b : Bool) → wanted o.kind ≡ b → P (answered S ((check b wrong >>= (λ _. check (has_all held.rights.0 rights) status.AccessDenied >>= (λ _. Ok (held, o)))) >>= f)).0
+    by_kind : (held : Held) (o : ObjectRow) → entry S p h ≡ Some held → object S held.koid ≡ Some o → (b : Bool) → wanted o.kind ≡ b → P (answered T ((check b wrong >>= (λ _. check (has_all held.rights.0 rights) status.AccessDenied >>= (λ _. Ok (held, o)))) >>= f)).0
     by_kind held o e g true k = by_rights held o e g k (has_all held.rights.0 rights) refl
     by_kind held o e g false k = base
 
-    by_object : (held : Held) → entry S p h ≡ Some held → (r : Option ObjectRow) → object S held.koid ≡ r → P (answered S ((ok_or r status.BadHandle >>= (λ o. check (wanted o.kind) wrong >>= (λ _. check (has_all held.rights.0 rights) status.AccessDenied >>= (λ _. Ok (held, o))))) >>= f)).0
+    by_object : (held : Held) → entry S p h ≡ Some held → (r : Option ObjectRow) → object S held.koid ≡ r → P (answered T ((ok_or r status.BadHandle >>= (λ o. check (wanted o.kind) wrong >>= (λ _. check (has_all held.rights.0 rights) status.AccessDenied >>= (λ _. Ok (held, o))))) >>= f)).0
     by_object held e (Some o) g = by_kind held o e g (wanted o.kind) refl
     by_object held e None g = base
 
-    by_entry : (r : Option Held) → entry S p h ≡ r → P (answered S ((ok_or r status.BadHandle >>= (λ held. ok_or (object S held.koid) status.BadHandle >>= (λ o. check (wanted o.kind) wrong >>= (λ _. check (has_all held.rights.0 rights) status.AccessDenied >>= (λ _. Ok (held, o)))))) >>= f)).0
+    by_entry : (r : Option Held) → entry S p h ≡ r → P (answered T ((ok_or r status.BadHandle >>= (λ held. ok_or (object S held.koid) status.BadHandle >>= (λ o. check (wanted o.kind) wrong >>= (λ _. check (has_all held.rights.0 rights) status.AccessDenied >>= (λ _. Ok (held, o)))))) >>= f)).0
     by_entry (Some held) e = by_object held e (object S held.koid) refl
     by_entry None e = base
+
+pub after_handle : (P : State → Type 0) (S : State) (wrong : Status) (p h : ℕ) (wanted : Kind → Bool) (rights : ℕ) (f : Held × ObjectRow → Result (State × Reply) Status) → P S → ((held : Held) (o : ObjectRow) → Found S p h wanted rights held o → P (answered S (f (held, o))).0) → P (answered S (handle_else wrong S p h wanted rights >>= f)).0
+after_handle P S wrong p h wanted rights f base next = after_handle_of P S S wrong p h wanted rights f base next
 
 -- the row of a process that runs is the caller's
 pub caller-is : (S : State) (p : ℕ) → runs S p ≡ true → (me : ObjectRow) × (object S p ≡ Some me) × (is_live_process me ≡ true) × (caller S p ≡ me)
@@ -137,7 +141,7 @@ sound-handle_replace S p h mask sound live =
     sound-received rights S (take_out S p h) p held live rest (object-taken p (λ g. g == h) S) (sound.of_entries p h held there).names))
 
 -- the peer of an endpoint is of its kind
-peer_kind : (S : State) → IsSound S → (x : ℕ) (o peer : ObjectRow) → object S x ≡ Some o → is_endpoint o.kind ≡ true → object S o.link ≡ Some peer → peer.kind ≡ o.kind
+pub peer_kind : (S : State) → IsSound S → (x : ℕ) (o peer : ObjectRow) → object S x ≡ Some o → is_endpoint o.kind ≡ true → object S o.link ≡ Some peer → peer.kind ≡ o.kind
 peer_kind S sound x o peer here ends there = elim ((sound.of_objects x o here).peers ends) [
   | inl e ↦
       let s : SoundObject S o.link peer = sound.of_objects o.link peer there in
@@ -160,18 +164,3 @@ sound-object_signal_peer S p h clear set sound =
     let kinds : peer.kind ≡ o.kind = peer_kind S sound held.koid o peer found.object_there found.of_kind there in
     let may : has_all (settable_signals peer.kind) set ≡ true = ap (λ k. has_all (settable_signals k) set) kinds ∙ and_right (has_all (settable_signals o.kind) clear) _ settable in
     sound-signals S sound o.link peer there clear set may)))
-
-pub sound-direct : (S : State) (p : ℕ) (c : Call) → IsSound S → runs S p ≡ true → IsSound (direct S p c).0
-unfolding direct
-sound-direct S p call.EventCreate sound live = sound-create_call S p kind.Event sound live refl
-sound-direct S p call.EventPairCreate sound live = sound-create_pair S p kind.EventPair sound live refl
-sound-direct S p (call.HandleClose h) sound live = sound-handle_close S p h sound
-sound-direct S p (call.HandleDuplicate h rights) sound live = sound-handle_duplicate S p h rights sound live
-sound-direct S p (call.HandleReplace h rights) sound live = sound-handle_replace S p h rights sound live
-sound-direct S p (call.ObjectSignal h clear set) sound live = sound-object_signal S p h clear.0 set.0 sound
-sound-direct S p (call.ObjectSignalPeer h clear set) sound live = sound-object_signal_peer S p h clear.0 set.0 sound
-
--- a call of a live process leaves a consistent state consistent
-pub step-consistent : (S : State) (p : ℕ) (c : Call) → IsConsistent S → runs S p ≡ true → IsConsistent (step S p c).0
-unfolding step
-step-consistent S p c consistent live = consistent-completed (direct S p c).0 (sound-direct S p c consistent.sound live)

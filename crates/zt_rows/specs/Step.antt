@@ -1,14 +1,21 @@
 -- One call of one process, and a list of calls: the checks and the direct change of the call itself, then the
 -- removal of what nothing supports, the derived signals, and the firing of waits. The calls are Fuchsia's; that
 -- these four come in this order, complete within the call, is this project's own profile.
-use Rattle.std.specs.Prelude.{ℕ, List, [], ◌∷◌}
+use Rattle.std.specs.Prelude.{ℕ, ⊤, List, [], ◌∷◌}
 use Rattle.zt_rows.specs.declared.calls.Call.{Call}
 use Rattle.zt_rows.specs.declared.calls.Call.TheVariants as call
 use Rattle.zt_rows.specs.declared.calls.Reply.{Reply}
+use Rattle.zt_rows.specs.Contents.{IsWithinMessage}
 use Rattle.zt_rows.specs.State.{State}
 use Rattle.zt_rows.specs.Collect.{collect}
 use Rattle.zt_rows.specs.Settle.{settle}
 use Rattle.zt_rows.specs.ObjectCalls.{event_create, eventpair_create, handle_close, handle_duplicate, handle_replace, object_signal, object_signal_peer}
+use Rattle.zt_rows.specs.ChannelCalls.{channel_create, channel_write, channel_read}
+
+-- a call that there can be: what it sends is within a message
+abbrev pub IsCall : Call → Type 0
+IsCall (call.ChannelWrite _ parcel) = IsWithinMessage parcel.bytes parcel.handles
+IsCall _ = ⊤
 
 -- what the call itself does and answers
 unfoldable pub direct : State → ℕ → Call → State × Reply
@@ -19,6 +26,9 @@ direct S p (call.HandleDuplicate h rights) = handle_duplicate S p h rights
 direct S p (call.HandleReplace h rights) = handle_replace S p h rights
 direct S p (call.ObjectSignal h clear set) = object_signal S p h clear.0 set.0
 direct S p (call.ObjectSignalPeer h clear set) = object_signal_peer S p h clear.0 set.0
+direct S p call.ChannelCreate = channel_create S p
+direct S p (call.ChannelWrite h parcel) = channel_write S p h parcel.bytes parcel.handles
+direct S p (call.ChannelRead h bytes handles discard) = channel_read S p h bytes handles discard
 
 -- the state after a call's direct change has been carried through, with its reply
 abbrev pub completed : State × Reply → State × Reply

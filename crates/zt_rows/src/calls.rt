@@ -1,5 +1,6 @@
 ghost use Rattle.std.specs.Prelude.{◌≡◌, ◌↔◌, IfOk, IsSome, IfSome};
 ghost use Rattle.zt_rows.specs.Contents.{IsWithinMessage};
+ghost use Rattle.zt_rows.specs.Step.{IsCall};
 
 use crate::items::Items;
 use crate::keys::RowKey;
@@ -56,6 +57,13 @@ impl Parcel {
         &self.handles
     }
 
+    /// A parcel is within the limits of a message.
+    pub fn limits(&self)
+        ensures { IsWithinMessage self.now.bytes self.now.handles }
+    {
+        let _ = &self.bytes;
+    }
+
     /// An equal parcel in memory of its own.
     pub fn copy(&self) -> Result<Parcel, AllocError>
         ensures { IfOk result (λ copied. copied ≡ self.now) }
@@ -67,7 +75,7 @@ impl Parcel {
 }
 
 /// A system call with its arguments.
-#[derive(Clone, Copy, Debug, PartialEq, Eq)]
+#[derive(Debug, Drop)]
 pub enum Call {
     EventCreate,
     EventPairCreate,
@@ -94,6 +102,66 @@ pub enum Call {
         clear: Signals,
         set: Signals,
     },
+    ChannelCreate,
+    /// The parcel's handles leave the caller's table, also where the call fails.
+    ChannelWrite {
+        handle: HandleValue,
+        parcel: Parcel,
+    },
+    /// `bytes` and `handles` are what the caller has room for. A message for which there is no room stays in
+    /// its queue, or goes where it is to be discarded.
+    ChannelRead {
+        handle: HandleValue,
+        bytes: u32,
+        handles: u32,
+        discard: bool,
+    },
+}
+
+impl Call {
+    /// A call is within the limits of its type.
+    pub fn limits(&self)
+        ensures { IsCall self.now }
+    {
+        if let Call::ChannelWrite { parcel, .. } = self {
+            parcel.limits();
+        }
+    }
+
+    /// An equal call in memory of its own.
+    pub fn copy(&self) -> Result<Call, AllocError>
+        ensures { IfOk result (λ copied. copied ≡ self.now) }
+    {
+        Ok(match *self {
+            Call::EventCreate => Call::EventCreate,
+            Call::EventPairCreate => Call::EventPairCreate,
+            Call::HandleClose { handle } => Call::HandleClose { handle },
+            Call::HandleDuplicate { handle, rights } => Call::HandleDuplicate { handle, rights },
+            Call::HandleReplace { handle, rights } => Call::HandleReplace { handle, rights },
+            Call::ObjectSignal { handle, clear, set } => Call::ObjectSignal { handle, clear, set },
+            Call::ObjectSignalPeer { handle, clear, set } => Call::ObjectSignalPeer {
+                handle,
+                clear,
+                set,
+            },
+            Call::ChannelCreate => Call::ChannelCreate,
+            Call::ChannelWrite { handle, ref parcel } => {
+                let parcel = parcel.copy()?;
+                Call::ChannelWrite { handle, parcel }
+            }
+            Call::ChannelRead {
+                handle,
+                bytes,
+                handles,
+                discard,
+            } => Call::ChannelRead {
+                handle,
+                bytes,
+                handles,
+                discard,
+            },
+        })
+    }
 }
 
 /// What a system call answers: its status with the values that go with it.

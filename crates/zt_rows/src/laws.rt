@@ -17,7 +17,7 @@ ghost use Rattle.zt_rows.specs.Consistent.{IsSound, IsConsistent};
 ghost use Rattle.zt_rows.specs.Reads.{runs};
 ghost use Rattle.zt_rows.specs.Room.{HasRoom, HasSpent};
 ghost use Rattle.zt_rows.specs.Opening.{opening};
-ghost use Rattle.zt_rows.specs.Step.{step};
+ghost use Rattle.zt_rows.specs.Step.{IsCall, step};
 
 /// After a row is put, it stands under its key and every other row is as it was.
 #[tactic(auto, using(crate::proofs::StateLaws::put_laws))]
@@ -97,7 +97,7 @@ pub fn sound_becomes_consistent()
 
 /// A call of a live process leaves a consistent state consistent.
 pub fn calls_keep_consistency()
-    ensures { (S : State) (p : ℕ) (c : Call) → IsConsistent S → runs S p ≡ true
+    ensures { (S : State) (p : ℕ) (c : Call) → IsConsistent S → runs S p ≡ true → IsCall c
         → IsConsistent (step S p c).0 }
 {}
 
@@ -112,7 +112,7 @@ pub fn opening_is_consistent()
 pub fn few_calls_leave_room()
     ensures opening { HasSpent 0 opening }
     ensures call { (S : State) (p : ℕ) (c : Call) (calls : ℕ) → calls < 1048576 → IsConsistent S
-        → runs S p ≡ true → HasSpent calls S → HasSpent (calls + 1) (step S p c).0 }
+        → runs S p ≡ true → IsCall c → HasSpent calls S → HasSpent (calls + 1) (step S p c).0 }
     ensures room { (S : State) (calls : ℕ) → calls ≤ 1048576 → HasSpent calls S → HasRoom S }
 {}
 

@@ -13,4 +13,4 @@ returns-in-Ok-clause-consistent c =
     let running : runs S c.args.process ≡ true = cc in
     let from : c.begin-step.result.current ≡ S = ap (λ (s : Stepping). s.current) c.begin-step.ensures ∙ ap (λ (s : Stored). s.state) c.replace.ensures.value in
     let left : c.put_in_place.new.place.state ≡ c.carried_out.new.step.current = ap (λ (s : Stored). s.state) (c.put_in_place.ensures ∙ c.finish-after.ensures.done) in
-    consistent_after S c.begin-step.result.current c.carried_out.new.step.current c.put_in_place.new.place.state c.args.process c.args.call.now c.in-Ok.reply from left c.in-Ok.ensures.ok c.requires.consistent running
+    consistent_after S c.begin-step.result.current c.carried_out.new.step.current c.put_in_place.new.place.state c.args.process c.args.call.now c.in-Ok.reply from left c.in-Ok.ensures.ok c.requires.consistent running c.limits.ensures

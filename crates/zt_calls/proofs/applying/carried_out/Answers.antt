@@ -16,12 +16,12 @@ use Rattle.zt_calls.proofs.applying.carried_out.Goals as goal
 pub release-requires-clause-joined : goal.release-requires-clause-joined
 release-requires-clause-joined c =
     sound-joined c.direct.new.step.current
-    (sound_after c.args.step.now.current c.direct.new.step.current c.args.process c.args.call.now c.in_ok-reply.reply c.in_ok-reply.ensures.ok c.requires.consistent.sound c.requires.running)
+    (sound_after c.args.step.now.current c.direct.new.step.current c.args.process c.args.call.now c.in_ok-reply.reply c.in_ok-reply.ensures.ok c.requires.consistent.sound c.requires.running c.requires.limits)
 
 pub release-requires-clause-waits : goal.release-requires-clause-waits
 release-requires-clause-waits c =
     sound-waits c.direct.new.step.current
-    (sound_after c.args.step.now.current c.direct.new.step.current c.args.process c.args.call.now c.in_ok-reply.reply c.in_ok-reply.ensures.ok c.requires.consistent.sound c.requires.running)
+    (sound_after c.args.step.now.current c.direct.new.step.current c.args.process c.args.call.now c.in_ok-reply.reply c.in_ok-reply.ensures.ok c.requires.consistent.sound c.requires.running c.requires.limits)
 
 pub release-requires-clause-covered : goal.release-requires-clause-covered
 release-requires-clause-covered c =
@@ -34,4 +34,4 @@ settle-requires c =
     let made : State = (direct S c.args.process c.args.call.now).0 in
     let left : c.direct.new.step.current ≡ made = ap (λ (d : State × Reply). d.0) c.in_ok-reply.ensures.ok in
     let collected : c.release.new.step.current ≡ collect made = c.in_ok-release.ensures.ok.1 ∙ ap collect left in
-    subst HasRoomToFire (sym collected) (room_after S c.args.process c.args.call.now c.requires.consistent c.requires.room c.requires.running)
+    subst HasRoomToFire (sym collected) (room_after S c.args.process c.args.call.now c.requires.consistent c.requires.room c.requires.running c.requires.limits)

@@ -1,4 +1,4 @@
-use Rattle.zt_rows.proofs.StepLaws.{step-consistent}
+use Rattle.zt_rows.proofs.CallLaws.{step-consistent}
 use Rattle.zt_rows.proofs.laws.calls_keep_consistency.Goals as goal
 
 pub returns : goal.returns

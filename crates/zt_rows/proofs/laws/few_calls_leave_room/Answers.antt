@@ -5,7 +5,7 @@ pub returns-clause-opening : goal.returns-clause-opening
 returns-clause-opening c = spent-opening
 
 pub returns-clause-call : goal.returns-clause-call
-returns-clause-call c = λ S p m calls few consistent live given. spent-step S p m calls few consistent.sound live given
+returns-clause-call c = λ S p m calls few consistent live is given. spent-step S p m calls few consistent.sound live is given
 
 pub returns-clause-room : goal.returns-clause-room
 returns-clause-room c = spent-room
