@@ -7,7 +7,7 @@ use Rattle.zt_rows.specs.Consistent.{IsConsistent}
 use Rattle.zt_rows.specs.Reads.{runs}
 use Rattle.zt_rows.specs.Room.{HasRoom}
 use Rattle.zt_rows.specs.State.{State}
-use Rattle.zt_rows.specs.Step.{step}
+use Rattle.zt_rows.specs.Step.{IsCall, step}
 use Rattle.zt_store.specs.Places.{Keeps, fits}
 use Rattle.zt_store.specs.Seen.{Stored}
 use Rattle.zt_store.proofs.Fitting.{all_fit-kept}
@@ -65,7 +65,7 @@ module _ (store : Stored) (moments : Chronicle) (branches : List Branch) (p : �
   -- ---- a call that was answered
 
   module _ (b process : ℕ) (call : Call) (reply : Reply) (new : Stored) (longer : Chronicle) (moved : List Branch) (end : ℕ)
-      (at_head : p ≡ head_at branches b) (within : b < length branches) (few : length moments.made < most_moments) (running : runs store.state process ≡ true)
+      (at_head : p ≡ head_at branches b) (within : b < length branches) (few : length moments.made < most_moments) (running : runs store.state process ≡ true) (limits : IsCall call)
       (ran : ◌≡◌ {A = State × Reply} (new.state, reply) (step store.state process call))
       (made : longer.made ≡ moments.made ++ run_at p store.state process call ∷ []) (recorded : longer.records ≡ moments.records ++ before store.state new.state ∷ [])
       (kept : Keeps store.places new.places) (fit : fits new.places (before store.state new.state) ≡ true)
@@ -90,6 +90,7 @@ module _ (store : Stored) (moments : Chronicle) (branches : List Branch) (p : �
     kept-called =
         let is_made : IsMade moments.made one = record {
           running = ap (λ S. runs S process) (sym is.history.here) ∙ running;
+          limits = limits;
           answered = ap (λ S. (step S process call).1) is.history.here;
         } in
         let more : AreMoments (moments.made ++ one ∷ []) = moments-push moments.made one is.moments_stand.falls is.history.within is.moments_stand few is_made in

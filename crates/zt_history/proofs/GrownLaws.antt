@@ -112,6 +112,7 @@ module _ (made : List Made) (e : Made) (falls : Falls made) (within : e.parent �
       let kept : (m : ℕ) → m ≤ length made → state_at (made ++ e ∷ []) m ≡ state_at made m = state-more made (e ∷ []) falls still in
       let made_there : (d : Made) → d.parent ≤ length made → IsMade made d → IsMade (made ++ e ∷ []) d = λ d h i. record {
         running = ap (λ S. runs S d.process) (kept d.parent h) ∙ i.running;
+        limits = i.limits;
         answered = i.answered ∙ ap (λ S. (step S d.process d.call).1) (sym (kept d.parent h));
       } in
       record {
@@ -145,6 +146,7 @@ moments-left made e are =
           let kept : state_at (made ++ e ∷ []) d.parent ≡ state_at made d.parent = state-more made (e ∷ []) falls are.falls d.parent h in
           record {
             running = ap (λ S. runs S d.process) (sym kept) ∙ is.running;
+            limits = is.limits;
             answered = is.answered ∙ ap (λ S. (step S d.process d.call).1) kept;
           };
     }

@@ -12,7 +12,7 @@ use Rattle.zt_rows.specs.State.{State}
 use Rattle.zt_rows.specs.Step.{step, run}
 use Rattle.zt_rows.proofs.OpeningLaws.{opening-consistent}
 use Rattle.zt_rows.proofs.SpentLaws.{spent-opening, spent-step, spent-room}
-use Rattle.zt_rows.proofs.StepLaws.{step-consistent}
+use Rattle.zt_rows.proofs.CallLaws.{step-consistent}
 use Rattle.zt_history.specs.Tree.{Made, made_at, parent_of, parent_at, call_at, reply_at, path, calls_to, replies_to, state_at}
 use Rattle.zt_history.specs.Standing.{Falls, AreMoments}
 use Rattle.zt_history.proofs.ListLaws.{get-within}
@@ -116,9 +116,9 @@ module _ (made : List Made) (are : AreMoments made) where
           let T : State = (step (state_at made e.parent) e.process e.call).0 in
           let Q : State → Type 0 = λ S. IsConsistent S × HasSpent (length (path made (suc i))) S in
           subst Q (sym (state-step made are.falls i e there.1)) (
-            step-consistent (state_at made e.parent) e.process e.call before.0 is.running,
+            step-consistent (state_at made e.parent) e.process e.call before.0 is.running is.limits,
             let R : ℕ → Type 0 = λ k. HasSpent k T in
-                subst R longer (spent-step (state_at made e.parent) e.process e.call n few before.0.sound is.running before.1),
+                subst R longer (spent-step (state_at made e.parent) e.process e.call n few before.0.sound is.running is.limits before.1),
           )
 
   pub moment-consistent : (m : ℕ) → m ≤ length made → IsConsistent (state_at made m)

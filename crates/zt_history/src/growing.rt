@@ -43,6 +43,7 @@ impl History {
         ensures called { OnOk result (self.new ≡ after_call self.old id process call.now) }
         ensures err { OnErr result (self.new ≡ unmoved self.old) }
     {
+        call.limits();
         self.undo = Undo::Nothing;
         let position = self.position;
         let reply = self.moments.run(&mut self.store, position, process, call)?;

@@ -207,7 +207,7 @@ fn carried_out(
     ensures err { OnErr result (store.new.state ≡ store.old.state) }
     ensures kept { Keeps store.old.places store.new.places }
 {
-    let copied = *call;
+    let copied = call.copy()?;
     let Ok((reply, mut change)) = apply(alloc, store, process, call) else {
         return Err(AllocError);
     };

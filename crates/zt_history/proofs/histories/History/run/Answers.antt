@@ -26,6 +26,7 @@ invariant_of-self-2 c =
     (omega (arith, c.requires.branch, ap (λ (h : Timeline). length h.tree.branches) h))
     (omega (arith, c.requires.few, ap (λ (h : Timeline). length h.tree.made) h))
     (ap (λ S. runs S c.args.process) (c.self.invariant.history.here ∙ ap (λ (h : Timeline). state_at h.tree.made h.position) h) ∙ c.requires.running)
+    c.limits.ensures
     c.in_ok-reply.ensures.ok c.in_ok-reply.ensures.made c.in_ok-reply.ensures.recorded c.run.ensures.kept c.in_ok-reply.ensures.fits c.last-made.ensures.last c.set_head.ensures
 
 pub returns-clause-called : goal.returns-clause-called
@@ -37,5 +38,6 @@ returns-clause-called c =
     (omega (arith, c.requires.branch, ap (λ (h : Timeline). length h.tree.branches) h))
     (omega (arith, c.requires.few, ap (λ (h : Timeline). length h.tree.made) h))
     (ap (λ S. runs S c.args.process) (c.self.invariant.history.here ∙ ap (λ (h : Timeline). state_at h.tree.made h.position) h) ∙ c.requires.running)
+    c.limits.ensures
     c.in_ok-reply.ensures.ok c.in_ok-reply.ensures.made c.in_ok-reply.ensures.recorded c.run.ensures.kept c.in_ok-reply.ensures.fits c.last-made.ensures.last c.set_head.ensures
     ∙ ap (λ (h : Timeline). after_call h c.args.id c.args.process c.args.call.now) h
