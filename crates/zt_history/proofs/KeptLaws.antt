@@ -17,10 +17,10 @@ use Rattle.zt_history.specs.Keeping.{IsKept, timeline_of}
 use Rattle.zt_history.proofs.HistoryLaws.{history-opening, history-back, history-forth}
 use Rattle.zt_history.proofs.RunLaws.{run-path}
 
-no_moments : AreMoments []
+pub no_moments : AreMoments []
 no_moments = record { few = omega arith; falls = λ i. omega arith; each = λ i e h. absurd (none-some e h) }
 
-one_branch : AreBranches 0 opening_tree.branches
+pub one_branch : AreBranches 0 opening_tree.branches
 unfolding IsDistinct
 one_branch = record { main = refl; names = (tt, tt); heads = (omega arith, tt) }
 

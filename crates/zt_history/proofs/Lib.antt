@@ -11,4 +11,5 @@ pub mod KeptLaws
 pub mod WayLaws
 pub mod TreeLaws
 pub mod ChangedLaws
+pub mod LawsOfTrees
 mod WorkedTrees

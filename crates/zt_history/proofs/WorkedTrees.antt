@@ -29,12 +29,12 @@ use Rattle.zt_history.specs.Standing.{record_of}
 abbrev by_root : Tree → ℕ → Call → Tree
 by_root t b c = called t b 1025 c
 
--- three events on `main`; then, on `fix` from the opening, a pair of events and an event
+-- three events on `main`; then, on `fix` from the opening, a pair of events and a channel
 unfoldable two_branches : Tree
 unfolding row put change objects waits queue packets any_row count_row supports support_count is_supported without goes rounds collect refresh settle links chain end direct step path state_at
 two_branches =
     let main = by_root (by_root (by_root opening_tree 0 call.EventCreate) 0 call.EventCreate) 0 call.EventCreate in
-    by_root (by_root (branched main (codes "fix") 0) 1 call.EventPairCreate) 1 call.EventCreate
+    by_root (by_root (branched main (codes "fix") 0) 1 call.EventPairCreate) 1 call.ChannelCreate
 
 paths : map (path two_branches.made) (0 ∷ 1 ∷ 2 ∷ 3 ∷ 4 ∷ 5 ∷ []) ≡ [] ∷ (1 ∷ []) ∷ (1 ∷ 2 ∷ []) ∷ (1 ∷ 2 ∷ 3 ∷ []) ∷ (4 ∷ []) ∷ (4 ∷ 5 ∷ []) ∷ []
 unfolding two_branches path
@@ -55,7 +55,7 @@ names = refl
 
 -- both branches begin with the same handle value, and the replies are each branch's own
 replies : map (reply_at two_branches.made) (0 ∷ 1 ∷ 2 ∷ 3 ∷ 4 ∷ 5 ∷ 6 ∷ [])
-    ≡ None ∷ Some (Handle 7) ∷ Some (Handle 11) ∷ Some (Handle 15) ∷ Some (Handles 7 11) ∷ Some (Handle 15) ∷ None ∷ []
+    ≡ None ∷ Some (Handle 7) ∷ Some (Handle 11) ∷ Some (Handle 15) ∷ Some (Handles 7 11) ∷ Some (Handles 15 19) ∷ None ∷ []
 unfolding two_branches
 replies = refl
 
@@ -63,7 +63,7 @@ replies_of_main : replies_to two_branches.made 3 ≡ Handle 7 ∷ Handle 11 ∷ 
 unfolding two_branches path
 replies_of_main = refl
 
-replies_of_fix : replies_to two_branches.made 5 ≡ Handles 7 11 ∷ Handle 15 ∷ []
+replies_of_fix : replies_to two_branches.made 5 ≡ Handles 7 11 ∷ Handles 15 19 ∷ []
 unfolding two_branches path
 replies_of_fix = refl
 
@@ -82,13 +82,13 @@ on_fix = refl
 abbrev held : Tree → ℕ → ℕ → List (RowKey × Bool)
 held t position m = map (λ e. (e.0, is_some e.1)) (record_of t.made position m)
 
--- the record of the event on `fix`, where the store stands behind it: the rows before
-held_on_the_path : held two_branches 5 5 ≡ (key.Counters, true) ∷ (key.Object 1025, true) ∷ (key.Object 1028, false) ∷ (key.Entry 1025 15, false) ∷ []
+-- the record of the channel on `fix`, where the store stands behind it: the rows before
+held_on_the_path : held two_branches 5 5 ≡ (key.Counters, true) ∷ (key.Object 1025, true) ∷ (key.Object 1028, false) ∷ (key.Object 1029, false) ∷ (key.Entry 1025 15, false) ∷ (key.Entry 1025 19, false) ∷ []
 unfolding two_branches path state_at record_of row put change objects waits queue packets any_row count_row supports support_count is_supported without goes rounds collect refresh settle links chain end direct step keys_of_both changed before
 held_on_the_path = refl
 
 -- and where it stands on the other branch: the rows after
-held_beside_the_path : held two_branches 3 5 ≡ (key.Counters, true) ∷ (key.Object 1025, true) ∷ (key.Object 1028, true) ∷ (key.Entry 1025 15, true) ∷ []
+held_beside_the_path : held two_branches 3 5 ≡ (key.Counters, true) ∷ (key.Object 1025, true) ∷ (key.Object 1028, true) ∷ (key.Object 1029, true) ∷ (key.Entry 1025 15, true) ∷ (key.Entry 1025 19, true) ∷ []
 unfolding two_branches path state_at record_of row put change objects waits queue packets any_row count_row supports support_count is_supported without goes rounds collect refresh settle links chain end direct step keys_of_both changed before
 held_beside_the_path = refl
 

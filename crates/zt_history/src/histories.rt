@@ -77,7 +77,8 @@ impl History {
     /// The head of a branch. It takes no memory.
     pub fn head(&self, id: BranchId) -> Moment
         requires { id < length self.now.tree.branches }
-        ensures { result ≡ head_at self.now.tree.branches id }
+        ensures head { result ≡ head_at self.now.tree.branches id }
+        ensures within { result ≤ length self.now.tree.made }
     {
         self.branches.head(id)
     }

@@ -6,6 +6,7 @@ mod branches;
 mod changes;
 mod growing;
 mod histories;
+pub mod laws;
 mod moments;
 
 pub use branches::BranchId;
