@@ -1,6 +1,6 @@
 -- The laws of trees as their contracts say them.
-use Rattle.std.proofs.Common.{◌≡◌, ℕ, zero, suc, ◌+◌, ◌-◌, ◌≤◌, ◌<◌, Bool, true, false, not, List, [], ◌∷◌, ◌++◌, length, Option, Some, None, is_some, Result, Ok, Err, refl, sym, ◌∙◌, ap, subst, arith, length-append}
-use Rattle.std.specs.Prelude.{slice_get, nat_lt, nat_le}
+use Rattle.std.proofs.Common.{◌≡◌, ℕ, suc, ◌≤◌, ◌<◌, Bool, true, false, not, List, [], ◌∷◌, ◌++◌, length, Option, Some, None, is_some, Result, Ok, Err, refl, sym, ap, subst, arith, length-append}
+use Rattle.std.specs.Prelude.{nat_lt, nat_le}
 use Rattle.std.proofs.lemmas.Bool.{ltb-true, leb-true, true≢false}
 use Rattle.zt_rows.specs.declared.calls.Answer.{Answer}
 use Rattle.zt_rows.specs.declared.calls.Answer.TheVariants as answer
@@ -15,8 +15,8 @@ use Rattle.zt_rows.specs.Room.{HasRoom}
 use Rattle.zt_rows.specs.State.{State}
 use Rattle.zt_rows.specs.Step.{IsCall, run}
 use Rattle.zt_history.specs.Refusing.{call_on, branch_on, most_moments, ◌>>=◌, check}
-use Rattle.zt_history.specs.Standing.{AreMoments, AreBranches, IsMade, IsTree}
-use Rattle.zt_history.specs.Tree.{Made, Branch, Tree, last_moment, opening_tree, made_by, head_at, headed, called, branched, branch_named, calls_to, replies_to, state_at}
+use Rattle.zt_history.specs.Standing.{IsTree}
+use Rattle.zt_history.specs.Tree.{Made, Tree, last_moment, opening_tree, made_by, head_at, called, branched, branch_named, calls_to, replies_to, state_at}
 use Rattle.zt_history.proofs.PathLaws.{path-step, path-end}
 use Rattle.zt_history.proofs.RunLaws.{run-path, moment-consistent, moment-room}
 use Rattle.zt_history.proofs.RecordLaws.{exchange-back, exchange-forth}
@@ -87,9 +87,9 @@ tree-branch t name m number u is h =
     let first = passed (nat_le m (last_moment t)) refusal.NoMoment (check free refusal.NameTaken >>= λ _. made) (number, u) h in
     let second = passed free refusal.NameTaken made (number, u) first.1 in
     let more : IsTree (branched t name m) = record {
-          moments = is.moments;
-          branches =
-              branches-push (length t.made) t.branches (record { name = name; head = m }) is.branches (none_named (branch_named t.branches name) second.0)
-              (leb-true m (last_moment t) first.0);
-        } in
+      moments = is.moments;
+      branches =
+          branches-push (length t.made) t.branches (record { name = name; head = m }) is.branches (none_named (branch_named t.branches name) second.0)
+          (leb-true m (last_moment t) first.0);
+    } in
     subst IsTree (ap made_tree second.1) more

@@ -1,5 +1,5 @@
 -- Every head is a moment.
-use Rattle.std.proofs.Common.{◌≡◌, length, ap, arith}
+use Rattle.std.proofs.Common.{length, ap, arith}
 use Rattle.zt_history.specs.Timeline.{Timeline}
 use Rattle.zt_history.proofs.TreeLaws.{head-within}
 use Rattle.zt_history.proofs.histories.History.head.Goals as goal
