@@ -1,6 +1,6 @@
 -- Words with a separator between are cut into those words, and which words have none; lists with commas.
 use Rattle.std.proofs.Common.{lit<, ◌≡◌, ℕ, suc, ◌-◌, ◌^◌, ◌<◌, ◌≤◌, Bool, true, false, List, [], ◌∷◌, ◌++◌, length, map, Some, ℤ, pos, negsuc, refl, sym, ap, ◌∙◌, arith, All, append-nil, append_assoc, subst}
-use Rattle.std.specs.Prelude.{⊤, ◌==◌, not, nat_le, codes}
+use Rattle.std.specs.Prelude.{Result, Ok, Err, OnOk, ⊤, ◌==◌, not, nat_le, codes}
 use Rattle.std.specs.Char.{is_ascii_digit}
 use Rattle.std.specs.List.{list_all, onto_first, join_with_byte}
 use Rattle.std.specs.Fmt.{decimal, signed_decimal}
@@ -150,6 +150,7 @@ unfolding shown_call
 shown_call_is process made = ap (λ text. decimal process ++ (32 ∷ text)) (words_spaced (call_name made) (call_arguments made))
 
 -- what is written once the process, the name and the arguments are
-pub call_written : (process : ℕ) (made : Call) (begun named text : List ℕ) → begun ≡ decimal process ++ (32 ∷ []) → named ≡ begun ++ call_name made → text ≡ named ++ spaced (call_arguments made) → text ≡ shown_call process made
-call_written process made begun named text first second third =
-    rw (third, second, first, shown_call_is process made, append_assoc (decimal process) (32 ∷ []) (call_name made), append_assoc (decimal process) (32 ∷ call_name made) (spaced (call_arguments made))) refl
+pub call_written : {E : Type 0} (r : Result (Unit {0}) E) (process : ℕ) (made : Call) (old begun named text : List ℕ) → begun ≡ old ++ (decimal process ++ (32 ∷ [])) → named ≡ begun ++ call_name made → OnOk r (text ≡ named ++ spaced (call_arguments made)) → OnOk r (text ≡ old ++ shown_call process made)
+call_written (Err _) process made old begun named text first second third = tt
+call_written (Ok _) process made old begun named text first second third =
+    rw (third, second, first, shown_call_is process made, append_assoc old (decimal process ++ (32 ∷ [])) (call_name made), append_assoc (decimal process) (32 ∷ []) (call_name made), append_assoc old (decimal process ++ (32 ∷ call_name made)) (spaced (call_arguments made)), append_assoc (decimal process) (32 ∷ call_name made) (spaced (call_arguments made))) refl

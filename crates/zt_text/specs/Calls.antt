@@ -1,6 +1,6 @@
 -- The lines of calls.
 use Rattle.std.specs.Prelude.{◌≡◌, ℕ, ℤ, pos, negsuc, ⊤, ◌^◌, ◌<◌, ◌≤◌, Bool, true, false, List, [], ◌∷◌, ◌++◌, length, codes}
-use Rattle.std.specs.List.{All}
+use Rattle.std.specs.List.{All, flat_map}
 use Rattle.std.specs.Fmt.{decimal, signed_decimal}
 use Rattle.zt_rows.specs.declared.calls.Call.{Call}
 use Rattle.zt_rows.specs.declared.calls.Call.TheVariants as calls
@@ -67,6 +67,13 @@ spaced (word ∷ next ∷ others) = 32 ∷ (word ++ spaced (next ∷ others))
 -- a call of a process, as the line that reads as it
 unfoldable pub shown_call : ℕ → Call → List ℕ
 shown_call process made = words (decimal process ∷ call_name made ∷ call_arguments made)
+
+-- a session text: its first line, and the line of each call
+abbrev pub call_line : ℕ × Call → List ℕ
+call_line made = shown_call made.0 made.1 ++ (10 ∷ [])
+
+unfoldable pub session_text : List (ℕ × Call) → List ℕ
+session_text made = codes "zxtt 1" ++ (10 ∷ flat_map call_line made)
 
 -- ---- what the numbers of a call are
 

@@ -1,7 +1,8 @@
 ghost use Rattle.std.specs.Prelude.{◌≡◌, ◌++◌, [], ◌∷◌, IfOk, OnOk, string_bytes};
 ghost use Rattle.std.specs.Fmt.{decimal};
+ghost use Rattle.std.specs.List.{flat_map};
 ghost use Rattle.zt_text.specs.Shown.{shown_mask, shown_bytes, shown_list};
-ghost use Rattle.zt_text.specs.Calls.{call_name, discard_words, call_arguments, spaced, shown_call};
+ghost use Rattle.zt_text.specs.Calls.{call_name, discard_words, call_arguments, spaced, shown_call, call_line, session_text};
 
 use crate::printing::{put_bytes, put_handles, put_mask};
 use std::alloc::{AllocError, Global};
@@ -13,10 +14,39 @@ pub fn print_call(alloc: Global, process: Koid, call: &Call) -> Result<Vec<u8>, 
     ensures { IfOk result (λ text. text.items ≡ shown_call process call.now) }
 {
     let mut text = String::new(alloc);
+    put_call(&mut text, process, call)?;
+    Ok(text.into_bytes())
+}
+
+/// The session text of these calls.
+#[tactic(auto, unfolding(crate::specs::Calls::session_text))]
+pub fn print_session(alloc: Global, calls: &[(Koid, Call)]) -> Result<Vec<u8>, AllocError>
+    ensures { IfOk result (λ text. text.items ≡ session_text calls.now) }
+{
+    let mut text = String::new(alloc);
+    text.push_str("zxtt 1\n")?;
+    put_lines(&mut text, calls)?;
+    Ok(text.into_bytes())
+}
+
+/// A line for each call.
+fn put_lines(text: &mut String, calls: &[(Koid, Call)]) -> Result<(), AllocError>
+    ensures { OnOk result (string_bytes text.new ≡ string_bytes text.old ++ flat_map call_line calls.now) }
+{
+    for (process, call) in calls {
+        put_call(text, *process, call)?;
+        text.push_str("\n")?;
+    }
+    Ok(())
+}
+
+/// The line of a process's call, behind what is written.
+fn put_call(text: &mut String, process: Koid, call: &Call) -> Result<(), AllocError>
+    ensures { OnOk result (string_bytes text.new ≡ string_bytes text.old ++ shown_call process call.now) }
+{
     write!(text, "{} ", process.0)?;
     text.push_str(name(call))?;
-    put_arguments(&mut text, call)?;
-    Ok(text.into_bytes())
+    put_arguments(text, call)
 }
 
 /// The name of a call.

@@ -13,6 +13,6 @@ mod reading;
 mod within;
 mod writes;
 
-pub use calls::print_call;
+pub use calls::{print_call, print_session};
 pub use printing::{print_answer, print_refusal};
 pub use reading::read_line;
