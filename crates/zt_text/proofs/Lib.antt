@@ -4,6 +4,9 @@ pub mod ByteLemmas
 pub mod ListLemmas
 pub mod FieldLemmas
 pub mod ShownLemmas
+pub mod ShownFields
+pub mod ShownWords
+pub mod ShownCalls
 mod WorkedLines
 mod WorkedAnswers
 mod LongLines

@@ -6,4 +6,5 @@ pub mod Lists
 pub mod Reading
 pub mod Shown
 pub mod Answers
+pub mod Calls
 pub mod Lines

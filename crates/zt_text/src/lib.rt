@@ -2,13 +2,17 @@
 #![tactic(auto)]
 
 mod bytes;
+mod calls;
 mod cutting;
 mod fields;
+pub mod laws;
 mod lists;
 mod numbers;
 mod printing;
 mod reading;
+mod within;
 mod writes;
 
+pub use calls::{print_call, print_session};
 pub use printing::{print_answer, print_refusal};
 pub use reading::read_line;

@@ -102,14 +102,14 @@ fn put_packet(text: &mut String, packet: &Packet) -> Result<(), AllocError>
 }
 
 /// `0x` and eight digits.
-fn put_mask(text: &mut String, bits: u32) -> Result<(), AllocError>
+pub fn put_mask(text: &mut String, bits: u32) -> Result<(), AllocError>
     ensures { OnOk result (string_bytes text.new ≡ string_bytes text.old ++ shown_mask bits) }
 {
     write!(text, "0x{bits:08x}")
 }
 
 /// Two digits for each byte, or `-` for none.
-fn put_bytes(text: &mut String, bytes: &[u8]) -> Result<(), AllocError>
+pub fn put_bytes(text: &mut String, bytes: &[u8]) -> Result<(), AllocError>
     ensures { OnOk result (string_bytes text.new ≡ string_bytes text.old ++ shown_bytes bytes.now) }
 {
     if bytes.is_empty() {
@@ -120,7 +120,7 @@ fn put_bytes(text: &mut String, bytes: &[u8]) -> Result<(), AllocError>
 }
 
 /// The values with a comma between, or `-` for none.
-fn put_handles(text: &mut String, handles: &[HandleValue]) -> Result<(), AllocError>
+pub fn put_handles(text: &mut String, handles: &[HandleValue]) -> Result<(), AllocError>
     ensures { OnOk result (string_bytes text.new ≡ string_bytes text.old ++ shown_list decimal handles.now) }
 {
     let [first, others @ ..] = handles else {

@@ -1,0 +1,143 @@
+//! What holds of every line that is shown. Each law is the contract of a function that does nothing.
+ghost use Rattle.std.specs.Prelude.{◌≡◌, ℕ, ℤ, ◌^◌, ◌-◌, ◌<◌, ◌≤◌, List, length, Some, Ok};
+ghost use Rattle.std.specs.Fmt.{decimal, signed_decimal};
+ghost use Rattle.std.specs.List.{All};
+ghost use Rattle.zt_rows.specs.declared.calls.Call.{Call};
+ghost use Rattle.zt_rows.specs.declared.calls.Command.TheVariants as commands;
+ghost use Rattle.zt_text.specs.Numbers.{decimal_of, mask_of, code_of};
+ghost use Rattle.zt_text.specs.Bytes.{bytes_of, packet_bytes_of};
+ghost use Rattle.zt_text.specs.Lists.{handles_of};
+ghost use Rattle.zt_text.specs.Reading.{read_as};
+ghost use Rattle.zt_text.specs.Shown.{shown_mask, shown_bytes, shown_list};
+ghost use Rattle.zt_text.specs.Calls.{IsByte, IsHandle, IsCode, IsWithin, shown_call};
+
+use crate::within::{
+    bytes_are_within, code_is_within, handle_is_within, handles_are_within, key_is_within,
+    mask_is_within,
+};
+use zt_rows::{Call, Koid};
+
+/// A number that is shown in decimal digits reads as that number, and a code with its sign as that code.
+#[tactic(auto, using(crate::proofs::ShownFields::decimal_read, crate::proofs::ShownFields::code_read))]
+pub fn numbers_read_back()
+    ensures decimals { (most n : ℕ) → n ≤ most → most < 2 ^ 64 → decimal_of most (decimal n) ≡ Some n }
+    ensures codes { (code : ℤ) → IsCode code → code_of (signed_decimal code) ≡ Some code }
+{}
+
+/// A mask that is shown reads as that mask.
+#[tactic(auto, using(crate::proofs::ShownFields::mask_read))]
+pub fn masks_read_back()
+    ensures { (bits : ℕ) → bits < 2 ^ 32 → mask_of (shown_mask bits) ≡ Some bits }
+{}
+
+/// Bytes that are shown read as those bytes, in a message and in a packet.
+#[tactic(auto, using(crate::proofs::ShownFields::bytes_read, crate::proofs::ShownFields::packet_bytes_read))]
+pub fn bytes_read_back()
+    ensures message { (bytes : List ℕ) → All IsByte bytes → length bytes ≤ 65536
+        → bytes_of (shown_bytes bytes) ≡ Some bytes }
+    ensures packet { (bytes : List ℕ) → All IsByte bytes → length bytes ≡ 32
+        → packet_bytes_of (shown_bytes bytes) ≡ Some bytes }
+{}
+
+/// A list of handles that is shown reads as that list.
+#[tactic(auto, using(crate::proofs::ShownWords::handles_read))]
+pub fn lists_read_back()
+    ensures { (handles : List ℕ) → All IsHandle handles → length handles ≤ 64
+        → handles_of (shown_list decimal handles) ≡ Some handles }
+{}
+
+/// Every call of every process has the numbers that the laws on its line speak of.
+pub fn every_call_is_within(process: Koid, call: &Call)
+    ensures process { process < 2 ^ 64 }
+    ensures call { IsWithin call.now }
+{
+    key_is_within(process.0);
+    match *call {
+        Call::EventCreate => {}
+        Call::EventPairCreate => {}
+        Call::ChannelCreate => {}
+        Call::PortCreate => {}
+        Call::HandleClose { handle } => handle_is_within(handle),
+        Call::TaskKill { handle } => handle_is_within(handle),
+        Call::PortWait { port } => handle_is_within(port),
+        Call::JobCreate { job } => handle_is_within(job),
+        Call::HandleDuplicate { handle, rights } => {
+            handle_is_within(handle);
+            mask_is_within(rights);
+        }
+        Call::HandleReplace { handle, rights } => {
+            handle_is_within(handle);
+            mask_is_within(rights);
+        }
+        Call::ObjectSignal { handle, clear, set } => {
+            handle_is_within(handle);
+            mask_is_within(clear.0);
+            mask_is_within(set.0);
+        }
+        Call::ObjectSignalPeer { handle, clear, set } => {
+            handle_is_within(handle);
+            mask_is_within(clear.0);
+            mask_is_within(set.0);
+        }
+        Call::ChannelWrite { handle, ref parcel } => {
+            handle_is_within(handle);
+            parcel.limits();
+            bytes_are_within(parcel.bytes().as_slice());
+            handles_are_within(parcel.handles().as_slice());
+        }
+        Call::ChannelRead {
+            handle,
+            bytes,
+            handles,
+            discard: _,
+        } => {
+            handle_is_within(handle);
+            mask_is_within(bytes);
+            mask_is_within(handles);
+        }
+        Call::ObjectWaitAsync {
+            handle,
+            port,
+            key,
+            signals,
+        } => {
+            handle_is_within(handle);
+            handle_is_within(port);
+            key_is_within(key);
+            mask_is_within(signals.0);
+        }
+        Call::PortQueue {
+            port,
+            key,
+            ref bytes,
+        } => {
+            handle_is_within(port);
+            key_is_within(key);
+            bytes_are_within(bytes);
+        }
+        Call::PortCancel { port, source, key } => {
+            handle_is_within(port);
+            handle_is_within(source);
+            key_is_within(key);
+        }
+        Call::Spawn { job, argument } => {
+            handle_is_within(job);
+            handle_is_within(argument);
+        }
+        Call::ProcessExit { code } => code_is_within(code),
+    }
+}
+
+/// The line of a call reads as that call.
+#[tactic(auto, using(crate::proofs::ShownCalls::call_line_read))]
+pub fn calls_read_back()
+    ensures { (process : ℕ) (call : Call) → process < 2 ^ 64 → IsWithin call
+        → read_as (shown_call process call) ≡ Ok (Some (commands.Call process call)) }
+{}
+
+/// No two calls have one line.
+#[tactic(auto, using(crate::proofs::ShownCalls::call_lines_differ))]
+pub fn calls_have_lines_of_their_own()
+    ensures { (process other : ℕ) (call made : Call) → process < 2 ^ 64 → other < 2 ^ 64 → IsWithin call → IsWithin made
+        → shown_call process call ≡ shown_call other made → (process ≡ other) × (call ≡ made) }
+{}
