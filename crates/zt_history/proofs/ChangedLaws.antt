@@ -1,0 +1,173 @@
+-- What a history keeps while a call makes a moment, while a branch is made, and while either is taken back.
+use Rattle.std.proofs.Common.{◌≡◌, ℕ, suc, ◌-◌, ◌≤◌, ◌<◌, true, List, [], ◌∷◌, ◌++◌, length, Some, None, refl, sym, ◌∙◌, ap, subst, arith, length-append}
+use Rattle.zt_rows.specs.declared.calls.Call.{Call}
+use Rattle.zt_rows.specs.declared.calls.Reply.{Reply}
+use Rattle.zt_rows.specs.Change.{before}
+use Rattle.zt_rows.specs.Consistent.{IsConsistent}
+use Rattle.zt_rows.specs.Reads.{runs}
+use Rattle.zt_rows.specs.Room.{HasRoom}
+use Rattle.zt_rows.specs.State.{State}
+use Rattle.zt_rows.specs.Step.{IsCall, step}
+use Rattle.zt_store.specs.Places.{Keeps, fits}
+use Rattle.zt_store.specs.Seen.{Stored}
+use Rattle.zt_store.proofs.Fitting.{all_fit-kept}
+use Rattle.zt_history.specs.declared.histories.Undo.{Undo}
+use Rattle.zt_history.specs.declared.histories.Undo.TheVariants as undo
+use Rattle.zt_history.specs.Tree.{Made, Branch, parent_of, parent_at, made_by, state_at, head_at, headed, branch_named}
+use Rattle.zt_history.specs.Refusing.{most_moments}
+use Rattle.zt_history.specs.Branches.{without_last}
+use Rattle.zt_history.specs.Timeline.{after_call}
+use Rattle.zt_history.specs.Standing.{AreMoments, AreBranches, IsMade, IsHistory}
+use Rattle.zt_history.specs.Nodes.{Chronicle, IsTurned, run_at}
+use Rattle.zt_history.specs.Keeping.{IsKept, timeline_of}
+use Rattle.zt_history.proofs.ListLaws.{get-last}
+use Rattle.zt_history.proofs.RunLaws.{moment-consistent, moment-room}
+use Rattle.zt_history.proofs.GrownLaws.{history-push, history-dropped, moments-push, moments-left}
+use Rattle.zt_history.proofs.TreeLaws.{without_last-push, last_apart, headed-back, length-headed, branches-headed, branches-push}
+use Rattle.zt_history.proofs.KeptLaws.{kept-back}
+
+module _ (store : Stored) (moments : Chronicle) (branches : List Branch) (p : ℕ) (last : Undo) (is : IsKept store moments branches p last) where
+  -- at every moment the state is consistent, and there is room for a call
+  pub kept-consistent : IsConsistent store.state
+  kept-consistent = subst IsConsistent (sym is.history.here) (moment-consistent moments.made is.moments_stand p is.history.within)
+
+  pub kept-room : HasRoom store.state
+  kept-room = subst HasRoom (sym is.history.here) (moment-room moments.made is.moments_stand p is.history.within)
+
+  -- a call that was refused left the rows and the moments
+  pub kept-refused : (new : Stored) (same : Chronicle) → new.state ≡ store.state → same ≡ moments → Keeps store.places new.places → IsKept new same branches p undo.Nothing
+  kept-refused new same rows kept places =
+      let P : Chronicle → Type 0 = λ m. IsKept new m branches p undo.Nothing in
+      subst P (sym kept) (record {
+        moments_stand = is.moments_stand;
+        branches_stand = is.branches_stand;
+        history = record {
+          within = is.history.within;
+          here = rows ∙ is.history.here;
+          many = is.history.many;
+          each = is.history.each;
+          fit = all_fit-kept store.places new.places places moments.records is.history.fit;
+        };
+        undo = tt;
+      })
+
+  -- a branch that was made behind the others
+  pub kept-branched : (b : Branch) (more : List Branch) → more ≡ branches ++ b ∷ [] → branch_named branches b.name ≡ None → b.head ≤ length moments.made → IsKept store moments more p undo.Branch
+  kept-branched b more pushed free there =
+      let P : List Branch → Type 0 = λ bs. IsKept store moments bs p undo.Branch in
+      subst P (sym pushed) (record {
+        moments_stand = is.moments_stand;
+        branches_stand = branches-push (length moments.made) branches b is.branches_stand free there;
+        history = is.history;
+        undo = (omega (arith, length-append branches (b ∷ [])), subst (AreBranches (length moments.made)) (sym (without_last-push branches b)) is.branches_stand);
+      })
+
+  -- ---- a call that was answered
+
+  module _ (b process : ℕ) (call : Call) (reply : Reply) (new : Stored) (longer : Chronicle) (moved : List Branch) (end : ℕ)
+      (at_head : p ≡ head_at branches b) (within : b < length branches) (few : length moments.made < most_moments) (running : runs store.state process ≡ true) (limits : IsCall call)
+      (ran : ◌≡◌ {A = State × Reply} (new.state, reply) (step store.state process call))
+      (made : longer.made ≡ moments.made ++ run_at p store.state process call ∷ []) (recorded : longer.records ≡ moments.records ++ before store.state new.state ∷ [])
+      (kept : Keeps store.places new.places) (fit : fits new.places (before store.state new.state) ≡ true)
+      (ended : end ≡ length longer.made) (heads : moved ≡ headed branches b end) where
+    abbrev one : Made
+    one = run_at p store.state process call
+
+    end_is : end ≡ suc (length moments.made)
+    end_is = ended ∙ ap length made ∙ omega (arith, length-append moments.made (one ∷ []))
+
+    parent_is : parent_at longer.made (length longer.made) ≡ p
+    parent_is = (λ i. parent_at (made i) ((sym ended ∙ end_is) i)) ∙ ap parent_of (get-last moments.made one (length moments.made) refl)
+
+    -- taken back, moments and heads are those of before
+    moments_back : without_last longer.made ≡ moments.made
+    moments_back = ap without_last made ∙ without_last-push moments.made one
+
+    heads_back : headed moved b (parent_at longer.made (length longer.made)) ≡ branches
+    heads_back = (λ i. headed (heads i) b ((parent_is ∙ at_head) i)) ∙ headed-back branches b end
+
+    pub kept-called : IsKept new longer moved end (undo.Call b)
+    kept-called =
+        let is_made : IsMade moments.made one = record {
+          running = ap (λ S. runs S process) (sym is.history.here) ∙ running;
+          limits = limits;
+          answered = ap (λ S. (step S process call).1) is.history.here;
+        } in
+        let more : AreMoments (moments.made ++ one ∷ []) = moments-push moments.made one is.moments_stand.falls is.history.within is.moments_stand few is_made in
+        let went : new.state ≡ (step store.state process call).0 = ap (λ (r : State × Reply). r.0) ran in
+        let there = history-push moments.made one is.moments_stand.falls is.history.within store new moments.records (before store.state new.state) is.history went refl kept fit in
+        let P : List Made → ℕ → Type 0 = λ made end. IsHistory made end new (moments.records ++ before store.state new.state ∷ []) in
+        record {
+          moments_stand = subst AreMoments (sym made) more;
+          branches_stand =
+              subst (AreBranches (length longer.made)) (sym heads)
+              (branches-headed (length moments.made) (length longer.made) end branches b (omega (arith, ended, end_is)) (omega (arith, ended)) is.branches_stand);
+          history =
+              subst (IsHistory longer.made end new) (sym recorded)
+              (subst (λ made. P made end) (sym made) (subst (P (moments.made ++ one ∷ [])) (sym end_is) there));
+          undo = (
+            omega (arith, ended, end_is),
+            ended,
+            omega (arith, within, ap length heads, length-headed branches b end),
+            let n : length longer.made - 1 ≡ length moments.made = omega (arith, ended, end_is) in
+                let Q : ℕ → Type 0 = λ n. AreBranches n branches in
+                subst (AreBranches (length longer.made - 1)) (sym heads_back) (subst Q (sym n) is.branches_stand),
+          );
+        }
+
+    pub called-seen : timeline_of (record { made = longer.made; branches = moved }) end (undo.Call b) ≡ after_call (timeline_of (record { made = moments.made; branches = branches }) p last) b process call
+    called-seen =
+        let same : one ≡ made_by moments.made (head_at branches b) process call =
+        λ i. record { parent = at_head i; process = process; call = call; reply = (step ((is.history.here ∙ ap (state_at moments.made) at_head) i) process call).1 } in
+        λ i. record {
+          tree = record { made = (made ∙ ap (λ e. moments.made ++ e ∷ []) same) i; branches = (heads ∙ ap (headed branches b) end_is) i };
+          position = end_is i;
+          before = Some (record { tree = record { made = moments_back i; branches = heads_back i }; position = (parent_is ∙ at_head) i });
+        }
+
+-- ---- a call that is taken back
+
+-- the front of the list without its last moment
+front_stands : (made : List Made) → 0 < length made → AreMoments made → (front : List Made) × (e : Made) × (made ≡ front ++ e ∷ []) × AreMoments front × (e.parent ≤ length front) × (front ≡ without_last made)
+front_stands made some are =
+    let apart = last_apart made some in
+    let e = apart.0 in
+    let all : AreMoments (without_last made ++ e ∷ []) = subst AreMoments apart.1 are in (
+      without_last made,
+      e,
+      apart.1,
+      moments-left (without_last made) e all,
+      omega (arith, all.falls (length (without_last made)), ap parent_of (get-last (without_last made) e (length (without_last made)) refl)),
+      refl,
+    )
+
+pub kept-uncalled : (old new : Stored) (moments turned shorter : Chronicle) (branches moved : List Branch) (b p i head : ℕ)
+    → IsKept old moments branches p (undo.Call b) → IsTurned moments turned old new i → p ≡ suc i → head ≡ parent_at moments.made p
+    → shorter.made ≡ without_last turned.made → shorter.records ≡ without_last turned.records → moved ≡ headed branches b head
+    → IsKept new shorter moved head undo.Nothing
+kept-uncalled old new moments turned shorter branches moved b p i head is turn place up made recorded heads =
+    let back : IsKept new turned branches head undo.Nothing = kept-back old new moments turned branches (undo.Call b) i p turn place head (up ∙ ap (λ made. parent_at made p) (sym turn.made)) is in
+    let some : 0 < length turned.made = omega (arith, is.undo.0, ap length turn.made) in
+    let f = front_stands turned.made some back.moments_stand in
+    let front : List Made = f.0 in
+    let e : Made = f.1 in
+    let some_records : 0 < length turned.records = omega (arith, some, back.history.many) in
+    let r = last_apart turned.records some_records in
+    let size : length turned.made ≡ suc (length front) = ap length f.2 ∙ omega (arith, length-append front (e ∷ [])) in
+    let there : head ≤ length front = omega (arith, up, place, is.moments_stand.falls i, ap (parent_at moments.made) place, size, is.undo.1, ap length turn.made) in
+    let whole : IsHistory (front ++ e ∷ []) head new (without_last turned.records ++ r.0 ∷ []) =
+    subst (IsHistory (front ++ e ∷ []) head new) r.1 (let P : List Made → Type 0 = λ made. IsHistory made head new turned.records in subst P f.2 back.history) in
+    let here : shorter.made ≡ front = made ∙ sym f.5 in
+    record {
+      moments_stand = subst AreMoments (sym here) f.3;
+      branches_stand =
+          let n : length moments.made - 1 ≡ length shorter.made = omega (arith, size, ap length turn.made, ap length here) in
+          let h : headed branches b (parent_at moments.made (length moments.made)) ≡ moved = (λ j. headed branches b (parent_at moments.made (sym is.undo.1 j))) ∙ ap (headed branches b) (sym up) ∙ sym heads in
+          let P : ℕ → Type 0 = λ n. AreBranches n moved in
+          subst P n (subst (AreBranches (length moments.made - 1)) h is.undo.3);
+      history =
+          subst (IsHistory shorter.made head new) (sym recorded)
+          (let P : List Made → Type 0 = λ made. IsHistory made head new (without_last turned.records) in
+          subst P (sym here) (history-dropped front e f.3.falls f.4 head new (without_last turned.records) r.0 there whole));
+      undo = tt;
+    }

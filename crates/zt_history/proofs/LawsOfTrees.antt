@@ -1,0 +1,95 @@
+-- The laws of trees as their contracts say them.
+use Rattle.std.proofs.Common.{◌≡◌, ℕ, zero, suc, ◌+◌, ◌-◌, ◌≤◌, ◌<◌, Bool, true, false, not, List, [], ◌∷◌, ◌++◌, length, Option, Some, None, is_some, Result, Ok, Err, refl, sym, ◌∙◌, ap, subst, arith, length-append}
+use Rattle.std.specs.Prelude.{slice_get, nat_lt, nat_le}
+use Rattle.std.proofs.lemmas.Bool.{ltb-true, leb-true, true≢false}
+use Rattle.zt_rows.specs.declared.calls.Answer.{Answer}
+use Rattle.zt_rows.specs.declared.calls.Answer.TheVariants as answer
+use Rattle.zt_rows.specs.declared.calls.Call.{Call}
+use Rattle.zt_rows.specs.declared.calls.Reply.{Reply}
+use Rattle.zt_rows.specs.declared.refusals.Refusal.{Refusal}
+use Rattle.zt_rows.specs.declared.refusals.Refusal.TheVariants as refusal
+use Rattle.zt_rows.specs.Consistent.{IsConsistent}
+use Rattle.zt_rows.specs.Opening.{opening}
+use Rattle.zt_rows.specs.Reads.{runs}
+use Rattle.zt_rows.specs.Room.{HasRoom}
+use Rattle.zt_rows.specs.State.{State}
+use Rattle.zt_rows.specs.Step.{IsCall, run}
+use Rattle.zt_history.specs.Refusing.{call_on, branch_on, most_moments, ◌>>=◌, check}
+use Rattle.zt_history.specs.Standing.{AreMoments, AreBranches, IsMade, IsTree}
+use Rattle.zt_history.specs.Tree.{Made, Branch, Tree, last_moment, opening_tree, made_by, head_at, headed, called, branched, branch_named, calls_to, replies_to, state_at}
+use Rattle.zt_history.proofs.PathLaws.{path-step, path-end}
+use Rattle.zt_history.proofs.RunLaws.{run-path, moment-consistent, moment-room}
+use Rattle.zt_history.proofs.RecordLaws.{exchange-back, exchange-forth}
+use Rattle.zt_history.proofs.GrownLaws.{moments-push}
+use Rattle.zt_history.proofs.TreeLaws.{head-within, branches-headed, branches-push}
+use Rattle.zt_history.proofs.KeptLaws.{no_moments, one_branch}
+
+pub ruleset path_laws = (path-step, path-end)
+
+pub tree-run : (t : Tree) (m : ℕ) → IsTree t → m ≤ last_moment t → ◌≡◌ {A = State × List Reply} (run opening (calls_to t.made m)) (state_at t.made m, replies_to t.made m)
+tree-run t m is h = run-path t.made is.moments m h
+
+pub ruleset run_laws = (tree-run)
+
+pub tree-consistent : (t : Tree) (m : ℕ) → IsTree t → m ≤ last_moment t → IsConsistent (state_at t.made m)
+tree-consistent t m is h = moment-consistent t.made is.moments m h
+
+pub tree-room : (t : Tree) (m : ℕ) → IsTree t → m ≤ last_moment t → HasRoom (state_at t.made m)
+tree-room t m is h = moment-room t.made is.moments m h
+
+pub ruleset record_laws = (exchange-back, exchange-forth)
+
+pub tree-opening : IsTree opening_tree
+tree-opening = record { moments = no_moments; branches = one_branch }
+
+-- ---- what a call or a branch makes of a tree
+
+tree-called : (t : Tree) (b p : ℕ) (c : Call) → IsTree t → IsCall c → last_moment t < most_moments → runs (state_at t.made (head_at t.branches b)) p ≡ true → IsTree (called t b p c)
+tree-called t b p c is limits few running =
+    let head : ℕ = head_at t.branches b in
+    let there : head ≤ length t.made = head-within (length t.made) t.branches is.branches.heads b in
+    let e : Made = made_by t.made head p c in
+    let size : length (t.made ++ e ∷ []) ≡ suc (length t.made) = omega (arith, length-append t.made (e ∷ [])) in
+    record {
+      moments = moments-push t.made e is.moments.falls there is.moments few (record { running = running; limits = limits; answered = refl });
+      branches = branches-headed (length t.made) (length (t.made ++ e ∷ [])) (suc (length t.made)) t.branches b (omega (arith, size)) (omega (arith, size)) is.branches;
+    }
+
+-- a check that passed
+passed : {B : Type 0} (test : Bool) (reason : Refusal) (next : Result B Refusal) (x : B) → (check test reason >>= λ _. next) ≡ Ok x → (test ≡ true) × (next ≡ Ok x)
+passed true reason next x h = (refl, h)
+passed false reason next x h = absurd (err_ok h)
+  where
+    err_ok : {B : Type 0} {reason : Refusal} {x : B} → ◌≡◌ {A = Result B Refusal} (Err reason) (Ok x) → ⊥
+    err_ok h = cc
+
+-- the tree that is made, of what a history is asked
+abbrev made_tree : {A : Type 0} → Result (A × Tree) Refusal → Tree
+made_tree (Ok x) = x.1
+made_tree (Err reason) = opening_tree
+
+pub tree-call : (t : Tree) (b p : ℕ) (c : Call) (said : Answer) (u : Tree) → IsTree t → b < length t.branches → IsCall c → call_on t b p c ≡ Ok (said, u) → IsTree u
+tree-call t b p c said u is within limits h =
+    let made : Result (Answer × Tree) Refusal = Ok (answer.Called (suc (last_moment t)) (made_by t.made (head_at t.branches b) p c).reply, called t b p c) in
+    let running : Bool = runs (state_at t.made (head_at t.branches b)) p in
+    let first = passed (nat_lt (last_moment t) most_moments) refusal.Full (check running refusal.NoProcess >>= λ _. made) (said, u) h in
+    let second = passed running refusal.NoProcess made (said, u) first.1 in
+    subst IsTree (ap made_tree second.1) (tree-called t b p c is limits (ltb-true (last_moment t) most_moments first.0) second.0)
+
+none_named : (o : Option ℕ) → not (is_some o) ≡ true → o ≡ None
+none_named None h = refl
+none_named (Some x) h = absurd (true≢false (sym h))
+
+pub tree-branch : (t : Tree) (name : List ℕ) (m number : ℕ) (u : Tree) → IsTree t → branch_on t name m ≡ Ok (number, u) → IsTree u
+tree-branch t name m number u is h =
+    let made : Result (ℕ × Tree) Refusal = Ok (length t.branches, branched t name m) in
+    let free : Bool = not (is_some (branch_named t.branches name)) in
+    let first = passed (nat_le m (last_moment t)) refusal.NoMoment (check free refusal.NameTaken >>= λ _. made) (number, u) h in
+    let second = passed free refusal.NameTaken made (number, u) first.1 in
+    let more : IsTree (branched t name m) = record {
+          moments = is.moments;
+          branches =
+              branches-push (length t.made) t.branches (record { name = name; head = m }) is.branches (none_named (branch_named t.branches name) second.0)
+              (leb-true m (last_moment t) first.0);
+        } in
+    subst IsTree (ap made_tree second.1) more

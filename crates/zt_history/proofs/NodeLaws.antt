@@ -1,0 +1,214 @@
+-- Moments as they are kept: look-ups, depths, a record that changes, one more and one less.
+use Rattle.std.proofs.Common.{◌≡◌, ℕ, zero, suc, ◌+◌, ◌-◌, ◌≤◌, ◌<◌, Bool, true, false, eqb, inl, inr, List, [], ◌∷◌, ◌++◌, length, reverse, set, get_or, Option, Some, None, refl, sym, ◌∙◌, ap, subst, arith, Bor}
+use Rattle.std.specs.Prelude.{slice_get, IfSome}
+use Rattle.std.specs.Option.{option_copied, option_map}
+use Rattle.std.specs.Slice.{IsItemAt}
+use Rattle.std.proofs.lemmas.Bool.{eqb-true, eqb-false}
+use Rattle.std.proofs.lemmas.List.{reverse-append, append_assoc, length-append, length-reverse, length-set, map-append, map-set}
+use Rattle.std.proofs.Math.Seq.{map-set_same}
+use Rattle.std.proofs.lemmas.Option.{slice_get-map, slice_get-get_or, get_or_from_slice_get, slice_get_past, slice_get_within, none-some, same_Some}
+use Rattle.zt_rows.specs.Change.{exchange}
+use Rattle.zt_rows.specs.State.{State}
+use Rattle.zt_rows.proofs.ChangeLaws.{Rows}
+use Rattle.zt_store.specs.Places.{Places, fits}
+use Rattle.zt_store.specs.Recorded.{all_fit}
+use Rattle.zt_store.specs.Seen.{Stored}
+use Rattle.zt_store.proofs.Fitting.{all_fit-at}
+use Rattle.zt_history.specs.declared.moments.Node.{Node}
+use Rattle.zt_history.specs.Tree.{Made, made_at, parent_of, parent_at, path}
+use Rattle.zt_history.specs.Refusing.{most_moments}
+use Rattle.zt_history.specs.Standing.{Falls}
+use Rattle.zt_history.specs.Nodes.{Chronicle, AreNodes, IsTurned, made_as, made_in, records_in}
+use Rattle.zt_history.proofs.ListLaws.{length-mapped, get-within, get-left, get-last, get-set_same, get-set_other, place}
+use Rattle.zt_history.proofs.MoreLaws.{path-more, falls-push, falls-left}
+use Rattle.zt_history.proofs.PathLaws.{path-opening, path-step, length-path, opening-path}
+
+-- ---- looking at one
+
+got : {X : Type 0} (xs : List X) (i : ℕ) (r : Option (Bor X)) → IsItemAt xs i r → option_copied r ≡ slice_get xs i
+got xs i None h = sym (slice_get_past xs i h.3)
+got xs i (Some x) h = ap Some h.1 ∙ sym (slice_get-get_or xs i x.now h.3.0)
+
+abbrev pub seen : List Node → Chronicle
+seen nodes = record { made = made_in nodes; records = records_in nodes }
+
+module _ (nodes xs : List Node) (h : Chronicle) (i m : ℕ) (r : Option (Bor Node)) (at : IsItemAt xs i r) (all : xs ≡ nodes) (is : seen nodes ≡ h) (place : m ≡ suc i) where
+  here : option_copied r ≡ slice_get nodes i
+  here = got xs i r at ∙ ap (λ xs. slice_get xs i) all
+
+  pub node-made : option_map (λ n. made_as n.now) r ≡ made_at h.made m
+  node-made = by r here
+    where
+      end : option_map made_as (slice_get nodes i) ≡ made_at h.made m
+      end = sym (slice_get-map made_as nodes i) ∙ (λ j. made_at (is j).made (sym place j))
+
+      by : (r : Option (Bor Node)) → option_copied r ≡ slice_get nodes i → option_map (λ n. made_as n.now) r ≡ made_at h.made m
+      by None e = ap (option_map made_as) e ∙ end
+      by (Some n) e = ap (option_map made_as) e ∙ end
+
+  pub node-kept : IfSome r (λ n. slice_get h.records (m - 1) ≡ Some n.now.change)
+  node-kept = by r here
+    where
+      end : (n : Node) → Some n ≡ slice_get nodes i → slice_get h.records (m - 1) ≡ Some n.change
+      end n e =
+          let less : m - 1 ≡ i = omega (arith, place) in
+          (λ j. slice_get (sym is j).records (less j)) ∙ slice_get-map (λ n. n.change) nodes i ∙ ap (option_map (λ n. n.change)) (sym e)
+
+      by : (r : Option (Bor Node)) → option_copied r ≡ slice_get nodes i → IfSome r (λ n. slice_get h.records (m - 1) ≡ Some n.now.change)
+      by None e = tt
+      by (Some n) e = end n.now e
+
+  pub node-depth : AreNodes nodes → IfSome r (λ n. n.now.depth ≡ length (path h.made m))
+  node-depth are = by r here
+    where
+      by : (r : Option (Bor Node)) → option_copied r ≡ slice_get nodes i → IfSome r (λ n. n.now.depth ≡ length (path h.made m))
+      by None e = tt
+      by (Some n) e = are.deep i n.now (sym e) ∙ (λ j. length (path (is j).made (sym place j)))
+
+-- where nothing is kept of a moment, it is the opening, whose path is empty
+pub depth-none : (made : List Made) (m : ℕ) → m ≤ length made → made_at made m ≡ None → 0 ≡ length (path made m)
+depth-none made zero h e = sym (ap length (path-opening made))
+depth-none made (suc i) h e =
+    let there = get-within made i (omega (arith, h)) in
+    absurd (none-some there.0 (sym e ∙ there.1))
+
+-- ---- a path from its end
+
+-- so many moments of the path are gathered, the last first, and the rest is the path to this one
+pub record IsGathered (made : List Made) (end at : ℕ) (way : List ℕ) (depth : ℕ) : Type 0 where
+  pub rest : path made end ≡ path made at ++ reverse way
+  pub many : length way ≡ depth
+
+gathered-left : (made : List Made) (end at : ℕ) (way : List ℕ) (depth : ℕ) → IsGathered made end at way depth → length (path made end) ≡ length (path made at) + depth
+gathered-left made end at way depth is = ap length is.rest ∙ omega (arith, length-append (path made at) (reverse way), length-reverse way, is.many)
+
+pub gathered-step : (made : List Made) → Falls made → (end at : ℕ) (way longer : List ℕ) (depth next : ℕ) → IsGathered made end at way depth → depth < length (path made end)
+    → longer ≡ way ++ at ∷ [] → next ≡ parent_at made at → IsGathered made end next longer (depth + 1)
+gathered-step made falls end zero way longer depth next is more pushed up =
+    absurd (omega (arith, gathered-left made end zero way depth is, more, ap length (path-opening made)))
+gathered-step made falls end (suc i) way longer depth next is more pushed up = record {
+  rest =
+      is.rest ∙ ap (λ p. p ++ reverse way) (path-step made falls i)
+      ∙ append_assoc (path made (parent_at made (suc i))) (suc i ∷ []) (reverse way)
+      ∙ (λ j. path made (sym up j) ++ (sym (ap reverse pushed ∙ reverse-append way (suc i ∷ [])) j));
+  many = ap length pushed ∙ omega (arith, length-append way (suc i ∷ []), is.many);
+}
+
+pub gathered-all : (made : List Made) → Falls made → (end at : ℕ) (way : List ℕ) (depth : ℕ) → IsGathered made end at way depth → depth ≡ length (path made end) → reverse way ≡ path made end
+gathered-all made falls end at way depth is whole =
+    let top : at ≡ 0 = opening-path made falls at (omega (arith, gathered-left made end at way depth is, whole)) in
+    sym (is.rest ∙ ap (λ p. p ++ reverse way) (ap (path made) top ∙ path-opening made))
+
+-- ---- nodes that stay, one that changes, and one more
+
+module _ (nodes more : List Node) where
+  made_in-more : made_in (nodes ++ more) ≡ made_in nodes ++ made_in more
+  made_in-more = map-append made_as nodes more
+
+pub length-made_in : (nodes : List Node) → length (made_in nodes) ≡ length nodes
+length-made_in nodes = length-mapped made_as nodes
+
+-- the first nodes of a list of nodes
+pub nodes-left : (nodes more : List Node) → AreNodes (nodes ++ more) → AreNodes nodes
+nodes-left nodes more are = record {
+  few = omega (arith, are.few, length-append nodes more);
+  falls = falls;
+  deep = λ i n at.
+      are.deep i n (get-left nodes more i (slice_get_within nodes i n at) ∙ at)
+      ∙ ap length (ap (λ made. path made (suc i)) (made_in-more nodes more)
+      ∙ path-more (made_in nodes) (made_in more) falls (suc i) (omega (arith, slice_get_within nodes i n at, length-made_in nodes)));
+}
+  where
+    falls : Falls (made_in nodes)
+    falls = falls-left (made_in nodes) (made_in more) (subst Falls (made_in-more nodes more) are.falls)
+
+-- a node whose record alone changes
+pub nodes-set : (nodes : List Node) (i : ℕ) (n d : Node) → i < length nodes → d ≡ get_or nodes i d → made_as n ≡ made_as d → n.depth ≡ d.depth → AreNodes nodes → AreNodes (set nodes i n)
+nodes-set nodes i n d within is same deep are = record {
+  few = omega (arith, are.few, length-set nodes i n);
+  falls = subst Falls (sym all) are.falls;
+  deep = λ j k at. each j k at (eqb j i) refl;
+}
+  where
+    all : made_in (set nodes i n) ≡ made_in nodes
+    all = map-set_same made_as nodes i n d (same ∙ ap made_as is)
+
+    each : (j : ℕ) (k : Node) → slice_get (set nodes i n) j ≡ Some k → (b : Bool) → eqb j i ≡ b → k.depth ≡ length (path (made_in (set nodes i n)) (suc j))
+    each j k at true e =
+        let at_i : j ≡ i = eqb-true j i e in
+        let k_is : n ≡ k = same_Some n k (sym (get-set_same nodes i n within) ∙ ap (slice_get (set nodes i n)) (sym at_i) ∙ at) in
+        let there : slice_get nodes j ≡ Some d = ap (slice_get nodes) at_i ∙ slice_get-get_or nodes i d within ∙ ap Some (sym is) in
+        ap (λ (k : Node). k.depth) (sym k_is) ∙ deep ∙ are.deep j d there ∙ ap (λ made. length (path made (suc j))) (sym all)
+    each j k at false e =
+        are.deep j k (sym (get-set_other nodes i j n (eqb-false j i e)) ∙ at) ∙ ap (λ made. length (path made (suc j))) (sym all)
+
+-- one more node, one deeper than its parent
+pub nodes-push : (nodes : List Node) (n : Node) → n.parent ≤ length nodes → n.depth ≡ length (path (made_in nodes) n.parent) + 1 → length nodes < most_moments → AreNodes nodes → AreNodes (nodes ++ n ∷ [])
+nodes-push nodes n there deep few are = record {
+  few = omega (arith, few, length-append nodes (n ∷ []));
+  falls = falls;
+  deep = λ i k at. elim (place nodes n i) [
+    | inl l ↦
+        are.deep i k (sym (get-left nodes (n ∷ []) i l) ∙ at)
+        ∙ ap length (sym (path-more (made_in nodes) (made_as n ∷ []) are.falls (suc i) (omega (arith, l, length-made_in nodes))) ∙ ap (λ made. path made (suc i)) (sym all))
+    | inr r ↦ elim r [
+      | inl end ↦
+          ap (λ (k : Node). k.depth) (sym (same_Some n k (sym (get-last nodes n i end) ∙ at)))
+          ∙ deep_end
+          ∙ ap (λ i. length (path (made_in (nodes ++ n ∷ [])) (suc i))) (sym end)
+      | inr past ↦ absurd (none-some k (sym (slice_get_past (nodes ++ n ∷ []) i past) ∙ at))
+    ]
+  ];
+}
+  where
+    all : made_in (nodes ++ n ∷ []) ≡ made_in nodes ++ made_as n ∷ []
+    all = made_in-more nodes (n ∷ [])
+
+    falls : Falls (made_in (nodes ++ n ∷ []))
+    falls = subst Falls (sym all) (falls-push (made_in nodes) (made_as n) are.falls (omega (arith, there, length-made_in nodes)))
+
+    deep_end : n.depth ≡ length (path (made_in (nodes ++ n ∷ [])) (suc (length nodes)))
+    deep_end =
+        let longer : List Made = made_in nodes ++ made_as n ∷ [] in
+        let still : Falls longer = subst Falls all falls in
+        let parent : parent_at longer (suc (length nodes)) ≡ n.parent = ap parent_of (get-last (made_in nodes) (made_as n) (length nodes) (sym (length-made_in nodes))) in
+        let above : path longer (parent_at longer (suc (length nodes))) ≡ path (made_in nodes) n.parent =
+        ap (path longer) parent ∙ path-more (made_in nodes) (made_as n ∷ []) are.falls n.parent (omega (arith, there, length-made_in nodes)) in
+        deep
+        ∙ omega (arith, length-path longer still (length nodes), ap length above)
+        ∙ ap (λ made. length (path made (suc (length nodes)))) (sym all)
+
+-- ---- a record that changes
+
+pub record_fits : (p : Places) (nodes : List Node) (i : ℕ) (n : Node) → i < length nodes → n ≡ get_or nodes i n → all_fit p (records_in nodes) ≡ true → fits p n.change ≡ true
+record_fits p nodes i n within is fit =
+    let at : get_or (records_in nodes) i n.change ≡ n.change =
+    get_or_from_slice_get (records_in nodes) i n.change n.change (slice_get-map (λ n. n.change) nodes i ∙ ap (option_map (λ n. n.change)) (slice_get-get_or nodes i n within ∙ ap Some (sym is))) in
+    ap (fits p) (sym at) ∙ all_fit-at p (records_in nodes) i n.change (omega (arith, within, length-mapped (λ (n : Node). n.change) nodes)) fit
+
+-- the record of the i-th node exchanged its rows with the store's
+pub turned_at : (nodes : List Node) (n m : Node) (old new : Chronicle) (before after : Stored) (i j : ℕ) → i < length nodes → n ≡ get_or nodes i n → made_as m ≡ made_as n
+    → seen nodes ≡ old → seen (set nodes i m) ≡ new → i ≡ j
+    → ◌≡◌ {A = State × Rows} (after.state, m.change) (exchange before.state n.change) → after.places ≡ before.places → fits after.places m.change ≡ true
+    → IsTurned old new before after j
+turned_at nodes n m old new before after i j within is same was goes number done places fit = record {
+  made = ap (λ (h : Chronicle). h.made) (sym goes) ∙ map-set_same made_as nodes i m n (same ∙ ap made_as is) ∙ ap (λ (h : Chronicle). h.made) was;
+  was = n.change;
+  kept = m.change;
+  at =
+      (λ k. slice_get (sym was k).records (sym number k))
+      ∙ slice_get-map (λ n. n.change) nodes i
+      ∙ ap (option_map (λ n. n.change)) (slice_get-get_or nodes i n within ∙ ap Some (sym is));
+  exchanged = done;
+  records = ap (λ (h : Chronicle). h.records) (sym goes) ∙ map-set (λ (n : Node). n.change) nodes i m ∙ (λ k. set (was k).records (number k) m.change);
+  places = places;
+  fit = fit;
+}
+
+pub nodes-pushed : (nodes middle new : List Node) (n : Node) (h : Chronicle) → new ≡ middle ++ n ∷ [] → middle ≡ nodes → seen nodes ≡ h
+    → n.parent ≤ length h.made → n.depth ≡ length (path h.made n.parent) + 1 → length h.made < most_moments → AreNodes nodes → AreNodes new
+nodes-pushed nodes middle new n h pushed kept is there deep few are =
+    let made : made_in nodes ≡ h.made = ap (λ (h : Chronicle). h.made) is in
+    let many : length (made_in nodes) ≡ length h.made = ap length made in
+    subst AreNodes (sym (pushed ∙ ap (λ xs. xs ++ n ∷ []) kept))
+    (nodes-push nodes n (omega (arith, there, many, length-made_in nodes)) (deep ∙ ap (λ made. length (path made n.parent) + 1) (sym made)) (omega (arith, few, many, length-made_in nodes)) are)

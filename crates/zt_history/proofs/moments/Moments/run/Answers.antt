@@ -1,0 +1,14 @@
+-- The depth is one more than the parent's; the new node is a node.
+use Rattle.std.proofs.Common.{◌+◌, ap, arith}
+use Rattle.zt_history.proofs.PathLaws.{short-path}
+use Rattle.zt_history.proofs.NodeLaws.{nodes-pushed}
+use Rattle.zt_history.proofs.moments.Moments.run.Goals as goal
+
+pub overflow_add-depth : goal.overflow_add-depth
+overflow_add-depth c =
+    omega (arith, c.depth-depth.ensures, c.requires.few, c.requires.there, c.limits.ensures.falls, short-path c.args.self.now.made c.limits.ensures.falls c.args.at)
+
+pub invariant_of-self-2 : goal.invariant_of-self-2
+invariant_of-self-2 c =
+    nodes-pushed c.self.inside.nodes.items c.reserve.new.self.items c.push_reserved.new.self.items _ c.args.self.now c.push_reserved.ensures.items c.reserve.ensures.items c.self.view_is
+    c.requires.there (ap (λ n. n + 1) c.depth-depth.ensures) c.requires.few c.self.invariant

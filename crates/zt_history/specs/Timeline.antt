@@ -1,0 +1,54 @@
+-- How a history is seen: its tree, the moment at which its store stands, and where it stands again once its last change
+-- is taken back. The state of the store is no part of it, since it is that of the moment.
+use Rattle.std.specs.Prelude.{◌≡◌, ◌⊎◌, ℕ, suc, ◌≤◌, List, length, Option, None, Some}
+use Rattle.zt_rows.specs.declared.calls.Call.{Call}
+use Rattle.zt_history.specs.Tree.{Made, Tree, last_moment, opening_tree, path, head_at, called, branched}
+
+-- a tree, and one of its moments
+pub record Point : Type 0 where
+  pub tree : Tree
+  pub position : ℕ
+
+-- `before` is there where the last change was a call or a branch that was answered, and nothing was asked since
+pub record Timeline : Type 0 where
+  pub tree : Tree
+  pub position : ℕ
+  pub before : Option Point
+
+-- the history at the opening
+abbrev pub at_opening : Timeline
+at_opening = record { tree = opening_tree; position = 0; before = None }
+
+-- the same tree, at this moment, with nothing to take back
+abbrev pub moved_to : Timeline → ℕ → Timeline
+moved_to h m = record { tree = h.tree; position = m; before = None }
+
+-- the same tree at the same moment, with nothing to take back
+abbrev pub unmoved : Timeline → Timeline
+unmoved h = moved_to h h.position
+
+-- where it stands
+abbrev pub point_of : Timeline → Point
+point_of h = record { tree = h.tree; position = h.position }
+
+-- where it stands again once a call on this branch is taken back
+abbrev pub at_head : Timeline → ℕ → Point
+at_head h b = record { tree = h.tree; position = head_at h.tree.branches b }
+
+-- a call at the head of this branch, and where it stands again once that is taken back
+abbrev pub after_call : Timeline → ℕ → ℕ → Call → Timeline
+after_call h b process call = record { tree = called h.tree b process call; position = suc (last_moment h.tree); before = Some (at_head h b) }
+
+-- a branch at this moment, and where it stands again once that is taken back
+abbrev pub after_branch : Timeline → List ℕ → ℕ → Timeline
+after_branch h name m = record { tree = branched h.tree name m; position = h.position; before = Some (point_of h) }
+
+-- nothing is changed but, if anything, the position, which may be the head of this branch now
+abbrev pub IsAtMost : Timeline → Timeline → ℕ → Type 0
+IsAtMost old new b = (new ≡ unmoved old) ⊎ (new ≡ moved_to old (head_at old.tree.branches b))
+
+-- a list of moments is the path to one of them
+pub record IsPath (made : List Made) (way : List ℕ) : Type 0 where
+  pub moment : ℕ
+  pub there : moment ≤ length made
+  pub is : way ≡ path made moment

@@ -1,0 +1,226 @@
+ghost use Rattle.std.specs.Prelude.{◌≡◌, ◌<◌, ◌≤◌, ◌+◌, ◌-◌, ◌++◌, ◌∷◌, [], true, IfOk, OnOk, OnErr, IfSome, length, slice_get};
+ghost use Rattle.std.specs.Option.{option_copied, option_map};
+ghost use Rattle.zt_rows.specs.Change.{before};
+ghost use Rattle.zt_rows.specs.Consistent.{IsConsistent};
+ghost use Rattle.zt_rows.specs.Reads.{runs};
+ghost use Rattle.zt_rows.specs.Room.{HasRoom};
+ghost use Rattle.zt_rows.specs.Step.{step};
+ghost use Rattle.zt_store.specs.Places.{Keeps, fits};
+ghost use Rattle.zt_store.specs.Recorded.{all_fit};
+ghost use Rattle.zt_history.specs.Branches.{without_last};
+ghost use Rattle.zt_history.specs.Nodes.{IsTurned, made_as, run_at};
+ghost use Rattle.zt_history.specs.Standing.{Falls};
+ghost use Rattle.zt_history.specs.Tree.{made_at, parent_at, path};
+
+use std::alloc::{AllocError, Global};
+use std::marker::Model;
+use zt_calls::apply;
+use zt_rows::{Call, Koid, Moment, Reply};
+use zt_store::{Record, Store, swap};
+
+/// How a moment was made, how long its path is, and the record by which a store goes over it.
+#[derive(Drop)]
+pub(crate) struct Node {
+    pub(crate) parent: Moment,
+    pub(crate) depth: u32,
+    pub(crate) process: Koid,
+    pub(crate) call: Call,
+    pub(crate) reply: Reply,
+    pub(crate) change: Record,
+}
+
+/// The moments after the opening in the order in which they were made.
+#[derive(Drop)]
+pub(crate) struct Moments {
+    nodes: Vec<Node>,
+}
+
+impl Model for Moments {
+    ghost use Rattle.zt_history.specs.Nodes.{AreNodes, Chronicle, made_in, records_in};
+
+    ghost Value = { Chronicle };
+
+    ghost view = { λ m. record { made = made_in m.nodes.items; records = records_in m.nodes.items } };
+
+    ghost invariant = { λ m. AreNodes m.nodes.items };
+}
+
+impl Moments {
+    /// No moment but the opening.
+    pub(crate) fn new(alloc: Global) -> Moments
+        ensures { result ≡ record { made = []; records = [] } }
+    {
+        Moments {
+            nodes: Vec::new(alloc),
+        }
+    }
+
+    /// The last moment.
+    pub(crate) fn last(&self) -> Moment
+        ensures last { result ≡ length self.now.made }
+        ensures few { result ≤ 1048576 }
+    {
+        Moment(self.nodes.len() as u32)
+    }
+
+    /// What holds of every list of moments.
+    pub(crate) fn limits(&self)
+        ensures falls { Falls self.now.made }
+        ensures few { length self.now.made ≤ 1048576 }
+    {
+        let _nodes = &self.nodes;
+    }
+
+    /// What is kept of a moment; nothing of the opening, nor beyond the last.
+    pub(crate) fn node(&self, moment: Moment) -> Option<&Node>
+        ensures made { option_map (λ n. made_as n.now) result ≡ made_at self.now.made moment }
+        ensures kept { IfSome result (λ n. slice_get self.now.records (moment - 1) ≡ Some n.now.change) }
+        ensures depth { IfSome result (λ n. n.now.depth ≡ length (path self.now.made moment)) }
+    {
+        if moment.0 == 0 {
+            return None;
+        }
+        self.nodes.get((moment.0 - 1) as usize)
+    }
+
+    /// The parent of a moment; the opening's is itself.
+    pub(crate) fn parent(&self, moment: Moment) -> Moment
+        ensures { result ≡ parent_at self.now.made moment }
+    {
+        match self.node(moment) {
+            Some(node) => node.parent,
+            None => Moment(0),
+        }
+    }
+
+    /// How many moments there are on the path to a moment.
+    pub(crate) fn depth(&self, moment: Moment) -> u32
+        requires { moment ≤ length self.now.made }
+        ensures { result ≡ length (path self.now.made moment) }
+    {
+        match self.node(moment) {
+            Some(node) => node.depth,
+            None => 0,
+        }
+    }
+
+    /// The moments after the opening up to a moment.
+    pub(crate) fn path(&self, moment: Moment) -> Result<Vec<Moment>, AllocError>
+        requires { moment ≤ length self.now.made }
+        ensures { IfOk result (λ way. way.items ≡ path self.now.made moment) }
+    {
+        self.limits();
+        let depth = self.depth(moment) as usize;
+        let mut way = Vec::with_capacity(*self.nodes.allocator(), depth)?;
+        let mut at = moment;
+        for _ in 0..depth {
+            way.push_reserved(at);
+            at = self.parent(at);
+        }
+        way.as_mut_slice().reverse();
+        Ok(way)
+    }
+
+    /// Exchanges the rows of a moment's record with the store's. It takes no memory.
+    pub(crate) fn turn(&mut self, store: &mut Store, moment: Moment)
+        requires some { 0 < moment }
+        requires there { moment ≤ length self.old.made }
+        requires fit { all_fit store.old.places self.old.records ≡ true }
+        ensures { IsTurned self.old self.new store.old store.new (moment - 1) }
+    {
+        let node = &mut self.nodes[(moment.0 - 1) as usize];
+        swap(store, &mut node.change);
+    }
+
+    /// Runs a call of a process at a moment, where the store stands, and keeps what it made. Where memory is refused,
+    /// the store's rows and the moments are as before.
+    pub(crate) fn run(
+        &mut self,
+        store: &mut Store,
+        at: Moment,
+        process: Koid,
+        call: &Call,
+    ) -> Result<Reply, AllocError>
+        requires few { length self.old.made < 1048576 }
+        requires there { at ≤ length self.old.made }
+        requires running { runs store.old.state process ≡ true }
+        requires room { HasRoom store.old.state }
+        requires consistent { IsConsistent store.old.state }
+        ensures ok { IfOk result (λ reply. (store.new.state, reply) ≡ step store.old.state process call.now) }
+        ensures made { OnOk result (self.new.made ≡ self.old.made ++ run_at at store.old.state process call.now ∷ []) }
+        ensures recorded { OnOk result (self.new.records ≡ self.old.records ++ before store.old.state store.new.state ∷ []) }
+        ensures fits { OnOk result (fits store.new.places (before store.old.state store.new.state) ≡ true) }
+        ensures err { OnErr result (store.new.state ≡ store.old.state) }
+        ensures err_moments { OnErr result (self.new ≡ self.old) }
+        ensures kept { Keeps store.old.places store.new.places }
+    {
+        self.limits();
+        let depth = self.depth(at) + 1;
+        self.nodes.reserve(1)?;
+        let alloc = *self.nodes.allocator();
+        let run = carried_out(alloc, store, process, call)?;
+        self.nodes.push_reserved(Node {
+            parent: at,
+            depth,
+            process,
+            call: run.call,
+            reply: run.reply,
+            change: run.change,
+        });
+        Ok(run.answer)
+    }
+
+    /// Drops the last moment. It takes no memory.
+    pub(crate) fn drop_last(&mut self)
+        requires { 0 < length self.old.made }
+        ensures made { self.new.made ≡ without_last self.old.made }
+        ensures records { self.new.records ≡ without_last self.old.records }
+    {
+        self.nodes.pop();
+    }
+}
+
+/// A call that was run: its copy, its reply twice, and its record.
+#[derive(Drop)]
+struct Run {
+    call: Call,
+    reply: Reply,
+    answer: Reply,
+    change: Record,
+}
+
+/// Runs a call of a process. Where memory is refused, also for a copy of the reply, the store's rows are as before.
+fn carried_out(
+    alloc: Global,
+    store: &mut Store,
+    process: Koid,
+    call: &Call,
+) -> Result<Run, AllocError>
+    requires running { runs store.old.state process ≡ true }
+    requires room { HasRoom store.old.state }
+    requires consistent { IsConsistent store.old.state }
+    ensures call { IfOk result (λ run. run.call ≡ call.now) }
+    ensures ok { IfOk result (λ run. (store.new.state, run.reply) ≡ step store.old.state process call.now) }
+    ensures answer { IfOk result (λ run. run.answer ≡ run.reply) }
+    ensures recorded { IfOk result (λ run. run.change ≡ before store.old.state store.new.state) }
+    ensures fits { IfOk result (λ run. fits store.new.places run.change ≡ true) }
+    ensures err { OnErr result (store.new.state ≡ store.old.state) }
+    ensures kept { Keeps store.old.places store.new.places }
+{
+    let copied = call.copy()?;
+    let Ok((reply, mut change)) = apply(alloc, store, process, call) else {
+        return Err(AllocError);
+    };
+    match reply.copy() {
+        Ok(answer) => Ok(Run {
+            call: copied,
+            reply,
+            answer,
+            change,
+        }),
+        Err(e) => {
+            swap(store, &mut change);
+            Err(e)
+        }
+    }
+}
