@@ -4,3 +4,5 @@ pub mod CallsFollow
 pub mod LeakLaws
 pub mod OnceLaws
 pub mod WorkedLeaks
+pub mod KeyLaws
+pub mod CopyLaws

@@ -1,3 +1,4 @@
 pub mod Reach
 pub mod Leaks
 pub mod Happenings
+pub mod Copies
