@@ -6,3 +6,4 @@ pub mod OnceLaws
 pub mod WorkedLeaks
 pub mod KeyLaws
 pub mod CopyLaws
+pub mod HoldLaws

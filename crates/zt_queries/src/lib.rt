@@ -4,6 +4,8 @@
 mod frozen;
 pub mod laws;
 mod looks;
+mod supports;
 
 pub use frozen::Frozen;
 pub use looks::rows;
+pub use supports::holders;
