@@ -1,22 +1,19 @@
--- Supports row by row, and handle by handle.
-use Rattle.std.proofs.Common.{◌≡◌, ℕ, zero, suc, ◌<◌, ◌≤◌, ◌+◌, ◌-◌, true, false, ◌==◌, Bool, List, [], ◌∷◌, ◌++◌, map, length, take, drop, get_or, Option, Some, None, if◌then◌else◌, refl, sym, ◌∙◌, ap, arith, append_assoc, append-nil, length-append}
+-- Supports row by row, over the keys in their order.
+use Rattle.std.proofs.Common.{◌≡◌, ℕ, zero, suc, ◌<◌, ◌≤◌, ◌-◌, List, [], ◌∷◌, ◌++◌, map, length, take, Option, Some, None, refl, sym, ◌∙◌, ap, arith, length-append}
 use Rattle.std.specs.List.{slice_get, filter_map, flat_map, cons_option}
 use Rattle.std.specs.Option.{option_map}
-use Rattle.std.proofs.lemmas.List.{drop_more}
 use Rattle.std.proofs.lemmas.Option.{slice_get-map, slice_get_within}
 use Rattle.zt_rows.specs.declared.keys.RowKey.{RowKey}
-use Rattle.zt_rows.specs.declared.rows.Held.{Held}
 use Rattle.zt_rows.specs.declared.rows.ObjectRow.{ObjectRow}
 use Rattle.zt_rows.specs.declared.rows.Row.{Row}
 use Rattle.zt_rows.specs.declared.supports.Support.{Support}
-use Rattle.zt_rows.specs.declared.supports.Support.TheVariants as support
 use Rattle.zt_rows.specs.Change.{keys}
 use Rattle.zt_rows.specs.Reads.{object}
 use Rattle.zt_rows.specs.State.{State, row}
-use Rattle.zt_rows.specs.Support.{entry_support, child_support, message_supports, places, children, itself, supports}
+use Rattle.zt_rows.specs.Support.{entry_support, child_support, message_supports, children, itself, supports}
 use Rattle.zt_queries.specs.declared.supports.Part.{Part}
 use Rattle.zt_queries.specs.declared.supports.Part.TheVariants as part
-use Rattle.zt_queries.specs.Holding.{supports_by, supports_at, supports_in}
+use Rattle.zt_queries.specs.Holding.{supports_at, supports_in}
 use Rattle.zt_queries.proofs.KeyLaws.{row-at}
 
 -- ---- the rows under the keys are the rows
