@@ -4,3 +4,6 @@ pub mod CallsFollow
 pub mod LeakLaws
 pub mod OnceLaws
 pub mod WorkedLeaks
+pub mod KeyLaws
+pub mod CopyLaws
+pub mod HoldLaws
