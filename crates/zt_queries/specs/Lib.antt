@@ -1,5 +1,6 @@
 pub mod Reach
 pub mod Leaks
 pub mod Happenings
+pub mod Times
 pub mod Copies
 pub mod Holding

@@ -6,9 +6,10 @@ use crate::items::Items;
 use crate::keys::RowKey;
 use crate::numbers::{HandleValue, Koid, Moment};
 use crate::rows::{MESSAGE_BYTES, MESSAGE_HANDLES, Packet, Row};
+use crate::supports::Support;
 use std::alloc::AllocError;
 use std::marker::Model;
-use zt_bits::{Signals, Status};
+use zt_bits::{Kind, Signals, Status};
 
 /// What a call wants to send: bytes and the values of the caller's handles, within the limits of a message.
 #[derive(Debug, Drop)]
@@ -258,15 +259,84 @@ impl Reply {
     }
 }
 
+/// Something that happens to an object in one call, whose moment can be asked for.
+#[derive(Clone, Copy, Debug)]
+pub enum Happening {
+    /// It did not exist before, and does then.
+    Made,
+    /// It existed and had not ended before, and then it has ended or is gone.
+    Ended,
+    /// No signal said before that its peer is closed, and then one does.
+    PeerClosed,
+    /// It was not leaked before, and is then.
+    Leaked,
+}
+
+/// A moment with the call that made it.
+#[derive(Debug, Drop)]
+pub struct Event {
+    pub moment: Moment,
+    pub process: Koid,
+    pub call: Call,
+}
+
+impl Event {
+    /// An equal event in memory of its own.
+    pub fn copy(&self) -> Result<Event, AllocError>
+        ensures { IfOk result (λ copied. copied ≡ self.now) }
+    {
+        let call = self.call.copy()?;
+        Ok(Event {
+            moment: self.moment,
+            process: self.process,
+            call,
+        })
+    }
+}
+
 /// What a client asks of the debugger.
 #[derive(Debug, Drop)]
 pub enum Command {
     /// A call of a process, at the head of the branch that the client follows.
     Call(Koid, Call),
-    /// To the ancestor so many moments above the position.
+    /// To the moment, away from any branch.
+    Goto(Moment),
+    /// To the ancestor so many moments above the position, away from any branch.
     Back(u32),
+    /// A new branch of this name at the position, which the client follows from then on.
+    Branch(Items<u8>),
+    /// The client follows the branch of this name.
+    Follow(Items<u8>),
     /// The rows of the state at the position.
     Show,
+    /// What keeps the object at the position.
+    Holders(Koid),
+    /// The leaked objects at the position.
+    Leaks,
+    /// The moment on the path to the position at which it happened to the object, with its call.
+    When(Happening, Koid),
+    /// A copy of the state at the position, which `pinned` lines ask.
+    Pin,
+}
+
+impl Command {
+    /// An equal command in memory of its own.
+    pub fn copy(&self) -> Result<Command, AllocError>
+        ensures { IfOk result (λ copied. copied ≡ self.now) }
+    {
+        Ok(match self {
+            Command::Call(process, call) => Command::Call(*process, call.copy()?),
+            Command::Goto(moment) => Command::Goto(*moment),
+            Command::Back(count) => Command::Back(*count),
+            Command::Branch(name) => Command::Branch(name.copy()?),
+            Command::Follow(name) => Command::Follow(name.copy()?),
+            Command::Show => Command::Show,
+            Command::Holders(koid) => Command::Holders(*koid),
+            Command::Leaks => Command::Leaks,
+            Command::When(what, koid) => Command::When(*what, *koid),
+            Command::Pin => Command::Pin,
+        })
+    }
 }
 
 /// What the debugger answers to a command that it did not refuse.
@@ -276,6 +346,49 @@ pub enum Answer {
     Called(Moment, Reply),
     /// The moment of the new position.
     At(Moment),
+    /// The new branch, and its head.
+    Branched(Items<u8>, Moment),
+    /// The branch that is followed from now on, and its head.
+    Followed(Items<u8>, Moment),
     /// The moment of the position, and its rows in the order of their keys.
     Rows(Moment, Items<(RowKey, Row)>),
+    /// The object and what keeps it: entries, handles in messages, live children, itself.
+    Holders(Koid, Items<Support>),
+    /// The moment of the position, and its leaked objects by rising koid, with their kinds.
+    Leaks(Moment, Items<(Koid, Kind)>),
+    /// The moment at which it happened, or that it never did.
+    When(Option<Event>),
+    /// The moment that is pinned from now on.
+    Pinned(Moment),
+}
+
+impl Answer {
+    /// An equal answer in memory of its own.
+    pub fn copy(&self) -> Result<Answer, AllocError>
+        ensures { IfOk result (λ copied. copied ≡ self.now) }
+    {
+        Ok(match self {
+            Answer::Called(moment, reply) => Answer::Called(*moment, reply.copy()?),
+            Answer::At(moment) => Answer::At(*moment),
+            Answer::Branched(name, moment) => Answer::Branched(name.copy()?, *moment),
+            Answer::Followed(name, moment) => Answer::Followed(name.copy()?, *moment),
+            Answer::Rows(moment, rows) => Answer::Rows(*moment, copied_rows(rows)?),
+            Answer::Holders(koid, held) => Answer::Holders(*koid, held.copy()?),
+            Answer::Leaks(moment, leaked) => Answer::Leaks(*moment, leaked.copy()?),
+            Answer::When(None) => Answer::When(None),
+            Answer::When(Some(event)) => Answer::When(Some(event.copy()?)),
+            Answer::Pinned(moment) => Answer::Pinned(*moment),
+        })
+    }
+}
+
+/// Equal rows under their keys, in memory of their own.
+fn copied_rows(rows: &Items<(RowKey, Row)>) -> Result<Items<(RowKey, Row)>, AllocError>
+    ensures { IfOk result (λ copied. copied ≡ rows.now) }
+{
+    let mut copied = Vec::with_capacity(rows.allocator(), rows.len())?;
+    for (key, row) in rows.as_slice() {
+        copied.push((*key, row.copy()?))?;
+    }
+    Ok(Items::new(copied))
 }

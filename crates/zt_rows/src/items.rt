@@ -1,6 +1,6 @@
 ghost use Rattle.std.specs.Prelude.{◌≡◌, IfOk, length};
 
-use std::alloc::AllocError;
+use std::alloc::{AllocError, Global};
 use std::marker::Model;
 
 /// A list in a row, a call or a reply. It is made of a `Vec` and gives it back without taking memory.
@@ -38,6 +38,11 @@ impl<T> Items<T> {
         ensures { result.now ≡ self.now }
     {
         self.items.as_slice()
+    }
+
+    /// The allocator that gave the list its memory.
+    pub fn allocator(&self) -> Global {
+        *self.items.allocator()
     }
 
     /// How many elements there are.
