@@ -1,7 +1,8 @@
 -- The lines of rows, of answers and of refusals.
-use Rattle.std.specs.Prelude.{ℕ, List, [], ◌∷◌, ◌++◌, length, codes}
+use Rattle.std.specs.Prelude.{ℕ, List, [], ◌∷◌, ◌++◌, length, Option, None, Some, codes}
 use Rattle.std.specs.List.{flat_map}
 use Rattle.std.specs.Fmt.{decimal, signed_decimal}
+use Rattle.zt_bits.specs.declared.kinds.Kind.{Kind}
 use Rattle.zt_bits.specs.Words.{kind_word, status_word}
 use Rattle.zt_rows.specs.declared.keys.RowKey.{RowKey}
 use Rattle.zt_rows.specs.declared.keys.RowKey.TheVariants as key
@@ -15,12 +16,16 @@ use Rattle.zt_rows.specs.declared.rows.Packet.TheVariants as packet
 use Rattle.zt_rows.specs.declared.rows.Wait.{Wait}
 use Rattle.zt_rows.specs.declared.calls.Reply.{Reply}
 use Rattle.zt_rows.specs.declared.calls.Reply.TheVariants as reply
+use Rattle.zt_rows.specs.declared.calls.Event.{Event}
 use Rattle.zt_rows.specs.declared.calls.Answer.{Answer}
 use Rattle.zt_rows.specs.declared.calls.Answer.TheVariants as answer
+use Rattle.zt_rows.specs.declared.supports.Support.{Support}
+use Rattle.zt_rows.specs.declared.supports.Support.TheVariants as support
 use Rattle.zt_rows.specs.declared.refusals.Refusal.{Refusal}
 use Rattle.zt_rows.specs.declared.refusals.Refusal.TheVariants as refusal
 use Rattle.zt_rows.specs.Refusals.{refusal_number, refusal_name}
 use Rattle.zt_text.specs.Shown.{words, shown_mask, shown_bytes, shown_list, shown_held}
+use Rattle.zt_text.specs.Calls.{shown_call}
 
 -- a packet as the reader of its port gets it
 unfoldable pub shown_packet : Packet → List ℕ
@@ -83,12 +88,48 @@ as_line text = text ++ (10 ∷ [])
 abbrev pub row_line : RowKey × Row → List ℕ
 row_line row = as_line (words (shown_key row.0 ∷ shown_row row.1 ∷ []))
 
+-- what keeps an object
+unfoldable pub shown_support : Support → List ℕ
+shown_support (support.Entry process handle) = words (codes "entry" ∷ decimal process ∷ decimal handle ∷ [])
+shown_support (support.Message endpoint number index) =
+    words (codes "message" ∷ decimal endpoint ∷ decimal number ∷ decimal index ∷ [])
+shown_support (support.Child koid) = words (codes "child" ∷ decimal koid ∷ [])
+shown_support support.Itself = codes "self"
+
+abbrev pub support_line : Support → List ℕ
+support_line kept = as_line (shown_support kept)
+
+-- a leaked object
+abbrev pub leak_line : ℕ × Kind → List ℕ
+leak_line leaked = as_line (words (decimal leaked.0 ∷ kind_word leaked.1 ∷ []))
+
+-- a moment with the call that made it
+abbrev pub shown_event : Option Event → List ℕ
+shown_event None = codes "never"
+shown_event (Some event) = words (decimal event.moment ∷ shown_call event.process event.call ∷ [])
+
+-- a word with a moment, and one with a name and a moment
+abbrev pub moment_line : List ℕ → ℕ → List ℕ
+moment_line word moment = as_line (words (word ∷ decimal moment ∷ []))
+
+abbrev pub name_line : List ℕ → List ℕ → ℕ → List ℕ
+name_line word name moment = as_line (words (word ∷ name ∷ decimal moment ∷ []))
+
+-- a word with a number, in front of so many lines
+abbrev pub heading : List ℕ → ℕ → ℕ → List ℕ
+heading word number lines = as_line (words (word ∷ decimal number ∷ decimal lines ∷ []))
+
 -- the lines of an answer
 unfoldable pub shown_answer : Answer → List ℕ
 shown_answer (answer.Called moment made) = as_line (words (decimal moment ∷ shown_reply made ∷ []))
-shown_answer (answer.At moment) = as_line (words (codes "at" ∷ decimal moment ∷ []))
-shown_answer (answer.Rows moment listed) =
-    as_line (words (codes "rows" ∷ decimal moment ∷ decimal (length listed) ∷ [])) ++ flat_map row_line listed
+shown_answer (answer.At moment) = moment_line (codes "at") moment
+shown_answer (answer.Branched name moment) = name_line (codes "branch") name moment
+shown_answer (answer.Followed name moment) = name_line (codes "follow") name moment
+shown_answer (answer.Rows moment listed) = heading (codes "rows") moment (length listed) ++ flat_map row_line listed
+shown_answer (answer.Holders koid kept) = heading (codes "holders") koid (length kept) ++ flat_map support_line kept
+shown_answer (answer.Leaks moment leaked) = heading (codes "leaks") moment (length leaked) ++ flat_map leak_line leaked
+shown_answer (answer.When event) = as_line (shown_event event)
+shown_answer (answer.Pinned moment) = moment_line (codes "pinned") moment
 
 -- the column behind the name of a line's fault
 abbrev pub shown_column : Refusal → List ℕ

@@ -34,7 +34,7 @@ abbrev pub unread : List ℕ → Unread
 unread line = record { fields = placed 1 (fields_of line); behind = length line + 1 }
 
 infixl 10 ◌>>=◌
-abbrev pub ◌>>=◌ : {A B : Type 0} → Result A Refusal → (A → Result B Refusal) → Result B Refusal
+abbrev pub ◌>>=◌ : {A B E : Type 0} → Result A E → (A → Result B E) → Result B E
 (Ok x) >>= f = f x
 (Err e) >>= f = Err e
 

@@ -3,8 +3,11 @@ pub mod Fields
 pub mod Cut
 pub mod Bytes
 pub mod Lists
+pub mod Names
+pub mod ReadingCalls
 pub mod Reading
 pub mod Shown
-pub mod Answers
 pub mod Calls
+pub mod Answers
 pub mod Lines
+pub mod Session

@@ -31,9 +31,13 @@ is_mask field = length field == 10 && starts_with nat_eq field (codes "0x") && l
 unfoldable pub mask_of : List ℕ → Option ℕ
 mask_of field = if is_mask field then Some (digits_value 16 (drop 2 field)) else None
 
--- the numbers of processes, the keys of packets, the numbers of handles, of bytes or handles to be read, and of steps back
+-- the numbers of processes and of all objects, the keys of packets, the numbers of handles, of bytes or handles to be
+-- read, of moments, and of steps back
 abbrev pub process_of : List ℕ → Option ℕ
 process_of = decimal_of (2 ^ 64 - 1)
+
+abbrev pub koid_of : List ℕ → Option ℕ
+koid_of = decimal_of (2 ^ 64 - 1)
 
 abbrev pub key_of : List ℕ → Option ℕ
 key_of = decimal_of (2 ^ 64 - 1)
@@ -43,6 +47,9 @@ handle_of = decimal_of (2 ^ 32 - 1)
 
 abbrev pub amount_of : List ℕ → Option ℕ
 amount_of = decimal_of (2 ^ 32 - 1)
+
+abbrev pub moment_of : List ℕ → Option ℕ
+moment_of = decimal_of (2 ^ 32 - 1)
 
 -- the signals that a mask writes
 abbrev pub signals_of : List ℕ → Option Signals

@@ -1,239 +1,181 @@
--- What a line of a client reads as.
-use Rattle.std.specs.Prelude.{◌≡◌, ℕ, Bool, true, false, ◌==◌, List, [], ◌∷◌, Option, Some, None, Result, Ok, Err, if◌then◌else◌, codes}
+-- What a line of a client reads as: a call, a command, or a question to the pinned copy.
+use Rattle.std.specs.Prelude.{◌≡◌, ℕ, Bool, true, false, ◌==◌, nat_lt, List, [], ◌∷◌, length, Option, Some, None, Result, Ok, Err, if◌then◌else◌, codes}
 use Rattle.std.specs.Str.{bytes_eq}
 use Rattle.zt_rows.specs.declared.refusals.Refusal.{Refusal}
-use Rattle.zt_rows.specs.declared.refusals.Refusal.TheVariants.{BadLine, OutOfMemory}
+use Rattle.zt_rows.specs.declared.refusals.Refusal.TheVariants.{BadLine, LineTooLong, OutOfMemory}
 use Rattle.zt_rows.specs.declared.calls.Call.{Call}
 use Rattle.zt_rows.specs.declared.calls.Call.TheVariants as calls
 use Rattle.zt_rows.specs.declared.calls.Command.{Command}
 use Rattle.zt_rows.specs.declared.calls.Command.TheVariants as commands
-use Rattle.zt_text.specs.Numbers.{process_of, key_of, code_of, handle_of, amount_of, mask_of, signals_of, count_of}
-use Rattle.zt_text.specs.Bytes.{bytes_of, packet_bytes_of}
-use Rattle.zt_text.specs.Lists.{handles_of}
-use Rattle.zt_text.specs.Fields.{Placed, Unread, unread, ◌>>=◌, next, field, ended, flag}
+use Rattle.zt_text.specs.declared.reading.Line.{Line}
+use Rattle.zt_text.specs.declared.reading.Line.TheVariants as line
+use Rattle.zt_text.specs.Numbers.{process_of, koid_of, moment_of, count_of}
+use Rattle.zt_text.specs.Names.{name_of, happening_of}
+use Rattle.zt_text.specs.Fields.{Placed, Unread, unread, ◌>>=◌, next, field, ended}
+use Rattle.zt_text.specs.ReadingCalls.{call}
 
--- the arguments of each call
-unfoldable pub event_create : Unread → Result Call Refusal
-event_create left = do
-  _ ← ended left
-  Ok calls.EventCreate
+-- ---- the arguments of each command
 
-unfoldable pub eventpair_create : Unread → Result Call Refusal
-eventpair_create left = do
-  _ ← ended left
-  Ok calls.EventPairCreate
+unfoldable pub goto : Unread → Result Command Refusal
+goto left = do
+  moment ← field moment_of left
+  _ ← ended moment.1
+  Ok (commands.Goto moment.0)
 
-unfoldable pub handle_close : Unread → Result Call Refusal
-handle_close left = do
-  handle ← field handle_of left
-  _ ← ended handle.1
-  Ok (calls.HandleClose handle.0)
-
-unfoldable pub handle_duplicate : Unread → Result Call Refusal
-handle_duplicate left = do
-  handle ← field handle_of left
-  rights ← field mask_of handle.1
-  _ ← ended rights.1
-  Ok (calls.HandleDuplicate handle.0 rights.0)
-
-unfoldable pub handle_replace : Unread → Result Call Refusal
-handle_replace left = do
-  handle ← field handle_of left
-  rights ← field mask_of handle.1
-  _ ← ended rights.1
-  Ok (calls.HandleReplace handle.0 rights.0)
-
-unfoldable pub object_signal : Unread → Result Call Refusal
-object_signal left = do
-  handle ← field handle_of left
-  clear ← field signals_of handle.1
-  set ← field signals_of clear.1
-  _ ← ended set.1
-  Ok (calls.ObjectSignal handle.0 clear.0 set.0)
-
-unfoldable pub object_signal_peer : Unread → Result Call Refusal
-object_signal_peer left = do
-  handle ← field handle_of left
-  clear ← field signals_of handle.1
-  set ← field signals_of clear.1
-  _ ← ended set.1
-  Ok (calls.ObjectSignalPeer handle.0 clear.0 set.0)
-
-unfoldable pub channel_create : Unread → Result Call Refusal
-channel_create left = do
-  _ ← ended left
-  Ok calls.ChannelCreate
-
-unfoldable pub channel_write : Unread → Result Call Refusal
-channel_write left = do
-  handle ← field handle_of left
-  bytes ← field bytes_of handle.1
-  handles ← field handles_of bytes.1
-  _ ← ended handles.1
-  Ok (calls.ChannelWrite handle.0 (record { bytes = bytes.0; handles = handles.0 }))
-
-unfoldable pub channel_read : Unread → Result Call Refusal
-channel_read left = do
-  handle ← field handle_of left
-  bytes ← field amount_of handle.1
-  handles ← field amount_of bytes.1
-  discard ← flag (codes "discard") handles.1
-  Ok (calls.ChannelRead handle.0 bytes.0 handles.0 discard)
-
-unfoldable pub port_create : Unread → Result Call Refusal
-port_create left = do
-  _ ← ended left
-  Ok calls.PortCreate
-
-unfoldable pub object_wait_async : Unread → Result Call Refusal
-object_wait_async left = do
-  handle ← field handle_of left
-  port ← field handle_of handle.1
-  key ← field key_of port.1
-  signals ← field signals_of key.1
-  _ ← ended signals.1
-  Ok (calls.ObjectWaitAsync handle.0 port.0 key.0 signals.0)
-
-unfoldable pub port_queue : Unread → Result Call Refusal
-port_queue left = do
-  port ← field handle_of left
-  key ← field key_of port.1
-  bytes ← field packet_bytes_of key.1
-  _ ← ended bytes.1
-  Ok (calls.PortQueue port.0 key.0 bytes.0)
-
-unfoldable pub port_wait : Unread → Result Call Refusal
-port_wait left = do
-  port ← field handle_of left
-  _ ← ended port.1
-  Ok (calls.PortWait port.0)
-
-unfoldable pub port_cancel : Unread → Result Call Refusal
-port_cancel left = do
-  port ← field handle_of left
-  source ← field handle_of port.1
-  key ← field key_of source.1
-  _ ← ended key.1
-  Ok (calls.PortCancel port.0 source.0 key.0)
-
-unfoldable pub job_create : Unread → Result Call Refusal
-job_create left = do
-  job ← field handle_of left
-  _ ← ended job.1
-  Ok (calls.JobCreate job.0)
-
-unfoldable pub spawn : Unread → Result Call Refusal
-spawn left = do
-  job ← field handle_of left
-  argument ← field handle_of job.1
-  _ ← ended argument.1
-  Ok (calls.Spawn job.0 argument.0)
-
-unfoldable pub task_kill : Unread → Result Call Refusal
-task_kill left = do
-  handle ← field handle_of left
-  _ ← ended handle.1
-  Ok (calls.TaskKill handle.0)
-
-unfoldable pub process_exit : Unread → Result Call Refusal
-process_exit left = do
-  code ← field code_of left
-  _ ← ended code.1
-  Ok (calls.ProcessExit code.0)
-
--- the call of this name, of those on jobs and processes
-unfoldable pub task_call_named : Placed → Unread → Result Call Refusal
-task_call_named name left =
-    if bytes_eq name.bytes (codes "job_create") then job_create left
-    else (if bytes_eq name.bytes (codes "spawn") then spawn left
-    else (if bytes_eq name.bytes (codes "task_kill") then task_kill left
-    else (if bytes_eq name.bytes (codes "process_exit") then process_exit left
-    else Err (BadLine name.column))))
-
--- the call of this name, of those on ports
-unfoldable pub port_call_named : Placed → Unread → Result Call Refusal
-port_call_named name left =
-    if bytes_eq name.bytes (codes "port_create") then port_create left
-    else (if bytes_eq name.bytes (codes "object_wait_async") then object_wait_async left
-    else (if bytes_eq name.bytes (codes "port_queue") then port_queue left
-    else (if bytes_eq name.bytes (codes "port_wait") then port_wait left
-    else (if bytes_eq name.bytes (codes "port_cancel") then port_cancel left
-    else task_call_named name left))))
-
--- the call of this name, of those on channels that carry no parcel
-unfoldable pub channel_call_named : Placed → Unread → Result Call Refusal
-channel_call_named name left =
-    if bytes_eq name.bytes (codes "channel_create") then channel_create left
-    else (if bytes_eq name.bytes (codes "channel_read") then channel_read left
-    else port_call_named name left)
-
--- the call of this name, of those on handles
-unfoldable pub handle_call_named : Placed → Unread → Result Call Refusal
-handle_call_named name left =
-    if bytes_eq name.bytes (codes "handle_close") then handle_close left
-    else (if bytes_eq name.bytes (codes "handle_duplicate") then handle_duplicate left
-    else (if bytes_eq name.bytes (codes "handle_replace") then handle_replace left
-    else channel_call_named name left))
-
--- the call of this name
-unfoldable pub call_named : Placed → Unread → Result Call Refusal
-call_named name left =
-    if bytes_eq name.bytes (codes "event_create") then event_create left
-    else (if bytes_eq name.bytes (codes "eventpair_create") then eventpair_create left
-    else (if bytes_eq name.bytes (codes "object_signal") then object_signal left
-    else (if bytes_eq name.bytes (codes "object_signal_peer") then object_signal_peer left
-    else handle_call_named name left)))
-
--- the call of this name, also of the one that carries a parcel
-unfoldable pub any_call_named : Placed → Unread → Result Call Refusal
-any_call_named name left =
-    if bytes_eq name.bytes (codes "channel_write") then channel_write left else call_named name left
-
-unfoldable pub call : Unread → Result Call Refusal
-call left = do
-  name ← next left
-  any_call_named name.0 name.1
-
--- the arguments of each command
 unfoldable pub back : Unread → Result Command Refusal
 back left = do
   count ← field count_of left
   _ ← ended count.1
   Ok (commands.Back count.0)
 
+-- a name, and nothing behind it
+unfoldable pub only_name : Unread → Result (List ℕ) Refusal
+only_name left = do
+  name ← field name_of left
+  _ ← ended name.1
+  Ok name.0
+
+unfoldable pub branch : Unread → Result Command Refusal
+branch left = do
+  name ← only_name left
+  Ok (commands.Branch name)
+
+unfoldable pub follow : Unread → Result Command Refusal
+follow left = do
+  name ← only_name left
+  Ok (commands.Follow name)
+
 unfoldable pub show : Unread → Result Command Refusal
 show left = do
   _ ← ended left
   Ok commands.Show
 
+unfoldable pub holders : Unread → Result Command Refusal
+holders left = do
+  koid ← field koid_of left
+  _ ← ended koid.1
+  Ok (commands.Holders koid.0)
+
+unfoldable pub leaks : Unread → Result Command Refusal
+leaks left = do
+  _ ← ended left
+  Ok commands.Leaks
+
+unfoldable pub when : Unread → Result Command Refusal
+when left = do
+  what ← field happening_of left
+  koid ← field koid_of what.1
+  _ ← ended koid.1
+  Ok (commands.When what.0 koid.0)
+
+unfoldable pub pin : Unread → Result Command Refusal
+pin left = do
+  _ ← ended left
+  Ok commands.Pin
+
+-- ---- commands by name
+
+-- the command of this name, of those that ask for what stands at the position
+unfoldable pub question_named : Placed → Unread → Result Command Refusal
+question_named name left =
+    if bytes_eq name.bytes (codes "show") then show left
+    else (if bytes_eq name.bytes (codes "holders") then holders left
+    else (if bytes_eq name.bytes (codes "leaks") then leaks left
+    else (if bytes_eq name.bytes (codes "when") then when left
+    else (if bytes_eq name.bytes (codes "pin") then pin left
+    else Err (BadLine name.column)))))
+
+-- the command of this name, of those that take no memory
+unfoldable pub plain_command_named : Placed → Unread → Result Command Refusal
+plain_command_named name left =
+    if bytes_eq name.bytes (codes "goto") then goto left
+    else (if bytes_eq name.bytes (codes "back") then back left else question_named name left)
+
 -- the command of this name
 unfoldable pub command_named : Placed → Unread → Result Command Refusal
 command_named name left =
-    if bytes_eq name.bytes (codes "back") then back left
-    else (if bytes_eq name.bytes (codes "show") then show left else Err (BadLine name.column))
+    if bytes_eq name.bytes (codes "branch") then branch left
+    else (if bytes_eq name.bytes (codes "follow") then follow left else plain_command_named name left)
 
--- a line that begins with a process's number is a call, and all else begins with the name of a command
-abbrev pub call_or_command : Option ℕ → Placed → Unread → Result Command Refusal
-call_or_command (Some process) first left = do
+-- ---- questions to the pinned copy
+
+unfoldable pub pinned_show : Unread → Result Line Refusal
+pinned_show left = do
+  _ ← ended left
+  Ok line.PinnedShow
+
+unfoldable pub pinned_holders : Unread → Result Line Refusal
+pinned_holders left = do
+  koid ← field koid_of left
+  _ ← ended koid.1
+  Ok (line.PinnedHolders koid.0)
+
+unfoldable pub pinned_leaks : Unread → Result Line Refusal
+pinned_leaks left = do
+  _ ← ended left
+  Ok line.PinnedLeaks
+
+unfoldable pub pinned_named : Placed → Unread → Result Line Refusal
+pinned_named name left =
+    if bytes_eq name.bytes (codes "show") then pinned_show left
+    else (if bytes_eq name.bytes (codes "holders") then pinned_holders left
+    else (if bytes_eq name.bytes (codes "leaks") then pinned_leaks left else Err (BadLine name.column)))
+
+-- behind the word `pinned`
+unfoldable pub pinned : Unread → Result Line Refusal
+pinned left = do
+  name ← next left
+  pinned_named name.0 name.1
+
+-- ---- lines
+
+-- what begins with the word `pinned` asks the pinned copy, and all else begins with the name of a command
+unfoldable pub word_named : Placed → Unread → Result Line Refusal
+word_named first left = if bytes_eq first.bytes (codes "pinned") then pinned left else (do
+  asked ← command_named first left
+  Ok (line.Command asked))
+
+-- what begins with a process's number is a call
+abbrev pub call_or_word : Option ℕ → Placed → Unread → Result Line Refusal
+call_or_word (Some process) first left = do
   made ← call left
-  Ok (commands.Call process made)
-call_or_command None first left = command_named first left
+  Ok (line.Command (commands.Call process made))
+call_or_word None first left = word_named first left
 
-unfoldable pub command : Unread → Result Command Refusal
-command left = do
+-- what the fields of a line ask
+unfoldable pub asked_by : Unread → Result Line Refusal
+asked_by left = do
   first ← next left
-  call_or_command (process_of first.0.bytes) first.0 first.1
+  call_or_word (process_of first.0.bytes) first.0 first.1
+
+-- the most bytes of a line
+abbrev pub most_line_bytes : ℕ
+most_line_bytes = 140000
 
 -- an empty line, and one that begins with `#`
 abbrev pub is_skipped : List ℕ → Bool
 is_skipped [] = true
 is_skipped (first ∷ _) = first == 35
 
--- a skipped line asks nothing; every other line is a command, or has its first fault from the left at a column
-unfoldable pub read_as : List ℕ → Result (Option Command) Refusal
-read_as line = if is_skipped line then Ok None else (do
-  asked ← command (unread line)
-  Ok (Some asked))
+-- the fields of a line; none, where it is skipped. A line that is too long is refused, also where it begins with `#`
+unfoldable pub fields_in : List ℕ → Result (Option Unread) Refusal
+fields_in line =
+    if nat_lt most_line_bytes (length line) then Err LineTooLong
+    else (if is_skipped line then Ok None else Ok (Some (unread line)))
+
+-- what the fields of a line read as, where there are any
+abbrev pub each_by : {A : Type 0} → (Unread → Result A Refusal) → Option Unread → Result (Option A) Refusal
+each_by form None = Ok None
+each_by form (Some left) = do
+  value ← form left
+  Ok (Some value)
+
+-- a skipped line asks nothing; every other line asks something, is too long, or has its first fault from the left
+-- at a column
+unfoldable pub read_as : List ℕ → Result (Option Line) Refusal
+read_as line = do
+  left ← fields_in line
+  each_by asked_by left
 
 -- ---- memory
 
@@ -242,13 +184,20 @@ abbrev pub has_parcel : Call → Bool
 has_parcel (calls.ChannelWrite _ _) = true
 has_parcel _ = false
 
-abbrev pub command_has_parcel : Command → Bool
-command_has_parcel (commands.Call _ made) = has_parcel made
-command_has_parcel _ = false
+-- so does a command with a name
+abbrev pub takes_memory : Command → Bool
+takes_memory (commands.Call _ made) = has_parcel made
+takes_memory (commands.Branch _) = true
+takes_memory (commands.Follow _) = true
+takes_memory _ = false
 
-abbrev pub line_has_parcel : Option Command → Bool
-line_has_parcel (Some asked) = command_has_parcel asked
-line_has_parcel None = false
+abbrev pub asked_takes_memory : Line → Bool
+asked_takes_memory (line.Command asked) = takes_memory asked
+asked_takes_memory _ = false
+
+abbrev pub line_takes_memory : Option Line → Bool
+line_takes_memory (Some asked) = asked_takes_memory asked
+line_takes_memory None = false
 
 -- why something is not read: its fault, or that memory was refused to what takes some
 abbrev pub IsUnread : {A : Type 0} → (A → Bool) → Result A Refusal → Refusal → Type 0

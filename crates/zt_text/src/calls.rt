@@ -41,7 +41,7 @@ fn put_lines(text: &mut String, calls: &[(Koid, Call)]) -> Result<(), AllocError
 }
 
 /// The line of a process's call, behind what is written.
-fn put_call(text: &mut String, process: Koid, call: &Call) -> Result<(), AllocError>
+pub fn put_call(text: &mut String, process: Koid, call: &Call) -> Result<(), AllocError>
     ensures { OnOk result (string_bytes text.new ≡ string_bytes text.old ++ shown_call process call.now) }
 {
     write!(text, "{} ", process.0)?;

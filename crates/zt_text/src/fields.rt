@@ -1,17 +1,19 @@
 ghost use Rattle.std.specs.Prelude.{◌≡◌};
-ghost use Rattle.zt_text.specs.Numbers.{handle_of, amount_of, key_of, code_of, mask_of, signals_of, count_of};
+ghost use Rattle.zt_text.specs.Numbers.{handle_of, amount_of, koid_of, key_of, moment_of, code_of, mask_of, signals_of, count_of};
 ghost use Rattle.zt_text.specs.Bytes.{bytes_of, packet_bytes_of};
 ghost use Rattle.zt_text.specs.Lists.{handles_of};
+ghost use Rattle.zt_text.specs.Names.{name_of, happening_of};
 ghost use Rattle.zt_text.specs.Fields.{unread, next, field, ended, flag};
 ghost use Rattle.std.specs.Str.{bytes_eq};
 
 use crate::bytes::{Digits, packet_bytes};
 use crate::cutting::cut;
 use crate::lists::HandleList;
+use crate::names::{Name, happening};
 use crate::numbers::{code, decimal, mask};
 use std::marker::Model;
 use zt_bits::Signals;
-use zt_rows::{HandleValue, Refusal};
+use zt_rows::{Happening, HandleValue, Koid, Moment, Refusal};
 
 /// A field of a line, with the column at which it begins.
 #[derive(Drop)]
@@ -107,6 +109,18 @@ impl<'a> Fields<'a> {
         }
     }
 
+    /// The number of an object that the next field writes.
+    #[tactic(auto, unfolding(crate::specs::Fields::field))]
+    pub fn koid(self) -> Result<(Koid, Fields<'a>), Refusal>
+        ensures { result ≡ field koid_of self.entry }
+    {
+        let (field, rest) = self.next()?;
+        match decimal(field.bytes(), u64::MAX) {
+            Some(number) => Ok((Koid(number), rest)),
+            None => Err(field.fault()),
+        }
+    }
+
     /// The key of a packet that the next field writes.
     #[tactic(auto, unfolding(crate::specs::Fields::field))]
     pub fn key(self) -> Result<(u64, Fields<'a>), Refusal>
@@ -150,6 +164,42 @@ impl<'a> Fields<'a> {
     {
         let (bits, rest) = self.mask()?;
         Ok((Signals(bits), rest))
+    }
+
+    /// The moment that the next field writes.
+    #[tactic(auto, unfolding(crate::specs::Fields::field))]
+    pub fn moment(self) -> Result<(Moment, Fields<'a>), Refusal>
+        ensures { result ≡ field moment_of self.entry }
+    {
+        let (field, rest) = self.next()?;
+        match decimal(field.bytes(), u64::from(u32::MAX)) {
+            Some(number) => Ok((Moment(number as u32), rest)),
+            None => Err(field.fault()),
+        }
+    }
+
+    /// The happening that the next field names.
+    #[tactic(auto, unfolding(crate::specs::Fields::field))]
+    pub fn happening(self) -> Result<(Happening, Fields<'a>), Refusal>
+        ensures { result ≡ field happening_of self.entry }
+    {
+        let (field, rest) = self.next()?;
+        match happening(field.bytes()) {
+            Some(what) => Ok((what, rest)),
+            None => Err(field.fault()),
+        }
+    }
+
+    /// The name of a branch that the next field writes.
+    #[tactic(auto, unfolding(crate::specs::Fields::field))]
+    pub fn name(self) -> Result<(Name<'a>, Fields<'a>), Refusal>
+        ensures { result ≡ field name_of self.entry }
+    {
+        let (field, rest) = self.next()?;
+        match Name::of(field.bytes()) {
+            Some(name) => Ok((name, rest)),
+            None => Err(field.fault()),
+        }
     }
 
     /// The number of steps that the next field writes.

@@ -2,31 +2,28 @@ ghost use Rattle.std.specs.Prelude.{◌≡◌, ◌++◌, [], ◌∷◌, codes, I
 ghost use Rattle.std.specs.Fmt.{decimal};
 ghost use Rattle.std.specs.List.{flat_map};
 ghost use Rattle.zt_text.specs.Shown.{shown_mask, shown_bytes, shown_list, shown_held};
-ghost use Rattle.zt_text.specs.Answers.{shown_packet, shown_reply, shown_key, shown_life, shown_object, shown_wait, shown_queued, shown_row, row_line, shown_answer, shown_column, shown_refusal};
+ghost use Rattle.zt_text.specs.Answers.{shown_packet, shown_reply, shown_key, shown_life, shown_object, shown_wait, shown_queued, shown_row, row_line, shown_column, shown_refusal};
 
 use std::alloc::{AllocError, Global};
 use zt_rows::{
-    Answer, HandleValue, Held, Life, ObjectRow, Packet, Refusal, Reply, Row, RowKey, Wait,
+    HandleValue, Held, Life, ObjectRow, Packet, Refusal, Reply, Row, RowKey, Wait,
 };
 
-/// The lines of an answer.
-#[tactic(auto, unfolding(crate::specs::Answers::shown_answer))]
-pub fn print_answer(alloc: Global, answer: &Answer) -> Result<Vec<u8>, AllocError>
-    ensures { IfOk result (λ text. text.items ≡ shown_answer answer.now) }
+/// The status of a reply and its values, without a line feed.
+pub fn print_reply(alloc: Global, reply: &Reply) -> Result<Vec<u8>, AllocError>
+    ensures { IfOk result (λ text. text.items ≡ shown_reply reply.now) }
 {
     let mut text = String::new(alloc);
-    match answer {
-        Answer::Called(moment, reply) => {
-            write!(text, "{} ", moment.0)?;
-            put_reply(&mut text, reply)?;
-            text.push_str("\n")?;
-        }
-        Answer::At(moment) => writeln!(text, "at {}", moment.0)?,
-        Answer::Rows(moment, rows) => {
-            writeln!(text, "rows {} {}", moment.0, rows.len())?;
-            put_rows(&mut text, rows.as_slice())?;
-        }
-    }
+    put_reply(&mut text, reply)?;
+    Ok(text.into_bytes())
+}
+
+/// A line for each row.
+pub fn print_rows(alloc: Global, rows: &[(RowKey, Row)]) -> Result<Vec<u8>, AllocError>
+    ensures { IfOk result (λ text. text.items ≡ flat_map row_line rows.now) }
+{
+    let mut text = String::new(alloc);
+    put_rows(&mut text, rows)?;
     Ok(text.into_bytes())
 }
 
@@ -54,7 +51,7 @@ fn put_column(text: &mut String, refusal: Refusal) -> Result<(), AllocError>
 
 /// The status of a reply and its values.
 #[tactic(auto, unfolding(crate::specs::Answers::shown_reply))]
-fn put_reply(text: &mut String, reply: &Reply) -> Result<(), AllocError>
+pub fn put_reply(text: &mut String, reply: &Reply) -> Result<(), AllocError>
     ensures { OnOk result (string_bytes text.new ≡ string_bytes text.old ++ shown_reply reply.now) }
 {
     match reply {
@@ -157,7 +154,7 @@ fn put_held(text: &mut String, held: Held) -> Result<(), AllocError>
 }
 
 /// A line for each row.
-fn put_rows(text: &mut String, rows: &[(RowKey, Row)]) -> Result<(), AllocError>
+pub fn put_rows(text: &mut String, rows: &[(RowKey, Row)]) -> Result<(), AllocError>
     ensures { OnOk result (string_bytes text.new ≡ string_bytes text.old ++ flat_map row_line rows.now) }
 {
     for (key, row) in rows {

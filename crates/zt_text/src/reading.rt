@@ -1,50 +1,217 @@
 ghost use Rattle.std.specs.Prelude.{◌≡◌, IfOk, IfErr};
-ghost use Rattle.zt_text.specs.Reading.{IsUnread, has_parcel, command_has_parcel, line_has_parcel, read_as, command, command_named, back, show, call, any_call_named, call_named, handle_call_named, channel_call_named, channel_create, channel_write, channel_read, port_call_named, port_create, object_wait_async, port_queue, port_wait, port_cancel, task_call_named, job_create, spawn, task_kill, process_exit, event_create, eventpair_create, handle_close, handle_duplicate, handle_replace, object_signal, object_signal_peer};
+ghost use Rattle.zt_text.specs.Reading.{IsUnread, takes_memory, asked_takes_memory, line_takes_memory, fields_in, read_as, asked_by, word_named, pinned, pinned_named, pinned_show, pinned_holders, pinned_leaks, command_named, plain_command_named, question_named, goto, back, only_name, branch, follow, show, holders, leaks, when, pin};
 
 use crate::fields::{Field, Fields};
+use crate::names::Name;
 use crate::numbers::decimal;
-use crate::writes::Write;
+use crate::reading_calls::call;
 use std::alloc::Global;
-use zt_rows::{Call, Command, Koid, Refusal};
+use zt_rows::{Command, Koid, Refusal};
+
+/// The most bytes of a line.
+const LINE_BYTES: usize = 140_000;
+
+/// What a line asks.
+#[derive(Debug, Drop)]
+pub enum Line {
+    Command(Command),
+    /// What `show` asks, of the pinned copy.
+    PinnedShow,
+    /// What `holders` asks, of the pinned copy.
+    PinnedHolders(Koid),
+    /// What `leaks` asks, of the pinned copy.
+    PinnedLeaks,
+}
 
 /// What a line asks; nothing, where it is empty or begins with `#`. Memory is asked for only where the whole line
-/// has its form, by the parcel of a call.
+/// has its form, by the parcel of a call or by the name of a branch.
 #[tactic(auto, unfolding(crate::specs::Reading::read_as))]
-pub fn read_line(alloc: Global, line: &[u8]) -> Result<Option<Command>, Refusal>
+pub fn read_line(alloc: Global, line: &[u8]) -> Result<Option<Line>, Refusal>
     ensures read { IfOk result (λ asked. read_as line.now ≡ Ok asked) }
-    ensures refused { IfErr result (λ refusal. IsUnread line_has_parcel (read_as line.now) refusal) }
+    ensures refused { IfErr result (λ refusal. IsUnread line_takes_memory (read_as line.now) refusal) }
 {
+    match fields_in(line)? {
+        None => Ok(None),
+        Some(fields) => Ok(Some(asked_by(alloc, fields)?)),
+    }
+}
+
+/// The fields of a line; none, where it is empty or begins with `#`.
+#[tactic(auto, unfolding(crate::specs::Reading::fields_in))]
+pub fn fields_in(line: &[u8]) -> Result<Option<Fields<'_>>, Refusal>
+    ensures { result ≡ fields_in line.now }
+{
+    if line.len() > LINE_BYTES {
+        return Err(Refusal::LineTooLong);
+    }
     match line {
         [] | [b'#', ..] => Ok(None),
-        _ => Ok(Some(command(alloc, Fields::new(line))?)),
+        _ => Ok(Some(Fields::new(line))),
     }
 }
 
 /// A line that begins with a number is a call of that process.
-#[tactic(auto, unfolding(crate::specs::Reading::command))]
-fn command(alloc: Global, fields: Fields<'_>) -> Result<Command, Refusal>
-    ensures read { IfOk result (λ asked. command fields.entry ≡ Ok asked) }
-    ensures refused { IfErr result (λ refusal. IsUnread command_has_parcel (command fields.entry) refusal) }
+#[tactic(auto, unfolding(crate::specs::Reading::asked_by))]
+fn asked_by(alloc: Global, fields: Fields<'_>) -> Result<Line, Refusal>
+    ensures read { IfOk result (λ asked. asked_by fields.entry ≡ Ok asked) }
+    ensures refused { IfErr result (λ refusal. IsUnread asked_takes_memory (asked_by fields.entry) refusal) }
 {
     let (first, rest) = fields.next()?;
     match decimal(first.bytes(), u64::MAX) {
-        Some(process) => Ok(Command::Call(Koid(process), call(alloc, rest)?)),
-        None => command_named(&first, rest),
+        Some(process) => Ok(Line::Command(Command::Call(
+            Koid(process),
+            call(alloc, rest)?,
+        ))),
+        None => word_named(alloc, &first, rest),
     }
+}
+
+/// A line that begins with `pinned` asks the pinned copy.
+#[tactic(auto, unfolding(crate::specs::Reading::word_named))]
+fn word_named(alloc: Global, first: &Field<'_>, rest: Fields<'_>) -> Result<Line, Refusal>
+    ensures read { IfOk result (λ asked. word_named first.now rest.entry ≡ Ok asked) }
+    ensures refused { IfErr result (λ refusal. IsUnread asked_takes_memory (word_named first.now rest.entry) refusal) }
+{
+    if first.is("pinned") {
+        pinned(rest)
+    } else {
+        Ok(Line::Command(command_named(alloc, first, rest)?))
+    }
+}
+
+/// The question behind the word `pinned`.
+#[tactic(auto, unfolding(crate::specs::Reading::pinned))]
+fn pinned(fields: Fields<'_>) -> Result<Line, Refusal>
+    ensures { result ≡ pinned fields.entry }
+{
+    let (name, rest) = fields.next()?;
+    pinned_named(&name, rest)
+}
+
+#[tactic(auto, unfolding(crate::specs::Reading::pinned_named))]
+fn pinned_named(name: &Field<'_>, rest: Fields<'_>) -> Result<Line, Refusal>
+    ensures { result ≡ pinned_named name.now rest.entry }
+{
+    if name.is("show") {
+        pinned_show(rest)
+    } else if name.is("holders") {
+        pinned_holders(rest)
+    } else if name.is("leaks") {
+        pinned_leaks(rest)
+    } else {
+        Err(name.fault())
+    }
+}
+
+#[tactic(auto, unfolding(crate::specs::Reading::pinned_show))]
+fn pinned_show(fields: Fields<'_>) -> Result<Line, Refusal>
+    ensures { result ≡ pinned_show fields.entry }
+{
+    fields.end()?;
+    Ok(Line::PinnedShow)
+}
+
+#[tactic(auto, unfolding(crate::specs::Reading::pinned_holders))]
+fn pinned_holders(fields: Fields<'_>) -> Result<Line, Refusal>
+    ensures { result ≡ pinned_holders fields.entry }
+{
+    let (koid, rest) = fields.koid()?;
+    rest.end()?;
+    Ok(Line::PinnedHolders(koid))
+}
+
+#[tactic(auto, unfolding(crate::specs::Reading::pinned_leaks))]
+fn pinned_leaks(fields: Fields<'_>) -> Result<Line, Refusal>
+    ensures { result ≡ pinned_leaks fields.entry }
+{
+    fields.end()?;
+    Ok(Line::PinnedLeaks)
 }
 
 /// The command of this name, with the arguments behind it.
 #[tactic(auto, unfolding(crate::specs::Reading::command_named))]
-fn command_named(name: &Field<'_>, rest: Fields<'_>) -> Result<Command, Refusal>
-    ensures { result ≡ command_named name.now rest.entry }
+fn command_named(alloc: Global, name: &Field<'_>, rest: Fields<'_>) -> Result<Command, Refusal>
+    ensures read { IfOk result (λ asked. command_named name.now rest.entry ≡ Ok asked) }
+    ensures refused { IfErr result (λ refusal. IsUnread takes_memory (command_named name.now rest.entry) refusal) }
 {
-    if name.is("back") {
+    if name.is("branch") {
+        branch(alloc, rest)
+    } else if name.is("follow") {
+        follow(alloc, rest)
+    } else {
+        plain_command_named(name, rest)
+    }
+}
+
+#[tactic(auto, unfolding(crate::specs::Reading::branch))]
+fn branch(alloc: Global, fields: Fields<'_>) -> Result<Command, Refusal>
+    ensures read { IfOk result (λ asked. branch fields.entry ≡ Ok asked) }
+    ensures refused { IfErr result (λ refusal. IsUnread takes_memory (branch fields.entry) refusal) }
+{
+    let name = only_name(fields)?;
+    Ok(Command::Branch(name.to_items(alloc)?))
+}
+
+#[tactic(auto, unfolding(crate::specs::Reading::follow))]
+fn follow(alloc: Global, fields: Fields<'_>) -> Result<Command, Refusal>
+    ensures read { IfOk result (λ asked. follow fields.entry ≡ Ok asked) }
+    ensures refused { IfErr result (λ refusal. IsUnread takes_memory (follow fields.entry) refusal) }
+{
+    let name = only_name(fields)?;
+    Ok(Command::Follow(name.to_items(alloc)?))
+}
+
+/// A name with nothing behind it.
+#[tactic(auto, unfolding(crate::specs::Reading::only_name))]
+fn only_name(fields: Fields<'_>) -> Result<Name<'_>, Refusal>
+    ensures { result ≡ only_name fields.entry }
+{
+    let (name, rest) = fields.name()?;
+    rest.end()?;
+    Ok(name)
+}
+
+/// The command of this name, of those that take no memory, with the arguments behind it.
+#[tactic(auto, unfolding(crate::specs::Reading::plain_command_named))]
+fn plain_command_named(name: &Field<'_>, rest: Fields<'_>) -> Result<Command, Refusal>
+    ensures { result ≡ plain_command_named name.now rest.entry }
+{
+    if name.is("goto") {
+        goto(rest)
+    } else if name.is("back") {
         back(rest)
-    } else if name.is("show") {
+    } else {
+        question_named(name, rest)
+    }
+}
+
+/// The command of this name, of those that ask for what stands at the position, with the arguments behind it.
+#[tactic(auto, unfolding(crate::specs::Reading::question_named))]
+fn question_named(name: &Field<'_>, rest: Fields<'_>) -> Result<Command, Refusal>
+    ensures { result ≡ question_named name.now rest.entry }
+{
+    if name.is("show") {
         show(rest)
+    } else if name.is("holders") {
+        holders(rest)
+    } else if name.is("leaks") {
+        leaks(rest)
+    } else if name.is("when") {
+        when(rest)
+    } else if name.is("pin") {
+        pin(rest)
     } else {
         Err(name.fault())
     }
+}
+
+#[tactic(auto, unfolding(crate::specs::Reading::goto))]
+fn goto(fields: Fields<'_>) -> Result<Command, Refusal>
+    ensures { result ≡ goto fields.entry }
+{
+    let (moment, rest) = fields.moment()?;
+    rest.end()?;
+    Ok(Command::Goto(moment))
 }
 
 #[tactic(auto, unfolding(crate::specs::Reading::back))]
@@ -64,306 +231,37 @@ fn show(fields: Fields<'_>) -> Result<Command, Refusal>
     Ok(Command::Show)
 }
 
-/// The call that the fields behind the process write.
-#[tactic(auto, unfolding(crate::specs::Reading::call))]
-fn call(alloc: Global, fields: Fields<'_>) -> Result<Call, Refusal>
-    ensures read { IfOk result (λ made. call fields.entry ≡ Ok made) }
-    ensures refused { IfErr result (λ refusal. IsUnread has_parcel (call fields.entry) refusal) }
+#[tactic(auto, unfolding(crate::specs::Reading::holders))]
+fn holders(fields: Fields<'_>) -> Result<Command, Refusal>
+    ensures { result ≡ holders fields.entry }
 {
-    let (name, rest) = fields.next()?;
-    any_call_named(alloc, &name, rest)
-}
-
-/// The call of this name, with the arguments behind it.
-#[tactic(auto, unfolding(crate::specs::Reading::any_call_named))]
-fn any_call_named(alloc: Global, name: &Field<'_>, rest: Fields<'_>) -> Result<Call, Refusal>
-    ensures read { IfOk result (λ made. any_call_named name.now rest.entry ≡ Ok made) }
-    ensures refused { IfErr result (λ refusal. IsUnread has_parcel (any_call_named name.now rest.entry) refusal) }
-{
-    if name.is("channel_write") {
-        channel_write(rest)?.to_call(alloc)
-    } else {
-        call_named(name, rest)
-    }
-}
-
-/// The call of this name, with the arguments behind it.
-#[tactic(auto, unfolding(crate::specs::Reading::call_named))]
-fn call_named(name: &Field<'_>, rest: Fields<'_>) -> Result<Call, Refusal>
-    ensures { result ≡ call_named name.now rest.entry }
-{
-    if name.is("event_create") {
-        event_create(rest)
-    } else if name.is("eventpair_create") {
-        eventpair_create(rest)
-    } else if name.is("object_signal") {
-        object_signal(rest)
-    } else if name.is("object_signal_peer") {
-        object_signal_peer(rest)
-    } else {
-        handle_call_named(name, rest)
-    }
-}
-
-/// The call of this name, of those on handles, with the arguments behind it.
-#[tactic(auto, unfolding(crate::specs::Reading::handle_call_named))]
-fn handle_call_named(name: &Field<'_>, rest: Fields<'_>) -> Result<Call, Refusal>
-    ensures { result ≡ handle_call_named name.now rest.entry }
-{
-    if name.is("handle_close") {
-        handle_close(rest)
-    } else if name.is("handle_duplicate") {
-        handle_duplicate(rest)
-    } else if name.is("handle_replace") {
-        handle_replace(rest)
-    } else {
-        channel_call_named(name, rest)
-    }
-}
-
-/// The call of this name, of those on channels that carry no parcel, with the arguments behind it.
-#[tactic(auto, unfolding(crate::specs::Reading::channel_call_named))]
-fn channel_call_named(name: &Field<'_>, rest: Fields<'_>) -> Result<Call, Refusal>
-    ensures { result ≡ channel_call_named name.now rest.entry }
-{
-    if name.is("channel_create") {
-        channel_create(rest)
-    } else if name.is("channel_read") {
-        channel_read(rest)
-    } else {
-        port_call_named(name, rest)
-    }
-}
-
-/// The call of this name, of those on ports, with the arguments behind it.
-#[tactic(auto, unfolding(crate::specs::Reading::port_call_named))]
-fn port_call_named(name: &Field<'_>, rest: Fields<'_>) -> Result<Call, Refusal>
-    ensures { result ≡ port_call_named name.now rest.entry }
-{
-    if name.is("port_create") {
-        port_create(rest)
-    } else if name.is("object_wait_async") {
-        object_wait_async(rest)
-    } else if name.is("port_queue") {
-        port_queue(rest)
-    } else if name.is("port_wait") {
-        port_wait(rest)
-    } else if name.is("port_cancel") {
-        port_cancel(rest)
-    } else {
-        task_call_named(name, rest)
-    }
-}
-
-/// The call of this name, of those on jobs and processes, with the arguments behind it.
-#[tactic(auto, unfolding(crate::specs::Reading::task_call_named))]
-fn task_call_named(name: &Field<'_>, rest: Fields<'_>) -> Result<Call, Refusal>
-    ensures { result ≡ task_call_named name.now rest.entry }
-{
-    if name.is("job_create") {
-        job_create(rest)
-    } else if name.is("spawn") {
-        spawn(rest)
-    } else if name.is("task_kill") {
-        task_kill(rest)
-    } else if name.is("process_exit") {
-        process_exit(rest)
-    } else {
-        Err(name.fault())
-    }
-}
-
-#[tactic(auto, unfolding(crate::specs::Reading::job_create))]
-fn job_create(fields: Fields<'_>) -> Result<Call, Refusal>
-    ensures { result ≡ job_create fields.entry }
-{
-    let (job, rest) = fields.handle()?;
+    let (koid, rest) = fields.koid()?;
     rest.end()?;
-    Ok(Call::JobCreate { job })
+    Ok(Command::Holders(koid))
 }
 
-#[tactic(auto, unfolding(crate::specs::Reading::spawn))]
-fn spawn(fields: Fields<'_>) -> Result<Call, Refusal>
-    ensures { result ≡ spawn fields.entry }
-{
-    let (job, rest) = fields.handle()?;
-    let (argument, rest) = rest.handle()?;
-    rest.end()?;
-    Ok(Call::Spawn { job, argument })
-}
-
-#[tactic(auto, unfolding(crate::specs::Reading::task_kill))]
-fn task_kill(fields: Fields<'_>) -> Result<Call, Refusal>
-    ensures { result ≡ task_kill fields.entry }
-{
-    let (handle, rest) = fields.handle()?;
-    rest.end()?;
-    Ok(Call::TaskKill { handle })
-}
-
-#[tactic(auto, unfolding(crate::specs::Reading::process_exit))]
-fn process_exit(fields: Fields<'_>) -> Result<Call, Refusal>
-    ensures { result ≡ process_exit fields.entry }
-{
-    let (code, rest) = fields.code()?;
-    rest.end()?;
-    Ok(Call::ProcessExit { code })
-}
-
-#[tactic(auto, unfolding(crate::specs::Reading::port_create))]
-fn port_create(fields: Fields<'_>) -> Result<Call, Refusal>
-    ensures { result ≡ port_create fields.entry }
+#[tactic(auto, unfolding(crate::specs::Reading::leaks))]
+fn leaks(fields: Fields<'_>) -> Result<Command, Refusal>
+    ensures { result ≡ leaks fields.entry }
 {
     fields.end()?;
-    Ok(Call::PortCreate)
+    Ok(Command::Leaks)
 }
 
-#[tactic(auto, unfolding(crate::specs::Reading::object_wait_async))]
-fn object_wait_async(fields: Fields<'_>) -> Result<Call, Refusal>
-    ensures { result ≡ object_wait_async fields.entry }
+#[tactic(auto, unfolding(crate::specs::Reading::when))]
+fn when(fields: Fields<'_>) -> Result<Command, Refusal>
+    ensures { result ≡ when fields.entry }
 {
-    let (handle, rest) = fields.handle()?;
-    let (port, rest) = rest.handle()?;
-    let (key, rest) = rest.key()?;
-    let (signals, rest) = rest.signals()?;
+    let (what, rest) = fields.happening()?;
+    let (koid, rest) = rest.koid()?;
     rest.end()?;
-    Ok(Call::ObjectWaitAsync {
-        handle,
-        port,
-        key,
-        signals,
-    })
+    Ok(Command::When(what, koid))
 }
 
-#[tactic(auto, unfolding(crate::specs::Reading::port_queue))]
-fn port_queue(fields: Fields<'_>) -> Result<Call, Refusal>
-    ensures { result ≡ port_queue fields.entry }
-{
-    let (port, rest) = fields.handle()?;
-    let (key, rest) = rest.key()?;
-    let (bytes, rest) = rest.packet_bytes()?;
-    rest.end()?;
-    Ok(Call::PortQueue { port, key, bytes })
-}
-
-#[tactic(auto, unfolding(crate::specs::Reading::port_wait))]
-fn port_wait(fields: Fields<'_>) -> Result<Call, Refusal>
-    ensures { result ≡ port_wait fields.entry }
-{
-    let (port, rest) = fields.handle()?;
-    rest.end()?;
-    Ok(Call::PortWait { port })
-}
-
-#[tactic(auto, unfolding(crate::specs::Reading::port_cancel))]
-fn port_cancel(fields: Fields<'_>) -> Result<Call, Refusal>
-    ensures { result ≡ port_cancel fields.entry }
-{
-    let (port, rest) = fields.handle()?;
-    let (source, rest) = rest.handle()?;
-    let (key, rest) = rest.key()?;
-    rest.end()?;
-    Ok(Call::PortCancel { port, source, key })
-}
-
-#[tactic(auto, unfolding(crate::specs::Reading::channel_create))]
-fn channel_create(fields: Fields<'_>) -> Result<Call, Refusal>
-    ensures { result ≡ channel_create fields.entry }
+#[tactic(auto, unfolding(crate::specs::Reading::pin))]
+fn pin(fields: Fields<'_>) -> Result<Command, Refusal>
+    ensures { result ≡ pin fields.entry }
 {
     fields.end()?;
-    Ok(Call::ChannelCreate)
-}
-
-#[tactic(auto, unfolding(crate::specs::Reading::channel_write))]
-fn channel_write(fields: Fields<'_>) -> Result<Write<'_>, Refusal>
-    ensures { result ≡ channel_write fields.entry }
-{
-    let (handle, rest) = fields.handle()?;
-    let (bytes, rest) = rest.bytes()?;
-    let (handles, rest) = rest.handles()?;
-    rest.end()?;
-    Ok(Write::new(handle, bytes, handles))
-}
-
-#[tactic(auto, unfolding(crate::specs::Reading::channel_read))]
-fn channel_read(fields: Fields<'_>) -> Result<Call, Refusal>
-    ensures { result ≡ channel_read fields.entry }
-{
-    let (handle, rest) = fields.handle()?;
-    let (bytes, rest) = rest.amount()?;
-    let (handles, rest) = rest.amount()?;
-    let discard = rest.flag("discard")?;
-    Ok(Call::ChannelRead {
-        handle,
-        bytes,
-        handles,
-        discard,
-    })
-}
-
-#[tactic(auto, unfolding(crate::specs::Reading::event_create))]
-fn event_create(fields: Fields<'_>) -> Result<Call, Refusal>
-    ensures { result ≡ event_create fields.entry }
-{
-    fields.end()?;
-    Ok(Call::EventCreate)
-}
-
-#[tactic(auto, unfolding(crate::specs::Reading::eventpair_create))]
-fn eventpair_create(fields: Fields<'_>) -> Result<Call, Refusal>
-    ensures { result ≡ eventpair_create fields.entry }
-{
-    fields.end()?;
-    Ok(Call::EventPairCreate)
-}
-
-#[tactic(auto, unfolding(crate::specs::Reading::handle_close))]
-fn handle_close(fields: Fields<'_>) -> Result<Call, Refusal>
-    ensures { result ≡ handle_close fields.entry }
-{
-    let (handle, rest) = fields.handle()?;
-    rest.end()?;
-    Ok(Call::HandleClose { handle })
-}
-
-#[tactic(auto, unfolding(crate::specs::Reading::handle_duplicate))]
-fn handle_duplicate(fields: Fields<'_>) -> Result<Call, Refusal>
-    ensures { result ≡ handle_duplicate fields.entry }
-{
-    let (handle, rest) = fields.handle()?;
-    let (rights, rest) = rest.mask()?;
-    rest.end()?;
-    Ok(Call::HandleDuplicate { handle, rights })
-}
-
-#[tactic(auto, unfolding(crate::specs::Reading::handle_replace))]
-fn handle_replace(fields: Fields<'_>) -> Result<Call, Refusal>
-    ensures { result ≡ handle_replace fields.entry }
-{
-    let (handle, rest) = fields.handle()?;
-    let (rights, rest) = rest.mask()?;
-    rest.end()?;
-    Ok(Call::HandleReplace { handle, rights })
-}
-
-#[tactic(auto, unfolding(crate::specs::Reading::object_signal))]
-fn object_signal(fields: Fields<'_>) -> Result<Call, Refusal>
-    ensures { result ≡ object_signal fields.entry }
-{
-    let (handle, rest) = fields.handle()?;
-    let (clear, rest) = rest.signals()?;
-    let (set, rest) = rest.signals()?;
-    rest.end()?;
-    Ok(Call::ObjectSignal { handle, clear, set })
-}
-
-#[tactic(auto, unfolding(crate::specs::Reading::object_signal_peer))]
-fn object_signal_peer(fields: Fields<'_>) -> Result<Call, Refusal>
-    ensures { result ≡ object_signal_peer fields.entry }
-{
-    let (handle, rest) = fields.handle()?;
-    let (clear, rest) = rest.signals()?;
-    let (set, rest) = rest.signals()?;
-    rest.end()?;
-    Ok(Call::ObjectSignalPeer { handle, clear, set })
+    Ok(Command::Pin)
 }

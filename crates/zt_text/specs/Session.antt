@@ -1,0 +1,77 @@
+-- What a session text reads as: its first line, then the line of each call.
+use Rattle.std.specs.Prelude.{◌≡◌, ◌⊎◌, ℕ, ◌+◌, Bool, true, false, ◌&&◌, nat_lt, List, [], ◌∷◌, length, Option, Some, None, Result, Ok, Err, is_ok, if◌then◌else◌, codes}
+use Rattle.std.specs.Str.{bytes_eq}
+use Rattle.zt_rows.specs.declared.refusals.Refusal.{Refusal}
+use Rattle.zt_rows.specs.declared.refusals.Refusal.TheVariants.{BadLine, LineTooLong, OutOfMemory}
+use Rattle.zt_rows.specs.declared.calls.Call.{Call}
+use Rattle.zt_text.specs.Fields.{◌>>=◌}
+use Rattle.zt_text.specs.Lines.{lines_of}
+use Rattle.zt_text.specs.ReadingCalls.{process_call}
+use Rattle.zt_text.specs.Reading.{most_line_bytes, fields_in, each_by}
+
+-- the call of a line behind the first; nothing, where the line is skipped
+unfoldable pub call_in : List ℕ → Result (Option (ℕ × Call)) Refusal
+call_in line = do
+  left ← fields_in line
+  each_by process_call left
+
+-- a fault with the number of its line
+abbrev pub at_line : {A : Type 0} → ℕ → Result A Refusal → Result A (ℕ × Refusal)
+at_line number (Ok value) = Ok value
+at_line number (Err fault) = Err (number, fault)
+
+-- the call of one line in front of those of the others
+abbrev pub in_front : Option (ℕ × Call) → List (ℕ × Call) → List (ℕ × Call)
+in_front None calls = calls
+in_front (Some made) calls = made ∷ calls
+
+-- the calls of lines of which the first has this number
+unfoldable pub calls_in : ℕ → List (List ℕ) → Result (List (ℕ × Call)) (ℕ × Refusal)
+calls_in number [] = Ok []
+calls_in number (line ∷ lines) = do
+  made ← at_line number (call_in line)
+  calls ← calls_in (number + 1) lines
+  Ok (in_front made calls)
+
+-- the first line, which is never skipped
+abbrev pub first_line : List ℕ → Result (Unit {0}) Refusal
+first_line line =
+    if nat_lt most_line_bytes (length line) then Err LineTooLong
+    else (if bytes_eq line (codes "zxtt 1") then Ok tt else Err (BadLine 1))
+
+-- the calls of a text's lines; an empty text has a fault in its first
+abbrev pub calls_of_lines : List (List ℕ) → Result (List (ℕ × Call)) (ℕ × Refusal)
+calls_of_lines [] = Err (1, BadLine 1)
+calls_of_lines (first ∷ lines) = do
+  _ ← at_line 1 (first_line first)
+  calls_in 2 lines
+
+-- the calls of a session text, or its first fault from above with the number of its line
+unfoldable pub session_of : List ℕ → Result (List (ℕ × Call)) (ℕ × Refusal)
+session_of text = calls_of_lines (lines_of text)
+
+-- ---- memory
+
+-- a call comes before any fault
+abbrev pub comes_first : Result (Option (ℕ × Call)) Refusal → Bool → Bool
+comes_first (Ok (Some _)) others = true
+comes_first (Ok None) others = others
+comes_first (Err _) others = false
+
+unfoldable pub has_call : List (List ℕ) → Bool
+has_call [] = false
+has_call (line ∷ lines) = comes_first (call_in line) (has_call lines)
+
+-- so it does behind the first line
+abbrev pub has_call_behind : List (List ℕ) → Bool
+has_call_behind [] = false
+has_call_behind (first ∷ lines) = is_ok (first_line first) && has_call lines
+
+-- memory was refused, which is asked for where a call comes before any fault
+abbrev pub IsWantOfMemory : List ℕ → ℕ × Refusal → Type 0
+IsWantOfMemory text fault = (has_call_behind (lines_of text) ≡ true) × (fault ≡ (0, OutOfMemory))
+
+-- why a session text is not read: its first fault, or that memory was refused
+abbrev pub IsFaultOf : List ℕ → Result (List (ℕ × Call)) (ℕ × Refusal) → ℕ × Refusal → Type 0
+IsFaultOf text (Ok _) fault = IsWantOfMemory text fault
+IsFaultOf text (Err first) fault = (fault ≡ first) ⊎ IsWantOfMemory text fault
