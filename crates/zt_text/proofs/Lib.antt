@@ -6,6 +6,7 @@ pub mod FieldLemmas
 pub mod ShownLemmas
 pub mod ShownFields
 pub mod ShownWords
+pub mod ShownLengths
 pub mod ShownCalls
 mod WorkedLines
 mod WorkedAnswers

@@ -1,6 +1,6 @@
 -- The line of a call reads as that call.
-use Rattle.std.proofs.Common.{lit<, ◌≡◌, ℕ, ◌+◌, ◌-◌, ◌^◌, ◌<◌, true, false, List, [], ◌∷◌, ◌++◌, length, Some, Ok, refl, ap, ◌∙◌, arith}
-use Rattle.std.specs.Prelude.{Option, Result}
+use Rattle.std.proofs.Common.{lit<, lit≤, ◌≡◌, ℕ, ◌+◌, ◌-◌, ◌^◌, ◌<◌, true, false, List, [], ◌∷◌, ◌++◌, length, Some, Ok, refl, ap, ◌∙◌, arith}
+use Rattle.std.specs.Prelude.{Option, Result, nat_lt}
 use Rattle.std.specs.Char.{is_ascii_digit}
 use Rattle.std.specs.List.{list_all}
 use Rattle.std.specs.Fmt.{decimal}
@@ -10,16 +10,18 @@ use Rattle.std.proofs.lemmas.Fmt.{decimal_is_IsNumeral}
 use Rattle.zt_rows.specs.declared.refusals.Refusal.{Refusal}
 use Rattle.zt_rows.specs.declared.calls.Call.{Call}
 use Rattle.zt_rows.specs.declared.calls.Call.TheVariants as calls
-use Rattle.zt_rows.specs.declared.calls.Command.{Command}
 use Rattle.zt_rows.specs.declared.calls.Command.TheVariants as commands
+use Rattle.zt_text.specs.declared.reading.Line.{Line}
+use Rattle.zt_text.specs.declared.reading.Line.TheVariants as line
 use Rattle.zt_text.specs.Numbers.{decimal_of}
-use Rattle.zt_text.specs.Fields.{fields_of, placed, field, flag, ended}
-use Rattle.zt_text.specs.ReadingCalls.{event_create, eventpair_create, handle_close, handle_duplicate, handle_replace, object_signal, object_signal_peer, channel_create, channel_write, channel_read, port_create, object_wait_async, port_queue, port_wait, port_cancel, job_create, spawn, task_kill, process_exit, task_call_named, port_call_named, channel_call_named, handle_call_named, call_named, any_call_named, call}
-use Rattle.zt_text.specs.Reading.{fields_in, back, show, goto, only_name, branch, follow, holders, leaks, when, pin, question_named, plain_command_named, command_named, pinned_show, pinned_holders, pinned_leaks, pinned_named, pinned, word_named, asked_by, is_skipped, read_as}
+use Rattle.zt_text.specs.Fields.{fields_of, unread, placed, field, flag, ended}
+use Rattle.zt_text.specs.ReadingCalls.{event_create, eventpair_create, handle_close, handle_duplicate, handle_replace, object_signal, object_signal_peer, channel_create, channel_write, channel_read, port_create, object_wait_async, port_queue, port_wait, port_cancel, job_create, spawn, task_kill, process_exit, task_call_named, port_call_named, channel_call_named, handle_call_named, call_named, any_call_named, call, process_call}
+use Rattle.zt_text.specs.Reading.{fields_in, asked_by, is_skipped, read_as}
 use Rattle.zt_text.specs.Shown.{words}
 use Rattle.zt_text.specs.Calls.{IsWithin, call_name, call_arguments, shown_call}
 use Rattle.zt_text.proofs.ShownFields.{decimal_read, decimal_digits, mask_read, bytes_read, packet_bytes_read, code_read}
-use Rattle.zt_text.proofs.ShownWords.{is_free, AreFree, parts_joined, free_decimal, free_code, free_mask, free_bytes, free_handles, handles_read}
+use Rattle.zt_text.proofs.ShownWords.{is_free, is_seen, AreSeen, parts_joined, free_seen, all_free, line_free, seen_decimal, seen_code, seen_mask, seen_bytes, seen_handles, handles_read}
+use Rattle.zt_text.proofs.ShownLengths.{call_line_few}
 
 handle_read : (n : ℕ) → n < 2 ^ 32 → decimal_of (2 ^ 32 - 1) (decimal n) ≡ Some n
 handle_read n small = decimal_read (2 ^ 32 - 1) n (omega (arith, small)) (lit< tt)
@@ -27,34 +29,31 @@ handle_read n small = decimal_read (2 ^ 32 - 1) n (omega (arith, small)) (lit< t
 key_read : (n : ℕ) → n < 2 ^ 64 → decimal_of (2 ^ 64 - 1) (decimal n) ≡ Some n
 key_read n small = decimal_read (2 ^ 64 - 1) n (omega (arith, small)) (lit< tt)
 
-free_handle : (n : ℕ) → n < 2 ^ 32 → is_free 32 (decimal n) ≡ true
-free_handle n small = free_decimal 32 n (lit< tt) (omega (arith, small))
+seen_handle : (n : ℕ) → n < 2 ^ 32 → is_seen (decimal n) ≡ true
+seen_handle n small = seen_decimal n (omega (arith, small))
 
-free_key : (n : ℕ) → n < 2 ^ 64 → is_free 32 (decimal n) ≡ true
-free_key n small = free_decimal 32 n (lit< tt) small
-
--- no word of a call has a space
-words_free : (made : Call) → IsWithin made → AreFree 32 (call_name made ∷ call_arguments made)
-words_free calls.EventCreate h = (refl, tt)
-words_free calls.EventPairCreate h = (refl, tt)
-words_free (calls.HandleClose handle) h = (refl, (free_handle handle h, tt))
-words_free (calls.HandleDuplicate handle rights) (a, b) = (refl, (free_handle handle a, (free_mask rights b, tt)))
-words_free (calls.HandleReplace handle rights) (a, b) = (refl, (free_handle handle a, (free_mask rights b, tt)))
-words_free (calls.ObjectSignal handle clear set) (a, b, c) = (refl, (free_handle handle a, (free_mask clear.0 b, (free_mask set.0 c, tt))))
-words_free (calls.ObjectSignalPeer handle clear set) (a, b, c) = (refl, (free_handle handle a, (free_mask clear.0 b, (free_mask set.0 c, tt))))
-words_free calls.ChannelCreate h = (refl, tt)
-words_free (calls.ChannelWrite handle parcel) (a, b, few, c, short) = (refl, (free_handle handle a, (free_bytes parcel.bytes b, (free_handles parcel.handles c, tt))))
-words_free (calls.ChannelRead handle bytes handles true) (a, b, c) = (refl, (free_handle handle a, (free_handle bytes b, (free_handle handles c, (refl, tt)))))
-words_free (calls.ChannelRead handle bytes handles false) (a, b, c) = (refl, (free_handle handle a, (free_handle bytes b, (free_handle handles c, tt))))
-words_free calls.PortCreate h = (refl, tt)
-words_free (calls.ObjectWaitAsync handle port key signals) (a, b, c, d) = (refl, (free_handle handle a, (free_handle port b, (free_key key c, (free_mask signals.0 d, tt)))))
-words_free (calls.PortQueue port key bytes) (a, b, c, whole) = (refl, (free_handle port a, (free_key key b, (free_bytes bytes c, tt))))
-words_free (calls.PortWait port) h = (refl, (free_handle port h, tt))
-words_free (calls.PortCancel port source key) (a, b, c) = (refl, (free_handle port a, (free_handle source b, (free_key key c, tt))))
-words_free (calls.JobCreate job) h = (refl, (free_handle job h, tt))
-words_free (calls.Spawn job argument) (a, b) = (refl, (free_handle job a, (free_handle argument b, tt)))
-words_free (calls.TaskKill handle) h = (refl, (free_handle handle h, tt))
-words_free (calls.ProcessExit code) h = (refl, (free_code code h, tt))
+-- every word of a call is of visible bytes
+words_seen : (made : Call) → IsWithin made → AreSeen (call_name made ∷ call_arguments made)
+words_seen calls.EventCreate h = (refl, tt)
+words_seen calls.EventPairCreate h = (refl, tt)
+words_seen (calls.HandleClose handle) h = (refl, (seen_handle handle h, tt))
+words_seen (calls.HandleDuplicate handle rights) (a, b) = (refl, (seen_handle handle a, (seen_mask rights b, tt)))
+words_seen (calls.HandleReplace handle rights) (a, b) = (refl, (seen_handle handle a, (seen_mask rights b, tt)))
+words_seen (calls.ObjectSignal handle clear set) (a, b, c) = (refl, (seen_handle handle a, (seen_mask clear.0 b, (seen_mask set.0 c, tt))))
+words_seen (calls.ObjectSignalPeer handle clear set) (a, b, c) = (refl, (seen_handle handle a, (seen_mask clear.0 b, (seen_mask set.0 c, tt))))
+words_seen calls.ChannelCreate h = (refl, tt)
+words_seen (calls.ChannelWrite handle parcel) (a, b, few, c, short) = (refl, (seen_handle handle a, (seen_bytes parcel.bytes b, (seen_handles parcel.handles c, tt))))
+words_seen (calls.ChannelRead handle bytes handles true) (a, b, c) = (refl, (seen_handle handle a, (seen_handle bytes b, (seen_handle handles c, (refl, tt)))))
+words_seen (calls.ChannelRead handle bytes handles false) (a, b, c) = (refl, (seen_handle handle a, (seen_handle bytes b, (seen_handle handles c, tt))))
+words_seen calls.PortCreate h = (refl, tt)
+words_seen (calls.ObjectWaitAsync handle port key signals) (a, b, c, d) = (refl, (seen_handle handle a, (seen_handle port b, (seen_decimal key c, (seen_mask signals.0 d, tt)))))
+words_seen (calls.PortQueue port key bytes) (a, b, c, whole) = (refl, (seen_handle port a, (seen_decimal key b, (seen_bytes bytes c, tt))))
+words_seen (calls.PortWait port) h = (refl, (seen_handle port h, tt))
+words_seen (calls.PortCancel port source key) (a, b, c) = (refl, (seen_handle port a, (seen_handle source b, (seen_decimal key c, tt))))
+words_seen (calls.JobCreate job) h = (refl, (seen_handle job h, tt))
+words_seen (calls.Spawn job argument) (a, b) = (refl, (seen_handle job a, (seen_handle argument b, tt)))
+words_seen (calls.TaskKill handle) h = (refl, (seen_handle handle h, tt))
+words_seen (calls.ProcessExit code) h = (refl, (seen_code code h, tt))
 
 -- the words of a call read as that call, at whatever column they begin
 call_read : (made : Call) → IsWithin made → (column behind : ℕ) → call (record { fields = placed column (call_name made ∷ call_arguments made); behind = behind }) ≡ Ok made
@@ -93,19 +92,51 @@ not_skipped (d ∷ ds) rest some all =
     let parts = and_parts (is_ascii_digit d) (list_all is_ascii_digit ds) all in
     grind (arith, nat_tests, parts.0)
 
--- the line of a call reads as that call
-pub call_line_read : (process : ℕ) (made : Call) → process < 2 ^ 64 → IsWithin made → read_as (shown_call process made) ≡ Ok (Some (commands.Call process made))
-unfolding read_as shown_call command placed field
-call_line_read process made small within =
-    let numeral = decimal_is_IsNumeral process small in
-    let free = words_free made within in
-    let line : List ℕ = words (decimal process ∷ call_name made ∷ call_arguments made) in
-    let fields : fields_of (words (decimal process ∷ call_name made ∷ call_arguments made)) ≡ decimal process ∷ call_name made ∷ call_arguments made =
-    parts_joined 32 (decimal process) (call_name made ∷ call_arguments made) (free_key process small) free in
-    let asked = not_skipped (decimal process) (32 ∷ words (call_name made ∷ call_arguments made)) numeral.0.0 (decimal_digits process small) in
-    rw (asked, fields, key_read process small, call_read made within (1 + length (decimal process) + 1) (length line + 1)) refl
+-- the words of a line that shows a call
+abbrev line_words : ℕ → Call → List (List ℕ)
+line_words process made = decimal process ∷ call_name made ∷ call_arguments made
 
-same_command : (p q : ℕ) (c d : Call) (r : Result (Option Command) Refusal) → r ≡ Ok (Some (commands.Call p c)) → r ≡ Ok (Some (commands.Call q d)) → (p ≡ q) × (c ≡ d)
+-- the line of a call is of visible bytes and spaces
+pub call_line_free : (process : ℕ) (made : Call) → process < 2 ^ 64 → IsWithin made → is_free 10 (shown_call process made) ≡ true
+unfolding shown_call
+call_line_free process made small within = line_free (line_words process made) (seen_decimal process small, words_seen made within)
+
+-- its fields are the words of the call
+line_fields : (process : ℕ) (made : Call) → process < 2 ^ 64 → IsWithin made → fields_of (words (line_words process made)) ≡ line_words process made
+line_fields process made small within =
+    parts_joined 32 (decimal process) (call_name made ∷ call_arguments made) (free_seen 32 (lit≤ tt) (decimal process) (seen_decimal process small))
+    (all_free (call_name made ∷ call_arguments made) (words_seen made within))
+
+-- it is neither too long nor skipped
+pub call_line_kept : (process : ℕ) (made : Call) → process < 2 ^ 64 → IsWithin made → fields_in (shown_call process made) ≡ Ok (Some (unread (shown_call process made)))
+unfolding fields_in shown_call
+call_line_kept process made small within =
+    let numeral = decimal_is_IsNumeral process small in
+    let few : nat_lt 140000 (length (words (line_words process made))) ≡ false = call_line_few process made small within in
+    let asked = not_skipped (decimal process) (32 ∷ words (call_name made ∷ call_arguments made)) numeral.0.0 (decimal_digits process small) in
+    rw (few, asked) refl
+
+-- the process and the call that its fields read as
+pub call_line_made : (process : ℕ) (made : Call) → process < 2 ^ 64 → IsWithin made → process_call (unread (shown_call process made)) ≡ Ok (process, made)
+unfolding process_call shown_call placed field
+call_line_made process made small within =
+    let text : List ℕ = words (line_words process made) in
+    let fields = line_fields process made small within in
+    rw (fields, key_read process small, call_read made within (1 + length (decimal process) + 1) (length text + 1)) refl
+
+call_line_asked : (process : ℕ) (made : Call) → process < 2 ^ 64 → IsWithin made → asked_by (unread (shown_call process made)) ≡ Ok (line.Command (commands.Call process made))
+unfolding asked_by shown_call placed field
+call_line_asked process made small within =
+    let text : List ℕ = words (line_words process made) in
+    let fields = line_fields process made small within in
+    rw (fields, key_read process small, call_read made within (1 + length (decimal process) + 1) (length text + 1)) refl
+
+-- the line of a call reads as that call
+pub call_line_read : (process : ℕ) (made : Call) → process < 2 ^ 64 → IsWithin made → read_as (shown_call process made) ≡ Ok (Some (line.Command (commands.Call process made)))
+unfolding read_as
+call_line_read process made small within = rw (call_line_kept process made small within, call_line_asked process made small within) refl
+
+same_command : (p q : ℕ) (c d : Call) (r : Result (Option Line) Refusal) → r ≡ Ok (Some (line.Command (commands.Call p c))) → r ≡ Ok (Some (line.Command (commands.Call q d))) → (p ≡ q) × (c ≡ d)
 same_command p q c d r first second = (cc, cc)
 
 -- two calls have two lines

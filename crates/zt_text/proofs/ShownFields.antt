@@ -148,6 +148,9 @@ mask_read n small = of_eight n (hexadecimal 8 n) (eight_digits n small)
 pub mask_digits_shown : (n : ℕ) → n < 2 ^ 32 → list_all is_hex_digit (hexadecimal 8 n) ≡ true
 mask_digits_shown n small = (eight_digits n small).all
 
+pub mask_length : (n : ℕ) → n < 2 ^ 32 → length (hexadecimal 8 n) ≡ 8
+mask_length n small = (eight_digits n small).eight
+
 -- ---- bytes
 
 -- the digit of each number below sixteen reads as it

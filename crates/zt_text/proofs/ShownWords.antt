@@ -1,6 +1,6 @@
 -- Words with a separator between are cut into those words, and which words have none; lists with commas.
-use Rattle.std.proofs.Common.{lit<, ◌≡◌, ℕ, suc, ◌-◌, ◌^◌, ◌<◌, ◌≤◌, Bool, true, false, List, [], ◌∷◌, ◌++◌, length, map, Some, ℤ, pos, negsuc, refl, sym, ap, ◌∙◌, arith, All, append-nil, append_assoc, subst}
-use Rattle.std.specs.Prelude.{Result, Ok, Err, OnOk, ⊤, ◌==◌, not, nat_le, codes}
+use Rattle.std.proofs.Common.{lit<, lit≤, ◌≡◌, ℕ, suc, ◌-◌, ◌^◌, ◌<◌, ◌≤◌, Bool, true, false, List, [], ◌∷◌, ◌++◌, length, map, Some, ℤ, pos, negsuc, refl, sym, ap, ◌∙◌, arith, All, append-nil, append_assoc, subst}
+use Rattle.std.specs.Prelude.{Result, Ok, Err, OnOk, ⊤, ◌==◌, not, nat_le, nat_lt, codes}
 use Rattle.std.specs.Char.{is_ascii_digit}
 use Rattle.std.specs.List.{list_all, onto_first, join_with_byte}
 use Rattle.std.specs.Fmt.{decimal, signed_decimal}
@@ -60,38 +60,78 @@ passing p c other (b ∷ bs) all =
 pub free_digits : (c : ℕ) → c < 48 → (bs : List ℕ) → list_all is_ascii_digit bs ≡ true → is_free c bs ≡ true
 free_digits c low bs all = passing is_ascii_digit c (λ b h. let other : (b == c) ≡ false = grind (arith, nat_tests) in rw other refl) bs all
 
-pub free_hex : (c : ℕ) → c < 48 → (bs : List ℕ) → list_all is_hex_digit bs ≡ true → is_free c bs ≡ true
-free_hex c low bs all = passing is_hex_digit c (λ b h. let other : (b == c) ≡ false = grind (arith, nat_tests) in rw other refl) bs all
-
 pub free_decimal : (c n : ℕ) → c < 48 → n < 2 ^ 64 → is_free c (decimal n) ≡ true
 free_decimal c n low small = free_digits c low (decimal n) (decimal_digits n small)
 
-pub free_code : (z : ℤ) → IsCode z → is_free 32 (signed_decimal z) ≡ true
-free_code (pos n) small = free_decimal 32 n (lit< tt) (omega arith)
-free_code (negsuc n) small = free_decimal 32 (suc n) (lit< tt) (omega arith)
+-- ---- words of visible bytes
 
-pub free_mask : (n : ℕ) → n < 2 ^ 32 → is_free 32 (shown_mask n) ≡ true
-free_mask n small = free_hex 32 (lit< tt) (hexadecimal 8 n) (mask_digits_shown n small)
+-- every byte of a word is above the space, and so is none of the bytes up to it
+abbrev pub is_seen : List ℕ → Bool
+is_seen word = list_all (λ byte. nat_lt 32 byte) word
 
-pub free_bytes : (bytes : List ℕ) → All IsByte bytes → is_free 32 (shown_bytes bytes) ≡ true
-free_bytes [] are = refl
-free_bytes (byte ∷ bytes) are = free_hex 32 (lit< tt) (hex_text (byte ∷ bytes)) (digits_of (byte ∷ bytes) are).all
+abbrev pub AreSeen : List (List ℕ) → Type 0
+AreSeen [] = ⊤
+AreSeen (word ∷ others) = (is_seen word ≡ true) × AreSeen others
+
+pub free_seen : (c : ℕ) → c ≤ 32 → (word : List ℕ) → is_seen word ≡ true → is_free c word ≡ true
+free_seen c low word all = passing (λ byte. nat_lt 32 byte) c (λ b h. let other : (b == c) ≡ false = grind (arith, nat_tests) in rw other refl) word all
+
+pub all_free : (words : List (List ℕ)) → AreSeen words → AreFree 32 words
+all_free [] are = tt
+all_free (word ∷ others) (here, are) = (free_seen 32 (lit≤ tt) word here, all_free others are)
+
+seen_if : (p : ℕ → Bool) → ((b : ℕ) → p b ≡ true → nat_lt 32 b ≡ true) → (bs : List ℕ) → list_all p bs ≡ true → is_seen bs ≡ true
+seen_if p high [] all = refl
+seen_if p high (b ∷ bs) all =
+    let parts = and_parts (p b) (list_all p bs) all in
+    rw (high b parts.0, seen_if p high bs parts.1) refl
+
+pub seen_digits : (bs : List ℕ) → list_all is_ascii_digit bs ≡ true → is_seen bs ≡ true
+seen_digits bs all = seen_if is_ascii_digit (λ b h. grind (arith, nat_tests)) bs all
+
+pub seen_hex : (bs : List ℕ) → list_all is_hex_digit bs ≡ true → is_seen bs ≡ true
+seen_hex bs all = seen_if is_hex_digit (λ b h. grind (arith, nat_tests)) bs all
+
+pub seen_decimal : (n : ℕ) → n < 2 ^ 64 → is_seen (decimal n) ≡ true
+seen_decimal n small = seen_digits (decimal n) (decimal_digits n small)
+
+pub seen_code : (z : ℤ) → IsCode z → is_seen (signed_decimal z) ≡ true
+seen_code (pos n) small = seen_decimal n (omega arith)
+seen_code (negsuc n) small = seen_decimal (suc n) (omega arith)
+
+pub seen_mask : (n : ℕ) → n < 2 ^ 32 → is_seen (shown_mask n) ≡ true
+seen_mask n small = seen_hex (hexadecimal 8 n) (mask_digits_shown n small)
+
+pub seen_bytes : (bytes : List ℕ) → All IsByte bytes → is_seen (shown_bytes bytes) ≡ true
+seen_bytes [] are = refl
+seen_bytes (byte ∷ bytes) are = seen_hex (hex_text (byte ∷ bytes)) (digits_of (byte ∷ bytes) are).all
+
+-- elements with commas between are seen where each is
+pub seen_joined : (words : List (List ℕ)) → AreSeen words → is_seen (join_with_byte 44 words) ≡ true
+seen_joined [] are = refl
+seen_joined (word ∷ []) (here, are) = here
+seen_joined (word ∷ next ∷ others) (here, are) =
+    list_all-append (λ byte. nat_lt 32 byte) word (44 ∷ join_with_byte 44 (next ∷ others)) ∙ rw (here, seen_joined (next ∷ others) are) refl
+
+-- a line of words has no line feed
+pub line_free : (words : List (List ℕ)) → AreSeen words → is_free 10 (join_with_byte 32 words) ≡ true
+line_free [] are = refl
+line_free (word ∷ []) (here, are) = free_seen 10 (lit≤ tt) word here
+line_free (word ∷ next ∷ others) (here, are) =
+    list_all-append (λ byte. not (byte == 10)) word (32 ∷ join_with_byte 32 (next ∷ others))
+    ∙ rw (free_seen 10 (lit≤ tt) word here, line_free (next ∷ others) are) refl
 
 -- ---- lists of handles
 
-free_joined : (h : ℕ) (hs : List ℕ) → All IsHandle (h ∷ hs) → is_free 32 (join_with_byte 44 (map decimal (h ∷ hs))) ≡ true
-free_joined h [] are =
-    let here : h < 2 ^ 32 = All-head IsHandle h [] are in
-    free_decimal 32 h (lit< tt) (omega (arith, here))
-free_joined h (g ∷ hs) are =
-    let here : h < 2 ^ 32 = All-head IsHandle h (g ∷ hs) are in
-    let front = free_decimal 32 h (lit< tt) (omega (arith, here)) in
-    let rest = free_joined g hs (All-tail IsHandle h (g ∷ hs) are) in
-    list_all-append (λ byte. not (byte == 32)) (decimal h) (44 ∷ join_with_byte 44 (map decimal (g ∷ hs))) ∙ rw (front, rest) refl
+each_seen : (handles : List ℕ) → All IsHandle handles → AreSeen (map decimal handles)
+each_seen [] are = tt
+each_seen (h ∷ hs) are =
+    let here : h < 2 ^ 32 = All-head IsHandle h hs are in
+    (seen_decimal h (omega (arith, here)), each_seen hs (All-tail IsHandle h hs are))
 
-pub free_handles : (handles : List ℕ) → All IsHandle handles → is_free 32 (shown_list decimal handles) ≡ true
-free_handles [] are = refl
-free_handles (h ∷ hs) are = free_joined h hs are
+pub seen_handles : (handles : List ℕ) → All IsHandle handles → is_seen (shown_list decimal handles) ≡ true
+seen_handles [] are = refl
+seen_handles (h ∷ hs) are = seen_joined (map decimal (h ∷ hs)) (each_seen (h ∷ hs) are)
 
 each_read : (handles : List ℕ) → All IsHandle handles → each_handle (map decimal handles) ≡ Some handles
 each_read [] are = refl

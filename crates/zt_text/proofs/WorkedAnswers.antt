@@ -1,12 +1,14 @@
 -- Answers and refusals that were shown by hand, as theorems: the forms of replies and rows.
 use Rattle.std.proofs.Common.{◌≡◌, List, ℕ, [], ◌∷◌, ◌++◌, refl}
-use Rattle.std.specs.Prelude.{codes, negsuc}
+use Rattle.std.specs.Prelude.{codes, negsuc, pos, None, Some}
 use Rattle.std.specs.Fmt.{digits}
 use Rattle.zt_bits.specs.declared.kinds.Kind.TheVariants as kind
 use Rattle.zt_rows.specs.declared.refusals.Refusal.TheVariants.{BadName}
 use Rattle.zt_rows.specs.declared.calls.Reply.{Reply}
 use Rattle.zt_rows.specs.declared.calls.Reply.TheVariants as reply
 use Rattle.zt_rows.specs.declared.calls.Answer.TheVariants as answer
+use Rattle.zt_rows.specs.declared.calls.Call.TheVariants as calls
+use Rattle.zt_rows.specs.declared.supports.Support.TheVariants as support
 use Rattle.zt_rows.specs.declared.keys.RowKey.{RowKey}
 use Rattle.zt_rows.specs.declared.keys.RowKey.TheVariants as key
 use Rattle.zt_rows.specs.declared.rows.Row.{Row}
@@ -16,7 +18,8 @@ use Rattle.zt_rows.specs.declared.rows.Packet.{Packet}
 use Rattle.zt_rows.specs.declared.rows.Packet.TheVariants as packet
 use Rattle.zt_text.specs.Bytes.{hex_text}
 use Rattle.zt_text.specs.Shown.{hexadecimal}
-use Rattle.zt_text.specs.Answers.{shown_packet, shown_reply, shown_key, shown_object, shown_wait, shown_queued, shown_row, shown_answer, shown_refusal}
+use Rattle.zt_text.specs.Answers.{shown_packet, shown_reply, shown_key, shown_object, shown_wait, shown_queued, shown_row, shown_support, shown_answer, shown_refusal}
+use Rattle.zt_text.specs.Calls.{shown_call}
 
 -- the line of a reply, and the line of a row that is shown alone
 abbrev called : Reply → List ℕ
@@ -60,6 +63,29 @@ record Positions : Type 0 where
 shows_positions : Positions
 unfolding digits shown_answer shown_refusal
 shows_positions = record { at = refl; no_rows = refl; bad_name = refl }
+
+record Questions : Type 0 where
+  branched : shown_answer (answer.Branched (codes "fix") 0) ≡ codes "branch fix 0" ++ (10 ∷ [])
+  followed : shown_answer (answer.Followed (codes "main") 3) ≡ codes "follow main 3" ++ (10 ∷ [])
+  pinned : shown_answer (answer.Pinned 1) ≡ codes "pinned 1" ++ (10 ∷ [])
+  holders : shown_answer (answer.Holders 1027 (support.Entry 1025 7 ∷ support.Message 1027 0 1 ∷ support.Child 1030 ∷ support.Itself ∷ [])) ≡ codes "holders 1027 4" ++ (10 ∷ (codes "entry 1025 7" ++ (10 ∷ (codes "message 1027 0 1" ++ (10 ∷ (codes "child 1030" ++ (10 ∷ (codes "self" ++ (10 ∷ [])))))))))
+  leaks : shown_answer (answer.Leaks 2 ((1027, kind.Channel) ∷ [])) ≡ codes "leaks 2 1" ++ (10 ∷ (codes "1027 channel" ++ (10 ∷ [])))
+  no_leaks : shown_answer (answer.Leaks 1 []) ≡ codes "leaks 1 0" ++ (10 ∷ [])
+  never : shown_answer (answer.When None) ≡ codes "never" ++ (10 ∷ [])
+  when : shown_answer (answer.When (Some (record { moment = 5; process = 1028; call = calls.ProcessExit (pos 5) }))) ≡ codes "5 1028 process_exit 5" ++ (10 ∷ [])
+
+shows_questions : Questions
+unfolding digits shown_support shown_call shown_answer
+shows_questions = record {
+  branched = refl;
+  followed = refl;
+  pinned = refl;
+  holders = refl;
+  leaks = refl;
+  no_leaks = refl;
+  never = refl;
+  when = refl;
+}
 
 record Rows : Type 0 where
   counters : alone key.Counters (rows.Counters (record { next_koid = 1027; next_wait = 0 })) ≡ behind_rows (codes "counters 1027 0")

@@ -6,16 +6,21 @@ use Rattle.std.specs.Fmt.{digits}
 use Rattle.zt_bits.specs.declared.kinds.Kind.TheVariants.{Job}
 use Rattle.zt_bits.specs.declared.statuses.Status.TheVariants.{BadHandle}
 use Rattle.zt_rows.specs.declared.refusals.Refusal.TheVariants.{BadLine, NoProcess}
+use Rattle.zt_rows.specs.declared.calls.Call.{Call}
 use Rattle.zt_rows.specs.declared.calls.Call.TheVariants as calls
 use Rattle.zt_rows.specs.declared.calls.Command.TheVariants as commands
+use Rattle.zt_rows.specs.declared.calls.Happening.TheVariants as happening
 use Rattle.zt_rows.specs.declared.calls.Reply.TheVariants as reply
 use Rattle.zt_rows.specs.declared.calls.Answer.TheVariants as answer
 use Rattle.zt_rows.specs.declared.keys.RowKey.TheVariants as key
 use Rattle.zt_rows.specs.declared.rows.Row.TheVariants as rows
 use Rattle.zt_rows.specs.declared.rows.Life.TheVariants.{Live}
+use Rattle.zt_text.specs.declared.reading.Line.{Line}
+use Rattle.zt_text.specs.declared.reading.Line.TheVariants as line
 use Rattle.zt_text.specs.Numbers.{decimal_of, code_of, mask_of}
 use Rattle.zt_text.specs.Bytes.{hex_bytes, bytes_of, packet_bytes_of}
 use Rattle.zt_text.specs.Lists.{listed, handles_of}
+use Rattle.zt_text.specs.Names.{name_of, happening_of}
 use Rattle.zt_text.specs.Fields.{placed, field, flag, ended}
 use Rattle.zt_text.specs.ReadingCalls.{event_create, eventpair_create, handle_close, handle_duplicate, handle_replace, object_signal, object_signal_peer, channel_create, channel_write, channel_read, port_create, object_wait_async, port_queue, port_wait, port_cancel, job_create, spawn, task_kill, process_exit, task_call_named, port_call_named, channel_call_named, handle_call_named, call_named, any_call_named, call}
 use Rattle.zt_text.specs.Reading.{fields_in, back, show, goto, only_name, branch, follow, holders, leaks, when, pin, question_named, plain_command_named, command_named, pinned_show, pinned_holders, pinned_leaks, pinned_named, pinned, word_named, asked_by, is_skipped, read_as}
@@ -25,23 +30,26 @@ use Rattle.zt_text.specs.Lines.{lines_of}
 
 -- what is unfolded to read a line
 unfoldable read_on_literals : ⊤
-unfolding decimal_of code_of mask_of hex_bytes bytes_of packet_bytes_of listed handles_of placed field flag ended event_create eventpair_create handle_close handle_duplicate handle_replace object_signal object_signal_peer channel_create channel_write channel_read port_create object_wait_async port_queue port_wait port_cancel job_create spawn task_kill process_exit task_call_named port_call_named channel_call_named handle_call_named call_named any_call_named call back show command_named command read_as
+unfolding decimal_of code_of mask_of hex_bytes bytes_of packet_bytes_of listed handles_of name_of happening_of placed field flag ended event_create eventpair_create handle_close handle_duplicate handle_replace object_signal object_signal_peer channel_create channel_write channel_read port_create object_wait_async port_queue port_wait port_cancel job_create spawn task_kill process_exit task_call_named port_call_named channel_call_named handle_call_named call_named any_call_named call goto back only_name branch follow show holders leaks when pin question_named plain_command_named command_named pinned_show pinned_holders pinned_leaks pinned_named pinned word_named asked_by fields_in read_as
 read_on_literals = tt
 
-reads_event : read_as (codes "1025 event_create") ≡ Ok (Some (commands.Call 1025 calls.EventCreate))
+abbrev called : ℕ → Call → Line
+called process made = line.Command (commands.Call process made)
+
+reads_event : read_as (codes "1025 event_create") ≡ Ok (Some (called 1025 calls.EventCreate))
 unfolding read_on_literals
 reads_event = refl
 
-reads_signal : read_as (codes "1025 object_signal 7 0x00000000 0x00000008") ≡ Ok (Some (commands.Call 1025 (calls.ObjectSignal 7 (record { 0 = 0 }) (record { 0 = 8 }))))
+reads_signal : read_as (codes "1025 object_signal 7 0x00000000 0x00000008") ≡ Ok (Some (called 1025 (calls.ObjectSignal 7 (record { 0 = 0 }) (record { 0 = 8 }))))
 unfolding read_on_literals
 reads_signal = refl
 
 record HandleCalls : Type 0 where
-  pair : read_as (codes "1025 eventpair_create") ≡ Ok (Some (commands.Call 1025 calls.EventPairCreate))
-  close : read_as (codes "1025 handle_close 0") ≡ Ok (Some (commands.Call 1025 (calls.HandleClose 0)))
-  duplicate : read_as (codes "1025 handle_duplicate 7 0x80000000") ≡ Ok (Some (commands.Call 1025 (calls.HandleDuplicate 7 0x80000000)))
-  replace : read_as (codes "1025 handle_replace 7 0x0000c003") ≡ Ok (Some (commands.Call 1025 (calls.HandleReplace 7 0xc003)))
-  signal_peer : read_as (codes "1025 object_signal_peer 7 0x00000008 0x01000000") ≡ Ok (Some (commands.Call 1025 (calls.ObjectSignalPeer 7 (record { 0 = 8 }) (record { 0 = 0x1000000 }))))
+  pair : read_as (codes "1025 eventpair_create") ≡ Ok (Some (called 1025 calls.EventPairCreate))
+  close : read_as (codes "1025 handle_close 0") ≡ Ok (Some (called 1025 (calls.HandleClose 0)))
+  duplicate : read_as (codes "1025 handle_duplicate 7 0x80000000") ≡ Ok (Some (called 1025 (calls.HandleDuplicate 7 0x80000000)))
+  replace : read_as (codes "1025 handle_replace 7 0x0000c003") ≡ Ok (Some (called 1025 (calls.HandleReplace 7 0xc003)))
+  signal_peer : read_as (codes "1025 object_signal_peer 7 0x00000008 0x01000000") ≡ Ok (Some (called 1025 (calls.ObjectSignalPeer 7 (record { 0 = 8 }) (record { 0 = 0x1000000 }))))
   close_of_a_word : read_as (codes "1025 handle_close x") ≡ Err (BadLine 19)
   close_of_nothing : read_as (codes "1025 handle_close") ≡ Err (BadLine 18)
   rights_in_decimal : read_as (codes "1025 handle_replace 7 0") ≡ Err (BadLine 23)
@@ -60,11 +68,11 @@ reads_handle_calls = record {
 }
 
 record ChannelCalls : Type 0 where
-  create : read_as (codes "1025 channel_create") ≡ Ok (Some (commands.Call 1025 calls.ChannelCreate))
-  write : read_as (codes "1025 channel_write 7 6869 15,19") ≡ Ok (Some (commands.Call 1025 (calls.ChannelWrite 7 (record { bytes = 104 ∷ 105 ∷ []; handles = 15 ∷ 19 ∷ [] }))))
-  nothing : read_as (codes "1025 channel_write 0 - -") ≡ Ok (Some (commands.Call 1025 (calls.ChannelWrite 0 (record { bytes = []; handles = [] }))))
-  read : read_as (codes "1025 channel_read 7 16 0") ≡ Ok (Some (commands.Call 1025 (calls.ChannelRead 7 16 0 false)))
-  discard : read_as (codes "1025 channel_read 7 0 4294967295 discard") ≡ Ok (Some (commands.Call 1025 (calls.ChannelRead 7 0 4294967295 true)))
+  create : read_as (codes "1025 channel_create") ≡ Ok (Some (called 1025 calls.ChannelCreate))
+  write : read_as (codes "1025 channel_write 7 6869 15,19") ≡ Ok (Some (called 1025 (calls.ChannelWrite 7 (record { bytes = 104 ∷ 105 ∷ []; handles = 15 ∷ 19 ∷ [] }))))
+  nothing : read_as (codes "1025 channel_write 0 - -") ≡ Ok (Some (called 1025 (calls.ChannelWrite 0 (record { bytes = []; handles = [] }))))
+  read : read_as (codes "1025 channel_read 7 16 0") ≡ Ok (Some (called 1025 (calls.ChannelRead 7 16 0 false)))
+  discard : read_as (codes "1025 channel_read 7 0 4294967295 discard") ≡ Ok (Some (called 1025 (calls.ChannelRead 7 0 4294967295 true)))
 
 reads_channel_calls : ChannelCalls
 unfolding read_on_literals
@@ -122,11 +130,11 @@ unfolding decimal_of listed handles_of
 lists_at_their_ends = record { longest = refl; too_long = refl }
 
 record PortCalls : Type 0 where
-  create : read_as (codes "1025 port_create") ≡ Ok (Some (commands.Call 1025 calls.PortCreate))
-  wait_async : read_as (codes "1025 object_wait_async 7 11 18446744073709551615 0x00000008") ≡ Ok (Some (commands.Call 1025 (calls.ObjectWaitAsync 7 11 18446744073709551615 (record { 0 = 8 }))))
-  queue : read_as (codes "1025 port_queue 11 1 00000000000000000000000000000000000000000000000000000000000000ff") ≡ Ok (Some (commands.Call 1025 (calls.PortQueue 11 1 (replicate 31 0 ++ 255 ∷ []))))
-  wait : read_as (codes "1025 port_wait 11") ≡ Ok (Some (commands.Call 1025 (calls.PortWait 11)))
-  cancel : read_as (codes "1025 port_cancel 11 7 9") ≡ Ok (Some (commands.Call 1025 (calls.PortCancel 11 7 9)))
+  create : read_as (codes "1025 port_create") ≡ Ok (Some (called 1025 calls.PortCreate))
+  wait_async : read_as (codes "1025 object_wait_async 7 11 18446744073709551615 0x00000008") ≡ Ok (Some (called 1025 (calls.ObjectWaitAsync 7 11 18446744073709551615 (record { 0 = 8 }))))
+  queue : read_as (codes "1025 port_queue 11 1 00000000000000000000000000000000000000000000000000000000000000ff") ≡ Ok (Some (called 1025 (calls.PortQueue 11 1 (replicate 31 0 ++ 255 ∷ []))))
+  wait : read_as (codes "1025 port_wait 11") ≡ Ok (Some (called 1025 (calls.PortWait 11)))
+  cancel : read_as (codes "1025 port_cancel 11 7 9") ≡ Ok (Some (called 1025 (calls.PortCancel 11 7 9)))
   no_bytes : read_as (codes "1025 port_queue 11 1 -") ≡ Err (BadLine 22)
   few_digits : read_as (codes "1025 port_queue 11 1 000000000000000000000000000000000000000000000000000000000000ff") ≡ Err (BadLine 22)
   upper : read_as (codes "1025 port_queue 11 1 00000000000000000000000000000000000000000000000000000000000000Ff") ≡ Err (BadLine 22)
@@ -147,10 +155,10 @@ reads_port_calls = record {
 }
 
 record TaskCalls : Type 0 where
-  create : read_as (codes "1025 job_create 3") ≡ Ok (Some (commands.Call 1025 (calls.JobCreate 3)))
-  spawn : read_as (codes "1025 spawn 3 11") ≡ Ok (Some (commands.Call 1025 (calls.Spawn 3 11)))
-  kill : read_as (codes "1025 task_kill 15") ≡ Ok (Some (commands.Call 1025 (calls.TaskKill 15)))
-  exit : read_as (codes "1028 process_exit 5") ≡ Ok (Some (commands.Call 1028 (calls.ProcessExit (pos 5))))
+  create : read_as (codes "1025 job_create 3") ≡ Ok (Some (called 1025 (calls.JobCreate 3)))
+  spawn : read_as (codes "1025 spawn 3 11") ≡ Ok (Some (called 1025 (calls.Spawn 3 11)))
+  kill : read_as (codes "1025 task_kill 15") ≡ Ok (Some (called 1025 (calls.TaskKill 15)))
+  exit : read_as (codes "1028 process_exit 5") ≡ Ok (Some (called 1028 (calls.ProcessExit (pos 5))))
   no_argument : read_as (codes "1025 spawn 3") ≡ Err (BadLine 13)
   no_code : read_as (codes "1028 process_exit") ≡ Err (BadLine 18)
 
@@ -196,10 +204,10 @@ reads_codes = record {
 
 -- numbers at their ends
 record Ends : Type 0 where
-  no_process : read_as (codes "0 event_create") ≡ Ok (Some (commands.Call 0 calls.EventCreate))
-  last_process : read_as (codes "18446744073709551615 event_create") ≡ Ok (Some (commands.Call 18446744073709551615 calls.EventCreate))
-  last_handle : read_as (codes "9 object_signal 4294967295 0xffffffff 0x0123abcd") ≡ Ok (Some (commands.Call 9 (calls.ObjectSignal 4294967295 (record { 0 = 0xffffffff }) (record { 0 = 0x0123abcd }))))
-  no_handle : read_as (codes "9 object_signal 0 0xfedcba98 0x00000000") ≡ Ok (Some (commands.Call 9 (calls.ObjectSignal 0 (record { 0 = 0xfedcba98 }) (record { 0 = 0 }))))
+  no_process : read_as (codes "0 event_create") ≡ Ok (Some (called 0 calls.EventCreate))
+  last_process : read_as (codes "18446744073709551615 event_create") ≡ Ok (Some (called 18446744073709551615 calls.EventCreate))
+  last_handle : read_as (codes "9 object_signal 4294967295 0xffffffff 0x0123abcd") ≡ Ok (Some (called 9 (calls.ObjectSignal 4294967295 (record { 0 = 0xffffffff }) (record { 0 = 0x0123abcd }))))
+  no_handle : read_as (codes "9 object_signal 0 0xfedcba98 0x00000000") ≡ Ok (Some (called 9 (calls.ObjectSignal 0 (record { 0 = 0xfedcba98 }) (record { 0 = 0 }))))
 
 reads_ends : Ends
 unfolding read_on_literals
@@ -210,12 +218,82 @@ reads_ends = record {
   no_handle = refl;
 }
 
-reads_back : read_as (codes "back 1048576") ≡ Ok (Some (commands.Back 1048576))
+-- commands, and questions to the pinned copy
+record Commands : Type 0 where
+  goto : read_as (codes "goto 4294967295") ≡ Ok (Some (line.Command (commands.Goto 4294967295)))
+  back : read_as (codes "back 1048576") ≡ Ok (Some (line.Command (commands.Back 1048576)))
+  branch : read_as (codes "branch ~F-1") ≡ Ok (Some (line.Command (commands.Branch (codes "~F-1"))))
+  follow : read_as (codes "follow main") ≡ Ok (Some (line.Command (commands.Follow (codes "main"))))
+  show : read_as (codes "show") ≡ Ok (Some (line.Command commands.Show))
+  holders : read_as (codes "holders 1027") ≡ Ok (Some (line.Command (commands.Holders 1027)))
+  leaks : read_as (codes "leaks") ≡ Ok (Some (line.Command commands.Leaks))
+  made : read_as (codes "when made 1026") ≡ Ok (Some (line.Command (commands.When happening.Made 1026)))
+  ended : read_as (codes "when ended 1028") ≡ Ok (Some (line.Command (commands.When happening.Ended 1028)))
+  peer_closed : read_as (codes "when peer_closed 1027") ≡ Ok (Some (line.Command (commands.When happening.PeerClosed 1027)))
+  leaked : read_as (codes "when leaked 18446744073709551615") ≡ Ok (Some (line.Command (commands.When happening.Leaked 18446744073709551615)))
+  pin : read_as (codes "pin") ≡ Ok (Some (line.Command commands.Pin))
+  pinned_show : read_as (codes "pinned show") ≡ Ok (Some line.PinnedShow)
+  pinned_holders : read_as (codes "pinned holders 1027") ≡ Ok (Some (line.PinnedHolders 1027))
+  pinned_leaks : read_as (codes "pinned leaks") ≡ Ok (Some line.PinnedLeaks)
+
+reads_commands : Commands
 unfolding read_on_literals
-reads_back = refl
+reads_commands = record {
+  goto = refl;
+  back = refl;
+  branch = refl;
+  follow = refl;
+  show = refl;
+  holders = refl;
+  leaks = refl;
+  made = refl;
+  ended = refl;
+  peer_closed = refl;
+  leaked = refl;
+  pin = refl;
+  pinned_show = refl;
+  pinned_holders = refl;
+  pinned_leaks = refl;
+}
+
+-- their faults
+record CommandColumns : Type 0 where
+  no_moment : read_as (codes "goto") ≡ Err (BadLine 5)
+  wide_moment : read_as (codes "goto 4294967296") ≡ Err (BadLine 6)
+  wide_count : read_as (codes "back 1048577") ≡ Err (BadLine 6)
+  no_name : read_as (codes "branch") ≡ Err (BadLine 7)
+  empty_name : read_as (codes "branch ") ≡ Err (BadLine 8)
+  two_names : read_as (codes "follow main fix") ≡ Err (BadLine 13)
+  no_character : read_as (codes "follow a" ++ 127 ∷ []) ≡ Err (BadLine 8)
+  no_koid : read_as (codes "holders x") ≡ Err (BadLine 9)
+  no_such_happening : read_as (codes "when closed 7") ≡ Err (BadLine 6)
+  nothing_happened_to : read_as (codes "when made") ≡ Err (BadLine 10)
+  pin_of_something : read_as (codes "pin 7") ≡ Err (BadLine 5)
+  pinned_alone : read_as (codes "pinned") ≡ Err (BadLine 7)
+  pinned_hide : read_as (codes "pinned hide") ≡ Err (BadLine 8)
+  pinned_show_more : read_as (codes "pinned show x") ≡ Err (BadLine 13)
+
+command_columns : CommandColumns
+unfolding read_on_literals
+command_columns = record {
+  no_moment = refl;
+  wide_moment = refl;
+  wide_count = refl;
+  no_name = refl;
+  empty_name = refl;
+  two_names = refl;
+  no_character = refl;
+  no_koid = refl;
+  no_such_happening = refl;
+  nothing_happened_to = refl;
+  pin_of_something = refl;
+  pinned_alone = refl;
+  pinned_hide = refl;
+  pinned_show_more = refl;
+}
 
 skips : (read_as [] ≡ Ok None) × (read_as (codes "# show") ≡ Ok None)
-unfolding read_as
+unfolding fields_in read_as
 skips = (refl, refl)
 
 -- the columns of faults: a space in front, one behind, two in the middle, and a carriage return

@@ -1,5 +1,5 @@
 -- What a session text reads as: its first line, then the line of each call.
-use Rattle.std.specs.Prelude.{◌≡◌, ◌⊎◌, ℕ, ◌+◌, Bool, true, false, ◌&&◌, nat_lt, List, [], ◌∷◌, length, Option, Some, None, Result, Ok, Err, is_ok, if◌then◌else◌, codes}
+use Rattle.std.specs.Prelude.{◌≡◌, ◌⊎◌, ℕ, ◌+◌, Bool, true, false, ◌&&◌, nat_lt, List, [], ◌∷◌, ◌++◌, length, Option, is_some, Some, None, Result, Ok, Err, is_ok, if◌then◌else◌, codes}
 use Rattle.std.specs.Str.{bytes_eq}
 use Rattle.zt_rows.specs.declared.refusals.Refusal.{Refusal}
 use Rattle.zt_rows.specs.declared.refusals.Refusal.TheVariants.{BadLine, LineTooLong, OutOfMemory}
@@ -15,10 +15,14 @@ call_in line = do
   left ← fields_in line
   each_by process_call left
 
--- a fault with the number of its line
+-- a fault with the number of its line; a want of memory has no line
+abbrev pub fault_at : ℕ → Refusal → ℕ × Refusal
+fault_at number OutOfMemory = (0, OutOfMemory)
+fault_at number fault = (number, fault)
+
 abbrev pub at_line : {A : Type 0} → ℕ → Result A Refusal → Result A (ℕ × Refusal)
 at_line number (Ok value) = Ok value
-at_line number (Err fault) = Err (number, fault)
+at_line number (Err fault) = Err (fault_at number fault)
 
 -- the call of one line in front of those of the others
 abbrev pub in_front : Option (ℕ × Call) → List (ℕ × Call) → List (ℕ × Call)
@@ -67,11 +71,26 @@ abbrev pub has_call_behind : List (List ℕ) → Bool
 has_call_behind [] = false
 has_call_behind (first ∷ lines) = is_ok (first_line first) && has_call lines
 
--- memory was refused, which is asked for where a call comes before any fault
-abbrev pub IsWantOfMemory : List ℕ → ℕ × Refusal → Type 0
-IsWantOfMemory text fault = (has_call_behind (lines_of text) ≡ true) × (fault ≡ (0, OutOfMemory))
+abbrev pub session_has_call : List ℕ → Bool
+session_has_call text = has_call_behind (lines_of text)
 
--- why a session text is not read: its first fault, or that memory was refused
-abbrev pub IsFaultOf : List ℕ → Result (List (ℕ × Call)) (ℕ × Refusal) → ℕ × Refusal → Type 0
-IsFaultOf text (Ok _) fault = IsWantOfMemory text fault
-IsFaultOf text (Err first) fault = (fault ≡ first) ⊎ IsWantOfMemory text fault
+-- memory was refused, which is asked for where a call comes before any fault
+abbrev pub IsWantOfMemory : Bool → ℕ × Refusal → Type 0
+IsWantOfMemory some fault = (some ≡ true) × (fault ≡ (0, OutOfMemory))
+
+-- why calls are not read, where some of them may come before any fault: the first fault, or that memory was refused
+abbrev pub IsFaultOf : Bool → Result (List (ℕ × Call)) (ℕ × Refusal) → ℕ × Refusal → Type 0
+IsFaultOf some (Ok _) fault = IsWantOfMemory some fault
+IsFaultOf some (Err first) fault = (fault ≡ first) ⊎ IsWantOfMemory some fault
+
+-- ---- one line at a time
+
+-- the call of a line, if it has one, behind those so far
+abbrev pub IsTaken : List (ℕ × Call) → Result (Option (ℕ × Call)) Refusal → List (ℕ × Call) → Type 0
+IsTaken calls (Ok made) taken = taken ≡ calls ++ in_front made []
+IsTaken calls (Err _) taken = ⊥
+
+-- why a line is not taken: its fault, or that memory was refused to its call
+abbrev pub IsNotTaken : ℕ → Result (Option (ℕ × Call)) Refusal → ℕ × Refusal → Type 0
+IsNotTaken number (Ok made) fault = IsWantOfMemory (is_some made) fault
+IsNotTaken number (Err reason) fault = fault ≡ fault_at number reason

@@ -4,6 +4,7 @@ ghost use Rattle.std.specs.Fmt.{decimal, signed_decimal};
 ghost use Rattle.std.specs.List.{All};
 ghost use Rattle.zt_rows.specs.declared.calls.Call.{Call};
 ghost use Rattle.zt_rows.specs.declared.calls.Command.TheVariants as commands;
+ghost use Rattle.zt_text.specs.declared.reading.Line.TheVariants as line;
 ghost use Rattle.zt_text.specs.Numbers.{decimal_of, mask_of, code_of};
 ghost use Rattle.zt_text.specs.Bytes.{bytes_of, packet_bytes_of};
 ghost use Rattle.zt_text.specs.Lists.{handles_of};
@@ -132,7 +133,7 @@ pub fn every_call_is_within(process: Koid, call: &Call)
 #[tactic(auto, using(crate::proofs::ShownCalls::call_line_read))]
 pub fn calls_read_back()
     ensures { (process : ℕ) (call : Call) → process < 2 ^ 64 → IsWithin call
-        → read_as (shown_call process call) ≡ Ok (Some (commands.Call process call)) }
+        → read_as (shown_call process call) ≡ Ok (Some (line.Command (commands.Call process call))) }
 {}
 
 /// No two calls have one line.

@@ -13,6 +13,7 @@ mod numbers;
 mod printing;
 mod reading;
 mod reading_calls;
+mod session;
 mod within;
 mod writes;
 
@@ -20,3 +21,4 @@ pub use calls::{print_call, print_session};
 pub use answers::print_answer;
 pub use printing::{print_refusal, print_reply, print_rows};
 pub use reading::{Line, read_line};
+pub use session::read_session;

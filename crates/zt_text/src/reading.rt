@@ -9,7 +9,7 @@ use std::alloc::Global;
 use zt_rows::{Command, Koid, Refusal};
 
 /// The most bytes of a line.
-const LINE_BYTES: usize = 140_000;
+pub const LINE_BYTES: usize = 140_000;
 
 /// What a line asks.
 #[derive(Debug, Drop)]
