@@ -72,3 +72,14 @@ line_written (x ∷ xs) rest free =
     let parts = and_parts (not (x == 10)) (is_free 10 xs) free in
     let other : (x == 10) ≡ false = other_byte x 10 parts.0 in
     rw other (ap (onto_first x) (line_written xs rest parts.1))
+
+-- the same of what a line feed cuts off
+pub cut_alone : (bytes first : List ℕ) (left : Option (Bor (List ℕ))) → IsCut 10 bytes first left → left ≡ None → 0 < length bytes → lines_of bytes ≡ first ∷ []
+cut_alone bytes first None (parts, same) is some = line_alone bytes first parts same some
+cut_alone bytes first (Some rest) cut is some = cc is
+
+pub cut_first : (bytes first : List ℕ) (left : Option (Bor (List ℕ))) (rest : Bor (List ℕ)) → IsCut 10 bytes first left → left ≡ Some rest → lines_of bytes ≡ first ∷ lines_of rest.now
+cut_first bytes first None rest cut is = cc is
+cut_first bytes first (Some other) rest (parts, lengths) is =
+    let same : other ≡ rest = cc is in
+    line_first bytes first other.now parts ∙ ap (λ (r : Bor (List ℕ)). first ∷ lines_of r.now) same

@@ -1,10 +1,11 @@
 -- A session text read line by line: what the calls so far and the lines behind them make of the whole.
-use Rattle.std.proofs.Common.{◌≡◌, ◌⊎◌, inl, inr, ℕ, ◌+◌, Bool, true, false, List, [], ◌∷◌, ◌++◌, Option, Some, None, Result, Ok, Err, refl, sym, ap, ◌∙◌, append_assoc}
+use Rattle.std.proofs.Common.{◌≡◌, ◌⊎◌, inl, inr, ℕ, ◌+◌, Bool, true, false, List, [], ◌∷◌, ◌++◌, length, Option, Some, None, Result, Ok, Err, refl, sym, ap, ◌∙◌, append_assoc}
 use Rattle.std.specs.Prelude.{is_some}
-use Rattle.std.proofs.lemmas.List.{append-nil}
+use Rattle.std.proofs.lemmas.List.{append-nil, nil_from_length}
 use Rattle.zt_rows.specs.declared.refusals.Refusal.{Refusal}
 use Rattle.zt_rows.specs.declared.calls.Call.{Call}
 use Rattle.zt_text.specs.Fields.{◌>>=◌}
+use Rattle.zt_text.specs.Lines.{lines_of}
 use Rattle.zt_text.specs.Session.{call_in, at_line, in_front, calls_in, comes_first, has_call, IsWantOfMemory, IsFaultOf, IsTaken, IsNotTaken}
 
 -- calls in front of those that are still to be read
@@ -73,3 +74,8 @@ faulty whole some items number lines others line fault so_far has first is =
 pub all_taken : (whole : Result (List (ℕ × Call)) (ℕ × Refusal)) (items : List (ℕ × Call)) (number : ℕ) → whole ≡ behind items (calls_in number []) → whole ≡ Ok items
 unfolding calls_in
 all_taken whole items number so_far = so_far ∙ ap Ok (append-nil items)
+
+pub no_lines : (whole : Result (List (ℕ × Call)) (ℕ × Refusal)) (items : List (ℕ × Call)) (number : ℕ) (left : List ℕ)
+    → whole ≡ behind items (calls_in number (lines_of left)) → length left ≡ 0 → whole ≡ Ok items
+no_lines whole items number left so_far none =
+    all_taken whole items number (so_far ∙ ap (λ bytes. behind items (calls_in number (lines_of bytes))) (nil_from_length left none))
