@@ -41,7 +41,7 @@ use Rattle.zt_text.proofs.RowWords.{key_word, key_numbers, row_word, row_words, 
 
 -- ---- the forms of a row's fields
 
-rights_of : List ℕ → Option Rights
+abbrev rights_of : List ℕ → Option Rights
 rights_of text = option_map (λ n. record { 0 = n }) (mask_of text)
 
 unfoldable kind_of : List ℕ → Option Kind
@@ -62,7 +62,7 @@ life_of text =
 unfoldable any_bytes_of : List ℕ → Option (List ℕ)
 any_bytes_of text = if bytes_eq text (codes "-") then Some [] else Some (hex_bytes text)
 
-both : Option ℕ → Option ℕ → Option Held
+abbrev both : Option ℕ → Option ℕ → Option Held
 both (Some koid) (Some rights) = Some (record { koid = koid; rights = record { 0 = rights } })
 both _ _ = None
 
@@ -281,11 +281,18 @@ row_line_read k r fits of_key of_row =
     parts_joined 32 (key_word k) others (free_seen 32 (lit≤ tt) (key_word k) seen.0) (all_free others seen.1) in
     rw fields (row_read k r fits of_key of_row 1 _)
 
+one_read : (read : Result (RowKey × Row) Refusal) (x y : RowKey × Row) → read ≡ Ok x → read ≡ Ok y → x ≡ y
+one_read read x y first second = cc
+
+same_read : (read : Result (RowKey × Row) Refusal) (k j : RowKey) (r s : Row) → read ≡ Ok (k, r) → read ≡ Ok (j, s) → (k ≡ j) × (r ≡ s)
+same_read read k j r s first second =
+    let pair = one_read read (k, r) (j, s) first second in
+    (ap (λ (x : RowKey × Row). x.0) pair, ap (λ (x : RowKey × Row). x.1) pair)
+
 same_row : (k j : RowKey) (r s : Row) (x y : List ℕ) → row_of (unread x) ≡ Ok (k, r) → row_of (unread y) ≡ Ok (j, s) → x ∷ [] ≡ y ∷ [] → (k ≡ j) × (r ≡ s)
 same_row k j r s x y first second same =
     let text : x ≡ y = cc in
-    let both_read : Ok {E = Refusal} (k, r) ≡ Ok (j, s) = sym first ∙ ap (λ t. row_of (unread t)) text ∙ second in
-    (cc, cc)
+    same_read (row_of (unread x)) k j r s first (ap (λ t. row_of (unread t)) text ∙ second)
 
 -- two rows have two lines
 pub row_lines_differ : (k j : RowKey) (r s : Row) → suits k r ≡ true → suits j s ≡ true → IsKeyWithin k → IsKeyWithin j → IsRowWithin r → IsRowWithin s
