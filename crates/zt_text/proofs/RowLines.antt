@@ -1,11 +1,11 @@
 -- No two rows have one line: a reader of rows gives each row back from its line.
-use Rattle.std.proofs.Common.{lit<, lit≤, ◌≡◌, ℕ, ◌-◌, ◌^◌, ◌<◌, ◌≤◌, Bool, true, false, List, [], ◌∷◌, ◌++◌, map, drop, Option, Some, None, Result, Ok, Err, refl, sym, ap, ◌∙◌, arith, All, append_assoc}
+use Rattle.std.proofs.Common.{lit<, lit≤, ◌≡◌, ℕ, ◌-◌, ◌^◌, ◌<◌, true, false, List, [], ◌∷◌, ◌++◌, map, drop, Option, Some, None, Result, Ok, refl, sym, ap, ◌∙◌, arith, All, append_assoc}
 use Rattle.std.specs.Prelude.{codes, ◌==◌, not, if◌then◌else◌}
 use Rattle.std.specs.Char.{is_ascii_digit}
 use Rattle.std.specs.Str.{bytes_eq}
 use Rattle.std.specs.Option.{option_map}
 use Rattle.std.specs.List.{list_all, join_with_byte}
-use Rattle.std.specs.Fmt.{decimal, signed_decimal}
+use Rattle.std.specs.Fmt.{decimal}
 use Rattle.std.proofs.lemmas.Bool.Decides.{nat_tests}
 use Rattle.std.proofs.lemmas.Fmt.{decimal_is_IsNumeral}
 use Rattle.std.proofs.lemmas.List.Elements.{All-head, All-tail}
@@ -15,7 +15,6 @@ use Rattle.zt_bits.specs.declared.kinds.Kind.TheVariants as kind
 use Rattle.zt_bits.specs.declared.right_bits.Rights.{Rights}
 use Rattle.zt_bits.specs.Words.{kind_word}
 use Rattle.zt_rows.specs.declared.refusals.Refusal.{Refusal}
-use Rattle.zt_rows.specs.declared.refusals.Refusal.TheVariants.{BadLine}
 use Rattle.zt_rows.specs.declared.keys.RowKey.{RowKey}
 use Rattle.zt_rows.specs.declared.keys.RowKey.TheVariants as key
 use Rattle.zt_rows.specs.declared.rows.Held.{Held}
@@ -28,10 +27,10 @@ use Rattle.zt_rows.specs.declared.rows.Row.TheVariants as rows
 use Rattle.zt_rows.specs.Room.{suits}
 use Rattle.zt_text.specs.Numbers.{is_hex_digit, decimal_of, koid_of, key_of, handle_of, code_of, mask_of, signals_of}
 use Rattle.zt_text.specs.Bytes.{hex_bytes, hex_text}
-use Rattle.zt_text.specs.Fields.{Placed, Unread, ◌>>=◌, next, field, placed, unread, parts_of, fields_of}
+use Rattle.zt_text.specs.Fields.{Unread, ◌>>=◌, next, field, placed, unread, parts_of, fields_of}
 use Rattle.zt_text.specs.Lines.{lines_of}
 use Rattle.zt_text.specs.Shown.{words, hexadecimal, shown_mask, shown_bytes, shown_list, shown_held}
-use Rattle.zt_text.specs.Answers.{shown_key, shown_life, shown_row, row_line}
+use Rattle.zt_text.specs.Answers.{shown_life, row_line}
 use Rattle.zt_text.specs.Calls.{IsByte}
 use Rattle.zt_text.specs.Rows.{IsKeyWithin, IsHeldWithin, IsLifeWithin, IsPacketWithin, IsRowWithin}
 use Rattle.zt_text.proofs.ShownFields.{decimal_read, decimal_digits, mask_read, mask_digits_shown, code_read, digits_of, not_dash}
