@@ -1,5 +1,5 @@
 -- Forth from the fork, each record tells the row after its call.
-use Rattle.std.proofs.Common.{◌≡◌, ◌≤◌, ◌<◌, length, take, ap, ◌∙◌, arith}
+use Rattle.std.proofs.Common.{◌≡◌, length, take, ap, ◌∙◌, arith}
 use Rattle.std.specs.Option.{option_copied}
 use Rattle.std.proofs.Math.Seq.{take-length}
 use Rattle.zt_rows.specs.State.{row}

@@ -1,5 +1,5 @@
 -- Back from the position, each record tells the row before its call.
-use Rattle.std.proofs.Common.{◌≡◌, ◌≤◌, ◌<◌, length, arith}
+use Rattle.std.proofs.Common.{arith}
 use Rattle.std.specs.Option.{option_copied}
 use Rattle.zt_queries.proofs.WayLaws.{at-position, at-fork, back-down}
 use Rattle.zt_queries.proofs.times.row_at_fork.Goals as goal

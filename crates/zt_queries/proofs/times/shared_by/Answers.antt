@@ -1,5 +1,5 @@
 -- The paths are gone along as long as their moments are the same.
-use Rattle.std.proofs.Common.{◌≡◌, ◌≤◌, ◌<◌, length, get_or, refl, sym, ap, ◌∙◌, arith}
+use Rattle.std.proofs.Common.{◌≡◌, get_or, refl, sym, ap, ◌∙◌, arith}
 use Rattle.std.proofs.lemmas.Bool.{eqb-true}
 use Rattle.std.proofs.lemmas.List.{take_more_same}
 use Rattle.zt_queries.proofs.ForkLaws.{fork-apart, fork-past, fork-whole}
