@@ -1,5 +1,5 @@
 -- A search finds the key's place where the record has the key.
-use Rattle.std.proofs.Common.{◌≡◌, ap, ◌∙◌, subst, sym, List, Some}
+use Rattle.std.proofs.Common.{ap, ◌∙◌, subst, sym, List, Some}
 use Rattle.zt_rows.specs.declared.keys.RowKey.{RowKey}
 use Rattle.zt_store.specs.Held.{held}
 use Rattle.zt_store.specs.Recorded.{IsRecord}
