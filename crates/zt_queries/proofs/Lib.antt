@@ -7,3 +7,7 @@ pub mod WorkedLeaks
 pub mod KeyLaws
 pub mod CopyLaws
 pub mod HoldLaws
+pub mod WayLaws
+pub mod TreeTimes
+pub mod WhenLaws
+pub mod ForkLaws

@@ -5,7 +5,9 @@ mod frozen;
 pub mod laws;
 mod looks;
 mod supports;
+mod times;
 
 pub use frozen::Frozen;
-pub use looks::rows;
-pub use supports::holders;
+pub use looks::{rows, rows_at};
+pub use supports::{holders, holders_at};
+pub use times::{ended, made, peer_closed};
