@@ -3,6 +3,8 @@
 #![tactic(auto)]
 
 mod cells;
+mod chains;
+mod indices;
 mod changes;
 mod records;
 mod steps;
