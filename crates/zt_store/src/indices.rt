@@ -91,9 +91,10 @@ impl Index {
         ensures handles { length self.new.handles ≡ length self.old.handles }
         ensures ports { length self.new.ports ≡ length self.old.ports }
     {
-        if let RowKey::Wait(number) = key {
-            self.set(number, wait_in(row));
-        }
+        let RowKey::Wait(number) = key else {
+            return;
+        };
+        self.set(number, wait_in(row));
     }
 
     /// Puts the wait of this number into the buckets of its handle and of its port, or into none.
