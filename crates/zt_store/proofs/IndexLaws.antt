@@ -1,18 +1,22 @@
 -- The waits by what they are on: what a put makes of their buckets, and the search for the next one.
 use Rattle.std.proofs.Common.{◌≡◌, ◌<◌, ◌≤◌, ◌+◌, ◌-◌, arith, ℕ, suc, Bool, true, false, cond, List, length, get_or, set, Option, Some, None, refl, sym, ap, ◌∙◌, subst, ◌⊎◌, inl, inr, get_or-set_same, get_or-set_other}
 use Rattle.std.specs.Prelude.{◌==◌}
-use Rattle.std.specs.Option.{option_map}
-use Rattle.std.proofs.lemmas.Bool.{cases_lt, eqb-true, eq-eqb}
+use Rattle.std.specs.Option.{option_map, option_map_or}
+use Rattle.std.proofs.lemmas.Bool.{cases_lt, eqb-true, eq-eqb, ltb-true}
+use Rattle.std.proofs.lemmas.List.{get_or_past}
 use Rattle.zt_rows.specs.declared.keys.RowKey.{RowKey}
 use Rattle.zt_rows.specs.declared.keys.RowKey.TheVariants as key
 use Rattle.zt_rows.specs.declared.rows.Row.{Row}
 use Rattle.zt_rows.specs.declared.rows.Wait.{Wait}
 use Rattle.zt_rows.specs.Keys.{rowkey_eq}
 use Rattle.zt_rows.specs.Reads.{as_wait, wait}
-use Rattle.zt_rows.specs.State.{State, row, put}
-use Rattle.zt_rows.proofs.StateLaws.{row-put}
+use Rattle.zt_rows.specs.Opening.{hollow}
+use Rattle.zt_rows.specs.State.{State, row, put, nothing}
+use Rattle.zt_rows.proofs.RowLaws.{and_left, and_right}
+use Rattle.zt_rows.proofs.StateLaws.{row-put, row-nothing}
+use Rattle.zt_store.specs.Shelves.{Shelves, has_place}
 use Rattle.zt_store.specs.Chains.{IsBehind, IsNext, bucket_at, is_bucket, is_in}
-use Rattle.zt_store.specs.Indexed.{IsIndexed, IsRoomy, bucket_for, bucket_on, is_sought, waits_where}
+use Rattle.zt_store.specs.Indexed.{HasBuckets, IsIndexed, IsRoomy, bucket_for, bucket_on, handle_bucket, is_for, is_on, port_bucket, waits_after, waits_where}
 
 -- ---- puts
 
@@ -77,13 +81,13 @@ behind-or None m = inl tt
 behind-or (Some a) m = elim (cases_lt a m) [ | inl h ↦ inl h | inr h ↦ inr (λ g. omega arith) ]
 
 short-false : (q r : ℕ → Bool) (low at : Option ℕ) (n : ℕ) → ((n : ℕ) → q n ≡ true → r n ≡ true) → IsPassed q low at → IsNext r at (Some n) → (m : ℕ) → IsBehind (λ a b. a < b) low m → m < n → q m ≡ false
-short-false q r low at n in_r p h m behind less = elim (behind-or at m) [ | inl yes ↦ outside q r in_r m (h.1 m yes less) | inr no ↦ p.passed m behind no ]
+short-false q r low at n in_r p h m behind less = elim (behind-or at m) [ | inl after ↦ outside q r in_r m (h.1 m after less) | inr not ↦ p.passed m behind not ]
 
 pub passed-found : (q r : ℕ → Bool) (low at : Option ℕ) (n : ℕ) → ((n : ℕ) → q n ≡ true → r n ≡ true) → IsPassed q low at → IsNext r at (Some n) → q n ≡ true → IsNext q low (Some n)
 passed-found q r low at n in_r p h here = ((p.within n h.0.0, here), λ m behind less. short-false q r low at n in_r p h m behind less)
 
 pub passed-end : (q r : ℕ → Bool) (low at : Option ℕ) → ((n : ℕ) → q n ≡ true → r n ≡ true) → IsPassed q low at → IsNext r at None → IsNext q low None
-passed-end q r low at in_r p h = (tt, λ m behind short. elim (behind-or at m) [ | inl yes ↦ outside q r in_r m (h.1 m yes tt) | inr no ↦ p.passed m behind no ])
+passed-end q r low at in_r p h = (tt, λ m behind short. elim (behind-or at m) [ | inl after ↦ outside q r in_r m (h.1 m after tt) | inr not ↦ p.passed m behind not ])
 
 at-behind : (at : Option ℕ) (n m : ℕ) → IsBehind (λ a b. a < b) at n → n < m → IsBehind (λ a b. a < b) at m
 at-behind None n m h less = tt
@@ -110,3 +114,60 @@ left-shorter end (Some a) n h lt = omega arith
 
 pub in-map : (f : Wait → ℕ) (o : Option Wait) (w : Wait) (all : List (Option ℕ)) (n b : ℕ) → o ≡ Some w → bucket_at all n ≡ option_map f o → f w ≡ b → is_in all b n ≡ true
 in-map f o w all n b e h g = ap (is_bucket b) (h ∙ ap (option_map f) e) ∙ eq-eqb (f w) b g
+
+-- ---- what is looked for is in its bucket
+
+pub on-bucket : (S : State) (handles ports : List (Option ℕ)) → IsIndexed S handles ports → (p h n : ℕ) → waits_where S (is_on p h) n ≡ true → is_in handles (handle_bucket p h) n ≡ true
+on-bucket S handles ports h p v n e = by (wait S n) refl e
+  where
+    same : (w : Wait) → is_on p v w ≡ true → bucket_on w ≡ handle_bucket p v
+    same w t =
+        let a : w.process ≡ p = eqb-true w.process p (and_left (w.process == p) (w.handle == v) t) in
+        let b : w.handle ≡ v = eqb-true w.handle v (and_right (w.process == p) (w.handle == v) t) in
+        λ i. handle_bucket (a i) (b i)
+
+    by : (o : Option Wait) → wait S n ≡ o → option_map_or (is_on p v) o false ≡ true → is_in handles (handle_bucket p v) n ≡ true
+    by (Some w) is t = in-map bucket_on (wait S n) w handles n (handle_bucket p v) is (h.on n) (same w t)
+    by None is t = cc
+
+pub for-bucket : (S : State) (handles ports : List (Option ℕ)) → IsIndexed S handles ports → (x n : ℕ) → waits_where S (is_for x) n ≡ true → is_in ports (port_bucket x) n ≡ true
+for-bucket S handles ports h x n e = by (wait S n) refl e
+  where
+    by : (o : Option Wait) → wait S n ≡ o → option_map_or (is_for x) o false ≡ true → is_in ports (port_bucket x) n ≡ true
+    by (Some w) is t = in-map bucket_for (wait S n) w ports n (port_bucket x) is (h.to n) (ap port_bucket (eqb-true w.port x t))
+    by None is t = cc
+
+-- ---- places
+
+pub indexed-hollow : (handles ports : List (Option ℕ)) → length handles ≡ 0 → length ports ≡ 0 → IsIndexed hollow handles ports
+unfolding hollow
+indexed-hollow handles ports a b = record {
+  on = λ n. get_or_past handles n None (omega arith) ∙ sym (ap (option_map bucket_on) (none n));
+  to = λ n. get_or_past ports n None (omega arith) ∙ sym (ap (option_map bucket_for) (none n));
+}
+  where
+    none : (n : ℕ) → wait hollow n ≡ None
+    none n = ap as_wait (row-put nothing key.Counters _ (key.Wait n) ∙ row-nothing (key.Wait n))
+
+pub room-for : (s : Shelves) (k : RowKey) (handles ports : List (Option ℕ)) → has_place s k ≡ true → IsRoomy s.waits handles ports → HasBuckets k handles ports
+unfolding has_place
+room-for s (key.Wait n) handles ports h room =
+    let lt : n < s.waits = ltb-true n s.waits h in
+    record { on = omega (arith, room.on); to = omega (arith, room.to) }
+room-for s key.Counters handles ports h room = tt
+room-for s (key.Object x) handles ports h room = tt
+room-for s (key.Entry x y) handles ports h room = tt
+room-for s (key.Msg x y) handles ports h room = tt
+room-for s (key.Packet x y) handles ports h room = tt
+
+pub roomy-after : (k : RowKey) (waits later : ℕ) (handles ports more_handles more_ports : List (Option ℕ)) → IsRoomy waits handles ports → length handles ≤ length more_handles → length ports ≤ length more_ports
+    → HasBuckets k more_handles more_ports → later ≤ waits_after k waits → IsRoomy later more_handles more_ports
+roomy-after (key.Wait n) waits later handles ports more_handles more_ports room a b has le = record { on = omega (arith, room.on, has.on); to = omega (arith, room.to, has.to) }
+roomy-after key.Counters waits later handles ports more_handles more_ports room a b has le = record { on = omega (arith, room.on); to = omega (arith, room.to) }
+roomy-after (key.Object x) waits later handles ports more_handles more_ports room a b has le = record { on = omega (arith, room.on); to = omega (arith, room.to) }
+roomy-after (key.Entry x y) waits later handles ports more_handles more_ports room a b has le = record { on = omega (arith, room.on); to = omega (arith, room.to) }
+roomy-after (key.Msg x y) waits later handles ports more_handles more_ports room a b has le = record { on = omega (arith, room.on); to = omega (arith, room.to) }
+roomy-after (key.Packet x y) waits later handles ports more_handles more_ports room a b has le = record { on = omega (arith, room.on); to = omega (arith, room.to) }
+
+pub roomy-longer : (waits : ℕ) (handles ports more_handles more_ports : List (Option ℕ)) → IsRoomy waits handles ports → length handles ≤ length more_handles → length ports ≤ length more_ports → IsRoomy waits more_handles more_ports
+roomy-longer waits handles ports more_handles more_ports room a b = record { on = omega (arith, room.on); to = omega (arith, room.to) }

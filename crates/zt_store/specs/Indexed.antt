@@ -1,5 +1,5 @@
 -- The waits on a handle and those for a port, by the rows: and the buckets by which a store finds them.
-use Rattle.std.specs.Prelude.{◌≡◌, ◌+◌, ◌/◌, ◌%◌, ◌≤◌, ◌<◌, ◌==◌, ◌&&◌, ⊤, ℕ, Bool, false, List, length, Option, None, Some}
+use Rattle.std.specs.Prelude.{max, ◌≡◌, ◌+◌, ◌/◌, ◌%◌, ◌≤◌, ◌<◌, ◌==◌, ◌&&◌, ⊤, ℕ, Bool, false, List, length, Option, None, Some}
 use Rattle.std.specs.Option.{option_map, option_map_or}
 use Rattle.zt_rows.specs.declared.keys.RowKey.{RowKey}
 use Rattle.zt_rows.specs.declared.keys.RowKey.TheVariants as key
@@ -54,7 +54,7 @@ pub record IsRoomy (waits : ℕ) (handles ports : List (Option ℕ)) : Type 0 wh
 
 -- how many places for waits there can be after those of the key were made
 abbrev pub waits_after : RowKey → ℕ → ℕ
-waits_after (key.Wait n) waits = n + 1
+waits_after (key.Wait n) waits = max waits (n + 1)
 waits_after _ waits = waits
 
 -- the wait under the key, if it is one of a wait, can be put into buckets
