@@ -25,7 +25,7 @@ besides-more q None item next h not g = absurd (not tt)
 besides-more q (Some low) item next h not g = (within next g.0, λ m behind short. g.1 m (above m behind) short)
   where
     above : (m : ℕ) → low < m → item < m
-    above m less = elim (cases_lt item m) [ | inl h ↦ h | inr h ↦ absurd (not (omega arith)) ]
+    above m less = elim (cases_lt item m) [ inl h ↦ h | inr h ↦ absurd (not (omega arith)) ]
 
     within : (next : Option ℕ) → IfSome next (λ n. (item < n) × (q n ≡ true)) → IsWithin q next
     within None h = tt
@@ -43,7 +43,7 @@ room_above end None = 0
 room_above end (Some n) = suc (end - n)
 
 pub in-below : (all : List (Option ℕ)) (b n : ℕ) → is_in all b n ≡ true → n < length all
-in-below all b n h = elim (cases_lt n (length all)) [ | inl less ↦ less | inr past ↦ absurd (out past) ]
+in-below all b n h = elim (cases_lt n (length all)) [ inl less ↦ less | inr past ↦ absurd (out past) ]
   where
     out : length all ≤ n → ⊥
     out past = let e : is_bucket b (bucket_at all n) ≡ false = ap (is_bucket b) (get_or_past all n None past) in let c : true ≡ false = sym h ∙ e in cc
@@ -178,7 +178,7 @@ not-slot-next q b n (Some p) h = by (n == p) refl
 -- ---- places
 
 pub ends-there : (links : List Link) (ends : List Ends) (n b : ℕ) → IsChained links ends → bucket_at (buckets links) n ≡ Some b → b < length ends
-ends-there links ends n b chained at = elim (cases_lt b (length ends)) [ | inl less ↦ less | inr past ↦ absurd (out past) ]
+ends-there links ends n b chained at = elim (cases_lt b (length ends)) [ inl less ↦ less | inr past ↦ absurd (out past) ]
   where
     out : length ends ≤ b → ⊥
     out past =

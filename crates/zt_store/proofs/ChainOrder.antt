@@ -24,9 +24,9 @@ nearest lt o q (Some a) (Some p) n within behind h =
     elim (o.total a p) [
       | inl less ↦ inr (p, refl, less, h.0.0, h.0.1)
       | inr either ↦ elim either [
-          | inl same ↦ inl (ap (λ x. Some x) same)
-          | inr more ↦ clash (q a) within (h.1 a behind more)
-        ]
+        | inl same ↦ inl (ap (λ x. Some x) same)
+        | inr more ↦ clash (q a) within (h.1 a behind more)
+      ]
     ]
 
 short-through : (lt : ℕ → ℕ → Type 0) → IsOrder lt → (n : ℕ) (r : Option ℕ) (p : ℕ) → IsShortOf lt r n → lt p n → IsShortOf lt r p
@@ -58,18 +58,19 @@ either-way lt o m n P same other =
     elim (o.total m n) [
       | inl less ↦ other (o.apart m n less)
       | inr either ↦ elim either [
-          | inl e ↦ same e
-          | inr more ↦ other (λ e. o.apart n m more (sym e))
-        ]
+        | inl e ↦ same e
+        | inr more ↦ other (λ e. o.apart n m more (sym e))
+      ]
     ]
 
 came-true : (q r : ℕ → Bool) (n : ℕ) → ComesIn q r n → (m : ℕ) → q m ≡ true → r m ≡ true
 came-true q r n c m h = c.others m (λ e. clash (q m) h (ap q e ∙ c.fresh)) ∙ h
 
 pub came-behind : (lt : ℕ → ℕ → Type 0) → IsOrder lt → (q r : ℕ → Bool) (n : ℕ) (next : Option ℕ) → ComesIn q r n → IsNextBy lt q (Some n) next → IsNextBy lt r (Some n) next
-came-behind lt o q r n next c h =
-    (kept-next lt q r (Some n) next (came-true q r n c) h.0,
-    λ m behind short. c.others m (λ e. o.apart n m behind (sym e)) ∙ h.1 m behind short)
+came-behind lt o q r n next c h = (
+  kept-next lt q r (Some n) next (came-true q r n c) h.0,
+  λ m behind short. c.others m (λ e. o.apart n m behind (sym e)) ∙ h.1 m behind short,
+)
 
 came-before : (lt : ℕ → ℕ → Type 0) (n : ℕ) (before : Option ℕ) (q : ℕ → Bool) → IsNextBy (λ a b. lt b a) q (Some n) before → IsBehind lt before n
 came-before lt n None q h = tt
@@ -80,18 +81,20 @@ flip-short lt None m h = tt
 flip-short lt (Some p) m h = h
 
 pub came-next : (lt : ℕ → ℕ → Type 0) → IsOrder lt → (q r : ℕ → Bool) (n : ℕ) (before : Option ℕ) → ComesIn q r n → IsNextBy (λ a b. lt b a) q (Some n) before → IsNextBy lt r before (Some n)
-came-next lt o q r n before c h =
-    ((came-before lt n before q h, c.here),
-    λ m behind short. c.others m (o.apart m n short) ∙ h.1 m short (flip-short lt before m behind))
+came-next lt o q r n before c h = (
+  (came-before lt n before q h, c.here),
+  λ m behind short. c.others m (o.apart m n short) ∙ h.1 m short (flip-short lt before m behind),
+)
 
 pub came-other : (lt : ℕ → ℕ → Type 0) → IsOrder lt → (q r : ℕ → Bool) (n : ℕ) (before low next : Option ℕ) → ComesIn q r n → IsNextBy (λ a b. lt b a) q (Some n) before
     → IsWithin q low → (low ≡ before → ⊥) → IsNextBy lt q low next → IsNextBy lt r low next
-came-other lt o q r n before low next c h within other g =
-    (kept-next lt q r low next (came-true q r n c) g.0,
-    λ m behind short.
-    either-way lt o m n (r m ≡ false)
-    (λ e. absurd (not-between lt o q n before low next within other h g (subst (IsBehind lt low) e behind) (subst (IsShortOf lt next) e short)))
-    (λ ne. c.others m ne ∙ g.1 m behind short))
+came-other lt o q r n before low next c h within other g = (
+  kept-next lt q r low next (came-true q r n c) g.0,
+  λ m behind short.
+      either-way lt o m n (r m ≡ false)
+      (λ e. absurd (not-between lt o q n before low next within other h g (subst (IsBehind lt low) e behind) (subst (IsShortOf lt next) e short)))
+      (λ ne. c.others m ne ∙ g.1 m behind short),
+)
 
 -- ---- an item goes out
 
@@ -106,16 +109,17 @@ went-reached lt o q r n None (Some s) g h k = (tt, g.others s (λ e. o.apart n s
 went-reached lt o q r n (Some p) (Some s) g h k = (o.trans p n s h.0.0 k.0.0, g.others s (λ e. o.apart n s k.0.0 (sym e)) ∙ k.0.1)
 
 pub went-next : (lt : ℕ → ℕ → Type 0) → IsOrder lt → (q r : ℕ → Bool) (n : ℕ) (before next : Option ℕ) → GoesOut q r n → IsNextBy (λ a b. lt b a) q (Some n) before → IsNextBy lt q (Some n) next → IsNextBy lt r before next
-went-next lt o q r n before next g h k =
-    (went-reached lt o q r n before next g h k,
-    λ m behind short.
-    elim (o.total m n) [
-      | inl less ↦ g.others m (o.apart m n less) ∙ h.1 m less (flip-short lt before m behind)
-      | inr either ↦ elim either [
+went-next lt o q r n before next g h k = (
+  went-reached lt o q r n before next g h k,
+  λ m behind short.
+      elim (o.total m n) [
+        | inl less ↦ g.others m (o.apart m n less) ∙ h.1 m less (flip-short lt before m behind)
+        | inr either ↦ elim either [
           | inl e ↦ ap r e ∙ g.gone
           | inr more ↦ g.others m (λ e. o.apart n m more (sym e)) ∙ k.1 m more short
         ]
-    ])
+      ],
+)
 
 went-found : (lt : ℕ → ℕ → Type 0) → IsOrder lt → (q r : ℕ → Bool) (n : ℕ) (before low next : Option ℕ) → GoesOut q r n → IsNextBy (λ a b. lt b a) q (Some n) before
     → IsWithin q low → (low ≡ before → ⊥) → IsNextBy lt q low next → IfSome next (λ m. IsBehind lt low m × (r m ≡ true))
@@ -129,9 +133,10 @@ went-found lt o q r n before low (Some s) g h within other k =
 
 pub went-other : (lt : ℕ → ℕ → Type 0) → IsOrder lt → (q r : ℕ → Bool) (n : ℕ) (before low next : Option ℕ) → GoesOut q r n → IsNextBy (λ a b. lt b a) q (Some n) before
     → IsWithin q low → (low ≡ before → ⊥) → IsNextBy lt q low next → IsNextBy lt r low next
-went-other lt o q r n before low next g h within other k =
-    (went-found lt o q r n before low next g h within other k,
-    λ m behind short. either-way lt o m n (r m ≡ false) (λ e. ap r e ∙ g.gone) (λ ne. g.others m ne ∙ k.1 m behind short))
+went-other lt o q r n before low next g h within other k = (
+  went-found lt o q r n before low next g h within other k,
+  λ m behind short. either-way lt o m n (r m ≡ false) (λ e. ap r e ∙ g.gone) (λ ne. g.others m ne ∙ k.1 m behind short),
+)
 
 -- ---- all buckets
 
@@ -265,7 +270,7 @@ pub rising : IsOrder (λ a b. a < b)
 rising = record { trans = λ a b c h g. omega arith; apart = λ a b h e. omega arith; total = λ a b. tri a b }
   where
     tri : (a b : ℕ) → (a < b) ⊎ ((a ≡ b) ⊎ (b < a))
-    tri a b = elim (cases_lt a b) [ | inl h ↦ inl h | inr h ↦ elim (cases_lt b a) [ | inl g ↦ inr (inr g) | inr g ↦ inr (inl (omega arith)) ] ]
+    tri a b = elim (cases_lt a b) [ inl h ↦ inl h | inr h ↦ elim (cases_lt b a) [ inl g ↦ inr (inr g) | inr g ↦ inr (inl (omega arith)) ] ]
 
 pub falling : IsOrder (λ a b. b < a)
 falling = record { trans = λ a b c h g. omega arith; apart = λ a b h e. omega arith; total = λ a b. turned (rising.total b a) }

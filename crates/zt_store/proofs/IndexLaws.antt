@@ -14,6 +14,11 @@ use Rattle.zt_rows.specs.Opening.{hollow}
 use Rattle.zt_rows.specs.State.{State, row, put, nothing}
 use Rattle.zt_rows.proofs.RowLaws.{and_left, and_right}
 use Rattle.zt_rows.proofs.StateLaws.{row-put, row-nothing}
+use Rattle.zt_store.specs.Cabinets.{shelves_of, state_in}
+use Rattle.zt_store.specs.declared.cells.cabinet.Cabinet.{Cabinet}
+use Rattle.zt_store.specs.Numbers.{counts_within_if}
+use Rattle.zt_store.specs.Places.{fits_row}
+use Rattle.zt_store.specs.Seen.{Shelved, Stored}
 use Rattle.zt_store.specs.Shelves.{Shelves, has_place}
 use Rattle.zt_store.specs.Chains.{IsBehind, IsNext, bucket_at, is_bucket, is_in}
 use Rattle.zt_store.specs.Indexed.{HasBuckets, IsIndexed, IsRoomy, bucket_for, bucket_on, handle_bucket, is_for, is_on, port_bucket, waits_after, waits_where}
@@ -78,16 +83,16 @@ outside q r h m e = by (q m) refl
 
 behind-or : (low : Option ℕ) (m : ℕ) → (IsBehind (λ a b. a < b) low m) ⊎ (IsBehind (λ a b. a < b) low m → ⊥)
 behind-or None m = inl tt
-behind-or (Some a) m = elim (cases_lt a m) [ | inl h ↦ inl h | inr h ↦ inr (λ g. omega arith) ]
+behind-or (Some a) m = elim (cases_lt a m) [ inl h ↦ inl h | inr h ↦ inr (λ g. omega arith) ]
 
 short-false : (q r : ℕ → Bool) (low at : Option ℕ) (n : ℕ) → ((n : ℕ) → q n ≡ true → r n ≡ true) → IsPassed q low at → IsNext r at (Some n) → (m : ℕ) → IsBehind (λ a b. a < b) low m → m < n → q m ≡ false
-short-false q r low at n in_r p h m behind less = elim (behind-or at m) [ | inl after ↦ outside q r in_r m (h.1 m after less) | inr not ↦ p.passed m behind not ]
+short-false q r low at n in_r p h m behind less = elim (behind-or at m) [ inl after ↦ outside q r in_r m (h.1 m after less) | inr not ↦ p.passed m behind not ]
 
 pub passed-found : (q r : ℕ → Bool) (low at : Option ℕ) (n : ℕ) → ((n : ℕ) → q n ≡ true → r n ≡ true) → IsPassed q low at → IsNext r at (Some n) → q n ≡ true → IsNext q low (Some n)
 passed-found q r low at n in_r p h here = ((p.within n h.0.0, here), λ m behind less. short-false q r low at n in_r p h m behind less)
 
 pub passed-end : (q r : ℕ → Bool) (low at : Option ℕ) → ((n : ℕ) → q n ≡ true → r n ≡ true) → IsPassed q low at → IsNext r at None → IsNext q low None
-passed-end q r low at in_r p h = (tt, λ m behind short. elim (behind-or at m) [ | inl after ↦ outside q r in_r m (h.1 m after tt) | inr not ↦ p.passed m behind not ])
+passed-end q r low at in_r p h = (tt, λ m behind short. elim (behind-or at m) [ inl after ↦ outside q r in_r m (h.1 m after tt) | inr not ↦ p.passed m behind not ])
 
 at-behind : (at : Option ℕ) (n m : ℕ) → IsBehind (λ a b. a < b) at n → n < m → IsBehind (λ a b. a < b) at m
 at-behind None n m h less = tt
@@ -95,12 +100,12 @@ at-behind (Some a) n m h less = omega arith
 
 pub passed-more : (q r : ℕ → Bool) (low at : Option ℕ) (n : ℕ) → ((n : ℕ) → q n ≡ true → r n ≡ true) → IsPassed q low at → IsNext r at (Some n) → q n ≡ false → IsPassed q low (Some n)
 passed-more q r low at n in_r p h not_here = record {
-  passed = λ m behind not. elim (cases_lt m n) [ | inl less ↦ short-false q r low at n in_r p h m behind less | inr more ↦ by m not more ];
+  passed = λ m behind not. elim (cases_lt m n) [ inl less ↦ short-false q r low at n in_r p h m behind less | inr more ↦ by m not more ];
   within = λ m less. p.within m (at-behind at n m h.0.0 less);
 }
   where
     by : (m : ℕ) → (n < m → ⊥) → n ≤ m → q m ≡ false
-    by m not more = elim (cases_lt n m) [ | inl less ↦ absurd (not less) | inr le ↦ let e : m ≡ n = omega arith in ap q e ∙ not_here ]
+    by m not more = elim (cases_lt n m) [ inl less ↦ absurd (not less) | inr le ↦ let e : m ≡ n = omega arith in ap q e ∙ not_here ]
 
 abbrev pub left_above : ℕ → Option ℕ → ℕ
 left_above end None = suc (suc end)
@@ -171,3 +176,14 @@ roomy-after (key.Packet x y) waits later handles ports more_handles more_ports r
 
 pub roomy-longer : (waits : ℕ) (handles ports more_handles more_ports : List (Option ℕ)) → IsRoomy waits handles ports → length handles ≤ length more_handles → length ports ≤ length more_ports → IsRoomy waits more_handles more_ports
 roomy-longer waits handles ports more_handles more_ports room a b = record { on = omega (arith, room.on); to = omega (arith, room.to) }
+
+pub waits-made : (old new : Cabinet) (s : Shelved) (k : RowKey) → record { state = state_in old; shelves = shelves_of old } ≡ s → length new.waits ≤ waits_after k (length old.waits) → (shelves_of new).waits ≤ waits_after k s.shelves.waits
+unfolding shelves_of
+waits-made old new s k seen h = subst (λ (t : Shelved). length new.waits ≤ waits_after k t.shelves.waits) seen h
+
+pub room-placed : (s : Stored) (S : State) (p : Shelves) (koids : ℕ) (k : RowKey) (r : Option Row) (handles ports : List (Option ℕ)) → record { state = S; places = record { shelves = p; koids = koids } } ≡ s → fits_row s.places k r ≡ true → IsRoomy p.waits handles ports → HasBuckets k handles ports
+room-placed s S p koids k r handles ports seen fit room =
+    room-for p k handles ports (ap (λ (t : Stored). has_place t.places.shelves k) seen ∙ and_left (has_place s.places.shelves k) (counts_within_if s.places.koids k r) fit) room
+
+pub roomy-same : (p q : Shelves) (handles ports more_handles more_ports : List (Option ℕ)) → q ≡ p → length more_handles ≡ length handles → length more_ports ≡ length ports → IsRoomy p.waits handles ports → IsRoomy q.waits more_handles more_ports
+roomy-same p q handles ports more_handles more_ports e a b room = subst (λ (t : Shelves). IsRoomy t.waits more_handles more_ports) (sym e) (record { on = omega (arith, room.on); to = omega (arith, room.to) })

@@ -238,7 +238,13 @@ fn set_next(links: &mut [Link], ends: &mut [Ends], bucket: u64, low: Option<u64>
 }
 
 /// Links the item as the one before the high one, or as the last of the bucket.
-fn set_before(links: &mut [Link], ends: &mut [Ends], bucket: u64, high: Option<u64>, item: Option<u64>)
+fn set_before(
+    links: &mut [Link],
+    ends: &mut [Ends],
+    bucket: u64,
+    high: Option<u64>,
+    item: Option<u64>,
+)
     requires high { IfSome high (λ n. n < length links.old) }
     requires bucket { bucket < length ends.old }
     ensures nexts { (b : ℕ) (l : Option ℕ) → next_of links.new ends.new b l ≡ next_of links.old ends.old b l }

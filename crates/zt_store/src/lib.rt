@@ -4,8 +4,8 @@
 
 mod cells;
 mod chains;
-mod indices;
 mod changes;
+mod indices;
 mod records;
 mod steps;
 mod stores;

@@ -50,7 +50,7 @@ impl Model for Store {
     } };
 
     ghost invariant = { λ s. IsTallied s.cells.state s.tally × NamesFew s.cells.state
-      × IsIndexed s.cells.state s.index.handles s.index.ports × IsRoomy s.cells.shelves.waits s.index.handles s.index.ports };
+        × IsIndexed s.cells.state s.index.handles s.index.ports × IsRoomy s.cells.shelves.waits s.index.handles s.index.ports };
 }
 
 impl Store {
@@ -170,7 +170,13 @@ impl Store {
         ensures { IsNext (waits_where self.now.state (is_on process handle)) low result }
     {
         let bucket = handle_bucket(process, handle);
-        next_wait(&self.cells, &self.index.handles, bucket, Sought::On(process, handle), low)
+        next_wait(
+            &self.cells,
+            &self.index.handles,
+            bucket,
+            Sought::On(process, handle),
+            low,
+        )
     }
 
     /// The least number above the low one, or of all, of a wait for the port. It takes no memory, and looks at waits
@@ -179,7 +185,13 @@ impl Store {
         ensures { IsNext (waits_where self.now.state (is_for port)) low result }
     {
         let bucket = port_bucket(port);
-        next_wait(&self.cells, &self.index.ports, bucket, Sought::For(port), low)
+        next_wait(
+            &self.cells,
+            &self.index.ports,
+            bucket,
+            Sought::For(port),
+            low,
+        )
     }
 
     /// The object of the koid. It takes no memory.
