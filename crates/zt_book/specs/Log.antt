@@ -7,7 +7,8 @@ use Rattle.zt_rows.specs.declared.calls.Command.{Command}
 use Rattle.zt_rows.specs.declared.refusals.Refusal.{Refusal}
 use Rattle.zt_rows.specs.declared.refusals.Refusal.TheVariants as refusal
 use Rattle.zt_history.specs.Refusing.{call_on}
-use Rattle.zt_history.specs.Tree.{Tree, opening_tree}
+use Rattle.zt_history.specs.Tree.{Tree, opening_tree, state_at, calls_to}
+use Rattle.zt_queries.specs.Copies.{Snapshot}
 use Rattle.zt_book.specs.declared.logs.Recorded.{Recorded}
 use Rattle.zt_book.specs.Session.{Session, opening_session, session_over, client_of, most_rows, serve}
 
@@ -57,6 +58,10 @@ standing_of b = record { session = b.session; log = b.log }
 abbrev pub first_book : ℕ → Kept
 first_book clients = record { session = opening_session clients; log = []; before = None }
 
+-- a copy of the history at this moment of a tree
+abbrev pub snapshot_at : Tree → ℕ → Snapshot
+snapshot_at t m = record { moment = m; state = state_at t.made m; calls = calls_to t.made m }
+
 -- ---- loading
 
 -- the rest of the calls, where this one is answered
@@ -83,6 +88,11 @@ abbrev pub IsUnloadedBy : Bool → Result Tree (ℕ × Refusal) → ℕ × Refus
 IsUnloadedBy true whole fault = fault ≡ (0, refusal.TooManyClients)
 IsUnloadedBy false (Err first) fault = (fault ≡ first) ⊎ (fault ≡ (0, refusal.OutOfMemory))
 IsUnloadedBy false (Ok t) fault = fault ≡ (0, refusal.OutOfMemory)
+
+-- the call at which a refusal is told: want of memory at none
+abbrev pub fault_at : ℕ → Refusal → ℕ × Refusal
+fault_at number refusal.OutOfMemory = (0, refusal.OutOfMemory)
+fault_at number reason = (number, reason)
 
 abbrev pub IsUnloaded : ℕ → Result Tree (ℕ × Refusal) → ℕ × Refusal → Type 0
 IsUnloaded clients whole fault = IsUnloadedBy (nat_lt 4 clients) whole fault

@@ -1,9 +1,8 @@
 ghost use Rattle.std.specs.Prelude.{◌≡◌, ◌≢◌, ◌≤◌, ◌<◌, ◌↔◌, ◌++◌, ◌∷◌, [], None, Some, Ok, IfOk, IfErr, IfSome, OnOk, OnErr, IsErrOf, IsSome, is_some, length};
 ghost use Rattle.zt_rows.specs.declared.calls.Command.TheVariants as command;
 ghost use Rattle.zt_history.specs.Tree.{Tree};
-ghost use Rattle.zt_queries.specs.Copies.{snapshot_at};
-ghost use Rattle.zt_book.specs.Session.{serve, position_of, IsRefused};
-ghost use Rattle.zt_book.specs.Log.{IsCounted, standing_of, first_book, book_over, loaded, IsUnloaded};
+ghost use Rattle.zt_book.specs.Session.{serve, session_over, position_of, IsRefused};
+ghost use Rattle.zt_book.specs.Log.{IsCounted, standing_of, first_book, book_over, loaded, snapshot_at, IsUnloaded};
 
 use crate::clients::Client;
 use crate::desks::Desk;

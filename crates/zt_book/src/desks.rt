@@ -1,11 +1,13 @@
 ghost use Rattle.std.specs.Prelude.{◌≡◌, ◌≤◌, ◌<◌, ◌-◌, IfOk, IfErr, OnOk, OnErr, Some, length, slice_set};
 ghost use Rattle.zt_book.specs.Session.{client_of, counted, position_of, session_over, with_client};
+ghost use Rattle.zt_book.specs.Log.{snapshot_at};
 ghost use Rattle.zt_book.specs.Desk.{IsClient, IsCursor, Stand, session_before};
 
 use crate::clients::{Client, Cursor};
 use std::alloc::{AllocError, Global};
 use std::marker::Model;
 use zt_history::{BranchId, History};
+use zt_queries::Frozen;
 use zt_rows::{Moment, Refusal};
 
 /// The history, with the clients that stand in it.
@@ -114,6 +116,18 @@ impl Desk {
         }
     }
 
+    /// A copy of the history at the moment at which a client stands.
+    pub(crate) fn frozen(&mut self, client: u8) -> Result<Frozen, Refusal>
+        requires numbered { 1 ≤ client }
+        requires known { client ≤ length self.old.session.clients }
+        ensures ok { IfOk result (λ frozen. frozen ≡ snapshot_at self.old.session.tree (position_of self.old.session client)) }
+        ensures session { self.new.session ≡ self.old.session }
+        ensures refused { IfErr result (λ refusal. refusal ≡ Refusal.OutOfMemory) }
+    {
+        self.go(client)?;
+        Frozen::copy(*self.clients.allocator(), &self.history)
+    }
+
     /// Puts another for what is known of a client.
     pub(crate) fn put(&mut self, client: u8, to: Client)
         requires numbered { 1 ≤ client }
@@ -123,14 +137,6 @@ impl Desk {
         ensures earlier { self.new.earlier ≡ self.old.earlier }
     {
         self.clients[client as usize - 1] = to;
-    }
-
-    /// The last command changed no history.
-    pub(crate) fn keep(&mut self)
-        ensures session { self.new.session ≡ self.old.session }
-        ensures earlier { self.new.earlier ≡ self.old.session.tree }
-    {
-        self.grown = false;
     }
 
     /// One answered command more of a client.

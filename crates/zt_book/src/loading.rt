@@ -1,5 +1,5 @@
 ghost use Rattle.std.specs.Prelude.{◌≡◌, Ok, IfOk, IfErr};
-ghost use Rattle.zt_book.specs.Log.{loaded, IsUnloaded};
+ghost use Rattle.zt_book.specs.Log.{fault_at, loaded, IsUnloaded};
 
 use std::alloc::Global;
 use zt_history::{BranchId, History};
