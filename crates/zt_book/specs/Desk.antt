@@ -56,7 +56,7 @@ seats_of h clients grown = record {
 pub record IsDesk (h : Timeline) (clients : List Client) (grown : Bool) : Type 0 where
   pub few : length clients ≤ 4
   pub stand : Stand (record { tree = h.tree; clients = clients })
-  pub grown : grown ≡ true → IsSome h.before
+  pub can_retract : grown ≡ true → IsSome h.before
 
 -- the session with the earlier tree, where this client was so
 abbrev pub session_before : Seats → ℕ → Client → Session
