@@ -30,7 +30,7 @@ behind P (Ok x) f y go h = go x h
 behind P (Err e) f y go h = cc
 
 -- what holds of what is given in the end
-pub given : {B : Type 0} (P : B → Type 0) (x y : B) → P x → Ok {E = Refusal} x ≡ Ok y → P y
+pub given : {B : Type 0} (P : B → Type 0) (x y : B) → P x → ◌≡◌ {A = Result B Refusal} (Ok x) (Ok y) → P y
 given P x y p h = subst P (ap (or_else x) h) p
 
 -- ---- what is known of the clients
@@ -55,7 +55,7 @@ unmoved old client = record {
 }
 
 module _ (M : Session) (client : ℕ) where
-  Moved : Answer × Session → Type 0
+  abbrev pub Moved : Answer × Session → Type 0
   Moved y = IsMoved M.clients y.1.clients client
 
   moved-call : (process : ℕ) (call : Call) (y : Answer × Session) → call_by M client process call ≡ Ok y → Moved y
