@@ -1,3 +1,5 @@
 pub mod ListLaws
 pub mod ServedLaws
 pub mod CountLaws
+pub mod DeskLaws
+pub mod LoadLaws
