@@ -3,3 +3,4 @@ pub mod ServedLaws
 pub mod CountLaws
 pub mod DeskLaws
 pub mod LoadLaws
+mod WorkedSessions
