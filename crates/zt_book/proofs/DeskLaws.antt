@@ -1,21 +1,26 @@
 -- What a desk does with a command, and what the session's checks say of it.
-use Rattle.std.proofs.Common.{◌≡◌, ◌⊎◌, ℕ, suc, ◌+◌, ◌-◌, ◌≤◌, ◌<◌, Bool, true, false, not, List, ◌∷◌, length, set, get_or, Option, Some, None, Result, Ok, Err, refl, sym, ◌∙◌, ap, subst, inl, inr, arith}
+use Rattle.std.proofs.Common.{◌≡◌, ◌⊎◌, ℕ, zero, suc, ◌+◌, ◌-◌, ◌≤◌, ◌<◌, Bool, true, false, not, List, [], ◌∷◌, ◌++◌, length, set, get_or, Option, Some, None, Result, Ok, Err, refl, sym, ◌∙◌, ap, subst, inl, inr, arith}
 use Rattle.std.specs.Prelude.{is_some, nat_le, nat_lt}
 use Rattle.std.proofs.lemmas.Bool.{le-leb, lt-leb, lt-ltb, le-ltb}
 use Rattle.zt_rows.specs.declared.calls.Answer.{Answer}
 use Rattle.zt_rows.specs.declared.calls.Answer.TheVariants as answer
 use Rattle.zt_rows.specs.declared.calls.Call.{Call}
 use Rattle.zt_rows.specs.declared.calls.Command.{Command}
+use Rattle.zt_rows.specs.declared.keys.RowKey.{RowKey}
 use Rattle.zt_rows.specs.declared.refusals.Refusal.{Refusal}
+use Rattle.zt_rows.specs.declared.rows.Row.{Row}
+use Rattle.zt_rows.specs.declared.supports.Support.{Support}
 use Rattle.zt_rows.specs.declared.refusals.Refusal.TheVariants as refusal
 use Rattle.zt_rows.specs.Tests.{exists}
 use Rattle.zt_history.specs.Refusing.{check, ◌>>=◌, call_on, branch_on, moment_on, IsRefused as IsRefusedThere}
-use Rattle.zt_history.specs.Tree.{Tree, last_moment, path, head_at, branch_named}
+use Rattle.zt_history.specs.Standing.{Falls}
+use Rattle.zt_history.specs.Tree.{Made, Tree, last_moment, parent_at, path, state_at, head_at, branch_named}
+use Rattle.zt_history.proofs.PathLaws.{path-opening, path-step, by_parents}
 use Rattle.zt_queries.specs.Copies.{holders_on}
 use Rattle.zt_book.specs.declared.clients.Client.{Client}
 use Rattle.zt_book.specs.declared.clients.Cursor.{Cursor}
 use Rattle.zt_book.specs.declared.clients.Cursor.TheVariants.{Follows, At}
-use Rattle.zt_book.specs.Session.{Session, client_of, position_of, state_of, standing, ancestor, is_name, most_rows, asked, serve, call_by, goto_by, back_by, branch_by, follow_by, show_to, holders_to, leaks_to, pin_to, IsRefused}
+use Rattle.zt_book.specs.Session.{Session, client_of, position_of, state_of, with_client, standing, ancestor, is_name, most_rows, asked, serve, call_by, goto_by, back_by, branch_by, follow_by, show_to, holders_to, leaks_to, pin_to, IsRefused}
 
 -- ---- refusals
 
@@ -125,3 +130,79 @@ module _ (M : Session) (client : ℕ) where
   pub serve-full : (request : Command) → most_rows ≤ (client_of M client).rows → IsRefused (serve M client request) refusal.ClientFull
   unfolding serve
   serve-full request h = rw (le-ltb (client_of M client).rows most_rows h) refl
+
+-- ---- what was done is what is asked
+
+abbrev said_and : Answer → Session → Result (Answer × Session) Refusal
+said_and said N = Ok (said, N)
+
+module _ (M N : Session) (client : ℕ) where
+  pub call-seen : (process branch : ℕ) (call : Call) (said : Answer) → (client_of M client).cursor ≡ Follows branch
+      → call_on M.tree branch process call ≡ Ok (said, N.tree) → N.clients ≡ M.clients → call_by M client process call ≡ Ok (said, N)
+  call-seen process branch call said h done clients =
+      call-done M client process branch call said N.tree h done ∙ ap (λ l. said_and said (record { tree = N.tree; clients = l })) (sym clients)
+
+  pub goto-seen : (moment : ℕ) → moment ≤ last_moment M.tree → N ≡ standing M client (At moment) → goto_by M client moment ≡ Ok (answer.At moment, N)
+  goto-seen moment h is = goto-done M client moment h ∙ ap (said_and (answer.At moment)) (sym is)
+
+  pub back-seen : (count moment : ℕ) → count ≤ length (path M.tree.made (position_of M client)) → moment ≡ ancestor (path M.tree.made (position_of M client)) count
+      → N ≡ standing M client (At moment) → back_by M client count ≡ Ok (answer.At moment, N)
+  back-seen count moment h is there = back-done M client count moment h is ∙ ap (said_and (answer.At moment)) (sym there)
+
+  pub branch-seen : (K : Session) (name named : List ℕ) (position branch : ℕ) → is_name name ≡ true → branch_on M.tree name position ≡ Ok (branch, K.tree)
+      → position ≡ position_of M client → named ≡ name → K.clients ≡ M.clients → N ≡ standing K client (Follows branch)
+      → branch_by M client name ≡ Ok (answer.Branched named position, N)
+  branch-seen K name named position branch h done is same clients there =
+      let at : branch_on M.tree name (position_of M client) ≡ Ok (branch, K.tree) = subst (λ m. branch_on M.tree name m ≡ Ok (branch, K.tree)) is done in
+      let after : standing (record M { tree = K.tree }) client (Follows branch) ≡ N =
+      ap (λ l. standing (record { tree = K.tree; clients = l }) client (Follows branch)) (sym clients) ∙ sym there in
+      branch-done M client name branch K.tree h at ∙ (λ i. said_and (answer.Branched (sym same i) (sym is i)) (after i))
+
+  pub follow-seen : (name named : List ℕ) (branch head : ℕ) → branch_named M.tree.branches name ≡ Some branch → named ≡ name → head ≡ head_at M.tree.branches branch
+      → N ≡ standing M client (Follows branch) → follow_by M client name ≡ Ok (answer.Followed named head, N)
+  follow-seen name named branch head h same is there =
+      follow-done M client name branch h ∙ (λ i. said_and (answer.Followed (sym same i) (sym is i)) (sym there i))
+
+  pub show-seen : (position : ℕ) (rows : List (RowKey × Row)) → position ≡ position_of M client → rows ≡ (state_at M.tree.made position).rows → N ≡ M
+      → show_to M client ≡ Ok (answer.Rows position rows, N)
+  unfolding show_to
+  show-seen position rows is are same =
+      let there : rows ≡ (state_of M client).rows = are ∙ ap (λ m. (state_at M.tree.made m).rows) is in
+      λ i. said_and (answer.Rows (sym is i) (sym there i)) (sym same i)
+
+  pub holders-seen : (position object : ℕ) (held : List Support) → position ≡ position_of M client → holders_on (state_at M.tree.made position) object ≡ Ok held → N ≡ M
+      → holders_to M client object ≡ Ok (answer.Holders object held, N)
+  unfolding holders_to
+  holders-seen position object held is found same =
+      let there : holders_on (state_of M client) object ≡ Ok held = subst (λ m. holders_on (state_at M.tree.made m) object ≡ Ok held) is found in
+      ap (λ r. r >>= λ held. said_and (answer.Holders object held) M) there ∙ ap (said_and (answer.Holders object held)) (sym same)
+
+  pub pin-seen : (position : ℕ) (to : Client) → position ≡ position_of M client → to ≡ record (client_of M client) { pinned = Some position } → N ≡ with_client M client to
+      → pin_to M client ≡ Ok (answer.Pinned position, N)
+  unfolding pin_to
+  pin-seen position to is so there =
+      let after : with_client M client (record (client_of M client) { pinned = Some (position_of M client) }) ≡ N =
+      ap (λ m. with_client M client (record (client_of M client) { pinned = Some m })) (sym is) ∙ ap (with_client M client) (sym so) ∙ sym there in
+      λ i. said_and (answer.Pinned (sym is i)) (after i)
+
+-- ---- the ancestors
+
+push-bounded : (most : ℕ) (xs : List ℕ) (x : ℕ) → ((k : ℕ) → get_or xs k 0 ≤ most) → x ≤ most → (k : ℕ) → get_or (xs ++ x ∷ []) k 0 ≤ most
+push-bounded most [] x all one zero = one
+push-bounded most [] x all one (suc k) = omega arith
+push-bounded most (y ∷ ys) x all one zero = all 0
+push-bounded most (y ∷ ys) x all one (suc k) = push-bounded most ys x (λ j. all (suc j)) one k
+
+path-bounded : (made : List Made) → Falls made → (most m : ℕ) → m ≤ most → (k : ℕ) → get_or (path made m) k 0 ≤ most
+path-bounded made falls most =
+    by_parents made falls (λ m. m ≤ most → (k : ℕ) → get_or (path made m) k 0 ≤ most)
+    (λ h. let P : List ℕ → Type 0 = λ l. (k : ℕ) → get_or l k 0 ≤ most in subst P (sym (path-opening made)) (λ k. omega arith))
+    (λ i up h. let P : List ℕ → Type 0 = λ l. (k : ℕ) → get_or l k 0 ≤ most in
+        subst P (sym (path-step made falls i)) (push-bounded most (path made (parent_at made (suc i))) (suc i) (up (omega (arith, h, falls i))) h))
+
+first_or : (made : List Made) → Falls made → (m : ℕ) → m ≤ length made → (n : ℕ) → get_or (0 ∷ path made m) n 0 ≤ length made
+first_or made falls m h zero = omega arith
+first_or made falls m h (suc n) = path-bounded made falls (length made) m h n
+
+pub ancestor-within : (made : List Made) → Falls made → (m count : ℕ) → m ≤ length made → ancestor (path made m) count ≤ length made
+ancestor-within made falls m count h = first_or made falls m h (length (path made m) - count)

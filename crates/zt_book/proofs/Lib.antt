@@ -3,4 +3,5 @@ pub mod ServedLaws
 pub mod CountLaws
 pub mod DeskLaws
 pub mod LoadLaws
+pub mod BookLaws
 mod WorkedSessions

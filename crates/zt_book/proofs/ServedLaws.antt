@@ -18,6 +18,7 @@ use Rattle.zt_queries.specs.Times.{when_on}
 use Rattle.zt_book.specs.declared.clients.Client.{Client}
 use Rattle.zt_book.specs.declared.clients.Cursor.TheVariants.{Follows, At}
 use Rattle.zt_book.specs.Session.{Session, first_client, most_rows, is_name, client_of, with_client, standing, position_of, state_of, followed, ancestor, branch_found, event_at, counted, asked, serve, call_by, goto_by, back_by, branch_by, follow_by, show_to, holders_to, leaks_to, when_to, pin_to}
+use Rattle.zt_book.specs.Desk.{IsOneMore}
 use Rattle.zt_book.proofs.ListLaws.{set-again}
 
 -- ---- checks in a row
@@ -56,12 +57,6 @@ pub record IsMoved (old new : List Client) (client : ℕ) : Type 0 where
   pub to : Client
   pub is : new ≡ set old (client - 1) to
   pub rows : to.rows ≡ (get_or old (client - 1) first_client).rows
-
--- one client is known to be so, and one command more was answered to it
-pub record IsOneMore (old new : List Client) (client : ℕ) : Type 0 where
-  pub to : Client
-  pub is : new ≡ set old (client - 1) to
-  pub rows : to.rows ≡ (get_or old (client - 1) first_client).rows + 1
 
 unmoved : (old : List Client) (client : ℕ) → IsMoved old old client
 unmoved old client = record {
