@@ -1,6 +1,7 @@
 -- Loading, call by call.
 use Rattle.std.proofs.Common.{◌≡◌, ◌⊎◌, ℕ, zero, suc, ◌+◌, ◌≤◌, ◌<◌, Bool, true, false, List, [], ◌∷◌, length, drop, get_or, Result, Ok, Err, refl, sym, ◌∙◌, ap, subst, inl, inr, arith, length-append}
 use Rattle.std.proofs.Math.Seq.{drop-cons}
+use Rattle.std.proofs.lemmas.Bool.{lt-ltb, le-ltb}
 use Rattle.zt_rows.specs.declared.calls.Answer.{Answer}
 use Rattle.zt_rows.specs.declared.calls.Call.{Call}
 use Rattle.zt_rows.specs.declared.refusals.Refusal.{Refusal}
@@ -10,7 +11,7 @@ use Rattle.zt_history.specs.Refusing.{check, ◌>>=◌, call_on, most_moments, I
 use Rattle.zt_history.specs.Tree.{Tree, Branch, last_moment, state_at, head_at, headed, called, made_by}
 use Rattle.zt_rows.specs.declared.calls.Answer.TheVariants as answer
 use Rattle.std.specs.Prelude.{nat_lt}
-use Rattle.zt_book.specs.Log.{loaded, loaded_behind, loaded_from, fault_at, IsUnloadedBy}
+use Rattle.zt_book.specs.Log.{loaded, loaded_behind, loaded_from, fault_at, IsUnloadedBy, IsUnloaded}
 use Rattle.zt_book.proofs.ServedLaws.{behind, last}
 
 -- ---- a call that is answered
@@ -82,22 +83,29 @@ drop_all [] (suc i) h = refl
 drop_all (x ∷ xs) zero h = absurd (omega arith)
 drop_all (x ∷ xs) (suc i) h = drop_all xs i (omega arith)
 
-pub loaded-so-far : (calls : List (ℕ × Call)) (i j : ℕ) (t u : Tree) (process : ℕ) (call : Call) (said : Answer) → i < length calls → j ≡ suc i
-    → ((d : ℕ × Call) → get_or calls i d ≡ (process, call)) → call_on t 0 process call ≡ Ok (said, u)
-    → loaded_from i t (drop i calls) ≡ loaded calls → loaded_from j u (drop j calls) ≡ loaded calls
-loaded-so-far calls i j t u process call said there next is done so_far =
+front : (calls : List (ℕ × Call)) (i : ℕ) (x : ℕ × Call) → i < length calls → x ≡ get_or calls i x → drop i calls ≡ x ∷ drop (suc i) calls
+front calls i x there is = drop-cons calls i x there ∙ ap (λ y. y ∷ drop (suc i) calls) (sym is)
+
+pub loaded-so-far : (calls : List (ℕ × Call)) (i j : ℕ) (t u : Tree) (x : ℕ × Call) (said : Answer) → i < length calls → j ≡ suc i
+    → x ≡ get_or calls i x → call_on t 0 x.0 x.1 ≡ Ok (said, u) → loaded_from i t (drop i calls) ≡ loaded calls → loaded_from j u (drop j calls) ≡ loaded calls
+loaded-so-far calls i j t u x said there next is done so_far =
     ap (λ n. loaded_from n u (drop n calls)) next
-    ∙ sym (loaded-more i t u process call said (drop (suc i) calls) done)
-    ∙ sym (ap (loaded_from i t) (drop-cons calls i (process, call) there ∙ ap (λ x. x ∷ drop (suc i) calls) (is (process, call))))
+    ∙ sym (loaded-more i t u x.0 x.1 said (drop (suc i) calls) done)
+    ∙ sym (ap (loaded_from i t) (front calls i x there is))
     ∙ so_far
 
-pub unloaded-so-far : (calls : List (ℕ × Call)) (i : ℕ) (t : Tree) (process : ℕ) (call : Call) (given : Refusal) → i < length calls
-    → ((d : ℕ × Call) → get_or calls i d ≡ (process, call)) → IsRefused (call_on t 0 process call) given
-    → loaded_from i t (drop i calls) ≡ loaded calls → IsUnloadedBy false (loaded calls) (fault_at i given)
-unloaded-so-far calls i t process call given there is refused so_far =
-    let here : loaded_from i t ((process, call) ∷ drop (suc i) calls) ≡ loaded calls =
-    sym (ap (loaded_from i t) (drop-cons calls i (process, call) there ∙ ap (λ x. x ∷ drop (suc i) calls) (is (process, call)))) ∙ so_far in
-    subst (λ w. IsUnloadedBy false w (fault_at i given)) here (unloaded-here i t process call given (drop (suc i) calls) refused)
+pub unloaded-so-far : (calls : List (ℕ × Call)) (i : ℕ) (t : Tree) (x : ℕ × Call) (given : Refusal) → i < length calls → x ≡ get_or calls i x
+    → IsRefused (call_on t 0 x.0 x.1) given → loaded_from i t (drop i calls) ≡ loaded calls → IsUnloadedBy false (loaded calls) (fault_at i given)
+unloaded-so-far calls i t x given there is refused so_far =
+    let here : loaded_from i t (x ∷ drop (suc i) calls) ≡ loaded calls = sym (ap (loaded_from i t) (front calls i x there is)) ∙ so_far in
+    subst (λ w. IsUnloadedBy false w (fault_at i given)) here (unloaded-here i t x.0 x.1 given (drop (suc i) calls) refused)
+
+-- too many clients are told before all
+pub unloaded-many : (clients : ℕ) (whole : Result Tree (ℕ × Refusal)) → 4 < clients → IsUnloaded clients whole (0, refusal.TooManyClients)
+unloaded-many clients whole h = rw (lt-ltb 4 clients h) refl
+
+pub unloaded-few : (clients : ℕ) (whole : Result Tree (ℕ × Refusal)) (fault : ℕ × Refusal) → clients ≤ 4 → IsUnloadedBy false whole fault → IsUnloaded clients whole fault
+unloaded-few clients whole fault h told = rw (le-ltb 4 clients h) told
 
 pub loaded-whole : (calls : List (ℕ × Call)) (i : ℕ) (t : Tree) → length calls ≤ i → loaded_from i t (drop i calls) ≡ loaded calls → loaded calls ≡ Ok t
 loaded-whole calls i t whole so_far = sym so_far ∙ ap (loaded_from i t) (drop_all calls i whole)
