@@ -40,4 +40,4 @@ returns-clause-ok c =
     let is : c.ancestor-moment.result ≡ ancestor (path c.args.self.now.session.tree.made (position_of c.args.self.now.session c.args.client)) c.args.count =
     c.ancestor-moment.ensures ∙ (λ i. get_or (0 ∷ way i) (depth i - c.args.count) 0) in
     back-seen c.args.self.now.session c.stand.new.self.session c.args.client c.args.count c.ancestor-moment.result (omega (arith, c.if-count-depth.false, depth)) is
-    (c.stand.ensures.session ∙ ap (λ (d : Seats). standing d.session c.args.client (At c.ancestor-moment.result)) c.self.view_is)
+    c.stand.ensures.session

@@ -23,4 +23,4 @@ returns-clause-ok c =
     follow-seen c.args.self.now.session c.stand.new.self.session c.args.client c.args.name.now c.in-Ok.named c.in-Some.branch c.head-head.result
     (sym (c.in-Some.ensures ∙ (λ i. branch_named (c.self.view_is i).session.tree.branches (c.as_slice.ensures i))))
     c.in-Ok.ensures (c.head-head.ensures.head ∙ ap (λ (d : Seats). head_at d.session.tree.branches c.in-Some.branch) c.self.view_is)
-    (c.stand.ensures.session ∙ ap (λ (d : Seats). standing d.session c.args.client (Follows c.in-Some.branch)) c.self.view_is)
+    c.stand.ensures.session

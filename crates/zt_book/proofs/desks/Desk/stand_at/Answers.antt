@@ -15,4 +15,4 @@ pub returns-clause-ok : goal.returns-clause-ok
 returns-clause-ok c =
     goto-seen c.args.self.now.session c.stand.new.self.session c.args.client c.args.moment
     (omega (arith, c.if-moment-end.false, c.end.view_is, c.moment.view_is, c.last-end.ensures.last, ap (λ (d : Seats). length d.session.tree.made) c.self.view_is))
-    (c.stand.ensures.session ∙ ap (λ (d : Seats). standing d.session c.args.client (At c.args.moment)) c.self.view_is)
+    c.stand.ensures.session
