@@ -1,9 +1,7 @@
 -- The position has so many ancestors or not; it has, and the client stands at the ancestor.
-use Rattle.std.proofs.Common.{◌≡◌, ◌≤◌, ◌-◌, ◌∷◌, length, get_or, sym, ◌∙◌, ap, subst, arith}
+use Rattle.std.proofs.Common.{◌≡◌, ◌≤◌, ◌-◌, ◌∷◌, length, get_or, ◌∙◌, arith}
 use Rattle.zt_history.specs.Tree.{path}
-use Rattle.zt_book.specs.Session.{position_of, ancestor, standing}
-use Rattle.zt_book.specs.Desk.{Seats}
-use Rattle.zt_book.specs.declared.clients.Cursor.TheVariants.{At}
+use Rattle.zt_book.specs.Session.{position_of, ancestor}
 use Rattle.zt_book.proofs.DeskLaws.{back-far, back-near, back-seen, ancestor-within}
 use Rattle.zt_book.proofs.desks.Desk.back.Goals as goal
 

@@ -1,10 +1,7 @@
 -- The name is looked for, and the client stands at the branch's head.
-use Rattle.std.proofs.Common.{◌≡◌, sym, ◌∙◌, ap}
-use Rattle.std.specs.Prelude.{Some, None}
+use Rattle.std.proofs.Common.{sym, ◌∙◌, ap}
 use Rattle.zt_history.specs.Tree.{branch_named, head_at}
-use Rattle.zt_book.specs.Session.{standing}
 use Rattle.zt_book.specs.Desk.{Seats}
-use Rattle.zt_book.specs.declared.clients.Cursor.TheVariants.{Follows}
 use Rattle.zt_book.proofs.DeskLaws.{follow-none, follow-memory, follow-seen}
 use Rattle.zt_book.proofs.desks.Desk.follow.Goals as goal
 

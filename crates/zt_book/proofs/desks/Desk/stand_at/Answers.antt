@@ -1,8 +1,6 @@
 -- The moment is there or not; it is, and the client stands at it.
-use Rattle.std.proofs.Common.{length, ◌∙◌, ap, arith}
-use Rattle.zt_book.specs.Session.{standing}
+use Rattle.std.proofs.Common.{length, ap, arith}
 use Rattle.zt_book.specs.Desk.{Seats}
-use Rattle.zt_book.specs.declared.clients.Cursor.TheVariants.{At}
 use Rattle.zt_book.proofs.DeskLaws.{goto-far, goto-seen}
 use Rattle.zt_book.proofs.desks.Desk.stand_at.Goals as goal
 
