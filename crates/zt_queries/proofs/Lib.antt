@@ -7,3 +7,5 @@ pub mod WorkedLeaks
 pub mod KeyLaws
 pub mod CopyLaws
 pub mod HoldLaws
+pub mod GraphLaws
+pub mod SurveyLaws

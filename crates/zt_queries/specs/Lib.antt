@@ -4,3 +4,4 @@ pub mod Happenings
 pub mod Times
 pub mod Copies
 pub mod Holding
+pub mod Graphs

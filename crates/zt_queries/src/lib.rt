@@ -2,8 +2,10 @@
 #![tactic(auto)]
 
 mod frozen;
+mod graph;
 pub mod laws;
 mod looks;
+mod reach;
 mod supports;
 
 pub use frozen::Frozen;
