@@ -9,3 +9,4 @@ pub mod CopyLaws
 pub mod HoldLaws
 pub mod GraphLaws
 pub mod SurveyLaws
+pub mod ListLeaks

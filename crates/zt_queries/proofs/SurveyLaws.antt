@@ -115,17 +115,28 @@ module _ (start : List ℕ) (next : ℕ → List ℕ) (found : List ℕ) (wait :
     least = least_of;
   }
 
+nil_of : (xs : List ℕ) → length xs ≡ 0 → xs ≡ []
+nil_of [] h = refl
+nil_of (x ∷ xs) h = absurd (omega (arith, h))
+
+pub search_ended : (start : List ℕ) (next : ℕ → List ℕ) (found : List ℕ) (wait : ℕ → List ℕ) (set : ℕ → Bool)
+    → length found ≡ 0 → IsSearch start next found wait set → IsSearch start next [] wait set
+search_ended start next found wait set h s = subst (λ l. IsSearch start next l wait set) (nil_of found h) s
+
 -- ---- what is taken
 
 length_of : (o : Option (List ℕ)) → length (unwrap_or o []) ≡ unwrap_or (option_map length o) 0
 length_of None = refl
 length_of (Some xs) = refl
 
-pub taken_weight : (queues after : BTreeMap ℕ (List ℕ)) (e : ℕ) → after.entries ≡ remove_entry (is_at (nat_cmp e)) queues.entries → weight after + length (waiting queues e) ≡ weight queues
-taken_weight queues after e h =
+taken_at : (queues after : BTreeMap ℕ (List ℕ)) (e : ℕ) → after.entries ≡ remove_entry (is_at (nat_cmp e)) queues.entries → weight after + length (waiting queues e) ≡ weight queues
+taken_at queues after e h =
     ap (λ es. sum_by length (values_of es) + length (waiting queues e)) h
     ∙ ap (λ n. sum_by length (values_of (remove_entry (is_at (nat_cmp e)) queues.entries)) + n) (length_of (lookup (is_at (nat_cmp e)) queues.entries))
     ∙ sum_by-remove_entry length (is_at (nat_cmp e)) queues.entries
+
+pub taken_weight : (queues after : BTreeMap ℕ (List ℕ)) (e f : ℕ) → e ≡ f → after.entries ≡ remove_entry (is_at (nat_cmp f)) queues.entries → weight after + length (waiting queues e) ≡ weight queues
+taken_weight queues after e f same h = taken_at queues after e (h ∙ ap (λ n. remove_entry (is_at (nat_cmp n)) queues.entries) (sym same))
 
 -- ---- the entries of a graph
 
@@ -329,6 +340,9 @@ module _ (graph : BTreeMap RowKey Sketch) (ordered : IsOrdered rowkey_cmp graph)
             let o = in-filter_map object_at w.0 S.rows w.1 in
             from_above w.0.0 y w.0.1 o.0 o.1 o.2 w.2)
 
+pub over_none : (a : Bool) (p : RowKey × Sketch → Bool) (es : List (RowKey × Sketch)) (b : Bool) → es ≡ [] → (a || list_any p es) ≡ b → a ≡ b
+over_none a p es b e h = sym (or_false a) ∙ ap (λ l. a || list_any p l) (sym e) ∙ h
+
 -- ---- climbing
 
 pub climb_first : (n : ℕ) (link : ℕ → ℕ) (x : ℕ) → climb (n + 1) link x ≡ upward (link x) (λ y. climb n link y)
@@ -348,3 +362,33 @@ pub climb_last : (link : ℕ → ℕ) (at k y : ℕ) (s : Bool) → (at ≡ 0 �
 climb_last link zero k y s apart e = absurd (apart refl)
 climb_last link (suc a) k y s apart e =
     ap (λ n. s || ((suc a == y) || among (climb n link (suc a)) y)) e ∙ ap (λ b. s || b) (or_false (suc a == y))
+
+pub climb_starts : (link : ℕ → ℕ) (x at k y : ℕ) (s : Bool) → at ≡ link x → k ≡ x → (s || among (upward at (λ z. climb k link z)) y) ≡ (s || among (climb (x + 1) link x) y)
+climb_starts link x at k y s e f =
+    ap (λ a. s || among (upward a (λ z. climb k link z)) y) e
+    ∙ ap (λ n. s || among (upward (link x) (λ z. climb n link z)) y) f
+    ∙ ap (λ l. s || among l y) (sym (climb_first x link x))
+
+pub climb_goes : (link : ℕ → ℕ) (at next m k y : ℕ) (s more all : Bool) → (at ≡ 0 → ⊥) → k ≡ suc m → more ≡ (s || (at == y)) → next ≡ link at
+    → (s || among (upward at (λ z. climb k link z)) y) ≡ all → (more || among (upward next (λ z. climb m link z)) y) ≡ all
+climb_goes link at next m k y s more all apart e added linked so_far =
+    ap (λ b. b || among (upward next (λ z. climb m link z)) y) added
+    ∙ ap (λ a. (s || (at == y)) || among (upward a (λ z. climb m link z)) y) linked
+    ∙ climb_on link at m k y s apart e
+    ∙ so_far
+
+pub apart_by : (n : ℕ) (b : Bool) → b ≡ (n == 0) → b ≡ false → n ≡ 0 → ⊥
+apart_by n b is no e = let t : true ≡ false = sym (eq-eqb n 0 e) ∙ sym is ∙ no in cc
+
+pub apart_when : (n : ℕ) (b : Bool) → b ≡ not (n == 0) → b ≡ true → n ≡ 0 → ⊥
+apart_when n b is yes e = let t : false ≡ true = sym (ap not (eq-eqb n 0 e)) ∙ sym is ∙ yes in cc
+
+unless : (a b : Bool) → b ≡ not a → b ≡ false → a ≡ true
+unless true b is no = refl
+unless false b is no = let t : true ≡ false = sym is ∙ no in cc
+
+pub none_by : (n : ℕ) (b : Bool) → b ≡ (n == 0) → b ≡ true → n ≡ 0
+none_by n b is yes = eqb-true n 0 (sym is ∙ yes)
+
+pub none_unless : (n : ℕ) (b : Bool) → b ≡ not (n == 0) → b ≡ false → n ≡ 0
+none_unless n b is no = eqb-true n 0 (unless (n == 0) b is no)

@@ -108,3 +108,12 @@ is_over graph None y = false
 abbrev pub is_left : (ℕ → Bool) → (ℕ → Bool) → ℕ → Option Node → Bool
 is_left reached above x (Some o) = not (reached x || ((x == root_job) || (is_process o.kind && o.live) || above x))
 is_left reached above x None = false
+
+abbrev pub left_node : (ℕ → Bool) → (ℕ → Bool) → ℕ → Option Node → Option (ℕ × Kind)
+left_node reached above x (Some o) = if is_left reached above x (Some o) then Some (x, o.kind) else None
+left_node reached above x None = None
+
+-- the object of this key with its kind, where nothing keeps it
+abbrev pub left_at : BTreeMap RowKey Sketch → (ℕ → Bool) → (ℕ → Bool) → RowKey → Option (ℕ × Kind)
+left_at graph reached above (key.Object x) = left_node reached above x (node graph x)
+left_at graph reached above _ = None

@@ -5,3 +5,4 @@ pub mod Times
 pub mod Copies
 pub mod Holding
 pub mod Graphs
+pub mod Surveys

@@ -4,10 +4,12 @@
 mod frozen;
 mod graph;
 pub mod laws;
+mod leaked;
 mod looks;
 mod reach;
 mod supports;
 
 pub use frozen::Frozen;
+pub use leaked::{leaks, leaks_at};
 pub use looks::rows;
 pub use supports::holders;

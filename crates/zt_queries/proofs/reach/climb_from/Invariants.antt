@@ -8,5 +8,5 @@ use Rattle.zt_queries.specs.Graphs.{climb, climbed, link_of, node}
 use Rattle.zt_queries.proofs.reach.climb_from.Given as goal
 
 abbrev pub invariant-loop : goal.invariant-loop
-invariant-loop l = (y : ℕ) → (contains nat_cmp l.set y || among (upward l.at (λ z. climb (l.koid - l.counter) (λ x. link_of (node l.graph x)) z)) y)
-    ≡ (contains nat_cmp l.fn.set y || among (climbed l.graph l.koid) y)
+invariant-loop l = (y : ℕ) → (contains nat_cmp l.set y || among (upward l.at (λ z. climb (l.fn.koid - l.counter) (λ x. link_of (node l.graph x)) z)) y)
+    ≡ (contains nat_cmp l.fn.set y || among (climbed l.graph l.fn.koid) y)
