@@ -378,17 +378,17 @@ climb_goes link at next m k y s more all apart e added linked so_far =
     ∙ so_far
 
 pub apart_by : (n : ℕ) (b : Bool) → b ≡ (n == 0) → b ≡ false → n ≡ 0 → ⊥
-apart_by n b is no e = let t : true ≡ false = sym (eq-eqb n 0 e) ∙ sym is ∙ no in cc
+apart_by n b is off e = let t : true ≡ false = sym (eq-eqb n 0 e) ∙ sym is ∙ off in cc
 
 pub apart_when : (n : ℕ) (b : Bool) → b ≡ not (n == 0) → b ≡ true → n ≡ 0 → ⊥
-apart_when n b is yes e = let t : false ≡ true = sym (ap not (eq-eqb n 0 e)) ∙ sym is ∙ yes in cc
+apart_when n b is on e = let t : false ≡ true = sym (ap not (eq-eqb n 0 e)) ∙ sym is ∙ on in cc
 
 unless : (a b : Bool) → b ≡ not a → b ≡ false → a ≡ true
-unless true b is no = refl
-unless false b is no = let t : true ≡ false = sym is ∙ no in cc
+unless true b is off = refl
+unless false b is off = let t : true ≡ false = sym is ∙ off in cc
 
 pub none_by : (n : ℕ) (b : Bool) → b ≡ (n == 0) → b ≡ true → n ≡ 0
-none_by n b is yes = eqb-true n 0 (sym is ∙ yes)
+none_by n b is on = eqb-true n 0 (sym is ∙ on)
 
 pub none_unless : (n : ℕ) (b : Bool) → b ≡ not (n == 0) → b ≡ false → n ≡ 0
-none_unless n b is no = eqb-true n 0 (unless (n == 0) b is no)
+none_unless n b is off = eqb-true n 0 (unless (n == 0) b is off)

@@ -1,4 +1,4 @@
-ghost use Rattle.std.specs.Prelude.{◌≡◌, ℕ, IfOk, IfErr, Some};
+ghost use Rattle.std.specs.Prelude.{◌≡◌, ◌++◌, ◌∷◌, [], IfOk, IfErr, OnOk, Some};
 ghost use Rattle.std.specs.List.{filter_map};
 ghost use Rattle.std.specs.Ordering.{nat_cmp};
 ghost use Rattle.std.specs.BTreeSet.{contains};
@@ -103,11 +103,27 @@ fn listed(
 {
     let mut list = Vec::new(alloc);
     for key in keys {
-        if let Some(leak) = left_at(graph, found, *key) {
-            list.push(leak)?;
-        }
+        push_left(&mut list, graph, found, *key)?;
     }
     Ok(list)
+}
+
+/// Puts the object of the key with its kind behind the others, where nothing keeps it.
+fn push_left(
+    list: &mut Vec<(Koid, Kind)>,
+    graph: &Graph,
+    found: &Survey,
+    key: RowKey,
+) -> Result<(), AllocError>
+    ensures { OnOk result (list.new.items ≡ list.old.items ++ filter_map (left_at graph.now (contains nat_cmp found.now.reached) (contains nat_cmp found.now.above)) (key ∷ [])) }
+{
+    match left_at(graph, found, key) {
+        Some(leak) => {
+            list.push(leak)?;
+            Ok(())
+        }
+        None => Ok(()),
+    }
 }
 
 /// The object of the key with its kind, where nothing keeps it.
