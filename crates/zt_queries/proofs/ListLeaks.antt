@@ -1,5 +1,5 @@
 -- What a search leaves is what is leaked: object by object, and over all keys in their order.
-use Rattle.std.proofs.Common.{◌≡◌, ℕ, Bool, true, false, not, ◌&&◌, ◌||◌, inl, inr, List, [], ◌∷◌, map, refl, sym, ap, ◌∙◌}
+use Rattle.std.proofs.Common.{◌≡◌, ℕ, Bool, not, ◌&&◌, ◌||◌, inl, inr, List, [], ◌∷◌, map, refl, sym, ap, ◌∙◌}
 use Rattle.std.specs.Prelude.{Option, None, Some, is_some, option_and_then, if◌then◌else◌, ◌==◌}
 use Rattle.std.specs.List.{filter_map, cons_option}
 use Rattle.zt_bits.specs.declared.kinds.Kind.{Kind}
@@ -11,7 +11,7 @@ use Rattle.zt_rows.specs.declared.rows.Row.{Row}
 use Rattle.zt_rows.specs.declared.rows.Row.TheVariants as rows
 use Rattle.zt_rows.specs.Change.{keys}
 use Rattle.zt_rows.specs.State.{State, row}
-use Rattle.zt_rows.specs.Reads.{as_object, object, object_at, objects, on_object, is_live_process, runs}
+use Rattle.zt_rows.specs.Reads.{as_object, object_at, objects, on_object, is_live_process, runs}
 use Rattle.zt_rows.specs.Tests.{among, exists}
 use Rattle.zt_rows.specs.Support.{root_job}
 use Rattle.zt_rows.proofs.RowLaws.{In, in-row}

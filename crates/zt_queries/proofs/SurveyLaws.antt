@@ -1,12 +1,12 @@
 -- A search from names to the queues that they open: it ends with the least closed set. And what is above, as it is
 -- climbed link by link.
-use Rattle.std.proofs.Common.{◌≡◌, ℕ, zero, suc, ◌+◌, ◌-◌, ◌<◌, ◌≤◌, Bool, true, false, not, ◌&&◌, ◌||◌, ◌⊎◌, inl, inr, List, [], ◌∷◌, ◌++◌, map, length, refl, sym, ap, ◌∙◌, subst, arith}
+use Rattle.std.proofs.Common.{◌≡◌, ℕ, zero, suc, ◌+◌, Bool, true, false, not, ◌&&◌, ◌||◌, ◌⊎◌, inl, inr, List, [], ◌∷◌, ◌++◌, map, length, refl, sym, ap, ◌∙◌, subst, arith}
 use Rattle.std.specs.Prelude.{Option, None, Some, if◌then◌else◌, ◌==◌, unwrap_or}
 use Rattle.std.specs.Option.{option_map}
 use Rattle.std.specs.Map.{lookup, remove_entry, values_of}
-use Rattle.std.specs.List.{list_any, filter_map, flat_map, slice_get, sum_by}
+use Rattle.std.specs.List.{list_any, slice_get, sum_by}
 use Rattle.std.specs.Ordering.{nat_cmp}
-use Rattle.std.specs.BTreeMap.{BTreeMap, get, is_at, IsOrdered}
+use Rattle.std.specs.BTreeMap.{BTreeMap, is_at, IsOrdered}
 use Rattle.std.proofs.lemmas.Bool.{eqb-true, eq-eqb}
 use Rattle.std.proofs.lemmas.Map.Entries.{sum_by-remove_entry, place_from_lookup, btree_map_get_place}
 use Rattle.zt_rows.specs.declared.keys.RowKey.{RowKey}
@@ -19,17 +19,17 @@ use Rattle.zt_rows.specs.Contents.{MessageContent}
 use Rattle.zt_rows.specs.Keys.{rowkey_cmp}
 use Rattle.zt_rows.specs.KeyOrder.{rowkey_cmp_total, rowkey_eq-equal, rowkey_eq-cmp}
 use Rattle.zt_rows.specs.State.{State, row}
-use Rattle.zt_rows.specs.Reads.{as_object, as_entry, as_message, object, object_at, objects, entry, message, is_live, is_job, is_live_process}
+use Rattle.zt_rows.specs.Reads.{as_object, as_entry, as_message, object_at, objects, entry, message, is_live, is_job, is_live_process}
 use Rattle.zt_rows.specs.Tests.{among, link_at, object_link}
 use Rattle.zt_rows.specs.End.{upward, links, chain}
-use Rattle.zt_rows.proofs.RowLaws.{In, list_any-in, in-list_any, row-in, in-row, in-filter_map, filter_map-in, or_true, or_left, or_right, and_left, and_right, and_both, same_test, not_true}
+use Rattle.zt_rows.proofs.RowLaws.{In, list_any-in, in-list_any, row-in, in-row, in-filter_map, filter_map-in, or_true, or_left, or_right, same_test}
 use Rattle.zt_rows.proofs.ReadLaws.{entry-row, message-row}
 use Rattle.zt_queries.specs.declared.graph.Node.{Node}
 use Rattle.zt_queries.specs.declared.graph.Sketch.{Sketch}
 use Rattle.zt_queries.specs.declared.graph.Sketch.TheVariants as sketches
 use Rattle.zt_queries.specs.Reach.{reached, IsClosed}
 use Rattle.zt_queries.specs.Leaks.{keeps_above, is_above}
-use Rattle.zt_queries.specs.Graphs.{sketch, sketched, IsGraph, root_at, names_at, roots, names, waiting, weight, node_at, link_of, node, climb, climbed, keeps, keeper_at, is_over}
+use Rattle.zt_queries.specs.Graphs.{sketched, IsGraph, root_at, names_at, roots, names, waiting, weight, node_at, link_of, node, climb, climbed, keeps, keeper_at, is_over}
 use Rattle.zt_queries.proofs.ReachLaws.{in-append, append-left, append-right, in-flat_map, flat_map-in, in-map, map-in, all-in, in-all, reached-closed, reached-least}
 
 -- ---- a search
@@ -253,7 +253,7 @@ module _ (graph : BTreeMap RowKey Sketch) (ordered : IsOrdered rowkey_cmp graph)
         let xs = map (λ (held : Held). held.koid) m.handles in
         let got : sketched (row S (key.Msg e n)) ≡ Some (sketches.Message xs) = ap sketched (message-row S e n m there) in
         let named : In held.koid (names_at e (key.Msg e n, sketches.Message xs)) =
-            subst (λ b. In held.koid (if b then xs else [])) (sym (eq-eqb e e refl)) (map-in (λ (held : Held). held.koid) held m.handles l) in
+        subst (λ b. In held.koid (if b then xs else [])) (sym (eq-eqb e e refl)) (map-in (λ (held : Held). held.koid) held m.handles l) in
         named_marked e held.koid h (flat_map-in (names_at e) held.koid (key.Msg e n, sketches.Message xs) graph.entries (got-in (key.Msg e n) (sketches.Message xs) got) named) (ended.each e)
 
     marked_closed : IsClosed S set
@@ -336,9 +336,9 @@ module _ (graph : BTreeMap RowKey Sketch) (ordered : IsOrdered rowkey_cmp graph)
     all_above y = same_test (list_any (over y) graph.entries) (list_any (above y) (objects S))
         (λ h. let w = in-list_any (over y) graph.entries h in from_over y w.0.0 w.0.1 (in-got w.0.0 w.0.1 w.1) w.2)
         (λ h.
-            let w = in-list_any (above y) (objects S) h in
-            let o = in-filter_map object_at w.0 S.rows w.1 in
-            from_above w.0.0 y w.0.1 o.0 o.1 o.2 w.2)
+        let w = in-list_any (above y) (objects S) h in
+        let o = in-filter_map object_at w.0 S.rows w.1 in
+        from_above w.0.0 y w.0.1 o.0 o.1 o.2 w.2)
 
 pub over_none : (a : Bool) (p : RowKey × Sketch → Bool) (es : List (RowKey × Sketch)) (b : Bool) → es ≡ [] → (a || list_any p es) ≡ b → a ≡ b
 over_none a p es b e h = sym (or_false a) ∙ ap (λ l. a || list_any p l) (sym e) ∙ h

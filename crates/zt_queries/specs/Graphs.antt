@@ -1,10 +1,9 @@
 -- The graph in which leaks are looked for: of each row no more than what leaks hang on, and what the rows of the graph
 -- name. This project's own.
-use Rattle.std.specs.Prelude.{◌≡◌, ℕ, zero, suc, ◌+◌, Bool, true, false, ◌==◌, ◌&&◌, ◌||◌, not, if◌then◌else◌, List, [], ◌∷◌, map, length, Option, None, Some, unwrap_or}
+use Rattle.std.specs.Prelude.{◌≡◌, ℕ, zero, suc, ◌+◌, Bool, false, ◌==◌, ◌&&◌, ◌||◌, not, if◌then◌else◌, List, [], map, length, Option, None, Some, unwrap_or}
 use Rattle.std.specs.List.{filter_map, flat_map, sum_by}
 use Rattle.std.specs.Ordering.{nat_cmp}
 use Rattle.std.specs.BTreeMap.{BTreeMap, get, values}
-use Rattle.std.specs.BTreeSet.{BTreeSet, contains}
 use Rattle.zt_bits.specs.declared.kinds.Kind.{Kind}
 use Rattle.zt_rows.specs.declared.keys.RowKey.{RowKey}
 use Rattle.zt_rows.specs.declared.keys.RowKey.TheVariants as key

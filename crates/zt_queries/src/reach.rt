@@ -109,11 +109,7 @@ fn put_behind(
 }
 
 /// Takes what is under the endpoint, and puts it behind what is found.
-fn look_into(
-    found: &mut Vec<Koid>,
-    queues: &mut Queues,
-    endpoint: Koid,
-) -> Result<(), AllocError>
+fn look_into(found: &mut Vec<Koid>, queues: &mut Queues, endpoint: Koid) -> Result<(), AllocError>
     ensures found { OnOk result (found.new.items ≡ found.old.items ++ waiting queues.old endpoint) }
     ensures queues { OnOk result ((e : ℕ) → waiting queues.new e ≡ (if endpoint == e then [] else waiting queues.old e)) }
     ensures fewer { OnOk result (weight queues.new + length (waiting queues.old endpoint) ≡ weight queues.old) }
@@ -146,11 +142,7 @@ pub(crate) fn above_in(
 }
 
 /// Adds what is above the object of this koid, if there is one.
-fn add_above(
-    set: &mut BTreeSet<u64>,
-    graph: &Graph,
-    keeper: Option<Koid>,
-) -> Result<(), AllocError>
+fn add_above(set: &mut BTreeSet<u64>, graph: &Graph, keeper: Option<Koid>) -> Result<(), AllocError>
     ensures { OnOk result ((y : ℕ) → contains nat_cmp set.new y ≡ (contains nat_cmp set.old y || is_over graph.now keeper y)) }
 {
     match keeper {

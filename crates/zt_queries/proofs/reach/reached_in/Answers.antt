@@ -1,5 +1,5 @@
 -- The search goes on name by name, until nothing is left to be looked into.
-use Rattle.std.proofs.Common.{◌≡◌, sym, ◌∙◌}
+use Rattle.std.proofs.Common.{sym, ◌∙◌}
 use Rattle.std.specs.Ordering.{nat_cmp}
 use Rattle.std.specs.BTreeSet.{contains}
 use Rattle.zt_queries.specs.Graphs.{roots, names, waiting}
