@@ -13,5 +13,6 @@ pub mod RecordLaws
 pub mod Endings
 pub mod GridLaws
 pub mod CabinetLaws
+pub mod HeldLaws
 pub mod LookLaws
 pub mod CellsLaws

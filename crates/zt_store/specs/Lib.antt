@@ -5,6 +5,7 @@ pub mod Numbers
 pub mod Places
 pub mod Seen
 pub mod Recorded
+pub mod Held
 pub mod Stepping
 pub mod Touching
 pub mod Walks
