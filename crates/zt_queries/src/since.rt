@@ -175,12 +175,7 @@ fn exchange(alloc: Global, graph: &mut Graph, change: &Record) -> Result<(), All
 }
 
 /// Puts what the record has under the key, if it has the key.
-fn redraw(
-    alloc: Global,
-    graph: &mut Graph,
-    change: &Record,
-    key: RowKey,
-) -> Result<(), AllocError>
+fn redraw(alloc: Global, graph: &mut Graph, change: &Record, key: RowKey) -> Result<(), AllocError>
     ensures { OnOk result ((q : RowKey) → get rowkey_cmp graph.new q ≡ (if rowkey_eq key q then held_over (held change.now key) (get rowkey_cmp graph.old key) else get rowkey_cmp graph.old q)) }
 {
     let asked = key;

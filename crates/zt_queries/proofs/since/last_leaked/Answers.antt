@@ -16,7 +16,7 @@ loop-i-preserved c =
       known = known;
       last =
           latest_more (at_moment (leaked c.args.koid) c.args.history.now.tree.made) c.args.ways.now.way.items c.loop-i.i c.index-moment.result.now (not c.loop-i.before && c.in_ok-after.after)
-          c.loop-i.found c.latest.result inside c.index-moment.ensures same c.loop-i.invariant.last c.latest.ensures;
+          c.loop-i.found c.latest-found.result inside c.index-moment.ensures same c.loop-i.invariant.last c.latest-found.ensures;
       low = omega (arith, c.loop-i.invariant.low);
       high = omega (arith, inside);
     }
