@@ -81,7 +81,7 @@ last-append o (x ∷ xs) ys = last-append (Some x) xs ys
 -- ---- a path, moment by moment
 
 module _ (made : List Made) (falls : Falls made) (way : List ℕ) (is : IsPath made way) where
-  way-end : (i q : ℕ) → slice_get way i ≡ Some q → end_of (take (suc i) way) ≡ q
+  pub way-end : (i q : ℕ) → slice_get way i ≡ Some q → end_of (take (suc i) way) ≡ q
   way-end i q at = ap end_of (sym (ways.way-at made falls way is i q at)) ∙ path-end made falls q
 
   -- each beginning of it is a path
@@ -91,7 +91,7 @@ module _ (made : List Made) (falls : Falls made) (way : List ℕ) (is : IsPath m
       let there = get-within way j (omega (arith, h)) in
       ap (path made) (way-end j there.0 there.1) ∙ ways.way-at made falls way is j there.0 there.1
 
-  way-parent : (i q : ℕ) → slice_get way i ≡ Some q → parent_at made q ≡ end_of (take i way)
+  pub way-parent : (i q : ℕ) → slice_get way i ≡ Some q → parent_at made q ≡ end_of (take i way)
   way-parent i q at =
       ways.way-next made falls way is i q (end_of (take i way)) at (front-path i (omega (arith, slice_get_within way i q at)))
 

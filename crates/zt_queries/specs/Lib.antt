@@ -4,4 +4,6 @@ pub mod Happenings
 pub mod Times
 pub mod Copies
 pub mod Holding
+pub mod Graphs
+pub mod Surveys
 pub mod Turns

@@ -30,10 +30,10 @@ enum Turn {
 
 /// The paths to the moment that is asked about and to the position, and how many moments they share.
 #[derive(Drop)]
-struct Ways {
-    way: Vec<Moment>,
-    here: Vec<Moment>,
-    shared: usize,
+pub(crate) struct Ways {
+    pub(crate) way: Vec<Moment>,
+    pub(crate) here: Vec<Moment>,
+    pub(crate) shared: usize,
 }
 
 /// The moment on the path to `at` at which the object was made; none where it was there at the opening. It reads the
@@ -95,7 +95,7 @@ fn when(history: &History, at: Moment, koid: Koid, turn: Turn) -> Result<Option<
 }
 
 /// The paths to a moment and to the position.
-fn ways_to(history: &History, at: Moment) -> Result<Ways, Refusal>
+pub(crate) fn ways_to(history: &History, at: Moment) -> Result<Ways, Refusal>
     requires there { at ≤ length history.now.tree.made }
     ensures ways { IfOk result (λ ways. AreWays history.now ways.way.items ways.here.items ways.shared) }
     ensures way { IfOk result (λ ways. ways.way.items ≡ path history.now.tree.made at) }
@@ -131,7 +131,7 @@ fn shared_by(way: &[Moment], here: &[Moment]) -> usize
 }
 
 /// Whether the koid was given out by the moment that is asked about.
-fn is_known(history: &History, ways: &Ways, koid: Koid) -> bool
+pub(crate) fn is_known(history: &History, ways: &Ways, koid: Koid) -> bool
     requires { AreWays history.now ways.now.way.items ways.now.here.items ways.now.shared }
     ensures { result ≡ is_known (state_at history.now.tree.made (end_of ways.now.way.items)) koid }
 {
