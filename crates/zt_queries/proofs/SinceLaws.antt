@@ -1,7 +1,7 @@
 -- A graph moved by records along the paths of a history, and the last moment at which an object was leaked.
 use Rattle.std.proofs.Common.{◌≡◌, ℕ, zero, suc, ◌+◌, ◌-◌, ◌<◌, ◌≤◌, Bool, true, false, not, ◌&&◌, ◌||◌, List, [], ◌∷◌, ◌++◌, map, length, take, get_or, refl, sym, ap, ◌∙◌, subst, arith}
 use Rattle.std.specs.Prelude.{Option, None, Some, unwrap_or, if◌then◌else◌, filter, slice_get}
-use Rattle.std.specs.List.{list_any, last_or}
+use Rattle.std.specs.List.{last_or}
 use Rattle.std.specs.Ordering.{is_eq}
 use Rattle.std.specs.BTreeMap.{BTreeMap, get}
 use Rattle.std.specs.FinMap.Entries as entries
@@ -17,7 +17,7 @@ use Rattle.zt_rows.proofs.RowLaws.{or_right}
 use Rattle.zt_store.specs.Held.{held}
 use Rattle.zt_history.specs.Standing.{recorded_at}
 use Rattle.zt_history.specs.Timeline.{Timeline, IsPath}
-use Rattle.zt_history.specs.Tree.{Made, parent_at, end_of, state_at}
+use Rattle.zt_history.specs.Tree.{parent_at, end_of, state_at}
 use Rattle.zt_queries.specs.declared.graph.Node.{Node}
 use Rattle.zt_queries.specs.declared.graph.Sketch.{Sketch}
 use Rattle.zt_queries.specs.Graphs.{sketched, held_over, IsGraph, is_left, node}

@@ -1,5 +1,5 @@
 -- The graph is that of a moment on the path to the position.
-use Rattle.std.proofs.Common.{ℕ, ◌≤◌, length, take}
+use Rattle.std.proofs.Common.{◌≤◌, length, take}
 use Rattle.zt_history.specs.Tree.{end_of, state_at}
 use Rattle.zt_queries.specs.Graphs.{IsGraph}
 use Rattle.zt_queries.proofs.since.graph_at_fork.Given as goal

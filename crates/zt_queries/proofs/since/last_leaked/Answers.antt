@@ -1,5 +1,5 @@
 -- Forth from the fork, moment by moment.
-use Rattle.std.proofs.Common.{◌≡◌, ◌<◌, ◌≤◌, ◌&&◌, not, length, sym, ◌∙◌, arith}
+use Rattle.std.proofs.Common.{◌<◌, ◌&&◌, not, length, arith}
 use Rattle.zt_queries.specs.Happenings.{leaked}
 use Rattle.zt_queries.specs.Times.{at_moment}
 use Rattle.zt_queries.proofs.SinceLaws.{forth_step, forth_leaks, latest_more}

@@ -1,5 +1,5 @@
 -- The graph is that of a moment on the way, and up to it the last moment is found.
-use Rattle.std.proofs.Common.{◌≡◌, ℕ, ◌≤◌, ◌-◌, length, take, filter, None}
+use Rattle.std.proofs.Common.{◌≡◌, ◌≤◌, ◌-◌, length, take, filter, None}
 use Rattle.std.specs.List.{last_or}
 use Rattle.zt_history.specs.Tree.{end_of, state_at}
 use Rattle.zt_queries.specs.Graphs.{IsGraph}

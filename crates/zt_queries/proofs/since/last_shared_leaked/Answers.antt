@@ -1,5 +1,5 @@
 -- Back from the fork, moment by moment.
-use Rattle.std.proofs.Common.{◌≡◌, ◌<◌, ◌≤◌, ◌&&◌, not, length, sym, ◌∙◌, arith}
+use Rattle.std.proofs.Common.{◌<◌, ◌≤◌, length, sym, ◌∙◌, arith}
 use Rattle.zt_queries.specs.Happenings.{leaked}
 use Rattle.zt_queries.specs.Times.{at_moment}
 use Rattle.zt_queries.proofs.SinceLaws.{back_step, back_leaks}

@@ -1,5 +1,5 @@
 -- The graph is that of a moment that both paths share, and after it the object was not leaked.
-use Rattle.std.proofs.Common.{◌≡◌, ℕ, ◌≤◌, take, filter, None}
+use Rattle.std.proofs.Common.{◌≡◌, ◌≤◌, take, filter, None}
 use Rattle.std.specs.List.{last_or}
 use Rattle.zt_history.specs.Tree.{end_of, state_at}
 use Rattle.zt_queries.specs.Graphs.{IsGraph}
