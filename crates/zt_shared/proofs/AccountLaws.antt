@@ -1,8 +1,7 @@
 -- What the two sides of an account know.
-use Rattle.std.proofs.Common.{◌≡◌, ℕ, zero, suc, ◌<◌, ◌≤◌, ◌+◌, List, [], ◌∷◌, ◌++◌, length, map, take, get_or, refl, ap, sym, ◌∙◌, arith, Some, None}
+use Rattle.std.proofs.Common.{◌≡◌, ℕ, suc, ◌<◌, List, [], ◌∷◌, ◌++◌, length, map, take, get_or, refl, ap, sym, ◌∙◌, arith, Some, None}
 use Rattle.std.specs.Prelude.{Option, IfSome}
-use Rattle.std.proofs.lemmas.List.{take_more, length-map, length_push, map_push}
-use Rattle.std.proofs.lemmas.List.{get_or-map}
+use Rattle.std.proofs.lemmas.List.{take_more, length-map, length_push, map_push, get_or-map}
 use Rattle.std.specs.declared.alloc.Global.{Global}
 use Rattle.once_cell.specs.Once.{Agrees, cell_name}
 use Rattle.zt_shared.specs.declared.account.Slip.{Slip}

@@ -1,4 +1,4 @@
-use Rattle.std.proofs.Common.{◌≡◌, length, sym, ◌∙◌, ap, arith}
+use Rattle.std.proofs.Common.{◌≡◌, length, sym, ◌∙◌, arith}
 use Rattle.zt_shared.specs.Accounts.{known_of, somes}
 use Rattle.zt_shared.proofs.AccountLaws.{noted-cells, sides-same}
 use Rattle.zt_shared.proofs.account.LockSide.agree.Goals as goal
