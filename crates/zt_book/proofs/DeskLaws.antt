@@ -14,19 +14,23 @@ use Rattle.zt_rows.specs.declared.rows.Row.{Row}
 use Rattle.zt_rows.specs.declared.supports.Support.{Support}
 use Rattle.zt_rows.specs.declared.refusals.Refusal.TheVariants as refusal
 use Rattle.zt_rows.specs.Tests.{exists}
-use Rattle.zt_history.specs.Refusing.{◌>>=◌, call_on, branch_on, IsRefused as IsRefusedThere}
+use Rattle.zt_history.specs.Refusing.{◌>>=◌, check, call_on, branch_on, IsRefused as IsRefusedThere}
 use Rattle.zt_history.specs.Standing.{Falls}
 use Rattle.zt_history.specs.Tree.{Made, Tree, last_moment, parent_at, path, state_at, head_at, branch_named}
 use Rattle.zt_history.proofs.PathLaws.{path-opening, path-step, by_parents}
 use Rattle.zt_history.specs.Timeline.{Timeline}
 use Rattle.zt_queries.specs.Copies.{holders_on}
-use Rattle.zt_queries.specs.Times.{is_known}
+use Rattle.zt_queries.specs.Leaks.{leaks}
+use Rattle.zt_queries.specs.Times.{happens, last_on, is_known, when_on, IsRefusedWhen}
+use Rattle.zt_bits.specs.declared.kinds.Kind.{Kind}
+use Rattle.std.specs.Option.{option_map}
+use Rattle.zt_rows.specs.declared.calls.Event.{Event}
 use Rattle.zt_book.specs.Desk.{IsCursor, IsPinned, IsClient, IsDesk}
 use Rattle.zt_book.proofs.LoadLaws.{moments-called, branches-called}
 use Rattle.zt_book.specs.declared.clients.Client.{Client}
 use Rattle.zt_book.specs.declared.clients.Cursor.{Cursor}
 use Rattle.zt_book.specs.declared.clients.Cursor.TheVariants.{Follows, At}
-use Rattle.zt_book.specs.Session.{Session, client_of, position_of, state_of, with_client, standing, ancestor, is_name, most_rows, serve, call_by, goto_by, back_by, branch_by, follow_by, show_to, holders_to, leaks_to, when_to, pin_to, IsRefused}
+use Rattle.zt_book.specs.Session.{Session, event_of, event_at, client_of, position_of, state_of, with_client, standing, ancestor, is_name, most_rows, serve, call_by, goto_by, back_by, branch_by, follow_by, show_to, holders_to, leaks_to, when_to, pin_to, IsRefused}
 
 -- ---- refusals
 
@@ -36,6 +40,14 @@ refused-there (Ok x) f given h = h
 refused-there (Err refusal.NoProcess) f given h = h
 refused-there (Err refusal.NoObject) f given h = inl h
 refused-there (Err _) f given h = h
+
+-- ---- events
+
+-- the call of a moment tells its event
+pub event-called : (m : ℕ) (o : Option Made)
+    → option_map (event_of m) o ≡ option_map (λ (q : ℕ × Call). let x : Event = record { moment = m; process = q.0; call = q.1 } in x) (option_map (λ e. (e.process, e.call)) o)
+event-called m None = refl
+event-called m (Some e) = refl
 
 -- ---- one command each
 
@@ -145,6 +157,19 @@ module _ (M : Session) (client : ℕ) where
   when-memory what object true h = rw h refl
   when-memory what object false h = rw h (inr refl)
 
+  when-refused-by : (made : List Made) (what : Happening) (moment object : ℕ) (f : Option ℕ → Answer × Session) (given : Refusal) (b : Bool)
+      → is_known (state_at made moment) object ≡ b
+      → IsRefusedWhen (when_on what made moment object) given → IsRefused (when_on what made moment object >>= λ found. Ok (f found)) given
+  when-refused-by made what moment object f given true h refused = rw h (subst (λ b. IsRefusedWhen (check b refusal.NoObject >>= λ _. Ok (last_on (happens what object) made moment)) given) h refused)
+  when-refused-by made what moment object f given false h refused = rw h (subst (λ b. IsRefusedWhen (check b refusal.NoObject >>= λ _. Ok (last_on (happens what object) made moment)) given) h refused)
+
+  pub when-refused : (what : Happening) (position object : ℕ) (given : Refusal) → position ≡ position_of M client
+      → IsRefusedWhen (when_on what M.tree.made position object) given → IsRefused (when_to M client what object) given
+  unfolding when_to
+  when-refused what position object given is refused =
+      when-refused-by M.tree.made what (position_of M client) object (λ found. let N : Answer × Session = (answer.When (event_at M.tree.made found), M) in N) given _ refl
+      (subst (λ m. IsRefusedWhen (when_on what M.tree.made m object) given) is refused)
+
   pub pin-memory : (client_of M client).rows < most_rows → IsRefused (serve M client command.Pin) refusal.OutOfMemory
   unfolding serve pin_to
   pin-memory h = rw (lt-ltb (client_of M client).rows most_rows h) refl
@@ -199,6 +224,21 @@ module _ (M N : Session) (client : ℕ) where
   holders-seen position object held is found same =
       let there : holders_on (state_of M client) object ≡ Ok held = subst (λ m. holders_on (state_at M.tree.made m) object ≡ Ok held) is found in
       ap (λ r. r >>= λ held. said_and (answer.Holders object held) M) there ∙ ap (said_and (answer.Holders object held)) (sym same)
+
+  pub leaks-seen : (position : ℕ) (found : List (ℕ × Kind)) → position ≡ position_of M client → found ≡ leaks (state_at M.tree.made position) → N ≡ M
+      → leaks_to M client ≡ Ok (answer.Leaks position found, N)
+  unfolding leaks_to
+  leaks-seen position found is are same =
+      let there : found ≡ leaks (state_of M client) = are ∙ ap (λ m. leaks (state_at M.tree.made m)) is in
+      λ i. said_and (answer.Leaks (sym is i) (sym there i)) (sym same i)
+
+  pub when-seen : (what : Happening) (position object : ℕ) (found : Option ℕ) (event : Option Event) → position ≡ position_of M client
+      → when_on what M.tree.made position object ≡ Ok found → event ≡ event_at M.tree.made found → N ≡ M
+      → when_to M client what object ≡ Ok (answer.When event, N)
+  unfolding when_to
+  when-seen what position object found event is done are same =
+      let there : when_on what M.tree.made (position_of M client) object ≡ Ok found = subst (λ m. when_on what M.tree.made m object ≡ Ok found) is done in
+      ap (λ r. r >>= λ found. said_and (answer.When (event_at M.tree.made found)) M) there ∙ (λ i. said_and (answer.When (sym are i)) (sym same i))
 
   pub pin-seen : (position : ℕ) (to : Client) → position ≡ position_of M client → to ≡ record (client_of M client) { pinned = Some position } → N ≡ with_client M client to
       → pin_to M client ≡ Ok (answer.Pinned position, N)

@@ -1,12 +1,14 @@
 ghost use Rattle.std.specs.Prelude.{◌≡◌, ◌≤◌, ◌<◌, ◌∷◌, Ok, IfOk, IfErr, OnOk, OnErr, length, slice_index_or};
-ghost use Rattle.zt_book.specs.Session.{asked, serve, client_of, standing, call_by, goto_by, back_by, branch_by, follow_by, show_to, holders_to, leaks_to, when_to, pin_to, IsRefused};
+ghost use Rattle.zt_queries.specs.Times.{when_on, IsRefusedWhen};
+ghost use Rattle.zt_book.specs.Session.{asked, serve, event_at, client_of, standing, call_by, goto_by, back_by, branch_by, follow_by, show_to, holders_to, leaks_to, when_to, pin_to, IsRefused};
 ghost use Rattle.zt_book.specs.Desk.{IsCursor, IsOneMore, session_before};
 
 use crate::clients::Cursor;
 use crate::desks::{Desk, ROWS};
 use crate::names::is_name;
-use zt_queries::{holders_at, rows_at};
-use zt_rows::{Answer, Call, Command, Happening, Items, Koid, Moment, Refusal, Reply};
+use std::alloc::AllocError;
+use zt_queries::{ended, holders_at, leaked_since, leaks_at, made, peer_closed, rows_at};
+use zt_rows::{Answer, Call, Command, Event, Happening, Items, Koid, Moment, Refusal, Reply};
 
 impl Desk {
     /// Answers a command of a client, and counts it. Refused, the session is as before.
@@ -212,10 +214,13 @@ impl Desk {
         ensures refused { IfErr result (IsRefused (leaks_to self.old.session client)) }
         ensures err { OnErr result (self.new.session ≡ self.old.session) }
     {
-        let Ok(_) = self.go(client) else {
+        let Ok(position) = self.go(client) else {
             return Err(Refusal::OutOfMemory);
         };
-        Err(Refusal::OutOfMemory)
+        let Ok(found) = leaks_at(*self.clients.allocator(), &self.history) else {
+            return Err(Refusal::OutOfMemory);
+        };
+        Ok(Answer::Leaks(position, found))
     }
 
     /// The moment on the path to the client's position at which something happened to an object.
@@ -227,11 +232,49 @@ impl Desk {
         ensures refused { IfErr result (IsRefused (when_to self.old.session client what koid)) }
         ensures err { OnErr result (self.new.session ≡ self.old.session) }
     {
-        let _asked = (what, koid);
-        let Ok(_) = self.go(client) else {
-            return Err(Refusal::OutOfMemory);
+        self.grown = false;
+        let position = self.position(client);
+        let found = self.moment_of(what, position, koid)?;
+        match self.event(found) {
+            Ok(event) => Ok(Answer::When(event)),
+            Err(_) => Err(Refusal::OutOfMemory),
+        }
+    }
+
+    /// The moment on the path to another at which something happened to an object.
+    fn moment_of(&self, what: Happening, at: Moment, koid: Koid) -> Result<Option<Moment>, Refusal>
+        requires { at ≤ length self.now.session.tree.made }
+        ensures ok { IfOk result (λ found. when_on what self.now.session.tree.made at koid ≡ Ok found) }
+        ensures refused { IfErr result (IsRefusedWhen (when_on what self.now.session.tree.made at koid)) }
+    {
+        let alloc = *self.clients.allocator();
+        match what {
+            Happening::Made => made(alloc, &self.history, at, koid),
+            Happening::Ended => ended(alloc, &self.history, at, koid),
+            Happening::PeerClosed => peer_closed(alloc, &self.history, at, koid),
+            Happening::Leaked => leaked_since(alloc, &self.history, at, koid),
+        }
+    }
+
+    /// A moment with an equal call, if there is one.
+    #[tactic(auto, using(crate::proofs::DeskLaws::event-called))]
+    fn event(&self, moment: Option<Moment>) -> Result<Option<Event>, AllocError>
+        ensures { IfOk result (λ event. event ≡ event_at self.now.session.tree.made moment) }
+    {
+        let Some(moment) = moment else {
+            return Ok(None);
         };
-        Err(Refusal::OutOfMemory)
+        match self.history.call_of(moment) {
+            Some((process, call)) => {
+                let call = call.copy()?;
+                Ok(Some(Event {
+                    moment,
+                    process,
+                    call,
+                }))
+            }
+            None => Ok(None),
+        }
     }
 
     /// Pins the client's position.
