@@ -1,13 +1,16 @@
 -- The log of a session: what was asked and answered, in its order, so that the log can be replayed. This project's own.
-use Rattle.std.specs.Prelude.{◌≡◌, ℕ, suc, ◌×◌, List, [], ◌∷◌, ◌++◌, Option, None, Result, Ok, Err}
+use Rattle.std.specs.Prelude.{◌≡◌, ◌⊎◌, ℕ, suc, ◌≤◌, ◌==◌, nat_lt, Bool, true, false, List, [], ◌∷◌, length, filter, Option, None, Result, Ok, Err}
+use Rattle.std.specs.List.{AllByRecursion}
 use Rattle.zt_rows.specs.declared.calls.Answer.{Answer}
 use Rattle.zt_rows.specs.declared.calls.Call.{Call}
 use Rattle.zt_rows.specs.declared.calls.Command.{Command}
 use Rattle.zt_rows.specs.declared.refusals.Refusal.{Refusal}
+use Rattle.zt_rows.specs.declared.refusals.Refusal.TheVariants as refusal
 use Rattle.zt_history.specs.Refusing.{call_on}
-use Rattle.zt_history.specs.Tree.{Tree, opening_tree}
+use Rattle.zt_history.specs.Tree.{Tree, opening_tree, state_at, calls_to}
+use Rattle.zt_queries.specs.Copies.{Snapshot}
 use Rattle.zt_book.specs.declared.logs.Recorded.{Recorded}
-use Rattle.zt_book.specs.Session.{Session, opening_session, session_over, serve}
+use Rattle.zt_book.specs.Session.{Session, opening_session, session_over, client_of, most_rows, serve}
 
 -- ---- the log
 
@@ -16,6 +19,22 @@ abbrev pub Replays : Session → List Recorded → Session → Type 0
 Replays M [] N = N ≡ M
 Replays M (row ∷ rows) N =
     (between : Session) × (serve M row.client row.asked ≡ Ok (row.answered, between)) × Replays between rows N
+
+-- the rows of one client
+abbrev pub rows_of : ℕ → List Recorded → List Recorded
+rows_of client log = filter (λ row. row.client == client) log
+
+-- a row of one of so many clients
+abbrev pub IsOf : ℕ → Recorded → Type 0
+IsOf clients row = (1 ≤ row.client) × (row.client ≤ clients)
+
+-- what was answered to a client is counted: so many rows of it are in the log, and not too many; there are no rows of
+-- others
+pub record IsCounted (M : Session) (log : List Recorded) : Type 0 where
+  pub few : length M.clients ≤ 4
+  pub each : (client : ℕ) → 1 ≤ client → client ≤ length M.clients → (client_of M client).rows ≡ length (rows_of client log)
+  pub within : (client : ℕ) → 1 ≤ client → client ≤ length M.clients → (client_of M client).rows ≤ most_rows
+  pub of_clients : AllByRecursion (IsOf (length M.clients)) log
 
 -- ---- a book
 
@@ -39,16 +58,21 @@ standing_of b = record { session = b.session; log = b.log }
 abbrev pub first_book : ℕ → Kept
 first_book clients = record { session = opening_session clients; log = []; before = None }
 
+-- a copy of the history at this moment of a tree
+abbrev pub snapshot_at : Tree → ℕ → Snapshot
+snapshot_at t m = record { moment = m; state = state_at t.made m; calls = calls_to t.made m }
+
 -- ---- loading
+
+-- the rest of the calls, where this one is answered
+abbrev pub loaded_behind : ℕ → Result (Answer × Tree) Refusal → (Tree → Result Tree (ℕ × Refusal)) → Result Tree (ℕ × Refusal)
+loaded_behind i (Ok done) rest = rest done.1
+loaded_behind i (Err reason) rest = Err (i, reason)
 
 -- calls on `main` in turn, or the number of the first that is refused, from 0, with why
 abbrev pub loaded_from : ℕ → Tree → List (ℕ × Call) → Result Tree (ℕ × Refusal)
 loaded_from i t [] = Ok t
-loaded_from i t ((process , call) ∷ calls) = loaded_on i (call_on t 0 process call) calls
-
-abbrev pub loaded_on : ℕ → Result (Answer × Tree) Refusal → List (ℕ × Call) → Result Tree (ℕ × Refusal)
-loaded_on i (Ok done) calls = loaded_from (suc i) done.1 calls
-loaded_on i (Err reason) calls = Err (i , reason)
+loaded_from i t ((process, call) ∷ calls) = loaded_behind i (call_on t 0 process call) (λ u. loaded_from (suc i) u calls)
 
 -- the tree of these calls
 abbrev pub loaded : List (ℕ × Call) → Result Tree (ℕ × Refusal)
@@ -57,3 +81,18 @@ loaded calls = loaded_from 0 opening_tree calls
 -- a book of so many clients over a loaded tree: its log begins there
 abbrev pub book_over : Tree → ℕ → Kept
 book_over t clients = record { session = session_over t clients; log = []; before = None }
+
+-- what is told where a book is not loaded: that there are too many clients; or the first call that is refused; or that
+-- memory was refused
+abbrev pub IsUnloadedBy : Bool → Result Tree (ℕ × Refusal) → ℕ × Refusal → Type 0
+IsUnloadedBy true whole fault = fault ≡ (0, refusal.TooManyClients)
+IsUnloadedBy false (Err first) fault = (fault ≡ first) ⊎ (fault ≡ (0, refusal.OutOfMemory))
+IsUnloadedBy false (Ok t) fault = fault ≡ (0, refusal.OutOfMemory)
+
+-- the call at which a refusal is told: want of memory at none
+abbrev pub fault_at : ℕ → Refusal → ℕ × Refusal
+fault_at number refusal.OutOfMemory = (0, refusal.OutOfMemory)
+fault_at number reason = (number, reason)
+
+abbrev pub IsUnloaded : ℕ → Result Tree (ℕ × Refusal) → ℕ × Refusal → Type 0
+IsUnloaded clients whole fault = IsUnloadedBy (nat_lt 4 clients) whole fault

@@ -1,64 +1,220 @@
-ghost use Rattle.std.specs.Prelude.{◌≡◌, ◌≤◌, ◌<◌, ◌↔◌, ◌∷◌, ◌++◌, [], length, IfOk, IfErr, OnErr, IfSome, IsSome, IsTrue, Ok, Some};
+ghost use Rattle.std.specs.Prelude.{◌≡◌, ◌≢◌, ◌≤◌, ◌<◌, ◌↔◌, ◌++◌, ◌∷◌, [], None, Some, Ok, IfOk, IfErr, IfSome, OnOk, OnErr, IsErrOf, IsSome, is_some, length};
 ghost use Rattle.zt_rows.specs.declared.calls.Command.TheVariants as command;
-ghost use Rattle.zt_book.specs.Session.{serve, client_of, IsRefused};
-ghost use Rattle.zt_book.specs.Log.{Standing, standing_of, first_book, book_over, loaded};
-ghost use Rattle.zt_queries.specs.Copies.{snapshot_at};
+ghost use Rattle.zt_history.specs.Tree.{Tree};
+ghost use Rattle.zt_book.specs.Session.{serve, session_over, position_of, IsRefused};
+ghost use Rattle.zt_book.specs.Log.{IsCounted, standing_of, first_book, book_over, loaded, snapshot_at, IsUnloaded};
 
-// impl Model for Book: Value = { Kept }
+use crate::clients::Client;
+use crate::desks::Desk;
+use crate::loading::history_of;
+use crate::logs::Log;
+use std::alloc::Global;
+use std::marker::Model;
+use zt_history::History;
+use zt_queries::Frozen;
+use zt_rows::{Answer, Call, Command, Koid, Refusal};
 
 /// The most clients that a book serves.
 pub const CLIENTS: u8 = 4;
 
-/// The book of so many clients at the opening, each following `main`.
-pub fn new(alloc: Global, clients: u8) -> Result<Book, Refusal>
-    ensures ok { IfOk result (λ book. book ≡ first_book clients) }
-    ensures few { IfOk result (λ _. clients ≤ 4) }
-    ensures too_many { IsErrOf result Refusal.TooManyClients ↔ (4 < clients) }
-    ensures refusals { IfErr result (λ refusal. refusal ≢ Refusal.TooManyClients → refusal ≡ Refusal.OutOfMemory) }
+/// The most commands that are answered to a client.
+const ROWS: u32 = 4096;
 
-/// The book of so many clients over the moments of these calls on `main`, in turn. Refused, the number is that of the
-/// call from 0, or 0 for too many clients and for want of memory.
-pub fn load(alloc: Global, clients: u8, calls: &[(Koid, Call)]) -> Result<Book, (u64, Refusal)>
-    ensures ok { IfOk result (λ book. (tree : Tree) × (loaded calls.now ≡ Ok tree) × (book ≡ book_over tree clients)) }
-    ensures few { IfOk result (λ _. clients ≤ 4) }
-    ensures refused { IfErr result (λ fault. IsUnloaded clients (loaded calls.now) fault) }
+/// The client to which the last command was answered, and what was known of it before.
+#[derive(Clone, Copy)]
+pub(crate) struct Served {
+    pub(crate) client: u8,
+    pub(crate) was: Client,
+}
 
-/// Answers a command of a client, numbered from 1, and writes both in the log. Refused, session and log are as before.
-pub fn serve(&mut self, client: u8, request: &Command) -> Result<Answer, Refusal>
-    requires numbered { 1 ≤ client }
-    requires known { client ≤ length self.old.session.clients }
-    ensures ok { IfOk result (λ said. serve self.old.session client request.now ≡ Ok (said, self.new.session)) }
-    ensures logged { IfOk result (λ said. self.new.log ≡ self.old.log ++ record { client = client; asked = request.now; answered = said } ∷ []) }
-    ensures before { OnOk result (self.new.before ≡ Some (standing_of self.old)) }
-    ensures refused { IfErr result (IsRefused (serve self.old.session client request.now)) }
-    ensures unchanged { OnErr result (standing_of self.new ≡ standing_of self.old) }
-    ensures clients { length self.new.session.clients ≡ length self.old.session.clients }
+/// The tree of moments with the clients that stand in it, and the log of what they were answered. The clients are
+/// numbered from 1.
+#[derive(Drop)]
+pub struct Book {
+    desk: Desk,
+    log: Log,
+    last: Option<Served>,
+}
 
-/// As `serve` of `Pin`, with a copy of the history at the position.
-pub fn pin(&mut self, client: u8) -> Result<(Answer, Frozen), Refusal>
-    (the same with command.Pin, and)
-    ensures frozen { IfOk result (λ pinned. pinned.1 ≡ snapshot_at self.old.session.tree (position_of self.old.session client)) }
+impl Model for Book {
+    ghost use Rattle.zt_book.specs.Log.{Kept};
+    ghost use Rattle.zt_book.specs.Desk.{kept_of, IsBook};
 
-/// The tree, with a store at some moment.
-pub fn history(&self) -> &History
-    ensures tree { result.now.tree ≡ self.now.session.tree }
+    ghost Value = { Kept };
 
-pub fn log(&self) -> &Log
-    ensures { result.now ≡ self.now.log }
+    ghost view = { λ b. kept_of b.desk b.log b.last };
 
-/// The number of clients.
-pub fn clients(&self) -> u8
-    ensures { result ≡ length self.now.session.clients }
+    ghost invariant = { λ b. IsBook b.desk b.log b.last };
+}
 
-/// Whether the last command was answered and nothing was asked since, so that `take_back` can take it back.
-pub fn can_take_back(&self) -> bool
-    ensures { result ≡ is_some self.now.before }
+impl Book {
+    /// The book of so many clients at the opening, each following `main`.
+    pub fn new(alloc: Global, clients: u8) -> Result<Book, Refusal>
+        ensures ok { IfOk result (λ book. book ≡ first_book clients) }
+        ensures few { OnOk result (clients ≤ 4) }
+        ensures too_many { IsErrOf result Refusal.TooManyClients ↔ (4 < clients) }
+        ensures refusals { IfErr result (λ refusal. refusal ≢ Refusal.TooManyClients → refusal ≡ Refusal.OutOfMemory) }
+    {
+        if clients > CLIENTS {
+            return Err(Refusal::TooManyClients);
+        }
+        let Ok(history) = History::new(alloc) else {
+            return Err(Refusal::OutOfMemory);
+        };
+        let Ok(desk) = Desk::new(alloc, history, clients) else {
+            return Err(Refusal::OutOfMemory);
+        };
+        Ok(begin(alloc, desk))
+    }
 
-/// Session and log as before the last command. It takes no memory.
-pub fn take_back(&mut self)
-    requires { IsSome self.old.before }
-    ensures back { IfSome self.old.before (λ before. standing_of self.new ≡ before) }
-    ensures once { self.new.before ≡ None }
+    /// The book of so many clients over the moments of these calls on `main`, in turn. Refused, the number is that of
+    /// the call, from 0, or 0 for too many clients and for want of memory.
+    pub fn load(
+        alloc: Global,
+        clients: u8,
+        calls: &[(Koid, Call)],
+    ) -> Result<Book, (u64, Refusal)>
+        ensures ok { IfOk result (λ book. (tree : Tree) × (loaded calls.now ≡ Ok tree) × (book ≡ book_over tree clients)) }
+        ensures few { OnOk result (clients ≤ 4) }
+        ensures refused { IfErr result (IsUnloaded clients (loaded calls.now)) }
+    {
+        if clients > CLIENTS {
+            return Err((0, Refusal::TooManyClients));
+        }
+        let history = history_of(alloc, calls)?;
+        match Desk::new(alloc, history, clients) {
+            Ok(desk) => Ok(begin(alloc, desk)),
+            Err(_) => Err((0, Refusal::OutOfMemory)),
+        }
+    }
 
-/// Each log row is of a client of the book, ... count of rows
-pub fn rows_are_counted(&self) ...
+    /// Answers a command of a client, and writes both in the log. Refused, session and log are as before.
+    pub fn serve(&mut self, client: u8, request: &Command) -> Result<Answer, Refusal>
+        requires numbered { 1 ≤ client }
+        requires known { client ≤ length self.old.session.clients }
+        ensures ok { IfOk result (λ said. serve self.old.session client request.now ≡ Ok (said, self.new.session)) }
+        ensures logged { IfOk result (λ said. self.new.log ≡ self.old.log ++ record { client = client; asked = request.now; answered = said } ∷ []) }
+        ensures before { OnOk result (self.new.before ≡ Some (standing_of self.old)) }
+        ensures refused { IfErr result (IsRefused (serve self.old.session client request.now)) }
+        ensures unchanged { OnErr result (standing_of self.new ≡ standing_of self.old) }
+        ensures nothing { OnErr result (self.new.before ≡ None) }
+        ensures clients { length self.new.session.clients ≡ length self.old.session.clients }
+    {
+        self.last = None;
+        let was = self.desk.client(client);
+        if was.rows >= ROWS {
+            return Err(Refusal::ClientFull);
+        }
+        let said = self.desk.answer(client, request)?;
+        self.desk.count(client);
+        match self.log.add(client, request, &said) {
+            Ok(()) => {
+                self.last = Some(Served { client, was });
+                Ok(said)
+            }
+            Err(_) => {
+                self.desk.retract(client, was);
+                Err(Refusal::OutOfMemory)
+            }
+        }
+    }
+
+    /// As `serve` of `Pin`, with a copy of the history at the client's position.
+    pub fn pin(&mut self, client: u8) -> Result<(Answer, Frozen), Refusal>
+        requires numbered { 1 ≤ client }
+        requires known { client ≤ length self.old.session.clients }
+        ensures ok { IfOk result (λ pinned. serve self.old.session client command.Pin ≡ Ok (pinned.0, self.new.session)) }
+        ensures frozen { IfOk result (λ pinned. pinned.1 ≡ snapshot_at self.old.session.tree (position_of self.old.session client)) }
+        ensures logged { IfOk result (λ pinned. self.new.log ≡ self.old.log ++ record { client = client; asked = command.Pin; answered = pinned.0 } ∷ []) }
+        ensures before { OnOk result (self.new.before ≡ Some (standing_of self.old)) }
+        ensures refused { IfErr result (IsRefused (serve self.old.session client command.Pin)) }
+        ensures unchanged { OnErr result (standing_of self.new ≡ standing_of self.old) }
+        ensures nothing { OnErr result (self.new.before ≡ None) }
+        ensures clients { length self.new.session.clients ≡ length self.old.session.clients }
+    {
+        let frozen = self.frozen(client)?;
+        let said = self.serve(client, &Command::Pin)?;
+        Ok((said, frozen))
+    }
+
+    /// The tree, with a store at one of its moments. It takes no memory.
+    pub fn history(&self) -> &History
+        ensures { result.now.tree ≡ self.now.session.tree }
+    {
+        self.desk.history()
+    }
+
+    /// What was answered. It takes no memory.
+    pub fn log(&self) -> &Log
+        ensures { result.now ≡ self.now.log }
+    {
+        &self.log
+    }
+
+    /// How many clients there are. It takes no memory.
+    pub fn clients(&self) -> u8
+        ensures clients { result ≡ length self.now.session.clients }
+        ensures few { result ≤ 4 }
+    {
+        self.desk.limits();
+        self.desk.clients()
+    }
+
+    /// Whether the last call by `&mut` was `serve` or `pin` and was answered, so that `take_back` can take it back. It
+    /// takes no memory.
+    pub fn can_take_back(&self) -> bool
+        ensures { result ≡ is_some self.now.before }
+    {
+        self.last.is_some()
+    }
+
+    /// Session and log as before the last command. It takes no memory.
+    pub fn take_back(&mut self)
+        requires { IsSome self.old.before }
+        ensures back { self.old.before ≡ Some (standing_of self.new) }
+        ensures once { self.new.before ≡ None }
+    {
+        match self.last {
+            None => unreachable!(),
+            Some(last) => {
+                self.desk.retract(last.client, last.was);
+                self.log.remove_last();
+                self.last = None;
+            }
+        }
+    }
+
+    /// What was answered to each client is counted, and nothing else is in the log. It takes no memory.
+    pub fn rows_are_counted(&self)
+        ensures { IsCounted self.now.session self.now.log }
+    {
+        let _ = &self.log;
+    }
+
+    /// A copy of the history at a client's position, where one more command can be answered to it. Session and log are
+    /// as before.
+    fn frozen(&mut self, client: u8) -> Result<Frozen, Refusal>
+        requires numbered { 1 ≤ client }
+        requires known { client ≤ length self.old.session.clients }
+        ensures ok { IfOk result (λ frozen. frozen ≡ snapshot_at self.old.session.tree (position_of self.old.session client)) }
+        ensures refused { IfErr result (IsRefused (serve self.old.session client command.Pin)) }
+        ensures unchanged { standing_of self.new ≡ standing_of self.old }
+        ensures nothing { self.new.before ≡ None }
+    {
+        self.last = None;
+        if self.desk.client(client).rows >= ROWS {
+            return Err(Refusal::ClientFull);
+        }
+        self.desk.frozen(client)
+    }
+}
+
+/// The book of a desk of clients to whom nothing was answered yet.
+fn begin(alloc: Global, desk: Desk) -> Book
+    requires { desk.session ≡ session_over desk.session.tree (length desk.session.clients) }
+    ensures { result ≡ book_over desk.session.tree (length desk.session.clients) }
+{
+    let log = Log::new(alloc);
+    let last = None;
+    Book { desk, log, last }
+}

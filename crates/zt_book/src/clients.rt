@@ -2,7 +2,7 @@ use zt_history::BranchId;
 use zt_rows::Moment;
 
 /// Where a client stands.
-#[derive(Clone, Copy)]
+#[derive(Clone, Copy, Debug)]
 pub enum Cursor {
     /// At the head of a branch, wherever it moves.
     Follows(BranchId),
@@ -11,7 +11,7 @@ pub enum Cursor {
 }
 
 /// What a book knows of a client.
-#[derive(Clone, Copy)]
+#[derive(Clone, Copy, Debug)]
 pub struct Client {
     pub cursor: Cursor,
     /// The moment that it pinned last.

@@ -7,5 +7,5 @@ mod looks;
 mod supports;
 
 pub use frozen::Frozen;
-pub use looks::rows;
-pub use supports::holders;
+pub use looks::{rows, rows_at};
+pub use supports::{holders, holders_at};

@@ -1,0 +1,3 @@
+pub mod ListLaws
+pub mod ServedLaws
+pub mod CountLaws

@@ -1,0 +1,134 @@
+-- A command changes what is known of its client alone, where one answered command more is counted.
+use Rattle.std.proofs.Common.{◌≡◌, ℕ, suc, ◌+◌, ◌-◌, ◌≤◌, ◌<◌, Bool, true, false, List, length, set, get_or, Option, Some, None, Result, Ok, Err, refl, sym, ◌∙◌, ap, subst, arith}
+use Rattle.std.proofs.lemmas.List.{length-set, set-get_or, get_or-set_same}
+use Rattle.zt_rows.specs.declared.calls.Answer.{Answer}
+use Rattle.zt_rows.specs.declared.calls.Call.{Call}
+use Rattle.zt_rows.specs.declared.calls.Command.{Command}
+use Rattle.zt_rows.specs.declared.calls.Command.TheVariants as command
+use Rattle.zt_rows.specs.declared.calls.Happening.{Happening}
+use Rattle.zt_rows.specs.declared.refusals.Refusal.{Refusal}
+use Rattle.zt_history.specs.Refusing.{check, ◌>>=◌}
+use Rattle.zt_history.specs.Tree.{Tree}
+use Rattle.zt_book.specs.declared.clients.Client.{Client}
+use Rattle.zt_book.specs.Session.{Session, first_client, client_of, with_client, counted, asked, serve, call_by, goto_by, back_by, branch_by, follow_by, show_to, holders_to, leaks_to, when_to, pin_to}
+use Rattle.zt_book.proofs.ListLaws.{set-again}
+
+-- ---- checks in a row
+
+or_else : {A : Type 0} → A → Result A Refusal → A
+or_else d (Ok x) = x
+or_else d (Err e) = d
+
+is_fine : {A : Type 0} → Result A Refusal → Bool
+is_fine (Ok x) = true
+is_fine (Err e) = false
+
+-- what holds of what the rest gives holds of what the whole gives
+pub behind : {A B : Type 0} (P : B → Type 0) (r : Result A Refusal) (f : A → Result B Refusal) (y : B)
+    → ((x : A) → f x ≡ Ok y → P y) → (r >>= f) ≡ Ok y → P y
+behind P (Ok x) f y go h = go x h
+behind P (Err e) f y go h = cc
+
+-- what holds of what is given in the end
+pub given : {B : Type 0} (P : B → Type 0) (x y : B) → P x → ◌≡◌ {A = Result B Refusal} (Ok x) (Ok y) → P y
+given P x y p h = subst P (ap (or_else x) h) p
+
+-- ---- what is known of the clients
+
+-- one client may be known to be otherwise, but as many commands were answered to it
+pub record IsMoved (old new : List Client) (client : ℕ) : Type 0 where
+  pub to : Client
+  pub is : new ≡ set old (client - 1) to
+  pub rows : to.rows ≡ (get_or old (client - 1) first_client).rows
+
+-- one client is known to be so, and one command more was answered to it
+pub record IsOneMore (old new : List Client) (client : ℕ) : Type 0 where
+  pub to : Client
+  pub is : new ≡ set old (client - 1) to
+  pub rows : to.rows ≡ (get_or old (client - 1) first_client).rows + 1
+
+unmoved : (old : List Client) (client : ℕ) → IsMoved old old client
+unmoved old client = record {
+  to = get_or old (client - 1) first_client;
+  is = sym (set-get_or old (client - 1) first_client);
+  rows = refl;
+}
+
+module _ (M : Session) (client : ℕ) where
+  abbrev pub Moved : Answer × Session → Type 0
+  Moved y = IsMoved M.clients y.1.clients client
+
+  moved-call : (process : ℕ) (call : Call) (y : Answer × Session) → call_by M client process call ≡ Ok y → Moved y
+  unfolding call_by
+  moved-call process call y =
+      behind Moved _ _ y (λ b. behind Moved _ _ y (λ done. given Moved _ y (unmoved M.clients client)))
+
+  moved-goto : (moment : ℕ) (y : Answer × Session) → goto_by M client moment ≡ Ok y → Moved y
+  unfolding goto_by
+  moved-goto moment y = behind Moved _ _ y (λ there. given Moved _ y (record { to = _; is = refl; rows = refl }))
+
+  moved-back : (count : ℕ) (y : Answer × Session) → back_by M client count ≡ Ok y → Moved y
+  unfolding back_by
+  moved-back count y = behind Moved _ _ y (λ fine. given Moved _ y (record { to = _; is = refl; rows = refl }))
+
+  moved-branch : (name : List ℕ) (y : Answer × Session) → branch_by M client name ≡ Ok y → Moved y
+  unfolding branch_by
+  moved-branch name y =
+      behind Moved _ _ y (λ fine. behind Moved _ _ y (λ added. given Moved _ y (record { to = _; is = refl; rows = refl })))
+
+  moved-follow : (name : List ℕ) (y : Answer × Session) → follow_by M client name ≡ Ok y → Moved y
+  unfolding follow_by
+  moved-follow name y = behind Moved _ _ y (λ branch. given Moved _ y (record { to = _; is = refl; rows = refl }))
+
+  moved-show : (y : Answer × Session) → show_to M client ≡ Ok y → Moved y
+  unfolding show_to
+  moved-show y = given Moved _ y (unmoved M.clients client)
+
+  moved-holders : (object : ℕ) (y : Answer × Session) → holders_to M client object ≡ Ok y → Moved y
+  unfolding holders_to
+  moved-holders object y = behind Moved _ _ y (λ held. given Moved _ y (unmoved M.clients client))
+
+  moved-leaks : (y : Answer × Session) → leaks_to M client ≡ Ok y → Moved y
+  unfolding leaks_to
+  moved-leaks y = given Moved _ y (unmoved M.clients client)
+
+  moved-when : (what : Happening) (object : ℕ) (y : Answer × Session) → when_to M client what object ≡ Ok y → Moved y
+  unfolding when_to
+  moved-when what object y = behind Moved _ _ y (λ found. given Moved _ y (unmoved M.clients client))
+
+  moved-pin : (y : Answer × Session) → pin_to M client ≡ Ok y → Moved y
+  unfolding pin_to
+  moved-pin y = given Moved _ y (record { to = _; is = refl; rows = refl })
+
+  pub moved : (request : Command) (y : Answer × Session) → asked M client request ≡ Ok y → Moved y
+  moved (command.Call process call) y h = moved-call process call y h
+  moved (command.Goto moment) y h = moved-goto moment y h
+  moved (command.Back count) y h = moved-back count y h
+  moved (command.Branch name) y h = moved-branch name y h
+  moved (command.Follow name) y h = moved-follow name y h
+  moved command.Show y h = moved-show y h
+  moved (command.Holders object) y h = moved-holders object y h
+  moved command.Leaks y h = moved-leaks y h
+  moved (command.When what object) y h = moved-when what object y h
+  moved command.Pin y h = moved-pin y h
+
+-- ---- a client that is counted
+
+pub counted-more : (old : List Client) (N : Session) (client : ℕ) → client - 1 < length old → IsMoved old N.clients client → IsOneMore old (counted N client).clients client
+counted-more old N client known moved =
+    let same : client_of N client ≡ moved.to = ap (λ l. get_or l (client - 1) first_client) moved.is ∙ get_or-set_same old (client - 1) moved.to first_client known in
+    record {
+      to = record (client_of N client) { rows = (client_of N client).rows + 1 };
+      is = ap (λ l. set l (client - 1) (record (client_of N client) { rows = (client_of N client).rows + 1 })) moved.is ∙ set-again old (client - 1) moved.to _;
+      rows = ap (λ (c : Client). c.rows + 1) same ∙ ap (λ n. n + 1) moved.rows;
+    }
+
+-- the client put back
+pub one-more-back : (old new : List Client) (client : ℕ) → IsOneMore old new client → set new (client - 1) (get_or old (client - 1) first_client) ≡ old
+one-more-back old new client h =
+    ap (λ l. set l (client - 1) (get_or old (client - 1) first_client)) h.is
+    ∙ set-again old (client - 1) h.to (get_or old (client - 1) first_client)
+    ∙ set-get_or old (client - 1) first_client
+
+pub one-more-length : (old new : List Client) (client : ℕ) → IsOneMore old new client → length new ≡ length old
+one-more-length old new client h = ap length h.is ∙ length-set old (client - 1) h.to

@@ -1,0 +1,252 @@
+ghost use Rattle.std.specs.Prelude.{◌≡◌, ◌≤◌, ◌∷◌, Ok, IfOk, IfErr, OnOk, OnErr, length, slice_index_or};
+ghost use Rattle.zt_book.specs.Session.{asked, standing, call_by, goto_by, back_by, branch_by, follow_by, show_to, holders_to, leaks_to, when_to, pin_to, IsRefused};
+ghost use Rattle.zt_book.specs.Desk.{IsCursor};
+
+use crate::clients::Cursor;
+use crate::desks::Desk;
+use crate::names::is_name;
+use zt_queries::{holders_at, rows_at};
+use zt_rows::{Answer, Call, Command, Happening, Items, Koid, Moment, Refusal};
+
+impl Desk {
+    /// Answers a command of a client, which is not counted. Refused, the session is as before.
+    pub(crate) fn answer(&mut self, client: u8, request: &Command) -> Result<Answer, Refusal>
+        requires numbered { 1 ≤ client }
+        requires known { client ≤ length self.old.session.clients }
+        ensures ok { IfOk result (λ said. asked self.old.session client request.now ≡ Ok (said, self.new.session)) }
+        ensures earlier { OnOk result (self.new.earlier ≡ self.old.session.tree) }
+        ensures refused { IfErr result (IsRefused (asked self.old.session client request.now)) }
+        ensures err { OnErr result (self.new.session ≡ self.old.session) }
+    {
+        match request {
+            Command::Call(process, call) => self.call(client, *process, call),
+            Command::Goto(moment) => self.stand_at(client, *moment),
+            Command::Back(count) => self.back(client, *count),
+            Command::Branch(name) => self.branch(client, name),
+            Command::Follow(name) => self.follow(client, name),
+            Command::Show => self.show(client),
+            Command::Holders(koid) => self.holders(client, *koid),
+            Command::Leaks => self.leaks(client),
+            Command::When(what, koid) => self.when(client, *what, *koid),
+            Command::Pin => self.pin(client),
+        }
+    }
+
+    /// Runs a call at the head of the branch that the client follows.
+    fn call(&mut self, client: u8, process: Koid, call: &Call) -> Result<Answer, Refusal>
+        requires numbered { 1 ≤ client }
+        requires known { client ≤ length self.old.session.clients }
+        ensures ok { IfOk result (λ said. call_by self.old.session client process call.now ≡ Ok (said, self.new.session)) }
+        ensures earlier { OnOk result (self.new.earlier ≡ self.old.session.tree) }
+        ensures refused { IfErr result (IsRefused (call_by self.old.session client process call.now)) }
+        ensures err { OnErr result (self.new.session ≡ self.old.session) }
+    {
+        let Cursor::Follows(branch) = self.client(client).cursor else {
+            return Err(Refusal::Detached);
+        };
+        self.grown = false;
+        match self.history.call(branch, process, call) {
+            Ok((moment, reply)) => {
+                self.grown = true;
+                Ok(Answer::Called(moment, reply))
+            }
+            Err(refusal) => Err(refusal),
+        }
+    }
+
+    /// Detaches the client at a moment.
+    fn stand_at(&mut self, client: u8, moment: Moment) -> Result<Answer, Refusal>
+        requires numbered { 1 ≤ client }
+        requires known { client ≤ length self.old.session.clients }
+        ensures ok { IfOk result (λ said. goto_by self.old.session client moment ≡ Ok (said, self.new.session)) }
+        ensures earlier { OnOk result (self.new.earlier ≡ self.old.session.tree) }
+        ensures refused { IfErr result (IsRefused (goto_by self.old.session client moment)) }
+        ensures err { OnErr result (self.new.session ≡ self.old.session) }
+    {
+        if moment > self.history.last() {
+            return Err(Refusal::NoMoment);
+        }
+        self.stand(client, Cursor::At(moment));
+        Ok(Answer::At(moment))
+    }
+
+    /// Detaches the client so many moments above its position.
+    fn back(&mut self, client: u8, count: u32) -> Result<Answer, Refusal>
+        requires numbered { 1 ≤ client }
+        requires known { client ≤ length self.old.session.clients }
+        ensures ok { IfOk result (λ said. back_by self.old.session client count ≡ Ok (said, self.new.session)) }
+        ensures earlier { OnOk result (self.new.earlier ≡ self.old.session.tree) }
+        ensures refused { IfErr result (IsRefused (back_by self.old.session client count)) }
+        ensures err { OnErr result (self.new.session ≡ self.old.session) }
+    {
+        let position = self.position(client);
+        let depth = self.history.depth_of(position);
+        if count > depth {
+            return Err(Refusal::AtStart);
+        }
+        let Ok(way) = self.history.path(position) else {
+            return Err(Refusal::OutOfMemory);
+        };
+        let moment = ancestor(way.as_slice(), depth - count);
+        self.stand(client, Cursor::At(moment));
+        Ok(Answer::At(moment))
+    }
+
+    /// Makes a branch at the client's position, which the client follows from then on.
+    fn branch(&mut self, client: u8, name: &Items<u8>) -> Result<Answer, Refusal>
+        requires numbered { 1 ≤ client }
+        requires known { client ≤ length self.old.session.clients }
+        ensures ok { IfOk result (λ said. branch_by self.old.session client name.now ≡ Ok (said, self.new.session)) }
+        ensures earlier { OnOk result (self.new.earlier ≡ self.old.session.tree) }
+        ensures refused { IfErr result (IsRefused (branch_by self.old.session client name.now)) }
+        ensures err { OnErr result (self.new.session ≡ self.old.session) }
+    {
+        if !is_name(name.as_slice()) {
+            return Err(Refusal::BadName);
+        }
+        let position = self.position(client);
+        if self.history.find(name.as_slice()).is_some() {
+            return Err(Refusal::NameTaken);
+        }
+        let Ok(named) = name.copy() else {
+            return Err(Refusal::OutOfMemory);
+        };
+        self.grown = false;
+        match self.history.branch(name.as_slice(), position) {
+            Ok(branch) => {
+                self.grown = true;
+                self.turn(client, Cursor::Follows(branch));
+                Ok(Answer::Branched(named, position))
+            }
+            Err(refusal) => Err(refusal),
+        }
+    }
+
+    /// The client follows the branch of the name.
+    fn follow(&mut self, client: u8, name: &Items<u8>) -> Result<Answer, Refusal>
+        requires numbered { 1 ≤ client }
+        requires known { client ≤ length self.old.session.clients }
+        ensures ok { IfOk result (λ said. follow_by self.old.session client name.now ≡ Ok (said, self.new.session)) }
+        ensures earlier { OnOk result (self.new.earlier ≡ self.old.session.tree) }
+        ensures refused { IfErr result (IsRefused (follow_by self.old.session client name.now)) }
+        ensures err { OnErr result (self.new.session ≡ self.old.session) }
+    {
+        let Some(branch) = self.history.find(name.as_slice()) else {
+            return Err(Refusal::NoBranch);
+        };
+        let Ok(named) = name.copy() else {
+            return Err(Refusal::OutOfMemory);
+        };
+        let head = self.history.head(branch);
+        self.stand(client, Cursor::Follows(branch));
+        Ok(Answer::Followed(named, head))
+    }
+
+    /// The rows of the state at the client's position.
+    fn show(&mut self, client: u8) -> Result<Answer, Refusal>
+        requires numbered { 1 ≤ client }
+        requires known { client ≤ length self.old.session.clients }
+        ensures ok { IfOk result (λ said. show_to self.old.session client ≡ Ok (said, self.new.session)) }
+        ensures earlier { OnOk result (self.new.earlier ≡ self.old.session.tree) }
+        ensures refused { IfErr result (IsRefused (show_to self.old.session client)) }
+        ensures err { OnErr result (self.new.session ≡ self.old.session) }
+    {
+        let position = self.go(client)?;
+        let rows = rows_at(*self.clients.allocator(), &self.history)?;
+        Ok(Answer::Rows(position, rows))
+    }
+
+    /// What keeps an object at the client's position.
+    fn holders(&mut self, client: u8, koid: Koid) -> Result<Answer, Refusal>
+        requires numbered { 1 ≤ client }
+        requires known { client ≤ length self.old.session.clients }
+        ensures ok { IfOk result (λ said. holders_to self.old.session client koid ≡ Ok (said, self.new.session)) }
+        ensures earlier { OnOk result (self.new.earlier ≡ self.old.session.tree) }
+        ensures refused { IfErr result (IsRefused (holders_to self.old.session client koid)) }
+        ensures err { OnErr result (self.new.session ≡ self.old.session) }
+    {
+        self.go(client)?;
+        let held = holders_at(*self.clients.allocator(), &self.history, koid)?;
+        Ok(Answer::Holders(koid, held))
+    }
+
+    /// The leaked objects at the client's position.
+    fn leaks(&mut self, client: u8) -> Result<Answer, Refusal>
+        requires numbered { 1 ≤ client }
+        requires known { client ≤ length self.old.session.clients }
+        ensures ok { IfOk result (λ said. leaks_to self.old.session client ≡ Ok (said, self.new.session)) }
+        ensures earlier { OnOk result (self.new.earlier ≡ self.old.session.tree) }
+        ensures refused { IfErr result (IsRefused (leaks_to self.old.session client)) }
+        ensures err { OnErr result (self.new.session ≡ self.old.session) }
+    {
+        let _position = self.go(client)?;
+        Err(Refusal::OutOfMemory)
+    }
+
+    /// The moment on the path to the client's position at which something happened to an object.
+    fn when(&mut self, client: u8, what: Happening, koid: Koid) -> Result<Answer, Refusal>
+        requires numbered { 1 ≤ client }
+        requires known { client ≤ length self.old.session.clients }
+        ensures ok { IfOk result (λ said. when_to self.old.session client what koid ≡ Ok (said, self.new.session)) }
+        ensures earlier { OnOk result (self.new.earlier ≡ self.old.session.tree) }
+        ensures refused { IfErr result (IsRefused (when_to self.old.session client what koid)) }
+        ensures err { OnErr result (self.new.session ≡ self.old.session) }
+    {
+        let _position = self.go(client)?;
+        let _asked = (what, koid);
+        Err(Refusal::OutOfMemory)
+    }
+
+    /// Pins the client's position.
+    fn pin(&mut self, client: u8) -> Result<Answer, Refusal>
+        requires numbered { 1 ≤ client }
+        requires known { client ≤ length self.old.session.clients }
+        ensures ok { IfOk result (λ said. pin_to self.old.session client ≡ Ok (said, self.new.session)) }
+        ensures earlier { OnOk result (self.new.earlier ≡ self.old.session.tree) }
+        ensures refused { IfErr result (IsRefused (pin_to self.old.session client)) }
+        ensures err { OnErr result (self.new.session ≡ self.old.session) }
+    {
+        let position = self.position(client);
+        let mut known = self.client(client);
+        known.pinned = Some(position);
+        self.grown = false;
+        self.put(client, known);
+        Ok(Answer::Pinned(position))
+    }
+
+    /// The client stands elsewhere, and the history is as it was.
+    fn stand(&mut self, client: u8, cursor: Cursor)
+        requires numbered { 1 ≤ client }
+        requires known { client ≤ length self.old.session.clients }
+        requires stands { IsCursor self.old.session.tree cursor }
+        ensures session { self.new.session ≡ standing self.old.session client cursor }
+        ensures earlier { self.new.earlier ≡ self.old.session.tree }
+    {
+        self.grown = false;
+        self.turn(client, cursor);
+    }
+
+    /// The client stands elsewhere.
+    fn turn(&mut self, client: u8, cursor: Cursor)
+        requires numbered { 1 ≤ client }
+        requires known { client ≤ length self.old.session.clients }
+        requires stands { IsCursor self.old.session.tree cursor }
+        ensures session { self.new.session ≡ standing self.old.session client cursor }
+        ensures earlier { self.new.earlier ≡ self.old.earlier }
+    {
+        let mut known = self.client(client);
+        known.cursor = cursor;
+        self.put(client, known);
+    }
+}
+
+/// The moment so many steps behind the opening on a path.
+fn ancestor(way: &[Moment], depth: u32) -> Moment
+    requires { depth ≤ length way.now }
+    ensures { result ≡ slice_index_or (0 ∷ way.now) depth 0 }
+{
+    if depth == 0 {
+        return Moment(0);
+    }
+    way[depth as usize - 1]
+}

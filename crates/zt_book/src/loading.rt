@@ -1,0 +1,41 @@
+ghost use Rattle.std.specs.Prelude.{◌≡◌, Ok, IfOk, IfErr};
+ghost use Rattle.zt_book.specs.Log.{fault_at, loaded, IsUnloaded};
+
+use std::alloc::Global;
+use zt_history::{BranchId, History};
+use zt_rows::{Call, Koid, Refusal};
+
+/// The branch that is there from the start.
+const MAIN: BranchId = BranchId(0);
+
+/// The history of these calls on `main`, in turn.
+pub(crate) fn history_of(
+    alloc: Global,
+    calls: &[(Koid, Call)],
+) -> Result<History, (u64, Refusal)>
+    ensures ok { IfOk result (λ history. loaded calls.now ≡ Ok history.tree) }
+    ensures refused { IfErr result (IsUnloaded 0 (loaded calls.now)) }
+{
+    let Ok(mut history) = History::new(alloc) else {
+        return Err((0, Refusal::OutOfMemory));
+    };
+    for i in 0..calls.len() {
+        let (process, call) = &calls[i];
+        match history.call(MAIN, *process, call) {
+            Ok(_) => {}
+            Err(refusal) => return Err(fault(i as u64, refusal)),
+        }
+    }
+    Ok(history)
+}
+
+/// Where the refusal is told: at the call of this number, and want of memory at none.
+fn fault(number: u64, refusal: Refusal) -> (u64, Refusal)
+    ensures { result ≡ fault_at number refusal }
+{
+    if refusal == Refusal::OutOfMemory {
+        (0, refusal)
+    } else {
+        (number, refusal)
+    }
+}
