@@ -3,9 +3,13 @@
 
 mod books;
 mod counted;
-mod histories;
+mod desks;
+mod feeding;
+mod parts;
 mod running;
+mod talking;
 
-pub use books::Book;
+pub use books::run;
 pub use counted::Counted;
-pub use running::{End, run};
+pub use running::End;
+pub use zt_book::Book;
