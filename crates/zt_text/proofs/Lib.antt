@@ -8,6 +8,11 @@ pub mod ShownFields
 pub mod ShownWords
 pub mod ShownLengths
 pub mod ShownCalls
+pub mod LineLemmas
+pub mod SessionLemmas
+pub mod SessionTexts
+pub mod RowWords
+pub mod RowLines
 mod WorkedLines
 mod WorkedAnswers
 mod LongLines

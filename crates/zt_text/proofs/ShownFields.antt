@@ -197,7 +197,7 @@ digits_of (byte ∷ bytes) are =
     }
 
 -- no hexadecimal digit is a dash
-not_dash : (ds : List ℕ) → 0 < length ds → list_all is_hex_digit ds ≡ true → bytes_eq ds (codes "-") ≡ false
+pub not_dash : (ds : List ℕ) → 0 < length ds → list_all is_hex_digit ds ≡ true → bytes_eq ds (codes "-") ≡ false
 not_dash [] some all = absurd (omega arith)
 not_dash (d ∷ ds) some all =
     let parts = and_parts (is_hex_digit d) (list_all is_hex_digit ds) all in

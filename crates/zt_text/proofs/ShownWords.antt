@@ -28,7 +28,7 @@ abbrev pub AreFree : ℕ → List (List ℕ) → Type 0
 AreFree separator [] = ⊤
 AreFree separator (word ∷ others) = (is_free separator word ≡ true) × AreFree separator others
 
-other_byte : (b c : ℕ) → not (b == c) ≡ true → (b == c) ≡ false
+pub other_byte : (b c : ℕ) → not (b == c) ≡ true → (b == c) ≡ false
 other_byte b c h = elim (b == c) as (λ t. not t ≡ true → t ≡ false) [ true ↦ λ e. sym e | false ↦ λ e. refl ] h
 
 alone : (c : ℕ) (xs : List ℕ) → is_free c xs ≡ true → parts_of c xs ≡ xs ∷ []
@@ -51,7 +51,7 @@ parts_joined c word (next ∷ others) free (here, all) =
 
 -- ---- words without a separator
 
-passing : (p : ℕ → Bool) (c : ℕ) → ((b : ℕ) → p b ≡ true → not (b == c) ≡ true) → (bs : List ℕ) → list_all p bs ≡ true → is_free c bs ≡ true
+pub passing : (p : ℕ → Bool) (c : ℕ) → ((b : ℕ) → p b ≡ true → not (b == c) ≡ true) → (bs : List ℕ) → list_all p bs ≡ true → is_free c bs ≡ true
 passing p c other [] all = refl
 passing p c other (b ∷ bs) all =
     let parts = and_parts (p b) (list_all p bs) all in
@@ -59,6 +59,9 @@ passing p c other (b ∷ bs) all =
 
 pub free_digits : (c : ℕ) → c < 48 → (bs : List ℕ) → list_all is_ascii_digit bs ≡ true → is_free c bs ≡ true
 free_digits c low bs all = passing is_ascii_digit c (λ b h. let other : (b == c) ≡ false = grind (arith, nat_tests) in rw other refl) bs all
+
+pub free_hex : (c : ℕ) → c < 48 → (bs : List ℕ) → list_all is_hex_digit bs ≡ true → is_free c bs ≡ true
+free_hex c low bs all = passing is_hex_digit c (λ b h. let other : (b == c) ≡ false = grind (arith, nat_tests) in rw other refl) bs all
 
 pub free_decimal : (c n : ℕ) → c < 48 → n < 2 ^ 64 → is_free c (decimal n) ≡ true
 free_decimal c n low small = free_digits c low (decimal n) (decimal_digits n small)
@@ -146,7 +149,7 @@ each_free (h ∷ hs) are =
     let here : h < 2 ^ 32 = All-head IsHandle h hs are in
     (free_decimal 44 h (lit< tt) (omega (arith, here)), each_free hs (All-tail IsHandle h hs are))
 
-no_dash : (ds rest : List ℕ) → 0 < length ds → list_all is_ascii_digit ds ≡ true → bytes_eq (ds ++ rest) (codes "-") ≡ false
+pub no_dash : (ds rest : List ℕ) → 0 < length ds → list_all is_ascii_digit ds ≡ true → bytes_eq (ds ++ rest) (codes "-") ≡ false
 no_dash [] rest some all = absurd (omega arith)
 no_dash (d ∷ ds) rest some all =
     let parts = and_parts (is_ascii_digit d) (list_all is_ascii_digit ds) all in

@@ -117,3 +117,7 @@ IsWithin (calls.JobCreate job) = IsHandle job
 IsWithin (calls.Spawn job argument) = IsHandle job × IsHandle argument
 IsWithin (calls.TaskKill handle) = IsHandle handle
 IsWithin (calls.ProcessExit code) = IsCode code
+
+-- a process and its call, of such numbers
+abbrev pub IsCalled : ℕ × Call → Type 0
+IsCalled made = (made.0 < 2 ^ 64) × IsWithin made.1

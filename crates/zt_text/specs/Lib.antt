@@ -11,3 +11,4 @@ pub mod Calls
 pub mod Answers
 pub mod Lines
 pub mod Session
+pub mod Rows

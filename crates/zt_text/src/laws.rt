@@ -1,22 +1,28 @@
 //! What holds of every line that is shown. Each law is the contract of a function that does nothing.
-ghost use Rattle.std.specs.Prelude.{◌≡◌, ℕ, ℤ, ◌^◌, ◌-◌, ◌<◌, ◌≤◌, List, length, Some, Ok};
+ghost use Rattle.std.specs.Prelude.{◌≡◌, ℕ, ℤ, true, ◌^◌, ◌-◌, ◌<◌, ◌≤◌, List, length, Some, Ok};
 ghost use Rattle.std.specs.Fmt.{decimal, signed_decimal};
 ghost use Rattle.std.specs.List.{All};
 ghost use Rattle.zt_rows.specs.declared.calls.Call.{Call};
+ghost use Rattle.zt_rows.specs.declared.keys.RowKey.{RowKey};
+ghost use Rattle.zt_rows.specs.declared.rows.Row.{Row};
+ghost use Rattle.zt_rows.specs.Room.{suits};
 ghost use Rattle.zt_rows.specs.declared.calls.Command.TheVariants as commands;
 ghost use Rattle.zt_text.specs.declared.reading.Line.TheVariants as line;
 ghost use Rattle.zt_text.specs.Numbers.{decimal_of, mask_of, code_of};
 ghost use Rattle.zt_text.specs.Bytes.{bytes_of, packet_bytes_of};
 ghost use Rattle.zt_text.specs.Lists.{handles_of};
 ghost use Rattle.zt_text.specs.Reading.{read_as};
+ghost use Rattle.zt_text.specs.Session.{session_of};
+ghost use Rattle.zt_text.specs.Rows.{IsKeyWithin, IsRowWithin};
+ghost use Rattle.zt_text.specs.Answers.{row_line};
 ghost use Rattle.zt_text.specs.Shown.{shown_mask, shown_bytes, shown_list};
-ghost use Rattle.zt_text.specs.Calls.{IsByte, IsHandle, IsCode, IsWithin, shown_call};
+ghost use Rattle.zt_text.specs.Calls.{IsByte, IsHandle, IsCode, IsWithin, IsCalled, shown_call, session_text};
 
 use crate::within::{
-    bytes_are_within, code_is_within, handle_is_within, handles_are_within, key_is_within,
-    mask_is_within,
+    bytes_are_within, code_is_within, handle_is_within, handles_are_within, handles_held_are_within, held_is_within,
+    key_is_within, life_is_within, mask_is_within, packet_is_within,
 };
-use zt_rows::{Call, Koid};
+use zt_rows::{Call, Koid, Row, RowKey};
 
 /// A number that is shown in decimal digits reads as that number, and a code with its sign as that code.
 #[tactic(auto, using(crate::proofs::ShownFields::decimal_read, crate::proofs::ShownFields::code_read))]
@@ -141,4 +147,74 @@ pub fn calls_read_back()
 pub fn calls_have_lines_of_their_own()
     ensures { (process other : ℕ) (call made : Call) → process < 2 ^ 64 → other < 2 ^ 64 → IsWithin call → IsWithin made
         → shown_call process call ≡ shown_call other made → (process ≡ other) × (call ≡ made) }
+{}
+
+/// The session text of calls reads as those calls.
+#[tactic(auto, using(crate::proofs::SessionTexts::session_read))]
+pub fn sessions_read_back()
+    ensures { (calls : List (ℕ × Call)) → All IsCalled calls → session_of (session_text calls) ≡ Ok calls }
+{}
+
+/// Every key and every row has the numbers that the law on their lines speaks of.
+pub fn every_row_is_within(key: RowKey, row: &Row)
+    ensures key { IsKeyWithin key }
+    ensures row { IsRowWithin row.now }
+{
+    every_key_is_within(key);
+    match row {
+        Row::Counters(counters) => {
+            key_is_within(counters.next_koid.0);
+            key_is_within(counters.next_wait);
+        }
+        Row::Object(object) => {
+            mask_is_within(object.signals.0);
+            key_is_within(object.link.0);
+            life_is_within(object.life);
+            key_is_within(object.next);
+        }
+        Row::Entry(held) => held_is_within(*held),
+        Row::Msg(message) => {
+            bytes_are_within(message.bytes().as_slice());
+            handles_held_are_within(message.handles().as_slice());
+        }
+        Row::Packet(packet) => packet_is_within(packet),
+        Row::Wait(wait) => {
+            key_is_within(wait.process.0);
+            handle_is_within(wait.handle);
+            key_is_within(wait.port.0);
+            key_is_within(wait.key);
+            mask_is_within(wait.signals.0);
+        }
+    }
+}
+
+/// Every key has such numbers.
+fn every_key_is_within(key: RowKey)
+    ensures { IsKeyWithin key }
+{
+    match key {
+        RowKey::Counters => {}
+        RowKey::Object(koid) => key_is_within(koid.0),
+        RowKey::Entry(process, handle) => {
+            key_is_within(process.0);
+            handle_is_within(handle);
+        }
+        RowKey::Msg(endpoint, number) => {
+            key_is_within(endpoint.0);
+            key_is_within(number);
+        }
+        RowKey::Packet(port, number) => {
+            key_is_within(port.0);
+            key_is_within(number);
+        }
+        RowKey::Wait(number) => key_is_within(number),
+    }
+}
+
+/// No two rows, each under a key of its variant, have one line.
+#[tactic(auto, using(crate::proofs::RowLines::row_lines_differ))]
+pub fn rows_have_lines_of_their_own()
+    ensures { (key other : RowKey) (row shown : Row) → suits key row ≡ true → suits other shown ≡ true
+        → IsKeyWithin key → IsKeyWithin other → IsRowWithin row → IsRowWithin shown
+        → row_line (key, row) ≡ row_line (other, shown) → (key ≡ other) × (row ≡ shown) }
 {}

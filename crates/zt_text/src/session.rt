@@ -34,9 +34,10 @@ fn next_line(bytes: &[u8]) -> (&[u8], &[u8])
     ensures lines { lines_of bytes.now ≡ result.0.now ∷ lines_of result.1.now }
     ensures shorter { length result.1.now < length bytes.now }
 {
-    match cut(bytes, b'\n') {
-        (line, Some(left)) => (line, left),
-        (line, None) => (line, &[]),
+    let (line, left) = cut(bytes, b'\n');
+    match left {
+        Some(left) => (line, left),
+        None => (line, &[]),
     }
 }
 

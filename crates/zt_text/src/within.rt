@@ -1,7 +1,8 @@
 ghost use Rattle.std.specs.List.{All};
 ghost use Rattle.zt_text.specs.Calls.{IsByte, IsHandle, IsMask, IsKey, IsCode};
+ghost use Rattle.zt_text.specs.Rows.{IsHeldWithin, IsLifeWithin, IsPacketWithin};
 
-use zt_rows::HandleValue;
+use zt_rows::{HandleValue, Held, Life, Packet};
 
 /// A value of a handle has 32 bits.
 pub fn handle_is_within(handle: HandleValue)
@@ -46,5 +47,56 @@ pub fn handles_are_within(handles: &[HandleValue])
 {
     for handle in handles {
         handle_is_within(*handle);
+    }
+}
+
+/// What a handle holds has a koid of 64 bits and rights of 32.
+pub fn held_is_within(held: Held)
+    ensures { IsHeldWithin held }
+{
+    key_is_within(held.koid.0);
+    mask_is_within(held.rights.0);
+}
+
+/// So has each of several.
+pub fn handles_held_are_within(handles: &[Held])
+    ensures { All IsHeldWithin handles.now }
+{
+    for held in handles {
+        held_is_within(*held);
+    }
+}
+
+/// The code with which a process exited has 64 bits and a sign.
+pub fn life_is_within(life: Life)
+    ensures { IsLifeWithin life }
+{
+    if let Life::Exited(code) = life {
+        code_is_within(code);
+    }
+}
+
+/// The numbers, masks and bytes of a packet are those of their types.
+pub fn packet_is_within(packet: &Packet)
+    ensures { IsPacketWithin packet.now }
+{
+    match *packet {
+        Packet::User { key, ref bytes } => {
+            key_is_within(key);
+            bytes_are_within(bytes);
+        }
+        Packet::Signal {
+            key,
+            trigger,
+            observed,
+            process,
+            handle,
+        } => {
+            key_is_within(key);
+            mask_is_within(trigger.0);
+            mask_is_within(observed.0);
+            key_is_within(process.0);
+            handle_is_within(handle);
+        }
     }
 }
