@@ -1,27 +1,31 @@
 -- A command changes what is known of its client alone, where one answered command more is counted.
 use Rattle.std.proofs.Common.{◌≡◌, ℕ, suc, ◌+◌, ◌-◌, ◌≤◌, ◌<◌, Bool, true, false, List, length, set, get_or, Option, Some, None, Result, Ok, Err, refl, sym, ◌∙◌, ap, subst, arith}
 use Rattle.std.proofs.lemmas.List.{length-set, set-get_or, get_or-set_same}
+use Rattle.std.specs.Prelude.{nat_le, nat_lt}
 use Rattle.zt_rows.specs.declared.calls.Answer.{Answer}
+use Rattle.zt_rows.specs.declared.calls.Answer.TheVariants as answer
 use Rattle.zt_rows.specs.declared.calls.Call.{Call}
 use Rattle.zt_rows.specs.declared.calls.Command.{Command}
 use Rattle.zt_rows.specs.declared.calls.Command.TheVariants as command
 use Rattle.zt_rows.specs.declared.calls.Happening.{Happening}
 use Rattle.zt_rows.specs.declared.refusals.Refusal.{Refusal}
-use Rattle.zt_history.specs.Refusing.{check, ◌>>=◌}
-use Rattle.zt_history.specs.Tree.{Tree}
+use Rattle.zt_rows.specs.declared.refusals.Refusal.TheVariants as refusal
+use Rattle.zt_history.specs.Refusing.{check, ◌>>=◌, call_on, branch_on, moment_on}
+use Rattle.zt_history.specs.Tree.{Tree, head_at, branch_named, path}
+use Rattle.zt_queries.specs.Copies.{holders_on}
+use Rattle.zt_queries.specs.Leaks.{leaks}
+use Rattle.zt_queries.specs.Times.{when_on}
 use Rattle.zt_book.specs.declared.clients.Client.{Client}
-use Rattle.zt_book.specs.Session.{Session, first_client, client_of, with_client, counted, asked, serve, call_by, goto_by, back_by, branch_by, follow_by, show_to, holders_to, leaks_to, when_to, pin_to}
+use Rattle.zt_book.specs.declared.clients.Cursor.TheVariants.{Follows, At}
+use Rattle.zt_book.specs.Session.{Session, first_client, most_rows, is_name, client_of, with_client, standing, position_of, state_of, followed, ancestor, branch_found, event_at, counted, asked, serve, call_by, goto_by, back_by, branch_by, follow_by, show_to, holders_to, leaks_to, when_to, pin_to}
+use Rattle.zt_book.specs.Desk.{IsOneMore}
 use Rattle.zt_book.proofs.ListLaws.{set-again}
 
 -- ---- checks in a row
 
-or_else : {A : Type 0} → A → Result A Refusal → A
+abbrev pub or_else : {A : Type 0} → A → Result A Refusal → A
 or_else d (Ok x) = x
 or_else d (Err e) = d
-
-is_fine : {A : Type 0} → Result A Refusal → Bool
-is_fine (Ok x) = true
-is_fine (Err e) = false
 
 -- what holds of what the rest gives holds of what the whole gives
 pub behind : {A B : Type 0} (P : B → Type 0) (r : Result A Refusal) (f : A → Result B Refusal) (y : B)
@@ -33,6 +37,19 @@ behind P (Err e) f y go h = cc
 pub given : {B : Type 0} (P : B → Type 0) (x y : B) → P x → ◌≡◌ {A = Result B Refusal} (Ok x) (Ok y) → P y
 given P x y p h = subst P (ap (or_else x) h) p
 
+-- what holds of all that can be given behind the last check
+pub last : {A B : Type 0} (P : B → Type 0) (r : Result A Refusal) (g : A → B) (y : B) → ((x : A) → P (g x)) → (r >>= λ x. Ok (g x)) ≡ Ok y → P y
+last P r g y all = behind P r (λ x. Ok (g x)) y (λ x. given P (g x) y (all x))
+
+-- the answer and the session of a command that is served
+pub served : (M N : Session) (client : ℕ) (request : Command) (said : Answer) (L : Session) → nat_lt (client_of M client).rows most_rows ≡ true
+    → asked M client request ≡ Ok (said, L) → N ≡ counted L client → serve M client request ≡ Ok (said, N)
+unfolding serve
+served M N client request said L room h is =
+    rw room
+    (ap (λ r. r >>= λ (y : Answer × Session). let z : Result (Answer × Session) Refusal = Ok (y.0, counted y.1 client) in z) h
+    ∙ ap (λ K. let z : Result (Answer × Session) Refusal = Ok (said, K) in z) (sym is))
+
 -- ---- what is known of the clients
 
 -- one client may be known to be otherwise, but as many commands were answered to it
@@ -40,12 +57,6 @@ pub record IsMoved (old new : List Client) (client : ℕ) : Type 0 where
   pub to : Client
   pub is : new ≡ set old (client - 1) to
   pub rows : to.rows ≡ (get_or old (client - 1) first_client).rows
-
--- one client is known to be so, and one command more was answered to it
-pub record IsOneMore (old new : List Client) (client : ℕ) : Type 0 where
-  pub to : Client
-  pub is : new ≡ set old (client - 1) to
-  pub rows : to.rows ≡ (get_or old (client - 1) first_client).rows + 1
 
 unmoved : (old : List Client) (client : ℕ) → IsMoved old old client
 unmoved old client = record {
@@ -61,44 +72,57 @@ module _ (M : Session) (client : ℕ) where
   moved-call : (process : ℕ) (call : Call) (y : Answer × Session) → call_by M client process call ≡ Ok y → Moved y
   unfolding call_by
   moved-call process call y =
-      behind Moved _ _ y (λ b. behind Moved _ _ y (λ done. given Moved _ y (unmoved M.clients client)))
+      behind Moved (followed (client_of M client).cursor) (λ b. call_on M.tree b process call >>= λ done. Ok (done.0, record M { tree = done.1 })) y
+      (λ b. last Moved (call_on M.tree b process call) (λ done. (done.0, record M { tree = done.1 })) y (λ done. unmoved M.clients client))
 
   moved-goto : (moment : ℕ) (y : Answer × Session) → goto_by M client moment ≡ Ok y → Moved y
   unfolding goto_by
-  moved-goto moment y = behind Moved _ _ y (λ there. given Moved _ y (record { to = _; is = refl; rows = refl }))
+  moved-goto moment y =
+      last Moved (moment_on M.tree moment) (λ there. (answer.At there, standing M client (At there))) y (λ there. record { to = _; is = refl; rows = refl })
 
   moved-back : (count : ℕ) (y : Answer × Session) → back_by M client count ≡ Ok y → Moved y
   unfolding back_by
-  moved-back count y = behind Moved _ _ y (λ fine. given Moved _ y (record { to = _; is = refl; rows = refl }))
+  moved-back count y =
+      let there : ℕ = ancestor (path M.tree.made (position_of M client)) count in
+      last Moved (check (nat_le count (length (path M.tree.made (position_of M client)))) refusal.AtStart) (λ _. (answer.At there, standing M client (At there))) y
+      (λ _. record { to = _; is = refl; rows = refl })
 
   moved-branch : (name : List ℕ) (y : Answer × Session) → branch_by M client name ≡ Ok y → Moved y
   unfolding branch_by
   moved-branch name y =
-      behind Moved _ _ y (λ fine. behind Moved _ _ y (λ added. given Moved _ y (record { to = _; is = refl; rows = refl })))
+      behind Moved (check (is_name name) refusal.BadName)
+      (λ _. branch_on M.tree name (position_of M client) >>= λ added. Ok (answer.Branched name (position_of M client), standing (record M { tree = added.1 }) client (Follows added.0))) y
+      (λ _. last Moved (branch_on M.tree name (position_of M client)) (λ added. (answer.Branched name (position_of M client), standing (record M { tree = added.1 }) client (Follows added.0))) y
+          (λ added. record { to = _; is = refl; rows = refl }))
 
   moved-follow : (name : List ℕ) (y : Answer × Session) → follow_by M client name ≡ Ok y → Moved y
   unfolding follow_by
-  moved-follow name y = behind Moved _ _ y (λ branch. given Moved _ y (record { to = _; is = refl; rows = refl }))
+  moved-follow name y =
+      last Moved (branch_found (branch_named M.tree.branches name)) (λ branch. (answer.Followed name (head_at M.tree.branches branch), standing M client (Follows branch))) y
+      (λ branch. record { to = _; is = refl; rows = refl })
 
   moved-show : (y : Answer × Session) → show_to M client ≡ Ok y → Moved y
   unfolding show_to
-  moved-show y = given Moved _ y (unmoved M.clients client)
+  moved-show y = given Moved (answer.Rows (position_of M client) (state_of M client).rows, M) y (unmoved M.clients client)
 
   moved-holders : (object : ℕ) (y : Answer × Session) → holders_to M client object ≡ Ok y → Moved y
   unfolding holders_to
-  moved-holders object y = behind Moved _ _ y (λ held. given Moved _ y (unmoved M.clients client))
+  moved-holders object y = last Moved (holders_on (state_of M client) object) (λ held. (answer.Holders object held, M)) y (λ held. unmoved M.clients client)
 
   moved-leaks : (y : Answer × Session) → leaks_to M client ≡ Ok y → Moved y
   unfolding leaks_to
-  moved-leaks y = given Moved _ y (unmoved M.clients client)
+  moved-leaks y = given Moved (answer.Leaks (position_of M client) (leaks (state_of M client)), M) y (unmoved M.clients client)
 
   moved-when : (what : Happening) (object : ℕ) (y : Answer × Session) → when_to M client what object ≡ Ok y → Moved y
   unfolding when_to
-  moved-when what object y = behind Moved _ _ y (λ found. given Moved _ y (unmoved M.clients client))
+  moved-when what object y =
+      last Moved (when_on what M.tree.made (position_of M client) object) (λ found. (answer.When (event_at M.tree.made found), M)) y (λ found. unmoved M.clients client)
 
   moved-pin : (y : Answer × Session) → pin_to M client ≡ Ok y → Moved y
   unfolding pin_to
-  moved-pin y = given Moved _ y (record { to = _; is = refl; rows = refl })
+  moved-pin y =
+      given Moved (answer.Pinned (position_of M client), with_client M client (record (client_of M client) { pinned = Some (position_of M client) })) y
+      (record { to = _; is = refl; rows = refl })
 
   pub moved : (request : Command) (y : Answer × Session) → asked M client request ≡ Ok y → Moved y
   moved (command.Call process call) y h = moved-call process call y h

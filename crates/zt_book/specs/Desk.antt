@@ -1,5 +1,5 @@
 -- A desk: the history with the clients that stand in it, and the tree that it had before the last command.
-use Rattle.std.specs.Prelude.{◌≡◌, ℕ, ◌-◌, ◌≤◌, ◌<◌, ⊤, Bool, true, false, List, All, length, slice_set, Option, None, Some, IsSome}
+use Rattle.std.specs.Prelude.{◌≡◌, ℕ, ◌-◌, ◌≤◌, ◌<◌, ⊤, Bool, true, false, List, All, length, slice_set, slice_index_or, ◌+◌, Option, None, Some, IsSome}
 use Rattle.zt_history.specs.Timeline.{Point, Timeline}
 use Rattle.zt_history.specs.Tree.{Tree, last_moment, opening_tree}
 use Rattle.zt_history.specs.Branches.{without_last}
@@ -8,7 +8,7 @@ use Rattle.zt_book.specs.declared.clients.Client.{Client}
 use Rattle.zt_book.specs.declared.clients.Cursor.{Cursor}
 use Rattle.zt_book.specs.declared.clients.Cursor.TheVariants.{Follows, At}
 use Rattle.zt_book.specs.declared.logs.Recorded.{Recorded}
-use Rattle.zt_book.specs.Session.{Session, most_rows}
+use Rattle.zt_book.specs.Session.{Session, first_client, most_rows}
 use Rattle.zt_book.specs.Log.{Kept, Standing, IsCounted}
 
 -- ---- where clients can stand
@@ -61,6 +61,12 @@ pub record IsDesk (h : Timeline) (clients : List Client) (grown : Bool) : Type 0
 -- the session with the earlier tree, where this client was so
 abbrev pub session_before : Seats → ℕ → Client → Session
 session_before d client was = record { tree = d.earlier; clients = slice_set d.session.clients (client - 1) was }
+
+-- this client is known to be otherwise, and one command more was answered to it
+pub record IsOneMore (old new : List Client) (client : ℕ) : Type 0 where
+  pub to : Client
+  pub is : new ≡ slice_set old (client - 1) to
+  pub rows : to.rows ≡ (slice_index_or old (client - 1) first_client).rows + 1
 
 -- ---- a book
 

@@ -1,14 +1,37 @@
-ghost use Rattle.std.specs.Prelude.{◌≡◌, ◌≤◌, ◌∷◌, Ok, IfOk, IfErr, OnOk, OnErr, length, slice_index_or};
-ghost use Rattle.zt_book.specs.Session.{asked, standing, call_by, goto_by, back_by, branch_by, follow_by, show_to, holders_to, leaks_to, when_to, pin_to, IsRefused};
-ghost use Rattle.zt_book.specs.Desk.{IsCursor};
+ghost use Rattle.std.specs.Prelude.{◌≡◌, ◌≤◌, ◌<◌, ◌∷◌, Ok, IfOk, IfErr, OnOk, OnErr, length, slice_index_or};
+ghost use Rattle.zt_book.specs.Session.{asked, serve, client_of, standing, call_by, goto_by, back_by, branch_by, follow_by, show_to, holders_to, leaks_to, when_to, pin_to, IsRefused};
+ghost use Rattle.zt_book.specs.Desk.{IsCursor, IsOneMore, session_before};
 
 use crate::clients::Cursor;
-use crate::desks::Desk;
+use crate::desks::{Desk, ROWS};
 use crate::names::is_name;
 use zt_queries::{holders_at, rows_at};
 use zt_rows::{Answer, Call, Command, Happening, Items, Koid, Moment, Refusal};
 
 impl Desk {
+    /// Answers a command of a client, and counts it. Refused, the session is as before.
+    pub(crate) fn serve(&mut self, client: u8, request: &Command) -> Result<Answer, Refusal>
+        requires numbered { 1 ≤ client }
+        requires known { client ≤ length self.old.session.clients }
+        ensures ok { IfOk result (λ said. serve self.old.session client request.now ≡ Ok (said, self.new.session)) }
+        ensures room { OnOk result ((client_of self.old.session client).rows < 4096) }
+        ensures one_more { OnOk result (IsOneMore self.old.session.clients self.new.session.clients client) }
+        ensures back { OnOk result (session_before self.new client (client_of self.old.session client) ≡ self.old.session) }
+        ensures refused { IfErr result (IsRefused (serve self.old.session client request.now)) }
+        ensures err { OnErr result (self.new.session ≡ self.old.session) }
+    {
+        if self.client(client).rows >= ROWS {
+            return Err(Refusal::ClientFull);
+        }
+        match self.answer(client, request) {
+            Ok(said) => {
+                self.count(client);
+                Ok(said)
+            }
+            Err(refusal) => Err(refusal),
+        }
+    }
+
     /// Answers a command of a client, which is not counted. Refused, the session is as before.
     pub(crate) fn answer(&mut self, client: u8, request: &Command) -> Result<Answer, Refusal>
         requires numbered { 1 ≤ client }
@@ -41,7 +64,7 @@ impl Desk {
         ensures refused { IfErr result (IsRefused (call_by self.old.session client process call.now)) }
         ensures err { OnErr result (self.new.session ≡ self.old.session) }
     {
-        let Cursor::Follows(branch) = self.client(client).cursor else {
+        let Cursor::Follows(branch) = self.cursor(client) else {
             return Err(Refusal::Detached);
         };
         self.grown = false;
@@ -63,7 +86,8 @@ impl Desk {
         ensures refused { IfErr result (IsRefused (goto_by self.old.session client moment)) }
         ensures err { OnErr result (self.new.session ≡ self.old.session) }
     {
-        if moment > self.history.last() {
+        let last = self.history.last();
+        if moment.0 > last.0 {
             return Err(Refusal::NoMoment);
         }
         self.stand(client, Cursor::At(moment));
@@ -79,6 +103,7 @@ impl Desk {
         ensures refused { IfErr result (IsRefused (back_by self.old.session client count)) }
         ensures err { OnErr result (self.new.session ≡ self.old.session) }
     {
+        self.limits();
         let position = self.position(client);
         let depth = self.history.depth_of(position);
         if count > depth {
@@ -151,9 +176,13 @@ impl Desk {
         ensures refused { IfErr result (IsRefused (show_to self.old.session client)) }
         ensures err { OnErr result (self.new.session ≡ self.old.session) }
     {
-        let position = self.go(client)?;
-        let rows = rows_at(*self.clients.allocator(), &self.history)?;
-        Ok(Answer::Rows(position, rows))
+        let Ok(position) = self.go(client) else {
+            return Err(Refusal::OutOfMemory);
+        };
+        match rows_at(*self.clients.allocator(), &self.history) {
+            Ok(rows) => Ok(Answer::Rows(position, rows)),
+            Err(_) => Err(Refusal::OutOfMemory),
+        }
     }
 
     /// What keeps an object at the client's position.
@@ -165,9 +194,13 @@ impl Desk {
         ensures refused { IfErr result (IsRefused (holders_to self.old.session client koid)) }
         ensures err { OnErr result (self.new.session ≡ self.old.session) }
     {
-        self.go(client)?;
-        let held = holders_at(*self.clients.allocator(), &self.history, koid)?;
-        Ok(Answer::Holders(koid, held))
+        let Ok(_) = self.go(client) else {
+            return Err(Refusal::OutOfMemory);
+        };
+        match holders_at(*self.clients.allocator(), &self.history, koid) {
+            Ok(held) => Ok(Answer::Holders(koid, held)),
+            Err(refusal) => Err(refusal),
+        }
     }
 
     /// The leaked objects at the client's position.
@@ -179,7 +212,9 @@ impl Desk {
         ensures refused { IfErr result (IsRefused (leaks_to self.old.session client)) }
         ensures err { OnErr result (self.new.session ≡ self.old.session) }
     {
-        let _position = self.go(client)?;
+        let Ok(_) = self.go(client) else {
+            return Err(Refusal::OutOfMemory);
+        };
         Err(Refusal::OutOfMemory)
     }
 
@@ -192,8 +227,10 @@ impl Desk {
         ensures refused { IfErr result (IsRefused (when_to self.old.session client what koid)) }
         ensures err { OnErr result (self.new.session ≡ self.old.session) }
     {
-        let _position = self.go(client)?;
         let _asked = (what, koid);
+        let Ok(_) = self.go(client) else {
+            return Err(Refusal::OutOfMemory);
+        };
         Err(Refusal::OutOfMemory)
     }
 

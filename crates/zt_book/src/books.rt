@@ -5,7 +5,7 @@ ghost use Rattle.zt_book.specs.Session.{serve, session_over, position_of, IsRefu
 ghost use Rattle.zt_book.specs.Log.{IsCounted, standing_of, first_book, book_over, loaded, snapshot_at, IsUnloaded};
 
 use crate::clients::Client;
-use crate::desks::Desk;
+use crate::desks::{Desk, ROWS};
 use crate::loading::history_of;
 use crate::logs::Log;
 use std::alloc::Global;
@@ -16,9 +16,6 @@ use zt_rows::{Answer, Call, Command, Koid, Refusal};
 
 /// The most clients that a book serves.
 pub const CLIENTS: u8 = 4;
-
-/// The most commands that are answered to a client.
-const ROWS: u32 = 4096;
 
 /// The client to which the last command was answered, and what was known of it before.
 #[derive(Clone, Copy)]
@@ -101,12 +98,9 @@ impl Book {
         ensures clients { length self.new.session.clients ≡ length self.old.session.clients }
     {
         self.last = None;
+        self.desk.limits();
         let was = self.desk.client(client);
-        if was.rows >= ROWS {
-            return Err(Refusal::ClientFull);
-        }
-        let said = self.desk.answer(client, request)?;
-        self.desk.count(client);
+        let said = self.desk.serve(client, request)?;
         match self.log.add(client, request, &said) {
             Ok(()) => {
                 self.last = Some(Served { client, was });

@@ -1,4 +1,5 @@
 ghost use Rattle.std.specs.Prelude.{◌≡◌, ◌≤◌, ◌<◌, ◌-◌, IfOk, IfErr, OnOk, OnErr, Some, length, slice_set};
+ghost use Rattle.zt_history.specs.Standing.{IsTree};
 ghost use Rattle.zt_book.specs.Session.{client_of, counted, position_of, session_over, with_client};
 ghost use Rattle.zt_book.specs.Log.{snapshot_at};
 ghost use Rattle.zt_book.specs.Desk.{IsClient, IsCursor, Stand, session_before};
@@ -9,6 +10,9 @@ use std::marker::Model;
 use zt_history::{BranchId, History};
 use zt_queries::Frozen;
 use zt_rows::{Moment, Refusal};
+
+/// The most commands that are answered to a client.
+pub(crate) const ROWS: u32 = 4096;
 
 /// The history, with the clients that stand in it.
 #[derive(Drop)]
@@ -53,8 +57,9 @@ impl Desk {
     pub(crate) fn limits(&self)
         ensures few { length self.now.session.clients ≤ 4 }
         ensures stand { Stand self.now.session }
+        ensures tree { IsTree self.now.session.tree }
     {
-        let _ = &self.clients;
+        let _position = self.history.position();
     }
 
     /// The history.
@@ -82,6 +87,17 @@ impl Desk {
         self.clients[client as usize - 1]
     }
 
+    /// Where a client stands.
+    pub(crate) fn cursor(&self, client: u8) -> Cursor
+        requires numbered { 1 ≤ client }
+        requires known { client ≤ length self.now.session.clients }
+        ensures cursor { result ≡ (client_of self.now.session client).cursor }
+        ensures stands { IsCursor self.now.session.tree result }
+    {
+        let known = self.client(client);
+        known.cursor
+    }
+
     /// The moment at which a client stands.
     pub(crate) fn position(&self, client: u8) -> Moment
         requires numbered { 1 ≤ client }
@@ -89,7 +105,7 @@ impl Desk {
         ensures position { result ≡ position_of self.now.session client }
         ensures within { result ≤ length self.now.session.tree.made }
     {
-        match self.client(client).cursor {
+        match self.cursor(client) {
             Cursor::Follows(branch) => self.history.head(branch),
             Cursor::At(moment) => moment,
         }

@@ -1,0 +1,208 @@
+-- What a desk does with a command, and what the session's checks say of it.
+use Rattle.std.proofs.Common.{◌≡◌, ◌⊎◌, ℕ, zero, suc, ◌+◌, ◌-◌, ◌≤◌, ◌<◌, Bool, true, false, not, List, [], ◌∷◌, ◌++◌, length, set, get_or, Option, Some, None, Result, Ok, Err, refl, sym, ◌∙◌, ap, subst, inl, inr, arith}
+use Rattle.std.specs.Prelude.{is_some, nat_le, nat_lt}
+use Rattle.std.proofs.lemmas.Bool.{le-leb, lt-leb, lt-ltb, le-ltb}
+use Rattle.zt_rows.specs.declared.calls.Answer.{Answer}
+use Rattle.zt_rows.specs.declared.calls.Answer.TheVariants as answer
+use Rattle.zt_rows.specs.declared.calls.Call.{Call}
+use Rattle.zt_rows.specs.declared.calls.Command.{Command}
+use Rattle.zt_rows.specs.declared.keys.RowKey.{RowKey}
+use Rattle.zt_rows.specs.declared.refusals.Refusal.{Refusal}
+use Rattle.zt_rows.specs.declared.rows.Row.{Row}
+use Rattle.zt_rows.specs.declared.supports.Support.{Support}
+use Rattle.zt_rows.specs.declared.refusals.Refusal.TheVariants as refusal
+use Rattle.zt_rows.specs.Tests.{exists}
+use Rattle.zt_history.specs.Refusing.{check, ◌>>=◌, call_on, branch_on, moment_on, IsRefused as IsRefusedThere}
+use Rattle.zt_history.specs.Standing.{Falls}
+use Rattle.zt_history.specs.Tree.{Made, Tree, last_moment, parent_at, path, state_at, head_at, branch_named}
+use Rattle.zt_history.proofs.PathLaws.{path-opening, path-step, by_parents}
+use Rattle.zt_queries.specs.Copies.{holders_on}
+use Rattle.zt_book.specs.declared.clients.Client.{Client}
+use Rattle.zt_book.specs.declared.clients.Cursor.{Cursor}
+use Rattle.zt_book.specs.declared.clients.Cursor.TheVariants.{Follows, At}
+use Rattle.zt_book.specs.Session.{Session, client_of, position_of, state_of, with_client, standing, ancestor, is_name, most_rows, asked, serve, call_by, goto_by, back_by, branch_by, follow_by, show_to, holders_to, leaks_to, pin_to, IsRefused}
+
+-- ---- refusals
+
+-- what the history or a query refuses, the session refuses
+pub refused-there : {A B : Type 0} (r : Result A Refusal) (f : A → B) (given : Refusal) → IsRefusedThere r given → IsRefused (r >>= λ x. Ok (f x)) given
+refused-there (Ok x) f given h = h
+refused-there (Err refusal.NoProcess) f given h = h
+refused-there (Err refusal.NoObject) f given h = inl h
+refused-there (Err _) f given h = h
+
+-- ---- one command each
+
+module _ (M : Session) (client : ℕ) where
+  pub call-detached : (process moment : ℕ) (call : Call) → (client_of M client).cursor ≡ At moment → IsRefused (call_by M client process call) refusal.Detached
+  unfolding call_by
+  call-detached process moment call h = rw h refl
+
+  pub call-done : (process branch : ℕ) (call : Call) (said : Answer) (u : Tree) → (client_of M client).cursor ≡ Follows branch
+      → call_on M.tree branch process call ≡ Ok (said, u) → call_by M client process call ≡ Ok (said, record M { tree = u })
+  unfolding call_by
+  call-done process branch call said u h done =
+      rw h (ap (λ r. r >>= λ (done : Answer × Tree). Ok (done.0, record M { tree = done.1 })) done)
+
+  pub call-refused : (process branch : ℕ) (call : Call) (given : Refusal) → (client_of M client).cursor ≡ Follows branch
+      → IsRefusedThere (call_on M.tree branch process call) given → IsRefused (call_by M client process call) given
+  unfolding call_by
+  call-refused process branch call given h refused =
+      rw h (refused-there (call_on M.tree branch process call) (λ (done : Answer × Tree). let N : Answer × Session = (done.0, record M { tree = done.1 }) in N) given refused)
+
+  pub goto-far : (moment : ℕ) → last_moment M.tree < moment → IsRefused (goto_by M client moment) refusal.NoMoment
+  unfolding goto_by
+  goto-far moment h = rw (lt-leb moment (last_moment M.tree) h) refl
+
+  pub goto-done : (moment : ℕ) → moment ≤ last_moment M.tree → goto_by M client moment ≡ Ok (answer.At moment, standing M client (At moment))
+  unfolding goto_by
+  goto-done moment h = rw (le-leb moment (last_moment M.tree) h) refl
+
+  pub back-far : (count : ℕ) → length (path M.tree.made (position_of M client)) < count → IsRefused (back_by M client count) refusal.AtStart
+  unfolding back_by
+  back-far count h = rw (lt-leb count (length (path M.tree.made (position_of M client))) h) refl
+
+  pub back-near : (count : ℕ) → count ≤ length (path M.tree.made (position_of M client)) → IsRefused (back_by M client count) refusal.OutOfMemory
+  unfolding back_by
+  back-near count h = rw (le-leb count (length (path M.tree.made (position_of M client))) h) refl
+
+  pub back-done : (count moment : ℕ) → count ≤ length (path M.tree.made (position_of M client)) → moment ≡ ancestor (path M.tree.made (position_of M client)) count
+      → back_by M client count ≡ Ok (answer.At moment, standing M client (At moment))
+  unfolding back_by
+  back-done count moment h is =
+      rw (le-leb count (length (path M.tree.made (position_of M client))) h)
+      (ap (λ m. let y : Result (Answer × Session) Refusal = Ok (answer.At m, standing M client (At m)) in y) (sym is))
+
+  pub branch-unnamed : (name : List ℕ) → is_name name ≡ false → IsRefused (branch_by M client name) refusal.BadName
+  unfolding branch_by
+  branch-unnamed name h = rw h refl
+
+  pub branch-taken : (name : List ℕ) → is_name name ≡ true → position_of M client ≤ last_moment M.tree → is_some (branch_named M.tree.branches name) ≡ true
+      → IsRefused (branch_by M client name) refusal.NameTaken
+  unfolding branch_by
+  branch-taken name h within taken = rw (h, le-leb (position_of M client) (last_moment M.tree) within, taken) refl
+
+  pub branch-memory : (name : List ℕ) → is_name name ≡ true → position_of M client ≤ last_moment M.tree → is_some (branch_named M.tree.branches name) ≡ false
+      → IsRefused (branch_by M client name) refusal.OutOfMemory
+  unfolding branch_by
+  branch-memory name h within free = rw (h, le-leb (position_of M client) (last_moment M.tree) within, free) refl
+
+  pub branch-refused : (name : List ℕ) (given : Refusal) → is_name name ≡ true → IsRefusedThere (branch_on M.tree name (position_of M client)) given
+      → IsRefused (branch_by M client name) given
+  unfolding branch_by
+  branch-refused name given h refused =
+      rw h
+      (refused-there (branch_on M.tree name (position_of M client))
+      (λ (added : ℕ × Tree). let N : Answer × Session = (answer.Branched name (position_of M client), standing (record M { tree = added.1 }) client (Follows added.0)) in N)
+      given refused)
+
+  pub branch-done : (name : List ℕ) (branch : ℕ) (u : Tree) → is_name name ≡ true → branch_on M.tree name (position_of M client) ≡ Ok (branch, u)
+      → branch_by M client name ≡ Ok (answer.Branched name (position_of M client), standing (record M { tree = u }) client (Follows branch))
+  unfolding branch_by
+  branch-done name branch u h done =
+      rw h
+      (ap (λ r. r >>= λ (added : ℕ × Tree). Ok (answer.Branched name (position_of M client), standing (record M { tree = added.1 }) client (Follows added.0))) done)
+
+  pub follow-none : (name : List ℕ) → branch_named M.tree.branches name ≡ None → IsRefused (follow_by M client name) refusal.NoBranch
+  unfolding follow_by
+  follow-none name h = rw h refl
+
+  pub follow-memory : (name : List ℕ) (branch : ℕ) → branch_named M.tree.branches name ≡ Some branch → IsRefused (follow_by M client name) refusal.OutOfMemory
+  unfolding follow_by
+  follow-memory name branch h = rw h refl
+
+  pub follow-done : (name : List ℕ) (branch : ℕ) → branch_named M.tree.branches name ≡ Some branch
+      → follow_by M client name ≡ Ok (answer.Followed name (head_at M.tree.branches branch), standing M client (Follows branch))
+  unfolding follow_by
+  follow-done name branch h = rw h refl
+
+  pub holders-refused : (object : ℕ) (given : Refusal) → IsRefusedThere (holders_on (state_of M client) object) given → IsRefused (holders_to M client object) given
+  unfolding holders_to
+  holders-refused object given refused =
+      refused-there (holders_on (state_of M client) object) (λ held. let N : Answer × Session = (answer.Holders object held, M) in N) given refused
+
+  pub holders-memory : (object : ℕ) (b : Bool) → exists (state_of M client) object ≡ b → IsRefused (holders_to M client object) refusal.OutOfMemory
+  unfolding holders_to
+  holders-memory object true h = rw h refl
+  holders-memory object false h = rw h (inr refl)
+
+  -- a client that has no room
+  pub serve-full : (request : Command) → most_rows ≤ (client_of M client).rows → IsRefused (serve M client request) refusal.ClientFull
+  unfolding serve
+  serve-full request h = rw (le-ltb (client_of M client).rows most_rows h) refl
+
+-- ---- what was done is what is asked
+
+abbrev said_and : Answer → Session → Result (Answer × Session) Refusal
+said_and said N = Ok (said, N)
+
+module _ (M N : Session) (client : ℕ) where
+  pub call-seen : (process branch : ℕ) (call : Call) (said : Answer) → (client_of M client).cursor ≡ Follows branch
+      → call_on M.tree branch process call ≡ Ok (said, N.tree) → N.clients ≡ M.clients → call_by M client process call ≡ Ok (said, N)
+  call-seen process branch call said h done clients =
+      call-done M client process branch call said N.tree h done ∙ ap (λ l. said_and said (record { tree = N.tree; clients = l })) (sym clients)
+
+  pub goto-seen : (moment : ℕ) → moment ≤ last_moment M.tree → N ≡ standing M client (At moment) → goto_by M client moment ≡ Ok (answer.At moment, N)
+  goto-seen moment h is = goto-done M client moment h ∙ ap (said_and (answer.At moment)) (sym is)
+
+  pub back-seen : (count moment : ℕ) → count ≤ length (path M.tree.made (position_of M client)) → moment ≡ ancestor (path M.tree.made (position_of M client)) count
+      → N ≡ standing M client (At moment) → back_by M client count ≡ Ok (answer.At moment, N)
+  back-seen count moment h is there = back-done M client count moment h is ∙ ap (said_and (answer.At moment)) (sym there)
+
+  pub branch-seen : (K : Session) (name named : List ℕ) (position branch : ℕ) → is_name name ≡ true → branch_on M.tree name position ≡ Ok (branch, K.tree)
+      → position ≡ position_of M client → named ≡ name → K.clients ≡ M.clients → N ≡ standing K client (Follows branch)
+      → branch_by M client name ≡ Ok (answer.Branched named position, N)
+  branch-seen K name named position branch h done is same clients there =
+      let at : branch_on M.tree name (position_of M client) ≡ Ok (branch, K.tree) = subst (λ m. branch_on M.tree name m ≡ Ok (branch, K.tree)) is done in
+      let after : standing (record M { tree = K.tree }) client (Follows branch) ≡ N =
+      ap (λ l. standing (record { tree = K.tree; clients = l }) client (Follows branch)) (sym clients) ∙ sym there in
+      branch-done M client name branch K.tree h at ∙ (λ i. said_and (answer.Branched (sym same i) (sym is i)) (after i))
+
+  pub follow-seen : (name named : List ℕ) (branch head : ℕ) → branch_named M.tree.branches name ≡ Some branch → named ≡ name → head ≡ head_at M.tree.branches branch
+      → N ≡ standing M client (Follows branch) → follow_by M client name ≡ Ok (answer.Followed named head, N)
+  follow-seen name named branch head h same is there =
+      follow-done M client name branch h ∙ (λ i. said_and (answer.Followed (sym same i) (sym is i)) (sym there i))
+
+  pub show-seen : (position : ℕ) (rows : List (RowKey × Row)) → position ≡ position_of M client → rows ≡ (state_at M.tree.made position).rows → N ≡ M
+      → show_to M client ≡ Ok (answer.Rows position rows, N)
+  unfolding show_to
+  show-seen position rows is are same =
+      let there : rows ≡ (state_of M client).rows = are ∙ ap (λ m. (state_at M.tree.made m).rows) is in
+      λ i. said_and (answer.Rows (sym is i) (sym there i)) (sym same i)
+
+  pub holders-seen : (position object : ℕ) (held : List Support) → position ≡ position_of M client → holders_on (state_at M.tree.made position) object ≡ Ok held → N ≡ M
+      → holders_to M client object ≡ Ok (answer.Holders object held, N)
+  unfolding holders_to
+  holders-seen position object held is found same =
+      let there : holders_on (state_of M client) object ≡ Ok held = subst (λ m. holders_on (state_at M.tree.made m) object ≡ Ok held) is found in
+      ap (λ r. r >>= λ held. said_and (answer.Holders object held) M) there ∙ ap (said_and (answer.Holders object held)) (sym same)
+
+  pub pin-seen : (position : ℕ) (to : Client) → position ≡ position_of M client → to ≡ record (client_of M client) { pinned = Some position } → N ≡ with_client M client to
+      → pin_to M client ≡ Ok (answer.Pinned position, N)
+  unfolding pin_to
+  pin-seen position to is so there =
+      let after : with_client M client (record (client_of M client) { pinned = Some (position_of M client) }) ≡ N =
+      ap (λ m. with_client M client (record (client_of M client) { pinned = Some m })) (sym is) ∙ ap (with_client M client) (sym so) ∙ sym there in
+      λ i. said_and (answer.Pinned (sym is i)) (after i)
+
+-- ---- the ancestors
+
+push-bounded : (most : ℕ) (xs : List ℕ) (x : ℕ) → ((k : ℕ) → get_or xs k 0 ≤ most) → x ≤ most → (k : ℕ) → get_or (xs ++ x ∷ []) k 0 ≤ most
+push-bounded most [] x all one zero = one
+push-bounded most [] x all one (suc k) = omega arith
+push-bounded most (y ∷ ys) x all one zero = all 0
+push-bounded most (y ∷ ys) x all one (suc k) = push-bounded most ys x (λ j. all (suc j)) one k
+
+path-bounded : (made : List Made) → Falls made → (most m : ℕ) → m ≤ most → (k : ℕ) → get_or (path made m) k 0 ≤ most
+path-bounded made falls most =
+    by_parents made falls (λ m. m ≤ most → (k : ℕ) → get_or (path made m) k 0 ≤ most)
+    (λ h. let P : List ℕ → Type 0 = λ l. (k : ℕ) → get_or l k 0 ≤ most in subst P (sym (path-opening made)) (λ k. omega arith))
+    (λ i up h. let P : List ℕ → Type 0 = λ l. (k : ℕ) → get_or l k 0 ≤ most in
+        subst P (sym (path-step made falls i)) (push-bounded most (path made (parent_at made (suc i))) (suc i) (up (omega (arith, h, falls i))) h))
+
+first_or : (made : List Made) → Falls made → (m : ℕ) → m ≤ length made → (n : ℕ) → get_or (0 ∷ path made m) n 0 ≤ length made
+first_or made falls m h zero = omega arith
+first_or made falls m h (suc n) = path-bounded made falls (length made) m h n
+
+pub ancestor-within : (made : List Made) → Falls made → (m count : ℕ) → m ≤ length made → ancestor (path made m) count ≤ length made
+ancestor-within made falls m count h = first_or made falls m h (length (path made m) - count)

@@ -1,0 +1,65 @@
+-- Loading, call by call.
+use Rattle.std.proofs.Common.{◌≡◌, ◌⊎◌, ℕ, zero, suc, ◌+◌, ◌<◌, Bool, true, false, List, [], ◌∷◌, length, drop, get_or, Result, Ok, Err, refl, sym, ◌∙◌, ap, subst, inl, inr, arith}
+use Rattle.zt_rows.specs.declared.calls.Answer.{Answer}
+use Rattle.zt_rows.specs.declared.calls.Call.{Call}
+use Rattle.zt_rows.specs.declared.refusals.Refusal.{Refusal}
+use Rattle.zt_rows.specs.declared.refusals.Refusal.TheVariants as refusal
+use Rattle.zt_rows.specs.Reads.{runs}
+use Rattle.zt_history.specs.Refusing.{check, ◌>>=◌, call_on, most_moments, IsRefused}
+use Rattle.zt_history.specs.Tree.{Tree, Branch, last_moment, state_at, head_at, headed, called, made_by}
+use Rattle.zt_rows.specs.declared.calls.Answer.TheVariants as answer
+use Rattle.std.specs.Prelude.{nat_lt}
+use Rattle.zt_book.specs.Log.{loaded_behind, loaded_from, fault_at, IsUnloadedBy}
+use Rattle.zt_book.proofs.ServedLaws.{behind, last}
+
+-- ---- a call that is answered
+
+headed-length : (bs : List Branch) (i m : ℕ) → length (headed bs i m) ≡ length bs
+headed-length [] i m = refl
+headed-length (b ∷ bs) zero m = refl
+headed-length (b ∷ bs) (suc i) m = ap suc (headed-length bs i m)
+
+-- a call leaves as many branches
+pub branches-called : (t : Tree) (b process : ℕ) (call : Call) (y : Answer × Tree) → call_on t b process call ≡ Ok y → length y.1.branches ≡ length t.branches
+branches-called t b process call y =
+    let P : Answer × Tree → Type 0 = λ y. length y.1.branches ≡ length t.branches in
+    let made : Answer × Tree = (answer.Called (suc (last_moment t)) (made_by t.made (head_at t.branches b) process call).reply, called t b process call) in
+    behind P (check (nat_lt (last_moment t) most_moments) refusal.Full) (λ _. check (runs (state_at t.made (head_at t.branches b)) process) refusal.NoProcess >>= λ _. Ok made) y
+    (λ _. last P (check (runs (state_at t.made (head_at t.branches b)) process) refusal.NoProcess) (λ _. made) y (λ _. headed-length t.branches b (suc (length t.made))))
+
+-- the others are loaded behind it
+pub loaded-more : (i : ℕ) (t u : Tree) (process : ℕ) (call : Call) (said : Answer) (rest : List (ℕ × Call)) → call_on t 0 process call ≡ Ok (said, u)
+    → loaded_from i t ((process, call) ∷ rest) ≡ loaded_from (suc i) u rest
+loaded-more i t u process call said rest h = ap (λ r. loaded_behind i r (λ v. loaded_from (suc i) v rest)) h
+
+-- ---- a call that is refused
+
+refused-either : (A : Type 0) (reason given : Refusal) → IsRefused {A = A} (Err reason) given → (given ≡ reason) ⊎ (given ≡ refusal.OutOfMemory)
+refused-either A refusal.NoProcess given h = h
+refused-either A _ given h = inl h
+
+fault-either : (i : ℕ) (given : Refusal) → (fault_at i given ≡ (i, given)) ⊎ (fault_at i given ≡ (0, refusal.OutOfMemory))
+fault-either i refusal.OutOfMemory = inr refl
+fault-either i _ = inl refl
+
+-- want of memory can always be told
+pub unloaded-memory : (whole : Result Tree (ℕ × Refusal)) → IsUnloadedBy false whole (0, refusal.OutOfMemory)
+unloaded-memory (Ok t) = refl
+unloaded-memory (Err first) = inr refl
+
+unloaded_here : (r : Result (Answer × Tree) Refusal) (i : ℕ) (given : Refusal) (rest : Tree → Result Tree (ℕ × Refusal)) → IsRefused r given
+    → IsUnloadedBy false (loaded_behind i r rest) (fault_at i given)
+unloaded_here (Ok done) i given rest h =
+    subst (λ g. IsUnloadedBy false (rest done.1) (fault_at i g)) (sym h) (unloaded-memory (rest done.1))
+unloaded_here (Err reason) i given rest h =
+    elim (refused-either (Answer × Tree) reason given h) [
+      | inl same ↦ elim (fault-either i given) [
+          | inl told ↦ inl (told ∙ ap (λ g. let p : ℕ × Refusal = (i, g) in p) same)
+          | inr memory ↦ inr memory
+        ]
+      | inr memory ↦ inr (ap (fault_at i) memory)
+    ]
+
+pub unloaded-here : (i : ℕ) (t : Tree) (process : ℕ) (call : Call) (given : Refusal) (rest : List (ℕ × Call)) → IsRefused (call_on t 0 process call) given
+    → IsUnloadedBy false (loaded_from i t ((process, call) ∷ rest)) (fault_at i given)
+unloaded-here i t process call given rest = unloaded_here (call_on t 0 process call) i given (λ u. loaded_from (suc i) u rest)

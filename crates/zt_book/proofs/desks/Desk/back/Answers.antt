@@ -1,0 +1,26 @@
+-- The position has so many ancestors or not; it has, and the client stands at the ancestor.
+use Rattle.std.proofs.Common.{◌≡◌, ◌-◌, ◌∷◌, length, get_or, sym, ◌∙◌, ap, subst, arith}
+use Rattle.zt_history.specs.Tree.{path}
+use Rattle.zt_book.specs.Session.{position_of, ancestor, standing}
+use Rattle.zt_book.specs.Desk.{Seats}
+use Rattle.zt_book.specs.declared.clients.Cursor.TheVariants.{At}
+use Rattle.zt_book.proofs.DeskLaws.{back-far, back-near, back-seen, ancestor-within}
+use Rattle.zt_book.proofs.desks.Desk.back.Goals as goal
+
+pub returns-then-count-depth-clause-refused : goal.returns-then-count-depth-clause-refused
+returns-then-count-depth-clause-refused c =
+    let depth : c.depth_of-depth.result ≡ length (path c.args.self.now.session.tree.made (position_of c.args.self.now.session c.args.client)) =
+    c.depth_of-depth.ensures ∙ (λ i. length (path (c.self.view_is i).session.tree.made (c.position-position.ensures.position i))) in
+    back-far c.args.self.now.session c.args.client c.args.count (omega (arith, c.if-count-depth.true, depth))
+
+pub returns-in_default-clause-refused : goal.returns-in_default-clause-refused
+returns-in_default-clause-refused c =
+    let depth : c.depth_of-depth.result ≡ length (path c.args.self.now.session.tree.made (position_of c.args.self.now.session c.args.client)) =
+    c.depth_of-depth.ensures ∙ (λ i. length (path (c.self.view_is i).session.tree.made (c.position-position.ensures.position i))) in
+    back-near c.args.self.now.session c.args.client c.args.count (omega (arith, c.if-count-depth.false, depth))
+
+pub stand-requires-clause-stands : goal.stand-requires-clause-stands
+stand-requires-clause-stands c = ?
+
+pub returns-clause-ok : goal.returns-clause-ok
+returns-clause-ok c = ?

@@ -1,0 +1,29 @@
+-- The name is looked at, then looked for; then there is one branch more.
+use Rattle.std.proofs.Common.{◌≡◌, ◌≤◌, true, false, sym, ◌∙◌, ap, subst, arith}
+use Rattle.std.specs.Prelude.{is_some}
+use Rattle.zt_history.specs.Tree.{branch_named, last_moment}
+use Rattle.zt_book.specs.Session.{is_name, position_of}
+use Rattle.zt_book.proofs.DeskLaws.{branch-unnamed, branch-taken, branch-memory, branch-refused, branch-seen}
+use Rattle.zt_book.proofs.desks.Desk.branch.Goals as goal
+
+pub returns-then-not-is_name-clause-refused : goal.returns-then-not-is_name-clause-refused
+returns-then-not-is_name-clause-refused c =
+    branch-unnamed c.args.self.now.session c.args.client c.args.name.now (sym (c.if-not-is_name.ensures ∙ ap is_name c.as_slice.ensures))
+
+pub returns-then-is_some-clause-refused : goal.returns-then-is_some-clause-refused
+returns-then-is_some-clause-refused c =
+    branch-taken c.args.self.now.session c.args.client c.args.name.now (sym (c.if-not-is_name.ensures ∙ ap is_name c.as_slice.ensures))
+    (subst (λ m. m ≤ last_moment c.args.self.now.session.tree) c.position-position.ensures.position c.position-position.ensures.within)
+    (sym (c.if-is_some.ensures ∙ (λ i. is_some (c.find.ensures i)) ∙ (λ i. is_some (branch_named (c.self.view_is i).session.tree.branches (c.as_slice-2.ensures i)))))
+
+pub returns-in_default-clause-refused : goal.returns-in_default-clause-refused
+returns-in_default-clause-refused c =
+    branch-memory c.args.self.now.session c.args.client c.args.name.now (sym (c.if-not-is_name.ensures ∙ ap is_name c.as_slice.ensures))
+    (subst (λ m. m ≤ last_moment c.args.self.now.session.tree) c.position-position.ensures.position c.position-position.ensures.within)
+    (sym (c.if-is_some.ensures ∙ (λ i. is_some (c.find.ensures i)) ∙ (λ i. is_some (branch_named (c.self.view_is i).session.tree.branches (c.as_slice-2.ensures i)))))
+
+pub returns-in_Ok-branch-clause-ok : goal.returns-in_Ok-branch-clause-ok
+returns-in_Ok-branch-clause-ok c = ?
+
+pub returns-in_Err-branch-clause-refused : goal.returns-in_Err-branch-clause-refused
+returns-in_Err-branch-clause-refused c = ?
