@@ -7,9 +7,11 @@ mod desks;
 mod feeding;
 mod parts;
 mod running;
+mod saving;
 mod talking;
 
 pub use books::run;
 pub use counted::Counted;
 pub use running::End;
+pub use saving::path_text;
 pub use zt_book::Book;
