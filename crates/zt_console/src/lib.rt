@@ -5,6 +5,7 @@ mod books;
 mod counted;
 mod desks;
 mod feeding;
+mod loading;
 mod parts;
 mod running;
 mod saving;
@@ -12,6 +13,7 @@ mod talking;
 
 pub use books::run;
 pub use counted::Counted;
+pub use loading::load_text;
 pub use running::End;
 pub use saving::path_text;
 pub use zt_book::Book;

@@ -1,14 +1,15 @@
 //! Session texts that are loaded and saved.
 
+ghost use Rattle.std.specs.Prelude.{◌≡◌, length, IfOk};
+
 use crate::faults::Fault;
 use std::alloc::Global;
 use std::fs;
 use std::fs::File;
 use std::io;
 use std::io::{Read, Write};
-use zt_console::{Book, path_text};
+use zt_console::{Book, load_text, path_text};
 use zt_rows::Refusal;
-use zt_text::read_session;
 
 /// Opens a file to be read.
 pub fn open(rt: &HostRuntime, path: &str) -> Result<File, Fault> {
@@ -19,22 +20,13 @@ pub fn open(rt: &HostRuntime, path: &str) -> Result<File, Fault> {
 }
 
 /// The book of so many clients over the calls of a session text.
-pub fn load(rt: &HostRuntime, clients: u8, path: &str) -> Result<Book, Fault> {
+pub fn load(rt: &HostRuntime, clients: u8, path: &str) -> Result<Book, Fault>
+    ensures { IfOk result (λ book. length book.session.clients ≡ clients) }
+{
     let text = read(rt, path)?;
-    let calls = match read_session(rt.alloc(), text.as_slice()) {
-        Ok(calls) => calls,
-        Err((line, refusal)) => return Err(Fault::Trace { line, refusal }),
-    };
-    match Book::load(rt.alloc(), clients, calls.as_slice()) {
+    match load_text(rt.alloc(), clients, text.as_slice()) {
         Ok(book) => Ok(book),
-        Err((_, Refusal::OutOfMemory)) => Err(Fault::Trace {
-            line: 0,
-            refusal: Refusal::OutOfMemory,
-        }),
-        Err((index, refusal)) => Err(Fault::Trace {
-            line: line_of_call(text.as_slice(), index),
-            refusal,
-        }),
+        Err((line, refusal)) => Err(Fault::Trace { line, refusal }),
     }
 }
 
@@ -66,45 +58,10 @@ fn read(rt: &HostRuntime, path: &str) -> Result<Vec<u8>, Fault> {
     }
 }
 
-/// The line of the call with this number, counted from 0, in a session text that reads: skipped lines count as lines,
-/// and not as calls.
-fn line_of_call(text: &[u8], index: u64) -> u64 {
-    let mut line = 0u64;
-    let mut calls = 0u64;
-    for bytes in text.split(|byte| *byte == b'\n') {
-        line = line.saturating_add(1);
-        if line > 1 && !is_skipped(bytes) {
-            if calls == index {
-                return line;
-            }
-            calls = calls.saturating_add(1);
-        }
-    }
-    0
-}
-
-/// Whether a line behind the first is skipped.
-fn is_skipped(line: &[u8]) -> bool {
-    matches!(line, [] | [b'#', ..])
-}
-
 /// The file of this path could not be opened.
 fn unopened(alloc: Global, path: &str, error: io::Error) -> Fault {
     match String::from_str(alloc, path) {
         Ok(path) => Fault::Unopened { path, error },
         Err(_) => Fault::of_memory(),
-    }
-}
-
-#[cfg(test)]
-mod tests {
-    use super::line_of_call;
-
-    #[test]
-    fn skipped_lines_count(rt: HostRuntime) {
-        let text = b"zxtt 1\n\n1025 event_create\n# a comment\n9 event_create\n";
-        assert!(rt; line_of_call(text, 0) == 3);
-        assert!(rt; line_of_call(text, 1) == 5);
-        assert!(rt; line_of_call(text, 2) == 0);
     }
 }

@@ -1,6 +1,8 @@
 //! `zxtt` reads calls and commands line by line, and answers each.
 #![tactic(auto)]
 
+ghost use Rattle.std.specs.Prelude.{◌≤◌, length};
+
 mod faults;
 mod files;
 mod words;
@@ -42,7 +44,9 @@ fn start(rt: &HostRuntime) -> Result<(), Fault> {
 }
 
 /// Runs the lines of the file, or of standard input for `-`.
-fn run_file(rt: &HostRuntime, book: Book, file: &str) -> Result<Book, Fault> {
+fn run_file(rt: &HostRuntime, book: Book, file: &str) -> Result<Book, Fault>
+    requires { 1 ≤ length book.session.clients }
+{
     if file == "-" {
         run_lines(rt, book, rt.stdin())
     } else {
@@ -51,7 +55,9 @@ fn run_file(rt: &HostRuntime, book: Book, file: &str) -> Result<Book, Fault> {
 }
 
 /// Runs the lines of the reader, and answers on standard output.
-fn run_lines<R: Read>(rt: &HostRuntime, book: Book, reader: R) -> Result<Book, Fault> {
+fn run_lines<R: Read + Drop>(rt: &HostRuntime, book: Book, reader: R) -> Result<Book, Fault>
+    requires { 1 ≤ length book.session.clients }
+{
     let mut reader = Counted::new(reader);
     let mut writer = Counted::new(rt.stdout());
     let (book, end) = run(rt.alloc(), book, &mut reader, &mut writer);
