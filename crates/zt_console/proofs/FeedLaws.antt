@@ -1,19 +1,21 @@
 -- Laws of bytes that come in turn: lines cut from them come together.
-use Rattle.std.proofs.Common.{◌≡◌, ◌⊎◌, ℕ, ◌+◌, ◌≤◌, ◌<◌, Bool, true, false, not, ◌&&◌, ◌==◌, cond, List, [], ◌∷◌, ◌++◌, length, take, drop, map, Option, Some, None, IfSome, refl, sym, ◌∙◌, ap, subst, append_assoc, length-append, length-take, get_or, suc, arith}
-use Rattle.std.specs.Prelude.{nat_le}
+use Rattle.std.proofs.Common.{◌≡◌, ◌⊎◌, ℕ, ◌+◌, ◌≤◌, ◌<◌, Bool, true, false, not, ◌&&◌, ◌==◌, cond, List, [], ◌∷◌, ◌++◌, length, take, drop, map, Option, Some, None, IfSome, refl, sym, ◌∙◌, ap, subst, append_assoc, length-append, length-take, get_or, suc, add-one, drop-cons, Result, Ok, Err, inr, arith}
+use Rattle.std.specs.Prelude.{nat_le, OnOk}
 use Rattle.std.specs.List.{list_all, onto_first}
 use Rattle.std.proofs.lemmas.Bool.{eqb-true}
 use Rattle.std.proofs.lemmas.Bool.Decides.{nat_tests}
-use Rattle.std.proofs.lemmas.List.{append-nil, take-append-drop, take-append-le, take_all, map-append, length-take-le}
-use Rattle.std.proofs.lemmas.List.Folds.{list_all-append}
+use Rattle.std.proofs.lemmas.List.{append-nil, take-append-drop, take-append-le, take_all, length-take-le, nil_from_length}
+use Rattle.std.proofs.lemmas.List.Folds.{list_all-append, list_all_more}
 use Rattle.std.specs.Io.KnownBytes.{Consumes, IsAtEnd}
+use Rattle.zt_rows.specs.declared.refusals.Refusal.{Refusal}
+use Rattle.zt_rows.specs.declared.refusals.Refusal.TheVariants as refusal
 use Rattle.zt_text.specs.Lines.{lines_of}
 use Rattle.zt_queries.specs.Copies.{Snapshot}
 use Rattle.zt_console.specs.declared.talking.Standing.{Standing}
-use Rattle.zt_console.specs.Talk.{Manner, Talk}
-use Rattle.zt_console.specs.Running.{Spoken, HasTalked, at_desk, most_reads}
-use Rattle.zt_console.specs.Feeding.{decisive, decisive_lines, has_no_feed, Passed, Fed, HasRead}
-use Rattle.zt_console.proofs.TalkLaws.{passed_more, passed_nothing, passed_short, talk_undecided}
+use Rattle.zt_console.specs.Talk.{Manner, Answers, Talk}
+use Rattle.zt_console.specs.Running.{Spoken, IsWritten, IsSent, HasTalked, at_desk, most_reads, IsCounted, IsCause}
+use Rattle.zt_console.specs.Feeding.{decisive, decisive_lines, has_no_feed, IsFirstFeed, Put, Passed, Fed, HasRead}
+use Rattle.zt_console.proofs.TalkLaws.{no_eq, decides, passed_more, passed_none, passed_nothing, passed_failed, passed_short, passed_sent, passed_unprinted, sent_written, talk_undecided}
 
 -- ---- lines
 
@@ -168,6 +170,129 @@ fed_cut_short Asks M N held kept bs cs all u v a b e p = record {
   goes_on = λ t. cc;
 }
 
+-- what it waits for does not matter where it is stopped
+pub fed_failed : {D : Type 0} (Asks : Manner D) (M N : Standing D) (held kept bs u v w : List ℕ) (a b : Option (List ℕ)) → Fed Asks M N held kept bs u v a b false → Fed Asks M N held kept bs u w a b false
+fed_failed Asks M N held kept bs u v w a b p = record {
+  lines = p.lines;
+  passed = passed_failed Asks M N p.lines u v w a b p.passed;
+  others = p.others;
+  cut = p.cut;
+  goes_on = λ t. cc;
+}
+
+-- ---- one line of some bytes
+
+first_rest : (all rest line behind left eaten : List ℕ) (place : ℕ) → all ≡ eaten ++ rest → IsFirstFeed rest place → line ≡ take place rest → behind ≡ drop place rest → left ≡ drop 1 behind
+    → all ≡ (eaten ++ (line ++ 10 ∷ [])) ++ left
+first_rest all rest line behind left eaten place e f l b d =
+    let feed : behind ≡ 10 ∷ drop (place + 1) rest = b ∙ f.feed in
+    let last : left ≡ drop (place + 1) rest = d ∙ ap (drop 1) feed in
+    let whole : rest ≡ line ++ (10 ∷ left) = sym (take-append-drop place rest) ∙ ap (λ z. take place rest ++ z) f.feed ∙ ap (λ z. take place rest ++ (10 ∷ z)) (sym last) ∙ ap (λ z. z ++ (10 ∷ left)) (sym l) in
+    e ∙ ap (λ z. eaten ++ z) (whole ∙ sym (append_assoc line (10 ∷ []) left)) ∙ sym (append_assoc eaten (line ++ 10 ∷ []) left)
+
+-- the bytes are eaten up to some rest
+abbrev pub Eaten : {D : Type 0} → Manner D → Standing D → Standing D → List ℕ → List ℕ → List ℕ → List ℕ → List ℕ → List ℕ → Option (List ℕ) → Option (List ℕ) → Type 0
+Eaten Asks M N held kept all rest u v a b = (eaten : List ℕ) × (all ≡ eaten ++ rest) × Fed Asks M N held kept eaten u v a b true
+
+pub eaten_none : {D : Type 0} (Asks : Manner D) (M : Standing D) (held all u : List ℕ) (a : Option (List ℕ)) → Eaten Asks M M held held all all u u a a
+eaten_none Asks M held all u a = ([], refl, fed_nothing Asks M held u a)
+
+pub eaten_more : {D : Type 0} (Asks : Manner D) (M K N : Standing D) (held mid kept all rest line behind left u v w : List ℕ) (a b c : Option (List ℕ)) (place : ℕ)
+    → Eaten Asks M K held mid all rest u v a b → IsFirstFeed rest place → line ≡ take place rest → behind ≡ drop place rest → left ≡ drop 1 behind → Fed Asks K N mid kept (line ++ 10 ∷ []) v w b c true
+    → Eaten Asks M N held kept all left u w a c
+eaten_more Asks M K N held mid kept all rest line behind left u v w a b c place p f l e d q =
+    (p.0 ++ (line ++ 10 ∷ []), first_rest all rest line behind left p.0 place p.1 f l e d, fed_more Asks M K N held mid kept p.0 (line ++ 10 ∷ []) u v w a b c true p.2 q)
+
+pub eaten_failed : {D : Type 0} (Asks : Manner D) (M K N : Standing D) (held mid kept all rest line behind u v w : List ℕ) (a b c : Option (List ℕ)) (place : ℕ)
+    → Eaten Asks M K held mid all rest u v a b → IsFirstFeed rest place → line ≡ take place rest → behind ≡ drop place rest → Fed Asks K N mid kept (line ++ 10 ∷ []) v w b c false
+    → Fed Asks M N held kept all u w a c false
+eaten_failed Asks M K N held mid kept all rest line behind u v w a b c place p f l e q =
+    fed_cut_short Asks M N held kept (p.0 ++ (line ++ 10 ∷ [])) (drop 1 behind) all u w a c (first_rest all rest line behind (drop 1 behind) p.0 place p.1 f l e refl)
+    (fed_more Asks M K N held mid kept p.0 (line ++ 10 ∷ []) u v w a b c false p.2 q)
+
+-- the rest goes on a line
+pub eaten_all : {D : Type 0} (Asks : Manner D) (M N : Standing D) (held mid kept all rest u v : List ℕ) (a b : Option (List ℕ))
+    → Eaten Asks M N held mid all rest u v a b → kept ≡ decisive (mid ++ rest) → has_no_feed mid ≡ true → has_no_feed rest ≡ true → Fed Asks M N held kept all u v a b true
+eaten_all Asks M N held mid kept all rest u v a b p k h g =
+    subst (λ z. Fed Asks M N held kept z u v a b true) (sym p.1) (fed_more Asks M N N held mid kept p.0 rest u v v a b b true p.2 (fed_part Asks N mid kept rest v b k h g))
+
+-- there was no memory for it
+pub eaten_stopped : {D : Type 0} (Asks : Manner D) (M N : Standing D) (held mid kept all rest u v w : List ℕ) (a b c : Option (List ℕ))
+    → Eaten Asks M N held mid all rest u v a b → IsWritten v b c false → Fed Asks M N held kept all u w a c false
+eaten_stopped Asks M N held mid kept all rest u v w a b c p q =
+    subst (λ z. Fed Asks M N held kept z u w a c false) (sym p.1)
+    (fed_more Asks M N N held mid kept p.0 rest u v w a b c false p.2 (fed_stopped Asks N mid kept rest v w b c (passed_none Asks N v w b c false false q (λ e. cc))))
+
+-- the text of a line that ended waits, or is written
+pub ended_sent : {D : Type 0} (Asks : Manner D) (M N : Standing D) (held kept line whole u v w : List ℕ) (a b : Option (List ℕ)) (d : Bool)
+    → whole ≡ decisive (held ++ line) → Put Asks M whole N u v true → IsSent v w a b d → kept ≡ [] → has_no_feed held ≡ true → has_no_feed line ≡ true → Fed Asks M N held kept (line ++ 10 ∷ []) u w a b d
+ended_sent Asks M N held kept line whole u v w a b d e p q k h g =
+    fed_line Asks M N held kept line u w a b d k h g (subst (λ z. Passed Asks M (z ∷ []) N u w a b d) e (passed_sent Asks M N whole u v w a b d p q))
+
+pub ended_unprinted : {D : Type 0} (Asks : Manner D) (M N : Standing D) (held kept line whole u v w : List ℕ) (a b : Option (List ℕ))
+    → whole ≡ decisive (held ++ line) → Put Asks M whole N u v false → IsWritten v a b false → kept ≡ [] → has_no_feed held ≡ true → has_no_feed line ≡ true → Fed Asks M N held kept (line ++ 10 ∷ []) u w a b false
+ended_unprinted Asks M N held kept line whole u v w a b e p q k h g =
+    fed_line Asks M N held kept line u w a b false k h g (subst (λ z. Passed Asks M (z ∷ []) N u w a b false) e (passed_unprinted Asks M N whole u v w a b p q))
+
+-- there was no memory for the bytes of the line
+pub ended_stopped : {D : Type 0} (Asks : Manner D) (M : Standing D) (held kept bytes u w : List ℕ) (a b : Option (List ℕ)) → IsWritten u a b false → Fed Asks M M held kept bytes u w a b false
+ended_stopped Asks M held kept bytes u w a b q = fed_stopped Asks M held kept bytes u w a b (passed_none Asks M u w a b false false q (λ e. cc))
+
+-- what waits behind a chunk is written
+pub chunk_sent : {D : Type 0} (Asks : Manner D) (M N : Standing D) (held kept bs u v : List ℕ) (a b c : Option (List ℕ)) (d : Bool) → Fed Asks M N held kept bs u v a b true → IsWritten v b c d → Fed Asks M N held kept bs u [] a c d
+chunk_sent Asks M N held kept bs u v a b c d p q = fed_sent Asks M N held kept bs u v [] a b c d p (passed_none Asks N v [] b c d d q (λ t. (t, refl)))
+
+-- ---- what stands behind the last line feed
+
+pub rest_none : {D : Type 0} (Asks : Manner D) (M : Standing D) (line u : List ℕ) (a b : Option (List ℕ)) (d r : Bool) → r ≡ (length line == 0) → r ≡ true → IsWritten u a b d → Passed Asks M (decisive_lines line) M u [] a b d
+rest_none Asks M line u a b d r e t q =
+    subst (λ z. Passed Asks M (decisive_lines z) M u [] a b d) (sym (nil_from_length line (eqb-true (length line) 0 (sym e ∙ t)))) (passed_none Asks M u [] a b d d q (λ t. (t, refl)))
+
+one_line : (line : List ℕ) → (length line == 0) ≡ false → has_no_feed line ≡ true → decisive_lines line ≡ decisive line ∷ []
+unfolding first_of others_of
+one_line [] e h = cc
+one_line (byte ∷ held) e h =
+    ap decisive_lines (sym (append-nil (byte ∷ held))) ∙ ap (map decisive) (line_front byte held [] h) ∙ ap (λ z. decisive z ∷ []) (append-nil (byte ∷ held))
+
+rest_lines : {D : Type 0} (Asks : Manner D) (M N : Standing D) (line u w : List ℕ) (a b : Option (List ℕ)) (d r : Bool)
+    → r ≡ (length line == 0) → r ≡ false → has_no_feed line ≡ true → Passed Asks M (decisive line ∷ []) N u w a b d → Passed Asks M (decisive_lines line) N u w a b d
+rest_lines Asks M N line u w a b d r e t h p = subst (λ z. Passed Asks M z N u w a b d) (sym (one_line line (sym e ∙ t) h)) p
+
+put_decisive : {D : Type 0} (Asks : Manner D) (M N : Standing D) (line u v : List ℕ) (d : Bool) → Put Asks M line N u v d → Put Asks M (decisive line) N u v d
+put_decisive Asks M N line u v d p = record {
+  text = p.text;
+  answers = subst (λ r. Answers Asks M r p.text N) (sym (decides line)) p.answers;
+  whole = p.whole;
+  kept = p.kept;
+}
+
+pub rest_sent : {D : Type 0} (Asks : Manner D) (M N : Standing D) (line u v : List ℕ) (a b : Option (List ℕ)) (d r : Bool)
+    → r ≡ (length line == 0) → r ≡ false → has_no_feed line ≡ true → Put Asks M line N u v true → IsWritten v a b d → Passed Asks M (decisive_lines line) N u [] a b d
+rest_sent Asks M N line u v a b d r e t h p q =
+    rest_lines Asks M N line u [] a b d r e t h (passed_sent Asks M N (decisive line) u v [] a b d (put_decisive Asks M N line u v true p) (sent_written v [] a b d q (λ t. refl)))
+
+pub rest_unprinted : {D : Type 0} (Asks : Manner D) (M N : Standing D) (line u v : List ℕ) (a b : Option (List ℕ)) (r : Bool)
+    → r ≡ (length line == 0) → r ≡ false → has_no_feed line ≡ true → Put Asks M line N u v false → IsWritten v a b false → Passed Asks M (decisive_lines line) N u [] a b false
+rest_unprinted Asks M N line u v a b r e t h p q =
+    rest_lines Asks M N line u [] a b false r e t h (passed_unprinted Asks M N (decisive line) u v [] a b (put_decisive Asks M N line u v false p) q)
+
+-- ---- where a line feed stands
+
+pub no_feed_more : (bytes : List ℕ) (i : ℕ) → i < length bytes → has_no_feed (take i bytes) ≡ true → (get_or bytes i 0 ≡ 10 → ⊥) → has_no_feed (take (i + 1) bytes) ≡ true
+no_feed_more bytes i low h f =
+    let here : (get_or bytes i 0 == 10) ≡ false = no_eq (get_or bytes i 0) 10 f in
+    list_all_more (λ (x : ℕ). not (x == 10)) bytes i 0 low ∙ rw (h, here) refl
+
+pub feed_found : (bytes : List ℕ) (i : ℕ) → i < length bytes → has_no_feed (take i bytes) ≡ true → get_or bytes i 0 ≡ 10 → IsFirstFeed bytes i
+feed_found bytes i low h e = record {
+  inside = low;
+  one = h;
+  feed = rw add-one (drop-cons bytes i 0 low ∙ ap (λ z. z ∷ drop (suc i) bytes) e);
+}
+
+pub no_feed_whole : (bytes : List ℕ) (i : ℕ) → length bytes ≤ i → has_no_feed (take i bytes) ≡ true → has_no_feed bytes ≡ true
+no_feed_whole bytes i long h = ap has_no_feed (sym (take_all i bytes long)) ∙ h
+
 -- ---- reads
 
 pub consumes_more : (a b c : Option (List ℕ)) (xs ys : List ℕ) → Consumes a b xs → Consumes b c ys → Consumes a c (xs ++ ys)
@@ -269,6 +394,23 @@ talked Asks from to pinned ds others input (Some x) (Some y) a b h f p =
       read = (these.rest, ap lines_of h ∙ these.whole, λ e. cc);
     }
 
+-- the same, from where nothing was pinned
+pub talked_fed : {D : Type 0} (Asks : Manner D) (M K N : Standing D) (mid kept bytes chunk : List ℕ) (known left rest a b c : Option (List ℕ)) (n i : ℕ)
+    → M.pinned ≡ None → HasRead Asks M K mid known left a b i → Consumes left rest (take n chunk) → bytes ≡ take n chunk → Fed Asks K N mid kept bytes [] [] b c false → HasTalked Asks M.desk N.desk known a c false
+talked_fed Asks M K N mid kept bytes chunk known left rest a b c n i fresh p h e q =
+    let all : Fed Asks M N [] kept (p.input ++ bytes) [] [] a c false = fed_more Asks M K N [] mid kept p.input bytes [] [] [] a b c false p.fed q in
+    talked Asks M.desk N.desk N.pinned all.lines all.others (p.input ++ bytes) known rest a c (consumes_more known left rest p.input bytes p.consumed (subst (Consumes left rest) (sym e) h)) all.cut
+    (subst (λ z. Passed Asks (at_desk M.desk z) all.lines N [] [] a c false) fresh all.passed)
+
+pub talked_read : {D : Type 0} (Asks : Manner D) (M N : Standing D) (kept : List ℕ) (known left a b : Option (List ℕ)) (n : ℕ) → M.pinned ≡ None → HasRead Asks M N kept known left a b n → HasTalked Asks M.desk N.desk known a b false
+talked_read Asks M N kept known left a b n fresh p =
+    talked Asks M.desk N.desk N.pinned p.fed.lines p.fed.others p.input known left a b p.consumed p.fed.cut
+    (subst (λ z. Passed Asks (at_desk M.desk z) p.fed.lines N [] [] a b false) fresh (passed_short Asks M N p.fed.lines [] [] [] a b p.fed.passed))
+
+-- nothing was read
+pub talked_nothing : {D : Type 0} (Asks : Manner D) (M : Standing D) (known a : Option (List ℕ)) → M.pinned ≡ None → HasTalked Asks M.desk M.desk known a a false
+talked_nothing Asks M known a fresh = talked_read Asks M M [] known known a a 0 fresh (read_none Asks M [] known a refl)
+
 -- all that there was
 pub talked_whole : {D : Type 0} (Asks : Manner D) (from to : D) (pinned : Option Snapshot) (input : List ℕ) (known left a b : Option (List ℕ)) (d : Bool)
     → Consumes known left input → IsAtEnd left → Passed Asks (at_desk from None) (decisive_lines input) (at_desk to pinned) [] [] a b d → HasTalked Asks from to known a b d
@@ -282,3 +424,32 @@ talked_whole Asks from to pinned input known left a b d h e p = record {
   at_end None l g c = tt
   at_end (Some x) None g c = absurd g
   at_end (Some x) (Some y) g c = ([], ap lines_of (g ∙ ap (λ z. input ++ z) c ∙ append-nil input) ∙ sym (append-nil (lines_of input)), λ t. refl)
+
+-- to the end
+pub talked_all : {D : Type 0} (Asks : Manner D) (M K N : Standing D) (kept chunk : List ℕ) (known left rest a b c : Option (List ℕ)) (i n : ℕ) (d : Bool)
+    → M.pinned ≡ None → HasRead Asks M K kept known left a b i → n ≡ 0 → Consumes left rest (take n chunk) → IsAtEnd rest → Passed Asks K (decisive_lines kept) N [] [] b c d → HasTalked Asks M.desk N.desk known a c d
+talked_all Asks M K N kept chunk known left rest a b c i n d fresh p z h e q =
+    let same : decisive_lines p.input ≡ p.fed.lines ++ decisive_lines kept =
+        ap decisive_lines (sym (append-nil p.input)) ∙ p.fed.cut [] ∙ ap (λ z. p.fed.lines ++ z) (p.fed.goes_on refl [] ∙ ap decisive_lines (append-nil kept)) in
+    let all : Passed Asks M (p.fed.lines ++ decisive_lines kept) N [] [] a c d = passed_more Asks M K N p.fed.lines (decisive_lines kept) [] [] [] a b c d p.fed.passed q in
+    let read : Consumes known rest p.input = subst (λ z. Consumes known rest z) (append-nil p.input) (consumes_more known left rest p.input [] p.consumed (consumes_end left rest chunk n z h)) in
+    talked_whole Asks M.desk N.desk N.pinned p.input known rest a c d read e
+    (subst (λ z. Passed Asks (at_desk M.desk z) (decisive_lines p.input) N [] [] a c d) fresh (subst (λ z. Passed Asks M z N [] [] a c d) (sym same) all))
+
+-- ---- why it stops
+
+-- no read failed, and the writer counted
+pub cause_counted : (known : Option (List ℕ)) (r s w v u : ℕ) (res : Result (Unit {0}) Refusal) → s ≡ r → v ≡ w → IsCounted v u res → IsCause (r, s) (w, u) known res
+cause_counted known r s w v u (Ok x) e k h = (e, h ∙ k)
+cause_counted known r s w v u (Err refusal.WriteFault) e k h = (e, subst (λ z. z < u) k h)
+cause_counted known r s w v u (Err refusal.OutOfMemory) e k h = (e, h ∙ k)
+cause_counted known r s w v u (Err _) e k h = absurd h
+
+pub if_ok : {A E : Type 0} (res : Result A E) (P : Type 0) → P → OnOk res P
+if_ok (Ok x) P p = p
+if_ok (Err x) P p = tt
+
+-- as many reads as there may be
+pub cause_reads : {D : Type 0} (Asks : Manner D) (M N : Standing D) (kept : List ℕ) (known left a b : Option (List ℕ)) (n r s w u : ℕ)
+    → HasRead Asks M N kept known left a b n → most_reads ≤ n → u ≡ w → ((r < s) ⊎ IfSome known (λ input. most_reads ≤ length input)) × (u ≡ w)
+cause_reads Asks M N kept known left a b n r s w u p h e = (inr (read_so_many Asks M N kept known left a b n p h), e)

@@ -1,6 +1,6 @@
 -- Laws of talks: answers written in turn come together, and a line reads as the bytes do that decide it.
 use Rattle.std.proofs.Common.{◌≡◌, ◌⊎◌, ℕ, ◌+◌, ◌≤◌, ◌<◌, Bool, true, false, not, ◌&&◌, ◌==◌, cond, List, [], ◌∷◌, ◌++◌, length, take, drop, map, Option, Some, None, IfSome, Result, Ok, Err, refl, sym, ◌∙◌, ap, subst, append_assoc, IfOk, MatchResult, arith, inl, inr}
-use Rattle.std.specs.Prelude.{nat_lt, nat_le}
+use Rattle.std.specs.Prelude.{nat_lt, nat_le, OnOk, is_ok}
 use Rattle.std.proofs.lemmas.Bool.{eqb-true}
 use Rattle.std.proofs.lemmas.Bool.Decides.{nat_tests}
 use Rattle.std.proofs.lemmas.List.{append-nil, take-append-drop, take_all, length-take-le}
@@ -225,10 +225,26 @@ passed_short Asks M N lines u v w a b p = record {
   whole = λ e. cc;
 }
 
+-- where it is not done, what waits then does not matter
+pub passed_failed : {D : Type 0} (Asks : Manner D) (M N : Standing D) (lines : List (List ℕ)) (u v w : List ℕ) (a b : Option (List ℕ)) → Passed Asks M lines N u v a b false → Passed Asks M lines N u w a b false
+passed_failed Asks M N lines u v w a b p = record {
+  text = p.text;
+  written = p.written;
+  unwritten = p.unwritten;
+  talk = p.talk;
+  split = p.split;
+  appended = p.appended;
+  whole = λ e. cc;
+}
+
 -- ---- writing
 
 pub written_short : (text : List ℕ) (a b : Option (List ℕ)) (d : Bool) → IsWritten text a b d → IsWritten text a b false
 written_short text a b d w = record { written = w.written; unwritten = w.unwritten; split = w.split; appended = w.appended; whole = λ e. cc }
+
+pub on_ok : {A E : Type 0} (r : Result A E) (P : Type 0) → OnOk r P → is_ok r ≡ true → P
+on_ok (Ok x) P h e = h
+on_ok (Err x) P h e = cc
 
 pub write_more : (text rest left : List ℕ) (n : ℕ) (a b c : Option (List ℕ)) → (written : List ℕ) × (text ≡ written ++ rest) × Appends a b written
     → Appends b c (take n rest) → left ≡ drop n rest → (written : List ℕ) × (text ≡ written ++ left) × Appends a c written

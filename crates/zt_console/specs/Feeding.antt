@@ -61,9 +61,9 @@ pub record Fed {D : Type 0} (Asks : Manner D) (M N : Standing D) (held kept byte
   pub cut : (more : List ℕ) → decisive_lines (held ++ (bytes ++ more)) ≡ lines ++ others more
   pub goes_on : done ≡ true → (more : List ℕ) → others more ≡ decisive_lines (kept ++ more)
 
--- what was read so far, at least a byte in each of so many reads, and how it was answered
-pub record HasRead {D : Type 0} (Asks : Manner D) (M N : Standing D) (kept waits : List ℕ) (known left before after : Option (List ℕ)) (reads : ℕ) : Type 0 where
+-- what was read so far, at least a byte in each of so many reads, and how it was answered; nothing waits
+pub record HasRead {D : Type 0} (Asks : Manner D) (M N : Standing D) (kept : List ℕ) (known left before after : Option (List ℕ)) (reads : ℕ) : Type 0 where
   pub input : List ℕ
   pub consumed : Consumes known left input
-  pub fed : Fed Asks M N [] kept input [] waits before after true
+  pub fed : Fed Asks M N [] kept input [] [] before after true
   pub many : reads ≤ length input

@@ -1,6 +1,6 @@
 -- What a run reads and writes, and why it stops. This project's own.
-use Rattle.std.specs.Prelude.{◌≡◌, ◌⊎◌, ℕ, ◌<◌, ◌≤◌, ◌^◌, Bool, true, List, [], ◌++◌, length, Option, IfSome, Result, Ok, Err, None}
-use Rattle.std.specs.Io.KnownBytes.{Appends}
+use Rattle.std.specs.Prelude.{◌≡◌, ◌⊎◌, ℕ, ◌<◌, ◌≤◌, ◌^◌, Bool, true, List, [], ◌++◌, length, take, Option, IfSome, Result, Ok, Err, None}
+use Rattle.std.specs.Io.KnownBytes.{Appends, Consumes, IsAtEnd}
 use Rattle.zt_rows.specs.declared.refusals.Refusal.{Refusal}
 use Rattle.zt_rows.specs.declared.refusals.Refusal.TheVariants as refusal
 use Rattle.zt_console.specs.declared.running.End.{End}
@@ -49,6 +49,14 @@ pub record IsSent (waited waits : List ℕ) (before after : Option (List ℕ)) (
   pub split : waited ≡ written ++ unwritten
   pub appended : Appends before after written
   pub whole : done ≡ true → unwritten ≡ waits
+
+-- ---- what is read
+
+-- a read gave the first so many bytes of a buffer, and none at the end of the input alone
+pub record IsRead (left rest : Option (List ℕ)) (bytes : List ℕ) (count : ℕ) : Type 0 where
+  pub within : count ≤ length bytes
+  pub consumed : Consumes left rest (take count bytes)
+  pub ended : count ≡ 0 → 0 < length bytes → IsAtEnd rest
 
 -- ---- failures
 

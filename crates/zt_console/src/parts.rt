@@ -39,10 +39,12 @@ impl Part {
         requires { has_no_feed bytes.now ≡ true }
         ensures ok { OnOk result (self.new ≡ decisive (self.old ++ bytes.now)) }
         ensures err { OnErr result (self.new ≡ self.old) }
+        ensures one { has_no_feed self.old ≡ true }
     {
         let room = DECISIVE - self.bytes.len();
         let (kept, _) = bytes.split_at(room.min(bytes.len()));
-        self.bytes.extend_from_slice(kept)
+        self.bytes.extend_from_slice(kept)?;
+        Ok(())
     }
 
     /// What is kept of the line.

@@ -1,13 +1,13 @@
-ghost use Rattle.std.specs.Prelude.{◌≡◌, ◌<◌, ◌≤◌, ◌-◌, ◌^◌, is_ok, OnOk};
+ghost use Rattle.std.specs.Prelude.{◌≡◌, ◌<◌, ◌≤◌, ◌-◌, ◌^◌, length, is_ok, None, IfOk, OnOk, OnErr};
 ghost use Rattle.std.specs.Io.KnownBytes.{IsAtEnd};
-ghost use Rattle.zt_console.specs.Running.{HasTalked, IsCause};
+ghost use Rattle.zt_console.specs.Running.{HasTalked, IsCause, IsRead};
 
 use crate::counted::Counted;
 use crate::desks::Desk;
 use crate::feeding::{answer_chunk, answer_rest};
 use crate::parts::Part;
 use crate::talking::Standing;
-use std::alloc::Global;
+use std::alloc::{AllocError, Global};
 use std::io::{Read, Write};
 use zt_rows::Refusal;
 
@@ -63,13 +63,13 @@ fn answer_chunks<D: Desk, R: Read, W: Write>(
     ensures cause { IsCause (reader.old.1, reader.new.1) (writer.old.1, writer.new.1) (R.remaining reader.old.0) result }
     ensures ready { D.ready client.new.desk }
 {
-    let Ok(mut chunk) = vec![in alloc; 0u8; CHUNK] else {
+    let Ok(mut chunk) = buffer(alloc, CHUNK) else {
         return Err(Refusal::OutOfMemory);
     };
     let mut part = Part::new(alloc);
     let mut waiting = Vec::new(alloc);
     for _ in 0..READS {
-        let Ok(count) = reader.read(chunk.as_mut_slice()) else {
+        let Ok(count) = read_some(reader, &mut chunk) else {
             return Err(Refusal::ReadFault);
         };
         if count == 0 {
@@ -82,4 +82,25 @@ fn answer_chunks<D: Desk, R: Read, W: Write>(
         }
     }
     Err(Refusal::ReadFault)
+}
+
+/// So many bytes to be read into.
+fn buffer(alloc: Global, size: usize) -> Result<Vec<u8>, AllocError>
+    ensures { IfOk result (λ bytes. length bytes.items ≡ size) }
+{
+    vec![in alloc; 0u8; size]
+}
+
+/// Reads into the front of the buffer, and tells how many bytes; none at the end of the input alone.
+fn read_some<R: Read>(reader: &mut Counted<R>, bytes: &mut Vec<u8>) -> Result<usize, Refusal>
+    requires { reader.old.1 < 2 ^ 64 - 1 }
+    ensures room { length bytes.new.items ≡ length bytes.old.items }
+    ensures ok { IfOk result (IsRead (R.remaining reader.old.0) (R.remaining reader.new.0) bytes.new.items) }
+    ensures same { OnOk result (reader.new.1 ≡ reader.old.1) }
+    ensures counted { OnErr result (reader.old.1 < reader.new.1) }
+{
+    match reader.read(bytes.as_mut_slice()) {
+        Ok(count) => Ok(count),
+        Err(_) => Err(Refusal::ReadFault),
+    }
 }

@@ -1,7 +1,5 @@
 -- What is taken is all that decides the line, or all that there is.
-use Rattle.std.proofs.Common.{◌≡◌, ◌++◌, ◌+◌, ◌-◌, ◌≤◌, ◌<◌, ℕ, List, length, take, min, ap, sym, ◌∙◌, arith, true, false}
-use Rattle.std.specs.Prelude.{nat_le}
-use Rattle.std.proofs.lemmas.Bool.Decides.{nat_tests}
+use Rattle.std.proofs.Common.{◌≡◌, ◌++◌, ◌+◌, ◌-◌, ◌≤◌, ◌<◌, ℕ, List, length, take, min, ap, sym, ◌∙◌, arith}
 use Rattle.std.proofs.lemmas.List.{take_min}
 use Rattle.std.proofs.Math.Seq.{take-append-add}
 use Rattle.zt_console.specs.Feeding.{decisive}
@@ -15,4 +13,5 @@ taken old bytes kept n short e k =
 
 pub returns-clause-ok : goal.returns-clause-ok
 returns-clause-ok c =
-    taken c.args.self.now c.args.bytes.now c.split_at.result.0.now c.min.result ? ? c.split_at.ensures.front
+    c.in_ok-extend_from_slice.ensures.items
+    ∙ taken c.args.self.now c.args.bytes.now c.split_at.result.0.now c.min.result c.self.invariant.short (rw c.len-room.ensures at c.min.ensures) c.split_at.ensures.front
