@@ -1,4 +1,4 @@
-ghost use Rattle.std.specs.Prelude.{◌≡◌, ◌++◌, [], true, OnOk, OnErr};
+ghost use Rattle.std.specs.Prelude.{◌≡◌, ◌++◌, ◌≤◌, [], true, length, OnOk, OnErr};
 ghost use Rattle.zt_console.specs.Feeding.{decisive, has_no_feed};
 
 use std::alloc::{AllocError, Global};
@@ -41,7 +41,7 @@ impl Part {
         ensures err { OnErr result (self.new ≡ self.old) }
         ensures one { has_no_feed self.old ≡ true }
     {
-        let room = DECISIVE - self.bytes.len();
+        let room = DECISIVE - self.bytes().len();
         let (kept, _) = bytes.split_at(room.min(bytes.len()));
         self.bytes.extend_from_slice(kept)?;
         Ok(())
@@ -51,6 +51,7 @@ impl Part {
     pub(crate) fn bytes(&self) -> &[u8]
         ensures value { result.now ≡ self.now }
         ensures one { has_no_feed self.now ≡ true }
+        ensures short { length self.now ≤ 140001 }
     {
         self.bytes.as_slice()
     }

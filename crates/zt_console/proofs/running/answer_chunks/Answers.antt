@@ -1,5 +1,5 @@
 -- What was read and answered so far goes on with each chunk, to the end or to where it stops.
-use Rattle.std.proofs.Common.{◌<◌, ◌∙◌, refl, arith, length}
+use Rattle.std.proofs.Common.{◌<◌, ◌∙◌, Err, refl, arith, length}
 use Rattle.zt_console.proofs.FeedLaws.{read_none, read_chunk, talked_nothing, talked_read, talked_fed, talked_all, cause_counted, cause_reads, if_ok}
 use Rattle.zt_console.proofs.running.answer_chunks.Goals as goal
 
@@ -42,7 +42,8 @@ returns-in-Err-clause-talk g c =
 
 pub returns-in-Err-clause-cause : goal.returns-in-Err-clause-cause
 returns-in-Err-clause-cause g c =
-    cause_counted _ _ _ _ c.loop.writer.1 _ _ (c.in-Ok-read_some.ensures.same ∙ c.loop.invariant.reads) c.loop.invariant.writes c.in-Err.ensures.counted
+    cause_counted (g.R.Read.remaining c.args.reader.now.0) c.args.reader.now.1 c.read_some.new.reader.1 c.args.writer.now.1 c.loop.writer.1 c.answer_chunk.new.writer.1 (Err c.in-Err.refusal)
+    (c.in-Ok-read_some.ensures.same ∙ c.loop.invariant.reads) c.loop.invariant.writes c.in-Err.ensures.counted
 
 pub loop-preserved : goal.loop-preserved
 loop-preserved g c = record {

@@ -13,5 +13,8 @@ taken old bytes kept n short e k =
 
 pub returns-clause-ok : goal.returns-clause-ok
 returns-clause-ok c =
-    c.in_ok-extend_from_slice.ensures.items
-    ∙ taken c.args.self.now c.args.bytes.now c.split_at.result.0.now c.min.result c.self.invariant.short (rw c.len-room.ensures at c.min.ensures) c.split_at.ensures.front
+    let count : c.min.result ≡ min (140001 - length c.self.inside.bytes.items) (length c.args.bytes.now) =
+        cc (c.bytes.ensures.value, c.self.view_is, c.min.ensures) in
+    let all : c.self.inside.bytes.items ++ c.split_at.result.0.now ≡ decisive (c.self.inside.bytes.items ++ c.args.bytes.now) =
+        taken c.self.inside.bytes.items c.args.bytes.now c.split_at.result.0.now c.min.result c.self.invariant.short count c.split_at.ensures.front in
+    cc (c.self.view_is, c.in_ok-extend_from_slice.ensures.items, all)
