@@ -1,11 +1,11 @@
 -- No two rows have one line: a reader of rows gives each row back from its line.
-use Rattle.std.proofs.Common.{lit<, lit≤, ◌≡◌, ℕ, ◌-◌, ◌^◌, ◌<◌, ◌≤◌, Bool, true, false, List, [], ◌∷◌, ◌++◌, map, drop, Option, Some, None, Result, Ok, Err, refl, sym, ap, ◌∙◌, arith, All, append_assoc}
+use Rattle.std.proofs.Common.{lit<, lit≤, ◌≡◌, ℕ, ◌-◌, ◌^◌, ◌<◌, true, false, List, [], ◌∷◌, ◌++◌, map, drop, Option, Some, None, Result, Ok, refl, sym, ap, ◌∙◌, arith, All, append_assoc}
 use Rattle.std.specs.Prelude.{codes, ◌==◌, not, if◌then◌else◌}
 use Rattle.std.specs.Char.{is_ascii_digit}
 use Rattle.std.specs.Str.{bytes_eq}
 use Rattle.std.specs.Option.{option_map}
 use Rattle.std.specs.List.{list_all, join_with_byte}
-use Rattle.std.specs.Fmt.{decimal, signed_decimal}
+use Rattle.std.specs.Fmt.{decimal}
 use Rattle.std.proofs.lemmas.Bool.Decides.{nat_tests}
 use Rattle.std.proofs.lemmas.Fmt.{decimal_is_IsNumeral}
 use Rattle.std.proofs.lemmas.List.Elements.{All-head, All-tail}
@@ -15,7 +15,6 @@ use Rattle.zt_bits.specs.declared.kinds.Kind.TheVariants as kind
 use Rattle.zt_bits.specs.declared.right_bits.Rights.{Rights}
 use Rattle.zt_bits.specs.Words.{kind_word}
 use Rattle.zt_rows.specs.declared.refusals.Refusal.{Refusal}
-use Rattle.zt_rows.specs.declared.refusals.Refusal.TheVariants.{BadLine}
 use Rattle.zt_rows.specs.declared.keys.RowKey.{RowKey}
 use Rattle.zt_rows.specs.declared.keys.RowKey.TheVariants as key
 use Rattle.zt_rows.specs.declared.rows.Held.{Held}
@@ -28,10 +27,10 @@ use Rattle.zt_rows.specs.declared.rows.Row.TheVariants as rows
 use Rattle.zt_rows.specs.Room.{suits}
 use Rattle.zt_text.specs.Numbers.{is_hex_digit, decimal_of, koid_of, key_of, handle_of, code_of, mask_of, signals_of}
 use Rattle.zt_text.specs.Bytes.{hex_bytes, hex_text}
-use Rattle.zt_text.specs.Fields.{Placed, Unread, ◌>>=◌, next, field, placed, unread, parts_of, fields_of}
+use Rattle.zt_text.specs.Fields.{Unread, ◌>>=◌, next, field, placed, unread, parts_of, fields_of}
 use Rattle.zt_text.specs.Lines.{lines_of}
 use Rattle.zt_text.specs.Shown.{words, hexadecimal, shown_mask, shown_bytes, shown_list, shown_held}
-use Rattle.zt_text.specs.Answers.{shown_key, shown_life, shown_row, row_line}
+use Rattle.zt_text.specs.Answers.{shown_life, row_line}
 use Rattle.zt_text.specs.Calls.{IsByte}
 use Rattle.zt_text.specs.Rows.{IsKeyWithin, IsHeldWithin, IsLifeWithin, IsPacketWithin, IsRowWithin}
 use Rattle.zt_text.proofs.ShownFields.{decimal_read, decimal_digits, mask_read, mask_digits_shown, code_read, digits_of, not_dash}
@@ -41,7 +40,7 @@ use Rattle.zt_text.proofs.RowWords.{key_word, key_numbers, row_word, row_words, 
 
 -- ---- the forms of a row's fields
 
-rights_of : List ℕ → Option Rights
+abbrev rights_of : List ℕ → Option Rights
 rights_of text = option_map (λ n. record { 0 = n }) (mask_of text)
 
 unfoldable kind_of : List ℕ → Option Kind
@@ -62,7 +61,7 @@ life_of text =
 unfoldable any_bytes_of : List ℕ → Option (List ℕ)
 any_bytes_of text = if bytes_eq text (codes "-") then Some [] else Some (hex_bytes text)
 
-both : Option ℕ → Option ℕ → Option Held
+abbrev both : Option ℕ → Option ℕ → Option Held
 both (Some koid) (Some rights) = Some (record { koid = koid; rights = record { 0 = rights } })
 both _ _ = None
 
@@ -281,11 +280,18 @@ row_line_read k r fits of_key of_row =
     parts_joined 32 (key_word k) others (free_seen 32 (lit≤ tt) (key_word k) seen.0) (all_free others seen.1) in
     rw fields (row_read k r fits of_key of_row 1 _)
 
+one_read : (read : Result (RowKey × Row) Refusal) (x y : RowKey × Row) → read ≡ Ok x → read ≡ Ok y → x ≡ y
+one_read read x y first second = cc
+
+same_read : (read : Result (RowKey × Row) Refusal) (k j : RowKey) (r s : Row) → read ≡ Ok (k, r) → read ≡ Ok (j, s) → (k ≡ j) × (r ≡ s)
+same_read read k j r s first second =
+    let pair = one_read read (k, r) (j, s) first second in
+    (ap (λ (x : RowKey × Row). x.0) pair, ap (λ (x : RowKey × Row). x.1) pair)
+
 same_row : (k j : RowKey) (r s : Row) (x y : List ℕ) → row_of (unread x) ≡ Ok (k, r) → row_of (unread y) ≡ Ok (j, s) → x ∷ [] ≡ y ∷ [] → (k ≡ j) × (r ≡ s)
 same_row k j r s x y first second same =
     let text : x ≡ y = cc in
-    let both_read : Ok {E = Refusal} (k, r) ≡ Ok (j, s) = sym first ∙ ap (λ t. row_of (unread t)) text ∙ second in
-    (cc, cc)
+    same_read (row_of (unread x)) k j r s first (ap (λ t. row_of (unread t)) text ∙ second)
 
 -- two rows have two lines
 pub row_lines_differ : (k j : RowKey) (r s : Row) → suits k r ≡ true → suits j s ≡ true → IsKeyWithin k → IsKeyWithin j → IsRowWithin r → IsRowWithin s

@@ -1,8 +1,7 @@
 -- The words of a row's line: the words that its key and the row show, in turn, each of visible bytes.
-use Rattle.std.proofs.Common.{lit<, lit≤, ◌≡◌, ℕ, ◌^◌, ◌<◌, ◌≤◌, Bool, true, false, List, [], ◌∷◌, ◌++◌, map, refl, sym, ap, ◌∙◌, arith, All, append_assoc}
-use Rattle.std.specs.Prelude.{codes, ⊤, ◌==◌, not, nat_lt}
-use Rattle.std.specs.List.{list_all, join_with_byte}
-use Rattle.std.specs.Fmt.{decimal, signed_decimal}
+use Rattle.std.proofs.Common.{◌≡◌, ℕ, ◌^◌, ◌<◌, true, List, [], ◌∷◌, ◌++◌, map, refl, ap, ◌∙◌, arith, All, append_assoc}
+use Rattle.std.specs.Prelude.{codes, nat_lt}
+use Rattle.std.specs.Fmt.{decimal}
 use Rattle.std.proofs.lemmas.List.Elements.{All-head, All-tail}
 use Rattle.std.proofs.lemmas.List.Folds.{list_all-append}
 use Rattle.zt_bits.specs.declared.kinds.Kind.{Kind}
@@ -19,7 +18,6 @@ use Rattle.zt_rows.specs.declared.rows.Row.{Row}
 use Rattle.zt_rows.specs.declared.rows.Row.TheVariants as rows
 use Rattle.zt_text.specs.Shown.{words, shown_mask, shown_bytes, shown_list, shown_held}
 use Rattle.zt_text.specs.Answers.{shown_packet, shown_key, shown_life, shown_object, shown_wait, shown_queued, shown_row}
-use Rattle.zt_text.specs.Calls.{IsKey, IsHandle}
 use Rattle.zt_text.specs.Rows.{IsKeyWithin, IsHeldWithin, IsLifeWithin, IsPacketWithin, IsRowWithin}
 use Rattle.zt_text.proofs.ShownWords.{is_seen, AreSeen, seen_decimal, seen_code, seen_mask, seen_bytes, seen_joined}
 

@@ -1,6 +1,5 @@
 -- The session text of calls reads as those calls.
-use Rattle.std.proofs.Common.{◌≡◌, ℕ, ◌+◌, ◌^◌, ◌<◌, List, [], ◌∷◌, ◌++◌, map, Some, Ok, refl, sym, ap, ◌∙◌, All, append_assoc}
-use Rattle.std.specs.Prelude.{codes}
+use Rattle.std.proofs.Common.{◌≡◌, ℕ, ◌+◌, List, [], ◌∷◌, map, Some, Ok, refl, ap, ◌∙◌, All, append_assoc}
 use Rattle.std.specs.List.{flat_map}
 use Rattle.std.proofs.lemmas.List.Elements.{All-head, All-tail}
 use Rattle.zt_rows.specs.declared.calls.Call.{Call}
@@ -10,7 +9,7 @@ use Rattle.zt_text.specs.Session.{call_in, calls_in, session_of}
 use Rattle.zt_text.proofs.LineLemmas.{line_written}
 use Rattle.zt_text.proofs.ShownCalls.{call_line_free, call_line_kept, call_line_made}
 
-line_of : ℕ × Call → List ℕ
+abbrev line_of : ℕ × Call → List ℕ
 line_of made = shown_call made.0 made.1
 
 lines_shown : (calls : List (ℕ × Call)) → All IsCalled calls → lines_of (flat_map call_line calls) ≡ map line_of calls

@@ -1,5 +1,5 @@
 -- The line of a call is not too long.
-use Rattle.std.proofs.Common.{lit<, lit≤, ◌≡◌, ℕ, suc, ◌+◌, ◌*◌, ◌-◌, ◌^◌, ◌<◌, ◌≤◌, true, false, List, [], ◌∷◌, ◌++◌, length, map, ℤ, pos, negsuc, refl, arith, All, length-append}
+use Rattle.std.proofs.Common.{lit<, lit≤, ◌≡◌, ℕ, suc, ◌+◌, ◌*◌, ◌^◌, ◌<◌, ◌≤◌, true, false, List, [], ◌∷◌, length, map, ℤ, pos, negsuc, arith, All, length-append}
 use Rattle.std.specs.Prelude.{nat_lt}
 use Rattle.std.specs.List.{join_with_byte}
 use Rattle.std.specs.Fmt.{decimal, signed_decimal}
@@ -9,8 +9,7 @@ use Rattle.std.proofs.lemmas.List.Elements.{All-head, All-tail}
 use Rattle.zt_rows.specs.declared.calls.Call.{Call}
 use Rattle.zt_rows.specs.declared.calls.Call.TheVariants as calls
 use Rattle.zt_text.specs.Shown.{words, shown_mask, shown_bytes, shown_list}
-use Rattle.zt_text.specs.Bytes.{hex_text}
-use Rattle.zt_text.specs.Calls.{IsByte, IsHandle, IsCode, IsWithin, call_name, call_arguments, shown_call}
+use Rattle.zt_text.specs.Calls.{IsByte, IsHandle, IsCode, IsWithin, call_name, call_arguments}
 use Rattle.zt_text.proofs.ShownFields.{mask_length, digits_of}
 
 -- a place for each byte of the words, and one behind each word

@@ -1,5 +1,5 @@
 -- Lines that were read and shown by hand, as theorems.
-use Rattle.std.proofs.Common.{◌≡◌, ℕ, [], ◌∷◌, ◌++◌, Some, None, Ok, Err, refl}
+use Rattle.std.proofs.Common.{◌≡◌, ℕ, List, [], ◌∷◌, ◌++◌, Some, None, Ok, Err, refl}
 use Rattle.std.specs.Prelude.{codes, pos, negsuc, ⊤, true, false, replicate}
 use Rattle.std.specs.List.{flat_map}
 use Rattle.std.specs.Fmt.{digits}
@@ -22,8 +22,9 @@ use Rattle.zt_text.specs.Bytes.{hex_bytes, bytes_of, packet_bytes_of}
 use Rattle.zt_text.specs.Lists.{listed, handles_of}
 use Rattle.zt_text.specs.Names.{name_of, happening_of}
 use Rattle.zt_text.specs.Fields.{placed, field, flag, ended}
-use Rattle.zt_text.specs.ReadingCalls.{event_create, eventpair_create, handle_close, handle_duplicate, handle_replace, object_signal, object_signal_peer, channel_create, channel_write, channel_read, port_create, object_wait_async, port_queue, port_wait, port_cancel, job_create, spawn, task_kill, process_exit, task_call_named, port_call_named, channel_call_named, handle_call_named, call_named, any_call_named, call}
-use Rattle.zt_text.specs.Reading.{fields_in, back, show, goto, only_name, branch, follow, holders, leaks, when, pin, question_named, plain_command_named, command_named, pinned_show, pinned_holders, pinned_leaks, pinned_named, pinned, word_named, asked_by, is_skipped, read_as}
+use Rattle.zt_text.specs.ReadingCalls.{event_create, eventpair_create, handle_close, handle_duplicate, handle_replace, object_signal, object_signal_peer, channel_create, channel_write, channel_read, port_create, object_wait_async, port_queue, port_wait, port_cancel, job_create, spawn, task_kill, process_exit, task_call_named, port_call_named, channel_call_named, handle_call_named, call_named, any_call_named, call, process_call}
+use Rattle.zt_text.specs.Reading.{fields_in, back, show, goto, only_name, branch, follow, holders, leaks, when, pin, question_named, plain_command_named, command_named, pinned_show, pinned_holders, pinned_leaks, pinned_named, pinned, word_named, asked_by, read_as}
+use Rattle.zt_text.specs.Session.{call_in, calls_in, session_of}
 use Rattle.zt_text.specs.Shown.{hexadecimal}
 use Rattle.zt_text.specs.Answers.{shown_reply, shown_key, shown_object, shown_row, shown_answer, shown_refusal}
 use Rattle.zt_text.specs.Lines.{lines_of}
@@ -343,3 +344,34 @@ shows_refusals = (refl, refl)
 -- a last line without a line feed counts where it is not empty
 lines : (lines_of (97 ∷ 10 ∷ 10 ∷ 98 ∷ []) ≡ (97 ∷ []) ∷ [] ∷ (98 ∷ []) ∷ []) × (lines_of (97 ∷ 10 ∷ []) ≡ (97 ∷ []) ∷ [])
 lines = (refl, refl)
+
+-- session texts: their first line, skipped lines, which are counted, and faults
+abbrev line_end : List ℕ → List ℕ
+line_end line = line ++ 10 ∷ []
+
+record Sessions : Type 0 where
+  empty : session_of [] ≡ Err (1, BadLine 1)
+  other_version : session_of (codes "zxtt 2") ≡ Err (1, BadLine 1)
+  comment_first : session_of (line_end (codes "# x") ++ codes "zxtt 1") ≡ Err (1, BadLine 1)
+  space_behind : session_of (codes "zxtt 1 ") ≡ Err (1, BadLine 1)
+  no_calls : session_of (codes "zxtt 1") ≡ Ok []
+  two_calls : session_of (line_end (codes "zxtt 1") ++ (line_end (codes "1025 event_create") ++ codes "1025 handle_close 7")) ≡ Ok ((1025, calls.EventCreate) ∷ (1025, calls.HandleClose 7) ∷ [])
+  skipped : session_of (line_end (codes "zxtt 1") ++ (10 ∷ (line_end (codes "# x") ++ codes "1025 port_create"))) ≡ Ok ((1025, calls.PortCreate) ∷ [])
+  command : session_of (line_end (codes "zxtt 1") ++ codes "show") ≡ Err (2, BadLine 1)
+  faulty_command : session_of (line_end (codes "zxtt 1") ++ codes "goto x") ≡ Err (2, BadLine 1)
+  counted : session_of (line_end (codes "zxtt 1") ++ (10 ∷ (line_end (codes "# x") ++ codes "1025 handle_close x"))) ≡ Err (4, BadLine 19)
+
+reads_sessions : Sessions
+unfolding read_on_literals process_call call_in calls_in session_of
+reads_sessions = record {
+  empty = refl;
+  other_version = refl;
+  comment_first = refl;
+  space_behind = refl;
+  no_calls = refl;
+  two_calls = refl;
+  skipped = refl;
+  command = refl;
+  faulty_command = refl;
+  counted = refl;
+}

@@ -1,5 +1,5 @@
 -- Keys and rows whose numbers, masks and bytes are those that a key and a row can have.
-use Rattle.std.specs.Prelude.{ℕ, ⊤, ◌^◌, ◌<◌}
+use Rattle.std.specs.Prelude.{⊤}
 use Rattle.std.specs.List.{All}
 use Rattle.zt_rows.specs.declared.keys.RowKey.{RowKey}
 use Rattle.zt_rows.specs.declared.keys.RowKey.TheVariants as key

@@ -62,7 +62,11 @@ fn print_name(alloc: Global, word: &str, name: &[u8], moment: Moment) -> Result<
 }
 
 /// The rows at a moment.
-fn print_rows_at(alloc: Global, moment: Moment, rows: &[(RowKey, Row)]) -> Result<Vec<u8>, AllocError>
+fn print_rows_at(
+    alloc: Global,
+    moment: Moment,
+    rows: &[(RowKey, Row)],
+) -> Result<Vec<u8>, AllocError>
     ensures { IfOk result (λ text. text.items ≡ heading (codes "rows") moment (length rows.now) ++ flat_map row_line rows.now) }
 {
     let mut text = String::new(alloc);
@@ -100,7 +104,11 @@ fn put_support(text: &mut String, support: Support) -> Result<(), AllocError>
 }
 
 /// The leaked objects at a moment.
-fn print_leaks(alloc: Global, moment: Moment, leaked: &[(Koid, Kind)]) -> Result<Vec<u8>, AllocError>
+fn print_leaks(
+    alloc: Global,
+    moment: Moment,
+    leaked: &[(Koid, Kind)],
+) -> Result<Vec<u8>, AllocError>
     ensures { IfOk result (λ text. text.items ≡ heading (codes "leaks") moment (length leaked.now) ++ flat_map leak_line leaked.now) }
 {
     let mut text = String::new(alloc);

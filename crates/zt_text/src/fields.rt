@@ -13,7 +13,7 @@ use crate::names::{Name, happening};
 use crate::numbers::{code, decimal, mask};
 use std::marker::Model;
 use zt_bits::Signals;
-use zt_rows::{Happening, HandleValue, Koid, Moment, Refusal};
+use zt_rows::{HandleValue, Happening, Koid, Moment, Refusal};
 
 /// A field of a line, with the column at which it begins.
 #[derive(Drop)]

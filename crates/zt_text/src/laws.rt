@@ -19,8 +19,9 @@ ghost use Rattle.zt_text.specs.Shown.{shown_mask, shown_bytes, shown_list};
 ghost use Rattle.zt_text.specs.Calls.{IsByte, IsHandle, IsCode, IsWithin, IsCalled, shown_call, session_text};
 
 use crate::within::{
-    bytes_are_within, code_is_within, handle_is_within, handles_are_within, handles_held_are_within, held_is_within,
-    key_is_within, life_is_within, mask_is_within, packet_is_within,
+    bytes_are_within, code_is_within, handle_is_within, handles_are_within,
+    handles_held_are_within, held_is_within, key_is_within, life_is_within, mask_is_within,
+    packet_is_within,
 };
 use zt_rows::{Call, Koid, Row, RowKey};
 
@@ -212,7 +213,6 @@ fn every_key_is_within(key: RowKey)
 }
 
 /// No two rows, each under a key of its variant, have one line.
-#[tactic(auto, using(crate::proofs::RowLines::row_lines_differ))]
 pub fn rows_have_lines_of_their_own()
     ensures { (key other : RowKey) (row shown : Row) → suits key row ≡ true → suits other shown ≡ true
         → IsKeyWithin key → IsKeyWithin other → IsRowWithin row → IsRowWithin shown

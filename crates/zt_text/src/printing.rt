@@ -5,9 +5,7 @@ ghost use Rattle.zt_text.specs.Shown.{shown_mask, shown_bytes, shown_list, shown
 ghost use Rattle.zt_text.specs.Answers.{shown_packet, shown_reply, shown_key, shown_life, shown_object, shown_wait, shown_queued, shown_row, row_line, shown_column, shown_refusal};
 
 use std::alloc::{AllocError, Global};
-use zt_rows::{
-    HandleValue, Held, Life, ObjectRow, Packet, Refusal, Reply, Row, RowKey, Wait,
-};
+use zt_rows::{HandleValue, Held, Life, ObjectRow, Packet, Refusal, Reply, Row, RowKey, Wait};
 
 /// The status of a reply and its values, without a line feed.
 pub fn print_reply(alloc: Global, reply: &Reply) -> Result<Vec<u8>, AllocError>

@@ -58,10 +58,7 @@ fn asked_by(alloc: Global, fields: Fields<'_>) -> Result<Line, Refusal>
 {
     let (first, rest) = fields.next()?;
     match decimal(first.bytes(), u64::MAX) {
-        Some(process) => Ok(Line::Command(Command::Call(
-            Koid(process),
-            call(alloc, rest)?,
-        ))),
+        Some(process) => Ok(Line::Command(Command::Call(Koid(process), call(alloc, rest)?))),
         None => word_named(alloc, &first, rest),
     }
 }

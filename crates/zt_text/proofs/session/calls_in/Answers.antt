@@ -1,4 +1,4 @@
-use Rattle.std.proofs.Common.{◌≡◌, ℕ, length, arith}
+use Rattle.std.proofs.Common.{◌≡◌, length, arith}
 use Rattle.std.proofs.lemmas.Bool.Decides.{nat_tests}
 use Rattle.zt_text.specs.Lines.{lines_of}
 use Rattle.zt_text.specs.Session.{calls_in, has_call}
@@ -14,11 +14,11 @@ returns-in-Err-clause-refused c =
 pub loop-left-preserved : goal.loop-left-preserved
 loop-left-preserved c = record {
   so_far = taken_more (calls_in 2 (lines_of c.args.text.now)) c.loop-left.calls.items c.take_line.new.calls.items c.loop-left.number
-  (lines_of c.loop-left.left.now) (lines_of c.next_line.result.1.now) c.next_line.result.0.now
-  c.loop-left.invariant.so_far c.next_line.ensures.lines c.in-Ok.ensures.taken;
+      (lines_of c.loop-left.left.now) (lines_of c.next_line.result.1.now) c.next_line.result.0.now
+      c.loop-left.invariant.so_far c.next_line.ensures.lines c.in-Ok.ensures.taken;
   has = has_more (has_call (lines_of c.args.text.now)) c.loop-left.calls.items c.take_line.new.calls.items
-  (lines_of c.loop-left.left.now) (lines_of c.next_line.result.1.now) c.next_line.result.0.now
-  c.loop-left.invariant.has c.next_line.ensures.lines c.in-Ok.ensures.taken;
+      (lines_of c.loop-left.left.now) (lines_of c.next_line.result.1.now) c.next_line.result.0.now
+      c.loop-left.invariant.has c.next_line.ensures.lines c.in-Ok.ensures.taken;
   room = omega (arith, c.loop-left.invariant.room, c.next_line.ensures.shorter);
 }
 
