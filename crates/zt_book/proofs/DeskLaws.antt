@@ -1,11 +1,13 @@
 -- What a desk does with a command, and what the session's checks say of it.
 use Rattle.std.proofs.Common.{◌≡◌, ◌⊎◌, ℕ, zero, suc, ◌+◌, ◌-◌, ◌≤◌, ◌<◌, Bool, true, false, not, List, [], ◌∷◌, ◌++◌, length, set, get_or, Option, Some, None, Result, Ok, Err, refl, sym, ◌∙◌, ap, subst, inl, inr, arith}
-use Rattle.std.specs.Prelude.{is_some, nat_le, nat_lt}
+use Rattle.std.specs.Prelude.{is_some, nat_le, nat_lt, IfErr, IsSome}
 use Rattle.std.proofs.lemmas.Bool.{le-leb, lt-leb, lt-ltb, le-ltb}
 use Rattle.zt_rows.specs.declared.calls.Answer.{Answer}
 use Rattle.zt_rows.specs.declared.calls.Answer.TheVariants as answer
 use Rattle.zt_rows.specs.declared.calls.Call.{Call}
 use Rattle.zt_rows.specs.declared.calls.Command.{Command}
+use Rattle.zt_rows.specs.declared.calls.Command.TheVariants as command
+use Rattle.zt_rows.specs.declared.calls.Happening.{Happening}
 use Rattle.zt_rows.specs.declared.keys.RowKey.{RowKey}
 use Rattle.zt_rows.specs.declared.refusals.Refusal.{Refusal}
 use Rattle.zt_rows.specs.declared.rows.Row.{Row}
@@ -16,11 +18,15 @@ use Rattle.zt_history.specs.Refusing.{check, ◌>>=◌, call_on, branch_on, mome
 use Rattle.zt_history.specs.Standing.{Falls}
 use Rattle.zt_history.specs.Tree.{Made, Tree, last_moment, parent_at, path, state_at, head_at, branch_named}
 use Rattle.zt_history.proofs.PathLaws.{path-opening, path-step, by_parents}
+use Rattle.zt_history.specs.Timeline.{Timeline}
 use Rattle.zt_queries.specs.Copies.{holders_on}
+use Rattle.zt_queries.specs.Times.{is_known}
+use Rattle.zt_book.specs.Desk.{IsCursor, IsPinned, IsClient, IsDesk}
+use Rattle.zt_book.proofs.LoadLaws.{moments-called, branches-called}
 use Rattle.zt_book.specs.declared.clients.Client.{Client}
 use Rattle.zt_book.specs.declared.clients.Cursor.{Cursor}
 use Rattle.zt_book.specs.declared.clients.Cursor.TheVariants.{Follows, At}
-use Rattle.zt_book.specs.Session.{Session, client_of, position_of, state_of, with_client, standing, ancestor, is_name, most_rows, asked, serve, call_by, goto_by, back_by, branch_by, follow_by, show_to, holders_to, leaks_to, pin_to, IsRefused}
+use Rattle.zt_book.specs.Session.{Session, client_of, position_of, state_of, with_client, standing, ancestor, is_name, most_rows, asked, serve, call_by, goto_by, back_by, branch_by, follow_by, show_to, holders_to, leaks_to, when_to, pin_to, IsRefused}
 
 -- ---- refusals
 
@@ -126,6 +132,23 @@ module _ (M : Session) (client : ℕ) where
   holders-memory object true h = rw h refl
   holders-memory object false h = rw h (inr refl)
 
+  pub show-memory : IsRefused (show_to M client) refusal.OutOfMemory
+  unfolding show_to
+  show-memory = refl
+
+  pub leaks-memory : IsRefused (leaks_to M client) refusal.OutOfMemory
+  unfolding leaks_to
+  leaks-memory = refl
+
+  pub when-memory : (what : Happening) (object : ℕ) (b : Bool) → is_known (state_of M client) object ≡ b → IsRefused (when_to M client what object) refusal.OutOfMemory
+  unfolding when_to
+  when-memory what object true h = rw h refl
+  when-memory what object false h = rw h (inr refl)
+
+  pub pin-memory : (client_of M client).rows < most_rows → IsRefused (serve M client command.Pin) refusal.OutOfMemory
+  unfolding serve pin_to
+  pin-memory h = rw (lt-ltb (client_of M client).rows most_rows h) refl
+
   -- a client that has no room
   pub serve-full : (request : Command) → most_rows ≤ (client_of M client).rows → IsRefused (serve M client request) refusal.ClientFull
   unfolding serve
@@ -184,6 +207,39 @@ module _ (M N : Session) (client : ℕ) where
       let after : with_client M client (record (client_of M client) { pinned = Some (position_of M client) }) ≡ N =
       ap (λ m. with_client M client (record (client_of M client) { pinned = Some m })) (sym is) ∙ ap (with_client M client) (sym so) ∙ sym there in
       λ i. said_and (answer.Pinned (sym is i)) (after i)
+
+-- want of memory alone
+pub memory-alone : {T : Type 0} (P : Refusal → Type 0) (r : Result T Refusal) → P refusal.OutOfMemory → IfErr r (λ given. given ≡ refusal.OutOfMemory) → IfErr r P
+memory-alone P (Ok x) told h = tt
+memory-alone P (Err given) told h = subst P (sym h) told
+
+-- ---- a desk after a call
+
+cursor-more : (t u : Tree) (cursor : Cursor) → length t.made ≤ length u.made → length t.branches ≤ length u.branches → IsCursor t cursor → IsCursor u cursor
+cursor-more t u (Follows branch) made branches h = omega arith
+cursor-more t u (At moment) made branches h = omega arith
+
+pinned-more : (t u : Tree) (pinned : Option ℕ) → length t.made ≤ length u.made → IsPinned t pinned → IsPinned u pinned
+pinned-more t u (Some moment) made h = omega arith
+pinned-more t u None made h = tt
+
+pub desk-called : (h g : Timeline) (clients : List Client) (grown : Bool) (branch process : ℕ) (call : Call) (said : Answer) → IsDesk h clients grown
+    → call_on h.tree branch process call ≡ Ok (said, g.tree) → IsSome g.before → IsDesk g clients true
+desk-called h g clients grown branch process call said is done some =
+    let made : length h.tree.made ≤ length g.tree.made = moments-called h.tree branch process call (said, g.tree) done in
+    let branches : length h.tree.branches ≤ length g.tree.branches = omega (arith, branches-called h.tree branch process call (said, g.tree) done) in
+    record {
+      few = is.few;
+      stand = λ k d there.
+          let c : Client = get_or clients k d in
+          let one : IsClient h.tree c = is.stand k d there in
+          record {
+            cursor = cursor-more h.tree g.tree c.cursor made branches one.cursor;
+            pinned = pinned-more h.tree g.tree c.pinned made one.pinned;
+            rows = one.rows;
+          };
+      can_retract = λ _. some;
+    }
 
 -- ---- the ancestors
 

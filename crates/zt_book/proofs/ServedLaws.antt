@@ -17,8 +17,8 @@ use Rattle.zt_queries.specs.Leaks.{leaks}
 use Rattle.zt_queries.specs.Times.{when_on}
 use Rattle.zt_book.specs.declared.clients.Client.{Client}
 use Rattle.zt_book.specs.declared.clients.Cursor.TheVariants.{Follows, At}
-use Rattle.zt_book.specs.Session.{Session, first_client, most_rows, is_name, client_of, with_client, standing, position_of, state_of, followed, ancestor, branch_found, event_at, counted, asked, serve, call_by, goto_by, back_by, branch_by, follow_by, show_to, holders_to, leaks_to, when_to, pin_to}
-use Rattle.zt_book.specs.Desk.{IsOneMore}
+use Rattle.zt_book.specs.Session.{Session, first_client, most_rows, is_name, client_of, with_client, standing, position_of, state_of, followed, ancestor, branch_found, event_at, counted, asked, serve, call_by, goto_by, back_by, branch_by, follow_by, show_to, holders_to, leaks_to, when_to, pin_to, IsRefused}
+use Rattle.zt_book.specs.Desk.{Seats, IsOneMore, session_before}
 use Rattle.zt_book.proofs.ListLaws.{set-again}
 
 -- ---- checks in a row
@@ -156,3 +156,54 @@ one-more-back old new client h =
 
 pub one-more-length : (old new : List Client) (client : ℕ) → IsOneMore old new client → length new ≡ length old
 one-more-length old new client h = ap length h.is ∙ length-set old (client - 1) h.to
+
+pub moved-length : (old new : List Client) (client : ℕ) → IsMoved old new client → length new ≡ length old
+moved-length old new client h = ap length h.is ∙ length-set old (client - 1) h.to
+
+pub moved-rows : (old : List Client) (N : Session) (client : ℕ) → client - 1 < length old → IsMoved old N.clients client
+    → (client_of N client).rows ≡ (get_or old (client - 1) first_client).rows
+moved-rows old N client known h =
+    ap (λ (l : List Client). (get_or l (client - 1) first_client).rows) h.is
+    ∙ ap (λ (c : Client). c.rows) (get_or-set_same old (client - 1) h.to first_client known)
+    ∙ h.rows
+
+-- what the checks of a command refuse, serving it refuses
+refused_behind : {A B : Type 0} (r : Result A Refusal) (f : A → B) (given : Refusal) → IsRefused r given → IsRefused (r >>= λ x. Ok (f x)) given
+refused_behind (Ok x) f given h = h
+refused_behind (Err refusal.NoProcess) f given h = h
+refused_behind (Err refusal.NoObject) f given h = h
+refused_behind (Err _) f given h = h
+
+pub serve-refused : (M : Session) (client : ℕ) (request : Command) (given : Refusal) → nat_lt (client_of M client).rows most_rows ≡ true
+    → IsRefused (asked M client request) given → IsRefused (serve M client request) given
+unfolding serve
+serve-refused M client request given room h =
+    rw room (refused_behind (asked M client request) (λ (y : Answer × Session). let z : Answer × Session = (y.0, counted y.1 client) in z) given h)
+
+-- ---- a desk that served a command
+
+module _ (d e f : Seats) (client : ℕ) (request : Command) (said : Answer) (one : 1 ≤ client) (known : client ≤ length d.session.clients)
+    (done : asked d.session client request ≡ Ok (said, e.session)) where
+  stood : IsMoved d.session.clients e.session.clients client
+  stood = moved d.session client request (said, e.session) done
+
+  below : client - 1 < length d.session.clients
+  below = omega (arith, one, known)
+
+  pub still-known : client ≤ length e.session.clients
+  still-known = omega (arith, known, moved-length d.session.clients e.session.clients client stood)
+
+  pub still-room : (client_of d.session client).rows < most_rows → (client_of e.session client).rows < most_rows
+  still-room h = omega (arith, h, moved-rows d.session.clients e.session client below stood)
+
+  pub served-more : f.session ≡ counted e.session client → IsOneMore d.session.clients f.session.clients client
+  served-more is =
+      subst (λ (N : Session). IsOneMore d.session.clients N.clients client) (sym is) (counted-more d.session.clients e.session client below stood)
+
+  pub served-back : f.session ≡ counted e.session client → f.earlier ≡ e.earlier → e.earlier ≡ d.session.tree
+      → session_before f client (client_of d.session client) ≡ d.session
+  served-back is kept earlier =
+      let tree : f.earlier ≡ d.session.tree = kept ∙ earlier in
+      let clients : set f.session.clients (client - 1) (client_of d.session client) ≡ d.session.clients =
+      one-more-back d.session.clients f.session.clients client (served-more is) in
+      λ i. let N : Session = record { tree = tree i; clients = clients i } in N

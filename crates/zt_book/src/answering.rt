@@ -6,7 +6,7 @@ use crate::clients::Cursor;
 use crate::desks::{Desk, ROWS};
 use crate::names::is_name;
 use zt_queries::{holders_at, rows_at};
-use zt_rows::{Answer, Call, Command, Happening, Items, Koid, Moment, Refusal};
+use zt_rows::{Answer, Call, Command, Happening, Items, Koid, Moment, Refusal, Reply};
 
 impl Desk {
     /// Answers a command of a client, and counts it. Refused, the session is as before.
@@ -69,9 +69,9 @@ impl Desk {
         };
         self.grown = false;
         match self.history.call(branch, process, call) {
-            Ok((moment, reply)) => {
+            Ok(made) => {
                 self.grown = true;
-                Ok(Answer::Called(moment, reply))
+                Ok(new_moment(made))
             }
             Err(refusal) => Err(refusal),
         }
@@ -86,8 +86,8 @@ impl Desk {
         ensures refused { IfErr result (IsRefused (goto_by self.old.session client moment)) }
         ensures err { OnErr result (self.new.session ≡ self.old.session) }
     {
-        let last = self.history.last();
-        if moment.0 > last.0 {
+        let end = self.history.last();
+        if moment.0 > end.0 {
             return Err(Refusal::NoMoment);
         }
         self.stand(client, Cursor::At(moment));
@@ -179,10 +179,10 @@ impl Desk {
         let Ok(position) = self.go(client) else {
             return Err(Refusal::OutOfMemory);
         };
-        match rows_at(*self.clients.allocator(), &self.history) {
-            Ok(rows) => Ok(Answer::Rows(position, rows)),
-            Err(_) => Err(Refusal::OutOfMemory),
-        }
+        let Ok(rows) = rows_at(*self.clients.allocator(), &self.history) else {
+            return Err(Refusal::OutOfMemory);
+        };
+        Ok(Answer::Rows(position, rows))
     }
 
     /// What keeps an object at the client's position.
@@ -275,6 +275,14 @@ impl Desk {
         known.cursor = cursor;
         self.put(client, known);
     }
+}
+
+/// The answer to a call that made a moment.
+fn new_moment(made: (Moment, Reply)) -> Answer
+    ensures { result ≡ Answer.Called made.0 made.1 }
+{
+    let (moment, reply) = made;
+    Answer::Called(moment, reply)
 }
 
 /// The moment so many steps behind the opening on a path.

@@ -100,16 +100,18 @@ impl Book {
         self.last = None;
         self.desk.limits();
         let was = self.desk.client(client);
-        let said = self.desk.serve(client, request)?;
-        match self.log.add(client, request, &said) {
-            Ok(()) => {
-                self.last = Some(Served { client, was });
-                Ok(said)
-            }
-            Err(_) => {
-                self.desk.retract(client, was);
-                Err(Refusal::OutOfMemory)
-            }
+        match self.desk.serve(client, request) {
+            Ok(said) => match self.log.add(client, request, &said) {
+                Ok(()) => {
+                    self.last = Some(Served { client, was });
+                    Ok(said)
+                }
+                Err(_) => {
+                    self.desk.retract(client, was);
+                    Err(Refusal::OutOfMemory)
+                }
+            },
+            Err(refusal) => Err(refusal),
         }
     }
 

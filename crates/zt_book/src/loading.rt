@@ -20,8 +20,8 @@ pub(crate) fn history_of(
         return Err((0, Refusal::OutOfMemory));
     };
     for i in 0..calls.len() {
-        let (process, call) = &calls[i];
-        match history.call(MAIN, *process, call) {
+        let made = &calls[i];
+        match history.call(MAIN, made.0, &made.1) {
             Ok(_) => {}
             Err(refusal) => return Err(fault(i as u64, refusal)),
         }

@@ -3,6 +3,8 @@ use Rattle.std.proofs.Common.{◌≡◌, ◌≤◌, true, false, sym, ◌∙◌,
 use Rattle.std.specs.Prelude.{is_some}
 use Rattle.zt_history.specs.Tree.{branch_named, last_moment}
 use Rattle.zt_book.specs.Session.{is_name, position_of}
+use Rattle.zt_history.specs.Refusing.{branch_on, IsRefused}
+use Rattle.zt_book.specs.Desk.{Seats}
 use Rattle.zt_book.proofs.DeskLaws.{branch-unnamed, branch-taken, branch-memory, branch-refused, branch-seen}
 use Rattle.zt_book.proofs.desks.Desk.branch.Goals as goal
 
@@ -23,7 +25,15 @@ returns-in_default-clause-refused c =
     (sym (c.if-is_some.ensures ∙ (λ i. is_some (c.find.ensures i)) ∙ (λ i. is_some (branch_named (c.self.view_is i).session.tree.branches (c.as_slice-2.ensures i)))))
 
 pub returns-in_Ok-branch-clause-ok : goal.returns-in_Ok-branch-clause-ok
-returns-in_Ok-branch-clause-ok c = ?
+returns-in_Ok-branch-clause-ok c =
+    branch-seen c.args.self.now.session c.turn.new.self.session c.args.client (record { tree = c.branch-branch.new.self.tree; clients = c.self.inside.clients.items })
+    c.args.name.now c.in-Ok.named c.position-position.result c.in_Ok-branch.branch (sym (c.if-not-is_name.ensures ∙ ap is_name c.as_slice.ensures))
+    ((λ i. branch_on (sym c.self.view_is i).session.tree (sym c.as_slice-3.ensures i) c.position-position.result) ∙ c.in_Ok-branch.ensures.ok)
+    c.position-position.ensures.position c.in-Ok.ensures (ap (λ (d : Seats). d.session.clients) c.self.view_is) c.turn.ensures.session
 
 pub returns-in_Err-branch-clause-refused : goal.returns-in_Err-branch-clause-refused
-returns-in_Err-branch-clause-refused c = ?
+returns-in_Err-branch-clause-refused c =
+    branch-refused c.args.self.now.session c.args.client c.args.name.now c.in_Err-branch.refusal (sym (c.if-not-is_name.ensures ∙ ap is_name c.as_slice.ensures))
+    (subst (λ r. IsRefused r c.in_Err-branch.refusal)
+    (λ i. branch_on (c.self.view_is i).session.tree (c.as_slice-3.ensures i) (c.position-position.ensures.position i))
+    c.in_Err-branch.ensures.refused)

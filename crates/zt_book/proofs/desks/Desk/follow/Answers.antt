@@ -1,15 +1,26 @@
 -- The name is looked for, and the client stands at the branch's head.
 use Rattle.std.proofs.Common.{◌≡◌, sym, ◌∙◌, ap}
 use Rattle.std.specs.Prelude.{Some, None}
-use Rattle.zt_history.specs.Tree.{branch_named}
+use Rattle.zt_history.specs.Tree.{branch_named, head_at}
+use Rattle.zt_book.specs.Session.{standing}
+use Rattle.zt_book.specs.Desk.{Seats}
+use Rattle.zt_book.specs.declared.clients.Cursor.TheVariants.{Follows}
 use Rattle.zt_book.proofs.DeskLaws.{follow-none, follow-memory, follow-seen}
 use Rattle.zt_book.proofs.desks.Desk.follow.Goals as goal
 
 pub returns-in_default-clause-refused : goal.returns-in_default-clause-refused
-returns-in_default-clause-refused c = ?
+returns-in_default-clause-refused c =
+    follow-none c.args.self.now.session c.args.client c.args.name.now
+    (sym (c.in_default.ensures ∙ (λ i. branch_named (c.self.view_is i).session.tree.branches (c.as_slice.ensures i))))
 
 pub returns-in_default-copy-clause-refused : goal.returns-in_default-copy-clause-refused
-returns-in_default-copy-clause-refused c = ?
+returns-in_default-copy-clause-refused c =
+    follow-memory c.args.self.now.session c.args.client c.args.name.now c.in-Some.branch
+    (sym (c.in-Some.ensures ∙ (λ i. branch_named (c.self.view_is i).session.tree.branches (c.as_slice.ensures i))))
 
 pub returns-clause-ok : goal.returns-clause-ok
-returns-clause-ok c = ?
+returns-clause-ok c =
+    follow-seen c.args.self.now.session c.stand.new.self.session c.args.client c.args.name.now c.in-Ok.named c.in-Some.branch c.head-head.result
+    (sym (c.in-Some.ensures ∙ (λ i. branch_named (c.self.view_is i).session.tree.branches (c.as_slice.ensures i))))
+    c.in-Ok.ensures (c.head-head.ensures.head ∙ ap (λ (d : Seats). head_at d.session.tree.branches c.in-Some.branch) c.self.view_is)
+    (c.stand.ensures.session ∙ ap (λ (d : Seats). standing d.session c.args.client (Follows c.in-Some.branch)) c.self.view_is)
