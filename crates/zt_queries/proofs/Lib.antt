@@ -7,3 +7,6 @@ pub mod WorkedLeaks
 pub mod KeyLaws
 pub mod CopyLaws
 pub mod HoldLaws
+pub mod GraphLaws
+pub mod SurveyLaws
+pub mod ListLeaks

@@ -4,3 +4,5 @@ pub mod Happenings
 pub mod Times
 pub mod Copies
 pub mod Holding
+pub mod Graphs
+pub mod Surveys

@@ -88,7 +88,7 @@ fn supports_of(
 }
 
 /// The keys of the store, in their order.
-fn keys_of(alloc: Global, store: &Store) -> Result<Vec<RowKey>, AllocError>
+pub(crate) fn keys_of(alloc: Global, store: &Store) -> Result<Vec<RowKey>, AllocError>
     ensures { IfOk result (λ list. list.items ≡ keys store.now.state) }
 {
     let mut list = Vec::new(alloc);
