@@ -44,7 +44,7 @@ fn report(rt: &(impl Files + AllocGlobal + Print), name: &str) -> io::Result<()>
     let from = fs::read(rt, format!(in alloc; "{name}.from")?).ok();
     let saved = fs::read(rt, format!(in alloc; "{name}.save")?).ok();
     match outcome(alloc, &from, asked.as_slice()) {
-        Ok(came) => println!(rt; "{name} {}", verdict(told.as_slice(), &saved, &came)),
+        Ok(came) => println!(rt; "{name} {}", how_it_went(told.as_slice(), &saved, &came)),
         Err(refusal) => {
             let cause = refusal.name();
             println!(rt; "{name} stopped: {cause}")
@@ -53,6 +53,7 @@ fn report(rt: &(impl Files + AllocGlobal + Print), name: &str) -> io::Result<()>
 }
 
 /// What a run wrote, and the session text of `main` behind it.
+#[derive(Drop)]
 struct Came {
     answers: Vec<u8>,
     saved: Vec<u8>,
@@ -109,6 +110,7 @@ fn saved_of(alloc: Global, book: &Book) -> Result<Vec<u8>, Refusal> {
 }
 
 /// How a case went.
+#[derive(Drop)]
 enum Verdict<'a> {
     AsTold,
     Answers(Difference<'a>),
@@ -116,7 +118,7 @@ enum Verdict<'a> {
 }
 
 /// How a case went, by what it had to tell and, where that is told, to save.
-fn verdict<'a>(told: &'a [u8], saved: &'a Option<Vec<u8>>, came: &'a Came) -> Verdict<'a> {
+fn how_it_went<'a>(told: &'a [u8], saved: &'a Option<Vec<u8>>, came: &'a Came) -> Verdict<'a> {
     if let Some(difference) = first_difference(told, came.answers.as_slice()) {
         return Verdict::Answers(difference);
     }

@@ -1,7 +1,7 @@
 -- Laws of bytes that come in turn: lines cut from them come together.
 use Rattle.std.proofs.Common.{◌≡◌, ◌⊎◌, ℕ, ◌+◌, ◌≤◌, ◌<◌, Bool, true, false, not, ◌&&◌, ◌==◌, cond, List, [], ◌∷◌, ◌++◌, length, take, drop, map, Option, Some, None, IfSome, refl, sym, ◌∙◌, ap, subst, append_assoc, length-append, length-take, get_or, suc, add-one, drop-cons, Result, Ok, Err, inr, arith}
 use Rattle.std.specs.Prelude.{nat_le, OnOk}
-use Rattle.std.specs.List.{list_all, onto_first}
+use Rattle.std.specs.List.{onto_first}
 use Rattle.std.proofs.lemmas.Bool.{eqb-true}
 use Rattle.std.proofs.lemmas.Bool.Decides.{nat_tests}
 use Rattle.std.proofs.lemmas.List.{append-nil, take-append-drop, take-append-le, take_all, length-take-le, nil_from_length}
@@ -430,7 +430,7 @@ pub talked_all : {D : Type 0} (Asks : Manner D) (M K N : Standing D) (kept chunk
     → M.pinned ≡ None → HasRead Asks M K kept known left a b i → n ≡ 0 → Consumes left rest (take n chunk) → IsAtEnd rest → Passed Asks K (decisive_lines kept) N [] [] b c d → HasTalked Asks M.desk N.desk known a c d
 talked_all Asks M K N kept chunk known left rest a b c i n d fresh p z h e q =
     let same : decisive_lines p.input ≡ p.fed.lines ++ decisive_lines kept =
-        ap decisive_lines (sym (append-nil p.input)) ∙ p.fed.cut [] ∙ ap (λ z. p.fed.lines ++ z) (p.fed.goes_on refl [] ∙ ap decisive_lines (append-nil kept)) in
+    ap decisive_lines (sym (append-nil p.input)) ∙ p.fed.cut [] ∙ ap (λ z. p.fed.lines ++ z) (p.fed.goes_on refl [] ∙ ap decisive_lines (append-nil kept)) in
     let all : Passed Asks M (p.fed.lines ++ decisive_lines kept) N [] [] a c d = passed_more Asks M K N p.fed.lines (decisive_lines kept) [] [] [] a b c d p.fed.passed q in
     let read : Consumes known rest p.input = subst (λ z. Consumes known rest z) (append-nil p.input) (consumes_more known left rest p.input [] p.consumed (consumes_end left rest chunk n z h)) in
     talked_whole Asks M.desk N.desk N.pinned p.input known rest a c d read e

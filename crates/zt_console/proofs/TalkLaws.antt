@@ -1,5 +1,5 @@
 -- Laws of talks: answers written in turn come together, and a line reads as the bytes do that decide it.
-use Rattle.std.proofs.Common.{◌≡◌, ◌⊎◌, ℕ, ◌+◌, ◌≤◌, ◌<◌, Bool, true, false, not, ◌&&◌, ◌==◌, cond, List, [], ◌∷◌, ◌++◌, length, take, drop, map, Option, Some, None, IfSome, Result, Ok, Err, refl, sym, ◌∙◌, ap, subst, append_assoc, IfOk, MatchResult, arith, inl, inr}
+use Rattle.std.proofs.Common.{◌≡◌, ℕ, ◌<◌, Bool, true, false, not, ◌&&◌, ◌==◌, List, [], ◌∷◌, ◌++◌, length, take, drop, map, Option, Some, None, Result, Ok, Err, refl, sym, ◌∙◌, ap, subst, append_assoc, IfOk, MatchResult, arith, inr}
 use Rattle.std.specs.Prelude.{nat_lt, nat_le, OnOk, is_ok}
 use Rattle.std.proofs.lemmas.Bool.{eqb-true}
 use Rattle.std.proofs.lemmas.Bool.Decides.{nat_tests}
@@ -10,13 +10,13 @@ use Rattle.zt_rows.specs.declared.calls.Command.{Command}
 use Rattle.zt_rows.specs.declared.refusals.Refusal.{Refusal}
 use Rattle.zt_rows.specs.declared.refusals.Refusal.TheVariants as refusal
 use Rattle.zt_queries.specs.Copies.{Snapshot}
-use Rattle.zt_text.specs.Answers.{shown_answer, shown_refusal}
-use Rattle.zt_text.specs.Reading.{most_line_bytes, fields_in, read_as, takes_memory, IsUnread, line_takes_memory}
+use Rattle.zt_text.specs.Answers.{shown_refusal}
+use Rattle.zt_text.specs.Reading.{most_line_bytes, fields_in, read_as, IsUnread, line_takes_memory}
 use Rattle.zt_text.specs.declared.reading.Line.{Line}
 use Rattle.zt_text.specs.declared.reading.Line.TheVariants as line
 use Rattle.zt_console.specs.declared.talking.Standing.{Standing}
 use Rattle.zt_console.specs.Counting.{faults_after}
-use Rattle.zt_console.specs.Talk.{Given, Manner, IsAnswered, Commands, IsTold, IsLooked, of_copy, rows_in, holders_in, leaks_in, shown, said_by, pinned_after, Answers, Talk}
+use Rattle.zt_console.specs.Talk.{Given, Manner, IsAnswered, IsTold, IsLooked, of_copy, rows_in, holders_in, leaks_in, shown, said_by, pinned_after, Answers, Talk}
 use Rattle.zt_console.specs.Running.{IsWritten, IsSent}
 use Rattle.zt_console.specs.Feeding.{decisive, Passed, Put}
 

@@ -5,7 +5,7 @@ use Rattle.zt_rows.specs.declared.calls.Command.TheVariants as command
 use Rattle.zt_queries.specs.Copies.{Snapshot, snapshot_at}
 use Rattle.zt_book.specs.Log.{Kept, standing_of}
 use Rattle.zt_book.specs.Session.{Session, position_of, serve, IsRefused}
-use Rattle.zt_console.specs.Talk.{Given, Manner}
+use Rattle.zt_console.specs.Talk.{Manner}
 
 abbrev pub is_pin : Command → Bool
 is_pin command.Pin = true

@@ -3,9 +3,8 @@
 ghost use Rattle.std.specs.Prelude.{◌≡◌};
 ghost use Rattle.zxtt.specs.Statuses.{stopped_status};
 
-use std::fmt;
 use std::fmt::{Display, Formatter, Write};
-use std::io;
+use std::{fmt, io};
 use thiserror::Error;
 use zt_rows::Refusal;
 

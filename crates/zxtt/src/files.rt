@@ -4,10 +4,9 @@ ghost use Rattle.std.specs.Prelude.{◌≡◌, length, IfOk};
 
 use crate::faults::Fault;
 use std::alloc::Global;
-use std::fs;
 use std::fs::File;
-use std::io;
 use std::io::{Read, Write};
+use std::{fs, io};
 use zt_console::{Book, load_text, path_text};
 use zt_rows::Refusal;
 

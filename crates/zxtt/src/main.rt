@@ -29,7 +29,11 @@ fn main(rt: HostRuntime) -> ExitCode {
 fn start(rt: &HostRuntime) -> Result<(), Fault> {
     let words = Words::of(rt)?;
     match words.asked(rt.alloc())? {
-        Asked::Run { file, from, save: to } => {
+        Asked::Run {
+            file,
+            from,
+            save: to,
+        } => {
             let book = match from {
                 Some(path) => load(rt, 1, path)?,
                 None => Book::new(rt.alloc(), 1)?,

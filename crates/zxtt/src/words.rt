@@ -34,11 +34,13 @@ Exit statuses:
   6  anything else was refused, as a line of a loaded trace";
 
 /// The words that the program was started with.
+#[derive(Drop)]
 pub struct Words {
     words: Vec<String>,
 }
 
 /// What the words ask for.
+#[derive(Clone, Copy)]
 pub enum Asked<'a> {
     /// To run the lines of a file, from a trace if one is named, and to save the history of `main` if a file is named.
     Run {
@@ -96,12 +98,14 @@ impl Words {
 
 /// The command line.
 fn command(alloc: Global) -> Result<Command<'static>, Error> {
-    Ok(Command::new(alloc, "zxtt")
-        .version("0.1")
-        .about(ABOUT)
-        .after_help(EXAMPLES)
-        .subcommand_required(true)
-        .subcommand(run_command(alloc)?)?)
+    Ok(
+        Command::new(alloc, "zxtt")
+            .version("0.1")
+            .about(ABOUT)
+            .after_help(EXAMPLES)
+            .subcommand_required(true)
+            .subcommand(run_command(alloc)?)?,
+    )
 }
 
 /// The words behind `run`.
@@ -120,10 +124,12 @@ fn run_command(alloc: Global) -> Result<Command<'static>, Error> {
         .value_name("OUT")
         .action(ArgAction::Set)
         .help("Writes the calls on `main` as a session text, once the input has ended");
-    Ok(Command::new(alloc, "run")
-        .about("Answers the lines of a file; without any words the program does this")
-        .after_help(EXAMPLES)
-        .arg(file)?
-        .arg(from)?
-        .arg(save)?)
+    Ok(
+        Command::new(alloc, "run")
+            .about("Answers the lines of a file; without any words the program does this")
+            .after_help(EXAMPLES)
+            .arg(file)?
+            .arg(from)?
+            .arg(save)?,
+    )
 }

@@ -1,6 +1,4 @@
 -- Nothing behind the last line feed is no line, and anything is one.
-use Rattle.std.proofs.Common.{◌≡◌, ◌==◌, length, ap, ◌∙◌, Bool}
-use Rattle.zt_console.specs.Feeding.{has_no_feed, Put}
 use Rattle.zt_console.proofs.FeedLaws.{rest_none, rest_sent, rest_unprinted}
 use Rattle.zt_console.proofs.feeding.answer_rest.Goals as goal
 

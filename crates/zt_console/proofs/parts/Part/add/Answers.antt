@@ -1,5 +1,5 @@
 -- What is taken is all that decides the line, or all that there is.
-use Rattle.std.proofs.Common.{◌≡◌, ◌++◌, ◌+◌, ◌-◌, ◌≤◌, ◌<◌, ℕ, List, length, take, min, ap, sym, ◌∙◌, arith}
+use Rattle.std.proofs.Common.{◌≡◌, ◌++◌, ◌+◌, ◌-◌, ◌≤◌, ℕ, List, length, take, min, ap, sym, ◌∙◌, arith}
 use Rattle.std.proofs.lemmas.List.{take_min}
 use Rattle.std.proofs.Math.Seq.{take-append-add}
 use Rattle.zt_console.specs.Feeding.{decisive}
@@ -14,7 +14,7 @@ taken old bytes kept n short e k =
 pub returns-clause-ok : goal.returns-clause-ok
 returns-clause-ok c =
     let count : c.min.result ≡ min (140001 - length c.self.inside.bytes.items) (length c.args.bytes.now) =
-        cc (c.bytes.ensures.value, c.self.view_is, c.min.ensures) in
+    cc (c.bytes.ensures.value, c.self.view_is, c.min.ensures) in
     let all : c.self.inside.bytes.items ++ c.split_at.result.0.now ≡ decisive (c.self.inside.bytes.items ++ c.args.bytes.now) =
-        taken c.self.inside.bytes.items c.args.bytes.now c.split_at.result.0.now c.min.result c.self.invariant.short count c.split_at.ensures.front in
+    taken c.self.inside.bytes.items c.args.bytes.now c.split_at.result.0.now c.min.result c.self.invariant.short count c.split_at.ensures.front in
     cc (c.self.view_is, c.in_ok-extend_from_slice.ensures.items, all)
