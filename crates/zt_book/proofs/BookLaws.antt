@@ -1,10 +1,10 @@
 -- What a book keeps while a command is answered and written, and while the last one is taken back.
-use Rattle.std.proofs.Common.{◌≡◌, ℕ, ◌≤◌, ◌<◌, List, [], ◌∷◌, ◌++◌, length, Option, Some, None, refl, sym, ◌∙◌, ap, subst, arith, length-append}
+use Rattle.std.proofs.Common.{◌≡◌, ℕ, ◌≤◌, ◌<◌, List, [], ◌∷◌, ◌++◌, length, Option, Some, None, sym, ◌∙◌, ap, subst, arith, length-append}
 use Rattle.zt_history.specs.Branches.{without_last}
 use Rattle.zt_book.specs.declared.books.Served.{Served}
 use Rattle.zt_book.specs.declared.clients.Client.{Client}
 use Rattle.zt_book.specs.declared.logs.Recorded.{Recorded}
-use Rattle.zt_book.specs.Session.{Session, client_of}
+use Rattle.zt_book.specs.Session.{client_of}
 use Rattle.zt_book.specs.Log.{Standing, IsCounted}
 use Rattle.zt_book.specs.Desk.{Seats, Stand, IsOneMore, session_before, before_of, CanTakeBack, IsBook}
 use Rattle.zt_book.proofs.ListLaws.{without_last-push}

@@ -1,6 +1,6 @@
 -- What a desk does with a command, and what the session's checks say of it.
-use Rattle.std.proofs.Common.{◌≡◌, ◌⊎◌, ℕ, zero, suc, ◌+◌, ◌-◌, ◌≤◌, ◌<◌, Bool, true, false, not, List, [], ◌∷◌, ◌++◌, length, set, get_or, Option, Some, None, Result, Ok, Err, refl, sym, ◌∙◌, ap, subst, inl, inr, arith}
-use Rattle.std.specs.Prelude.{is_some, nat_le, nat_lt, IfErr, IsSome}
+use Rattle.std.proofs.Common.{◌≡◌, ℕ, zero, suc, ◌-◌, ◌≤◌, ◌<◌, Bool, true, false, List, [], ◌∷◌, ◌++◌, length, get_or, Option, Some, None, Result, Ok, Err, refl, sym, ◌∙◌, ap, subst, inl, inr, arith}
+use Rattle.std.specs.Prelude.{is_some, IfErr, IsSome}
 use Rattle.std.proofs.lemmas.Bool.{le-leb, lt-leb, lt-ltb, le-ltb}
 use Rattle.zt_rows.specs.declared.calls.Answer.{Answer}
 use Rattle.zt_rows.specs.declared.calls.Answer.TheVariants as answer
@@ -14,7 +14,7 @@ use Rattle.zt_rows.specs.declared.rows.Row.{Row}
 use Rattle.zt_rows.specs.declared.supports.Support.{Support}
 use Rattle.zt_rows.specs.declared.refusals.Refusal.TheVariants as refusal
 use Rattle.zt_rows.specs.Tests.{exists}
-use Rattle.zt_history.specs.Refusing.{check, ◌>>=◌, call_on, branch_on, moment_on, IsRefused as IsRefusedThere}
+use Rattle.zt_history.specs.Refusing.{◌>>=◌, call_on, branch_on, IsRefused as IsRefusedThere}
 use Rattle.zt_history.specs.Standing.{Falls}
 use Rattle.zt_history.specs.Tree.{Made, Tree, last_moment, parent_at, path, state_at, head_at, branch_named}
 use Rattle.zt_history.proofs.PathLaws.{path-opening, path-step, by_parents}
@@ -26,7 +26,7 @@ use Rattle.zt_book.proofs.LoadLaws.{moments-called, branches-called}
 use Rattle.zt_book.specs.declared.clients.Client.{Client}
 use Rattle.zt_book.specs.declared.clients.Cursor.{Cursor}
 use Rattle.zt_book.specs.declared.clients.Cursor.TheVariants.{Follows, At}
-use Rattle.zt_book.specs.Session.{Session, client_of, position_of, state_of, with_client, standing, ancestor, is_name, most_rows, asked, serve, call_by, goto_by, back_by, branch_by, follow_by, show_to, holders_to, leaks_to, when_to, pin_to, IsRefused}
+use Rattle.zt_book.specs.Session.{Session, client_of, position_of, state_of, with_client, standing, ancestor, is_name, most_rows, serve, call_by, goto_by, back_by, branch_by, follow_by, show_to, holders_to, leaks_to, when_to, pin_to, IsRefused}
 
 -- ---- refusals
 
@@ -254,7 +254,7 @@ path-bounded made falls most =
     by_parents made falls (λ m. m ≤ most → (k : ℕ) → get_or (path made m) k 0 ≤ most)
     (λ h. let P : List ℕ → Type 0 = λ l. (k : ℕ) → get_or l k 0 ≤ most in subst P (sym (path-opening made)) (λ k. omega arith))
     (λ i up h. let P : List ℕ → Type 0 = λ l. (k : ℕ) → get_or l k 0 ≤ most in
-        subst P (sym (path-step made falls i)) (push-bounded most (path made (parent_at made (suc i))) (suc i) (up (omega (arith, h, falls i))) h))
+    subst P (sym (path-step made falls i)) (push-bounded most (path made (parent_at made (suc i))) (suc i) (up (omega (arith, h, falls i))) h))
 
 first_or : (made : List Made) → Falls made → (m : ℕ) → m ≤ length made → (n : ℕ) → get_or (0 ∷ path made m) n 0 ≤ length made
 first_or made falls m h zero = omega arith

@@ -1,5 +1,5 @@
 -- Loading, call by call.
-use Rattle.std.proofs.Common.{◌≡◌, ◌⊎◌, ℕ, zero, suc, ◌+◌, ◌≤◌, ◌<◌, Bool, true, false, List, [], ◌∷◌, length, drop, get_or, Result, Ok, Err, refl, sym, ◌∙◌, ap, subst, inl, inr, arith, length-append}
+use Rattle.std.proofs.Common.{◌≡◌, ◌⊎◌, ℕ, zero, suc, ◌≤◌, ◌<◌, false, List, [], ◌∷◌, length, drop, get_or, Result, Ok, Err, refl, sym, ◌∙◌, ap, subst, inl, inr, arith, length-append}
 use Rattle.std.proofs.Math.Seq.{drop-cons}
 use Rattle.std.proofs.lemmas.Bool.{lt-ltb, le-ltb}
 use Rattle.zt_rows.specs.declared.calls.Answer.{Answer}
@@ -65,9 +65,9 @@ unloaded_here (Ok done) i given rest h =
 unloaded_here (Err reason) i given rest h =
     elim (refused-either (Answer × Tree) reason given h) [
       | inl same ↦ elim (fault-either i given) [
-          | inl told ↦ inl (told ∙ ap (λ g. let p : ℕ × Refusal = (i, g) in p) same)
-          | inr memory ↦ inr memory
-        ]
+        | inl told ↦ inl (told ∙ ap (λ g. let p : ℕ × Refusal = (i, g) in p) same)
+        | inr memory ↦ inr memory
+      ]
       | inr memory ↦ inr (ap (fault_at i) memory)
     ]
 

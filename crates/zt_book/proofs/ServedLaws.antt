@@ -1,5 +1,5 @@
 -- A command changes what is known of its client alone, where one answered command more is counted.
-use Rattle.std.proofs.Common.{◌≡◌, ℕ, suc, ◌+◌, ◌-◌, ◌≤◌, ◌<◌, Bool, true, false, List, length, set, get_or, Option, Some, None, Result, Ok, Err, refl, sym, ◌∙◌, ap, subst, arith}
+use Rattle.std.proofs.Common.{◌≡◌, ℕ, ◌+◌, ◌-◌, ◌≤◌, ◌<◌, true, List, length, set, get_or, Some, Result, Ok, Err, refl, sym, ◌∙◌, ap, subst, arith}
 use Rattle.std.proofs.lemmas.List.{length-set, set-get_or, get_or-set_same}
 use Rattle.std.specs.Prelude.{nat_le, nat_lt}
 use Rattle.zt_rows.specs.declared.calls.Answer.{Answer}
@@ -11,7 +11,7 @@ use Rattle.zt_rows.specs.declared.calls.Happening.{Happening}
 use Rattle.zt_rows.specs.declared.refusals.Refusal.{Refusal}
 use Rattle.zt_rows.specs.declared.refusals.Refusal.TheVariants as refusal
 use Rattle.zt_history.specs.Refusing.{check, ◌>>=◌, call_on, branch_on, moment_on}
-use Rattle.zt_history.specs.Tree.{Tree, head_at, branch_named, path}
+use Rattle.zt_history.specs.Tree.{head_at, branch_named, path}
 use Rattle.zt_queries.specs.Copies.{holders_on}
 use Rattle.zt_queries.specs.Leaks.{leaks}
 use Rattle.zt_queries.specs.Times.{when_on}
@@ -93,7 +93,7 @@ module _ (M : Session) (client : ℕ) where
       behind Moved (check (is_name name) refusal.BadName)
       (λ _. branch_on M.tree name (position_of M client) >>= λ added. Ok (answer.Branched name (position_of M client), standing (record M { tree = added.1 }) client (Follows added.0))) y
       (λ _. last Moved (branch_on M.tree name (position_of M client)) (λ added. (answer.Branched name (position_of M client), standing (record M { tree = added.1 }) client (Follows added.0))) y
-          (λ added. record { to = _; is = refl; rows = refl }))
+      (λ added. record { to = _; is = refl; rows = refl }))
 
   moved-follow : (name : List ℕ) (y : Answer × Session) → follow_by M client name ≡ Ok y → Moved y
   unfolding follow_by

@@ -1,6 +1,6 @@
 -- Worked sessions: what one client's commands are answered, one after another. Each holds by computation.
 use Rattle.std.proofs.Common.{refl}
-use Rattle.std.specs.Prelude.{◌≡◌, ℕ, List, [], ◌∷◌, codes, length, replicate, Option, Some, None, Result, Ok, Err}
+use Rattle.std.specs.Prelude.{◌≡◌, List, [], ◌∷◌, codes, replicate, Result, Ok, Err}
 use Rattle.zt_rows.specs.declared.calls.Answer.{Answer}
 use Rattle.zt_rows.specs.declared.calls.Answer.TheVariants.{Called, At, Branched, Followed, Pinned}
 use Rattle.zt_rows.specs.declared.calls.Call.{Call}
@@ -19,8 +19,8 @@ use Rattle.zt_rows.specs.Collect.{without, goes, rounds, collect}
 use Rattle.zt_rows.specs.Settle.{refresh, settle}
 use Rattle.zt_rows.specs.End.{links, chain, end}
 use Rattle.zt_rows.specs.Step.{direct, step}
-use Rattle.zt_history.specs.Tree.{Tree, opening_tree, path, state_at}
-use Rattle.zt_book.specs.Session.{Session, opening_session, session_over, first_client, state_of, serve, call_by, goto_by, back_by, branch_by, follow_by, pin_to}
+use Rattle.zt_history.specs.Tree.{opening_tree, path, state_at}
+use Rattle.zt_book.specs.Session.{Session, opening_session, first_client, serve, call_by, goto_by, back_by, branch_by, follow_by, pin_to}
 use Rattle.zt_book.specs.Log.{loaded}
 
 -- what the commands of client 1 are answered; a refusal leaves the session as it is

@@ -1,6 +1,6 @@
 -- A session: the tree of moments, and where each client stands in it; and what a client's command is answered, memory
 -- aside. The order of the checks is the order in which refusals are told. This project's own.
-use Rattle.std.specs.Prelude.{◌≡◌, ◌⊎◌, ℕ, ◌-◌, ◌+◌, ◌==◌, nat_lt, nat_le, Bool, true, false, ◌&&◌, ◌||◌, List, [], ◌∷◌, length, replicate, slice_index_or, slice_set, Option, None, Some, Result, Ok, Err}
+use Rattle.std.specs.Prelude.{◌≡◌, ◌⊎◌, ℕ, ◌-◌, ◌+◌, ◌==◌, nat_lt, nat_le, Bool, false, ◌&&◌, ◌||◌, List, [], ◌∷◌, length, replicate, slice_index_or, slice_set, Option, None, Some, Result, Ok, Err}
 use Rattle.std.specs.List.{list_all}
 use Rattle.std.specs.Option.{option_map}
 use Rattle.zt_rows.specs.declared.calls.Answer.{Answer}
@@ -114,8 +114,10 @@ ancestor way count = slice_index_or (0 ∷ way) (length way - count) 0
 unfoldable pub back_by : Session → ℕ → ℕ → Result (Answer × Session) Refusal
 back_by M client count = do
   _ ← check (nat_le count (length (path M.tree.made (position_of M client)))) refusal.AtStart
-  Ok (answer.At (ancestor (path M.tree.made (position_of M client)) count),
-      standing M client (At (ancestor (path M.tree.made (position_of M client)) count)))
+  Ok (
+    answer.At (ancestor (path M.tree.made (position_of M client)) count),
+    standing M client (At (ancestor (path M.tree.made (position_of M client)) count)),
+  )
 
 -- a branch at the position of the client, which follows it from then on
 unfoldable pub branch_by : Session → ℕ → List ℕ → Result (Answer × Session) Refusal

@@ -66,11 +66,7 @@ impl Book {
 
     /// The book of so many clients over the moments of these calls on `main`, in turn. Refused, the number is that of
     /// the call, from 0, or 0 for too many clients and for want of memory.
-    pub fn load(
-        alloc: Global,
-        clients: u8,
-        calls: &[(Koid, Call)],
-    ) -> Result<Book, (u64, Refusal)>
+    pub fn load(alloc: Global, clients: u8, calls: &[(Koid, Call)]) -> Result<Book, (u64, Refusal)>
         ensures ok { IfOk result (λ book. (tree : Tree) × (loaded calls.now ≡ Ok tree) × (book ≡ book_over tree clients)) }
         ensures few { OnOk result (clients ≤ 4) }
         ensures refused { IfErr result (IsUnloaded clients (loaded calls.now)) }

@@ -9,10 +9,7 @@ use zt_rows::{Call, Koid, Refusal};
 const MAIN: BranchId = BranchId(0);
 
 /// The history of these calls on `main`, in turn.
-pub(crate) fn history_of(
-    alloc: Global,
-    calls: &[(Koid, Call)],
-) -> Result<History, (u64, Refusal)>
+pub(crate) fn history_of(alloc: Global, calls: &[(Koid, Call)]) -> Result<History, (u64, Refusal)>
     ensures ok { IfOk result (λ history. loaded calls.now ≡ Ok history.tree) }
     ensures refused { IfErr result (IsUnloaded 0 (loaded calls.now)) }
 {

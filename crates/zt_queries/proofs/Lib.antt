@@ -10,3 +10,8 @@ pub mod HoldLaws
 pub mod GraphLaws
 pub mod SurveyLaws
 pub mod ListLeaks
+pub mod WayLaws
+pub mod TreeTimes
+pub mod WhenLaws
+pub mod ForkLaws
+pub mod SinceLaws

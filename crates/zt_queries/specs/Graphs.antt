@@ -33,6 +33,11 @@ abbrev pub sketched : Option Row → Option Sketch
 sketched (Some r) = sketch r
 sketched None = None
 
+-- what the record has under a key, or else the same
+abbrev pub held_over : Option (Option Row) → Option Sketch → Option Sketch
+held_over (Some r) s = sketched r
+held_over None s = s
+
 -- under each key there is what leaks hang on in the row of the state
 pub record IsGraph (graph : BTreeMap RowKey Sketch) (S : State) : Type 0 where
   pub draws : (k : RowKey) → get rowkey_cmp graph k ≡ sketched (row S k)

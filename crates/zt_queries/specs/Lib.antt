@@ -6,3 +6,4 @@ pub mod Copies
 pub mod Holding
 pub mod Graphs
 pub mod Surveys
+pub mod Turns

@@ -1,5 +1,5 @@
 -- One call more is loaded, or it is the first that is refused.
-use Rattle.std.proofs.Common.{◌≡◌, ◌+◌, suc, false, ap, subst, sym, arith}
+use Rattle.std.proofs.Common.{◌≡◌, ◌+◌, suc, false, subst, sym, arith}
 use Rattle.zt_book.specs.Log.{loaded, IsUnloadedBy}
 use Rattle.zt_book.proofs.LoadLaws.{branches-called, loaded-so-far, unloaded-so-far}
 use Rattle.zt_book.proofs.loading.history_of.Goals as goal

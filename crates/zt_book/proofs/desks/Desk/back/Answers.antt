@@ -1,9 +1,7 @@
 -- The position has so many ancestors or not; it has, and the client stands at the ancestor.
-use Rattle.std.proofs.Common.{◌≡◌, ◌≤◌, ◌-◌, ◌∷◌, length, get_or, sym, ◌∙◌, ap, subst, arith}
+use Rattle.std.proofs.Common.{◌≡◌, ◌≤◌, ◌-◌, ◌∷◌, length, get_or, ◌∙◌, arith}
 use Rattle.zt_history.specs.Tree.{path}
-use Rattle.zt_book.specs.Session.{position_of, ancestor, standing}
-use Rattle.zt_book.specs.Desk.{Seats}
-use Rattle.zt_book.specs.declared.clients.Cursor.TheVariants.{At}
+use Rattle.zt_book.specs.Session.{position_of, ancestor}
 use Rattle.zt_book.proofs.DeskLaws.{back-far, back-near, back-seen, ancestor-within}
 use Rattle.zt_book.proofs.desks.Desk.back.Goals as goal
 
@@ -40,4 +38,4 @@ returns-clause-ok c =
     let is : c.ancestor-moment.result ≡ ancestor (path c.args.self.now.session.tree.made (position_of c.args.self.now.session c.args.client)) c.args.count =
     c.ancestor-moment.ensures ∙ (λ i. get_or (0 ∷ way i) (depth i - c.args.count) 0) in
     back-seen c.args.self.now.session c.stand.new.self.session c.args.client c.args.count c.ancestor-moment.result (omega (arith, c.if-count-depth.false, depth)) is
-    (c.stand.ensures.session ∙ ap (λ (d : Seats). standing d.session c.args.client (At c.ancestor-moment.result)) c.self.view_is)
+    c.stand.ensures.session

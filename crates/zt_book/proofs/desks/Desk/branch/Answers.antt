@@ -1,8 +1,8 @@
 -- The name is looked at, then looked for; then there is one branch more.
-use Rattle.std.proofs.Common.{◌≡◌, ◌≤◌, true, false, sym, ◌∙◌, ap, subst, arith}
+use Rattle.std.proofs.Common.{◌≤◌, sym, ◌∙◌, ap, subst}
 use Rattle.std.specs.Prelude.{is_some}
 use Rattle.zt_history.specs.Tree.{branch_named, last_moment}
-use Rattle.zt_book.specs.Session.{is_name, position_of}
+use Rattle.zt_book.specs.Session.{is_name}
 use Rattle.zt_history.specs.Refusing.{branch_on, IsRefused}
 use Rattle.zt_book.specs.Desk.{Seats}
 use Rattle.zt_book.proofs.DeskLaws.{branch-unnamed, branch-taken, branch-memory, branch-refused, branch-seen}

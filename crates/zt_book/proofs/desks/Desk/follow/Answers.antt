@@ -1,10 +1,7 @@
 -- The name is looked for, and the client stands at the branch's head.
-use Rattle.std.proofs.Common.{◌≡◌, sym, ◌∙◌, ap}
-use Rattle.std.specs.Prelude.{Some, None}
+use Rattle.std.proofs.Common.{sym, ◌∙◌, ap}
 use Rattle.zt_history.specs.Tree.{branch_named, head_at}
-use Rattle.zt_book.specs.Session.{standing}
 use Rattle.zt_book.specs.Desk.{Seats}
-use Rattle.zt_book.specs.declared.clients.Cursor.TheVariants.{Follows}
 use Rattle.zt_book.proofs.DeskLaws.{follow-none, follow-memory, follow-seen}
 use Rattle.zt_book.proofs.desks.Desk.follow.Goals as goal
 
@@ -23,4 +20,4 @@ returns-clause-ok c =
     follow-seen c.args.self.now.session c.stand.new.self.session c.args.client c.args.name.now c.in-Ok.named c.in-Some.branch c.head-head.result
     (sym (c.in-Some.ensures ∙ (λ i. branch_named (c.self.view_is i).session.tree.branches (c.as_slice.ensures i))))
     c.in-Ok.ensures (c.head-head.ensures.head ∙ ap (λ (d : Seats). head_at d.session.tree.branches c.in-Some.branch) c.self.view_is)
-    (c.stand.ensures.session ∙ ap (λ (d : Seats). standing d.session c.args.client (Follows c.in-Some.branch)) c.self.view_is)
+    c.stand.ensures.session

@@ -1,7 +1,7 @@
 -- What keeps the object in the state to which the history went.
-use Rattle.std.proofs.Common.{◌≡◌, ◌∙◌, ap, subst, sym, refl}
+use Rattle.std.proofs.Common.{◌∙◌, ap, subst, sym, refl}
 use Rattle.zt_history.specs.Refusing.{IsRefused}
-use Rattle.zt_history.specs.Tree.{Tree, state_at}
+use Rattle.zt_history.specs.Tree.{state_at}
 use Rattle.zt_queries.specs.Copies.{holders_on}
 use Rattle.zt_book.specs.Session.{Session}
 use Rattle.zt_book.specs.Desk.{Seats}

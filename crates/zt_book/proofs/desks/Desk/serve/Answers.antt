@@ -1,5 +1,5 @@
 -- The client has room, and what it asked is answered and counted.
-use Rattle.std.proofs.Common.{◌≤◌, ◌<◌, ◌∙◌, ap, subst}
+use Rattle.std.proofs.Common.{◌≤◌, ◌<◌, subst}
 use Rattle.std.proofs.lemmas.Bool.{lt-ltb}
 use Rattle.zt_book.specs.declared.clients.Client.{Client}
 use Rattle.zt_book.specs.Session.{client_of}

@@ -1,7 +1,7 @@
 -- The rows of the state to which the history went.
-use Rattle.std.proofs.Common.{◌≡◌, ◌∙◌, ap}
-use Rattle.zt_history.specs.Tree.{Tree, state_at}
-use Rattle.zt_book.specs.Session.{Session, position_of}
+use Rattle.std.proofs.Common.{◌∙◌, ap}
+use Rattle.zt_history.specs.Tree.{state_at}
+use Rattle.zt_book.specs.Session.{Session}
 use Rattle.zt_book.specs.Desk.{Seats}
 use Rattle.zt_book.proofs.DeskLaws.{show-memory, show-seen}
 use Rattle.zt_book.proofs.desks.Desk.show.Goals as goal

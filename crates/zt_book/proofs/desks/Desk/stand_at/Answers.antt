@@ -1,8 +1,6 @@
 -- The moment is there or not; it is, and the client stands at it.
-use Rattle.std.proofs.Common.{length, ◌∙◌, ap, arith}
-use Rattle.zt_book.specs.Session.{standing}
+use Rattle.std.proofs.Common.{length, ap, arith}
 use Rattle.zt_book.specs.Desk.{Seats}
-use Rattle.zt_book.specs.declared.clients.Cursor.TheVariants.{At}
 use Rattle.zt_book.proofs.DeskLaws.{goto-far, goto-seen}
 use Rattle.zt_book.proofs.desks.Desk.stand_at.Goals as goal
 
@@ -15,4 +13,4 @@ pub returns-clause-ok : goal.returns-clause-ok
 returns-clause-ok c =
     goto-seen c.args.self.now.session c.stand.new.self.session c.args.client c.args.moment
     (omega (arith, c.if-moment-end.false, c.end.view_is, c.moment.view_is, c.last-end.ensures.last, ap (λ (d : Seats). length d.session.tree.made) c.self.view_is))
-    (c.stand.ensures.session ∙ ap (λ (d : Seats). standing d.session c.args.client (At c.args.moment)) c.self.view_is)
+    c.stand.ensures.session
