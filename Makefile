@@ -1,4 +1,5 @@
 # make        proves and builds the program, and leaves it as bin/zxtt
+# make install  copies the program to $(PREFIX)/bin
 # make run    also runs it on standard input
 # make test   the gate: everything from nothing
 # make quick  runs the program on standard input before any proof
@@ -6,11 +7,16 @@
 # make times  what each crate costs the gate, in processor seconds
 # make bench  how the cost of a call grows with the calls before it
 # make refusals  refuses each request for memory in turn, in the tests that are to pass whichever it is
-.PHONY: all run test quick cases times bench refusals
+PREFIX ?= /usr/local
+
+.PHONY: all install run test quick cases times bench refusals
 
 all:
 	cd crates/zxtt && rt run </dev/null >/dev/null
 	mkdir -p bin && cp crates/zxtt/out/zxtt bin/zxtt
+
+install: all
+	mkdir -p $(DESTDIR)$(PREFIX)/bin && cp bin/zxtt $(DESTDIR)$(PREFIX)/bin/zxtt
 
 run: all
 	bin/zxtt

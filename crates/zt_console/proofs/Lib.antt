@@ -1,5 +1,2 @@
-pub mod BranchLaws
-pub mod KeyLaws
-pub mod SessionLaws
 pub mod TalkLaws
-pub mod FitLaws
+pub mod FeedLaws

@@ -1,5 +1,5 @@
 pub mod Counting
-pub mod Branch
-pub mod Cursors
-pub mod Session
 pub mod Talk
+pub mod Books
+pub mod Running
+pub mod Feeding

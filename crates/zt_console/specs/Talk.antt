@@ -1,116 +1,103 @@
--- A talk: what a list of lines is answered, line by line, and what a run of one reads and writes.
--- This project's own.
-use Rattle.std.specs.Prelude.{◌≡◌, ◌⊎◌, ℕ, ◌<◌, ◌≤◌, ◌^◌, Bool, true, List, [], ◌∷◌, ◌++◌, not, ◌==◌, length, Option, None, Some, IfSome, Result, Ok, Err}
-use Rattle.std.specs.List.{list_all}
-use Rattle.std.specs.Io.KnownBytes.{Appends, Consumes}
+-- A talk: what a list of lines is answered, line by line. This project's own.
+use Rattle.std.specs.Prelude.{◌≡◌, ◌⊎◌, ℕ, true, List, [], ◌∷◌, ◌++◌, Option, None, Some, Result, Ok, Err}
 use Rattle.zt_rows.specs.declared.calls.Answer.{Answer}
+use Rattle.zt_rows.specs.declared.calls.Answer.TheVariants as answer
 use Rattle.zt_rows.specs.declared.calls.Command.{Command}
 use Rattle.zt_rows.specs.declared.refusals.Refusal.{Refusal}
 use Rattle.zt_rows.specs.declared.refusals.Refusal.TheVariants as refusal
-use Rattle.zt_console.specs.declared.running.End.{End}
-use Rattle.zt_console.specs.declared.running.End.TheVariants.{Finished, Stopped}
+use Rattle.zt_history.specs.Refusing.{IsRefused, ◌>>=◌}
+use Rattle.zt_queries.specs.Copies.{Snapshot, holders_on}
+use Rattle.zt_queries.specs.Leaks.{leaks}
 use Rattle.zt_text.specs.Answers.{shown_answer, shown_refusal}
-use Rattle.zt_text.specs.Lines.{lines_of}
-use Rattle.zt_text.specs.Reading.{read_as}
-use Rattle.zt_console.specs.Session.{Session, serve}
+use Rattle.zt_text.specs.Reading.{takes_memory, read_as}
+use Rattle.zt_text.specs.declared.reading.Line.{Line}
+use Rattle.zt_text.specs.declared.reading.Line.TheVariants as line
+use Rattle.zt_console.specs.declared.talking.Standing.{Standing}
 
--- ---- one line
+-- ---- a command
 
--- the text that a command gets, with the session after it
-abbrev pub Gets : Session → Result (Answer × Session) Refusal → List ℕ → Session → Type 0
-Gets M (Ok served) text N = (text ≡ shown_answer served.0) × (N ≡ served.1)
-Gets M (Err reason) text N = (text ≡ shown_refusal reason) × (N ≡ M)
+-- how a desk answers a command: an answer, with a copy of the history where it pinned one; or why it refuses
+abbrev pub Given : Type 0
+Given = Result (Answer × Option Snapshot) Refusal
 
--- the same, or that memory was refused, which changes nothing
-abbrev pub IsServed : Session → Command → List ℕ → Session → Type 0
-IsServed M asked text N = Gets M (serve M 1 asked) text N ⊎ ((text ≡ shown_refusal refusal.OutOfMemory) × (N ≡ M))
+-- what a desk may answer: what it was, the command, the answer, and what it is then
+abbrev pub Manner : Type 0 → Type 1
+Manner D = D → Command → Given → D → Type 0
+
+-- the text of an answer or of a refusal
+abbrev pub shown : Result Answer Refusal → List ℕ
+shown (Ok said) = shown_answer said
+shown (Err reason) = shown_refusal reason
+
+-- the answer alone
+abbrev pub said_by : Given → Result Answer Refusal
+said_by (Ok given) = Ok given.0
+said_by (Err reason) = Err reason
+
+-- the copy that `pinned` lines ask, once a command was answered with this one, or with none
+abbrev pub newest : Option Snapshot → Option Snapshot → Option Snapshot
+newest kept (Some copy) = Some copy
+newest kept None = kept
+
+abbrev pub pinned_after : Option Snapshot → Given → Option Snapshot
+pinned_after kept (Ok given) = newest kept given.1
+pinned_after kept (Err reason) = kept
+
+-- a command gets the text of what the desk answers
+pub record IsAnswered {D : Type 0} (Asks : Manner D) (M : Standing D) (asked : Command) (text : List ℕ) (N : Standing D) : Type 0 where
+  pub given : Given
+  pub answers : Asks M.desk asked given N.desk
+  pub shows : text ≡ shown (said_by given)
+  pub pins : N.pinned ≡ pinned_after M.pinned given
+
+-- the same, or that memory for reading the line was refused, which changes nothing
+abbrev pub Commands : {D : Type 0} → Manner D → Standing D → Command → List ℕ → Standing D → Type 0
+Commands Asks M asked text N =
+    IsAnswered Asks M asked text N ⊎ ((takes_memory asked ≡ true) × (text ≡ shown_refusal refusal.OutOfMemory) × (N ≡ M))
+
+-- ---- a question to the pinned copy
+
+abbrev pub rows_in : Snapshot → Result Answer Refusal
+rows_in copy = Ok (answer.Rows copy.moment copy.state.rows)
+
+abbrev pub holders_in : ℕ → Snapshot → Result Answer Refusal
+holders_in koid copy = do
+  held ← holders_on copy.state koid
+  Ok (answer.Holders koid held)
+
+abbrev pub leaks_in : Snapshot → Result Answer Refusal
+leaks_in copy = Ok (answer.Leaks copy.moment (leaks copy.state))
+
+-- the copy is asked, if there is one
+abbrev pub of_copy : Option Snapshot → (Snapshot → Result Answer Refusal) → Result Answer Refusal
+of_copy (Some copy) look = look copy
+of_copy None look = Err refusal.NoMoment
+
+-- what it is answered where this is what the copy tells: that, or that memory was refused
+abbrev pub IsTold : Result Answer Refusal → Result Answer Refusal → Type 0
+IsTold wanted (Ok said) = wanted ≡ Ok said
+IsTold wanted (Err given) = IsRefused wanted given
+
+-- a question gets the text of what the copy tells, and changes nothing
+pub record IsLooked {D : Type 0} (M : Standing D) (look : Snapshot → Result Answer Refusal) (text : List ℕ) (N : Standing D) : Type 0 where
+  pub said : Result Answer Refusal
+  pub told : IsTold (of_copy M.pinned look) said
+  pub shows : text ≡ shown said
+  pub same : N ≡ M
+
+-- ---- lines
 
 -- a skipped line gets nothing, a bad one its refusal
-abbrev pub Answers : Session → Result (Option Command) Refusal → List ℕ → Session → Type 0
-Answers M (Ok None) text N = (text ≡ []) × (N ≡ M)
-Answers M (Ok (Some asked)) text N = IsServed M asked text N
-Answers M (Err reason) text N = (text ≡ shown_refusal reason) × (N ≡ M)
+abbrev pub Answers : {D : Type 0} → Manner D → Standing D → Result (Option Line) Refusal → List ℕ → Standing D → Type 0
+Answers Asks M (Ok None) text N = (text ≡ []) × (N ≡ M)
+Answers Asks M (Ok (Some (line.Command asked))) text N = Commands Asks M asked text N
+Answers Asks M (Ok (Some line.PinnedShow)) text N = IsLooked M rows_in text N
+Answers Asks M (Ok (Some (line.PinnedHolders koid))) text N = IsLooked M (holders_in koid) text N
+Answers Asks M (Ok (Some line.PinnedLeaks)) text N = IsLooked M leaks_in text N
+Answers Asks M (Err reason) text N = (text ≡ shown_refusal reason) × (N ≡ M)
 
--- ---- all lines
-
--- from session M the lines get this text and end in N
-abbrev pub Talk : Session → List (List ℕ) → List ℕ → Session → Type 0
-Talk M [] text N = (text ≡ []) × (N ≡ M)
-Talk M (line ∷ lines) text N =
-    (first : List ℕ) × (between : Session) × (others : List ℕ) × Answers M (read_as line) first between × Talk between lines others N × (text ≡ first ++ others)
-
--- the text of a talk is written, whole where it is done, and else a prefix of it
-pub record Spoken (M : Session) (lines : List (List ℕ)) (N : Session) (before after : Option (List ℕ)) (done : Bool) : Type 0 where
-  pub text : List ℕ
-  pub written : List ℕ
-  pub unwritten : List ℕ
-  pub talk : Talk M lines text N
-  pub split : text ≡ written ++ unwritten
-  pub appended : Appends before after written
-  pub whole : done ≡ true → unwritten ≡ []
-
--- a text is written, whole where it is done, and else a prefix of it
-pub record IsWritten (text : List ℕ) (before after : Option (List ℕ)) (done : Bool) : Type 0 where
-  pub written : List ℕ
-  pub unwritten : List ℕ
-  pub split : text ≡ written ++ unwritten
-  pub appended : Appends before after written
-  pub whole : done ≡ true → unwritten ≡ []
-
--- ---- bytes that come in turn
-
-abbrev pub has_no_feed : List ℕ → Bool
-has_no_feed bytes = list_all (λ byte. not (byte == 10)) bytes
-
--- after `held`, which is part of a line, the bytes end some lines, which are spoken; where it is done `kept` is
--- then the part of a line, whatever bytes come next
-pub record Fed (M N : Session) (held kept bytes : List ℕ) (before after : Option (List ℕ)) (done : Bool) : Type 0 where
-  pub lines : List (List ℕ)
-  pub spoken : Spoken M lines N before after done
-  pub others : List ℕ → List (List ℕ)
-  pub cut : (more : List ℕ) → lines_of (held ++ (bytes ++ more)) ≡ lines ++ others more
-  pub goes_on : done ≡ true → (more : List ℕ) → others more ≡ lines_of (kept ++ more)
-  pub part : done ≡ true → has_no_feed kept ≡ true
-
--- what was read so far, at least a byte in each of so many reads, and how it was answered
-pub record HasRead (M N : Session) (kept : List ℕ) (known left before after : Option (List ℕ)) (reads : ℕ) : Type 0 where
-  pub input : List ℕ
-  pub consumed : Consumes known left input
-  pub fed : Fed M N [] kept input before after true
-  pub many : reads ≤ length input
-
--- ---- a run
-
--- the lines that were read, or where it is not done some first ones of them, are spoken
-pub record HasTalked (M N : Session) (known before after : Option (List ℕ)) (done : Bool) : Type 0 where
-  pub lines : List (List ℕ)
-  pub spoken : Spoken M lines N before after done
-  pub read : IfSome known (λ input. (others : List (List ℕ)) × (lines_of input ≡ lines ++ others) × (done ≡ true → others ≡ []))
-
--- ---- failures
-
--- a writer's number of failures rises where a write fails, and then alone
-abbrev pub IsCounted : ℕ → ℕ → Result (Unit {0}) Refusal → Type 0
-IsCounted old new (Ok _) = new ≡ old
-IsCounted old new (Err refusal.WriteFault) = old < new
-IsCounted old new (Err refusal.OutOfMemory) = new ≡ old
-IsCounted old new (Err _) = ⊥
-
--- the most reads of a run
-abbrev pub most_reads : ℕ
-most_reads = 2 ^ 40
-
--- Why a run stopped, or not, from the reader's and the writer's numbers of failures before and after. A read
--- fault comes where a read failed, or where there were as many reads as a run makes, each of some bytes.
-abbrev pub IsCause : ℕ × ℕ → ℕ × ℕ → Option (List ℕ) → Result (Unit {0}) Refusal → Type 0
-IsCause reader writer known (Ok _) = (reader.1 ≡ reader.0) × (writer.1 ≡ writer.0)
-IsCause reader writer known (Err refusal.ReadFault) =
-    ((reader.0 < reader.1) ⊎ IfSome known (λ input. most_reads ≤ length input)) × (writer.1 ≡ writer.0)
-IsCause reader writer known (Err refusal.WriteFault) = (reader.1 ≡ reader.0) × (writer.0 < writer.1)
-IsCause reader writer known (Err refusal.OutOfMemory) = (reader.1 ≡ reader.0) × (writer.1 ≡ writer.0)
-IsCause reader writer known (Err _) = ⊥
-
--- the outcome of which an end tells
-abbrev pub outcome : End → Result (Unit {0}) Refusal
-outcome Finished = Ok tt
-outcome (Stopped reason) = Err reason
+-- from M the lines get this text, one after another, and end in N
+abbrev pub Talk : {D : Type 0} → Manner D → Standing D → List (List ℕ) → List ℕ → Standing D → Type 0
+Talk Asks M [] text N = (text ≡ []) × (N ≡ M)
+Talk {D} Asks M (line ∷ lines) text N =
+    (first : List ℕ) × (between : Standing D) × (others : List ℕ) × Answers Asks M (read_as line) first between × Talk Asks between lines others N × (text ≡ first ++ others)

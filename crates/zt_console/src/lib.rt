@@ -3,9 +3,17 @@
 
 mod books;
 mod counted;
-mod histories;
+mod desks;
+mod feeding;
+mod loading;
+mod parts;
 mod running;
+mod saving;
+mod talking;
 
-pub use books::Book;
+pub use books::run;
 pub use counted::Counted;
-pub use running::{End, run};
+pub use loading::load_text;
+pub use running::End;
+pub use saving::path_text;
+pub use zt_book::Book;

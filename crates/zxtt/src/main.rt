@@ -1,52 +1,72 @@
-//! `zxtt` reads calls and commands line by line from standard input, and answers each on standard output.
+//! `zxtt` reads calls and commands line by line, and answers each.
 #![tactic(auto)]
 
-ghost use Rattle.std.specs.Prelude.{◌≡◌};
-ghost use Rattle.std.specs.Process.{exit_status};
-ghost use Rattle.zxtt.specs.Statuses.{stopped_status};
+ghost use Rattle.std.specs.Prelude.{◌≤◌, length};
 
+mod faults;
+mod files;
+mod words;
+
+use faults::Fault;
+use files::{load, open, save};
+use std::io::Read;
 use std::process::ExitCode;
+use words::{Asked, Words};
 use zt_console::{Book, Counted, End, run};
-use zt_rows::Refusal;
 
 fn main(rt: HostRuntime) -> ExitCode {
-    let book = match Book::new(rt.alloc(), 1) {
-        Ok(book) => book,
-        Err(refusal) => return stopped(&rt, refusal),
-    };
-    let mut reader = Counted::new(rt.stdin());
-    let mut writer = Counted::new(rt.stdout());
-    let (_, end) = run(rt.alloc(), book, &mut reader, &mut writer);
-    match end {
-        End::Finished => ExitCode::SUCCESS,
-        End::Stopped(refusal) => stopped(&rt, refusal),
+    match start(&rt) {
+        Ok(()) => ExitCode::SUCCESS,
+        Err(fault) => {
+            let status = fault.status();
+            let _ = eprintln!(rt; "{fault}");
+            ExitCode::from(status)
+        }
     }
 }
 
-/// Says why the run stopped, and the exit status for it.
-fn stopped(rt: &impl Eprint, refusal: Refusal) -> ExitCode
-    ensures { exit_status result ≡ stopped_status refusal }
+/// Reads the words and does what they ask.
+fn start(rt: &HostRuntime) -> Result<(), Fault> {
+    let words = Words::of(rt)?;
+    match words.asked(rt.alloc())? {
+        Asked::Run {
+            file,
+            from,
+            save: to,
+        } => {
+            let book = match from {
+                Some(path) => load(rt, 1, path)?,
+                None => Book::new(rt.alloc(), 1)?,
+            };
+            let book = run_file(rt, book, file)?;
+            match to {
+                Some(path) => save(rt, &book, path),
+                None => Ok(()),
+            }
+        }
+    }
+}
+
+/// Runs the lines of the file, or of standard input for `-`.
+fn run_file(rt: &HostRuntime, book: Book, file: &str) -> Result<Book, Fault>
+    requires { 1 ≤ length book.session.clients }
 {
-    let number = refusal.number();
-    let name = refusal.name();
-    let _ = eprintln!(rt; "zxtt: refused {number} {name}");
-    match refusal {
-        Refusal::ReadFault => ExitCode::from(4),
-        Refusal::WriteFault => ExitCode::from(5),
-        _ => ExitCode::from(6),
+    if file == "-" {
+        run_lines(rt, book, rt.stdin())
+    } else {
+        run_lines(rt, book, open(rt, file)?)
     }
 }
 
-#[cfg(test)]
-mod tests {
-    use super::stopped;
-    use std::process::ExitCode;
-    use zt_rows::Refusal;
-
-    #[test]
-    fn statuses(rt: HostRuntime) {
-        assert!(rt; stopped(&rt, Refusal::ReadFault) == ExitCode::from(4));
-        assert!(rt; stopped(&rt, Refusal::WriteFault) == ExitCode::from(5));
-        assert!(rt; stopped(&rt, Refusal::OutOfMemory) == ExitCode::from(6));
+/// Runs the lines of the reader, and answers on standard output.
+fn run_lines<R: Read + Drop>(rt: &HostRuntime, book: Book, reader: R) -> Result<Book, Fault>
+    requires { 1 ≤ length book.session.clients }
+{
+    let mut reader = Counted::new(reader);
+    let mut writer = Counted::new(rt.stdout());
+    let (book, end) = run(rt.alloc(), book, &mut reader, &mut writer);
+    match end {
+        End::Finished => Ok(book),
+        End::Stopped(refusal) => Err(Fault::Refused(refusal)),
     }
 }

@@ -1,0 +1,204 @@
+ghost use Rattle.std.specs.Prelude.{◌≡◌, ◌<◌, ◌-◌, ◌^◌, ◌∷◌, [], ◌++◌, true, false, is_ok, Err, OnOk, IfSome, IfNone};
+ghost use Rattle.zt_console.specs.Feeding.{decisive_lines, has_no_feed, IsFirstFeed, Passed, Put, Fed};
+ghost use Rattle.zt_console.specs.Running.{IsWritten, IsSent, IsCounted};
+
+use crate::counted::Counted;
+use crate::desks::Desk;
+use crate::parts::Part;
+use crate::talking::{Standing, text_for};
+use std::alloc::{AllocError, Global};
+use std::io::Write;
+use zt_rows::Refusal;
+
+/// Where so many bytes of answers wait, they are written before the next line is answered.
+const ENOUGH: usize = 65_536;
+
+/// Takes bytes that were read, and writes what they are answered.
+pub(crate) fn answer_chunk<D: Desk, W: Write>(
+    alloc: Global,
+    client: &mut Standing<D>,
+    part: &mut Part,
+    bytes: &[u8],
+    waiting: &mut Vec<u8>,
+    writer: &mut Counted<W>,
+) -> Result<(), Refusal>
+    requires ready { D.ready client.old.desk }
+    requires count { writer.old.1 < 2 ^ 64 - 1 }
+    ensures fed { Fed D.asks client.old client.new part.old part.new bytes.now waiting.old.items [] (W.contents writer.old.0) (W.contents writer.new.0) (is_ok result) }
+    ensures empty { OnOk result (waiting.new.items ≡ []) }
+    ensures counted { IsCounted writer.old.1 writer.new.1 result }
+    ensures ready { D.ready client.new.desk }
+{
+    match feed(alloc, client, part, bytes, waiting, writer) {
+        Ok(()) => send(waiting, writer),
+        Err(refusal) => Err(refusal),
+    }
+}
+
+/// Answers what stands behind the last line feed, if anything does, and writes what waits.
+pub(crate) fn answer_rest<D: Desk, W: Write>(
+    alloc: Global,
+    client: &mut Standing<D>,
+    part: &Part,
+    waiting: &mut Vec<u8>,
+    writer: &mut Counted<W>,
+) -> Result<(), Refusal>
+    requires ready { D.ready client.old.desk }
+    requires count { writer.old.1 < 2 ^ 64 - 1 }
+    ensures passed { Passed D.asks client.old (decisive_lines part.now) client.new waiting.old.items [] (W.contents writer.old.0) (W.contents writer.new.0) (is_ok result) }
+    ensures counted { IsCounted writer.old.1 writer.new.1 result }
+    ensures ready { D.ready client.new.desk }
+{
+    let line = part.bytes();
+    if line.is_empty() {
+        return send(waiting, writer);
+    }
+    match answer_line(alloc, client, line, waiting) {
+        Ok(()) => send(waiting, writer),
+        Err(_) => Err(out_of_memory(waiting, writer)),
+    }
+}
+
+/// Takes bytes: each line feed ends a line, which is answered.
+fn feed<D: Desk, W: Write>(
+    alloc: Global,
+    client: &mut Standing<D>,
+    part: &mut Part,
+    bytes: &[u8],
+    waiting: &mut Vec<u8>,
+    writer: &mut Counted<W>,
+) -> Result<(), Refusal>
+    requires ready { D.ready client.old.desk }
+    requires count { writer.old.1 < 2 ^ 64 - 1 }
+    ensures fed { Fed D.asks client.old client.new part.old part.new bytes.now waiting.old.items waiting.new.items (W.contents writer.old.0) (W.contents writer.new.0) (is_ok result) }
+    ensures counted { IsCounted writer.old.1 writer.new.1 result }
+    ensures ready { D.ready client.new.desk }
+{
+    let mut rest = bytes;
+    while let Some(place) = first_feed(rest) {
+        let (line, behind) = rest.split_at(place);
+        match end_line(alloc, client, part, line, waiting, writer) {
+            Ok(()) => {}
+            Err(refusal) => return Err(refusal),
+        }
+        rest = behind.split_at(1).1;
+    }
+    match part.add(rest) {
+        Ok(()) => Ok(()),
+        Err(_) => Err(out_of_memory(waiting, writer)),
+    }
+}
+
+/// Where the first line feed stands.
+fn first_feed(bytes: &[u8]) -> Option<usize>
+    ensures found { IfSome result (IsFirstFeed bytes.now) }
+    ensures none { IfNone result (has_no_feed bytes.now ≡ true) }
+{
+    for (place, byte) in bytes.iter().enumerate() {
+        if *byte == b'\n' {
+            return Some(place);
+        }
+    }
+    None
+}
+
+/// Takes the last bytes of a line, behind which a line feed ends it, and answers it.
+fn end_line<D: Desk, W: Write>(
+    alloc: Global,
+    client: &mut Standing<D>,
+    part: &mut Part,
+    bytes: &[u8],
+    waiting: &mut Vec<u8>,
+    writer: &mut Counted<W>,
+) -> Result<(), Refusal>
+    requires ready { D.ready client.old.desk }
+    requires count { writer.old.1 < 2 ^ 64 - 1 }
+    requires one { has_no_feed bytes.now ≡ true }
+    ensures fed { Fed D.asks client.old client.new part.old part.new (bytes.now ++ 10 ∷ []) waiting.old.items waiting.new.items (W.contents writer.old.0) (W.contents writer.new.0) (is_ok result) }
+    ensures counted { IsCounted writer.old.1 writer.new.1 result }
+    ensures ready { D.ready client.new.desk }
+{
+    let Ok(()) = part.add(bytes) else {
+        return Err(out_of_memory(waiting, writer));
+    };
+    let answered = answer_line(alloc, client, part.bytes(), waiting);
+    part.clear();
+    match answered {
+        Ok(()) => send_enough(waiting, writer),
+        Err(_) => Err(out_of_memory(waiting, writer)),
+    }
+}
+
+/// Answers a line: its text waits behind the others.
+fn answer_line<D: Desk>(
+    alloc: Global,
+    client: &mut Standing<D>,
+    line: &[u8],
+    waiting: &mut Vec<u8>,
+) -> Result<(), AllocError>
+    requires { D.ready client.old.desk }
+    ensures put { Put D.asks client.old line.now client.new waiting.old.items waiting.new.items (is_ok result) }
+    ensures ready { D.ready client.new.desk }
+{
+    match text_for(alloc, client, line) {
+        Ok(text) => waiting.extend_from_slice(text.as_slice()),
+        Err(fault) => Err(fault),
+    }
+}
+
+/// Memory was refused: writes the answers that wait, unless a write fails.
+fn out_of_memory<W: Write>(waiting: &mut Vec<u8>, writer: &mut Counted<W>) -> Refusal
+    requires { writer.old.1 < 2 ^ 64 - 1 }
+    ensures written { IsWritten waiting.old.items (W.contents writer.old.0) (W.contents writer.new.0) false }
+    ensures counted { IsCounted writer.old.1 writer.new.1 (Err result) }
+{
+    match send(waiting, writer) {
+        Ok(()) => Refusal::OutOfMemory,
+        Err(refusal) => refusal,
+    }
+}
+
+/// Writes the answers that wait, where there are many.
+fn send_enough<W: Write>(waiting: &mut Vec<u8>, writer: &mut Counted<W>) -> Result<(), Refusal>
+    requires { writer.old.1 < 2 ^ 64 - 1 }
+    ensures sent { IsSent waiting.old.items waiting.new.items (W.contents writer.old.0) (W.contents writer.new.0) (is_ok result) }
+    ensures counted { IsCounted writer.old.1 writer.new.1 result }
+{
+    if waiting.len() < ENOUGH {
+        Ok(())
+    } else {
+        send(waiting, writer)
+    }
+}
+
+/// Writes the answers that wait.
+fn send<W: Write>(waiting: &mut Vec<u8>, writer: &mut Counted<W>) -> Result<(), Refusal>
+    requires { writer.old.1 < 2 ^ 64 - 1 }
+    ensures written { IsWritten waiting.old.items (W.contents writer.old.0) (W.contents writer.new.0) (is_ok result) }
+    ensures empty { OnOk result (waiting.new.items ≡ []) }
+    ensures counted { IsCounted writer.old.1 writer.new.1 result }
+{
+    match write_text(waiting.as_slice(), writer) {
+        Ok(()) => {
+            waiting.clear();
+            Ok(())
+        }
+        Err(refusal) => Err(refusal),
+    }
+}
+
+/// Writes the whole text, unless a write fails.
+fn write_text<W: Write>(text: &[u8], writer: &mut Counted<W>) -> Result<(), Refusal>
+    requires { writer.old.1 < 2 ^ 64 - 1 }
+    ensures written { IsWritten text.now (W.contents writer.old.0) (W.contents writer.new.0) (is_ok result) }
+    ensures counted { IsCounted writer.old.1 writer.new.1 result }
+{
+    let mut rest = text;
+    while !rest.is_empty() {
+        match writer.write(rest) {
+            Ok(count) if count > 0 => rest = rest.split_at(count).1,
+            _ => return Err(Refusal::WriteFault),
+        }
+    }
+    Ok(())
+}

@@ -1,0 +1,60 @@
+ghost use Rattle.std.specs.Prelude.{◌≡◌, ◌++◌, ◌∷◌, [], IfOk, IfErr, OnOk};
+ghost use Rattle.std.specs.List.{filter_map};
+ghost use Rattle.zt_history.specs.Refusing.{IsRefused, moment_on};
+ghost use Rattle.zt_history.specs.Tree.{call_at, calls_to};
+ghost use Rattle.zt_text.specs.Calls.{session_text};
+
+use std::alloc::{AllocError, Global};
+use zt_history::History;
+use zt_rows::{Call, Koid, Moment, Refusal};
+use zt_text::print_session;
+
+/// The session text of the path to a moment, which loads as that path again.
+pub fn path_text(alloc: Global, history: &History, moment: Moment) -> Result<Vec<u8>, Refusal>
+    ensures ok { IfOk result (λ text. text.items ≡ session_text (calls_to history.now.tree.made moment)) }
+    ensures refused { IfErr result (IsRefused (moment_on history.now.tree moment)) }
+{
+    let way = match history.path(moment) {
+        Ok(way) => way,
+        Err(refusal) => return Err(refusal),
+    };
+    let Ok(calls) = calls_on(alloc, history, way.as_slice()) else {
+        return Err(Refusal::OutOfMemory);
+    };
+    match print_session(alloc, calls.as_slice()) {
+        Ok(text) => Ok(text),
+        Err(_) => Err(Refusal::OutOfMemory),
+    }
+}
+
+/// Equal calls of these moments, each with its process.
+fn calls_on(
+    alloc: Global,
+    history: &History,
+    way: &[Moment],
+) -> Result<Vec<(Koid, Call)>, AllocError>
+    ensures { IfOk result (λ calls. calls.items ≡ filter_map (call_at history.now.tree.made) way.now) }
+{
+    let mut calls = Vec::with_capacity(alloc, way.len())?;
+    for moment in way {
+        push_call(&mut calls, history, *moment)?;
+    }
+    Ok(calls)
+}
+
+/// Puts an equal call of the moment, if it has one, behind the others.
+fn push_call(
+    calls: &mut Vec<(Koid, Call)>,
+    history: &History,
+    moment: Moment,
+) -> Result<(), AllocError>
+    ensures { OnOk result (calls.new.items ≡ calls.old.items ++ filter_map (call_at history.now.tree.made) (moment ∷ [])) }
+{
+    match history.call_of(moment) {
+        Some((process, call)) => {
+            calls.push((process, call.copy()?))?;
+            Ok(())
+        }
+        None => Ok(()),
+    }
+}

@@ -1,0 +1,78 @@
+//! What ends the program before it is done.
+
+ghost use Rattle.std.specs.Prelude.{◌≡◌};
+ghost use Rattle.zxtt.specs.Statuses.{stopped_status};
+
+use std::fmt::{Display, Formatter, Write};
+use std::{fmt, io};
+use thiserror::Error;
+use zt_rows::Refusal;
+
+/// What ends the program before it is done.
+#[derive(Debug, Drop, Error)]
+pub enum Fault {
+    /// The words were not accepted, or help was asked for.
+    #[error("{0}")]
+    Words(clap::Error),
+    /// The words are no text.
+    #[error("zxtt: the words cannot be read: {0}")]
+    Unread(io::Error),
+    /// A file could not be opened.
+    #[error("zxtt: {path}: {error}")]
+    Unopened { path: String, error: io::Error },
+    /// Something was refused.
+    #[error("zxtt: {}", RefusalLine(*.0))]
+    Refused(Refusal),
+    /// A session text was refused, with the number of the line at fault, or 0.
+    #[error("zxtt: line {line}: {}", RefusalLine(*.refusal))]
+    Trace { line: u64, refusal: Refusal },
+}
+
+impl Fault {
+    /// Memory was refused.
+    pub fn of_memory() -> Fault {
+        Fault::Refused(Refusal::OutOfMemory)
+    }
+
+    /// The exit status.
+    pub fn status(&self) -> u8 {
+        match self {
+            Fault::Words(_) | Fault::Unread(_) => 2,
+            Fault::Unopened { .. } => 3,
+            Fault::Refused(refusal) => stopped_status(*refusal),
+            Fault::Trace { .. } => 6,
+        }
+    }
+}
+
+impl From<Refusal> for Fault {
+    fn from(refusal: Refusal) -> Fault {
+        Fault::Refused(refusal)
+    }
+}
+
+/// The exit status where this was refused.
+pub fn stopped_status(refusal: Refusal) -> u8
+    ensures { result ≡ stopped_status refusal }
+{
+    match refusal {
+        Refusal::ReadFault => 4,
+        Refusal::WriteFault => 5,
+        _ => 6,
+    }
+}
+
+/// A refusal as a client reads it.
+#[derive(Clone, Copy, Debug)]
+struct RefusalLine(Refusal);
+
+impl Display for RefusalLine {
+    fn fmt<W: Write>(&self, f: &mut Formatter<W>) -> fmt::Result {
+        let refusal = self.0;
+        write!(f, "refused {} {}", refusal.number(), refusal.name())?;
+        match refusal {
+            Refusal::BadLine(column) => write!(f, " {column}"),
+            _ => Ok(()),
+        }
+    }
+}

@@ -1,0 +1,66 @@
+//! Session texts that are loaded and saved.
+
+ghost use Rattle.std.specs.Prelude.{◌≡◌, length, IfOk};
+
+use crate::faults::Fault;
+use std::alloc::Global;
+use std::fs::File;
+use std::io::{Read, Write};
+use std::{fs, io};
+use zt_console::{Book, load_text, path_text};
+use zt_rows::Refusal;
+
+/// Opens a file to be read.
+pub fn open(rt: &HostRuntime, path: &str) -> Result<File, Fault> {
+    match fs::open(rt, path) {
+        Ok(file) => Ok(file),
+        Err(error) => Err(unopened(rt.alloc(), path, error)),
+    }
+}
+
+/// The book of so many clients over the calls of a session text.
+pub fn load(rt: &HostRuntime, clients: u8, path: &str) -> Result<Book, Fault>
+    ensures { IfOk result (λ book. length book.session.clients ≡ clients) }
+{
+    let text = read(rt, path)?;
+    match load_text(rt.alloc(), clients, text.as_slice()) {
+        Ok(book) => Ok(book),
+        Err((line, refusal)) => Err(Fault::Trace { line, refusal }),
+    }
+}
+
+/// Writes the session text of the path to the head of `main`.
+pub fn save(rt: &HostRuntime, book: &Book, path: &str) -> Result<(), Fault> {
+    let mut file = match fs::create(rt, path) {
+        Ok(file) => file,
+        Err(error) => return Err(unopened(rt.alloc(), path, error)),
+    };
+    let history = book.history();
+    let Some(main) = history.find(b"main") else {
+        return Err(Fault::Refused(Refusal::NoBranch));
+    };
+    let text = path_text(rt.alloc(), history, history.head(main))?;
+    match file.write_all(text.as_slice()) {
+        Ok(()) => Ok(()),
+        Err(_) => Err(Fault::Refused(Refusal::WriteFault)),
+    }
+}
+
+/// All bytes of a file.
+fn read(rt: &HostRuntime, path: &str) -> Result<Vec<u8>, Fault> {
+    let mut file = open(rt, path)?;
+    let mut bytes = Vec::new(rt.alloc());
+    match file.read_to_end(&mut bytes) {
+        Ok(_) => Ok(bytes),
+        Err(error) if error.kind() == io::ErrorKind::OutOfMemory => Err(Fault::of_memory()),
+        Err(_) => Err(Fault::Refused(Refusal::ReadFault)),
+    }
+}
+
+/// The file of this path could not be opened.
+fn unopened(alloc: Global, path: &str, error: io::Error) -> Fault {
+    match String::from_str(alloc, path) {
+        Ok(path) => Fault::Unopened { path, error },
+        Err(_) => Fault::of_memory(),
+    }
+}

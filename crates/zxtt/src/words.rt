@@ -1,0 +1,135 @@
+//! The words of the command line.
+
+use crate::faults::Fault;
+use clap::{Arg, ArgAction, Command, Error};
+use std::alloc::Global;
+use std::env;
+
+/// What the program does.
+const ABOUT: &str = "A time-travel debugger for traces of Zircon's kernel objects.
+
+It executes system calls of processes on handles and kernel objects by a written
+semantics. Each line of its input is a call, which makes the next moment of the
+history, or a command, which looks at the history or moves in it; each is answered
+at once. So one can go back to the call that leaked a handle, closed a peer or
+killed a job.";
+
+/// What is said behind the words.
+const EXAMPLES: &str = "Lines, with what they do:
+  1025 event_create               process 1025, which is there from the start, makes an event
+  1025 handle_close 7             it closes its handle 7
+  back 1                          one moment back; `goto 4` goes to moment 4
+  branch fix                      a branch of that name, from where we are
+  follow main                     back to the branch `main`, where all calls begin
+  show                            all rows of the state; `holders 1026` what keeps an object
+  leaks                           the objects that no live process can reach any more
+  when leaked 1026                the call that leaked it; also made, ended, peer_closed
+  pin                             keeps a copy, which `pinned leaks` and the like ask
+
+Exit statuses:
+  0  the input was answered to its end, refused lines included
+  2  the words were not accepted, or help was asked for
+  3  a file could not be opened
+  4  a read failed            5  a write failed
+  6  anything else was refused, as a line of a loaded trace";
+
+/// The words that the program was started with.
+#[derive(Drop)]
+pub struct Words {
+    words: Vec<String>,
+}
+
+/// What the words ask for.
+#[derive(Clone, Copy)]
+pub enum Asked<'a> {
+    /// To run the lines of a file, from a trace if one is named, and to save the history of `main` if a file is named.
+    Run {
+        file: &'a str,
+        from: Option<&'a str>,
+        save: Option<&'a str>,
+    },
+}
+
+impl Words {
+    /// The words, the program's own name among them.
+    pub fn of(rt: &HostRuntime) -> Result<Words, Fault> {
+        let words = match env::args(rt) {
+            Ok(words) => words,
+            Err(error) => return Err(Fault::Unread(error)),
+        };
+        match words.collect(rt.alloc()) {
+            Ok(words) => Ok(Words { words }),
+            Err(_) => Err(Fault::of_memory()),
+        }
+    }
+
+    /// What they ask for. No words at all ask to run standard input.
+    pub fn asked(&self, alloc: Global) -> Result<Asked<'_>, Fault> {
+        if self.words.len() <= 1 {
+            return Ok(Asked::Run {
+                file: "-",
+                from: None,
+                save: None,
+            });
+        }
+        match self.parsed(alloc) {
+            Ok(asked) => Ok(asked),
+            Err(error) => Err(Fault::Words(error)),
+        }
+    }
+
+    /// What they ask for, as the command line is declared.
+    fn parsed(&self, alloc: Global) -> Result<Asked<'_>, Error> {
+        let matches = command(alloc)?.try_get_matches_from(self.words.as_slice())?;
+        match matches.subcommand_matches("run") {
+            Some(run) => Ok(Asked::Run {
+                file: run.get_str("FILE").unwrap_or("-"),
+                from: run.get_str("from"),
+                save: run.get_str("save"),
+            }),
+            None => Ok(Asked::Run {
+                file: "-",
+                from: None,
+                save: None,
+            }),
+        }
+    }
+}
+
+/// The command line.
+fn command(alloc: Global) -> Result<Command<'static>, Error> {
+    Ok(
+        Command::new(alloc, "zxtt")
+            .version("0.1")
+            .about(ABOUT)
+            .after_help(EXAMPLES)
+            .subcommand_required(true)
+            .subcommand(run_command(alloc)?)?,
+    )
+}
+
+/// The words behind `run`.
+fn run_command(alloc: Global) -> Result<Command<'static>, Error> {
+    let file = Arg::new(alloc, "FILE")
+        .action(ArgAction::Set)
+        .default_value("-")
+        .help("The lines; `-` is standard input");
+    let from = Arg::new(alloc, "from")
+        .long("from")
+        .value_name("TRACE")
+        .action(ArgAction::Set)
+        .help("Begins with the calls of a session text, on the branch `main`");
+    let save = Arg::new(alloc, "save")
+        .long("save")
+        .value_name("OUT")
+        .action(ArgAction::Set)
+        .help("Writes the calls on `main` as a session text, once the input has ended");
+    Ok(
+        Command::new(alloc, "run")
+            .about("Answers the lines of a file; without any words the program does this")
+            .after_help(EXAMPLES)
+            .arg(file)?
+            .arg(from)?
+            .arg(save)?,
+    )
+}
