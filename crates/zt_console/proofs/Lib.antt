@@ -1,2 +1,3 @@
 pub mod TalkLaws
 pub mod FeedLaws
+pub mod KeepLaws

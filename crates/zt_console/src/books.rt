@@ -47,6 +47,7 @@ pub(crate) fn is_pin(request: &Command) -> bool
 
 /// Answers the lines of the reader, as client 1 of the book, until its end or the first failure. Where it is
 /// stopped, a command that was served before stands, whether or not its answer could be written.
+#[tactic(auto, using(crate::proofs::KeepLaws::talked-clients))]
 pub fn run<R: Read, W: Write>(
     alloc: Global,
     book: Book,
@@ -59,7 +60,7 @@ pub fn run<R: Read, W: Write>(
     ensures talk { HasTalked AsksBook book result.0 (R.remaining reader.old.0) (W.contents writer.old.0) (W.contents writer.new.0) (is_ok (outcome result.1)) }
     ensures end { OnOk (outcome result.1) (IsAtEnd (R.remaining reader.new.0)) }
     ensures cause { IsCause (reader.old.1, reader.new.1) (writer.old.1, writer.new.1) (R.remaining reader.old.0) (outcome result.1) }
-    ensures client { 1 ≤ length result.0.session.clients }
+    ensures clients { length result.0.session.clients ≡ length book.session.clients }
 {
     let (book, outcome) = answer_all(alloc, book, reader, writer);
     match outcome {
