@@ -13,7 +13,7 @@ use std::alloc::Global;
 use std::fmt::{Display, Formatter, Write};
 use std::rt::Files;
 use std::{fmt, fs, io};
-use zt_console::{Book, Counted, End, load_text, path_text, run};
+use zt_console::{Book, Counted, End, load_text, main_text, run};
 use zt_rows::Refusal;
 
 fn main(rt: HostRuntime) -> io::Result<()> {
@@ -94,18 +94,9 @@ fn answers(alloc: Global, book: Book, asked: &[u8]) -> Result<Came, Refusal>
     match end {
         End::Finished => Ok(Came {
             answers: writer.into_inner(),
-            saved: saved_of(alloc, &book)?,
+            saved: main_text(alloc, &book)?,
         }),
         End::Stopped(refusal) => Err(refusal),
-    }
-}
-
-/// The session text of the path to the head of `main`.
-fn saved_of(alloc: Global, book: &Book) -> Result<Vec<u8>, Refusal> {
-    let history = book.history();
-    match history.find(b"main") {
-        Some(main) => path_text(alloc, history, history.head(main)),
-        None => Err(Refusal::NoBranch),
     }
 }
 

@@ -1,6 +1,8 @@
 -- What a desk does with a command, and what the session's checks say of it.
 use Rattle.std.proofs.Common.{◌≡◌, ℕ, zero, suc, ◌-◌, ◌≤◌, ◌<◌, Bool, true, false, List, [], ◌∷◌, ◌++◌, length, get_or, Option, Some, None, Result, Ok, Err, refl, sym, ◌∙◌, ap, subst, inl, inr, arith}
-use Rattle.std.specs.Prelude.{is_some, IfErr, IsSome}
+use Rattle.std.specs.Prelude.{is_some, IfErr, IsSome, slice_get, replicate}
+use Rattle.std.proofs.lemmas.List.{length-replicate}
+use Rattle.std.proofs.lemmas.List.Elements.{All-replicate}
 use Rattle.std.proofs.lemmas.Bool.{le-leb, lt-leb, lt-ltb, le-ltb}
 use Rattle.zt_rows.specs.declared.calls.Answer.{Answer}
 use Rattle.zt_rows.specs.declared.calls.Answer.TheVariants as answer
@@ -15,8 +17,8 @@ use Rattle.zt_rows.specs.declared.supports.Support.{Support}
 use Rattle.zt_rows.specs.declared.refusals.Refusal.TheVariants as refusal
 use Rattle.zt_rows.specs.Tests.{exists}
 use Rattle.zt_history.specs.Refusing.{◌>>=◌, check, call_on, branch_on, IsRefused as IsRefusedThere}
-use Rattle.zt_history.specs.Standing.{Falls}
-use Rattle.zt_history.specs.Tree.{Made, Tree, last_moment, parent_at, path, state_at, head_at, branch_named}
+use Rattle.zt_history.specs.Standing.{Falls, IsTree, names_of}
+use Rattle.zt_history.specs.Tree.{Made, Branch, Tree, main_name, last_moment, parent_at, path, state_at, head_at, branch_named}
 use Rattle.zt_history.proofs.PathLaws.{path-opening, path-step, by_parents}
 use Rattle.zt_history.specs.Timeline.{Timeline}
 use Rattle.zt_queries.specs.Copies.{holders_on}
@@ -30,7 +32,7 @@ use Rattle.zt_book.proofs.LoadLaws.{moments-called, branches-called}
 use Rattle.zt_book.specs.declared.clients.Client.{Client}
 use Rattle.zt_book.specs.declared.clients.Cursor.{Cursor}
 use Rattle.zt_book.specs.declared.clients.Cursor.TheVariants.{Follows, At}
-use Rattle.zt_book.specs.Session.{Session, event_of, event_at, client_of, position_of, state_of, with_client, standing, ancestor, is_name, most_rows, serve, call_by, goto_by, back_by, branch_by, follow_by, show_to, holders_to, leaks_to, when_to, pin_to, IsRefused}
+use Rattle.zt_book.specs.Session.{Session, first_client, event_of, event_at, client_of, position_of, state_of, with_client, standing, ancestor, is_name, most_rows, serve, call_by, goto_by, back_by, branch_by, follow_by, show_to, holders_to, leaks_to, when_to, pin_to, IsRefused}
 
 -- ---- refusals
 
@@ -41,13 +43,19 @@ refused-there (Err refusal.NoProcess) f given h = h
 refused-there (Err refusal.NoObject) f given h = inl h
 refused-there (Err _) f given h = h
 
+-- ---- branches
+
+some-branch : (branches : List Branch) → slice_get (names_of branches) 0 ≡ Some main_name → 0 < length branches
+some-branch [] h = cc h
+some-branch (b ∷ bs) h = omega arith
+
 -- ---- events
 
 -- the call of a moment tells its event
-pub event-called : (m : ℕ) (o : Option Made)
+pub event_called : (m : ℕ) (o : Option Made)
     → option_map (event_of m) o ≡ option_map (λ (q : ℕ × Call). let x : Event = record { moment = m; process = q.0; call = q.1 } in x) (option_map (λ e. (e.process, e.call)) o)
-event-called m None = refl
-event-called m (Some e) = refl
+event_called m None = refl
+event_called m (Some e) = refl
 
 -- ---- one command each
 
@@ -163,13 +171,6 @@ module _ (M : Session) (client : ℕ) where
   when-refused-by made what moment object f given true h refused = rw h (subst (λ b. IsRefusedWhen (check b refusal.NoObject >>= λ _. Ok (last_on (happens what object) made moment)) given) h refused)
   when-refused-by made what moment object f given false h refused = rw h (subst (λ b. IsRefusedWhen (check b refusal.NoObject >>= λ _. Ok (last_on (happens what object) made moment)) given) h refused)
 
-  pub when-refused : (what : Happening) (position object : ℕ) (given : Refusal) → position ≡ position_of M client
-      → IsRefusedWhen (when_on what M.tree.made position object) given → IsRefused (when_to M client what object) given
-  unfolding when_to
-  when-refused what position object given is refused =
-      when-refused-by M.tree.made what (position_of M client) object (λ found. let N : Answer × Session = (answer.When (event_at M.tree.made found), M) in N) given _ refl
-      (subst (λ m. IsRefusedWhen (when_on what M.tree.made m object) given) is refused)
-
   pub pin-memory : (client_of M client).rows < most_rows → IsRefused (serve M client command.Pin) refusal.OutOfMemory
   unfolding serve pin_to
   pin-memory h = rw (lt-ltb (client_of M client).rows most_rows h) refl
@@ -231,14 +232,6 @@ module _ (M N : Session) (client : ℕ) where
   leaks-seen position found is are same =
       let there : found ≡ leaks (state_of M client) = are ∙ ap (λ m. leaks (state_at M.tree.made m)) is in
       λ i. said_and (answer.Leaks (sym is i) (sym there i)) (sym same i)
-
-  pub when-seen : (what : Happening) (position object : ℕ) (found : Option ℕ) (event : Option Event) → position ≡ position_of M client
-      → when_on what M.tree.made position object ≡ Ok found → event ≡ event_at M.tree.made found → N ≡ M
-      → when_to M client what object ≡ Ok (answer.When event, N)
-  unfolding when_to
-  when-seen what position object found event is done are same =
-      let there : when_on what M.tree.made (position_of M client) object ≡ Ok found = subst (λ m. when_on what M.tree.made m object ≡ Ok found) is done in
-      ap (λ r. r >>= λ found. said_and (answer.When (event_at M.tree.made found)) M) there ∙ (λ i. said_and (answer.When (sym are i)) (sym same i))
 
   pub pin-seen : (position : ℕ) (to : Client) → position ≡ position_of M client → to ≡ record (client_of M client) { pinned = Some position } → N ≡ with_client M client to
       → pin_to M client ≡ Ok (answer.Pinned position, N)
@@ -302,3 +295,34 @@ first_or made falls m h (suc n) = path-bounded made falls (length made) m h n
 
 pub ancestor-within : (made : List Made) → Falls made → (m count : ℕ) → m ≤ length made → ancestor (path made m) count ≤ length made
 ancestor-within made falls m count h = first_or made falls m h (length (path made m) - count)
+
+-- ---- when something happened
+
+pub when_told : (M : Session) (client : ℕ) (what : Happening) (position object : ℕ) (found : Option ℕ) (event : Option Event) → position ≡ position_of M client
+    → when_on what M.tree.made position object ≡ Ok found → event ≡ event_at M.tree.made found → when_to M client what object ≡ Ok (answer.When event, M)
+unfolding when_to
+when_told M client what position object found event is done are =
+    let there : when_on what M.tree.made (position_of M client) object ≡ Ok found = subst (λ m. when_on what M.tree.made m object ≡ Ok found) is done in
+    ap (λ r. r >>= λ found. said_and (answer.When (event_at M.tree.made found)) M) there ∙ ap (λ e. said_and (answer.When e) M) (sym are)
+
+pub when_refused : (M : Session) (client : ℕ) (what : Happening) (position object : ℕ) (given : Refusal) → position ≡ position_of M client
+    → IsRefusedWhen (when_on what M.tree.made position object) given → IsRefused (when_to M client what object) given
+unfolding when_to
+when_refused M client what position object given is refused =
+    when-refused-by M client M.tree.made what (position_of M client) object (λ found. let N : Answer × Session = (answer.When (event_at M.tree.made found), M) in N) given _ refl
+    (subst (λ m. IsRefusedWhen (when_on what M.tree.made m object) given) is refused)
+
+pub when_forgotten : (M : Session) (client : ℕ) (what : Happening) (object : ℕ) → IsRefused (when_to M client what object) refusal.OutOfMemory
+when_forgotten M client what object = when-memory M client what object _ refl
+
+-- ---- the first clients
+
+first-stands : (t : Tree) → IsTree t → IsClient t first_client
+first-stands t h = record { cursor = some-branch t.branches h.branches.main; pinned = tt; rows = omega arith }
+
+pub first_desk : (h : Timeline) (clients : ℕ) → clients ≤ 4 → IsTree h.tree → IsDesk h (replicate clients first_client) false
+first_desk h clients few tree = record {
+  few = subst (λ n. n ≤ 4) (sym (length-replicate clients first_client)) few;
+  stand = All-replicate (IsClient h.tree) clients first_client (first-stands h.tree tree);
+  can_retract = λ e. cc e;
+}

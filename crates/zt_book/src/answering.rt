@@ -233,8 +233,22 @@ impl Desk {
         ensures err { OnErr result (self.new.session ≡ self.old.session) }
     {
         self.grown = false;
+        self.told_when(client, what, koid)
+    }
+
+    /// The moment on the path to the client's position at which something happened to an object, with its call.
+    #[tactic(auto, using(crate::proofs::DeskLaws::when_told, crate::proofs::DeskLaws::when_refused, crate::proofs::DeskLaws::when_forgotten))]
+    fn told_when(&self, client: u8, what: Happening, koid: Koid) -> Result<Answer, Refusal>
+        requires numbered { 1 ≤ client }
+        requires known { client ≤ length self.now.session.clients }
+        ensures ok { IfOk result (λ said. when_to self.now.session client what koid ≡ Ok (said, self.now.session)) }
+        ensures refused { IfErr result (IsRefused (when_to self.now.session client what koid)) }
+    {
         let position = self.position(client);
-        let found = self.moment_of(what, position, koid)?;
+        let found = match self.moment_of(what, position, koid) {
+            Ok(found) => found,
+            Err(refusal) => return Err(refusal),
+        };
         match self.event(found) {
             Ok(event) => Ok(Answer::When(event)),
             Err(_) => Err(Refusal::OutOfMemory),
@@ -257,7 +271,7 @@ impl Desk {
     }
 
     /// A moment with an equal call, if there is one.
-    #[tactic(auto, using(crate::proofs::DeskLaws::event-called))]
+    #[tactic(auto, using(crate::proofs::DeskLaws::event_called))]
     fn event(&self, moment: Option<Moment>) -> Result<Option<Event>, AllocError>
         ensures { IfOk result (λ event. event ≡ event_at self.now.session.tree.made moment) }
     {

@@ -35,10 +35,12 @@ impl Model for Desk {
 
 impl Desk {
     /// So many clients over a history, each following `main`.
+    #[tactic(auto, using(crate::proofs::DeskLaws::first_desk))]
     pub(crate) fn new(alloc: Global, history: History, clients: u8) -> Result<Desk, AllocError>
         requires { clients ≤ 4 }
         ensures { IfOk result (λ desk. desk.session ≡ session_over history.tree clients) }
     {
+        let _position = history.position();
         let first = Client {
             cursor: Cursor::Follows(BranchId(0)),
             pinned: None,

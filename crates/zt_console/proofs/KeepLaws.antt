@@ -34,5 +34,5 @@ asks-keep : (M : Kept) (asked : Command) (given : Given) (N : Kept) → AsksBook
 asks-keep M asked (Ok given) N (same, _) = same
 asks-keep M asked (Err reason) N (_, same) = ap (λ (S : Stood). length S.session.clients) same
 
-pub talked-clients : (M N : Kept) (known before after : Option (List ℕ)) (done : Bool) → HasTalked AsksBook M N known before after done → length N.session.clients ≡ length M.session.clients
-talked-clients M N known before after done h = talk-keeps AsksBook (λ (b : Kept). length b.session.clients) asks-keep _ h.lines h.spoken.text _ h.spoken.talk
+pub talked_clients : (M N : Kept) (known before after : Option (List ℕ)) (done : Bool) → HasTalked AsksBook M N known before after done → length N.session.clients ≡ length M.session.clients
+talked_clients M N known before after done h = talk-keeps AsksBook (λ (b : Kept). length b.session.clients) asks-keep _ h.lines h.spoken.text _ h.spoken.talk

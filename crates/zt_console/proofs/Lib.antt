@@ -1,3 +1,4 @@
 pub mod TalkLaws
 pub mod FeedLaws
 pub mod KeepLaws
+pub mod SaveLaws

@@ -47,7 +47,7 @@ pub(crate) fn is_pin(request: &Command) -> bool
 
 /// Answers the lines of the reader, as client 1 of the book, until its end or the first failure. Where it is
 /// stopped, a command that was served before stands, whether or not its answer could be written.
-#[tactic(auto, using(crate::proofs::KeepLaws::talked-clients))]
+#[tactic(auto, using(crate::proofs::KeepLaws::talked_clients))]
 pub fn run<R: Read, W: Write>(
     alloc: Global,
     book: Book,

@@ -15,5 +15,5 @@ pub use books::run;
 pub use counted::Counted;
 pub use loading::load_text;
 pub use running::End;
-pub use saving::path_text;
+pub use saving::main_text;
 pub use zt_book::Book;

@@ -7,7 +7,7 @@ use std::alloc::Global;
 use std::fs::File;
 use std::io::{Read, Write};
 use std::{fs, io};
-use zt_console::{Book, load_text, path_text};
+use zt_console::{Book, load_text, main_text};
 use zt_rows::Refusal;
 
 /// Opens a file to be read.
@@ -35,11 +35,7 @@ pub fn save(rt: &HostRuntime, book: &Book, path: &str) -> Result<(), Fault> {
         Ok(file) => file,
         Err(error) => return Err(unopened(rt.alloc(), path, error)),
     };
-    let history = book.history();
-    let Some(main) = history.find(b"main") else {
-        return Err(Fault::Refused(Refusal::NoBranch));
-    };
-    let text = path_text(rt.alloc(), history, history.head(main))?;
+    let text = main_text(rt.alloc(), book)?;
     match file.write_all(text.as_slice()) {
         Ok(()) => Ok(()),
         Err(_) => Err(Fault::Refused(Refusal::WriteFault)),
