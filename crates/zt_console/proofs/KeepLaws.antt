@@ -31,7 +31,7 @@ module _ {D : Type 0} (Asks : Manner D) (f : D → ℕ) (kept : (M : D) (asked :
 
 -- a book keeps its clients
 asks-keep : (M : Kept) (asked : Command) (given : Given) (N : Kept) → AsksBook M asked given N → length N.session.clients ≡ length M.session.clients
-asks-keep M asked (Ok given) N (same, _) = same
+asks-keep M asked (Ok given) N (same, _, _, _) = same
 asks-keep M asked (Err reason) N (_, same) = ap (λ (S : Stood). length S.session.clients) same
 
 pub talked_clients : (M N : Kept) (known before after : Option (List ℕ)) (done : Bool) → HasTalked AsksBook M N known before after done → length N.session.clients ≡ length M.session.clients

@@ -19,6 +19,7 @@ pub fn open(rt: &HostRuntime, path: &str) -> Result<File, Fault> {
 }
 
 /// The book of so many clients over the calls of a session text.
+#[tactic(auto, using(crate::proofs::Loading::loaded_clients))]
 pub fn load(rt: &HostRuntime, clients: u8, path: &str) -> Result<Book, Fault>
     ensures { IfOk result (λ book. length book.session.clients ≡ clients) }
 {

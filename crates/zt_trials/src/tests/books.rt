@@ -30,8 +30,8 @@ fn always_out_of_memory(rt: HostRuntime) -> Result<(), Fail> {
 
 /// All rows at the position of the client.
 pub(super) fn rows_of(book: &mut Book) -> Result<Items<(RowKey, Row)>, Refusal>
-    requires { 1 ≤ length book.old.cursors }
-    ensures { length book.new.cursors ≡ length book.old.cursors }
+    requires { 1 ≤ length book.old.session.clients }
+    ensures { length book.new.session.clients ≡ length book.old.session.clients }
 {
     match book.serve(1, &Command::Show)? {
         Answer::Rows(_, rows) => Ok(rows),
@@ -41,8 +41,8 @@ pub(super) fn rows_of(book: &mut Book) -> Result<Items<(RowKey, Row)>, Refusal>
 
 /// Whether the rows at the client's position are these.
 pub(super) fn has_rows(book: &mut Book, rows: &Items<(RowKey, Row)>) -> bool
-    requires { 1 ≤ length book.old.cursors }
-    ensures { length book.new.cursors ≡ length book.old.cursors }
+    requires { 1 ≤ length book.old.session.clients }
+    ensures { length book.new.session.clients ≡ length book.old.session.clients }
 {
     match rows_of(book) {
         Ok(found) => found.as_slice() == rows.as_slice(),
@@ -51,16 +51,16 @@ pub(super) fn has_rows(book: &mut Book, rows: &Items<(RowKey, Row)>) -> bool
 }
 
 pub(super) fn is_served(book: &mut Book, command: &Command) -> bool
-    requires { 1 ≤ length book.old.cursors }
-    ensures { length book.new.cursors ≡ length book.old.cursors }
+    requires { 1 ≤ length book.old.session.clients }
+    ensures { length book.new.session.clients ≡ length book.old.session.clients }
 {
     book.serve(1, command).is_ok()
 }
 
 /// Serves the command. Where memory is refused to it all rows are as before, and it is served when asked again.
 fn ask(rt: &impl Abort, book: &mut Book, command: &Command)
-    requires { 1 ≤ length book.old.cursors }
-    ensures { length book.new.cursors ≡ length book.old.cursors }
+    requires { 1 ≤ length book.old.session.clients }
+    ensures { length book.new.session.clients ≡ length book.old.session.clients }
 {
     let Ok(before) = rows_of(book) else {
         return;

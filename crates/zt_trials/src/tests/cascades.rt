@@ -16,7 +16,7 @@ const ROOT: Koid = Koid(1025);
 
 /// The book that these lines leave.
 fn book_after(alloc: Global, lines: &[u8]) -> Result<Book, Refusal>
-    ensures { IfOk result (λ book. 1 ≤ length book.cursors) }
+    ensures { IfOk result (λ book. 1 ≤ length book.session.clients) }
 {
     let book = Book::new(alloc, 1)?;
     let (book, _, _) = talk(alloc, book, lines, Vec::new(alloc));

@@ -75,8 +75,8 @@ pub(super) fn talk<R: Read + Drop, W: Write>(
     reader: R,
     writer: W,
 ) -> (Book, End, W)
-    requires { 1 ≤ length book.cursors }
-    ensures { length result.0.cursors ≡ length book.cursors }
+    requires { 1 ≤ length book.session.clients }
+    ensures { length result.0.session.clients ≡ length book.session.clients }
 {
     let mut reader = Counted::new(reader);
     let mut writer = Counted::new(writer);
