@@ -7,3 +7,11 @@ pub mod WorkedLeaks
 pub mod KeyLaws
 pub mod CopyLaws
 pub mod HoldLaws
+pub mod GraphLaws
+pub mod SurveyLaws
+pub mod ListLeaks
+pub mod WayLaws
+pub mod TreeTimes
+pub mod WhenLaws
+pub mod ForkLaws
+pub mod SinceLaws

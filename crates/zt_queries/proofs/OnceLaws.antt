@@ -66,7 +66,7 @@ module _ (happens : State → State → Bool) (Past : State → Type 0) (w : Pas
       ] refl
 
 -- the last of at most one is the only one
-last-only : (ms : List ℕ) (n : ℕ) → length ms ≤ 1 → last_or None ms ≡ Some n → ms ≡ n ∷ []
+pub last-only : (ms : List ℕ) (n : ℕ) → length ms ≤ 1 → last_or None ms ≡ Some n → ms ≡ n ∷ []
 last-only [] n few e = cc
 last-only (m ∷ []) n few e = ap (λ k. k ∷ []) (some_one m n e)
 last-only (m ∷ k ∷ ms) n few e = absurd (omega arith)

@@ -25,17 +25,17 @@ in-among x xs m = list_any-in (λ m. m == x) x xs m (eq-eqb x x refl)
 pub among-in : (x : ℕ) (xs : List ℕ) → among xs x ≡ true → In x xs
 among-in x xs h = let w = in-list_any (λ m. m == x) xs h in subst (λ z. In z xs) (eqb-true w.0 x w.2) w.1
 
-in-append : {A : Type 0} (s : A) (xs ys : List A) → In s (xs ++ ys) → In s xs ⊎ In s ys
+pub in-append : {A : Type 0} (s : A) (xs ys : List A) → In s (xs ++ ys) → In s xs ⊎ In s ys
 in-append s [] ys m = inr m
 in-append s (x ∷ xs) ys (inl e) = inl (inl e)
 in-append s (x ∷ xs) ys (inr m) = elim (in-append s xs ys m) [ inl l ↦ inl (inr l) | inr r ↦ inr r ]
 
-append-left : {A : Type 0} (s : A) (xs ys : List A) → In s xs → In s (xs ++ ys)
+pub append-left : {A : Type 0} (s : A) (xs ys : List A) → In s xs → In s (xs ++ ys)
 append-left s [] ys m = absurd m
 append-left s (x ∷ xs) ys (inl e) = inl e
 append-left s (x ∷ xs) ys (inr m) = inr (append-left s xs ys m)
 
-append-right : {A : Type 0} (s : A) (xs ys : List A) → In s ys → In s (xs ++ ys)
+pub append-right : {A : Type 0} (s : A) (xs ys : List A) → In s ys → In s (xs ++ ys)
 append-right s [] ys m = m
 append-right s (x ∷ xs) ys m = inr (append-right s xs ys m)
 
@@ -43,11 +43,11 @@ in-flat_map_of : {A B : Type 0} (f : A → List B) (b : B) (x : A) (xs : List A)
 in-flat_map_of f b x xs later (inl e) = (x, inl refl, e)
 in-flat_map_of f b x xs later (inr m) = let w = later m in (w.0, inr w.1, w.2)
 
-in-flat_map : {A B : Type 0} (f : A → List B) (b : B) (xs : List A) → In b (flat_map f xs) → (y : A) × In y xs × In b (f y)
+pub in-flat_map : {A B : Type 0} (f : A → List B) (b : B) (xs : List A) → In b (flat_map f xs) → (y : A) × In y xs × In b (f y)
 in-flat_map f b [] m = absurd m
 in-flat_map f b (x ∷ xs) m = in-flat_map_of f b x xs (λ g. in-flat_map f b xs g) (in-append b (f x) _ m)
 
-flat_map-in : {A B : Type 0} (f : A → List B) (b : B) (y : A) (xs : List A) → In y xs → In b (f y) → In b (flat_map f xs)
+pub flat_map-in : {A B : Type 0} (f : A → List B) (b : B) (y : A) (xs : List A) → In y xs → In b (f y) → In b (flat_map f xs)
 flat_map-in f b y [] m e = absurd m
 flat_map-in f b y (x ∷ xs) (inl p) e = append-left b (f x) _ (subst (λ z. In b (f z)) p e)
 flat_map-in f b y (x ∷ xs) (inr m) e = append-right b (f x) _ (flat_map-in f b y xs m e)

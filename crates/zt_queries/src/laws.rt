@@ -1,14 +1,18 @@
 //! What holds of leaks and of the moments at which something happens to an object. Each law is the contract of a
 //! function that does nothing.
-ghost use Rattle.std.specs.Prelude.{◌≡◌, ◌≤◌, ℕ, Bool, true, false, List, [], ◌∷◌, length, map, Some, ◌==◌};
+ghost use Rattle.std.specs.Prelude.{◌≡◌, ◌≤◌, ℕ, Bool, true, false, List, [], ◌∷◌, length, map, Some, None, Ok, ◌==◌};
 ghost use Rattle.std.specs.List.{AllByRecursion};
 ghost use Rattle.zt_rows.specs.declared.calls.Call.{Call};
+ghost use Rattle.zt_rows.specs.declared.calls.Happening.{Happening};
 ghost use Rattle.zt_rows.specs.declared.rows.ObjectRow.{ObjectRow};
 ghost use Rattle.zt_rows.specs.State.{State};
 ghost use Rattle.zt_rows.specs.Reads.{object, on_object, runs};
 ghost use Rattle.zt_rows.specs.Tests.{among, exists, is_endpoint};
 ghost use Rattle.zt_rows.specs.Step.{IsCall, step};
 ghost use Rattle.zt_rows.specs.Consistent.{IsConsistent};
+ghost use Rattle.zt_history.specs.Standing.{AreMoments};
+ghost use Rattle.zt_history.specs.Tree.{Made, path};
+ghost use Rattle.zt_queries.specs.Times.{at_moment, happens, when_on};
 ghost use Rattle.zt_queries.specs.Reach.{reached, IsClosed};
 ghost use Rattle.zt_queries.specs.Leaks.{is_leaked, leaks};
 ghost use Rattle.zt_queries.specs.Happenings.{lacks_peer, made, ended, peer_closed, leaked, IsPath, moments, last_moment};
@@ -64,6 +68,16 @@ pub fn the_last_is_the_only_one()
     ensures { (happens : State → State → Bool) (S : State) (path : List (ℕ × State)) (n : ℕ)
         → length (moments happens S path) ≤ 1 → last_moment happens S path ≡ Some n
         → moments happens S path ≡ n ∷ [] }
+{}
+
+/// On the path to a moment of a history the moment that is found for what happens to an object is the only one at which it
+/// happens; where none is found, it happens at none.
+pub fn a_moment_found_is_the_only_one()
+    ensures only { (made : List Made) (m x n i : ℕ) (what : Happening) → AreMoments made → m ≤ length made
+        → when_on what made m x ≡ Ok (Some n) → among (path made m) i ≡ true
+        → at_moment (happens what x) made i ≡ true → i ≡ n }
+    ensures none { (made : List Made) (m x i : ℕ) (what : Happening) → when_on what made m x ≡ Ok None
+        → among (path made m) i ≡ true → at_moment (happens what x) made i ≡ false }
 {}
 
 /// That an object is made, that it ends and that its peer is closed shows in its row: where the row is as it was,

@@ -2,10 +2,18 @@
 #![tactic(auto)]
 
 mod frozen;
+mod graph;
 pub mod laws;
+mod leaked;
 mod looks;
+mod reach;
+mod since;
 mod supports;
+mod times;
 
 pub use frozen::Frozen;
-pub use looks::rows;
-pub use supports::holders;
+pub use leaked::{leaks, leaks_at};
+pub use looks::{rows, rows_at};
+pub use since::leaked_since;
+pub use supports::{holders, holders_at};
+pub use times::{ended, made, peer_closed};

@@ -1,8 +1,10 @@
 ghost use Rattle.std.specs.Prelude.{◌≡◌, ◌++◌, ◌∷◌, [], IfOk, IfErr, IfSome, OnOk, IsSome};
+ghost use Rattle.zt_history.specs.Tree.{state_at};
 ghost use Rattle.zt_rows.specs.State.{row};
 
 use crate::frozen::Frozen;
 use std::alloc::{AllocError, Global};
+use zt_history::History;
 use zt_rows::{Items, Refusal, Row, RowKey};
 use zt_store::Store;
 
@@ -11,7 +13,23 @@ pub fn rows(alloc: Global, frozen: &Frozen) -> Result<Items<(RowKey, Row)>, Refu
     ensures ok { IfOk result (λ rows. rows ≡ frozen.now.state.rows) }
     ensures refused { IfErr result (λ refusal. refusal ≡ Refusal.OutOfMemory) }
 {
-    match rows_of(alloc, frozen.store()) {
+    all_rows(alloc, frozen.store())
+}
+
+/// Equal rows of the state at a history's position with their keys, in the keys' order.
+pub fn rows_at(alloc: Global, history: &History) -> Result<Items<(RowKey, Row)>, Refusal>
+    ensures ok { IfOk result (λ rows. rows ≡ (state_at history.now.tree.made history.now.position).rows) }
+    ensures refused { IfErr result (λ refusal. refusal ≡ Refusal.OutOfMemory) }
+{
+    all_rows(alloc, history.store())
+}
+
+/// The same of a store.
+fn all_rows(alloc: Global, store: &Store) -> Result<Items<(RowKey, Row)>, Refusal>
+    ensures ok { IfOk result (λ rows. rows ≡ store.now.state.rows) }
+    ensures refused { IfErr result (λ refusal. refusal ≡ Refusal.OutOfMemory) }
+{
+    match rows_of(alloc, store) {
         Ok(rows) => Ok(rows),
         Err(_) => Err(Refusal::OutOfMemory),
     }

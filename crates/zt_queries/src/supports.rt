@@ -5,12 +5,14 @@ ghost use Rattle.zt_rows.specs.Reads.{object, is_live_job, is_live_process};
 ghost use Rattle.zt_rows.specs.State.{row};
 ghost use Rattle.zt_rows.specs.Support.{entry_support, child_support, message_supports, places, children, itself, supports};
 ghost use Rattle.zt_history.specs.Refusing.{IsRefused};
+ghost use Rattle.zt_history.specs.Tree.{state_at};
 ghost use Rattle.zt_queries.specs.Copies.{holders_on};
 ghost use Rattle.zt_queries.specs.Holding.{supports_by, supports_at, supports_in};
 
 use crate::frozen::Frozen;
 use std::alloc::{AllocError, Global};
 use zt_bits::Kind;
+use zt_history::History;
 use zt_rows::{Held, Items, Koid, Life, ObjectRow, Refusal, Row, RowKey, Support};
 use zt_store::Store;
 
@@ -31,10 +33,26 @@ pub fn holders(alloc: Global, frozen: &Frozen, koid: Koid) -> Result<Items<Suppo
     ensures ok { IfOk result (λ found. holders_on frozen.now.state koid ≡ Ok found) }
     ensures refused { IfErr result (IsRefused (holders_on frozen.now.state koid)) }
 {
-    let Some(held) = object(frozen.store(), koid) else {
+    holders_in(alloc, frozen.store(), koid)
+}
+
+/// What keeps an object at a history's position, in the same order. Refused where there is no such object.
+pub fn holders_at(alloc: Global, history: &History, koid: Koid) -> Result<Items<Support>, Refusal>
+    ensures ok { IfOk result (λ found. holders_on (state_at history.now.tree.made history.now.position) koid ≡ Ok found) }
+    ensures refused { IfErr result (IsRefused (holders_on (state_at history.now.tree.made history.now.position) koid)) }
+{
+    holders_in(alloc, history.store(), koid)
+}
+
+/// The same of a store.
+fn holders_in(alloc: Global, store: &Store, koid: Koid) -> Result<Items<Support>, Refusal>
+    ensures ok { IfOk result (λ found. holders_on store.now.state koid ≡ Ok found) }
+    ensures refused { IfErr result (IsRefused (holders_on store.now.state koid)) }
+{
+    let Some(held) = object(store, koid) else {
         return Err(Refusal::NoObject);
     };
-    match supports_of(alloc, frozen.store(), koid, &held) {
+    match supports_of(alloc, store, koid, &held) {
         Ok(found) => Ok(Items::new(found)),
         Err(_) => Err(Refusal::OutOfMemory),
     }
@@ -70,7 +88,7 @@ fn supports_of(
 }
 
 /// The keys of the store, in their order.
-fn keys_of(alloc: Global, store: &Store) -> Result<Vec<RowKey>, AllocError>
+pub(crate) fn keys_of(alloc: Global, store: &Store) -> Result<Vec<RowKey>, AllocError>
     ensures { IfOk result (λ list. list.items ≡ keys store.now.state) }
 {
     let mut list = Vec::new(alloc);

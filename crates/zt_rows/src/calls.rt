@@ -258,6 +258,41 @@ impl Reply {
     }
 }
 
+/// Something that happens to an object in one call, whose moment can be asked for.
+#[derive(Clone, Copy, Debug)]
+pub enum Happening {
+    /// It did not exist before, and does then.
+    Made,
+    /// It existed and had not ended before, and then it has ended or is gone.
+    Ended,
+    /// No signal said before that its peer is closed, and then one does.
+    PeerClosed,
+    /// It was not leaked before, and is then.
+    Leaked,
+}
+
+/// A moment with the call that made it.
+#[derive(Debug, Drop)]
+pub struct Event {
+    pub moment: Moment,
+    pub process: Koid,
+    pub call: Call,
+}
+
+impl Event {
+    /// An equal event in memory of its own.
+    pub fn copy(&self) -> Result<Event, AllocError>
+        ensures { IfOk result (λ copied. copied ≡ self.now) }
+    {
+        let call = self.call.copy()?;
+        Ok(Event {
+            moment: self.moment,
+            process: self.process,
+            call,
+        })
+    }
+}
+
 /// What a client asks of the debugger.
 #[derive(Debug, Drop)]
 pub enum Command {

@@ -5,8 +5,11 @@ pub mod Numbers
 pub mod Places
 pub mod Seen
 pub mod Recorded
+pub mod Held
 pub mod Stepping
 pub mod Touching
 pub mod Walks
 pub mod KeyColumns
 pub mod Counting
+pub mod Chains
+pub mod Indexed

@@ -1,4 +1,6 @@
+ghost use Rattle.std.specs.Option.{option_copied, option_map};
 ghost use Rattle.std.specs.Prelude.{◌≡◌, map};
+ghost use Rattle.zt_store.specs.Held.{held};
 
 use std::marker::Model;
 use zt_rows::{Row, RowKey};
@@ -29,6 +31,17 @@ impl Record {
         ensures { result.now ≡ map (λ e. e.0) self.now }
     {
         self.keys.as_slice()
+    }
+
+    /// The row, or that there was none, under the key; nothing where the record does not have the key. It takes no
+    /// memory, and as many looks as the number of the keys has binary digits.
+    pub fn held(&self, key: RowKey) -> Option<Option<&Row>>
+        ensures { option_map option_copied result ≡ held self.now key }
+    {
+        match self.keys.binary_search(&key) {
+            Ok(place) => Some(self.rows[place].1.as_ref()),
+            Err(_) => None,
+        }
     }
 
     /// The rows under their keys. It takes no memory.

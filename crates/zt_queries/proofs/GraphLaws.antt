@@ -1,0 +1,69 @@
+-- The graph of a state, drawn key by key, and what its rows say of the state's.
+use Rattle.std.proofs.Common.{◌≡◌, ℕ, zero, suc, ◌+◌, ◌<◌, ◌≤◌, Bool, true, false, ◌||◌, inl, inr, List, [], ◌∷◌, ◌++◌, map, length, take, get_or, refl, sym, ap, ◌∙◌, arith}
+use Rattle.std.specs.Prelude.{Option, None, Some, if◌then◌else◌}
+use Rattle.std.specs.List.{list_any}
+use Rattle.std.proofs.lemmas.List.{take_more}
+use Rattle.std.proofs.lemmas.List.Folds.{list_any-append}
+use Rattle.zt_rows.specs.declared.keys.RowKey.{RowKey}
+use Rattle.zt_rows.specs.declared.rows.Row.{Row}
+use Rattle.zt_rows.specs.Keys.{rowkey_eq}
+use Rattle.zt_rows.specs.KeyOrder.{rowkey_eq-equal, rowkey_eq-self}
+use Rattle.zt_rows.specs.Change.{keys}
+use Rattle.zt_rows.specs.State.{State, row}
+use Rattle.zt_rows.proofs.RowLaws.{In, row-in, list_any-in}
+use Rattle.zt_queries.specs.declared.graph.Sketch.{Sketch}
+use Rattle.zt_queries.specs.Graphs.{sketched}
+
+-- ---- drawn so far
+
+-- the key is in the list
+abbrev pub listed : List RowKey → RowKey → Bool
+listed ks q = list_any (λ k. rowkey_eq k q) ks
+
+abbrev pub drawn : State → List RowKey → RowKey → Option Sketch
+drawn S ks q = if listed ks q then sketched (row S q) else None
+
+more_by : (S : State) (q k : RowKey) (a : Bool) → (if rowkey_eq k q then sketched (row S k) else (if a then sketched (row S q) else None)) ≡ (if a || (rowkey_eq k q || false) then sketched (row S q) else None)
+more_by S q k a = more_of (rowkey_eq k q) a (λ e. ap (λ x. sketched (row S x)) (rowkey_eq-equal k q e))
+  where
+    more_of : (b a : Bool) → (b ≡ true → sketched (row S k) ≡ sketched (row S q)) → (if b then sketched (row S k) else (if a then sketched (row S q) else None)) ≡ (if a || (b || false) then sketched (row S q) else None)
+    more_of true true h = h refl
+    more_of true false h = h refl
+    more_of false true h = refl
+    more_of false false h = refl
+
+pub drawn_more : (S : State) (ks : List RowKey) (i : ℕ) (k q : RowKey) (old new : Option Sketch) → i < length ks → k ≡ get_or ks i k
+    → old ≡ drawn S (take i ks) q → new ≡ (if rowkey_eq k q then sketched (row S k) else old) → new ≡ drawn S (take (i + 1) ks) q
+drawn_more S ks i k q old new l is o n =
+    n
+    ∙ ap (λ x. if rowkey_eq k q then sketched (row S k) else x) o
+    ∙ more_by S q k (listed (take i ks) q)
+    ∙ ap (λ b. if b then sketched (row S q) else None) (sym (list_any-append (λ x. rowkey_eq x q) (take i ks) (k ∷ [])))
+    ∙ ap (λ x. drawn S (take i ks ++ x ∷ []) q) is
+    ∙ ap (λ xs. drawn S xs q) (sym (take_more ks i k l))
+
+-- ---- all drawn
+
+key-in : (k : RowKey) (r : Row) (es : List (RowKey × Row)) → In (k, r) es → In k (map (λ e. e.0) es)
+key-in k r [] m = absurd m
+key-in k r (e ∷ es) (inl p) = inl (ap (λ (z : RowKey × Row). z.0) p)
+key-in k r (e ∷ es) (inr m) = inr (key-in k r es m)
+
+all_of : (S : State) (q : RowKey) (o : Option Row) → row S q ≡ o → drawn S (keys S) q ≡ sketched o
+all_of S q None e = none_of (listed (keys S) q) (ap sketched e)
+  where
+    none_of : (b : Bool) → sketched (row S q) ≡ None → (if b then sketched (row S q) else None) ≡ None
+    none_of true h = h
+    none_of false h = refl
+all_of S q (Some r) e =
+    ap (λ b. if b then sketched (row S q) else None) (list_any-in (λ k. rowkey_eq k q) q (keys S) (key-in q r S.rows (row-in S q r e)) (rowkey_eq-self q)) ∙ ap sketched e
+
+take_whole : {A : Type 0} (xs : List A) (i : ℕ) → length xs ≤ i → take i xs ≡ xs
+take_whole [] zero h = refl
+take_whole [] (suc i) h = refl
+take_whole (x ∷ xs) zero h = absurd (omega (arith, h))
+take_whole (x ∷ xs) (suc i) h = ap (λ l. x ∷ l) (take_whole xs i (omega (arith, h)))
+
+pub all_drawn : (S : State) (ks : List RowKey) (i : ℕ) (q : RowKey) (found : Option Sketch) → ks ≡ keys S → length ks ≤ i → found ≡ drawn S (take i ks) q → found ≡ sketched (row S q)
+all_drawn S ks i q found all past so_far =
+    so_far ∙ ap (λ xs. drawn S xs q) (take_whole ks i past ∙ all) ∙ all_of S q (row S q) refl

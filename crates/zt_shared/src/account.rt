@@ -1,0 +1,253 @@
+//! An account: a list of rows that two sides keep in common, though only one of them is at hand at a time. It knows
+//! nothing of what the rows say.
+ghost use Rattle.std.specs.Prelude.{◌≡◌, ℕ, ◌<◌, ◌++◌, ◌∷◌, [], length, slice_index, slice_index_or, vec_len, vec_capacity, OnOk, OnErr, IfSome, None, Some};
+ghost use Rattle.once_cell.specs.Once.{cell_name, Agrees};
+ghost use Rattle.zt_shared.specs.Accounts.{most, cells_of, known_of};
+
+use once_cell::race::{Note, OnceBox};
+use std::alloc::{AllocError, Global};
+use std::marker::{Brand, Model};
+use std::sync::ledger;
+use std::sync::ledger::{Book, Ledger, Share};
+
+/// How many rows an account takes.
+pub const ROWS: usize = 4096;
+
+/// Which account it is: the ledger's name, and the names of the cells in their order.
+pub trait Naming: Ledger {
+    ghost use Rattle.std.specs.Prelude.{ℕ, List};
+
+    ghost cells: { List ℕ };
+}
+
+impl Naming for Brand {
+    ghost use Rattle.std.specs.Prelude.{[]};
+
+    ghost cells = { [] };
+}
+
+/// An account without rows, which no type names yet.
+#[derive(Drop)]
+pub struct Blank<T> {
+    cells: Vec<OnceBox<T>>,
+    ledger: ledger::Blank,
+}
+
+impl<T> Model for Blank<T> {
+    ghost use Rattle.std.specs.Prelude.{◌≡◌, map, length};
+    ghost use Rattle.once_cell.specs.Once.{cell_name};
+    ghost use Rattle.zt_shared.specs.Accounts.{Unnamed, most};
+
+    ghost Value = { Unnamed };
+
+    ghost view = { λ b. record { ledger = b.ledger.name; cells = map cell_name b.cells.items } };
+
+    ghost invariant = { λ b. (b.ledger.parts ≡ 1) × (length b.cells.items ≡ most) };
+}
+
+/// A note in a list. A note alone takes no bytes, and no list is made of such.
+#[derive(Drop)]
+struct Slip<T> {
+    number: usize,
+    note: Note<T>,
+}
+
+/// The side of the account that lies under a lock. Contracts see it as its rows, though it holds none of them.
+#[derive(Drop)]
+pub struct LockSide<N: Naming, T> {
+    cells: Vec<OnceBox<T>>,
+    notes: Vec<Slip<T>>,
+    book: Book<N>,
+}
+
+impl<N: Naming, T> Model for LockSide<N, T> {
+    ghost use Rattle.std.specs.Prelude.{◌≡◌, List, map, length};
+    ghost use Rattle.once_cell.specs.Once.{cell_name};
+    ghost use Rattle.zt_shared.specs.Accounts.{IsNoted, known_of, somes};
+
+    ghost Value = { List T };
+
+    ghost view = { λ k. somes (known_of k.notes.items) };
+
+    ghost invariant = { λ k. (map cell_name k.cells.items ≡ N.cells) × IsNoted N.cells k.notes.items (somes (known_of k.notes.items)) × (k.book.total ≡ length k.notes.items) };
+}
+
+/// The side of the account that a client has. Contracts see it as its rows.
+#[derive(Drop)]
+pub struct PassSide<N: Naming, T> {
+    rows: Vec<T>,
+    notes: Vec<Slip<T>>,
+    share: Share<N>,
+}
+
+impl<N: Naming, T> Model for PassSide<N, T> {
+    ghost use Rattle.std.specs.Prelude.{◌≡◌, List, map, length};
+    ghost use Rattle.zt_shared.specs.Accounts.{IsNoted};
+
+    ghost Value = { List T };
+
+    ghost view = { λ p. p.rows.items };
+
+    ghost invariant = { λ p. IsNoted N.cells p.notes.items p.rows.items × (p.share.parts ≡ 1) × (N.parts ≡ 1) × (p.share.amount ≡ length p.notes.items) };
+}
+
+impl<T: Drop> Blank<T> {
+    /// An account with an empty cell for each row that it takes.
+    pub fn new(alloc: Global) -> Result<Blank<T>, AllocError> {
+        let mut cells = Vec::with_capacity(alloc, ROWS)?;
+        for _ in 0..ROWS {
+            cells.push(OnceBox::new(alloc))?;
+        }
+        Ok(Blank {
+            cells,
+            ledger: ledger::Blank::new(1),
+        })
+    }
+
+    /// The two sides of the account, under the name that was picked for it. It takes no memory.
+    pub fn open<N: Naming>(self, alloc: Global) -> (LockSide<N, T>, PassSide<N, T>)
+        requires ledger { self.ledger ≡ N.name }
+        requires whole { N.parts ≡ 1 }
+        requires cells { self.cells ≡ N.cells }
+        ensures lock { result.0 ≡ [] }
+        ensures pass { result.1 ≡ [] }
+    {
+        let Blank { cells, ledger } = self;
+        let (book, share) = ledger.open::<N>();
+        (
+            LockSide {
+                cells,
+                notes: Vec::new(alloc),
+                book,
+            },
+            PassSide {
+                rows: Vec::new(alloc),
+                notes: Vec::new(alloc),
+                share,
+            },
+        )
+    }
+}
+
+/// Why a row was not added: memory was refused, or its cell.
+#[derive(Debug, Drop)]
+pub struct Refused;
+
+impl<N: Naming, T: Drop> LockSide<N, T> {
+    /// The two sides have the same rows. It changes nothing and takes no memory.
+    pub fn agree(&mut self, side: &mut PassSide<N, T>)
+        ensures lock { self.new ≡ self.old }
+        ensures pass { side.new ≡ side.old }
+        ensures same { self.old ≡ side.old }
+    {
+        self.book.audit(&mut side.share);
+        compare_all(&mut self.notes, &mut side.notes);
+    }
+
+    /// Asks for the memory that one row more takes on both sides.
+    pub fn reserve(&mut self, side: &mut PassSide<N, T>) -> Result<(), Refused>
+        ensures lock { self.new ≡ self.old }
+        ensures pass { side.new ≡ side.old }
+    {
+        room(&mut self.notes, &mut side.notes, &mut side.rows)
+    }
+
+    /// Puts a row on both sides, and an equal one into its cell, or, refused, does neither.
+    pub fn add(&mut self, side: &mut PassSide<N, T>, shown: Box<T>, row: T) -> Result<(), Refused>
+        requires room { length self.old < most }
+        requires equal { shown.value ≡ row }
+        ensures lock { OnOk result (self.new ≡ self.old ++ row ∷ []) }
+        ensures pass { OnOk result (side.new ≡ side.old ++ row ∷ []) }
+        ensures unchanged { OnErr result ((self.new ≡ self.old) × (side.new ≡ side.old)) }
+    {
+        self.book.audit(&mut side.share);
+        let Ok(()) = room(&mut self.notes, &mut side.notes, &mut side.rows) else {
+            return Err(Refused);
+        };
+        let at = self.notes.len();
+        let Some(mut note) = claim(&self.cells[at], shown) else {
+            return Err(Refused);
+        };
+        self.notes.push_reserved(Slip {
+            number: at,
+            note: note.again(),
+        });
+        side.notes.push_reserved(Slip { number: at, note });
+        side.rows.push_reserved(row);
+        self.book.add(&mut side.share, 1);
+        Ok(())
+    }
+}
+
+impl<N: Naming, T> PassSide<N, T> {
+    /// The rows.
+    pub fn rows(&self) -> &[T]
+        ensures { result.now ≡ self.now }
+    {
+        self.rows.as_slice()
+    }
+}
+
+/// Makes room for one more in each of the three.
+fn room<T>(
+    ours: &mut Vec<Slip<T>>,
+    theirs: &mut Vec<Slip<T>>,
+    rows: &mut Vec<T>,
+) -> Result<(), Refused>
+    ensures ours { ours.new.items ≡ ours.old.items }
+    ensures theirs { theirs.new.items ≡ theirs.old.items }
+    ensures rows { rows.new.items ≡ rows.old.items }
+    ensures room_of_ours { OnOk result (vec_len ours.new < vec_capacity ours.new) }
+    ensures room_of_theirs { OnOk result (vec_len theirs.new < vec_capacity theirs.new) }
+    ensures room_of_rows { OnOk result (vec_len rows.new < vec_capacity rows.new) }
+{
+    let Ok(()) = ours.try_reserve(1) else {
+        return Err(Refused);
+    };
+    let Ok(()) = theirs.try_reserve(1) else {
+        return Err(Refused);
+    };
+    let Ok(()) = rows.try_reserve(1) else {
+        return Err(Refused);
+    };
+    Ok(())
+}
+
+/// Notes of the same cells, in turn, know the same rows.
+fn compare_all<T>(ours: &mut Vec<Slip<T>>, theirs: &mut Vec<Slip<T>>)
+    requires many { length ours.old.items ≡ length theirs.old.items }
+    requires cells { cells_of ours.old.items ≡ cells_of theirs.old.items }
+    ensures ours { ours.new.items ≡ ours.old.items }
+    ensures theirs { theirs.new.items ≡ theirs.old.items }
+    ensures all { (at : ℕ) → at < length ours.old.items → IfSome (slice_index_or (known_of theirs.old.items) at None) (Agrees (slice_index_or (known_of ours.old.items) at None)) }
+{
+    for at in 0..ours.len() {
+        compare(ours, theirs, at);
+    }
+}
+
+/// The notes at this place, of one cell, know one row.
+fn compare<T>(ours: &mut Vec<Slip<T>>, theirs: &mut Vec<Slip<T>>, at: usize)
+    requires ours { at < length ours.old.items }
+    requires theirs { at < length theirs.old.items }
+    requires cell { slice_index (cells_of ours.old.items) at ≡ slice_index (cells_of theirs.old.items) at }
+    ensures ours { ours.new.items ≡ ours.old.items }
+    ensures theirs { theirs.new.items ≡ theirs.old.items }
+    ensures one { IfSome (slice_index_or (known_of theirs.old.items) at None) (Agrees (slice_index_or (known_of ours.old.items) at None)) }
+{
+    let mine = &mut ours[at];
+    let other = &mut theirs[at];
+    let note = other.note.again();
+    mine.note.compare(note);
+}
+
+/// Sets an empty cell, and notes what stands in it.
+fn claim<T: Drop>(cell: &OnceBox<T>, shown: Box<T>) -> Option<Note<T>>
+    ensures { IfSome result (λ note. (note.cell ≡ cell_name cell.now) × (note.known ≡ Some shown.value)) }
+{
+    let mut note = cell.note();
+    match cell.set_as(shown, &mut note) {
+        Ok(()) => Some(note),
+        Err(_) => None,
+    }
+}

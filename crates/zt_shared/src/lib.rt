@@ -1,0 +1,4 @@
+//! One book for several clients: each client's answers are its rows of one log, which replays.
+#![tactic(auto)]
+
+pub mod account;

@@ -1,0 +1,102 @@
+-- A look for a key among those of a record, which stand in order, each once.
+use Rattle.std.proofs.Common.{◌≡◌, ◌<◌, ℕ, zero, suc, ◌+◌, inl, inr, Bool, true, false, ◌&&◌, T, List, [], ◌∷◌, length, get_or, Option, Some, None, refl, sym, ap, ◌∙◌, subst, arith}
+use Rattle.std.specs.declared.cmp.Ordering.{Ordering}
+use Rattle.std.specs.declared.cmp.Ordering.TheVariants.{Less, Equal, Greater}
+use Rattle.std.specs.Ordering.{is_lt, ordering_index, ordering_reverse}
+use Rattle.std.specs.Cmp.{tied_itself}
+use Rattle.std.specs.FinMap.Entries as entries
+use Rattle.std.specs.List.{HoldsAt}
+use Rattle.std.specs.List.Sorted.{IsNonDecreasingBy, IsPartitionPoint}
+use Rattle.std.proofs.lemmas.Bool.{cases_lt}
+use Rattle.std.proofs.lemmas.List.{get_or_default, get_or-map}
+use Rattle.std.proofs.lemmas.List.Sorted.{searchable_from_sorted}
+use Rattle.std.proofs.lemmas.Map.Views.{Contains-from_lookup, lookup-from_Contains}
+use Rattle.zt_rows.specs.declared.keys.RowKey.{RowKey}
+use Rattle.zt_rows.specs.declared.rows.Row.{Row}
+use Rattle.zt_rows.specs.Keys.{rowkey_cmp}
+use Rattle.zt_rows.specs.KeyOrder.{rowkey_cmp_total, rowkey_cmp-equal, rowkey_eq-equal}
+use Rattle.zt_store.specs.Held.{held}
+use Rattle.zt_store.specs.Recorded.{IsRecord}
+use Rattle.zt_store.proofs.Fitting.{Rows}
+use Rattle.zt_store.proofs.Exchanges.{keys_of, key_equality, find-lookup}
+use Rattle.zt_store.proofs.RecordLaws.{distinct-sorted}
+
+first : (a b : Bool) → T (a && b) → T a
+first true b p = tt
+first false b p = p
+
+second : (a b : Bool) → T (a && b) → T b
+second true b p = p
+second false b p = absurd p
+
+length-keys : (R : Rows) → length (keys_of R) ≡ length R
+length-keys [] = refl
+length-keys (e ∷ es) = ap suc (length-keys es)
+
+-- the key of a row is the key at its place
+key-at : (R : Rows) (i : ℕ) (d : RowKey) (e : RowKey × Option Row) → i < length R → get_or R i e ≡ e → get_or (keys_of R) i d ≡ e.0
+key-at R i d e h at = get_or-map (λ (q : RowKey × Option Row). q.0) R i e d h ∙ ap (λ (q : RowKey × Option Row). q.0) at
+
+-- ---- a key that was found
+
+pub held-found : (ks : List RowKey) (R : Rows) (k : RowKey) (i : ℕ) (e : RowKey × Option Row) → IsRecord ks R → i < length ks
+    → HoldsAt (λ y. rowkey_cmp y k ≡ Equal) ks i → e ≡ get_or R i e → Some e.1 ≡ held R k
+held-found ks R k i e is within tied at =
+    let h : i < length R = omega (arith, within, ap length is.listed, length-keys R) in
+    let here : get_or ks i e.0 ≡ e.0 = ap (λ l. get_or l i e.0) is.listed ∙ key-at R i e.0 e h (sym at) in
+    let same : e.0 ≡ k = rowkey_cmp-equal e.0 k (subst (λ y. rowkey_cmp y k ≡ Equal) here (tied e.0)) in
+    let there : get_or R i (k, e.1) ≡ (k, e.1) = get_or_default R i (k, e.1) e h ∙ sym at ∙ ap (λ q. (q, e.1)) same in
+    sym (find-lookup k R ∙ lookup-from_Contains key_equality k e.1 R (distinct-sorted R is.ordered) (i, h, there))
+
+-- ---- a key that was not found
+
+is_less : (o : Ordering) → T (is_lt o) → o ≡ Less
+is_less Less h = refl
+is_less Equal h = absurd h
+is_less Greater h = absurd h
+
+rising : (R : Rows) → T (entries.is_sorted rowkey_cmp R) → (j : ℕ) (d : RowKey) → suc j < length (keys_of R)
+    → rowkey_cmp (get_or (keys_of R) j d) (get_or (keys_of R) (suc j) d) ≡ Less
+rising [] h j d l = absurd (omega (arith, l))
+rising (e ∷ []) h j d l = absurd (omega (arith, l))
+rising (e ∷ f ∷ R) h zero d l = is_less _ (first _ _ (first _ _ h))
+rising (e ∷ f ∷ R) h (suc j) d l = rising (f ∷ R) (second _ _ h) j d (omega (arith, l))
+
+not_less : (o p : Ordering) → o ≡ Less → o ≡ ordering_reverse p → is_lt p ≡ false
+not_less o Less e h = cc
+not_less o Equal e h = refl
+not_less o Greater e h = refl
+
+searchable : (R : Rows) (k : RowKey) → T (entries.is_sorted rowkey_cmp R) → IsNonDecreasingBy (λ y. ordering_index (rowkey_cmp y k)) (keys_of R)
+searchable R k h =
+    searchable_from_sorted rowkey_cmp_total (λ y. y) (keys_of R) k
+    (λ j d _ l. steps j d l)
+  where
+    steps : (j : ℕ) (d : RowKey) → j + 1 < length (keys_of R) → is_lt (rowkey_cmp (get_or (keys_of R) (j + 1) d) (get_or (keys_of R) j d)) ≡ false
+    steps j d l =
+        let next : suc j ≡ j + 1 = omega arith in
+        let up : rowkey_cmp (get_or (keys_of R) j d) (get_or (keys_of R) (j + 1) d) ≡ Less =
+        sym (ap (λ n. rowkey_cmp (get_or (keys_of R) j d) (get_or (keys_of R) n d)) next) ∙ rising R h j d (omega (arith, l)) in
+        not_less _ _ up (rowkey_cmp_total.antisymm (get_or (keys_of R) j d) (get_or (keys_of R) (j + 1) d))
+
+pub held-missing : (ks : List RowKey) (R : Rows) (k : RowKey) (i : ℕ) → IsRecord ks R
+    → (IsNonDecreasingBy (λ y. ordering_index (rowkey_cmp y k)) ks → IsPartitionPoint (λ y. rowkey_cmp y k ≡ Less) (λ y. rowkey_cmp y k ≡ Greater) ks i)
+    → None ≡ held R k
+held-missing ks R k i is parts = at (entries.find rowkey_cmp k R) refl
+  where
+    sides : IsPartitionPoint (λ y. rowkey_cmp y k ≡ Less) (λ y. rowkey_cmp y k ≡ Greater) ks i
+    sides = parts (subst (IsNonDecreasingBy (λ y. ordering_index (rowkey_cmp y k))) (sym is.listed) (searchable R k is.ordered))
+
+    apart : (j : ℕ) → j < length ks → rowkey_cmp (get_or ks j k) k ≡ Equal → ⊥
+    apart j l e =
+        elim (cases_lt j i) [
+          | inl low ↦ let o : rowkey_cmp (get_or ks j k) k ≡ Less = sides.0 j k (omega arith) low in absurd (cc)
+          | inr high ↦ let o : rowkey_cmp (get_or ks j k) k ≡ Greater = sides.1 j k high l in absurd (cc)
+        ]
+
+    at : (o : Option (Option Row)) → held R k ≡ o → None ≡ held R k
+    at None e = sym e
+    at (Some v) e =
+        let there = Contains-from_lookup rowkey_eq-equal k v R (sym (find-lookup k R) ∙ e) in
+        let key : get_or ks there.0 k ≡ k = ap (λ l. get_or l there.0 k) is.listed ∙ key-at R there.0 k (k, v) there.1 there.2 in
+        absurd (apart there.0 (omega (arith, there.1, ap length is.listed, length-keys R)) (ap (λ y. rowkey_cmp y k) key ∙ tied_itself rowkey_cmp_total k))
