@@ -153,14 +153,6 @@ impl History {
         }
     }
 
-    /// How many moments there are on the path to a moment. It takes no memory.
-    pub fn depth_of(&self, moment: Moment) -> u32
-        requires { moment ≤ length self.now.tree.made }
-        ensures { result ≡ length (path self.now.tree.made moment) }
-    {
-        self.moments.depth(moment)
-    }
-
     /// The moments after the opening up to a moment: what `along` is to be given to go there. It takes memory for the
     /// list alone, in one request.
     pub fn path(&self, moment: Moment) -> Result<Vec<Moment>, Refusal>

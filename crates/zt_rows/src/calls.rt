@@ -271,28 +271,6 @@ pub enum Happening {
     Leaked,
 }
 
-/// A moment with the call that made it.
-#[derive(Debug, Drop)]
-pub struct Event {
-    pub moment: Moment,
-    pub process: Koid,
-    pub call: Call,
-}
-
-impl Event {
-    /// An equal event in memory of its own.
-    pub fn copy(&self) -> Result<Event, AllocError>
-        ensures { IfOk result (λ copied. copied ≡ self.now) }
-    {
-        let call = self.call.copy()?;
-        Ok(Event {
-            moment: self.moment,
-            process: self.process,
-            call,
-        })
-    }
-}
-
 /// What a client asks of the debugger.
 #[derive(Debug, Drop)]
 pub enum Command {

@@ -11,7 +11,7 @@ mod refusals;
 mod rows;
 mod supports;
 
-pub use calls::{Answer, Call, Command, Event, Happening, Parcel, Reply};
+pub use calls::{Answer, Call, Command, Happening, Parcel, Reply};
 pub use items::Items;
 pub use keys::RowKey;
 pub use numbers::{HandleValue, Koid, Moment};
