@@ -3,9 +3,7 @@
 #![tactic(auto)]
 
 mod cells;
-mod chains;
 mod changes;
-mod indices;
 mod records;
 mod steps;
 mod stores;
