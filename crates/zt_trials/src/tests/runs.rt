@@ -127,15 +127,20 @@ fn each_read_fails_once(rt: HostRuntime) -> Result<(), Fail> {
     check_failed_read(&rt, ASKED.len())
 }
 
-/// What was written is a prefix, and a run over the lines that were not served goes on behind them.
+/// The lines come byte by byte, so that each is answered before the next is read. What was written is a prefix, and a run
+/// over the lines that were not served goes on behind them.
 fn check_failed_write(rt: &(impl Abort + AllocGlobal), good: usize) -> Result<(), Fail> {
     let alloc = rt.alloc();
     let book = Book::new(alloc, 1)?;
+    let reader = Turns {
+        inner: ASKED,
+        good: u64::MAX,
+    };
     let writer = Turns {
         inner: Vec::new(alloc),
         good: good as u64,
     };
-    let (book, end, writer) = talk(alloc, book, ASKED, writer);
+    let (book, end, writer) = talk(alloc, book, reader, writer);
     assert!(rt; end == End::Stopped(Refusal::WriteFault));
     let told = TOLD.split_at(good.min(TOLD.len())).0;
     assert!(rt; writer.inner.as_slice() == told);
