@@ -206,6 +206,24 @@ module _ (h : Timeline) (way here : List ℕ) (shared : ℕ) (w : AreWays h way 
         (back-over h way here shared w k i q (row (state_after h.tree.made here (i + 1)) k) _ (slice_get_read here (length here) i q refl inside read) refl refl);
   }
 
+  -- ---- as loops meet them
+
+  pub gone-down : (x place j : ℕ) (r : Option Row) (b : Bool) → place ≤ shared → r ≡ row (state_after h.tree.made here place) (key.Object x) → b ≡ is_there r → b ≡ false
+      → (place < j → exists (at j) x ≡ false) → place < j + 1 → exists (at j) x ≡ false
+  gone-down x place j r b low stands told none above up = elim (cases_lt place j) [
+    | inl l ↦ above l
+    | inr g ↦
+        let same : j ≡ place = omega (arith, up, g) in
+        ap (λ n. exists (at n) x) same
+        ∙ ap (λ S. exists S x) (sym (shared-state place low))
+        ∙ ap (λ q. is_there q) (sym stands)
+        ∙ sym told ∙ none
+  ]
+
+  pub sure-here : (x place : ℕ) (r : Option Row) (b : Bool) → place ≤ shared → r ≡ row (state_after h.tree.made here place) (key.Object x) → b ≡ is_sure r x → b ≡ true → is_leaked (at place) x ≡ false
+  sure-here x place r b low stands told sure =
+      sure-unleaked (at place) x (ap (λ S. is_sure (row S (key.Object x)) x) (sym (shared-state place low)) ∙ ap (λ q. is_sure q x) (sym stands) ∙ sym told ∙ sure)
+
 -- ---- what a record tells
 
 none-held : (q : Option (Option Row)) (r : Option Row) → has_none q ≡ true → unwrap_or q r ≡ None

@@ -1,4 +1,4 @@
-ghost use Rattle.std.specs.Prelude.{◌≡◌, ◌==◌, ◌&&◌, ◌||◌, ◌≤◌, ◌<◌, true, false, Some, IfOk, IfErr, Ok, None, filter, length};
+ghost use Rattle.std.specs.Prelude.{◌≡◌, ◌==◌, ◌&&◌, ◌||◌, ◌≤◌, ◌<◌, ◌+◌, true, false, Some, IfOk, IfErr, Ok, None, filter, length};
 ghost use Rattle.std.specs.List.{last_or};
 ghost use Rattle.zt_rows.specs.declared.calls.Happening.TheVariants as happening;
 ghost use Rattle.zt_rows.specs.Reads.{is_process};
@@ -57,7 +57,8 @@ fn last_leaked(
     ensures { IfOk result (λ found. found ≡ last_or None (filter (at_moment (leaked koid) history.now.tree.made) ways.now.way.items)) }
 {
     let last = last_there(history, ways, koid);
-    if last.sure {
+    let sure = last.sure;
+    if sure {
         return Ok(None);
     }
     if last.place > ways.shared {
@@ -162,7 +163,7 @@ fn onset_back(
     let mut graph = graph;
     let (mut below, mut above) = (low, high);
     while above - below > 1 {
-        let middle = below + (above - below) / 2;
+        let middle = between(below, above);
         let mut other = copy_of(alloc, &graph)?;
         go_back(alloc, &mut other, history, ways, above, middle)?;
         let leaks = leaked_in(alloc, &other, koid)?;
@@ -196,7 +197,7 @@ fn onset_forth(
     let mut graph = graph;
     let (mut below, mut above) = (ways.shared, high);
     while above - below > 1 {
-        let middle = below + (above - below) / 2;
+        let middle = between(below, above);
         let mut other = copy_of(alloc, &graph)?;
         go_forth(alloc, &mut other, history, ways, below, middle)?;
         let leaks = leaked_in(alloc, &other, koid)?;
@@ -208,6 +209,15 @@ fn onset_forth(
         }
     }
     Ok(below)
+}
+
+/// The place in the middle between two that are not next to each other.
+fn between(low: usize, high: usize) -> usize
+    requires apart { low + 1 < high }
+    ensures above { low < result }
+    ensures below { result < high }
+{
+    low + (high - low) / 2
 }
 
 /// Whether the object is leaked at a later place beyond those that both paths share, by the graph of an earlier one.
@@ -229,7 +239,8 @@ fn leaked_forth(
 {
     let mut other = copy_of(alloc, graph)?;
     go_forth(alloc, &mut other, history, ways, from, to)?;
-    leaked_in(alloc, &other, koid)
+    let leaks = leaked_in(alloc, &other, koid)?;
+    Ok(leaks)
 }
 
 /// Whether the object is leaked in the graph. Where there is no such object, or it keeps itself, nothing is looked for.

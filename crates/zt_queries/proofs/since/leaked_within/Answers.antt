@@ -13,5 +13,5 @@ returns-then-not-leaks c =
     never-leaked c.args.history.now c.args.ways.now.way.items c.args.ways.now.here.items c.args.ways.now.shared c.requires.ways c.args.koid c.args.place c.requires.last
     (sym (c.in_ok-leaks.ensures _ c.in_ok-graph.ensures) ∙ c.if-not-leaks.true)
 
-pub requires-onset_within-leaked : goal.requires-onset_within-leaked
-requires-onset_within-leaked c = sym (c.in_ok-leaks.ensures _ c.in_ok-graph.ensures) ∙ c.if-not-leaks.false
+pub onset_within-requires-clause-leaked : goal.onset_within-requires-clause-leaked
+onset_within-requires-clause-leaked c = sym (c.in_ok-leaks.ensures _ c.in_ok-graph.ensures) ∙ c.if-not-leaks.false
