@@ -2,7 +2,7 @@
 -- is leaked never where it is not at the last place at which it is there, and any place behind which it is leaked is the
 -- only one. And what tells without a search that it is not leaked.
 use Rattle.std.proofs.Common.{◌≡◌, ◌≤◌, ◌<◌, ℕ, zero, suc, ◌+◌, Bool, true, false, not, ◌&&◌, ◌||◌, inl, inr, List, [], ◌∷◌, length, take, get_or, refl, sym, ap, ◌∙◌, subst, arith}
-use Rattle.std.specs.Prelude.{Option, None, Some, if◌then◌else◌, filter, slice_get, ◌==◌, unwrap_or}
+use Rattle.std.specs.Prelude.{Option, None, Some, filter, slice_get, ◌==◌, unwrap_or}
 use Rattle.std.specs.List.{last_or}
 use Rattle.std.proofs.lemmas.Bool.{cases_lt, eqb-true, eq-eqb}
 use Rattle.std.proofs.lemmas.Map.Keys.{any_passes_from_place}
@@ -14,16 +14,15 @@ use Rattle.zt_rows.specs.declared.keys.RowKey.TheVariants as key
 use Rattle.zt_rows.specs.declared.rows.Held.{Held}
 use Rattle.zt_rows.specs.declared.rows.ObjectRow.{ObjectRow}
 use Rattle.zt_rows.specs.declared.rows.Row.{Row}
-use Rattle.zt_rows.specs.Handles.{next_koid}
 use Rattle.zt_rows.specs.Opening.{opening}
-use Rattle.zt_rows.specs.Reads.{as_object, on_object, is_live_process, object, entry, runs}
+use Rattle.zt_rows.specs.Reads.{on_object, is_live_process, object, entry, runs}
 use Rattle.zt_rows.specs.State.{State, row, put}
 use Rattle.zt_rows.specs.Support.{root_job}
 use Rattle.zt_rows.specs.Tests.{among, exists}
 use Rattle.zt_rows.specs.Consistent.{IsConsistent}
 use Rattle.zt_rows.proofs.OpeningLaws.{opening-consistent, of_both}
-use Rattle.zt_rows.proofs.ReadLaws.{some-exists, some_one}
-use Rattle.zt_rows.proofs.RowLaws.{true≢false, not_true, and_left, and_right, and_both}
+use Rattle.zt_rows.proofs.ReadLaws.{some-exists}
+use Rattle.zt_rows.proofs.RowLaws.{true≢false, not_true, and_right, and_both}
 use Rattle.zt_store.specs.Held.{held}
 use Rattle.zt_history.specs.Standing.{recorded_at}
 use Rattle.zt_history.specs.Timeline.{Timeline}
@@ -35,7 +34,7 @@ use Rattle.zt_history.proofs.WayLaws as ways
 use Rattle.zt_queries.specs.Happenings.{leaked, IsNext}
 use Rattle.zt_queries.specs.Leaks.{is_leaked}
 use Rattle.zt_queries.specs.Reach.{reached}
-use Rattle.zt_queries.specs.Times.{at_moment, happens}
+use Rattle.zt_queries.specs.Times.{at_moment}
 use Rattle.zt_queries.specs.Turns.{row_over, AreWays, is_there}
 use Rattle.zt_queries.specs.Onsets.{state_after, IsLast, IsOnset, keeps_itself, is_sure, entry_names, names_object, names_in, has_none, IsBehind}
 use Rattle.zt_queries.proofs.LeakLaws.{leaked-lost}

@@ -1,7 +1,7 @@
 -- One sketch after another.
 use Rattle.std.specs.BTreeMap.{get}
 use Rattle.zt_rows.specs.Keys.{rowkey_cmp}
-use Rattle.zt_queries.proofs.GraphLaws.{copied_more, copied_all}
+use Rattle.zt_queries.proofs.GraphLaws.{copied_more}
 use Rattle.zt_queries.proofs.graph.copy_of.Goals as goal
 
 pub loop-key-preserved : goal.loop-key-preserved

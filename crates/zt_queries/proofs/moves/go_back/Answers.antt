@@ -1,5 +1,5 @@
 -- Back, record by record.
-use Rattle.std.proofs.Common.{◌≡◌, ap, subst, arith}
+use Rattle.std.proofs.Common.{◌≡◌, subst, arith}
 use Rattle.zt_queries.specs.Graphs.{IsGraph}
 use Rattle.zt_queries.specs.Onsets.{state_after}
 use Rattle.zt_queries.proofs.SinceLaws.{back_step}

@@ -1,7 +1,6 @@
 -- Back from the position to the place, where both paths have one state.
-use Rattle.std.proofs.Common.{◌≡◌, length, ◌∙◌, subst, refl}
+use Rattle.std.proofs.Common.{◌≡◌, length, ◌∙◌, subst}
 use Rattle.zt_queries.specs.Graphs.{IsGraph}
-use Rattle.zt_queries.specs.Onsets.{state_after}
 use Rattle.zt_queries.proofs.SinceLaws.{graph_starts}
 use Rattle.zt_queries.proofs.OnsetLaws.{shared-state}
 use Rattle.zt_queries.proofs.moves.graph_at.Goals as goal

@@ -1,5 +1,5 @@
 -- What the next record shows, or an entry at the position.
-use Rattle.std.proofs.Common.{◌≡◌, ◌<◌, length, take, sym, ◌∙◌, ap, arith}
+use Rattle.std.proofs.Common.{◌≡◌, ◌<◌, length, sym, ◌∙◌, ap, arith}
 use Rattle.zt_queries.specs.Leaks.{is_leaked}
 use Rattle.zt_queries.proofs.OnsetLaws.{behind-here, shared-state, position-state}
 use Rattle.zt_queries.proofs.signs.is_unleaked_at.Goals as goal

@@ -1,5 +1,5 @@
 -- Back from the fork as long as the object is not there.
-use Rattle.std.proofs.Common.{◌≡◌, ◌<◌, ◌≤◌, ◌+◌, ◌-◌, length, arith}
+use Rattle.std.proofs.Common.{◌<◌, ◌+◌, arith}
 use Rattle.std.specs.Option.{option_copied}
 use Rattle.zt_rows.specs.declared.keys.RowKey.TheVariants as key
 use Rattle.zt_queries.proofs.OnsetLaws.{gone-down, sure-here}
