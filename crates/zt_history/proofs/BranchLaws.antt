@@ -1,5 +1,5 @@
 -- Branches as the entries of a map: look-ups, heads that move, one branch more.
-use Rattle.std.proofs.Common.{◌≡◌, ℕ, zero, suc, ◌+◌, Bool, false, not, cond, List, [], ◌∷◌, ◌++◌, map, position, Option, Some, None, is_some, refl, sym, ◌∙◌, ap}
+use Rattle.std.proofs.Common.{◌≡◌, ◌<◌, ℕ, zero, suc, ◌+◌, length, Bool, false, not, cond, List, [], ◌∷◌, ◌++◌, map, position, Option, Some, None, is_some, refl, sym, ◌∙◌, ap}
 use Rattle.std.specs.Prelude.{slice_get, nat_lt}
 use Rattle.std.specs.List.{position_or_len}
 use Rattle.std.specs.Map.{keys_of, values_of, lookup}
@@ -7,9 +7,10 @@ use Rattle.std.specs.Str.{bytes_eq}
 use Rattle.std.proofs.lemmas.List.{map-append}
 use Rattle.std.proofs.lemmas.Option.{none-some, same_Some}
 use Rattle.std.proofs.lemmas.Bool.{true≢false}
+use Rattle.std.proofs.lemmas.List.Quantifiers.{position-Some}
 use Rattle.indexmap.specs.Layout.{set_value_at}
 use Rattle.indexmap.proofs.MapLemmas.{some_index}
-use Rattle.zt_history.specs.Tree.{branch_named, head_at, headed}
+use Rattle.zt_history.specs.Tree.{Branch, branch_named, head_at, headed}
 use Rattle.zt_history.specs.Branches.{branches_by}
 use Rattle.zt_history.proofs.ListLaws.{length-mapped}
 
@@ -46,3 +47,7 @@ module _ {K : Type 0} (name : K → List ℕ) where
 
   pub branches_by-push : (es : List (K × ℕ)) (k : K) (m : ℕ) → branches_by name (es ++ (k, m) ∷ []) ≡ branches_by name es ++ record { name = name k; head = m } ∷ []
   branches_by-push es k m = map-append (λ (e : K × ℕ). record { name = name e.0; head = e.1 }) es ((k, m) ∷ [])
+
+-- a branch that is found by its name is one of the branches
+pub named-within : (branches : List Branch) (name : List ℕ) (id : ℕ) → Some id ≡ branch_named branches name → id < length branches
+named-within branches name id found = (position-Some (λ b. bytes_eq name b.name) branches id (record { name = []; head = 0 }) (sym found)).0

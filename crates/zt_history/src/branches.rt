@@ -57,7 +57,8 @@ impl Branches {
 
     /// The branch of the name. It takes no memory.
     pub(crate) fn find(&self, name: &[u8]) -> Option<BranchId>
-        ensures { result ≡ branch_named self.now name.now }
+        ensures found { result ≡ branch_named self.now name.now }
+        ensures within { IfSome result (λ id. id < length self.now) }
     {
         match self.heads.get_index_of(name) {
             Some(number) => Some(BranchId(number)),

@@ -69,7 +69,8 @@ impl History {
 
     /// The branch of the name. It takes no memory.
     pub fn find(&self, name: &[u8]) -> Option<BranchId>
-        ensures { result ≡ branch_named self.now.tree.branches name.now }
+        ensures found { result ≡ branch_named self.now.tree.branches name.now }
+        ensures within { IfSome result (λ id. id < length self.now.tree.branches) }
     {
         self.branches.find(name)
     }

@@ -1,18 +1,20 @@
 -- The graph of a state, drawn key by key, and what its rows say of the state's.
 use Rattle.std.proofs.Common.{◌≡◌, ℕ, zero, suc, ◌+◌, ◌<◌, ◌≤◌, Bool, true, false, ◌||◌, inl, inr, List, [], ◌∷◌, ◌++◌, map, length, take, get_or, refl, sym, ap, ◌∙◌, arith}
-use Rattle.std.specs.Prelude.{Option, None, Some, if◌then◌else◌}
+use Rattle.std.specs.Prelude.{Option, None, Some, is_some, if◌then◌else◌}
 use Rattle.std.specs.List.{list_any}
+use Rattle.std.specs.Map.{lookup}
+use Rattle.std.specs.BTreeMap.{is_at}
 use Rattle.std.proofs.lemmas.List.{take_more}
 use Rattle.std.proofs.lemmas.List.Folds.{list_any-append}
 use Rattle.zt_rows.specs.declared.keys.RowKey.{RowKey}
 use Rattle.zt_rows.specs.declared.rows.Row.{Row}
-use Rattle.zt_rows.specs.Keys.{rowkey_eq}
-use Rattle.zt_rows.specs.KeyOrder.{rowkey_eq-equal, rowkey_eq-self}
+use Rattle.zt_rows.specs.Keys.{rowkey_cmp, rowkey_eq}
+use Rattle.zt_rows.specs.KeyOrder.{rowkey_eq-equal, rowkey_eq-self, rowkey_eq-cmp, rowkey_eq-laws}
 use Rattle.zt_rows.specs.Change.{keys}
 use Rattle.zt_rows.specs.State.{State, row}
 use Rattle.zt_rows.proofs.RowLaws.{In, row-in, list_any-in}
 use Rattle.zt_queries.specs.declared.graph.Sketch.{Sketch}
-use Rattle.zt_queries.specs.Graphs.{sketched}
+use Rattle.zt_queries.specs.Graphs.{first_of, sketched}
 
 -- ---- drawn so far
 
@@ -67,3 +69,51 @@ take_whole (x ∷ xs) (suc i) h = ap (λ l. x ∷ l) (take_whole xs i (omega (ar
 pub all_drawn : (S : State) (ks : List RowKey) (i : ℕ) (q : RowKey) (found : Option Sketch) → ks ≡ keys S → length ks ≤ i → found ≡ drawn S (take i ks) q → found ≡ sketched (row S q)
 all_drawn S ks i q found all past so_far =
     so_far ∙ ap (λ xs. drawn S xs q) (take_whole ks i past ∙ all) ∙ all_of S q (row S q) refl
+
+-- ---- an equal graph
+
+abbrev pub from_rest : List (RowKey × Sketch) → RowKey → Option Sketch
+from_rest es q = lookup (is_at (rowkey_cmp q)) es
+
+first_by : (o t : Option Sketch) (b : Bool) (s : Sketch) → first_of (first_of o (if b then Some s else None)) t ≡ first_of o (if b then Some s else t)
+first_by (Some r) t b s = refl
+first_by None t true s = refl
+first_by None t false s = refl
+
+pub copied_more : (old new : Option Sketch) (k q : RowKey) (s : Sketch) (es rest : List (RowKey × Sketch)) (all : Option Sketch) → es ≡ (k, s) ∷ rest
+    → first_of old (from_rest es q) ≡ all → new ≡ first_of old (if rowkey_eq k q then Some s else None) → first_of new (from_rest rest q) ≡ all
+copied_more old new k q s es rest all is so_far n =
+    ap (λ o. first_of o (from_rest rest q)) n
+    ∙ first_by old (from_rest rest q) (rowkey_eq k q) s
+    ∙ ap (λ b. first_of old (if b then Some s else from_rest rest q)) (rowkey_eq-laws.symm k q ∙ sym (rowkey_eq-cmp q k))
+    ∙ ap (λ l. first_of old (from_rest l q)) (sym is)
+    ∙ so_far
+
+first_none : (o : Option Sketch) → first_of o None ≡ o
+first_none (Some s) = refl
+first_none None = refl
+
+pub copied_all : (new : Option Sketch) (q : RowKey) (es : List (RowKey × Sketch)) (all : Option Sketch) → es ≡ [] → first_of new (from_rest es q) ≡ all → new ≡ all
+copied_all new q es all none so_far = sym (first_none new) ∙ ap (λ l. first_of new (from_rest l q)) (sym none) ∙ so_far
+
+-- one sketch put where there was none, or left where there was one
+pub put_where_none : (old : RowKey → Option Sketch) (k q : RowKey) (s : Sketch) (new : Option Sketch) → old k ≡ None
+    → new ≡ (if rowkey_eq k q then Some s else old q) → new ≡ first_of (old q) (if rowkey_eq k q then Some s else None)
+put_where_none old k q s new none n = n ∙ by (rowkey_eq k q) refl
+  where
+    by : (b : Bool) → rowkey_eq k q ≡ b → (if rowkey_eq k q then Some s else old q) ≡ first_of (old q) (if rowkey_eq k q then Some s else None)
+    by true e =
+        ap (λ b. if b then Some s else old q) e ∙ sym (ap (λ o. first_of o (if rowkey_eq k q then Some s else None)) (ap old (sym (rowkey_eq-equal k q e)) ∙ none) ∙ ap (λ b. if b then Some s else None) e)
+    by false e =
+        ap (λ b. if b then Some s else old q) e ∙ sym (ap (λ b. first_of (old q) (if b then Some s else None)) e ∙ first_none (old q))
+
+pub left_where_some : (old : RowKey → Option Sketch) (k q : RowKey) (s : Sketch) → is_some (old k) ≡ true → old q ≡ first_of (old q) (if rowkey_eq k q then Some s else None)
+left_where_some old k q s there = by (rowkey_eq k q) refl
+  where
+    held_first : (o t : Option Sketch) → is_some o ≡ true → o ≡ first_of o t
+    held_first (Some r) t h = refl
+    held_first None t h = cc
+
+    by : (b : Bool) → rowkey_eq k q ≡ b → old q ≡ first_of (old q) (if rowkey_eq k q then Some s else None)
+    by true e = held_first (old q) (if rowkey_eq k q then Some s else None) (ap (λ z. is_some (old z)) (sym (rowkey_eq-equal k q e)) ∙ there)
+    by false e = sym (ap (λ b. first_of (old q) (if b then Some s else None)) e ∙ first_none (old q))

@@ -15,3 +15,4 @@ pub mod TreeTimes
 pub mod WhenLaws
 pub mod ForkLaws
 pub mod SinceLaws
+pub mod OnsetLaws

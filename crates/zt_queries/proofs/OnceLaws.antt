@@ -210,10 +210,10 @@ peer_closed-passes x = record {
 
 -- ---- leaked
 
-abbrev has_leaked : ℕ → State → Type 0
+abbrev pub has_leaked : ℕ → State → Type 0
 has_leaked x S = (x < next_koid S) × (exists S x ≡ true → is_leaked S x ≡ true)
 
-leaked-exists : (S : State) (x : ℕ) → is_leaked S x ≡ true → exists S x ≡ true
+pub leaked-exists : (S : State) (x : ℕ) → is_leaked S x ≡ true → exists S x ≡ true
 leaked-exists S x e = (leaked-lost S x e).there
 
 leaked-passes : (x : ℕ) → Passes (leaked x) (has_leaked x)
@@ -229,6 +229,12 @@ leaked-passes x = record {
       let l : is_leaked T x ≡ true = and_right (not (is_leaked S x)) _ h in
       (low-koid T d.sound x (leaked-exists T x l), λ e. l);
 }
+
+pub leaked-begins : (S : State) (x : ℕ) → IsConsistent S → is_leaked S x ≡ true → has_leaked x S
+leaked-begins S x c l = (low-koid S c.sound x (leaked-exists S x l), λ e. l)
+
+pub leaked-goes-on : (S T : State) (x : ℕ) → IsConsistent S → IsNext S T → has_leaked x S → has_leaked x T
+leaked-goes-on S T x c n p = (leaked-passes x).stays S T c (next-consistent S T c n) (next-follows S T c n) p
 
 -- ---- the laws
 

@@ -1,9 +1,9 @@
--- A graph moved by records along the paths of a history, and the last moment at which an object was leaked.
+-- A graph moved by records along the paths of a history, and what shows in a graph without a search.
 use Rattle.std.proofs.Common.{◌≡◌, ℕ, zero, suc, ◌+◌, ◌-◌, ◌<◌, ◌≤◌, Bool, true, false, not, ◌&&◌, ◌||◌, List, [], ◌∷◌, ◌++◌, map, length, take, get_or, refl, sym, ap, ◌∙◌, subst, arith}
-use Rattle.std.specs.Prelude.{Option, None, Some, unwrap_or, if◌then◌else◌, filter, slice_get}
-use Rattle.std.specs.List.{last_or}
+use Rattle.std.specs.Prelude.{Option, None, Some, unwrap_or, if◌then◌else◌, slice_get, ◌==◌}
+use Rattle.std.specs.List.{list_any}
 use Rattle.std.specs.Ordering.{is_eq}
-use Rattle.std.specs.BTreeMap.{BTreeMap, get}
+use Rattle.std.specs.BTreeMap.{BTreeMap, IsOrdered, get}
 use Rattle.std.specs.FinMap.Entries as entries
 use Rattle.std.proofs.lemmas.List.{take_more}
 use Rattle.std.proofs.lemmas.List.Folds.{list_any-append}
@@ -13,22 +13,25 @@ use Rattle.zt_rows.specs.declared.rows.Row.{Row}
 use Rattle.zt_rows.specs.Keys.{rowkey_cmp, rowkey_eq}
 use Rattle.zt_rows.specs.KeyOrder.{rowkey_eq-equal, rowkey_eq-cmp, rowkey_eq-laws}
 use Rattle.zt_rows.specs.State.{State, row}
-use Rattle.zt_rows.proofs.RowLaws.{or_right}
+use Rattle.zt_rows.specs.Reads.{is_process}
+use Rattle.zt_rows.specs.Support.{root_job}
+use Rattle.zt_rows.proofs.RowLaws.{or_right, not_true, true≢false}
 use Rattle.zt_store.specs.Held.{held}
 use Rattle.zt_history.specs.Standing.{recorded_at}
-use Rattle.zt_history.specs.Timeline.{Timeline, IsPath}
-use Rattle.zt_history.specs.Tree.{parent_at, end_of, state_at}
+use Rattle.zt_history.specs.Timeline.{Timeline}
+use Rattle.zt_history.specs.Tree.{end_of, state_at}
 use Rattle.zt_queries.specs.declared.graph.Node.{Node}
 use Rattle.zt_queries.specs.declared.graph.Sketch.{Sketch}
-use Rattle.zt_queries.specs.Graphs.{sketched, held_over, IsGraph, is_left, node}
-use Rattle.zt_queries.specs.Happenings.{leaked}
+use Rattle.zt_queries.specs.Graphs.{sketched, held_over, IsGraph, is_left, node, roots}
 use Rattle.zt_queries.specs.Leaks.{is_above, is_leaked}
 use Rattle.zt_queries.specs.Reach.{reached}
 use Rattle.zt_rows.specs.Tests.{among}
-use Rattle.zt_queries.specs.Times.{at_moment}
 use Rattle.zt_queries.specs.Turns.{row_over, AreWays}
 use Rattle.zt_queries.proofs.GraphLaws.{listed}
-use Rattle.zt_queries.proofs.WayLaws.{back-over, forth-over, at-position, up-here, up-before, way-parent, way-end}
+use Rattle.zt_queries.proofs.LeakLaws.{leaked-lost}
+use Rattle.zt_queries.proofs.ReachLaws.{among-in, reached-closed}
+use Rattle.zt_queries.proofs.SurveyLaws.{closed_under}
+use Rattle.zt_queries.proofs.WayLaws.{back-over, forth-over, at-position}
 use Rattle.zt_queries.proofs.ListLeaks.{left_leaked}
 
 abbrev Rows : Type 0
@@ -145,26 +148,6 @@ module _ (h : Timeline) (way here : List ℕ) (shared : ℕ) (w : AreWays h way 
     draws = λ k. moved (there_at i) was k ∙ ap sketched (forth-over h way here shared w k i q (row (there_at i) k) (row_over (recorded_at h.tree.made h.position q) k (row (there_at i) k)) far at refl refl);
   }
 
-  pub graph_at_fork : (graph : BTreeMap RowKey Sketch) → IsGraph graph (here_at shared) → IsGraph graph (there_at shared)
-  graph_at_fork graph drawn = subst (λ l. IsGraph graph (state_at h.tree.made (end_of l))) (sym w.fork.same) drawn
-
-  leaks_on : (xs : List ℕ) → IsPath h.tree.made xs → (x i q : ℕ) (before after : Bool) → slice_get xs i ≡ Some q
-      → before ≡ is_leaked (state_at h.tree.made (end_of (take i xs))) x → after ≡ is_leaked (state_at h.tree.made (end_of (take (i + 1) xs))) x
-      → (not before && after) ≡ at_moment (leaked x) h.tree.made q
-  leaks_on xs is x i q before after at was now =
-      let one : suc i ≡ i + 1 = omega arith in
-      ap (λ b. not b && after) (was ∙ ap (λ m. is_leaked (state_at h.tree.made m) x) (sym (way-parent h.tree.made w.tree.moments.falls xs is i q at)))
-      ∙ ap (λ b. not (is_leaked (state_at h.tree.made (parent_at h.tree.made q)) x) && b)
-      (now ∙ ap (λ n. is_leaked (state_at h.tree.made (end_of (take n xs))) x) (sym one) ∙ ap (λ m. is_leaked (state_at h.tree.made m) x) (way-end h.tree.made w.tree.moments.falls xs is i q at))
-
-  pub leaks_here : (x i q : ℕ) (before after : Bool) → slice_get here i ≡ Some q → before ≡ is_leaked (here_at i) x → after ≡ is_leaked (here_at (i + 1)) x
-      → (not before && after) ≡ at_moment (leaked x) h.tree.made q
-  leaks_here x i q before after at was now = leaks_on here (record { moment = h.position; there = w.within; is = w.stood }) x i q before after at was now
-
-  pub leaks_there : (x i q : ℕ) (before after : Bool) → slice_get way i ≡ Some q → before ≡ is_leaked (there_at i) x → after ≡ is_leaked (there_at (i + 1)) x
-      → (not before && after) ≡ at_moment (leaked x) h.tree.made q
-  leaks_there x i q before after at was now = leaks_on way w.asked x i q before after at was now
-
   -- ---- as loops meet them, back from a place and forth
 
   pub back_step : (i q : ℕ) (old new : BTreeMap RowKey Sketch) → 0 < i → i ≤ length here → q ≡ get_or here (i - 1) q → IsGraph old (here_at i) → IsTurned h q old new → IsGraph new (here_at (i - 1))
@@ -172,25 +155,8 @@ module _ (h : Timeline) (way here : List ℕ) (shared : ℕ) (w : AreWays h way 
       let up : i ≡ i - 1 + 1 = omega arith in
       graph_back (i - 1) q old new (slice_get_read here (length here) (i - 1) q refl (omega arith) read) (subst (λ n. IsGraph old (here_at n)) up was) moved
 
-  pub back_leaks : (x i q : ℕ) (before after : Bool) → 0 < i → i ≤ length here → q ≡ get_or here (i - 1) q → before ≡ is_leaked (here_at (i - 1)) x → after ≡ is_leaked (here_at i) x
-      → (not before && after) ≡ at_moment (leaked x) h.tree.made q
-  back_leaks x i q before after some inside read was now =
-      let up : i ≡ i - 1 + 1 = omega arith in
-      leaks_here x (i - 1) q before after (slice_get_read here (length here) (i - 1) q refl (omega arith) read) was (now ∙ ap (λ n. is_leaked (here_at n) x) up)
-
   pub forth_step : (i q : ℕ) (old new : BTreeMap RowKey Sketch) → shared ≤ i → i < length way → q ≡ get_or way i q → IsGraph old (there_at i) → IsTurned h q old new → IsGraph new (there_at (i + 1))
   forth_step i q old new far inside read was moved = graph_forth i q old new far (slice_get_read way (length way) i q refl inside read) was moved
-
-  pub forth_leaks : (x i q : ℕ) (before after : Bool) → i < length way → q ≡ get_or way i q → before ≡ is_leaked (there_at i) x → after ≡ is_leaked (there_at (i + 1)) x
-      → (not before && after) ≡ at_moment (leaked x) h.tree.made q
-  forth_leaks x i q before after inside read was now = leaks_there x i q before after (slice_get_read way (length way) i q refl inside read) was now
-
--- ---- one moment more
-
-pub latest_more : (test : ℕ → Bool) (xs : List ℕ) (i q : ℕ) (begins : Bool) (found next : Option ℕ) → i < length xs → q ≡ get_or xs i q → begins ≡ test q
-    → found ≡ last_or None (filter test (take i xs)) → next ≡ (if begins then Some q else found) → next ≡ last_or None (filter test (take (i + 1) xs))
-latest_more test xs i q true found next inside read same so_far n = n ∙ sym (up-here test xs i q inside read (sym same))
-latest_more test xs i q false found next inside read same so_far n = n ∙ so_far ∙ sym (up-before test xs i q inside read (sym same))
 
 -- ---- no such object
 
@@ -198,3 +164,29 @@ pub none_leaked : (graph : BTreeMap RowKey Sketch) (S : State) → IsGraph graph
 none_leaked graph S drawn x e =
     ap (is_left (among (reached S)) (λ y. is_above S (reached S) y) x) e
     ∙ left_leaked graph S drawn (among (reached S)) (λ y. is_above S (reached S) y) (λ y. refl) (λ y. refl) x
+
+-- ---- an object that keeps itself, and one that an entry names
+
+reached_or : (a b c : Bool) → b ≡ true → not (a || (b || c)) ≡ false
+reached_or true b c h = refl
+reached_or false true c h = refl
+reached_or false false c h = cc
+
+pub kept_leaked : (graph : BTreeMap RowKey Sketch) (S : State) → IsGraph graph S → (x : ℕ) (o : Node) → Some o ≡ node graph x
+    → ((x == root_job) || (is_process o.kind && o.live)) ≡ true → false ≡ is_leaked S x
+kept_leaked graph S drawn x o there keeps =
+    sym (reached_or (among (reached S) x) ((x == root_job) || (is_process o.kind && o.live)) (is_above S (reached S) x) keeps)
+    ∙ ap (is_left (among (reached S)) (λ y. is_above S (reached S) y) x) there
+    ∙ left_leaked graph S drawn (among (reached S)) (λ y. is_above S (reached S) y) (λ y. refl) (λ y. refl) x
+
+pub rooted_leaked : (graph : BTreeMap RowKey Sketch) → IsOrdered rowkey_cmp graph → (S : State) → IsGraph graph S → (xs : List ℕ) (x : ℕ) → xs ≡ roots graph
+    → list_any (λ y. y == x) xs ≡ true → false ≡ is_leaked S x
+rooted_leaked graph ordered S drawn xs x all named =
+    let known : among (reached S) x ≡ true =
+    (closed_under graph ordered S drawn (among (reached S)) (reached-closed S)).from_start x (among-in x (roots graph) (ap (λ l. among l x) (sym all) ∙ named)) in
+    sym (not_true (is_leaked S x) (λ t. true≢false (among (reached S) x) known (leaked-lost S x t).unreached))
+
+-- ---- an equal graph
+
+pub same_graph : (graph copied : BTreeMap RowKey Sketch) (S : State) → IsGraph graph S → ((k : RowKey) → get rowkey_cmp copied k ≡ get rowkey_cmp graph k) → IsGraph copied S
+same_graph graph copied S drawn same = record { draws = λ k. same k ∙ drawn.draws k }

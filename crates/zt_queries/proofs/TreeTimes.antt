@@ -61,7 +61,7 @@ record IsWalked (made : List Made) (test : State → State → Bool) (m : ℕ) :
   same : moments test opening (with_states made (path made m)) ≡ filter (at_moment test made) (path made m)
 
 module _ (made : List Made) (are : AreMoments made) (test : State → State → Bool) where
-  next-made : (i : ℕ) (e : Made) → made_at made (suc i) ≡ Some e → IsNext (state_at made (parent_at made (suc i))) (state_at made (suc i))
+  pub next-made : (i : ℕ) (e : Made) → made_at made (suc i) ≡ Some e → IsNext (state_at made (parent_at made (suc i))) (state_at made (suc i))
   next-made i e at =
       let is = are.each i e at in
       let up : parent_at made (suc i) ≡ e.parent = ap parent_of at in
@@ -106,14 +106,14 @@ module _ (made : List Made) (are : AreMoments made) (test : State → State → 
 -- ---- once at most
 
 module _ (made : List Made) (are : AreMoments made) (m : ℕ) (within : m ≤ length made) (x : ℕ) where
-  once : (what : Happening) → length (filter (at_moment (happens what x) made) (path made m)) ≤ 1
+  pub once : (what : Happening) → length (filter (at_moment (happens what x) made) (path made m)) ≤ 1
   once happening.Made = let w = walked made are (happens happening.Made x) m within in subst (λ l. length l ≤ 1) w.same (made-once opening _ x opening-consistent w.is_path)
   once happening.Ended = let w = walked made are (happens happening.Ended x) m within in subst (λ l. length l ≤ 1) w.same (ended-once opening _ x opening-consistent w.is_path)
   once happening.PeerClosed = let w = walked made are (happens happening.PeerClosed x) m within in subst (λ l. length l ≤ 1) w.same (peer_closed-once opening _ x opening-consistent w.is_path)
   once happening.Leaked = let w = walked made are (happens happening.Leaked x) m within in subst (λ l. length l ≤ 1) w.same (leaked-once opening _ x opening-consistent w.is_path)
 
 -- what is among a list and passes is among what passes
-among-filter : (test : ℕ → Bool) (xs : List ℕ) (i : ℕ) → among xs i ≡ true → test i ≡ true → among (filter test xs) i ≡ true
+pub among-filter : (test : ℕ → Bool) (xs : List ℕ) (i : ℕ) → among xs i ≡ true → test i ≡ true → among (filter test xs) i ≡ true
 among-filter test [] i h t = h
 among-filter test (y ∷ xs) i h t = by (y == i) refl (test y) refl (λ g. among-filter test xs i g t)
   where

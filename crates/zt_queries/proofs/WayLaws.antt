@@ -95,7 +95,7 @@ module _ (made : List Made) (falls : Falls made) (way : List ℕ) (is : IsPath m
   way-parent i q at =
       ways.way-next made falls way is i q (end_of (take i way)) at (front-path i (omega (arith, slice_get_within way i q at)))
 
-  way-made : (i q : ℕ) → slice_get way i ≡ Some q → (e : Made) × (made_at made q ≡ Some e)
+  pub way-made : (i q : ℕ) → slice_get way i ≡ Some q → (e : Made) × (made_at made q ≡ Some e)
   way-made i q at = by q (ways.way-later made falls way is i q at) (ways.way-within made falls way is i q at)
     where
       by : (q : ℕ) → 0 < q → q ≤ length made → (e : Made) × (made_at made q ≡ Some e)

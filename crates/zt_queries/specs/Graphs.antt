@@ -38,6 +38,11 @@ abbrev pub held_over : Option (Option Row) → Option Sketch → Option Sketch
 held_over (Some r) s = sketched r
 held_over None s = s
 
+-- the first, or else the second
+abbrev pub first_of : Option Sketch → Option Sketch → Option Sketch
+first_of (Some s) t = Some s
+first_of None t = t
+
 -- under each key there is what leaks hang on in the row of the state
 pub record IsGraph (graph : BTreeMap RowKey Sketch) (S : State) : Type 0 where
   pub draws : (k : RowKey) → get rowkey_cmp graph k ≡ sketched (row S k)

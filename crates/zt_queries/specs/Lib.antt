@@ -7,3 +7,4 @@ pub mod Holding
 pub mod Graphs
 pub mod Surveys
 pub mod Turns
+pub mod Onsets

@@ -1,11 +1,11 @@
 //! The graph in which leaks are looked for: of each row no more than what leaks hang on, so that a record can move it
 //! from one moment to the next.
-ghost use Rattle.std.specs.Prelude.{◌≡◌, IfOk, OnOk, map, if◌then◌else◌};
+ghost use Rattle.std.specs.Prelude.{◌≡◌, IfOk, OnOk, Some, None, map, if◌then◌else◌};
 ghost use Rattle.std.specs.BTreeMap.{get};
 ghost use Rattle.zt_rows.specs.Keys.{rowkey_cmp, rowkey_eq};
 ghost use Rattle.zt_rows.specs.State.{row};
 ghost use Rattle.zt_rows.specs.declared.keys.RowKey.{RowKey};
-ghost use Rattle.zt_queries.specs.Graphs.{IsGraph, sketch, sketched, node, link_of};
+ghost use Rattle.zt_queries.specs.Graphs.{IsGraph, first_of, sketch, sketched, node, link_of};
 
 use crate::supports::keys_of;
 use std::alloc::{AllocError, Global};
@@ -100,6 +100,41 @@ pub(crate) fn place(
         Some(drawn) => Ok(graph.insert(key, drawn)?),
         None => Ok(graph.remove(&key)),
     }
+}
+
+/// An equal graph in memory of its own.
+pub(crate) fn copy_of(alloc: Global, graph: &Graph) -> Result<Graph, AllocError>
+    ensures { IfOk result (λ copied. (k : RowKey) → get rowkey_cmp copied k ≡ get rowkey_cmp graph.now k) }
+{
+    let mut copied = BTreeMap::new(alloc);
+    for (key, sketch) in graph {
+        put_copy(&mut copied, *key, sketch)?;
+    }
+    Ok(copied)
+}
+
+/// Puts an equal sketch under the key, where there is none yet.
+fn put_copy(copied: &mut Graph, key: RowKey, sketch: &Sketch) -> Result<(), AllocError>
+    ensures { OnOk result ((q : RowKey) → get rowkey_cmp copied.new q ≡ first_of (get rowkey_cmp copied.old q) (if rowkey_eq key q then Some sketch.now else None)) }
+{
+    if copied.get(&key).is_some() {
+        return Ok(());
+    }
+    let equal = copy_sketch(sketch)?;
+    place(copied, key, Some(equal))?;
+    Ok(())
+}
+
+/// An equal sketch.
+fn copy_sketch(sketch: &Sketch) -> Result<Sketch, AllocError>
+    ensures { IfOk result (λ copied. copied ≡ sketch.now) }
+{
+    Ok(match sketch {
+        Sketch::Counters(koid) => Sketch::Counters(*koid),
+        Sketch::Object(node) => Sketch::Object(*node),
+        Sketch::Entry(koid) => Sketch::Entry(*koid),
+        Sketch::Message(named) => Sketch::Message(named.copy()?),
+    })
 }
 
 /// The object of the koid.

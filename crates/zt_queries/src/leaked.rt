@@ -20,7 +20,7 @@ use zt_rows::{Items, Koid, Refusal, RowKey};
 use zt_store::Store;
 
 /// The koid of the root job, which is never leaked.
-const ROOT_JOB: Koid = Koid(1024);
+pub(crate) const ROOT_JOB: Koid = Koid(1024);
 
 /// All leaked objects of a copy by rising koid, with their kinds. It takes memory, and time, for its objects, handles
 /// and messages.

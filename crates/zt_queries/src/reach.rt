@@ -34,7 +34,7 @@ pub(crate) fn reached_in(alloc: Global, graph: &Graph) -> Result<BTreeSet<u64>, 
 }
 
 /// What the entries name.
-fn entered(alloc: Global, graph: &Graph) -> Result<Vec<Koid>, AllocError>
+pub(crate) fn entered(alloc: Global, graph: &Graph) -> Result<Vec<Koid>, AllocError>
     ensures found { IfOk result (λ found. found.items ≡ roots graph.now) }
     ensures ordered { OnOk result (IsOrdered rowkey_cmp graph.now) }
 {

@@ -1,29 +1,31 @@
-ghost use Rattle.std.specs.Prelude.{◌≡◌, ◌≤◌, ◌&&◌, not, IfOk, IfErr, OnOk, Ok, Some, None, filter, length, take, if◌then◌else◌};
+ghost use Rattle.std.specs.Prelude.{◌≡◌, ◌==◌, ◌&&◌, ◌||◌, ◌≤◌, ◌<◌, ◌+◌, true, false, Some, IfOk, IfErr, Ok, None, filter, length};
 ghost use Rattle.std.specs.List.{last_or};
-ghost use Rattle.std.specs.BTreeMap.{get};
 ghost use Rattle.zt_rows.specs.declared.calls.Happening.TheVariants as happening;
-ghost use Rattle.zt_rows.specs.declared.keys.RowKey.{RowKey};
-ghost use Rattle.zt_rows.specs.Keys.{rowkey_cmp, rowkey_eq};
-ghost use Rattle.zt_rows.specs.State.{State, row};
-ghost use Rattle.zt_store.specs.Held.{held};
-ghost use Rattle.zt_history.specs.Standing.{recorded_at};
-ghost use Rattle.zt_history.specs.Tree.{end_of, state_at};
+ghost use Rattle.zt_rows.specs.Reads.{is_process};
+ghost use Rattle.zt_rows.specs.State.{State};
+ghost use Rattle.zt_rows.specs.Support.{root_job};
 ghost use Rattle.zt_queries.specs.Happenings.{leaked};
 ghost use Rattle.zt_queries.specs.Leaks.{is_leaked};
 ghost use Rattle.zt_queries.specs.Times.{IsRefusedWhen, at_moment, when_on};
-ghost use Rattle.zt_queries.specs.Turns.{AreWays, row_over};
-ghost use Rattle.zt_queries.specs.Graphs.{IsGraph, held_over, sketched};
+ghost use Rattle.zt_queries.specs.Turns.{AreWays};
+ghost use Rattle.zt_queries.specs.Graphs.{IsGraph};
+ghost use Rattle.zt_queries.specs.Onsets.{state_after, IsLast, IsOnset};
 
-use crate::graph::{Graph, graph_of, node_of, place, sketch_of};
-use crate::leaked::{is_leaked, survey_of};
+use crate::graph::{Graph, Node, copy_of, node_of};
+use crate::leaked::{ROOT_JOB, is_leaked, survey_of};
+use crate::moves::{go_back, go_forth, graph_at};
+use crate::reach::entered;
+use crate::signs::{is_unleaked_at, last_there, unleaked_before};
 use crate::times::{Ways, is_known, ways_to};
 use std::alloc::{AllocError, Global};
+use zt_bits::Kind;
 use zt_history::History;
-use zt_rows::{Koid, Moment, Refusal, RowKey};
-use zt_store::Record;
+use zt_rows::{Koid, Moment, Refusal};
 
-/// The moment on the path to `at` at which the object was leaked, if it was. It is found in a graph that the records of
-/// the path move, without a store; what is reached is looked for at each moment at which the object exists.
+/// The moment on the path to `at` at which the object was leaked, if it was. Where the object's own row, the store or the
+/// records show that it was not leaked when it was there last, it never was, and this reads no more than `made`. Else it
+/// is found in a graph that the records of the path move, without a store: since what is leaked stays so, half of the
+/// moments that are left are passed over by each look at what is reached. It takes memory for two such graphs.
 pub fn leaked_since(
     alloc: Global,
     history: &History,
@@ -54,138 +56,225 @@ fn last_leaked(
     requires { AreWays history.now ways.now.way.items ways.now.here.items ways.now.shared }
     ensures { IfOk result (λ found. found ≡ last_or None (filter (at_moment (leaked koid) history.now.tree.made) ways.now.way.items)) }
 {
-    let mut found = last_shared_leaked(alloc, history, ways, koid)?;
-    let mut graph = graph_at_fork(alloc, history, ways)?;
-    let mut before = leaked_in(alloc, &graph, koid)?;
-    let mut i = ways.shared;
-    while i < ways.way.len() {
-        let moment = ways.way[i];
-        turn(alloc, &mut graph, history, moment)?;
-        let after = leaked_in(alloc, &graph, koid)?;
-        found = latest(before, after, moment, found);
-        before = after;
-        i += 1;
+    let last = last_there(history, ways, koid);
+    let sure = last.sure;
+    if sure {
+        return Ok(None);
     }
-    Ok(found)
+    if last.place > ways.shared {
+        leaked_beyond(alloc, history, ways, koid, last.place)
+    } else {
+        leaked_within(alloc, history, ways, koid, last.place)
+    }
 }
 
-/// The last of the moments that both paths share at which the object was leaked.
-fn last_shared_leaked(
+/// The same where the object is there for the last time at a place that both paths share.
+fn leaked_within(
     alloc: Global,
     history: &History,
     ways: &Ways,
     koid: Koid,
+    place: usize,
 ) -> Result<Option<Moment>, AllocError>
-    requires { AreWays history.now ways.now.way.items ways.now.here.items ways.now.shared }
-    ensures { IfOk result (λ found. found ≡ last_or None (filter (at_moment (leaked koid) history.now.tree.made) (take ways.now.shared ways.now.way.items))) }
+    requires ways { AreWays history.now ways.now.way.items ways.now.here.items ways.now.shared }
+    requires last { IsLast history.now.tree.made ways.now.way.items koid place }
+    requires shared { place ≤ ways.now.shared }
+    ensures { IfOk result (λ found. found ≡ last_or None (filter (at_moment (leaked koid) history.now.tree.made) ways.now.way.items)) }
 {
-    let mut graph = graph_at_fork(alloc, history, ways)?;
-    let mut after = leaked_in(alloc, &graph, koid)?;
-    let mut i = ways.shared;
-    while i > 0 {
-        i -= 1;
-        let moment = ways.here[i];
-        turn(alloc, &mut graph, history, moment)?;
-        let before = leaked_in(alloc, &graph, koid)?;
-        let leaks = begins(before, after);
+    if is_unleaked_at(history, ways, koid, place) {
+        return Ok(None);
+    }
+    let graph = graph_at(alloc, history, ways, place)?;
+    let leaks = leaked_in(alloc, &graph, koid)?;
+    if !leaks {
+        return Ok(None);
+    }
+    let moment = onset_within(alloc, history, ways, koid, graph, place)?;
+    Ok(Some(moment))
+}
+
+/// The same where that place is beyond.
+fn leaked_beyond(
+    alloc: Global,
+    history: &History,
+    ways: &Ways,
+    koid: Koid,
+    place: usize,
+) -> Result<Option<Moment>, AllocError>
+    requires ways { AreWays history.now ways.now.way.items ways.now.here.items ways.now.shared }
+    requires last { IsLast history.now.tree.made ways.now.way.items koid place }
+    requires beyond { ways.now.shared < place }
+    ensures { IfOk result (λ found. found ≡ last_or None (filter (at_moment (leaked koid) history.now.tree.made) ways.now.way.items)) }
+{
+    let fork = graph_at(alloc, history, ways, ways.shared)?;
+    let early = leaked_in(alloc, &fork, koid)?;
+    if early {
+        let moment = onset_within(alloc, history, ways, koid, fork, ways.shared)?;
+        return Ok(Some(moment));
+    }
+    let late = leaked_forth(alloc, history, ways, koid, &fork, ways.shared, place)?;
+    if !late {
+        return Ok(None);
+    }
+    let onset = onset_forth(alloc, history, ways, koid, fork, place)?;
+    Ok(Some(ways.way[onset]))
+}
+
+/// The moment at which the object was leaked, where it is leaked at a place that both paths share, of which this is the
+/// graph.
+fn onset_within(
+    alloc: Global,
+    history: &History,
+    ways: &Ways,
+    koid: Koid,
+    graph: Graph,
+    place: usize,
+) -> Result<Moment, AllocError>
+    requires ways { AreWays history.now ways.now.way.items ways.now.here.items ways.now.shared }
+    requires shared { place ≤ ways.now.shared }
+    requires drawn { IsGraph graph (state_after history.now.tree.made ways.now.way.items place) }
+    requires leaked { is_leaked (state_after history.now.tree.made ways.now.way.items place) koid ≡ true }
+    ensures { IfOk result (λ moment. Some moment ≡ last_or None (filter (at_moment (leaked koid) history.now.tree.made) ways.now.way.items)) }
+{
+    let low = unleaked_before(history, ways, koid, place);
+    let onset = onset_back(alloc, history, ways, koid, graph, low, place)?;
+    Ok(ways.way[onset])
+}
+
+/// The place behind which the object is leaked: after the low one, where it is not leaked, and before the high one, where
+/// it is, of which this is the graph.
+fn onset_back(
+    alloc: Global,
+    history: &History,
+    ways: &Ways,
+    koid: Koid,
+    graph: Graph,
+    low: usize,
+    high: usize,
+) -> Result<usize, AllocError>
+    requires ways { AreWays history.now ways.now.way.items ways.now.here.items ways.now.shared }
+    requires shared { high ≤ ways.now.shared }
+    requires order { low < high }
+    requires drawn { IsGraph graph (state_after history.now.tree.made ways.now.way.items high) }
+    requires before { is_leaked (state_after history.now.tree.made ways.now.way.items low) koid ≡ false }
+    requires after { is_leaked (state_after history.now.tree.made ways.now.way.items high) koid ≡ true }
+    ensures { IfOk result (λ onset. IsOnset history.now.tree.made ways.now.way.items koid onset) }
+{
+    let mut graph = graph;
+    let (mut below, mut above) = (low, high);
+    while above - below > 1 {
+        let middle = between(below, above);
+        let mut other = copy_of(alloc, &graph)?;
+        go_back(alloc, &mut other, history, ways, above, middle)?;
+        let leaks = leaked_in(alloc, &other, koid)?;
         if leaks {
-            return Ok(Some(moment));
+            graph = other;
+            above = middle;
+        } else {
+            below = middle;
         }
-        after = before;
     }
-    Ok(None)
+    Ok(below)
 }
 
-/// Whether it is leaked now and was not before.
-fn begins(before: bool, after: bool) -> bool
-    ensures { result ≡ (not before && after) }
+/// The same beyond the places that both paths share, of the last of which this is the graph.
+fn onset_forth(
+    alloc: Global,
+    history: &History,
+    ways: &Ways,
+    koid: Koid,
+    graph: Graph,
+    high: usize,
+) -> Result<usize, AllocError>
+    requires ways { AreWays history.now ways.now.way.items ways.now.here.items ways.now.shared }
+    requires within { high ≤ length ways.now.way.items }
+    requires order { ways.now.shared < high }
+    requires drawn { IsGraph graph (state_after history.now.tree.made ways.now.way.items ways.now.shared) }
+    requires before { is_leaked (state_after history.now.tree.made ways.now.way.items ways.now.shared) koid ≡ false }
+    requires after { is_leaked (state_after history.now.tree.made ways.now.way.items high) koid ≡ true }
+    ensures { IfOk result (λ onset. IsOnset history.now.tree.made ways.now.way.items koid onset) }
 {
-    !before && after
-}
-
-/// The moment, where the object is leaked after it and was not before; else what was found.
-fn latest(before: bool, after: bool, moment: Moment, found: Option<Moment>) -> Option<Moment>
-    ensures { result ≡ (if not before && after then Some moment else found) }
-{
-    if begins(before, after) {
-        Some(moment)
-    } else {
-        found
+    let mut graph = graph;
+    let (mut below, mut above) = (ways.shared, high);
+    while above - below > 1 {
+        let middle = between(below, above);
+        let mut other = copy_of(alloc, &graph)?;
+        go_forth(alloc, &mut other, history, ways, below, middle)?;
+        let leaks = leaked_in(alloc, &other, koid)?;
+        if leaks {
+            above = middle;
+        } else {
+            graph = other;
+            below = middle;
+        }
     }
+    Ok(below)
 }
 
-/// The graph of the last moment that both paths share.
-fn graph_at_fork(alloc: Global, history: &History, ways: &Ways) -> Result<Graph, AllocError>
-    requires { AreWays history.now ways.now.way.items ways.now.here.items ways.now.shared }
-    ensures { IfOk result (λ graph. IsGraph graph (state_at history.now.tree.made (end_of (take ways.now.shared ways.now.here.items)))) }
+/// The place in the middle between two that are not next to each other.
+fn between(low: usize, high: usize) -> usize
+    requires apart { low + 1 < high }
+    ensures above { low < result }
+    ensures below { result < high }
 {
-    let mut graph = graph_of(alloc, history.store())?;
-    let mut i = ways.here.len();
-    while i > ways.shared {
-        i -= 1;
-        turn(alloc, &mut graph, history, ways.here[i])?;
-    }
-    Ok(graph)
+    low + (high - low) / 2
 }
 
-/// Whether the object is leaked in the graph. Where there is no such object nothing is looked for.
+/// Whether the object is leaked at a later place beyond those that both paths share, by the graph of an earlier one.
+fn leaked_forth(
+    alloc: Global,
+    history: &History,
+    ways: &Ways,
+    koid: Koid,
+    graph: &Graph,
+    from: usize,
+    to: usize,
+) -> Result<bool, AllocError>
+    requires ways { AreWays history.now ways.now.way.items ways.now.here.items ways.now.shared }
+    requires beyond { ways.now.shared ≤ from }
+    requires up { from ≤ to }
+    requires within { to ≤ length ways.now.way.items }
+    requires drawn { IsGraph graph.now (state_after history.now.tree.made ways.now.way.items from) }
+    ensures { IfOk result (λ leaked. leaked ≡ is_leaked (state_after history.now.tree.made ways.now.way.items to) koid) }
+{
+    let mut other = copy_of(alloc, graph)?;
+    go_forth(alloc, &mut other, history, ways, from, to)?;
+    let leaks = leaked_in(alloc, &other, koid)?;
+    Ok(leaks)
+}
+
+/// Whether the object is leaked in the graph. Where there is no such object, or it keeps itself, nothing is looked for.
 fn leaked_in(alloc: Global, graph: &Graph, koid: Koid) -> Result<bool, AllocError>
     ensures { IfOk result (λ leaked. (S : State) → IsGraph graph.now S → leaked ≡ is_leaked S koid) }
 {
     match node_of(graph, koid) {
-        Some(_) => searched(alloc, graph, koid),
+        Some(node) => {
+            if keeps_itself(koid, &node) {
+                Ok(false)
+            } else {
+                searched(alloc, graph, koid)
+            }
+        }
         None => Ok(false),
     }
 }
 
-/// Whether the object is leaked in the graph, by what is reached there.
+/// Whether it is the root job, or a process that has not ended.
+fn keeps_itself(koid: Koid, node: &Node) -> bool
+    ensures { result ≡ ((koid == root_job) || (is_process node.now.kind && node.now.live)) }
+{
+    koid == ROOT_JOB || (node.kind == Kind::Process && node.live)
+}
+
+/// Whether the object is leaked in the graph: not where an entry names it, and else by what is reached there.
 fn searched(alloc: Global, graph: &Graph, koid: Koid) -> Result<bool, AllocError>
     ensures { IfOk result (λ leaked. (S : State) → IsGraph graph.now S → leaked ≡ is_leaked S koid) }
 {
+    let named = entered(alloc, graph)?;
+    if named.contains(&koid) {
+        return Ok(false);
+    }
     let found = survey_of(alloc, graph)?;
     let leaked = is_leaked(graph, &found, koid);
     Ok(leaked)
-}
-
-/// Moves the graph over a moment's call, to the other side of it.
-fn turn(
-    alloc: Global,
-    graph: &mut Graph,
-    history: &History,
-    moment: Moment,
-) -> Result<(), AllocError>
-    ensures { OnOk result ((S : State) → IsGraph graph.old S → (k : RowKey)
-        → get rowkey_cmp graph.new k ≡ sketched (row_over (recorded_at history.now.tree.made history.now.position moment) k (row S k))) }
-{
-    let Some(record) = history.record_of(moment) else {
-        return Ok(());
-    };
-    exchange(alloc, graph, record)?;
-    Ok(())
-}
-
-/// Puts what the record has under its keys.
-fn exchange(alloc: Global, graph: &mut Graph, change: &Record) -> Result<(), AllocError>
-    ensures { OnOk result ((q : RowKey) → get rowkey_cmp graph.new q ≡ held_over (held change.now q) (get rowkey_cmp graph.old q)) }
-{
-    for key in change.keys() {
-        redraw(alloc, graph, change, *key)?;
-    }
-    Ok(())
-}
-
-/// Puts what the record has under the key, if it has the key.
-fn redraw(alloc: Global, graph: &mut Graph, change: &Record, key: RowKey) -> Result<(), AllocError>
-    ensures { OnOk result ((q : RowKey) → get rowkey_cmp graph.new q ≡ (if rowkey_eq key q then held_over (held change.now key) (get rowkey_cmp graph.old key) else get rowkey_cmp graph.old q)) }
-{
-    let asked = key;
-    let Some(held) = change.held(asked) else {
-        return Ok(());
-    };
-    let drawn = match held {
-        Some(found) => sketch_of(alloc, found)?,
-        None => None,
-    };
-    place(graph, key, drawn)?;
-    Ok(())
 }

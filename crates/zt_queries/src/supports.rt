@@ -293,7 +293,7 @@ fn is_live_job(found: &ObjectRow) -> bool
 }
 
 /// Whether it is a process that has not ended.
-fn is_live_process(found: &ObjectRow) -> bool
+pub(crate) fn is_live_process(found: &ObjectRow) -> bool
     ensures { result ≡ is_live_process found.now }
 {
     found.kind == Kind::Process && found.life == Life::Live

@@ -199,7 +199,7 @@ fn row_at_end<'a>(history: &'a History, ways: &Ways, key: &RowKey) -> Option<&'a
 }
 
 /// The row at the last moment that both paths share.
-fn row_at_fork<'a>(history: &'a History, ways: &Ways, key: &RowKey) -> Option<&'a Row>
+pub(crate) fn row_at_fork<'a>(history: &'a History, ways: &Ways, key: &RowKey) -> Option<&'a Row>
     requires { AreWays history.now ways.now.way.items ways.now.here.items ways.now.shared }
     ensures { option_copied result ≡ row (state_at history.now.tree.made (end_of (take ways.now.shared ways.now.way.items))) key.now }
 {
@@ -212,7 +212,7 @@ fn row_at_fork<'a>(history: &'a History, ways: &Ways, key: &RowKey) -> Option<&'
 
 /// The row on the other side of a moment's call, where this is the row on one side of it: what the record has, or else
 /// the same.
-fn row_over<'a>(
+pub(crate) fn row_over<'a>(
     history: &'a History,
     moment: Moment,
     key: &RowKey,
@@ -241,7 +241,7 @@ fn shows(turn: Turn, before: Option<&Row>, after: Option<&Row>) -> bool
 }
 
 /// The object of the row, if it is one.
-fn object_in(row: Option<&Row>) -> Option<ObjectRow>
+pub(crate) fn object_in(row: Option<&Row>) -> Option<ObjectRow>
     ensures { result ≡ as_object (option_copied row.entry) }
 {
     match row {
@@ -251,7 +251,7 @@ fn object_in(row: Option<&Row>) -> Option<ObjectRow>
 }
 
 /// Whether there is an object.
-fn is_there(row: Option<&Row>) -> bool
+pub(crate) fn is_there(row: Option<&Row>) -> bool
     ensures { result ≡ is_there (option_copied row.entry) }
 {
     object_in(row).is_some()

@@ -9,7 +9,6 @@ pub(super) const ROOT: Koid = Koid(1025);
 pub(super) const MAIN: &[u8] = b"main";
 
 /// The branch of the name.
-#[tactic(auto, using(crate::proofs::Branches::named_within))]
 fn branch_of(history: &History, name: &[u8]) -> Option<BranchId>
     ensures { IfSome result (λ id. id < length history.now.tree.branches) }
 {

@@ -16,13 +16,13 @@ pub returns-then-is_some-clause-refused : goal.returns-then-is_some-clause-refus
 returns-then-is_some-clause-refused c =
     branch-taken c.args.self.now.session c.args.client c.args.name.now (sym (c.if-not-is_name.ensures ∙ ap is_name c.as_slice.ensures))
     (subst (λ m. m ≤ last_moment c.args.self.now.session.tree) c.position-position.ensures.position c.position-position.ensures.within)
-    (sym (c.if-is_some.ensures ∙ (λ i. is_some (c.find.ensures i)) ∙ (λ i. is_some (branch_named (c.self.view_is i).session.tree.branches (c.as_slice-2.ensures i)))))
+    (sym (c.if-is_some.ensures ∙ (λ i. is_some (c.find.ensures.found i)) ∙ (λ i. is_some (branch_named (c.self.view_is i).session.tree.branches (c.as_slice-2.ensures i)))))
 
 pub returns-in_default-clause-refused : goal.returns-in_default-clause-refused
 returns-in_default-clause-refused c =
     branch-memory c.args.self.now.session c.args.client c.args.name.now (sym (c.if-not-is_name.ensures ∙ ap is_name c.as_slice.ensures))
     (subst (λ m. m ≤ last_moment c.args.self.now.session.tree) c.position-position.ensures.position c.position-position.ensures.within)
-    (sym (c.if-is_some.ensures ∙ (λ i. is_some (c.find.ensures i)) ∙ (λ i. is_some (branch_named (c.self.view_is i).session.tree.branches (c.as_slice-2.ensures i)))))
+    (sym (c.if-is_some.ensures ∙ (λ i. is_some (c.find.ensures.found i)) ∙ (λ i. is_some (branch_named (c.self.view_is i).session.tree.branches (c.as_slice-2.ensures i)))))
 
 pub returns-in_Ok-branch-clause-ok : goal.returns-in_Ok-branch-clause-ok
 returns-in_Ok-branch-clause-ok c =

@@ -8,16 +8,16 @@ use Rattle.zt_book.proofs.desks.Desk.follow.Goals as goal
 pub returns-in_default-clause-refused : goal.returns-in_default-clause-refused
 returns-in_default-clause-refused c =
     follow-none c.args.self.now.session c.args.client c.args.name.now
-    (sym (c.in_default.ensures ∙ (λ i. branch_named (c.self.view_is i).session.tree.branches (c.as_slice.ensures i))))
+    (sym (c.in_default.ensures.found ∙ (λ i. branch_named (c.self.view_is i).session.tree.branches (c.as_slice.ensures i))))
 
 pub returns-in_default-copy-clause-refused : goal.returns-in_default-copy-clause-refused
 returns-in_default-copy-clause-refused c =
     follow-memory c.args.self.now.session c.args.client c.args.name.now c.in-Some.branch
-    (sym (c.in-Some.ensures ∙ (λ i. branch_named (c.self.view_is i).session.tree.branches (c.as_slice.ensures i))))
+    (sym (c.in-Some.ensures.found ∙ (λ i. branch_named (c.self.view_is i).session.tree.branches (c.as_slice.ensures i))))
 
 pub returns-clause-ok : goal.returns-clause-ok
 returns-clause-ok c =
     follow-seen c.args.self.now.session c.stand.new.self.session c.args.client c.args.name.now c.in-Ok.named c.in-Some.branch c.head-head.result
-    (sym (c.in-Some.ensures ∙ (λ i. branch_named (c.self.view_is i).session.tree.branches (c.as_slice.ensures i))))
+    (sym (c.in-Some.ensures.found ∙ (λ i. branch_named (c.self.view_is i).session.tree.branches (c.as_slice.ensures i))))
     c.in-Ok.ensures (c.head-head.ensures.head ∙ ap (λ (d : Seats). head_at d.session.tree.branches c.in-Some.branch) c.self.view_is)
     c.stand.ensures.session

@@ -3,7 +3,7 @@ use Rattle.std.proofs.Common.{◌<◌, ◌≤◌, length, arith}
 use Rattle.std.specs.BTreeMap.{get}
 use Rattle.zt_rows.specs.Keys.{rowkey_cmp}
 use Rattle.zt_queries.proofs.SinceLaws.{redrawn_more, all_redrawn}
-use Rattle.zt_queries.proofs.since.exchange.Goals as goal
+use Rattle.zt_queries.proofs.moves.exchange.Goals as goal
 
 pub loop-key-preserved : goal.loop-key-preserved
 loop-key-preserved c =
