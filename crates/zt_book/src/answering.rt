@@ -223,7 +223,8 @@ impl Desk {
         Ok(Answer::Leaks(position, found))
     }
 
-    /// The moment on the path to the client's position at which something happened to an object.
+    /// The moment on the path to the client's position at which something happened to an object. The store goes there, so
+    /// that a next question is asked where it stands.
     fn when(&mut self, client: u8, what: Happening, koid: Koid) -> Result<Answer, Refusal>
         requires numbered { 1 ≤ client }
         requires known { client ≤ length self.old.session.clients }
@@ -232,8 +233,13 @@ impl Desk {
         ensures refused { IfErr result (IsRefused (when_to self.old.session client what koid)) }
         ensures err { OnErr result (self.new.session ≡ self.old.session) }
     {
-        self.grown = false;
-        self.told_when(client, what, koid)
+        let Ok(_) = self.go(client) else {
+            return Err(Refusal::OutOfMemory);
+        };
+        match self.told_when(client, what, koid) {
+            Ok(said) => Ok(said),
+            Err(refusal) => Err(refusal),
+        }
     }
 
     /// The moment on the path to the client's position at which something happened to an object, with its call.
