@@ -1,5 +1,9 @@
+use Rattle.std.proofs.Common.{arith}
+use Rattle.zt_store.proofs.IndexLaws.{indexed-hollow}
 use Rattle.zt_store.proofs.Tallied.{tallied-hollow, names_few-hollow}
 use Rattle.zt_store.proofs.stores.Store.hollow.Goals as goal
 
 pub invariant_of-result : goal.invariant_of-result
-invariant_of-result c = rw c.hollow.ensures (tallied-hollow c.new.result c.new.ensures, names_few-hollow)
+invariant_of-result c =
+    rw c.hollow.ensures
+    (tallied-hollow c.new.result c.new.ensures, names_few-hollow, indexed-hollow c.new-2.result.handles c.new-2.result.ports c.new-2.ensures.handles c.new-2.ensures.ports, record { on = omega arith; to = omega arith })
