@@ -12,4 +12,5 @@ pub mod Walks
 pub mod KeyColumns
 pub mod Counting
 pub mod Chains
+pub mod Finding
 pub mod Indexed

@@ -197,7 +197,8 @@ impl Cells {
 
     /// From this number on there is no wait.
     pub fn waits_end(&self) -> u64
-        ensures { (n : ℕ) → result ≤ n → row self.now.state (key_variant.Wait n) ≡ None }
+        ensures end { (n : ℕ) → result ≤ n → row self.now.state (key_variant.Wait n) ≡ None }
+        ensures places { result ≡ self.now.shelves.waits }
     {
         self.cabinet.waits.len() as u64
     }

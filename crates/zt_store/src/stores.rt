@@ -10,14 +10,14 @@ ghost use Rattle.zt_rows.specs.State.{row, put};
 ghost use Rattle.zt_rows.specs.Support.{support_count};
 ghost use Rattle.zt_rows.specs.Tests.{count_row};
 ghost use Rattle.zt_store.specs.Chains.{IsNext};
-ghost use Rattle.zt_store.specs.Indexed.{is_for, is_on, waits_where};
+ghost use Rattle.zt_store.specs.Finding.{is_at, is_for, is_on, waits_where};
 ghost use Rattle.zt_store.specs.Numbers.{keeps_itself, keeps_tasks};
 ghost use Rattle.zt_store.specs.Places.{Keeps, fits, fits_row, no_places};
 ghost use Rattle.zt_store.specs.Seen.{Stored, standing};
 ghost use Rattle.zt_store.specs.Walks.{IsFirst};
 
 use crate::cells::Cells;
-use crate::indices::{Index, Sought, handle_bucket, next_wait, port_bucket};
+use crate::indices::{Index, Sought, koid_bucket, next_on, next_wait};
 use crate::records::Record;
 use crate::tallies::{Numbers, Tally};
 use crate::walks::{has_room, key_after};
@@ -39,7 +39,7 @@ pub struct Store {
 
 impl Model for Store {
     ghost use Rattle.std.specs.Prelude.{length};
-    ghost use Rattle.zt_store.specs.Indexed.{IsIndexed, IsRoomy};
+    ghost use Rattle.zt_store.specs.Indexed.{IsIndexed};
     ghost use Rattle.zt_store.specs.Seen.{Stored, IsTallied, NamesFew};
 
     ghost Value = { Stored };
@@ -49,8 +49,7 @@ impl Model for Store {
       places = record { shelves = s.cells.shelves; koids = length s.tally };
     } };
 
-    ghost invariant = { λ s. IsTallied s.cells.state s.tally × NamesFew s.cells.state
-        × IsIndexed s.cells.state s.index.handles s.index.ports × IsRoomy s.cells.shelves.waits s.index.handles s.index.ports };
+    ghost invariant = { λ s. IsTallied s.cells.state s.tally × NamesFew s.cells.state × IsIndexed s.cells s.index };
 }
 
 impl Store {
@@ -169,14 +168,7 @@ impl Store {
     pub fn wait_on(&self, process: Koid, handle: HandleValue, low: Option<u64>) -> Option<u64>
         ensures { IsNext (waits_where self.now.state (is_on process handle)) low result }
     {
-        let bucket = handle_bucket(process, handle);
-        next_wait(
-            &self.cells,
-            &self.index.handles,
-            bucket,
-            Sought::On(process, handle),
-            low,
-        )
+        next_on(&self.cells, &self.index.handles, process, handle, low)
     }
 
     /// The least number above the low one, or of all, of a wait for the port. It takes no memory, and looks at waits
@@ -184,12 +176,27 @@ impl Store {
     pub fn wait_for(&self, port: Koid, low: Option<u64>) -> Option<u64>
         ensures { IsNext (waits_where self.now.state (is_for port)) low result }
     {
-        let bucket = port_bucket(port);
+        let bucket = koid_bucket(port);
         next_wait(
             &self.cells,
             &self.index.ports,
             bucket,
             Sought::For(port),
+            low,
+        )
+    }
+
+    /// The least number above the low one, or of all, of a wait on a handle that names the object. It takes no memory,
+    /// and looks at waits that share a bucket with the object alone.
+    pub fn wait_at(&self, koid: Koid, low: Option<u64>) -> Option<u64>
+        ensures { IsNext (waits_where self.now.state (is_at self.now.state koid)) low result }
+    {
+        let bucket = koid_bucket(koid);
+        next_wait(
+            &self.cells,
+            &self.index.objects,
+            bucket,
+            Sought::At(koid),
             low,
         )
     }
@@ -278,7 +285,7 @@ impl Store {
     {
         let (came, went, indexed) = (key, key, key);
         self.cells.limits();
-        self.index.follow(indexed, kept);
+        self.index.follow(&self.cells, indexed, kept);
         self.tally.raise_if(came, kept);
         self.cells.exchange(key, kept);
         self.tally.lower_if(went, kept);

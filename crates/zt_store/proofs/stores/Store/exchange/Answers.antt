@@ -1,7 +1,6 @@
 use Rattle.std.proofs.Common.{refl, arith, ap, sym, subst, length, ◌∙◌}
-use Rattle.zt_rows.specs.State.{State}
 use Rattle.zt_store.specs.Indexed.{IsIndexed}
-use Rattle.zt_store.proofs.IndexLaws.{room-placed, roomy-same}
+use Rattle.zt_store.proofs.IndexLaws.{place-there}
 use Rattle.zt_store.specs.Numbers.{numbers_at}
 use Rattle.zt_store.specs.Seen.{Shelved}
 use Rattle.zt_store.proofs.Tallied.{small-at, stands-within, went-there, tallied-exchanged, names_few-exchanged, went-fits}
@@ -34,9 +33,7 @@ invariant_of-self c =
     let is_put = ap (λ (s : Shelved). s.state) c.exchange.ensures.put in (
       tallied-exchanged c.self.inside.cells.state c.args.key c.args.kept.now c.exchange.new.kept c.exchange.ensures.was c.self.inside.tally c.raise_if.new.self c.self.invariant.0 c.raise_if.ensures.added c.exchange.new.self.state c.lower_if.new.self is_put c.lower_if.ensures.taken,
       names_few-exchanged c.self.inside.cells.state c.exchange.new.self.state c.args.key c.args.kept.now is_put c.self.invariant.1 c.raise_if.ensures.few,
-      subst (λ (S : State). IsIndexed S c.follow.new.self.handles c.follow.new.self.ports) (sym is_put) (c.follow.ensures.followed c.self.inside.cells.state c.self.invariant.2),
-      roomy-same c.self.inside.cells.shelves c.exchange.new.self.shelves c.self.inside.index.handles c.self.inside.index.ports c.follow.new.self.handles c.follow.new.self.ports
-          (ap (λ (s : Shelved). s.shelves) c.exchange.ensures.put) c.follow.ensures.handles c.follow.ensures.ports c.self.invariant.3,
+      subst (λ (s : Shelved). IsIndexed s c.follow.new.self) (sym c.exchange.ensures.put) c.follow.ensures,
     )
 
 pub returns-clause-fit : goal.returns-clause-fit
@@ -44,6 +41,6 @@ returns-clause-fit c =
     went-fits c.args.self.now c.self.inside.cells.state c.self.inside.cells.shelves c.exchange.new.self.shelves c.self.inside.tally c.lower_if.new.self c.args.key c.args.kept.now c.exchange.new.kept c.self.view_is c.requires.placed
     (ap (λ (s : Shelved). s.shelves) c.exchange.ensures.put) (c.lower_if.ensures.len ∙ c.raise_if.ensures.len) c.exchange.ensures.was c.self.invariant.0
 
-pub follow-requires : goal.follow-requires
-follow-requires c =
-    room-placed c.args.self.now c.self.inside.cells.state c.self.inside.cells.shelves (length c.self.inside.tally) c.args.key c.args.kept.now c.self.inside.index.handles c.self.inside.index.ports c.self.view_is c.requires.placed c.self.invariant.3
+pub follow-requires-clause-placed : goal.follow-requires-clause-placed
+follow-requires-clause-placed c =
+    place-there c.args.self.now c.self.inside.cells.state c.self.inside.cells.shelves (length c.self.inside.tally) c.args.key c.args.kept.now c.self.view_is c.requires.placed

@@ -1,4 +1,3 @@
-use Rattle.std.proofs.Common.{arith}
 use Rattle.zt_store.proofs.IndexLaws.{indexed-hollow}
 use Rattle.zt_store.proofs.Tallied.{tallied-hollow, names_few-hollow}
 use Rattle.zt_store.proofs.stores.Store.hollow.Goals as goal
@@ -6,4 +5,4 @@ use Rattle.zt_store.proofs.stores.Store.hollow.Goals as goal
 pub invariant_of-result : goal.invariant_of-result
 invariant_of-result c =
     rw c.hollow.ensures
-    (tallied-hollow c.new.result c.new.ensures, names_few-hollow, indexed-hollow c.new-2.result.handles c.new-2.result.ports c.new-2.ensures.handles c.new-2.ensures.ports, record { on = omega arith; to = omega arith })
+    (tallied-hollow c.new.result c.new.ensures, names_few-hollow, indexed-hollow c.new-2.result c.new-2.ensures.handles c.new-2.ensures.ports c.new-2.ensures.objects)
