@@ -80,9 +80,10 @@ pub record IsChained (links : List Link) (ends : List Ends) : Type 0 where
   pub nexts : (b : ℕ) (low : Option ℕ) → IsWithin (is_in (buckets links) b) low → IsNext (is_in (buckets links) b) low (next_of links ends b low)
   pub befores : (b : ℕ) (high : Option ℕ) → IsWithin (is_in (buckets links) b) high → IsPrevious (is_in (buckets links) b) high (before_of links ends b high)
 
--- where there are items there are the ends of all buckets
-abbrev pub HasEnds : List Link → List Ends → Type 0
-HasEnds links ends = 0 < length links → 2 ^ 14 ≤ length ends
+-- the items are chained, and where there are items there are the ends of all buckets
+pub record AreChains (links : List Link) (ends : List Ends) : Type 0 where
+  pub chained : IsChained links ends
+  pub ended : 0 < length links → 2 ^ 14 ≤ length ends
 
 -- where a search begins: an item that passes or none, with nothing that passes between the low one and it
 abbrev pub IsBesides : (ℕ → Bool) → Option ℕ → Option ℕ → Type 0

@@ -13,7 +13,8 @@ use Rattle.zt_store.specs.declared.indices.Sought.{Sought}
 use Rattle.zt_store.specs.declared.indices.Sought.TheVariants as sought
 use Rattle.zt_store.specs.Chains.{bucket_at}
 use Rattle.zt_store.specs.Finding.{is_at, is_for, is_on}
-use Rattle.zt_store.specs.Seen.{Shelved}
+use Rattle.zt_store.specs.Seen.{Shelved, IsTallied, NamesFew}
+use Rattle.zt_store.specs.declared.tallies.Numbers.{Numbers}
 
 abbrev pub is_sought : State → Sought → Wait → Bool
 is_sought S (sought.On p h) = is_on p h
@@ -72,3 +73,11 @@ waits_after _ waits = waits
 abbrev pub HasBuckets : RowKey → Index → Type 0
 HasBuckets (key.Wait n) index = IsRoomy (n + 1) index
 HasBuckets _ index = ⊤
+
+-- ---- the parts of a store
+
+-- the numbers by koid and the buckets of the waits are those of the rows
+pub record IsStore (s : Shelved) (list : List Numbers) (index : Index) : Type 0 where
+  pub tallied : IsTallied s.state list
+  pub few : NamesFew s.state
+  pub indexed : IsIndexed s index

@@ -44,14 +44,14 @@ pub(crate) struct Chains {
 }
 
 impl Model for Chains {
-    ghost use Rattle.std.specs.Prelude.{List, Option, ℕ, ◌<◌, length};
-    ghost use Rattle.zt_store.specs.Chains.{IsChained, HasEnds, buckets};
+    ghost use Rattle.std.specs.Prelude.{List, Option, ℕ};
+    ghost use Rattle.zt_store.specs.Chains.{AreChains, buckets};
 
     ghost Value = { List (Option ℕ) };
 
     ghost view = { λ c. buckets c.links.items };
 
-    ghost invariant = { λ c. IsChained c.links.items c.ends.items × HasEnds c.links.items c.ends.items };
+    ghost invariant = { λ c. AreChains c.links.items c.ends.items };
 }
 
 impl Chains {

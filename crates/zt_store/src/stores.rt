@@ -39,8 +39,8 @@ pub struct Store {
 
 impl Model for Store {
     ghost use Rattle.std.specs.Prelude.{length};
-    ghost use Rattle.zt_store.specs.Indexed.{IsIndexed};
-    ghost use Rattle.zt_store.specs.Seen.{Stored, IsTallied, NamesFew};
+    ghost use Rattle.zt_store.specs.Indexed.{IsStore};
+    ghost use Rattle.zt_store.specs.Seen.{Stored};
 
     ghost Value = { Stored };
 
@@ -49,7 +49,7 @@ impl Model for Store {
       places = record { shelves = s.cells.shelves; koids = length s.tally };
     } };
 
-    ghost invariant = { λ s. IsTallied s.cells.state s.tally × NamesFew s.cells.state × IsIndexed s.cells s.index };
+    ghost invariant = { λ s. IsStore s.cells s.tally s.index };
 }
 
 impl Store {

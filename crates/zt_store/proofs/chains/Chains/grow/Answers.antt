@@ -5,11 +5,11 @@ use Rattle.zt_store.proofs.ChainLaws.{bucket-link, more-links, more-ends}
 use Rattle.zt_store.proofs.chains.Chains.grow.Goals as goal
 
 pub invariant_of-self-2 : goal.invariant_of-self-2
-invariant_of-self-2 c = (
-  more-links c.self.inside.links.items c.make_links.new.links.items c.make_ends.new.ends.items c.make_links.ensures.same
-      (more-ends c.self.inside.links.items c.self.inside.ends.items c.make_ends.new.ends.items c.make_ends.ensures.same c.self.invariant.0),
-  λ some. omega (arith, c.in_ok-make_ends.ensures.made),
-)
+invariant_of-self-2 c = record {
+  chained = more-links c.self.inside.links.items c.make_links.new.links.items c.make_ends.new.ends.items c.make_links.ensures.same
+      (more-ends c.self.inside.links.items c.self.inside.ends.items c.make_ends.new.ends.items c.make_ends.ensures.same c.self.invariant.chained);
+  ended = λ some. omega (arith, c.in_ok-make_ends.ensures.made);
+}
 
 pub returns-clause-same : goal.returns-clause-same
 returns-clause-same c = λ n.
