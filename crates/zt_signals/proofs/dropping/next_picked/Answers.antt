@@ -1,5 +1,5 @@
 use Rattle.std.proofs.Common.{sym, subst}
-use Rattle.zt_store.specs.Indexed.{is_for, is_on}
+use Rattle.zt_store.specs.Finding.{is_for, is_on}
 use Rattle.zt_signals.specs.declared.dropping.Picked.{Picked}
 use Rattle.zt_signals.specs.Picks.{IsNextPicked, picks}
 use Rattle.zt_signals.specs.Waits.{made_for, made_on, made_under}
@@ -17,4 +17,10 @@ returns-in-For c =
     (next-narrow (made_for c.in-For.port) (is_for c.in-For.port) (same-kind (made_for c.in-For.port)) c.args.step.now.current c.args.low c.wait_for.result c.wait_for.ensures)
 
 pub returns-in-Under : goal.returns-in-Under
-returns-in-Under c = ?
+returns-in-Under c =
+    let x = c.in-Under.field-0 in
+    let p = c.in-Under.process in
+    let h = c.in-Under.handle in
+    let k = c.in-Under.field-3 in
+    subst (λ (p : Picked). IsNextPicked (picks p) c.args.step.now.current c.args.low c.wait_on-in-Under.result) (sym c.in-Under.is)
+    (next-narrow (made_under x p h k) (is_on p h) (under-on x p h k) c.args.step.now.current c.args.low c.wait_on-in-Under.result c.wait_on-in-Under.ensures)
