@@ -1,4 +1,4 @@
-use Rattle.std.proofs.Common.{◌||◌, refl, sym, ap, ◌∙◌}
+use Rattle.std.proofs.Common.{◌||◌, None, Some, refl, sym, ap, ◌∙◌}
 use Rattle.zt_rows.specs.Tests.{any_row}
 use Rattle.zt_signals.proofs.ColumnLaws.{IsColumn, is_dropped, drop-start, any-start, next-that, drop-next, any-next, drop-end, any-end}
 use Rattle.zt_ports.specs.Cancelled.{is_cancelled_packet}
