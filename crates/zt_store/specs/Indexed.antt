@@ -9,6 +9,8 @@ use Rattle.zt_rows.specs.declared.rows.Wait.{Wait}
 use Rattle.zt_rows.specs.Reads.{entry, wait}
 use Rattle.zt_rows.specs.State.{State}
 use Rattle.zt_store.specs.declared.indices.Index.{Index}
+use Rattle.zt_store.specs.declared.indices.Indexed.{Indexed}
+use Rattle.zt_store.specs.declared.indices.Indexed.TheVariants as indexed
 use Rattle.zt_store.specs.declared.indices.Sought.{Sought}
 use Rattle.zt_store.specs.declared.indices.Sought.TheVariants as sought
 use Rattle.zt_store.specs.Chains.{bucket_at}
@@ -76,8 +78,11 @@ HasBuckets _ index = ⊤
 
 -- ---- the parts of a store
 
+abbrev pub index_in : Indexed → Index
+index_in (indexed.Waits index) = index
+
 -- the numbers by koid and the buckets of the waits are those of the rows
-pub record IsStore (s : Shelved) (list : List Numbers) (index : Index) : Type 0 where
+pub record IsStore (s : Shelved) (list : List Numbers) (waits : Indexed) : Type 0 where
   pub tallied : IsTallied s.state list
   pub few : NamesFew s.state
-  pub indexed : IsIndexed s index
+  pub indexed : IsIndexed s (index_in waits)

@@ -4,7 +4,7 @@ ghost use Rattle.zt_rows.specs.Reads.{as_entry, as_wait, entry};
 ghost use Rattle.zt_rows.specs.State.{put};
 ghost use Rattle.zt_store.specs.Chains.{IsNext, bucket_at, is_in};
 ghost use Rattle.zt_store.specs.Finding.{is_on, names, waits_where};
-ghost use Rattle.zt_store.specs.Indexed.{HasBuckets, IsIndexed, IsRoomy, bucket_for, bucket_of, bucket_on, handle_bucket, held_bucket, index_with, is_sought, koid_bucket};
+ghost use Rattle.zt_store.specs.Indexed.{HasBuckets, IsIndexed, IsRoomy, bucket_for, bucket_of, bucket_on, handle_bucket, held_bucket, index_in, index_with, is_sought, koid_bucket};
 ghost use Rattle.zt_store.specs.Seen.{Shelved};
 ghost use Rattle.zt_store.specs.Shelves.{has_place};
 
@@ -141,6 +141,62 @@ impl Index {
             ports: self.ports.copy()?,
             objects: self.objects.copy()?,
         })
+    }
+}
+
+/// An index that a caller drops by one call: who owns a store drops its fields one after another, but an enum's at once.
+#[derive(Drop)]
+pub(crate) enum Indexed {
+    Waits(Index),
+}
+
+impl Indexed {
+    /// No waits. It takes no memory.
+    pub fn new(alloc: Global) -> Indexed
+        ensures handles { length (index_in result).handles ≡ 0 }
+        ensures ports { length (index_in result).ports ≡ 0 }
+        ensures objects { length (index_in result).objects ≡ 0 }
+    {
+        Indexed::Waits(Index::new(alloc))
+    }
+
+    /// Makes room for the wait under the key, if it is one of a wait.
+    pub fn grow_for(&mut self, key: RowKey) -> Result<(), AllocError>
+        ensures same { (s : Shelved) → IsIndexed s (index_in self.old) → IsIndexed s (index_in self.new) }
+        ensures made { OnOk result (HasBuckets key (index_in self.new)) }
+    {
+        match self {
+            Indexed::Waits(index) => index.grow_for(key),
+        }
+    }
+
+    /// Follows the exchange of a row with what stands under the key, ahead of it. It takes no memory.
+    pub fn follow(&mut self, cells: &Cells, key: RowKey, row: &Option<Row>)
+        requires placed { has_place cells.now.shelves key ≡ true }
+        requires indexed { IsIndexed cells.now (index_in self.old) }
+        ensures { IsIndexed (record { state = put cells.now.state key row.now; shelves = cells.now.shelves }) (index_in self.new) }
+    {
+        match self {
+            Indexed::Waits(index) => index.follow(cells, key, row),
+        }
+    }
+
+    /// The waits by their handles, by their ports and by the objects that their handles name.
+    pub fn index(&self) -> &Index
+        ensures { result.now ≡ index_in self.now }
+    {
+        match self {
+            Indexed::Waits(index) => index,
+        }
+    }
+
+    /// An equal index in memory of its own.
+    pub fn copy(&self) -> Result<Indexed, AllocError>
+        ensures { IfOk result (λ copied. copied ≡ self.now) }
+    {
+        match self {
+            Indexed::Waits(index) => Ok(Indexed::Waits(index.copy()?)),
+        }
     }
 }
 

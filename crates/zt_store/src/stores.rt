@@ -17,7 +17,7 @@ ghost use Rattle.zt_store.specs.Seen.{Stored, standing};
 ghost use Rattle.zt_store.specs.Walks.{IsFirst};
 
 use crate::cells::Cells;
-use crate::indices::{Index, Sought, koid_bucket, next_on, next_wait};
+use crate::indices::{Indexed, Sought, koid_bucket, next_on, next_wait};
 use crate::records::Record;
 use crate::tallies::{Numbers, Tally};
 use crate::walks::{has_room, key_after};
@@ -34,7 +34,7 @@ const ROOT_JOB: Koid = Koid(1024);
 pub struct Store {
     cells: Cells,
     tally: Tally,
-    index: Index,
+    index: Indexed,
 }
 
 impl Model for Store {
@@ -60,7 +60,7 @@ impl Store {
         Store {
             cells: Cells::hollow(alloc),
             tally: Tally::new(alloc),
-            index: Index::new(alloc),
+            index: Indexed::new(alloc),
         }
     }
 
@@ -168,7 +168,8 @@ impl Store {
     pub fn wait_on(&self, process: Koid, handle: HandleValue, low: Option<u64>) -> Option<u64>
         ensures { IsNext (waits_where self.now.state (is_on process handle)) low result }
     {
-        next_on(&self.cells, &self.index.handles, process, handle, low)
+        let index = self.index.index();
+        next_on(&self.cells, &index.handles, process, handle, low)
     }
 
     /// The least number above the low one, or of all, of a wait for the port. It takes no memory, and looks at waits
@@ -177,9 +178,10 @@ impl Store {
         ensures { IsNext (waits_where self.now.state (is_for port)) low result }
     {
         let bucket = koid_bucket(port);
+        let index = self.index.index();
         next_wait(
             &self.cells,
-            &self.index.ports,
+            &index.ports,
             bucket,
             Sought::For(port),
             low,
@@ -192,9 +194,10 @@ impl Store {
         ensures { IsNext (waits_where self.now.state (is_at self.now.state koid)) low result }
     {
         let bucket = koid_bucket(koid);
+        let index = self.index.index();
         next_wait(
             &self.cells,
-            &self.index.objects,
+            &index.objects,
             bucket,
             Sought::At(koid),
             low,

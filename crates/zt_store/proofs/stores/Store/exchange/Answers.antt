@@ -1,5 +1,5 @@
 use Rattle.std.proofs.Common.{refl, arith, ap, sym, subst, length, ◌∙◌}
-use Rattle.zt_store.specs.Indexed.{IsIndexed}
+use Rattle.zt_store.specs.Indexed.{IsIndexed, index_in}
 use Rattle.zt_store.proofs.IndexLaws.{place-there}
 use Rattle.zt_store.specs.Numbers.{numbers_at}
 use Rattle.zt_store.specs.Seen.{Shelved}
@@ -33,7 +33,7 @@ invariant_of-self c =
     let is_put = ap (λ (s : Shelved). s.state) c.exchange.ensures.put in record {
       tallied = tallied-exchanged c.self.inside.cells.state c.args.key c.args.kept.now c.exchange.new.kept c.exchange.ensures.was c.self.inside.tally c.raise_if.new.self c.self.invariant.tallied c.raise_if.ensures.added c.exchange.new.self.state c.lower_if.new.self is_put c.lower_if.ensures.taken;
       few = names_few-exchanged c.self.inside.cells.state c.exchange.new.self.state c.args.key c.args.kept.now is_put c.self.invariant.few c.raise_if.ensures.few;
-      indexed = subst (λ (s : Shelved). IsIndexed s c.follow.new.self) (sym c.exchange.ensures.put) c.follow.ensures;
+      indexed = subst (λ (s : Shelved). IsIndexed s (index_in c.follow.new.self)) (sym c.exchange.ensures.put) c.follow.ensures;
     }
 
 pub returns-clause-fit : goal.returns-clause-fit
