@@ -1,5 +1,4 @@
--- Firing by a walk over the waits: the walk comes past each of them once, and each raises the next number of a port
--- by one at most.
+-- Firing by number: each raises the next number of a port by one at most.
 use Rattle.std.proofs.Common.{◌≡◌, ◌<◌, ◌≤◌, ◌^◌, ℕ, zero, suc, ◌+◌, Bool, true, false, cond, List, [], ◌∷◌, ◌++◌, length, map, take, get_or, Option, Some, None, option_and_then, refl, sym, ap, ◌∙◌, subst, arith, append_assoc, inl, inr}
 use Rattle.std.specs.Prelude.{if◌then◌else◌, ◌==◌}
 use Rattle.std.specs.List.{cons_option, filter, filter_map, flat_map, fold}
@@ -22,70 +21,8 @@ use Rattle.zt_rows.proofs.RowLaws.{In, in-row}
 use Rattle.zt_rows.proofs.SettleLaws.{in-waits}
 use Rattle.zt_store.proofs.KeyWalks.{next_filtered, none-filter}
 use Rattle.zt_cascade.specs.Firing.{HasRoomToFire}
-use Rattle.zt_cascade.specs.Under.{numbered, waits_under}
-
--- ---- the waits under all keys
-
-wait-numbered : (n : ℕ) (r : Row) (ws : List (ℕ × Wait)) → numbered n (as_wait (Some r)) ++ ws ≡ cons_option (wait_at (key.Wait n, r)) ws
-wait-numbered n (rows.Wait w) ws = refl
-wait-numbered n _ ws = refl
-
-under-at : (S : State) (k : RowKey) (r : Row) (ws : List (ℕ × Wait)) → row S k ≡ Some r → waits_under S k ++ ws ≡ cons_option (wait_at (k, r)) ws
-under-at S (key.Wait n) r ws h = ap (λ o. numbered n (as_wait o) ++ ws) h ∙ wait-numbered n r ws
-under-at S _ r ws h = refl
-
-along : (S : State) (es : List (RowKey × Row)) → ((e : RowKey × Row) → In e es → row S e.0 ≡ Some e.1) → flat_map (waits_under S) (map (λ e. e.0) es) ≡ filter_map wait_at es
-along S [] there = refl
-along S (e ∷ es) there =
-    ap (λ ws. waits_under S e.0 ++ ws) (along S es (λ d m. there d (inr m)))
-    ∙ under-at S e.0 e.1 (filter_map wait_at es) (there e (inl refl))
-
-waits-keys : (S : State) → flat_map (waits_under S) (keys S) ≡ waits S
-unfolding waits
-waits-keys S = along S S.rows (λ e m. in-row S e.0 e.1 m)
-
--- ---- the walk
-
--- the waits found so far, and those under the keys above the low one, are all
-abbrev pub IsFound : State → RowKey → List (ℕ × Wait) → Type 0
-IsFound S low found = found ++ flat_map (waits_under S) (filter (is_above (Some low)) (keys S)) ≡ waits S
-
--- a key of no wait does not count
-filtered : (S : State) (p : RowKey → Bool) (ks : List RowKey) → ((k : RowKey) → p k ≡ false → waits_under S k ≡ []) → flat_map (waits_under S) (filter p ks) ≡ flat_map (waits_under S) ks
-filtered S p [] h = refl
-filtered S p (k ∷ ks) h =
-    elim (p k) as (λ b. p k ≡ b → flat_map (waits_under S) (cond b (k ∷ filter p ks) (filter p ks)) ≡ waits_under S k ++ flat_map (waits_under S) ks) [
-      | true ↦ λ t. ap (λ ws. waits_under S k ++ ws) (filtered S p ks h)
-      | false ↦ λ t. filtered S p ks h ∙ ap (λ ws. ws ++ flat_map (waits_under S) ks) (sym (h k t))
-    ] refl
-
-below-waits : (S : State) (p n : ℕ) (k : RowKey) → is_above (Some (key.Packet p n)) k ≡ false → waits_under S k ≡ []
-below-waits S p n (key.Wait m) e = cc
-below-waits S p n _ e = refl
-
-pub found-start : (S : State) (p n : ℕ) → IsFound S (key.Packet p n) []
-found-start S p n = filtered S (is_above (Some (key.Packet p n))) (keys S) (below-waits S p n) ∙ waits-keys S
-
-pub found-next : (S : State) (low k : RowKey) (found : List (ℕ × Wait)) → IsFound S low found → next_key S (Some low) ≡ Some k → IsFound S k (found ++ waits_under S k)
-found-next S low k found h next =
-    append_assoc found (waits_under S k) (flat_map (waits_under S) (filter (is_above (Some k)) (keys S)))
-    ∙ ap (λ ks. found ++ flat_map (waits_under S) ks) (sym (next_filtered (Some low) k S.rows S.sorted next))
-    ∙ h
-
-pub found-shorter : (S : State) (low k : RowKey) → next_key S (Some low) ≡ Some k → length (filter (is_above (Some k)) (keys S)) < length (filter (is_above (Some low)) (keys S))
-found-shorter S low k next =
-    let e : length (filter (is_above (Some low)) (keys S)) ≡ length (k ∷ filter (is_above (Some k)) (keys S)) = ap length (next_filtered (Some low) k S.rows S.sorted next) in
-    omega arith
-
-pub found-all : (S : State) (low : RowKey) (found : List (ℕ × Wait)) → IsFound S low found → next_key S (Some low) ≡ None → found ≡ waits S
-found-all S low found h next =
-    sym (append-nil found)
-    ∙ ap (λ ks. found ++ flat_map (waits_under S) ks) (sym (none-filter (is_above (Some low)) (keys S) next))
-    ∙ h
-  where
-    append-nil : {A : Type 0} (xs : List A) → xs ++ [] ≡ xs
-    append-nil [] = refl
-    append-nil (x ∷ xs) = ap (λ l. x ∷ l) (append-nil xs)
+use Rattle.zt_cascade.specs.Waking.{HasRoomFor, fire_if, fire_number}
+use Rattle.zt_cascade.proofs.FiredLaws.{wait-left}
 
 -- ---- room to fire
 
@@ -135,32 +72,40 @@ next-fire S (n, w) x =
       | false ↦ omega arith
     ]
 
--- each wait raises the next number of a port by one at most
-pub next-fires : (ws : List (ℕ × Wait)) (S : State) (x : ℕ) → next_at (fold fire S ws) x ≤ next_at S x + length ws
-next-fires [] S x = omega arith
-next-fires (e ∷ ws) S x =
-    let later : next_at (fold fire (fire S e) ws) x ≤ next_at (fire S e) x + length ws = next-fires ws (fire S e) x in
-    let here : next_at (fire S e) x ≤ next_at S x + 1 = next-fire S e x in
+next-if : (S : State) (n : ℕ) (o : Option Wait) (x : ℕ) → next_at (fire_if S n o) x ≤ next_at S x + 1
+next-if S n (Some w) x = next-fire S (n, w) x
+next-if S n None x = omega arith
+
+-- each number raises the next number of a port by one at most
+next-numbers : (ns : List ℕ) (S : State) (x : ℕ) → next_at (fold fire_number S ns) x ≤ next_at S x + length ns
+next-numbers [] S x = omega arith
+next-numbers (n ∷ ns) S x =
+    let later : next_at (fold fire_number (fire_number S n) ns) x ≤ next_at (fire_number S n) x + length ns = next-numbers ns (fire_number S n) x in
+    let here : next_at (fire_number S n) x ≤ next_at S x + 1 = next-if S n (wait S n) x in
     omega arith
+
+-- no wait comes
+wait-if : (S : State) (n : ℕ) (o : Option Wait) (m : ℕ) (w : Wait) → wait (fire_if S n o) m ≡ Some w → wait S m ≡ Some w
+wait-if S n (Some v) m w e = wait-left S n v m w e
+wait-if S n None m w e = e
+
+wait-numbers : (ns : List ℕ) (S : State) (m : ℕ) (w : Wait) → wait (fold fire_number S ns) m ≡ Some w → wait S m ≡ Some w
+wait-numbers [] S m w e = e
+wait-numbers (n ∷ ns) S m w e = wait-if S n (wait S n) m w (wait-numbers ns (fire_number S n) m w e)
 
 length-taken : {A : Type 0} (i : ℕ) (xs : List A) → length (take i xs) ≤ i
 length-taken zero xs = omega arith
 length-taken (suc i) [] = omega arith
 length-taken (suc i) (x ∷ xs) = let h : length (take i xs) ≤ i = length-taken i xs in omega arith
 
-in-get : {A : Type 0} (xs : List A) (i : ℕ) (d : A) → i < length xs → In (get_or xs i d) xs
-in-get [] i d h = absurd (omega arith)
-in-get (x ∷ xs) zero d h = inl refl
-in-get (x ∷ xs) (suc i) d h = inr (in-get xs i d (omega arith))
-
 -- the port of the next wait has room for its packet
-pub room-fires : (S : State) (found : List (ℕ × Wait)) (i : ℕ) (e : ℕ × Wait) → HasRoomToFire S → found ≡ waits S → i < length found → i < 2 ^ 63 → e ≡ get_or found i e → next_at (fold fire S (take i found)) e.1.port + 1 < 2 ^ 64
-room-fires S found i e room is below few at =
-    let m : In e (waits S) = subst (In e) is (subst (λ d. In d found) (sym at) (in-get found i e below)) in
-    let first : next_at S e.1.port < 2 ^ 63 = room e.0 e.1 (in-waits S e.0 e.1 m) in
-    let raised : next_at (fold fire S (take i found)) e.1.port ≤ next_at S e.1.port + length (take i found) = next-fires (take i found) S e.1.port in
-    let n : length (take i found) ≤ i = length-taken i found in
-    omega arith
+pub room-numbers : (S T : State) (ns : List ℕ) (i n : ℕ) → HasRoomToFire S → i < 2 ^ 63 → T ≡ fold fire_number S (take i ns) → HasRoomFor T n
+room-numbers S T ns i n room few is w e =
+    let stood : wait S n ≡ Some w = wait-numbers (take i ns) S n w (ap (λ (U : State). wait U n) (sym is) ∙ e) in
+    let first : next_at S w.port < 2 ^ 63 = room n w stood in
+    let raised : next_at (fold fire_number S (take i ns)) w.port ≤ next_at S w.port + length (take i ns) = next-numbers (take i ns) S w.port in
+    let taken : length (take i ns) ≤ i = length-taken i ns in
+    subst (λ (U : State). next_at U w.port + 1 < 2 ^ 64) (sym is) (omega arith)
 
 pub settled : (S : State) → fold fire (refresh S) (waits (refresh S)) ≡ settle S
 unfolding settle

@@ -7,3 +7,6 @@ pub mod CoveredLaws
 pub mod ListLaws
 pub mod NearLaws
 pub mod FiringLaws
+pub mod OrderLaws
+pub mod FiredLaws
+pub mod WakingLaws

@@ -1,7 +1,7 @@
 -- An object taken out stage by stage: its row, its queue, its packets and the waits for it.
 use Rattle.std.proofs.Common.{◌≡◌, ◌≤◌, ◌<◌, ℕ, ◌+◌, true, false, ◌||◌, List, [], ◌∷◌, ◌++◌, length, ◌⊎◌, inl, inr, refl, sym, ap, ◌∙◌, subst, arith}
 use Rattle.std.specs.Prelude.{Option, None, Some, if◌then◌else◌, ◌==◌, IsSome}
-use Rattle.std.specs.Option.{option_map}
+use Rattle.std.specs.Option.{option_map, option_map_or}
 use Rattle.std.proofs.lemmas.Bool.{eqb-true, eq-eqb, cases_lt}
 use borrow.Author.Count.{below_more}
 use Rattle.std.proofs.lemmas.List.{length-map, length-append}
@@ -16,17 +16,18 @@ use Rattle.zt_rows.specs.declared.rows.Row.{Row}
 use Rattle.zt_rows.specs.declared.rows.Row.TheVariants as rows
 use Rattle.zt_rows.specs.Contents.{MessageContent}
 use Rattle.zt_rows.specs.State.{State, row}
-use Rattle.zt_rows.specs.Reads.{as_message, as_wait, counters, as_counters, object, message, wait}
+use Rattle.zt_rows.specs.Reads.{as_message, as_wait, object, message, wait}
 use Rattle.zt_rows.specs.Room.{SuitsKey}
 use Rattle.zt_rows.specs.Tests.{is_endpoint, among, link_at, object_link, kind_at}
 use Rattle.zt_rows.specs.Collect.{left, without}
 use Rattle.zt_rows.proofs.StateLaws.{row-put-other}
 use Rattle.zt_rows.proofs.RowLaws.{and_left, and_right, or_left, or_right, not_true, true≢false}
-use Rattle.zt_rows.specs.declared.rows.Counters.{Counters}
-use Rattle.zt_rows.proofs.ReadLaws.{some_one, object-row, message-row, counters-without, row-without, wait-stayed}
+use Rattle.zt_rows.proofs.ReadLaws.{some_one, object-row, message-row, row-without, wait-stayed}
 use Rattle.zt_rows.proofs.SoundLaws.{and_no_right}
 use Rattle.zt_cascade.specs.OnTheWay.{only, is_named, IsLetGo, by_message, by_link}
 use Rattle.zt_cascade.specs.Joined.{IsJoined, WaitsForPorts}
+use Rattle.zt_store.specs.Chains.{IsNext}
+use Rattle.zt_store.specs.Finding.{is_for, waits_where}
 use Rattle.zt_store.specs.Stepping.{Stepping}
 use Rattle.zt_cascade.specs.Leaving.{IsAhead, left_at, left_behind, IsLeft, weighs, weight, IsPartly, koids, handles_in, IsNoted}
 use Rattle.zt_cascade.proofs.LeavingLaws.{left-none, left-object, left-wait, left-stays, behind-left, behind-lighter, behind-gone, partly-behind, partly-more, partly-then, partly-end, all-left, suited-partly}
@@ -166,16 +167,16 @@ some-packet_row p n None e h = cc
 some-packet_row p n (Some (rows.Packet k)) e h = (rows.Packet k, refl, none-self p (rows.Packet k))
 some-packet_row p n (Some _) e h = cc
 
+weighs-some : (k : RowKey) (r : Row) → 1 ≤ weighs k r
+weighs-some k (rows.Msg m) = omega arith
+weighs-some k _ = omega arith
+
 pub packet-lighter : (p n : ℕ) (T : State) → IsSome (row T (key.Packet p n)) → SuitsKey (key.Packet p n) (row T (key.Packet p n)) → weight (left_behind p T (key.Packet p n)) < weight T
 packet-lighter p n T some suits =
     let w = some-packet_row p n (row T (key.Packet p n)) some suits in
     let e : weight (left_behind p T (key.Packet p n)) + weighs (key.Packet p n) w.0 ≡ weight T = behind-gone p T (key.Packet p n) w.0 w.1 w.2 in
     let l : 1 ≤ weighs (key.Packet p n) w.0 = weighs-some (key.Packet p n) w.0 in
     omega arith
-  where
-    weighs-some : (k : RowKey) (r : Row) → 1 ≤ weighs k r
-    weighs-some k (rows.Msg m) = omega arith
-    weighs-some k _ = omega arith
 
 pub packets-step : (p n : ℕ) (S T U : State) → IsSome (row T (key.Packet p n)) → ((k : RowKey) → SuitsKey k (row T k)) → IsPartly p S T → U ≡ left_behind p T (key.Packet p n)
     → IsPartly p S U × ((k : RowKey) → SuitsKey k (row U k)) × (weight U < weight T)
@@ -199,16 +200,6 @@ partly-wait x S T n w h e = elim (partly-row x S T (key.Wait n) h) [
   | inr d ↦ (wait-stayed (only x) S n w (ap as_wait (sym d) ∙ e)).0
 ]
 
-pub partly-counters : (x : ℕ) (S T : State) → IsPartly x S T → counters T ≡ counters S
-partly-counters x S T h = elim (partly-row x S T key.Counters h) [
-  | inl d ↦ ap as_counters d
-  | inr d ↦ ap as_counters d ∙ counters-without (only x) S
-]
-
-pub partly-number : (x : ℕ) (S T : State) → IsPartly x S T → WaitsForPorts S → (n : ℕ) (w : Wait) → wait T n ≡ Some w → n < (counters T).next_wait
-partly-number x S T h waits n w e =
-    subst (λ (c : Counters). n < c.next_wait) (sym (partly-counters x S T h)) (waits.number n w (partly-wait x S T n w h e))
-
 pub partly-port : (x : ℕ) (S T : State) (o : ObjectRow) → object S x ≡ Some o → IsPartly x S T → WaitsForPorts S → (n : ℕ) (w : Wait) → wait T n ≡ Some w → w.port ≡ x → o.kind ≡ kind.Port
 partly-port x S T o there h waits n w e mine =
     let port : kind_at S w.port ≡ Some kind.Port = waits.port n w (partly-wait x S T n w h e) in
@@ -219,27 +210,34 @@ partly-port x S T o there h waits n w e mine =
 pub left-unawaited : (x : ℕ) (T : State) → ((n : ℕ) (w : Wait) → wait T n ≡ Some w → w.port ≡ x → ⊥) → (n : ℕ) → IsLeft x T (key.Wait n)
 left-unawaited x T none n = left-wait x T n (λ w e. not_true (w.port == x) (λ t. none n w e (eqb-true w.port x t)))
 
--- beyond the numbers that were given out there is no wait
-pub left-beyond : (x : ℕ) (T : State) (n next : ℕ) → ((m : ℕ) (w : Wait) → wait T m ≡ Some w → m < next) → next ≤ n → IsLeft x T (key.Wait n)
-left-beyond x T n next below past = left-wait x T n (λ w e. absurd (none_beyond w e))
-  where
-    none_beyond : (w : Wait) → wait T n ≡ Some w → ⊥
-    none_beyond w e = let l : n < next = below n w e in omega arith
+-- a wait that is for the object
+for-it : (x n : ℕ) (r : Option Row) → option_map_or (is_for x) (as_wait r) false ≡ true → (s : Row) × (r ≡ Some s) × (left (only x) (key.Wait n) s ≡ None)
+for-it x n (Some (rows.Wait w)) e = (rows.Wait w, refl, ap (λ b. if b then None else Some (rows.Wait w)) e)
+for-it x n (Some (rows.Counters _)) e = cc
+for-it x n (Some (rows.Object _)) e = cc
+for-it x n (Some (rows.Entry _)) e = cc
+for-it x n (Some (rows.Msg _)) e = cc
+for-it x n (Some (rows.Packet _)) e = cc
+for-it x n None e = cc
 
-pub waits-step : (x n : ℕ) (S T U : State) → IsPartly x S T → ((m : ℕ) → m < n → IsLeft x T (key.Wait m)) → U ≡ left_behind x T (key.Wait n)
-    → IsPartly x S U × ((m : ℕ) → m < n + 1 → IsLeft x U (key.Wait m))
-waits-step x n S T U partly seen next =
-    let V : State = left_behind x T (key.Wait n) in
-    let earlier : (m : ℕ) → m < n → IsLeft x V (key.Wait m) = λ m l. left-stays x T V (key.Wait m) (partly-behind x T (key.Wait n)) (seen m l) in (
-      subst (IsPartly x S) (sym next) (partly-more x S T (key.Wait n) partly),
-      subst (λ s. (m : ℕ) → m < n + 1 → IsLeft x s (key.Wait m)) (sym next) (below_more (λ m. IsLeft x V (key.Wait m)) n earlier (behind-left x T (key.Wait n))),
-    )
+wait-lighter : (x n : ℕ) (T : State) → waits_where T (is_for x) n ≡ true → weight (left_behind x T (key.Wait n)) < weight T
+wait-lighter x n T e =
+    let w = for-it x n (row T (key.Wait n)) e in
+    let behind : weight (left_behind x T (key.Wait n)) + weighs (key.Wait n) w.0 ≡ weight T = behind-gone x T (key.Wait n) w.0 w.1 w.2 in
+    let l : 1 ≤ weighs (key.Wait n) w.0 = weighs-some (key.Wait n) w.0 in
+    omega arith
 
-pub waits-end : (x next n : ℕ) (S T : State) → IsPartly x S T → ((m : ℕ) (w : Wait) → wait S m ≡ Some w → m < next) → ((m : ℕ) → m < n → IsLeft x T (key.Wait m)) → next ≤ n → (m : ℕ) → IsLeft x T (key.Wait m)
-waits-end x next n S T partly below seen past m = elim (cases_lt m n) [
-  | inl l ↦ seen m l
-  | inr g ↦ left-stays x S T (key.Wait m) partly (left-beyond x S m next below (omega arith))
-]
+pub waits-step : (x n : ℕ) (S T U : State) → IsNext (waits_where T (is_for x)) None (Some n) → IsPartly x S T → U ≡ left_behind x T (key.Wait n) → IsPartly x S U × (weight U < weight T)
+waits-step x n S T U found partly next =
+    let less : weight (left_behind x T (key.Wait n)) < weight T = wait-lighter x n T found.0.1 in
+    let same : weight U ≡ weight (left_behind x T (key.Wait n)) = ap weight next in
+    (subst (IsPartly x S) (sym next) (partly-more x S T (key.Wait n) partly), omega arith)
+
+pub waits-end : (x : ℕ) (T : State) (found : Option ℕ) → ((n : ℕ) → found ≡ Some n → ⊥) → IsNext (waits_where T (is_for x)) None found → (n : ℕ) → IsLeft x T (key.Wait n)
+waits-end x T (Some m) none h = absurd (none m refl)
+waits-end x T None none h = left-unawaited x T (λ n w e mine.
+    let there : waits_where T (is_for x) n ≡ true = ap (λ o. option_map_or (is_for x) o false) e ∙ eq-eqb w.port x mine in
+    true≢false (waits_where T (is_for x) n) there (h.1 n tt tt))
 
 -- ---- all of it
 

@@ -5,3 +5,4 @@ pub mod Leaving
 pub mod Under
 pub mod Near
 pub mod Firing
+pub mod Waking

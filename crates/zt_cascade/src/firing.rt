@@ -1,53 +1,52 @@
-ghost use Rattle.std.specs.Prelude.{◌≡◌, ◌++◌, IfOk, OnOk};
+ghost use Rattle.std.specs.Prelude.{◌≡◌, ℕ, OnOk};
 ghost use Rattle.std.specs.List.{fold};
-ghost use Rattle.zt_rows.specs.Reads.{waits};
+ghost use Rattle.zt_rows.specs.Consistent.{IsConsistent};
+ghost use Rattle.zt_rows.specs.Reads.{wait, waits};
 ghost use Rattle.zt_rows.specs.Settle.{fire};
 ghost use Rattle.zt_cascade.specs.Firing.{HasRoomToFire};
 ghost use Rattle.zt_cascade.specs.Leaving.{IsAhead};
-ghost use Rattle.zt_cascade.specs.Under.{waits_under};
+ghost use Rattle.zt_cascade.specs.Waking.{HasRoomFor, fire_number};
 
+use crate::waking::woken;
 use std::alloc::{AllocError, Global};
 use zt_ports::fire;
-use zt_rows::{Koid, Row, RowKey, Wait};
+use zt_rows::{Row, RowKey, Wait};
 use zt_store::Step;
 
-/// Fires the waits that are met, by rising number. Refused, the step stands in the middle of it.
+/// Fires the waits that are met, by rising number. The step began consistent, so that only those can be met that this
+/// step may have woken: no other wait is looked at. Refused, the step stands in the middle of it.
 pub(crate) fn fire_all(step: &mut Step, alloc: Global) -> Result<(), AllocError>
-    requires { HasRoomToFire step.old.current }
+    requires began { IsConsistent step.old.beginning }
+    requires room { HasRoomToFire step.old.current }
     ensures ahead { IsAhead step.old step.new }
     ensures ok { OnOk result (step.new.current ≡ fold fire step.old.current (waits step.old.current)) }
 {
-    for (number, wait) in &waits_of(step, alloc)? {
-        fire(step, *number, wait)?;
+    let mut numbers = woken(step, alloc)?;
+    numbers.sort_unstable();
+    for number in &numbers {
+        fire_number(step, *number)?;
     }
     Ok(())
 }
 
-/// All waits with their numbers, in the order of the numbers. The walk looks at the places of waits alone: they are
-/// behind those of all packets.
-fn waits_of(step: &Step, alloc: Global) -> Result<Vec<(u64, Wait)>, AllocError>
-    ensures { IfOk result (λ found. found.items ≡ waits step.now.current) }
+/// Where there is a wait of this number and it is met, takes it away and puts the news at the end of its port.
+fn fire_number(step: &mut Step, number: u64) -> Result<(), AllocError>
+    requires { HasRoomFor step.old.current number }
+    ensures ahead { IsAhead step.old step.new }
+    ensures ok { OnOk result (step.new.current ≡ fire_number step.old.current number) }
 {
-    let mut found = Vec::new(alloc);
-    let mut low = RowKey::Packet(Koid(u64::MAX), u64::MAX);
-    while let Some(key) = step.after(Some(low)) {
-        let asked = key;
-        add_wait(step, asked, &mut found)?;
-        low = key;
+    match wait_of(step, number) {
+        Some(wait) => fire(step, number, &wait),
+        None => Ok(()),
     }
-    Ok(found)
 }
 
-/// Adds the wait under the key, if there is one, with its number.
-fn add_wait(step: &Step, key: RowKey, found: &mut Vec<(u64, Wait)>) -> Result<(), AllocError>
-    ensures { OnOk result (found.new.items ≡ found.old.items ++ waits_under step.now.current key) }
+/// The wait of this number.
+fn wait_of(step: &Step, number: u64) -> Option<Wait>
+    ensures { result ≡ wait step.now.current number }
 {
-    let RowKey::Wait(number) = key else {
-        return Ok(());
-    };
-    match step.row(key) {
-        Some(Row::Wait(wait)) => found.push((number, *wait))?,
-        _ => {}
+    match step.row(RowKey::Wait(number)) {
+        Some(Row::Wait(wait)) => Some(*wait),
+        _ => None,
     }
-    Ok(())
 }

@@ -8,6 +8,7 @@ mod leaving;
 mod releasing;
 mod settling;
 mod taking;
+mod waking;
 
 pub use releasing::release;
 pub use settling::settle;

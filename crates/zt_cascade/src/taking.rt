@@ -4,7 +4,7 @@ ghost use Rattle.zt_rows.specs.declared.keys.RowKey.{RowKey};
 ghost use Rattle.zt_rows.specs.declared.keys.RowKey.TheVariants as key;
 ghost use Rattle.zt_rows.specs.declared.rows.Wait.{Wait};
 ghost use Rattle.zt_rows.specs.Collect.{without};
-ghost use Rattle.zt_rows.specs.Reads.{counters, message, object, wait};
+ghost use Rattle.zt_rows.specs.Reads.{message, object, wait};
 ghost use Rattle.zt_rows.specs.Room.{SuitsKey};
 ghost use Rattle.zt_rows.specs.State.{row};
 ghost use Rattle.zt_rows.specs.Tests.{among, is_port};
@@ -109,10 +109,9 @@ fn take_packets(step: &mut Step, port: Koid) -> Result<(), AllocError>
     Ok(())
 }
 
-/// Takes away the waits for the object, which only a port has.
+/// Takes away the waits for the object, which only a port has. Other waits are not looked at.
 fn take_waits(step: &mut Step, koid: Koid, kind: Kind) -> Result<(), AllocError>
-    requires number { (n : ℕ) (w : Wait) → wait step.old.current n ≡ Option.Some w → n < (counters step.old.current).next_wait }
-    requires port { (n : ℕ) (w : Wait) → wait step.old.current n ≡ Option.Some w → w.port ≡ koid → kind ≡ Kind.Port }
+    requires { (n : ℕ) (w : Wait) → wait step.old.current n ≡ Option.Some w → w.port ≡ koid → kind ≡ Kind.Port }
     ensures ahead { IsAhead step.old step.new }
     ensures partly { OnOk result (IsPartly koid step.old.current step.new.current) }
     ensures waits { OnOk result ((n : ℕ) → IsLeft koid step.new.current (key.Wait n)) }
@@ -120,8 +119,7 @@ fn take_waits(step: &mut Step, koid: Koid, kind: Kind) -> Result<(), AllocError>
     if !is_port(kind) {
         return Ok(());
     }
-    // All waits are looked at: the store has no index of the waits for a port.
-    for number in 0..next_wait(step) {
+    'waits: while let Some(number) = step.wait_for(koid, None) {
         leave(step, koid, RowKey::Wait(number))?;
     }
     Ok(())
@@ -131,14 +129,4 @@ fn is_port(kind: Kind) -> bool
     ensures { result ≡ is_port kind }
 {
     kind == Kind::Port
-}
-
-/// The number that the next wait gets.
-fn next_wait(step: &Step) -> u64
-    ensures { result ≡ (counters step.now.current).next_wait }
-{
-    match step.row(RowKey::Counters) {
-        Some(Row::Counters(counters)) => counters.next_wait,
-        _ => 0,
-    }
 }

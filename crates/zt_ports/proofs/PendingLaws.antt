@@ -12,7 +12,7 @@ use Rattle.zt_rows.proofs.RowLaws.{at-any_row, not_true}
 use Rattle.zt_store.proofs.Totals.{total-put, count-total, share}
 use Rattle.zt_store.specs.Numbers.{total}
 use Rattle.zt_signals.specs.Columns.{IsAfter, IsNext, passes_under}
-use Rattle.zt_signals.proofs.ColumnLaws.{IsColumn, left_by, without_those, drop-start, drop-next, drop-end, ahead}
+use Rattle.zt_signals.proofs.ColumnLaws.{IsColumn, left_by, without_those, next-that, drop-start, drop-next, drop-end, ahead}
 use Rattle.zt_signals.proofs.DerivedLaws.{count-none}
 
 -- ---- one row taken away where it passes
@@ -88,12 +88,12 @@ module _ (at : ℕ → RowKey) (index : RowKey → Option ℕ) (test : RowKey �
 
     pub count-next : (n : ℕ) → IsNext S at low (Some n) → count_left (Some n) + cond (passes_under test S (at n)) 1 0 ≡ count_left low
     count-next n next =
-        ap (λ (T : State). count_row test T + cond (passes_under test S (at n)) 1 0) (drop-next at index test column S rest low refl n (next-left n next))
+        ap (λ (T : State). count_row test T + cond (passes_under test S (at n)) 1 0) (drop-next at index test column S rest low refl n (next-that test rest at low (Some n) (next-left n next)))
         ∙ ap (λ o. count_row test (put rest (at n) (option_and_then (without_those test (at n)) (row rest (at n)))) + cond (option_map_or (test (at n)) o false) 1 0) (sym (same n next.0))
         ∙ count-taken test rest (at n)
 
     pub count-end : IsNext S at low None → count_left low ≡ 0
-    count-end last = ap (count_row test) (drop-end at index test column S rest low refl (none-left last)) ∙ count-none_left test S
+    count-end last = ap (count_row test) (drop-end at index test column S rest low refl (next-that test rest at low None (none-left last))) ∙ count-none_left test S
 
   -- one that passes, and one that does not
   pub count-yes : (low : Option ℕ) (n : ℕ) → IsNext S at low (Some n) → passes_under test S (at n) ≡ true → count_left (Some n) + 1 ≡ count_left low

@@ -12,7 +12,7 @@ use Rattle.zt_rows.specs.State.{State, row, put, change}
 use Rattle.zt_rows.specs.Tests.{any_row}
 use Rattle.zt_rows.proofs.StateLaws.{row-put, row-change, same_state, put-row}
 use Rattle.zt_rows.proofs.RowLaws.{any_row-at, at-any_row, and_left, and_right, and_both, or_true, or_left, or_right, same_test, true≢false}
-use Rattle.zt_signals.specs.Columns.{IsAfter, IsNext, passes_under}
+use Rattle.zt_signals.specs.Columns.{IsAfter, IsNext, IsNextThat, passes_under}
 
 -- ---- numbers
 
@@ -58,6 +58,9 @@ passed-more : (low : Option ℕ) (n m : ℕ) → IsAfter low n → passed_by low
 passed-more None n m h e = cc
 passed-more (Some l) n m h e = grind (arith, nat_tests)
 
+passed-less : (m n : ℕ) → m < n → passed_by (Some n) (Some m) ≡ true
+passed-less m n h = grind (arith, nat_tests)
+
 passed-itself : (n : ℕ) → passed_by (Some n) (Some n) ≡ true
 passed-itself n = grind (arith, nat_tests)
 
@@ -98,10 +101,17 @@ module _ (test : RowKey → Row → Bool) (S : State) (k : RowKey) where
   pub row-stays : passes_under test S k ≡ false → put S k (option_and_then (without_those test k) (row S k)) ≡ S
   row-stays e = ap (put S k) (stays (row S k) e) ∙ put-row S k
 
--- ---- all rows of the column
+-- ---- what comes next
 
-none-left : (f : Row → Option Row) (r : Option Row) → r ≡ None → option_and_then f r ≡ None
-none-left f r e = ap (option_and_then f) e
+none-passes : (test : RowKey → Row → Bool) (k : RowKey) (r : Option Row) → r ≡ None → option_map_or (test k) r false ≡ false
+none-passes test k r e = ap (λ o. option_map_or (test k) o false) e
+
+-- the next row of all is one before which no row passes
+pub next-that : (test : RowKey → Row → Bool) (S : State) (at : ℕ → RowKey) (low found : Option ℕ) → IsNext S at low found → IsNextThat test S at low found
+next-that test S at low None h = λ n past. none-passes test (at n) (row S (at n)) (h n past)
+next-that test S at low (Some n) h = (h.0, λ m past less. none-passes test (at m) (row S (at m)) (h.2 m past less))
+
+-- ---- all rows of the column
 
 module _ (at : ℕ → RowKey) (index : RowKey → Option ℕ) (test : RowKey → Row → Bool) (column : IsColumn at index test) where
   unmoved : (low : Option ℕ) (k : RowKey) → passed_by low (index k) ≡ false → (r : Option Row) → option_and_then (left_by index test low k) r ≡ r
@@ -139,7 +149,7 @@ module _ (at : ℕ → RowKey) (index : RowKey → Option ℕ) (test : RowKey �
     pub ahead : (n : ℕ) → IsAfter low n → row T (at n) ≡ row S (at n)
     ahead n past = row-ahead (at n) (ap (passed_by low) (column.here n) ∙ after-not-passed low n past)
 
-    module _ (n : ℕ) (next : IsNext T at low (Some n)) where
+    module _ (n : ℕ) (next : IsNextThat test T at low (Some n)) where
       abbrev left : RowKey → Option Row
       left q = option_and_then (left_by index test (Some n) q) (row S q)
 
@@ -149,8 +159,8 @@ module _ (at : ℕ → RowKey) (index : RowKey → Option ℕ) (test : RowKey �
             row-so_far (at m) ∙ moved-at low m t (row S (at m)) ∙ sym (moved-at (Some n) m (passed-more low n m next.0 t) (row S (at m)))
         | false ↦ λ t.
             let past : IsAfter low m = passed-not-after low m t in
-            let none : row T (at m) ≡ None = next.2 m past less in
-            none ∙ sym (none-left (left_by index test (Some n) (at m)) (row S (at m)) (sym (ahead m past) ∙ none))
+            let none : passes_under test T (at m) ≡ false = next.1 m past less in
+            sym (moved-at (Some n) m (passed-less m n less) (row S (at m)) ∙ ap (option_and_then (without_those test (at m))) (sym (ahead m past)) ∙ stays test T (at m) (row T (at m)) none)
       ] refl
 
       later : (m : ℕ) → n < m → row T (at m) ≡ left (at m)
@@ -234,7 +244,8 @@ module _ (at : ℕ → RowKey) (index : RowKey → Option ℕ) (test : RowKey �
             let past : IsAfter low m = passed-not-after low m u in
             let standing : row T (at m) ≡ Some r = ahead m past ∙ there in
             elim (cases_lt m n) [
-              | inl less ↦ let none : row T (at m) ≡ None = next.2 m past less in cc
+              | inl less ↦
+                  absurd (true≢false (passes_under test T (at m)) (ap (λ o. option_map_or (test (at m)) o false) standing ∙ t) (next.1 m past less))
               | inr ge ↦
                   let same : m ≡ n = both_ways m passed ge in
                   inr (at-picked (row T (at n)) r (subst (λ z. row T (at z) ≡ Some r) same standing) (subst (λ z. test (at z) r ≡ true) same t))
@@ -268,19 +279,18 @@ module _ (at : ℕ → RowKey) (index : RowKey → Option ℕ) (test : RowKey �
 
     -- ---- the end
 
-    module _ (last : IsNext T at low None) where
-      -- a row of the column that was not come past is not there
-      not_passed : (m : ℕ) → passed_by low (Some m) ≡ false → row S (at m) ≡ None
+    module _ (last : IsNextThat test T at low None) where
+      -- a row of the column that was not come past does not pass
+      not_passed : (m : ℕ) → passed_by low (Some m) ≡ false → passes_under test S (at m) ≡ false
       not_passed m e =
           let past : IsAfter low m = passed-not-after low m e in
-          sym (ahead m past) ∙ last m past
+          ap (λ o. option_map_or (test (at m)) o false) (sym (ahead m past)) ∙ last m past
 
       end-at : (m : ℕ) → option_and_then (left_by index test low (at m)) (row S (at m)) ≡ option_and_then (without_those test (at m)) (row S (at m))
       end-at m = elim (passed_by low (Some m)) as (λ b. passed_by low (Some m) ≡ b → option_and_then (left_by index test low (at m)) (row S (at m)) ≡ option_and_then (without_those test (at m)) (row S (at m))) [
         | true ↦ λ t. moved-at low m t (row S (at m))
         | false ↦ λ t.
-            let none : row S (at m) ≡ None = not_passed m t in
-            none-left (left_by index test low (at m)) (row S (at m)) none ∙ sym (none-left (without_those test (at m)) (row S (at m)) none)
+            unmoved-at low m t (row S (at m)) ∙ sym (stays test S (at m) (row S (at m)) (not_passed m t))
       ] refl
 
       not_within : (q : RowKey) → index q ≡ None → (r : Option Row) → option_and_then (without_those test q) r ≡ r
@@ -298,16 +308,16 @@ module _ (at : ℕ → RowKey) (index : RowKey → Option ℕ) (test : RowKey �
       pub drop-end : T ≡ change (without_those test) S
       drop-end = so_far ∙ same_state _ _ (λ q. row-change (left_by index test low) S q ∙ end-key q ∙ sym (row-change (without_those test) S q))
 
-      end-in : (m : ℕ) (r : Row) → row S (at m) ≡ Some r → passed_by low (Some m) ≡ true
-      end-in m r there = elim (passed_by low (Some m)) as (λ b. passed_by low (Some m) ≡ b → b ≡ true) [
+      end-in : (m : ℕ) (r : Row) → row S (at m) ≡ Some r → test (at m) r ≡ true → passed_by low (Some m) ≡ true
+      end-in m r there t = elim (passed_by low (Some m)) as (λ b. passed_by low (Some m) ≡ b → b ≡ true) [
         | true ↦ λ u. refl
-        | false ↦ λ u. let none : row S (at m) ≡ None = not_passed m u in cc
+        | false ↦ λ u. absurd (true≢false (passes_under test S (at m)) (ap (λ o. option_map_or (test (at m)) o false) there ∙ t) (not_passed m u))
       ] refl
 
       end-any : (q : RowKey) (r : Row) → row S q ≡ Some r → test q r ≡ true → passed_by low (index q) ≡ true
       end-any q r there t = elim (index q) as (λ o. index q ≡ o → passed_by low o ≡ true) [
         | None ↦ λ out. absurd (true≢false (test q r) t (column.within q r out))
-        | Some m ↦ λ in_it. end-in m r (ap (row S) (sym (column.is q m in_it)) ∙ there)
+        | Some m ↦ λ in_it. end-in m r (ap (row S) (sym (column.is q m in_it)) ∙ there) (ap (λ z. test z r) (sym (column.is q m in_it)) ∙ t)
       ] refl
 
       pub any-end : any_row (is_dropped index test low) S ≡ any_row test S

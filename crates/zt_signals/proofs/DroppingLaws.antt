@@ -1,67 +1,58 @@
--- The next wait of a state, and the waits as a column that is walked along.
-use Rattle.std.proofs.Common.{◌≡◌, ◌<◌, ℕ, Bool, true, false, Option, Some, None, is_some, refl, sym, ap, ◌∙◌, arith}
-use Rattle.std.specs.Prelude.{◌^◌, IsSome}
-use Rattle.std.specs.Option.{MatchOption}
-use Rattle.std.specs.declared.cmp.Ordering.TheVariants.{Less}
-use Rattle.std.proofs.lemmas.Bool.Decides.{nat_tests}
+-- The next wait that may be picked, and the waits as a column that is walked along.
+use Rattle.std.proofs.Common.{◌≡◌, ◌<◌, ◌&&◌, ℕ, Bool, true, false, Option, Some, None, refl, sym, ap, ◌∙◌, arith}
+use Rattle.std.specs.Prelude.{◌^◌, ◌==◌}
+use Rattle.std.specs.Option.{option_map_or}
 use Rattle.zt_rows.specs.declared.keys.RowKey.{RowKey}
 use Rattle.zt_rows.specs.declared.keys.RowKey.TheVariants as key
 use Rattle.zt_rows.specs.declared.rows.Row.{Row}
+use Rattle.zt_rows.specs.declared.rows.Row.TheVariants as rows
 use Rattle.zt_rows.specs.declared.rows.Wait.{Wait}
-use Rattle.zt_rows.specs.Keys.{rowkey_cmp}
+use Rattle.zt_rows.specs.Reads.{as_wait}
 use Rattle.zt_rows.specs.State.{State, row}
-use Rattle.zt_rows.specs.Room.{is_above, next_key}
 use Rattle.zt_rows.proofs.ReadLaws.{some_one}
-use Rattle.zt_rows.proofs.RowLaws.{true≢false}
+use Rattle.zt_store.specs.Chains.{IsBehind, IsNext}
+use Rattle.zt_store.specs.Finding.{waits_where}
 use Rattle.zt_signals.specs.Columns.{IsAfter}
-use Rattle.zt_signals.specs.Picks.{IsNextWait, key_below}
-use Rattle.zt_signals.specs.Waits.{is_wait_where}
-use Rattle.zt_signals.proofs.NextKeyLaws.{next-none, next-above, next-there, next-least}
+use Rattle.zt_signals.specs.Picks.{IsNextPicked}
+use Rattle.zt_signals.specs.Waits.{is_wait_where, made_on, made_under}
 use Rattle.zt_signals.proofs.ColumnLaws.{IsColumn, numbers_after, numbers-fewer}
 
--- ---- keys of waits
+-- ---- the next wait
 
-wait-above : (low : Option ℕ) (n : ℕ) → IsAfter low n → is_above (Some (key_below low)) (key.Wait n) ≡ true
-wait-above None n h = refl
-wait-above (Some l) n h = grind (arith, nat_tests)
+behind-after : (low : Option ℕ) (n : ℕ) → IsBehind (λ a b. a < b) low n → IsAfter low n
+behind-after None n h = tt
+behind-after (Some l) n h = h
 
-above-wait : (low : Option ℕ) (n : ℕ) → is_above (Some (key_below low)) (key.Wait n) ≡ true → IsAfter low n
-above-wait None n h = tt
-above-wait (Some l) n h = grind (arith, nat_tests)
+after-behind : (low : Option ℕ) (n : ℕ) → IsAfter low n → IsBehind (λ a b. a < b) low n
+after-behind None n h = tt
+after-behind (Some l) n h = h
 
-wait-less : (m n : ℕ) → m < n → rowkey_cmp (key.Wait m) (key.Wait n) ≡ Less
-wait-less m n h = grind (arith, nat_tests)
+passes-narrow : (narrow wide : Wait → Bool) → ((w : Wait) → wide w ≡ false → narrow w ≡ false) → (n : ℕ) (r : Option Row) → option_map_or wide (as_wait r) false ≡ false → option_map_or (is_wait_where narrow (key.Wait n)) r false ≡ false
+passes-narrow narrow wide less n (Some (rows.Wait w)) h = less w h
+passes-narrow narrow wide less n (Some (rows.Counters _)) h = refl
+passes-narrow narrow wide less n (Some (rows.Object _)) h = refl
+passes-narrow narrow wide less n (Some (rows.Entry _)) h = refl
+passes-narrow narrow wide less n (Some (rows.Msg _)) h = refl
+passes-narrow narrow wide less n (Some (rows.Packet _)) h = refl
+passes-narrow narrow wide less n None h = refl
 
-is-some : (r : Option Row) → is_some r ≡ true → IsSome r
-is-some (Some r) e = refl
-is-some None e = cc
+-- the next wait of a wider kind is one before which none of the narrower kind stands
+pub next-narrow : (narrow wide : Wait → Bool) → ((w : Wait) → wide w ≡ false → narrow w ≡ false) → (S : State) (low found : Option ℕ) → IsNext (waits_where S wide) low found → IsNextPicked narrow S low found
+next-narrow narrow wide less S low None h = λ n past. passes-narrow narrow wide less n (row S (key.Wait n)) (h.1 n (after-behind low n past) tt)
+next-narrow narrow wide less S low (Some n) h =
+    (behind-after low n h.0.0, λ m past below. passes-narrow narrow wide less m (row S (key.Wait m)) (h.1 m (after-behind low m past) below))
 
-pub wait-none : (S : State) (low : Option ℕ) → None ≡ next_key S (Some (key_below low)) → IsNextWait S low None
-wait-none S low h = λ n past. next-none S (Some (key_below low)) (sym h) (key.Wait n) (wait-above low n past)
+pub same-kind : (test : Wait → Bool) (w : Wait) → test w ≡ false → test w ≡ false
+same-kind test w h = h
 
-pub wait-next : (S : State) (low : Option ℕ) (n : ℕ) → Some (key.Wait n) ≡ next_key S (Some (key_below low)) → IsNextWait S low (Some n)
-wait-next S low n h =
-    let low_key : Option RowKey = Some (key_below low) in (
-      above-wait low n (next-above S low_key (key.Wait n) (sym h)),
-      is-some (row S (key.Wait n)) (next-there S low_key (key.Wait n) (sym h)),
-      λ m past less. next-least S low_key (key.Wait n) (sym h) (key.Wait m) (wait-above low m past) (wait-less m n less),
-    )
+and_none : (a b c d : Bool) → (b && c) ≡ false → (a && b && c && d) ≡ false
+and_none true true true d h = cc
+and_none true true false d h = refl
+and_none true false c d h = refl
+and_none false b c d h = refl
 
--- what is above a wait, or above the last key before those of waits, is above that
-above-low : (low : Option ℕ) (k : RowKey) → is_above (Some (key_below low)) k ≡ true → is_above (Some (key_below None)) k ≡ true
-above-low None k h = h
-above-low (Some l) key.Counters h = cc
-above-low (Some l) (key.Object x) h = cc
-above-low (Some l) (key.Entry p g) h = cc
-above-low (Some l) (key.Msg x n) h = cc
-above-low (Some l) (key.Packet x n) h = cc
-above-low (Some l) (key.Wait n) h = refl
-
-pub wait-found : (S : State) (low : Option ℕ) (k : RowKey) (found : Option ℕ) → Some k ≡ next_key S (Some (key_below low)) → MatchOption found (is_above (Some (key_below None)) k ≡ false) (λ n. k ≡ key.Wait n) → IsNextWait S low found
-wait-found S low k None h below =
-    let above : is_above (Some (key_below None)) k ≡ true = above-low low k (next-above S (Some (key_below low)) k (sym h)) in
-    absurd (true≢false (is_above (Some (key_below None)) k) above below)
-wait-found S low k (Some n) h is = wait-next S low n (ap Some (sym is) ∙ h)
+pub under-on : (x p h k : ℕ) (w : Wait) → made_on p h w ≡ false → made_under x p h k w ≡ false
+under-on x p h k w e = and_none (w.port == x) (w.process == p) (w.handle == h) (w.key == k) e
 
 -- ---- the column of waits
 
@@ -87,5 +78,5 @@ only_waits test (key.Packet x n) r e = refl
 pub wait-column : (test : Wait → Bool) → IsColumn wait_key wait_index (is_wait_where test)
 wait-column test = record { here = λ n. refl; is = key-of; within = only_waits test }
 
-pub waits-fewer : (S : State) (low : Option ℕ) (n : ℕ) → n < 2 ^ 64 → IsNextWait S low (Some n) → numbers_after (Some n) < numbers_after low
-waits-fewer S low n few next = numbers-fewer low n few next.0
+pub waits-fewer : (test : Wait → Bool) (S : State) (low : Option ℕ) (n : ℕ) → n < 2 ^ 64 → IsNextPicked test S low (Some n) → numbers_after (Some n) < numbers_after low
+waits-fewer test S low n few next = numbers-fewer low n few next.0

@@ -20,3 +20,10 @@ IsNext S key_of low found =
 -- there is a row under the key, and it passes
 abbrev pub passes_under : (RowKey → Row → Bool) → State → RowKey → Bool
 passes_under test S k = option_map_or (test k) (row S k) false
+
+-- a number after the low one with no row that passes under those in between, or none where no row after the low one
+-- passes
+abbrev pub IsNextThat : (RowKey → Row → Bool) → State → (ℕ → RowKey) → Option ℕ → Option ℕ → Type 0
+IsNextThat test S key_of low found =
+    MatchOption found ((n : ℕ) → IsAfter low n → passes_under test S (key_of n) ≡ false)
+    (λ n. IsAfter low n × ((m : ℕ) → IsAfter low m → m < n → passes_under test S (key_of m) ≡ false))

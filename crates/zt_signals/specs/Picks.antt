@@ -1,12 +1,12 @@
 -- What a walk over waits looks for, and where it goes on. This project's own form.
-use Rattle.std.specs.Prelude.{◌-◌, ◌^◌, ℕ, Bool, Option, None, Some}
+use Rattle.std.specs.Prelude.{ℕ, Bool, Option}
 use Rattle.zt_rows.specs.declared.keys.RowKey.{RowKey}
 use Rattle.zt_rows.specs.declared.keys.RowKey.TheVariants as key
 use Rattle.zt_rows.specs.declared.rows.Wait.{Wait}
 use Rattle.zt_rows.specs.State.{State}
 use Rattle.zt_signals.specs.declared.dropping.Picked.{Picked}
 use Rattle.zt_signals.specs.declared.dropping.Picked.TheVariants as picked
-use Rattle.zt_signals.specs.Columns.{IsNext, passes_under}
+use Rattle.zt_signals.specs.Columns.{IsNextThat, passes_under}
 use Rattle.zt_signals.specs.Waits.{is_wait_where, made_on, made_for, made_under}
 
 -- the wait is one of those that are picked
@@ -19,11 +19,7 @@ picks (picked.Under x p h packet_key) = made_under x p h packet_key
 abbrev pub is_picked : (Wait → Bool) → State → ℕ → Bool
 is_picked test S n = passes_under (is_wait_where test) S (key.Wait n)
 
--- the key of the wait, or the last key before those of waits
-abbrev pub key_below : Option ℕ → RowKey
-key_below (Some n) = key.Wait n
-key_below None = key.Packet (2 ^ 64 - 1) (2 ^ 64 - 1)
-
--- the least number of a wait after the low one, or none where there is none
-abbrev pub IsNextWait : State → Option ℕ → Option ℕ → Type 0
-IsNextWait S low found = IsNext S (λ n. key.Wait n) low found
+-- the least number after the low one of a wait that passes, or one below it; none where no wait after the low one
+-- passes
+abbrev pub IsNextPicked : (Wait → Bool) → State → Option ℕ → Option ℕ → Type 0
+IsNextPicked test S low found = IsNextThat (is_wait_where test) S (λ n. key.Wait n) low found

@@ -1,12 +1,11 @@
-ghost use Rattle.std.specs.Prelude.{◌≡◌, false, None, Some, IfOk, OnOk, OnErr};
-ghost use Rattle.std.specs.Option.{MatchOption, option_and_then};
+ghost use Rattle.std.specs.Prelude.{◌≡◌, IfOk, OnOk, OnErr};
+ghost use Rattle.std.specs.Option.{option_and_then};
 ghost use Rattle.zt_rows.specs.declared.keys.RowKey.TheVariants as key_variant;
-ghost use Rattle.zt_rows.specs.Room.{is_above};
 ghost use Rattle.zt_rows.specs.State.{row, put, change};
 ghost use Rattle.zt_rows.specs.Tests.{any_row};
 ghost use Rattle.zt_store.specs.Places.{Keeps};
 ghost use Rattle.zt_store.specs.Stepping.{Advanced, AsBegun};
-ghost use Rattle.zt_signals.specs.Picks.{IsNextWait, is_picked, key_below, picks};
+ghost use Rattle.zt_signals.specs.Picks.{IsNextPicked, is_picked, picks};
 ghost use Rattle.zt_signals.specs.Waits.{is_wait_where, without_waits};
 
 use std::alloc::AllocError;
@@ -51,7 +50,7 @@ pub(crate) fn drop_picked(step: &mut Step, picked: Picked) -> Result<bool, Alloc
 {
     let mut any = false;
     let mut low = None;
-    while let Some(number) = wait_after(step, low) {
+    while let Some(number) = next_picked(step, &picked, low) {
         let told = drop_if(step, number, &picked)?;
         any |= told;
         low = Some(number);
@@ -59,31 +58,14 @@ pub(crate) fn drop_picked(step: &mut Step, picked: Picked) -> Result<bool, Alloc
     Ok(any)
 }
 
-/// The number of the first wait after the low one, or of the first of all. It takes no memory.
-fn wait_after(step: &Step, low: Option<u64>) -> Option<u64>
-    ensures { IsNextWait step.now.current low result }
+/// The number of the next wait after the low one that may be picked, or of the first of all. It takes no memory.
+fn next_picked(step: &Step, picked: &Picked, low: Option<u64>) -> Option<u64>
+    ensures { IsNextPicked (picks picked.now) step.now.current low result }
 {
-    let key = step.after(Some(key_below(low)))?;
-    number_of(key)
-}
-
-/// The number of the wait whose key it is. Every other key comes before those of waits.
-fn number_of(key: RowKey) -> Option<u64>
-    ensures { MatchOption result (is_above (Some (key_below None)) key ≡ false) (λ n. key ≡ key_variant.Wait n) }
-{
-    match key {
-        RowKey::Wait(number) => Some(number),
-        _ => None,
-    }
-}
-
-/// The key of the wait, or the last key before those of waits.
-fn key_below(low: Option<u64>) -> RowKey
-    ensures { result ≡ key_below low }
-{
-    match low {
-        Some(number) => RowKey::Wait(number),
-        None => RowKey::Packet(Koid(u64::MAX), u64::MAX),
+    match *picked {
+        Picked::On(process, handle) => step.wait_on(process, handle, low),
+        Picked::For(port) => step.wait_for(port, low),
+        Picked::Under(_, process, handle, _) => step.wait_on(process, handle, low),
     }
 }
 

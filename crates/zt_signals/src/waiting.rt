@@ -28,7 +28,8 @@ pub fn add_wait(step: &mut Step, wait: Wait) -> Result<(), AllocError>
     step.put(RowKey::Counters, Some(Row::Counters(raised)))
 }
 
-/// Takes away the waits that the process made on the handle. All places for waits are looked at.
+/// Takes away the waits that the process made on the handle. They are found by the handle, so that other waits are
+/// not looked at.
 pub fn drop_waits(step: &mut Step, process: Koid, handle: HandleValue) -> Result<(), AllocError>
     ensures ok { OnOk result (Advanced step.old step.new (change (without_waits_on process handle) step.old.current)) }
     ensures err { OnErr result (AsBegun step.old step.new) }
@@ -38,7 +39,7 @@ pub fn drop_waits(step: &mut Step, process: Koid, handle: HandleValue) -> Result
     Ok(())
 }
 
-/// Takes away the waits for the port. All places for waits are looked at.
+/// Takes away the waits for the port. They are found by the port, so that other waits are not looked at.
 pub fn drop_waits_of_port(step: &mut Step, port: Koid) -> Result<(), AllocError>
     ensures ok { OnOk result (Advanced step.old step.new (change (without_waits_for port) step.old.current)) }
     ensures err { OnErr result (AsBegun step.old step.new) }
@@ -49,7 +50,7 @@ pub fn drop_waits_of_port(step: &mut Step, port: Koid) -> Result<(), AllocError>
 }
 
 /// Takes away the waits for the port that the process made on the handle under the key, and tells whether there
-/// was any. All places for waits are looked at.
+/// was any. They are found by the handle, so that waits on others are not looked at.
 pub fn cancel_waits(
     step: &mut Step,
     port: Koid,

@@ -173,6 +173,10 @@ end-objects c s is len e x le = row-object c s is x ∙ past c.objects len x e l
 pub end-waits : (c : Cabinet) (s : Shelved) → seen_as c ≡ s → (len : ℕ) → len ≡ length c.waits → (n : ℕ) → len ≤ n → row s.state (key.Wait n) ≡ None
 end-waits c s is len e n le = row-wait c s is n ∙ past c.waits len n e le
 
+pub places-waits : (c : Cabinet) (s : Shelved) → seen_as c ≡ s → (len : ℕ) → len ≡ length c.waits → len ≡ s.shelves.waits
+unfolding shelves_of
+places-waits c s is len e = e ∙ ap (λ (t : Shelved). t.shelves.waits) is
+
 pub end-messages : (c : Cabinet) (s : Shelved) → seen_as c ≡ s → (x y : ℕ) → x ≡ y → (len : ℕ) → len ≡ length (table c.messages x) → (n : ℕ) → len ≤ n → row s.state (key.Msg y n) ≡ None
 end-messages c s is x y same len e n le =
     row-message c s is y n ∙ ap (λ z. cell_at c.messages z n) (sym same) ∙ past (table c.messages x) len n e le

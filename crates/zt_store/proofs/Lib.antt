@@ -5,6 +5,9 @@ pub mod Totals
 pub mod Naming
 pub mod Tallied
 pub mod Counts
+pub mod ChainOrder
+pub mod ChainLaws
+pub mod IndexLaws
 pub mod Fitting
 pub mod Exchanges
 pub mod Undoing

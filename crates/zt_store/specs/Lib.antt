@@ -11,3 +11,6 @@ pub mod Touching
 pub mod Walks
 pub mod KeyColumns
 pub mod Counting
+pub mod Chains
+pub mod Finding
+pub mod Indexed

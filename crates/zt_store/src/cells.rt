@@ -5,6 +5,7 @@ ghost use Rattle.zt_rows.specs.declared.keys.RowKey.TheVariants as key_variant;
 ghost use Rattle.zt_rows.specs.Opening.{hollow};
 ghost use Rattle.zt_rows.specs.Room.{SuitsKey};
 ghost use Rattle.zt_rows.specs.State.{row, put};
+ghost use Rattle.zt_store.specs.Indexed.{waits_after};
 ghost use Rattle.zt_store.specs.Seen.{Shelved};
 ghost use Rattle.zt_store.specs.Shelves.{has_place, no_shelves};
 ghost use Rattle.zt_store.specs.Walks.{IsFirst};
@@ -96,6 +97,7 @@ impl Cells {
         ensures state { self.new.state ≡ self.old.state }
         ensures kept { (k : RowKey) → has_place self.old.shelves k ≡ true → has_place self.new.shelves k ≡ true }
         ensures made { OnOk result (has_place self.new.shelves key ≡ true) }
+        ensures waits { self.new.shelves.waits ≤ waits_after key self.old.shelves.waits }
     {
         let (asked, counted) = (key, key);
         let place = place_of(asked);
@@ -195,7 +197,8 @@ impl Cells {
 
     /// From this number on there is no wait.
     pub fn waits_end(&self) -> u64
-        ensures { (n : ℕ) → result ≤ n → row self.now.state (key_variant.Wait n) ≡ None }
+        ensures end { (n : ℕ) → result ≤ n → row self.now.state (key_variant.Wait n) ≡ None }
+        ensures places { result ≡ self.now.shelves.waits }
     {
         self.cabinet.waits.len() as u64
     }

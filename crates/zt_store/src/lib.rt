@@ -3,7 +3,9 @@
 #![tactic(auto)]
 
 mod cells;
+mod chains;
 mod changes;
+mod indices;
 mod records;
 mod steps;
 mod stores;

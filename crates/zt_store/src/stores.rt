@@ -9,12 +9,15 @@ ghost use Rattle.zt_rows.specs.Settle.{is_child_job_of, is_child_process_of};
 ghost use Rattle.zt_rows.specs.State.{row, put};
 ghost use Rattle.zt_rows.specs.Support.{support_count};
 ghost use Rattle.zt_rows.specs.Tests.{count_row};
+ghost use Rattle.zt_store.specs.Chains.{IsNext};
+ghost use Rattle.zt_store.specs.Finding.{is_at, is_for, is_on, waits_where};
 ghost use Rattle.zt_store.specs.Numbers.{keeps_itself, keeps_tasks};
 ghost use Rattle.zt_store.specs.Places.{Keeps, fits, fits_row, no_places};
 ghost use Rattle.zt_store.specs.Seen.{Stored, standing};
 ghost use Rattle.zt_store.specs.Walks.{IsFirst};
 
 use crate::cells::Cells;
+use crate::indices::{Indexed, Sought, koid_bucket, next_on, next_wait};
 use crate::records::Record;
 use crate::tallies::{Numbers, Tally};
 use crate::walks::{has_room, key_after};
@@ -31,11 +34,13 @@ const ROOT_JOB: Koid = Koid(1024);
 pub struct Store {
     cells: Cells,
     tally: Tally,
+    index: Indexed,
 }
 
 impl Model for Store {
     ghost use Rattle.std.specs.Prelude.{length};
-    ghost use Rattle.zt_store.specs.Seen.{Stored, IsTallied, NamesFew};
+    ghost use Rattle.zt_store.specs.Indexed.{IsStore};
+    ghost use Rattle.zt_store.specs.Seen.{Stored};
 
     ghost Value = { Stored };
 
@@ -44,7 +49,7 @@ impl Model for Store {
       places = record { shelves = s.cells.shelves; koids = length s.tally };
     } };
 
-    ghost invariant = { λ s. IsTallied s.cells.state s.tally × NamesFew s.cells.state };
+    ghost invariant = { λ s. IsStore s.cells s.tally s.index };
 }
 
 impl Store {
@@ -55,6 +60,7 @@ impl Store {
         Store {
             cells: Cells::hollow(alloc),
             tally: Tally::new(alloc),
+            index: Indexed::new(alloc),
         }
     }
 
@@ -157,6 +163,47 @@ impl Store {
         self.cells.first_packet(port)
     }
 
+    /// The least number above the low one, or of all, of a wait that the process made on the handle. It takes no
+    /// memory, and looks at waits that share a bucket with the handle alone.
+    pub fn wait_on(&self, process: Koid, handle: HandleValue, low: Option<u64>) -> Option<u64>
+        ensures { IsNext (waits_where self.now.state (is_on process handle)) low result }
+    {
+        let index = self.index.index();
+        next_on(&self.cells, &index.handles, process, handle, low)
+    }
+
+    /// The least number above the low one, or of all, of a wait for the port. It takes no memory, and looks at waits
+    /// that share a bucket with the port alone.
+    pub fn wait_for(&self, port: Koid, low: Option<u64>) -> Option<u64>
+        ensures { IsNext (waits_where self.now.state (is_for port)) low result }
+    {
+        let bucket = koid_bucket(port);
+        let index = self.index.index();
+        next_wait(
+            &self.cells,
+            &index.ports,
+            bucket,
+            Sought::For(port),
+            low,
+        )
+    }
+
+    /// The least number above the low one, or of all, of a wait on a handle that names the object. It takes no memory,
+    /// and looks at waits that share a bucket with the object alone.
+    pub fn wait_at(&self, koid: Koid, low: Option<u64>) -> Option<u64>
+        ensures { IsNext (waits_where self.now.state (is_at self.now.state koid)) low result }
+    {
+        let bucket = koid_bucket(koid);
+        let index = self.index.index();
+        next_wait(
+            &self.cells,
+            &index.objects,
+            bucket,
+            Sought::At(koid),
+            low,
+        )
+    }
+
     /// The object of the koid. It takes no memory.
     fn object(&self, koid: Koid) -> Option<ObjectRow>
         ensures { result ≡ object self.now.state koid }
@@ -202,6 +249,7 @@ impl Store {
         Ok(Store {
             cells: self.cells.copy()?,
             tally: self.tally.copy()?,
+            index: self.index.copy()?,
         })
     }
 
@@ -223,7 +271,8 @@ impl Store {
         ensures kept { Keeps self.old.places self.new.places }
         ensures made { OnOk result (fits_row self.new.places key (option_copied row.entry) ≡ true) }
     {
-        let asked = key;
+        let (asked, indexed) = (key, key);
+        self.index.grow_for(indexed)?;
         self.cells.make_place(key)?;
         self.tally.grow_if(asked, row)
     }
@@ -237,8 +286,9 @@ impl Store {
         ensures fit { fits_row self.new.places key kept.new ≡ true }
         ensures suited { SuitsKey key kept.new }
     {
-        let (came, went) = (key, key);
+        let (came, went, indexed) = (key, key, key);
         self.cells.limits();
+        self.index.follow(&self.cells, indexed, kept);
         self.tally.raise_if(came, kept);
         self.cells.exchange(key, kept);
         self.tally.lower_if(went, kept);

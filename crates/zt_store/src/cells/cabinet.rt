@@ -1,6 +1,7 @@
-ghost use Rattle.std.specs.Prelude.{◌≡◌, ◌≤◌, ◌<◌, ◌+◌, ◌^◌, ℕ, true, false, IfOk, OnOk, OnErr};
+ghost use Rattle.std.specs.Prelude.{◌≡◌, ◌≤◌, ◌<◌, ◌+◌, ◌^◌, ℕ, true, false, length, IfOk, OnOk, OnErr};
 ghost use Rattle.std.specs.Option.{option_copied};
 ghost use Rattle.zt_store.specs.Cabinets.{cabinet_of, look, places_in, shelves_of, Exchanged, MadeFor, Widened};
+ghost use Rattle.zt_store.specs.Indexed.{waits_after};
 ghost use Rattle.zt_store.specs.Shelves.{has_place, length_at, place_of};
 
 use crate::cells::entries::Entries;
@@ -108,6 +109,7 @@ impl Cabinet {
         requires absent { length_at (shelves_of self.old) key ≤ place_of key }
         requires near { place_of key < 2 ^ 62 }
         ensures widened { Widened self.old self.new }
+        ensures waits { length self.new.waits ≤ waits_after key (length self.old.waits) }
         ensures ok { OnOk result (MadeFor key self.old self.new) }
         ensures err { OnErr result (places_in self.new ≡ places_in self.old) }
     {

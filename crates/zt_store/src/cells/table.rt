@@ -60,6 +60,7 @@ impl Table {
         requires { length self.old ≤ len }
         ensures cells { (n : ℕ) → cell self.new n ≡ cell self.old n }
         ensures longer { length self.old ≤ length self.new }
+        ensures bound { length self.new ≤ len }
         ensures ok { OnOk result (length self.new ≡ len) }
         ensures err { OnErr result (self.new ≡ self.old) }
     {

@@ -1,14 +1,18 @@
 use Rattle.std.proofs.Common.{sym, ap, ◌∙◌, subst}
 use Rattle.std.proofs.lemmas.Result.{on_ok_weaker}
 use Rattle.std.specs.List.{fold}
+use Rattle.zt_rows.specs.Consistent.{IsConsistent}
 use Rattle.zt_rows.specs.Reads.{waits}
 use Rattle.zt_rows.specs.Settle.{fire}
 use Rattle.zt_cascade.specs.Firing.{HasRoomToFire}
 use Rattle.zt_cascade.proofs.FiringLaws.{room-refresh, settled}
 use Rattle.zt_cascade.proofs.settling.settle_all.Goals as goal
 
-pub fire_all-requires : goal.fire_all-requires
-fire_all-requires c = subst HasRoomToFire (sym c.in_ok-renew_near.ensures.ok) (room-refresh c.args.step.now.current c.requires.room)
+pub fire_all-requires-clause-began : goal.fire_all-requires-clause-began
+fire_all-requires-clause-began c = subst IsConsistent (sym c.in_ok-renew_near.ensures.ahead.beginning) c.requires.began
+
+pub fire_all-requires-clause-room : goal.fire_all-requires-clause-room
+fire_all-requires-clause-room c = subst HasRoomToFire (sym c.in_ok-renew_near.ensures.ok) (room-refresh c.args.step.now.current c.requires.room)
 
 pub returns-clause-ok : goal.returns-clause-ok
 returns-clause-ok c =

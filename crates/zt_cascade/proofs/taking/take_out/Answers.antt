@@ -2,21 +2,11 @@ use Rattle.std.proofs.Common.{ap, ◌∙◌}
 use Rattle.zt_rows.specs.Tests.{among}
 use Rattle.zt_cascade.specs.Leaving.{IsPartly}
 use Rattle.zt_cascade.proofs.LeavingLaws.{partly-then}
-use Rattle.zt_cascade.proofs.TakingLaws.{partly-number, partly-port, taken-out, taken-noted}
+use Rattle.zt_cascade.proofs.TakingLaws.{partly-port, taken-out, taken-noted}
 use Rattle.zt_cascade.proofs.taking.take_out.Goals as goal
 
-pub take_waits-requires-clause-number : goal.take_waits-requires-clause-number
-take_waits-requires-clause-number c =
-    let x = c.args.koid in
-    let S = c.args.step.now.current in
-    let A = c.take_row.new.step.current in
-    let B = c.take_messages.new.step.current in
-    let C = c.take_packets.new.step.current in
-    let ac : IsPartly x A C = partly-then x A B C c.in_ok-take_messages.ensures.partly c.in_ok-take_packets.ensures.partly in
-    partly-number x S C (partly-then x S A C c.in_ok-take_row.ensures.partly ac) c.requires.waits
-
-pub take_waits-requires-clause-port : goal.take_waits-requires-clause-port
-take_waits-requires-clause-port c =
+pub take_waits-requires : goal.take_waits-requires
+take_waits-requires c =
     let x = c.args.koid in
     let S = c.args.step.now.current in
     let A = c.take_row.new.step.current in

@@ -1,6 +1,6 @@
-use Rattle.std.proofs.Common.{◌||◌, refl, sym, ap, ◌∙◌}
+use Rattle.std.proofs.Common.{◌||◌, None, Some, refl, sym, ap, ◌∙◌}
 use Rattle.zt_rows.specs.Tests.{any_row}
-use Rattle.zt_signals.proofs.ColumnLaws.{IsColumn, is_dropped, drop-start, any-start, drop-next, any-next, drop-end, any-end}
+use Rattle.zt_signals.proofs.ColumnLaws.{IsColumn, is_dropped, drop-start, any-start, next-that, drop-next, any-next, drop-end, any-end}
 use Rattle.zt_ports.specs.Cancelled.{is_cancelled_packet}
 use Rattle.zt_ports.specs.Walks.{packet_key, packet_index}
 use Rattle.zt_ports.proofs.PacketLaws.{cancelled-column}
@@ -28,12 +28,12 @@ loop-number-preserved c =
     record {
       advanced = (
         c.in_ok-told.ensures.ok.0 ∙ c.loop-number.invariant.advanced.0,
-        c.in_ok-told.ensures.ok.1 ∙ sym (drop-next (packet_key x) (packet_index x) test column S T c.loop-number.low so_far c.in-Some.number c.in-Some.ensures),
+        c.in_ok-told.ensures.ok.1 ∙ sym (drop-next (packet_key x) (packet_index x) test column S T c.loop-number.low so_far c.in-Some.number (next-that test T (packet_key x) c.loop-number.low (Some c.in-Some.number) c.in-Some.ensures)),
       );
       any =
           ap (λ b. b || c.in_ok-told.told) c.loop-number.invariant.any
           ∙ ap (λ b. any_row (is_dropped (packet_index x) test c.loop-number.low) S || b) c.in_ok-told.ensures.told
-          ∙ any-next (packet_key x) (packet_index x) test column S T c.loop-number.low so_far c.in-Some.number c.in-Some.ensures;
+          ∙ any-next (packet_key x) (packet_index x) test column S T c.loop-number.low so_far c.in-Some.number (next-that test T (packet_key x) c.loop-number.low (Some c.in-Some.number) c.in-Some.ensures);
       kept = λ R fit. c.in_ok-told.ensures.kept R (c.loop-number.invariant.kept R fit);
     }
 
@@ -43,7 +43,7 @@ returns-clause-ok c =
     let test = is_cancelled_packet x c.args.process c.args.handle c.args.key in
     let column : IsColumn (packet_key x) (packet_index x) test = cancelled-column x c.args.process c.args.handle c.args.key in (
       c.loop-number.invariant.advanced.0,
-      drop-end (packet_key x) (packet_index x) test column c.args.step.now.current c.loop-number.step.current c.loop-number.low c.loop-number.invariant.advanced.1 c.in_default.ensures,
+      drop-end (packet_key x) (packet_index x) test column c.args.step.now.current c.loop-number.step.current c.loop-number.low c.loop-number.invariant.advanced.1 (next-that test c.loop-number.step.current (packet_key x) c.loop-number.low None c.in_default.ensures),
     )
 
 pub returns-clause-any : goal.returns-clause-any
@@ -52,4 +52,4 @@ returns-clause-any c =
     let test = is_cancelled_packet x c.args.process c.args.handle c.args.key in
     let column : IsColumn (packet_key x) (packet_index x) test = cancelled-column x c.args.process c.args.handle c.args.key in
     c.loop-number.invariant.any
-    ∙ any-end (packet_key x) (packet_index x) test column c.args.step.now.current c.loop-number.step.current c.loop-number.low c.loop-number.invariant.advanced.1 c.in_default.ensures
+    ∙ any-end (packet_key x) (packet_index x) test column c.args.step.now.current c.loop-number.step.current c.loop-number.low c.loop-number.invariant.advanced.1 (next-that test c.loop-number.step.current (packet_key x) c.loop-number.low None c.in_default.ensures)

@@ -3,6 +3,7 @@ use Rattle.zt_store.specs.Cabinets.{shelves_of}
 use Rattle.zt_store.specs.Seen.{Shelved}
 use Rattle.zt_store.specs.Shelves.{has_place}
 use Rattle.zt_store.proofs.CellsLaws.{seen_as, there-place, length_at-few, state-widened, kept-widened}
+use Rattle.zt_store.proofs.IndexLaws.{waits-made}
 use Rattle.zt_store.proofs.cells.Cells.make_place.Goals as goal
 
 pub returns-then-place-len-clause-made : goal.returns-then-place-len-clause-made
@@ -36,3 +37,9 @@ pub returns-clause-made : goal.returns-clause-made
 returns-clause-made c =
     let there = c.in_ok-grow.ensures.ok.there in
     there-place (shelves_of c.grow.new.self) c.args.key (omega arith)
+
+pub returns-in_err-grow-clause-waits : goal.returns-in_err-grow-clause-waits
+returns-in_err-grow-clause-waits c = waits-made c.self.inside.cabinet c.grow.new.self c.args.self.now c.args.key c.self.view_is c.grow.ensures.waits
+
+pub returns-clause-waits : goal.returns-clause-waits
+returns-clause-waits c = waits-made c.self.inside.cabinet c.grow.new.self c.args.self.now c.args.key c.self.view_is c.grow.ensures.waits

@@ -5,4 +5,4 @@ use Rattle.zt_store.proofs.stores.Store.child_processes.Goals as goal
 
 pub returns : goal.returns
 returns c =
-    processes-counted c.self.inside.cells.state c.args.self.now.state c.self.inside.tally c.args.koid c.at.result (ap (λ (s : Stored). s.state) c.self.view_is) c.self.invariant.0 c.at.ensures
+    processes-counted c.self.inside.cells.state c.args.self.now.state c.self.inside.tally c.args.koid c.at.result (ap (λ (s : Stored). s.state) c.self.view_is) c.self.invariant.tallied c.at.ensures

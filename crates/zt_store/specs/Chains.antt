@@ -1,0 +1,91 @@
+-- Numbered items in buckets, each in one or in none, and what comes next in a bucket: the least item above a low one.
+use Rattle.std.specs.Prelude.{◌≡◌, ◌<◌, ◌≤◌, ◌^◌, ◌==◌, ℕ, Bool, true, false, ⊤, if◌then◌else◌, List, length, map, slice_index_or, Option, None, Some, IfSome}
+use Rattle.zt_store.specs.declared.chains.Link.{Link}
+use Rattle.zt_store.specs.declared.chains.Ends.{Ends}
+
+-- ---- what comes next, in an order
+
+-- behind the low one, if there is a low one
+abbrev pub IsBehind : (ℕ → ℕ → Type 0) → Option ℕ → ℕ → Type 0
+IsBehind lt None n = ⊤
+IsBehind lt (Some low) n = lt low n
+
+-- before the one that was found, if one was found
+abbrev pub IsShortOf : (ℕ → ℕ → Type 0) → Option ℕ → ℕ → Type 0
+IsShortOf lt None n = ⊤
+IsShortOf lt (Some found) n = lt n found
+
+-- what was found passes and is behind the low one; nothing between passes, and where nothing was found, nothing
+-- behind the low one passes
+abbrev pub IsNextBy : (ℕ → ℕ → Type 0) → (ℕ → Bool) → Option ℕ → Option ℕ → Type 0
+IsNextBy lt passes low found =
+    IfSome found (λ n. IsBehind lt low n × (passes n ≡ true))
+    × ((m : ℕ) → IsBehind lt low m → IsShortOf lt found m → passes m ≡ false)
+
+-- the least number above the low one that passes, or the least of all; none where there is none
+abbrev pub IsNext : (ℕ → Bool) → Option ℕ → Option ℕ → Type 0
+IsNext passes low found = IsNextBy (λ a b. a < b) passes low found
+
+-- the greatest number below the high one that passes, or the greatest of all; none where there is none
+abbrev pub IsPrevious : (ℕ → Bool) → Option ℕ → Option ℕ → Type 0
+IsPrevious passes high found = IsNextBy (λ a b. b < a) passes high found
+
+-- ---- buckets
+
+-- the bucket that an item is in
+abbrev pub bucket_at : List (Option ℕ) → ℕ → Option ℕ
+bucket_at all n = slice_index_or all n None
+
+abbrev pub is_bucket : ℕ → Option ℕ → Bool
+is_bucket b None = false
+is_bucket b (Some c) = c == b
+
+-- the item is in the bucket
+abbrev pub is_in : List (Option ℕ) → ℕ → ℕ → Bool
+is_in all b n = is_bucket b (bucket_at all n)
+
+-- ---- links
+
+abbrev pub no_link : Link
+no_link = record { bucket = None; before = None; next = None }
+
+abbrev pub no_ends : Ends
+no_ends = record { first = None; last = None }
+
+abbrev pub buckets : List Link → List (Option ℕ)
+buckets links = map (λ link. link.bucket) links
+
+-- what is linked as the next behind the low one, or as the first of the bucket
+abbrev pub next_of : List Link → List Ends → ℕ → Option ℕ → Option ℕ
+next_of links ends b None = (slice_index_or ends b no_ends).first
+next_of links ends b (Some n) = (slice_index_or links n no_link).next
+
+-- what is linked as the one before the high one, or as the last of the bucket
+abbrev pub before_of : List Link → List Ends → ℕ → Option ℕ → Option ℕ
+before_of links ends b None = (slice_index_or ends b no_ends).last
+before_of links ends b (Some n) = (slice_index_or links n no_link).before
+
+-- the same item, or none in the same bucket
+abbrev pub is_slot : ℕ → Option ℕ → ℕ → Option ℕ → Bool
+is_slot bucket None b None = b == bucket
+is_slot bucket (Some low) b (Some n) = n == low
+is_slot bucket _ b _ = false
+
+-- none, or an item that passes
+abbrev pub IsWithin : (ℕ → Bool) → Option ℕ → Type 0
+IsWithin passes low = IfSome low (λ n. passes n ≡ true)
+
+-- each item is linked to those beside it, and each bucket to its first and its last one
+pub record IsChained (links : List Link) (ends : List Ends) : Type 0 where
+  pub nexts : (b : ℕ) (low : Option ℕ) → IsWithin (is_in (buckets links) b) low → IsNext (is_in (buckets links) b) low (next_of links ends b low)
+  pub befores : (b : ℕ) (high : Option ℕ) → IsWithin (is_in (buckets links) b) high → IsPrevious (is_in (buckets links) b) high (before_of links ends b high)
+
+-- the items are chained, and where there are items there are the ends of all buckets
+pub record AreChains (links : List Link) (ends : List Ends) : Type 0 where
+  pub chained : IsChained links ends
+  pub ended : 0 < length links → 2 ^ 14 ≤ length ends
+
+-- where a search begins: an item that passes or none, with nothing that passes between the low one and it
+abbrev pub IsBesides : (ℕ → Bool) → Option ℕ → Option ℕ → Type 0
+IsBesides passes low found =
+    IsWithin passes found × ((m : ℕ) → IsBehind (λ a b. a < b) low m → IsShortOf (λ a b. a < b) found m → passes m ≡ false)

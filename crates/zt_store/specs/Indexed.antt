@@ -1,0 +1,88 @@
+-- The waits on a handle, those for a port and those at an object, by the rows: and the buckets by which a store
+-- finds them.
+use Rattle.std.specs.Prelude.{max, ◌≡◌, ◌+◌, ◌/◌, ◌%◌, ◌≤◌, ◌<◌, ◌==◌, ◌&&◌, ⊤, ℕ, Bool, false, List, length, Option, None, Some, slice_set}
+use Rattle.std.specs.Option.{option_and_then, option_map, option_map_or}
+use Rattle.zt_rows.specs.declared.keys.RowKey.{RowKey}
+use Rattle.zt_rows.specs.declared.keys.RowKey.TheVariants as key
+use Rattle.zt_rows.specs.declared.rows.Held.{Held}
+use Rattle.zt_rows.specs.declared.rows.Wait.{Wait}
+use Rattle.zt_rows.specs.Reads.{entry, wait}
+use Rattle.zt_rows.specs.State.{State}
+use Rattle.zt_store.specs.declared.indices.Index.{Index}
+use Rattle.zt_store.specs.declared.indices.Indexed.{Indexed}
+use Rattle.zt_store.specs.declared.indices.Indexed.TheVariants as indexed
+use Rattle.zt_store.specs.declared.indices.Sought.{Sought}
+use Rattle.zt_store.specs.declared.indices.Sought.TheVariants as sought
+use Rattle.zt_store.specs.Chains.{bucket_at}
+use Rattle.zt_store.specs.Finding.{is_at, is_for, is_on}
+use Rattle.zt_store.specs.Seen.{Shelved, IsTallied, NamesFew}
+use Rattle.zt_store.specs.declared.tallies.Numbers.{Numbers}
+
+abbrev pub is_sought : State → Sought → Wait → Bool
+is_sought S (sought.On p h) = is_on p h
+is_sought S (sought.For x) = is_for x
+is_sought S (sought.At x) = is_at S x
+
+-- ---- buckets
+
+abbrev pub handle_bucket : ℕ → ℕ → ℕ
+handle_bucket p h = (p % 16384 + h / 4) % 16384
+
+abbrev pub koid_bucket : ℕ → ℕ
+koid_bucket x = x % 16384
+
+abbrev pub bucket_on : Wait → ℕ
+bucket_on w = handle_bucket w.process w.handle
+
+abbrev pub bucket_for : Wait → ℕ
+bucket_for w = koid_bucket w.port
+
+abbrev pub held_bucket : Held → ℕ
+held_bucket held = koid_bucket held.koid
+
+-- the bucket of what the wait's handle names, or none where there is no such handle
+abbrev pub bucket_of : State → Wait → Option ℕ
+bucket_of S w = option_map held_bucket (entry S w.process w.handle)
+
+-- so many waits can be put into buckets
+pub record IsRoomy (waits : ℕ) (index : Index) : Type 0 where
+  pub on : waits ≤ length index.handles
+  pub to : waits ≤ length index.ports
+  pub at : waits ≤ length index.objects
+
+-- each wait is in the bucket of its handle, in that of its port, and in that of what its handle names; and as many
+-- waits as there are places for can be put into buckets
+pub record IsIndexed (s : Shelved) (index : Index) : Type 0 where
+  pub on : (n : ℕ) → bucket_at index.handles n ≡ option_map bucket_on (wait s.state n)
+  pub to : (n : ℕ) → bucket_at index.ports n ≡ option_map bucket_for (wait s.state n)
+  pub at : (n : ℕ) → bucket_at index.objects n ≡ option_and_then (bucket_of s.state) (wait s.state n)
+  pub roomy : IsRoomy s.shelves.waits index
+
+-- the index with the wait of this number, or none, in its buckets
+abbrev pub index_with : State → Index → ℕ → Option Wait → Index
+index_with S index n w = record {
+  handles = slice_set index.handles n (option_map bucket_on w);
+  ports = slice_set index.ports n (option_map bucket_for w);
+  objects = slice_set index.objects n (option_and_then (bucket_of S) w);
+}
+
+-- how many places for waits there can be after those of the key were made
+abbrev pub waits_after : RowKey → ℕ → ℕ
+waits_after (key.Wait n) waits = max waits (n + 1)
+waits_after _ waits = waits
+
+-- the wait under the key, if it is one of a wait, can be put into buckets
+abbrev pub HasBuckets : RowKey → Index → Type 0
+HasBuckets (key.Wait n) index = IsRoomy (n + 1) index
+HasBuckets _ index = ⊤
+
+-- ---- the parts of a store
+
+abbrev pub index_in : Indexed → Index
+index_in (indexed.Waits index) = index
+
+-- the numbers by koid and the buckets of the waits are those of the rows
+pub record IsStore (s : Shelved) (list : List Numbers) (waits : Indexed) : Type 0 where
+  pub tallied : IsTallied s.state list
+  pub few : NamesFew s.state
+  pub indexed : IsIndexed s (index_in waits)
