@@ -1,1 +1,4 @@
 pub mod Accounts
+pub mod Sharing
+pub mod Seats
+pub mod Desks

@@ -2,3 +2,10 @@
 #![tactic(auto)]
 
 pub mod account;
+mod desk;
+mod passes;
+mod shared;
+mod turns;
+
+pub use passes::{Beginning, Calls, Pass, Said};
+pub use shared::Shared;

@@ -1,0 +1,135 @@
+ghost use Rattle.std.specs.Prelude.{◌≡◌, ◌≤◌, ◌<◌, ◌++◌, ◌∷◌, [], Some, IfOk, IfErr, IsErrOf, OnOk, length, map, take, vec_len, vec_capacity, ◌↔◌, ◌≢◌};
+ghost use Rattle.once_cell.specs.Once.{cell_name};
+ghost use Rattle.zt_rows.specs.declared.refusals.Refusal.TheVariants as refusal;
+ghost use Rattle.zt_history.specs.Tree.{Tree};
+ghost use Rattle.zt_book.specs.Session.{opening_session};
+ghost use Rattle.zt_shared.specs.Sharing.{IsFresh, first_parts, begun};
+ghost use Rattle.zt_shared.specs.Openings.{IsNamed, calls_in};
+
+use crate::account::{Blank, Naming};
+use crate::desk::Desk;
+use crate::passes::{Beginning, Calls, Pass, Said, Seat};
+use crate::shared::Shared;
+use once_cell::race::{Note, OnceBox};
+use std::alloc::{AllocError, Global};
+use std::marker::Model;
+use std::sync::Mutex;
+use zt_book::{Book, CLIENTS};
+use zt_history::History;
+use zt_rows::{Call, Items, Koid, Moment, Refusal};
+
+/// What a shared book is made of, before any type names it: an empty base cell, and an account without rows for each
+/// of the four clients, also those beyond the number of clients.
+#[derive(Drop)]
+pub struct Blanks {
+    clients: u8,
+    base: OnceBox<Calls>,
+    first: Blank<Said>,
+    second: Blank<Said>,
+    third: Blank<Said>,
+    fourth: Blank<Said>,
+}
+
+impl Model for Blanks {
+    ghost use Rattle.std.specs.Prelude.{◌≤◌};
+    ghost use Rattle.once_cell.specs.Once.{cell_name};
+    ghost use Rattle.zt_shared.specs.Openings.{Unopened};
+
+    ghost Value = { Unopened };
+
+    ghost view = { λ b. record { clients = b.clients; base = cell_name b.base; first = b.first; second = b.second; third = b.third; fourth = b.fourth } };
+
+    ghost invariant = { λ b. b.clients ≤ 4 };
+}
+
+impl Blanks {
+    /// The blanks of a shared book of so many clients.
+    pub fn new(alloc: Global, clients: u8) -> Result<Blanks, Refusal>
+        ensures clients { IfOk result (λ blanks. blanks.clients ≡ clients) }
+        ensures few { OnOk result (clients ≤ 4) }
+        ensures too_many { IsErrOf result refusal.TooManyClients ↔ (4 < clients) }
+        ensures refusals { IfErr result (λ why. why ≢ refusal.TooManyClients → why ≡ refusal.OutOfMemory) }
+    {
+        if clients > CLIENTS {
+            return Err(Refusal::TooManyClients);
+        }
+        match blanks(alloc, clients) {
+            Ok(blanks) => Ok(blanks),
+            Err(_) => Err(Refusal::OutOfMemory),
+        }
+    }
+}
+
+/// The blanks of so many clients, who are few.
+fn blanks(alloc: Global, clients: u8) -> Result<Blanks, AllocError>
+    requires { clients ≤ 4 }
+    ensures { IfOk result (λ blanks. blanks.clients ≡ clients) }
+{
+    let first = Blank::new(alloc)?;
+    let second = Blank::new(alloc)?;
+    let third = Blank::new(alloc)?;
+    let fourth = Blank::new(alloc)?;
+    Ok(Blanks {
+        clients,
+        base: OnceBox::new(alloc),
+        first,
+        second,
+        third,
+        fourth,
+    })
+}
+
+/// A shared book at the opening, and a pass for each of its clients, in order.
+pub fn open<A: Naming + Beginning, B: Naming, C: Naming, D: Naming>(
+    alloc: Global,
+    blanks: Blanks,
+) -> Result<(Shared<A, B, C, D>, Vec<Pass<A, B, C, D>>), Refusal>
+    requires base { (blanks.base ≡ A.base) × (blanks.clients ≡ A.clients) }
+    requires first { IsNamed A.name A.parts A.cells blanks.first }
+    requires second { IsNamed B.name B.parts B.cells blanks.second }
+    requires third { IsNamed C.name C.parts C.cells blanks.third }
+    requires fourth { IsNamed D.name D.parts D.cells blanks.fourth }
+    ensures passes { IfOk result (λ opened. opened.1.items ≡ first_parts blanks.clients (opening_session blanks.clients)) }
+    ensures refused { IfErr result (λ why. why ≡ refusal.OutOfMemory) }
+{
+    let book = Book::new(alloc, blanks.clients)?;
+    match open_book::<A, B, C, D>(alloc, blanks, book) {
+        Ok(opened) => Ok(opened),
+        Err((_, why)) => Err(why),
+    }
+}
+
+/// A shared book that goes on from a loaded book, and a pass for each of its clients, in order. Refused, the book comes
+/// back.
+pub fn open_book<A: Naming + Beginning, B: Naming, C: Naming, D: Naming>(
+    alloc: Global,
+    blanks: Blanks,
+    book: Book,
+) -> Result<(Shared<A, B, C, D>, Vec<Pass<A, B, C, D>>), (Book, Refusal)>
+    requires base { (blanks.base ≡ A.base) × (blanks.clients ≡ A.clients) }
+    requires first { IsNamed A.name A.parts A.cells blanks.first }
+    requires second { IsNamed B.name B.parts B.cells blanks.second }
+    requires third { IsNamed C.name C.parts C.cells blanks.third }
+    requires fourth { IsNamed D.name D.parts D.cells blanks.fourth }
+    requires fresh { IsFresh blanks.clients book }
+    ensures passes { IfOk result (λ opened. opened.1.items ≡ first_parts blanks.clients book.session) }
+    ensures refused { IfErr result (λ back. (back.0 ≡ book) × (back.1 ≡ refusal.OutOfMemory)) }
+{
+    let Ok(mut passes) = Vec::with_capacity(alloc, 4) else {
+        return Err((book, Refusal::OutOfMemory));
+    };
+    let Ok(mut told) = note_base(alloc, &blanks.base, book.history()) else {
+        return Err((book, Refusal::OutOfMemory));
+    };
+    let Blanks { clients, base, first, second, third, fourth } = blanks;
+    let (first, one) = first.open::<A>(alloc);
+    let (second, two) = second.open::<B>(alloc);
+    let (third, three) = third.open::<C>(alloc);
+    let (fourth, four) = fourth.open::<D>(alloc);
+    passes.push_reserved((Seat::First(one), told.again()));
+    passes.push_reserved((Seat::Second(two), told.again()));
+    passes.push_reserved((Seat::Third(three), told.again()));
+    passes.push_reserved((Seat::Fourth(four), told.again()));
+    let desk = Desk { book, base, told, first, second, third, fourth, alloc };
+    Ok((Shared { lock: Mutex::new(desk) }, passes))
+}
