@@ -130,21 +130,22 @@ module _ (client : ℕ) (side : Sides → List (Command × Answer)) (with_side :
     (at : (log : List Recorded) → side (sides_of log) ≡ told_to client log)
     (more : (log : List Recorded) (c : Command) (a : Answer) → sides_of (logged log client c a) ≡ with_side (told_to client log ++ (c, a) ∷ []) (sides_of log))
     (same : (s : Sides) → with_side (side s) s ≡ s)
-    (base clients : ℕ) (told : Note (List (ℕ × Call))) (M N : Session) (log log' : List Recorded) (s : Sides) (ours : List (Command × Answer)) (desk : IsDesk base clients told M log s) where
+    (base clients cell : ℕ) (told : Note (List (ℕ × Call))) (M N : Session) (log log' : List Recorded) (s : Sides) (ours : List (Command × Answer)) (desk : IsDesk base clients cell told M log s) where
   pub desk-answered : (c : Command) (a : Answer) → serve M client c ≡ Ok (a, N) → log' ≡ logged log client c a → ours ≡ side s ++ (c, a) ∷ []
-      → length N.clients ≡ length M.clients → IsDesk base clients told N log' (with_side ours s)
+      → length N.clients ≡ length M.clients → IsDesk base clients cell told N log' (with_side ours s)
   desk-answered c a served grown mine kept = record {
-    cell = desk.cell;
+    named = desk.named;
+    noted = desk.noted;
     known = desk.known;
     replays = rw grown (replays-more (begun clients told.known) M N log client c a desk.replays served);
-    sides =
+    rows =
         ap (λ w. with_side w s) mine
-        ∙ (ap (λ z. with_side (side z ++ (c, a) ∷ []) z) desk.sides
+        ∙ (ap (λ z. with_side (side z ++ (c, a) ∷ []) z) desk.rows
         ∙ (ap (λ w. with_side (w ++ (c, a) ∷ []) (sides_of log)) (at log) ∙ (sym (more log c a) ∙ ap sides_of (sym grown))));
-    clients = kept ∙ desk.clients;
+    many = kept ∙ desk.many;
   }
 
-  pub desk-same : standing N log' ≡ standing M log → ours ≡ side s → IsDesk base clients told N log' (with_side ours s)
+  pub desk-same : standing N log' ≡ standing M log → ours ≡ side s → IsDesk base clients cell told N log' (with_side ours s)
   desk-same still mine =
       let here : N ≡ M = ap (λ z. z.session) still in
       let there : log' ≡ log = ap (λ z. z.log) still in
@@ -153,6 +154,6 @@ module _ (client : ℕ) (side : Sides → List (Command × Answer)) (with_side :
   pub desk-turned : (c : Command) (r : Result Answer Refusal)
       → IfOk r (λ a. serve M client c ≡ Ok (a, N)) → IfOk r (λ a. log' ≡ logged log client c a) → IfOk r (λ a. ours ≡ side s ++ (c, a) ∷ [])
       → length N.clients ≡ length M.clients → OnErr r ((standing N log' ≡ standing M log) × (ours ≡ side s))
-      → IsDesk base clients told N log' (with_side ours s)
+      → IsDesk base clients cell told N log' (with_side ours s)
   desk-turned c (Ok a) served grown mine kept refused = desk-answered c a served grown mine kept
   desk-turned c (Err why) served grown mine kept refused = desk-same refused.0 refused.1

@@ -16,10 +16,10 @@ pub record Unopened : Type 0 where
   pub fourth : Unnamed
 
 -- a naming type names this account: its ledger, which is in one part, and its cells
-pub record IsNamed (name parts : ℕ) (cells : List ℕ) (blank : Unnamed) : Type 0 where
+pub record IsNamed (name parts : ℕ) (names : List ℕ) (blank : Unnamed) : Type 0 where
   pub ledger : blank.ledger ≡ name
   pub whole : parts ≡ 1
-  pub cells : blank.cells ≡ cells
+  pub cells : blank.cells ≡ names
 
 -- a moment's call, with its process
 abbrev pub call_of : Made → ℕ × Call

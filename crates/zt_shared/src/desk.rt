@@ -30,6 +30,7 @@ pub(crate) struct Desk<A: Naming + Beginning, B: Naming, C: Naming, D: Naming> {
 }
 
 impl<A: Naming + Beginning, B: Naming, C: Naming, D: Naming> Model for Desk<A, B, C, D> {
+    ghost use Rattle.once_cell.specs.Once.{cell_name};
     ghost use Rattle.zt_shared.specs.Sharing.{begun};
     ghost use Rattle.zt_shared.specs.Desks.{Shown, IsDesk};
 
@@ -37,7 +38,7 @@ impl<A: Naming + Beginning, B: Naming, C: Naming, D: Naming> Model for Desk<A, B
 
     ghost view = { λ d. record { base = begun A.clients d.told.known; session = d.book.session; log = d.book.log } };
 
-    ghost invariant = { λ d. IsDesk A.base A.clients d.told d.book.session d.book.log (record { first = d.first; second = d.second; third = d.third; fourth = d.fourth }) };
+    ghost invariant = { λ d. IsDesk A.base A.clients (cell_name d.base) d.told d.book.session d.book.log (record { first = d.first; second = d.second; third = d.third; fourth = d.fourth }) };
 }
 
 impl<A: Naming + Beginning, B: Naming, C: Naming, D: Naming> Desk<A, B, C, D> {

@@ -1,5 +1,5 @@
 //! Two clients of one process, whose answers are worked out by hand; and what a refused request for memory leaves.
-ghost use Rattle.std.specs.Prelude.{◌≡◌, ◌×◌};
+ghost use Rattle.std.specs.Prelude.{◌≡◌};
 ghost use Rattle.zt_shared.specs.Openings.{IsNamed};
 
 use crate::account::Naming;
