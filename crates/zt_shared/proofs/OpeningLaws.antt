@@ -1,14 +1,16 @@
 -- The calls of a loaded tree, and the passes that are handed out.
-use Rattle.std.proofs.Common.{◌≡◌, ℕ, suc, ◌≤◌, ◌<◌, List, [], ◌∷◌, ◌++◌, length, map, take, get_or, refl, ap, sym, ◌∙◌, arith, Ok, Err, Some, None}
+use Rattle.std.proofs.Common.{append_assoc, add-one, ◌+◌, ◌≡◌, ℕ, zero, suc, ◌≤◌, ◌<◌, List, [], ◌∷◌, ◌++◌, length, map, take, get_or, refl, ap, sym, ◌∙◌, arith, Ok, Err, Some, None}
 use Rattle.std.specs.Prelude.{Result, Bool, true, false, Option, slice_get, nat_lt}
+use Rattle.std.specs.List.{filter_map}
 use Rattle.std.proofs.lemmas.List.{append-nil, map-append}
 use Rattle.zt_rows.specs.declared.calls.Answer.{Answer}
+use Rattle.zt_rows.specs.declared.calls.Answer.TheVariants as answer
 use Rattle.zt_rows.specs.declared.calls.Call.{Call}
 use Rattle.zt_rows.specs.declared.refusals.Refusal.{Refusal}
 use Rattle.zt_rows.specs.declared.refusals.Refusal.TheVariants as refusal
 use Rattle.zt_rows.specs.Reads.{runs}
 use Rattle.zt_history.specs.Refusing.{check, ◌>>=◌, call_on, most_moments}
-use Rattle.zt_history.specs.Tree.{Tree, Made, last_moment, state_at, head_at, opening_tree, made_by}
+use Rattle.zt_history.specs.Tree.{Tree, Made, last_moment, state_at, head_at, opening_tree, made_by, called, call_at}
 use Rattle.zt_book.specs.Session.{Session}
 use Rattle.zt_book.specs.Log.{loaded, loaded_behind, loaded_from}
 use Rattle.zt_shared.specs.Sharing.{Part, first_part, first_parts, numbers, begun, begun_over}
@@ -26,4 +28,32 @@ calls-called t b process call y h =
     let made = made_by t.made (head_at t.branches b) process call in
     let few = past (nat_lt (last_moment t) most_moments) refusal.Full _ y h in
     let done = past (runs (state_at t.made (head_at t.branches b)) process) refusal.NoProcess _ y few in
-    ?
+    let e : y ≡ (answer.Called (suc (last_moment t)) made.reply, called t b process call) = cc in
+    ap (λ z. calls_in z.1) e ∙ map-append call_of t.made (made ∷ [])
+
+-- the calls that are loaded are those of the tree, behind those that were there
+calls-behind : (i : ℕ) (t : Tree) (process : ℕ) (call : Call) (r : Result (Answer × Tree) Refusal) (rest : Tree → Result Tree (ℕ × Refusal)) (u : Tree)
+    → loaded_behind i r rest ≡ Ok u → (y : Answer × Tree) × (r ≡ Ok y) × (rest y.1 ≡ Ok u)
+calls-behind i t process call (Ok y) rest u h = (y, refl, h)
+calls-behind i t process call (Err why) rest u h = absurd (let e : Err (i, why) ≡ Ok u = h in cc)
+
+loaded-behind : (calls : List (ℕ × Call)) (i : ℕ) (t u : Tree) → loaded_from i t calls ≡ Ok u → calls_in u ≡ calls_in t ++ calls
+loaded-behind [] i t u h = let e : u ≡ t = cc in ap calls_in e ∙ sym (append-nil (calls_in t))
+loaded-behind ((process, call) ∷ calls) i t u h =
+    let found = calls-behind i t process call (call_on t 0 process call) (λ v. loaded_from (suc i) v calls) u h in
+    let here = calls-called t 0 process call found.0 found.1 in
+    loaded-behind calls (suc i) found.0.1 u found.2 ∙ (ap (λ w. w ++ calls) here ∙ append_assoc (calls_in t) ((process, call) ∷ []) calls)
+
+pub loaded-calls : (calls : List (ℕ × Call)) (t : Tree) → loaded calls ≡ Ok t → calls_in t ≡ calls
+loaded-calls calls t h = loaded-behind calls 0 opening_tree t h
+
+-- ---- the calls of the moments so far, and the next one
+
+next-call : (made : List Made) (i : ℕ) → map call_of (take i made) ++ filter_map (call_at made) (suc i ∷ []) ≡ map call_of (take (suc i) made)
+next-call [] zero = refl
+next-call [] (suc i) = refl
+next-call (e ∷ es) zero = refl
+next-call (e ∷ es) (suc i) = ap (λ ys. call_of e ∷ ys) (next-call es i)
+
+pub next_call : (made : List Made) (i : ℕ) → map call_of (take i made) ++ filter_map (call_at made) ((i + 1) ∷ []) ≡ map call_of (take (i + 1) made)
+next_call made i = rw add-one (next-call made i)

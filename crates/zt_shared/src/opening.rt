@@ -1,6 +1,8 @@
-ghost use Rattle.std.specs.Prelude.{◌≡◌, ◌≢◌, ◌≤◌, ◌<◌, ◌+◌, ◌++◌, [], Some, IfOk, IfErr, IsErrOf, IsSome, OnOk, ◌↔◌, length, vec_len, vec_capacity};
+ghost use Rattle.std.specs.Prelude.{◌≡◌, ◌≢◌, ◌≤◌, ◌<◌, ◌+◌, ◌++◌, ◌∷◌, [], Some, IfOk, IfErr, IsErrOf, IsSome, OnOk, ◌↔◌, length, vec_len, vec_capacity};
+ghost use Rattle.std.specs.List.{filter_map};
 ghost use Rattle.once_cell.specs.Once.{cell_name};
 ghost use Rattle.zt_rows.specs.declared.refusals.Refusal.TheVariants as refusal;
+ghost use Rattle.zt_history.specs.Tree.{call_at};
 ghost use Rattle.zt_book.specs.Session.{opening_session};
 ghost use Rattle.zt_shared.specs.Sharing.{IsFresh, first_parts, begun};
 ghost use Rattle.zt_shared.specs.Openings.{IsNamed, calls_in, part_of};
@@ -197,15 +199,31 @@ fn note_base(
 }
 
 /// The calls of the history's moments, each with its process.
+#[tactic(auto, using(crate::proofs::OpeningLaws::next_call))]
 fn calls_of(alloc: Global, history: &History) -> Result<Vec<(Koid, Call)>, AllocError>
     ensures { IfOk result (λ calls. calls.items ≡ calls_in history.now.tree) }
 {
     let last = history.last();
     let mut calls = Vec::with_capacity(alloc, last.0 as usize)?;
     for at in 0..last.0 {
-        if let Some((process, call)) = history.call_of(Moment(at + 1)) {
-            calls.push((process, call.copy()?))?;
-        }
+        push_call(&mut calls, history, Moment(at + 1))?;
     }
     Ok(calls)
+}
+
+/// Puts an equal call of the moment, if it has one, behind the others.
+fn push_call(
+    calls: &mut Vec<(Koid, Call)>,
+    history: &History,
+    moment: Moment,
+) -> Result<(), AllocError>
+    ensures { OnOk result (calls.new.items ≡ calls.old.items ++ filter_map (call_at history.now.tree.made) (moment ∷ [])) }
+{
+    match history.call_of(moment) {
+        Some((process, call)) => {
+            calls.push((process, call.copy()?))?;
+            Ok(())
+        }
+        None => Ok(()),
+    }
 }
