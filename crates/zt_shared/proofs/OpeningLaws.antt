@@ -11,15 +11,11 @@ use Rattle.zt_rows.specs.declared.refusals.Refusal.TheVariants as refusal
 use Rattle.zt_rows.specs.Reads.{runs}
 use Rattle.zt_history.specs.Refusing.{check, ◌>>=◌, call_on, most_moments}
 use Rattle.zt_history.specs.Tree.{Tree, Made, last_moment, state_at, head_at, opening_tree, made_by, called, call_at}
-use Rattle.zt_book.specs.Session.{Session}
-use Rattle.zt_book.specs.Log.{loaded, loaded_behind, loaded_from}
-use Rattle.zt_shared.specs.Sharing.{Part, first_part, first_parts, numbers, begun, begun_over}
+use Rattle.zt_book.specs.Session.{Session, session_over}
+use Rattle.zt_book.specs.Log.{Kept, loaded, loaded_behind, loaded_from}
+use Rattle.zt_shared.specs.Sharing.{Part, IsFresh, first_part, first_parts, numbers, begun, begun_over}
+use Rattle.zt_shared.proofs.SharingLaws.{past}
 use Rattle.zt_shared.specs.Openings.{call_of, calls_in, part_of}
-
--- an answer behind a check is an answer without it
-past : {A : Type 0} (b : Bool) (why : Refusal) (rest : Result A Refusal) (y : A) → (check b why >>= λ _. rest) ≡ Ok y → rest ≡ Ok y
-past true why rest y h = h
-past false why rest y h = absurd (let e : Err why ≡ Ok y = h in cc)
 
 -- a call adds itself to the calls of a tree
 calls-called : (t : Tree) (b process : ℕ) (call : Call) (y : Answer × Tree) → call_on t b process call ≡ Ok y
@@ -57,3 +53,23 @@ next-call (e ∷ es) (suc i) = ap (λ ys. call_of e ∷ ys) (next-call es i)
 
 pub next_call : (made : List Made) (i : ℕ) → map call_of (take i made) ++ filter_map (call_at made) ((i + 1) ∷ []) ≡ map call_of (take (i + 1) made)
 next_call made i = rw add-one (next-call made i)
+
+-- ---- where a fresh book's log begins, and the passes that are handed out
+
+pub fresh-begun : (clients : ℕ) (book : Kept) → IsFresh clients book → begun clients (Some (calls_in book.session.tree)) ≡ book.session
+fresh-begun clients book fresh =
+    let calls = fresh.loaded.0 in
+    let tree = fresh.loaded.1 in
+    let there : book.session ≡ session_over tree clients = fresh.loaded.3 in
+    let same : calls_in book.session.tree ≡ calls = ap (λ M. calls_in M.tree) there ∙ loaded-calls calls tree fresh.loaded.2 in
+    let read : loaded (calls_in book.session.tree) ≡ Ok tree = ap loaded same ∙ fresh.loaded.2 in
+    ap (begun_over clients) read ∙ sym there
+
+pub handed-out : (clients : ℕ) (base : Session) → clients ≤ 4
+    → ((part_of clients base 1 ++ part_of clients base 2) ++ part_of clients base 3) ++ part_of clients base 4 ≡ first_parts clients base
+handed-out 0 base few = refl
+handed-out 1 base few = refl
+handed-out 2 base few = refl
+handed-out 3 base few = refl
+handed-out 4 base few = refl
+handed-out (suc (suc (suc (suc (suc n))))) base few = absurd (omega arith)
