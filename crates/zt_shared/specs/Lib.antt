@@ -1,1 +1,5 @@
 pub mod Accounts
+pub mod Sharing
+pub mod Seats
+pub mod Desks
+pub mod Openings

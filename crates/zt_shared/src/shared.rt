@@ -1,0 +1,52 @@
+ghost use Rattle.std.specs.Prelude.{◌≡◌, ◌++◌, ◌∷◌, [], IfOk, IfErr, OnErr};
+ghost use Rattle.zt_rows.specs.declared.calls.Command.TheVariants as command;
+ghost use Rattle.zt_shared.specs.Sharing.{IsAnswered, IsRefusedTo, IsPinned};
+
+use crate::account::Naming;
+use crate::desk::Desk;
+use crate::passes::{Beginning, Pass};
+use std::sync::{Mutex, Wait};
+use zt_queries::Frozen;
+use zt_rows::{Answer, Command, Refusal};
+
+/// A book that several clients share. Each has a pass, by which it speaks.
+#[derive(Drop)]
+pub struct Shared<A: Naming + Beginning, B: Naming, C: Naming, D: Naming> {
+    pub(crate) lock: Mutex<Desk<A, B, C, D>>,
+}
+
+impl<A: Naming + Beginning, B: Naming, C: Naming, D: Naming> Shared<A, B, C, D> {
+    /// Answers a command of the pass's client, as one event of the history. It waits for the lock.
+    pub fn ask<R: Wait>(
+        &self,
+        rt: &R,
+        pass: &mut Pass<A, B, C, D>,
+        asked: Command,
+    ) -> Result<Answer, Refusal>
+        ensures who { pass.new.client ≡ pass.old.client }
+        ensures base { pass.new.base ≡ pass.old.base }
+        ensures added { IfOk result (λ said. pass.new.rows ≡ pass.old.rows ++ (asked, said) ∷ []) }
+        ensures answered { IfOk result (IsAnswered pass.new asked) }
+        ensures same { OnErr result (pass.new ≡ pass.old) }
+        ensures refused { IfErr result (IsRefusedTo pass.old asked) }
+    {
+        self.lock.lock(rt).ask(pass, asked)
+    }
+
+    /// Pins the position of the pass's client, as one event of the history, and copies the history there. It waits
+    /// for the lock.
+    pub fn pin<R: Wait>(
+        &self,
+        rt: &R,
+        pass: &mut Pass<A, B, C, D>,
+    ) -> Result<(Answer, Frozen), Refusal>
+        ensures who { pass.new.client ≡ pass.old.client }
+        ensures base { pass.new.base ≡ pass.old.base }
+        ensures added { IfOk result (λ pinned. pass.new.rows ≡ pass.old.rows ++ (command.Pin, pinned.0) ∷ []) }
+        ensures answered { IfOk result (λ pinned. IsPinned pass.new pinned.0 pinned.1) }
+        ensures same { OnErr result (pass.new ≡ pass.old) }
+        ensures refused { IfErr result (IsRefusedTo pass.old command.Pin) }
+    {
+        self.lock.lock(rt).pin(pass)
+    }
+}
