@@ -1,12 +1,16 @@
 //! Calls of processes on branches that are named, and calls in short.
 ghost use Rattle.std.specs.Prelude.{◌<◌, length, IfSome};
 
+use std::alloc::{AllocError, Global};
+use zt_bits::Signals;
 use zt_history::{BranchId, History};
-use zt_rows::{Call, HandleValue, Koid, Moment, Refusal, Reply};
+use zt_rows::{Call, HandleValue, Koid, Moment, Parcel, Refusal, Reply};
 
 pub(super) const ROOT: Koid = Koid(1025);
 
 pub(super) const MAIN: &[u8] = b"main";
+
+pub(super) const FIX: &[u8] = b"fix";
 
 /// The branch of the name.
 #[tactic(auto, using(crate::proofs::Branches::named_within))]
@@ -29,6 +33,11 @@ pub(super) fn ask(
     }
 }
 
+/// Whether the call of the first process on `main` is answered.
+pub(super) fn answers(history: &mut History, call: &Call) -> bool {
+    ask(history, MAIN, ROOT, call).is_ok()
+}
+
 /// The head of the branch of the name.
 pub(super) fn head_of(history: &History, name: &[u8]) -> Option<Moment> {
     match branch_of(history, name) {
@@ -37,8 +46,58 @@ pub(super) fn head_of(history: &History, name: &[u8]) -> Option<Moment> {
     }
 }
 
+/// The first handle of a reply, and the second or the koid that it has besides; 0 where it has none.
+pub(super) fn values_of(reply: Option<&Reply>) -> Option<(u32, u64)> {
+    match reply {
+        Some(Reply::Handle(handle)) => Some((handle.0, 0)),
+        Some(Reply::Handles(first, second)) => Some((first.0, u64::from(second.0))),
+        Some(Reply::Spawned(handle, koid)) => Some((handle.0, koid.0)),
+        _ => None,
+    }
+}
+
 pub(super) fn close(handle: u32) -> Call {
     Call::HandleClose {
         handle: HandleValue(handle),
+    }
+}
+
+/// A message without bytes, that sends one handle.
+pub(super) fn send(alloc: Global, through: u32, sent: u32) -> Result<Call, AllocError> {
+    let mut handles = Vec::new(alloc);
+    handles.push(HandleValue(sent))?;
+    let parcel = Parcel::new(Vec::new(alloc), handles).ok_or(AllocError)?;
+    Ok(Call::ChannelWrite {
+        handle: HandleValue(through),
+        parcel,
+    })
+}
+
+/// A wait for the signal 3: what `object_signal` sets on an event, and what says that a task has ended.
+pub(super) fn wait(handle: u32, port: u32, key: u64) -> Call {
+    Call::ObjectWaitAsync {
+        handle: HandleValue(handle),
+        port: HandleValue(port),
+        key,
+        signals: Signals(0x8),
+    }
+}
+
+pub(super) fn make_job() -> Call {
+    Call::JobCreate {
+        job: HandleValue(3),
+    }
+}
+
+pub(super) fn spawn(job: u32) -> Call {
+    Call::Spawn {
+        job: HandleValue(job),
+        argument: HandleValue(0),
+    }
+}
+
+pub(super) fn kill(task: u32) -> Call {
+    Call::TaskKill {
+        handle: HandleValue(task),
     }
 }
