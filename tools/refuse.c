@@ -10,7 +10,7 @@
 /* The size of a request that is a mark. The tests know it too. */
 #define MARK 1234567
 
-static unsigned long requests, marks;
+static unsigned long requests, most, marks;
 
 static unsigned long number(void)
 {
@@ -30,7 +30,9 @@ static int is_refused(size_t size)
         if (!marks)
             return 0;
     }
-    return ++requests == refused || (getenv("ON_FROM_THEN") && requests > refused);
+    if (++requests > most)
+        most = requests;
+    return requests == refused || (getenv("ON_FROM_THEN") && requests > refused);
 }
 
 void *malloc(size_t size)
@@ -51,9 +53,8 @@ void *realloc(void *old, size_t size)
 
 __attribute__((destructor)) static void tell(void)
 {
-    unsigned long all = requests;
     if (getenv("AFTER_MARK") && !marks)
         fprintf(stderr, "no mark\n");
-    else if (all < number())
-        fprintf(stderr, "all requests: %lu\n", all);
+    else if (most < number())
+        fprintf(stderr, "all requests: %lu\n", most);
 }

@@ -3,6 +3,8 @@ mod branches;
 mod cascades;
 mod limits;
 mod moves;
+mod pairs;
 mod queries;
 mod same;
+mod trials;
 mod twins;

@@ -1,4 +1,4 @@
-//! Calls of processes on branches that are named, and calls in short.
+//! Calls of the first process on branches that are named, and calls in short.
 ghost use Rattle.std.specs.Prelude.{◌<◌, length, IfSome};
 
 use std::alloc::{AllocError, Global};
@@ -6,7 +6,7 @@ use zt_bits::Signals;
 use zt_history::{BranchId, History};
 use zt_rows::{Call, HandleValue, Koid, Moment, Parcel, Refusal, Reply};
 
-pub(super) const ROOT: Koid = Koid(1025);
+const ROOT: Koid = Koid(1025);
 
 pub(super) const MAIN: &[u8] = b"main";
 
@@ -20,22 +20,35 @@ fn branch_of(history: &History, name: &[u8]) -> Option<BranchId>
     history.find(name)
 }
 
-/// Runs a call of a process at the head of the branch of the name.
-pub(super) fn ask(
-    history: &mut History,
-    name: &[u8],
-    process: Koid,
-    call: &Call,
-) -> Result<(Moment, Reply), Refusal> {
+/// Why the call at the head of the branch of the name is refused, if it is.
+pub(super) fn refusal_on(history: &mut History, name: &[u8], call: &Call) -> Option<Refusal> {
     match branch_of(history, name) {
-        Some(id) => history.call(id, process, call),
-        None => Err(Refusal::NoBranch),
+        Some(id) => history.call(id, ROOT, call).err(),
+        None => Some(Refusal::NoBranch),
     }
 }
 
-/// Whether the call of the first process on `main` is answered.
+/// Whether the call on `main` is answered.
 pub(super) fn answers(history: &mut History, call: &Call) -> bool {
-    ask(history, MAIN, ROOT, call).is_ok()
+    refusal_on(history, MAIN, call).is_none()
+}
+
+/// Whether the call on `main` is answered so many times.
+pub(super) fn answers_often(history: &mut History, call: &Call, times: u32) -> bool {
+    for _ in 0..times {
+        if !answers(history, call) {
+            return false;
+        }
+    }
+    true
+}
+
+/// Whether a message on `main` that sends one handle is answered.
+pub(super) fn sends(alloc: Global, history: &mut History, through: u32, sent: u32) -> bool {
+    match send(alloc, through, sent) {
+        Ok(call) => answers(history, &call),
+        Err(_) => false,
+    }
 }
 
 /// The head of the branch of the name.
@@ -73,7 +86,7 @@ pub(super) fn send(alloc: Global, through: u32, sent: u32) -> Result<Call, Alloc
     })
 }
 
-/// A wait for the signal 3: what `object_signal` sets on an event, and what says that a task has ended.
+/// A wait for the signal that says that a task has ended.
 pub(super) fn wait(handle: u32, port: u32, key: u64) -> Call {
     Call::ObjectWaitAsync {
         handle: HandleValue(handle),

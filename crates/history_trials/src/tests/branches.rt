@@ -1,21 +1,19 @@
-//! A history of two branches where memory is ample.
-use super::asking::{FIX, MAIN, ROOT, ask, head_of, values_of};
-use std::alloc::Global;
-use std::test::Fail;
+//! A history of two branches.
+use super::asking::{FIX, MAIN, answers_often, head_of, refusal_on, values_of};
 use zt_history::History;
 use zt_rows::{Call, Moment};
 
-/// Three events on `main`; from the opening a port and a channel on another branch.
-pub(super) fn two_branches(alloc: Global) -> Result<History, Fail> {
-    let mut history = History::new(alloc)?;
-    for _ in 0..3 {
-        ask(&mut history, MAIN, ROOT, &Call::EventCreate)?;
-    }
-    history.goto(Moment(0))?;
-    history.branch(FIX, Moment(0))?;
-    ask(&mut history, FIX, ROOT, &Call::PortCreate)?;
-    ask(&mut history, FIX, ROOT, &Call::ChannelCreate)?;
-    Ok(history)
+/// Whether the other branch is made at the opening, with a port and a channel on it.
+fn is_fix_made(history: &mut History) -> bool {
+    history.goto(Moment(0)).is_ok()
+        && history.branch(FIX, Moment(0)).is_ok()
+        && refusal_on(history, FIX, &Call::PortCreate).is_none()
+        && refusal_on(history, FIX, &Call::ChannelCreate).is_none()
+}
+
+/// Makes three events on `main`, and from the opening the other branch.
+pub(super) fn are_branches_made(history: &mut History) -> bool {
+    answers_often(history, &Call::EventCreate, 3) && is_fix_made(history)
 }
 
 /// Whether the moment's reply has these values.
@@ -33,12 +31,11 @@ fn tells_fix(history: &History) -> bool {
     tells(history, 4, 7, 0) && tells(history, 5, 11, 15)
 }
 
-#[test]
-fn both_branches_are_told(rt: HostRuntime) -> Result<(), Fail> {
-    let history = two_branches(rt.alloc())?;
-    assert!(rt; tells_main(&history));
-    assert!(rt; tells_fix(&history));
-    assert!(rt; head_of(&history, MAIN) == Some(Moment(3)));
-    assert!(rt; head_of(&history, FIX) == Some(Moment(5)));
-    Ok(())
+fn has_heads(history: &History) -> bool {
+    head_of(history, MAIN) == Some(Moment(3)) && head_of(history, FIX) == Some(Moment(5))
+}
+
+/// Whether both branches are made and told.
+pub(super) fn are_branches_told(history: &mut History) -> bool {
+    are_branches_made(history) && tells_main(history) && tells_fix(history) && has_heads(history)
 }

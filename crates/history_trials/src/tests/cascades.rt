@@ -1,63 +1,49 @@
 //! Calls with much in their wake, with each request for memory refused in turn.
-use super::asking::{MAIN, ROOT, ask, close, kill, make_job, send, spawn, wait};
+use super::asking::{answers, answers_often, close, kill, make_job, send, sends, spawn, wait};
 use super::same::keys_of;
 use super::twins::{call_both, mark};
 use std::alloc::Global;
-use std::test::Fail;
 use zt_history::History;
 use zt_rows::{Call, Koid, Moment, RowKey};
 
-/// A history in which the far end of each of three channels lies in the queue of the next.
-fn three_nested(alloc: Global) -> Result<History, Fail> {
-    let mut history = History::new(alloc)?;
-    for _ in 0..3 {
-        ask(&mut history, MAIN, ROOT, &Call::ChannelCreate)?;
+/// Puts the far end of each of three channels into the queue of the next.
+fn nests_three(alloc: Global, history: &mut History) -> bool {
+    answers_often(history, &Call::ChannelCreate, 3)
+        && sends(alloc, history, 15, 11)
+        && sends(alloc, history, 23, 19)
+}
+
+/// Whether the close that brings all three down is made whole or not at all.
+pub(super) fn is_cascade_whole(alloc: Global, tried: &mut History, other: &mut History) -> bool {
+    nests_three(alloc, tried)
+        && nests_three(alloc, other)
+        && mark(alloc)
+        && call_both(tried, other, &close(27))
+}
+
+/// Makes a channel whose far end is closed, and an event.
+fn loses_peer(history: &mut History) -> bool {
+    answers(history, &Call::ChannelCreate)
+        && answers(history, &Call::EventCreate)
+        && answers(history, &close(11))
+}
+
+/// Whether the write that fails, and closes the event's handle, is made whole or not at all.
+pub(super) fn is_write_whole(alloc: Global, tried: &mut History, other: &mut History) -> bool {
+    match send(alloc, 7, 15) {
+        Ok(write) => {
+            loses_peer(tried) && loses_peer(other) && mark(alloc) && call_both(tried, other, &write)
+        }
+        Err(_) => false,
     }
-    ask(&mut history, MAIN, ROOT, &send(alloc, 15, 11)?)?;
-    ask(&mut history, MAIN, ROOT, &send(alloc, 23, 19)?)?;
-    Ok(history)
 }
 
-#[test]
-fn refused_after_mark_no_cascade_is_half_made(rt: HostRuntime) -> Result<(), Fail> {
-    let alloc = rt.alloc();
-    let mut tried = three_nested(alloc)?;
-    let mut other = three_nested(alloc)?;
-    mark(alloc)?;
-    call_both(&rt, &mut tried, &mut other, &close(27));
-    Ok(())
-}
-
-/// A history in which an event would be sent through a channel whose far end is closed.
-fn peer_closed(alloc: Global) -> Result<History, Fail> {
-    let mut history = History::new(alloc)?;
-    ask(&mut history, MAIN, ROOT, &Call::ChannelCreate)?;
-    ask(&mut history, MAIN, ROOT, &Call::EventCreate)?;
-    ask(&mut history, MAIN, ROOT, &close(11))?;
-    Ok(history)
-}
-
-#[test]
-fn refused_after_mark_a_failed_write_closes_nothing(rt: HostRuntime) -> Result<(), Fail> {
-    let alloc = rt.alloc();
-    let write = send(alloc, 7, 15)?;
-    let mut tried = peer_closed(alloc)?;
-    let mut other = peer_closed(alloc)?;
-    mark(alloc)?;
-    call_both(&rt, &mut tried, &mut other, &write);
-    Ok(())
-}
-
-/// A history with a job, a wait for its end, and forty processes under it.
-fn forty_processes(alloc: Global) -> Result<History, Fail> {
-    let mut history = History::new(alloc)?;
-    ask(&mut history, MAIN, ROOT, &make_job())?;
-    ask(&mut history, MAIN, ROOT, &Call::PortCreate)?;
-    ask(&mut history, MAIN, ROOT, &wait(7, 11, 5))?;
-    for _ in 0..40 {
-        ask(&mut history, MAIN, ROOT, &spawn(7))?;
-    }
-    Ok(history)
+/// Makes a job, a wait for its end, and forty processes under it.
+fn spawns_forty(history: &mut History) -> bool {
+    answers(history, &make_job())
+        && answers(history, &Call::PortCreate)
+        && answers(history, &wait(7, 11, 5))
+        && answers_often(history, &spawn(7), 40)
 }
 
 /// What the kill of that job changes: the root job, the job, its port and the processes, the packet of the wait and the
@@ -83,13 +69,11 @@ fn are_killed(keys: &[RowKey]) -> bool {
     place == 45
 }
 
-#[test]
-fn refused_after_mark_each_key_is_recorded_once(rt: HostRuntime) -> Result<(), Fail> {
-    let alloc = rt.alloc();
-    let mut tried = forty_processes(alloc)?;
-    let mut other = forty_processes(alloc)?;
-    mark(alloc)?;
-    call_both(&rt, &mut tried, &mut other, &kill(7));
-    assert!(rt; are_killed(keys_of(&tried, Moment(44))));
-    Ok(())
+/// Whether the kill is made whole or not at all, and its record has each key once.
+pub(super) fn is_kill_whole(alloc: Global, tried: &mut History, other: &mut History) -> bool {
+    spawns_forty(tried)
+        && spawns_forty(other)
+        && mark(alloc)
+        && call_both(tried, other, &kill(7))
+        && are_killed(keys_of(tried, Moment(44)))
 }

@@ -1,17 +1,15 @@
 //! Queries of a history where memory is ample, from each position, and over a long path with the third request refused.
-use super::asking::{MAIN, ROOT, ask, close, send};
-use super::branches::two_branches;
-use super::moves::events;
+use super::asking::{answers, answers_often, close, sends};
+use super::branches::are_branches_made;
 use super::twins::mark;
 use std::alloc::Global;
-use std::test::Fail;
 use zt_bits::Kind;
 use zt_history::History;
 use zt_queries::{
     Frozen, ended, holders, holders_at, leaked_since, leaks, leaks_at, made, peer_closed, rows,
     rows_at,
 };
-use zt_rows::{Call, Happening, Koid, Moment, Refusal, Support};
+use zt_rows::{Call, Happening, Items, Koid, Moment, Refusal, Support};
 
 /// The moment on the path to `at` at which it happened to the object.
 fn when(
@@ -91,71 +89,87 @@ fn tells_all(alloc: Global, history: &History) -> bool {
         && knows_no_more(alloc, history, 5)
 }
 
-#[test]
-fn each_position_tells_the_same(rt: HostRuntime) -> Result<(), Fail> {
-    let alloc = rt.alloc();
-    let mut history = two_branches(alloc)?;
-    for position in [0, 3, 5] {
-        history.goto(Moment(position))?;
-        assert!(rt; tells_all(alloc, &history), "{position}");
-    }
-    Ok(())
+fn tells_all_from(alloc: Global, history: &mut History, position: u32) -> bool {
+    history.goto(Moment(position)).is_ok() && tells_all(alloc, history)
 }
 
-/// A history in which a channel's far end is sent through its near one, which is then closed.
-fn cycle(alloc: Global) -> Result<History, Fail> {
-    let mut history = History::new(alloc)?;
-    ask(&mut history, MAIN, ROOT, &Call::ChannelCreate)?;
-    ask(&mut history, MAIN, ROOT, &send(alloc, 7, 11)?)?;
-    ask(&mut history, MAIN, ROOT, &close(7))?;
-    Ok(history)
+/// Whether the same is told from the opening and from the heads of both branches.
+pub(super) fn do_positions_agree(alloc: Global, history: &mut History) -> bool {
+    are_branches_made(history)
+        && tells_all_from(alloc, history, 0)
+        && tells_all_from(alloc, history, 3)
+        && tells_all_from(alloc, history, 5)
 }
 
-/// Whether the object was leaked, ended and lost its peer at these moments.
+/// Sends a channel's far end through its near one, which is then closed.
+fn leaks_one(alloc: Global, history: &mut History) -> bool {
+    answers(history, &Call::ChannelCreate)
+        && sends(alloc, history, 7, 11)
+        && answers(history, &close(7))
+}
+
+/// Whether it happened to the object at this moment.
 fn turns(alloc: Global, history: &History, koid: u64, what: Happening, moment: u32) -> bool {
-    let found = when(alloc, history, Moment(3), Koid(koid), what);
-    found == Ok(Some(Moment(moment)))
+    when(alloc, history, Moment(3), Koid(koid), what) == Ok(Some(Moment(moment)))
 }
 
-#[test]
-fn what_happened_is_told(rt: HostRuntime) -> Result<(), Fail> {
-    let alloc = rt.alloc();
-    let history = cycle(alloc)?;
-    assert!(rt; turns(alloc, &history, 1027, Happening::Made, 1));
-    assert!(rt; turns(alloc, &history, 1027, Happening::Leaked, 2));
-    assert!(rt; turns(alloc, &history, 1027, Happening::PeerClosed, 3));
-    assert!(rt; turns(alloc, &history, 1026, Happening::Ended, 3));
-    Ok(())
+/// Whether it is told when what happened.
+fn tells_when(alloc: Global, history: &History) -> bool {
+    turns(alloc, history, 1027, Happening::Made, 1)
+        && turns(alloc, history, 1027, Happening::Leaked, 2)
+        && turns(alloc, history, 1027, Happening::PeerClosed, 3)
+        && turns(alloc, history, 1026, Happening::Ended, 3)
 }
 
-#[test]
-fn what_is_there_is_told(rt: HostRuntime) -> Result<(), Fail> {
-    let alloc = rt.alloc();
-    let history = cycle(alloc)?;
-    let held = holders_at(alloc, &history, Koid(1027))?;
-    assert!(rt; held.as_slice() == [Support::Message(Koid(1027), 0, 0)].as_slice());
-    let leaked = leaks_at(alloc, &history)?;
-    assert!(rt; leaked.as_slice() == [(Koid(1027), Kind::Channel)].as_slice());
-    assert!(rt; rows_at(alloc, &history)?.len() == 6);
-    Ok(())
+/// Whether what holds the far end is told, by the position and by the copy.
+fn tells_holders(alloc: Global, history: &History, copy: &Frozen) -> bool {
+    let wanted = [Support::Message(Koid(1027), 0, 0)];
+    are(&holders_at(alloc, history, Koid(1027)), wanted.as_slice())
+        && are(&holders(alloc, copy, Koid(1027)), wanted.as_slice())
 }
 
-#[test]
-fn a_copy_tells_the_same(rt: HostRuntime) -> Result<(), Fail> {
-    let alloc = rt.alloc();
-    let history = cycle(alloc)?;
-    let frozen = Frozen::copy(alloc, &history)?;
-    assert!(rt; holders(alloc, &frozen, Koid(1027))? == holders_at(alloc, &history, Koid(1027))?);
-    assert!(rt; leaks(alloc, &frozen)? == leaks_at(alloc, &history)?);
-    assert!(rt; rows(alloc, &frozen)? == rows_at(alloc, &history)?);
-    Ok(())
+/// Whether the leak is told, by the position and by the copy.
+fn tells_leaks(alloc: Global, history: &History, copy: &Frozen) -> bool {
+    let wanted = [(Koid(1027), Kind::Channel)];
+    are(&leaks_at(alloc, history), wanted.as_slice()) && are(&leaks(alloc, copy), wanted.as_slice())
 }
 
-#[test]
-fn third_refused_a_long_path_is_read(rt: HostRuntime) -> Result<(), Fail> {
-    let alloc = rt.alloc();
-    let history = events(alloc, 1_000)?;
-    mark(alloc)?;
-    assert!(rt; is_made(alloc, &history, 1_000, 1026, 1));
-    Ok(())
+/// Whether these were found.
+fn are<T: PartialEq>(found: &Result<Items<T>, Refusal>, wanted: &[T]) -> bool {
+    match found {
+        Ok(found) => found.as_slice() == wanted,
+        Err(_) => false,
+    }
+}
+
+/// Whether the position and the copy have the same rows.
+fn has_same_rows(alloc: Global, history: &History, copy: &Frozen) -> bool {
+    match rows_at(alloc, history) {
+        Ok(wanted) => are(&rows(alloc, copy), wanted.as_slice()),
+        Err(_) => false,
+    }
+}
+
+/// Whether all is told of the position, and of a copy of it.
+fn tells_what_is_there(alloc: Global, history: &History) -> bool {
+    match Frozen::copy(alloc, history) {
+        Ok(copy) => {
+            tells_holders(alloc, history, &copy)
+                && tells_leaks(alloc, history, &copy)
+                && has_same_rows(alloc, history, &copy)
+        }
+        Err(_) => false,
+    }
+}
+
+/// Whether a leak is told, and when it came about.
+pub(super) fn is_leak_told(alloc: Global, history: &mut History) -> bool {
+    leaks_one(alloc, history) && tells_when(alloc, history) && tells_what_is_there(alloc, history)
+}
+
+/// Whether a path of 1,000 moments is read, with the third request refused.
+pub(super) fn is_long_path_read(alloc: Global, history: &mut History) -> bool {
+    answers_often(history, &Call::EventCreate, 1_000)
+        && mark(alloc)
+        && is_made(alloc, history, 1_000, 1026, 1)
 }

@@ -2,8 +2,7 @@
 //! other, and to answer when it is asked again.
 use super::asking::{FIX, MAIN, answers, head_of};
 use super::same::is_same;
-use std::alloc::{AllocError, Global};
-use std::process::Abort;
+use std::alloc::Global;
 use zt_history::History;
 use zt_rows::{Call, Moment};
 
@@ -11,31 +10,19 @@ use zt_rows::{Call, Moment};
 const MARK: usize = 1_234_567;
 
 /// Marks the place from which on requests for memory are refused.
-pub(super) fn mark(alloc: Global) -> Result<(), AllocError> {
-    let mut mark = Vec::with_capacity(alloc, MARK)?;
-    mark.push(0_u8)?;
-    Ok(())
+pub(super) fn mark(alloc: Global) -> bool {
+    let mark: Result<Vec<u8>, _> = Vec::with_capacity(alloc, MARK);
+    mark.is_ok()
 }
 
-/// Whether the move is made; where memory is refused to it, at the second try.
-pub(super) fn goes(history: &mut History, moment: Moment) -> bool {
-    history.goto(moment).is_ok() || history.goto(moment).is_ok()
+fn goes(history: &mut History, moment: Moment) -> bool {
+    history.goto(moment).is_ok()
 }
 
-/// Whether the call of the first process on `main` is answered, at the first or the second try.
-fn answers_at_last(history: &mut History, call: &Call) -> bool {
-    answers(history, call) || answers(history, call)
-}
-
-/// Whether the branch `fix` is made at the position.
+/// Makes the branch `fix` at the position.
 fn forks(history: &mut History) -> bool {
     let at = history.position();
     history.branch(FIX, at).is_ok()
-}
-
-/// Whether the branch `fix` is made, at the first or the second try.
-fn forks_at_last(history: &mut History) -> bool {
-    forks(history) || forks(history)
 }
 
 /// Whether a history that refused a call on `main` may stand at the moment: where it stood, as the other still does, or
@@ -50,32 +37,34 @@ fn is_followed(tried: &History, other: &mut History) -> bool {
     may_stand(other, stands) && goes(other, stands) && is_same(tried, other)
 }
 
-/// Runs a call of the first process on `main` in both.
-pub(super) fn call_both(rt: &impl Abort, tried: &mut History, other: &mut History, call: &Call) {
-    if !answers(tried, call) {
-        assert!(rt; is_followed(tried, other), "refused");
-        assert!(rt; answers(tried, call), "asked again");
-    }
-    assert!(rt; answers_at_last(other, call));
-    assert!(rt; is_same(tried, other), "answered");
+/// Runs a call on `main` in the one that may be refused memory.
+fn is_answered(tried: &mut History, other: &mut History, call: &Call) -> bool {
+    answers(tried, call) || (is_followed(tried, other) && answers(tried, call))
+}
+
+/// Runs a call on `main` in both. The other may be refused memory too, and then answers when it is asked again.
+pub(super) fn call_both(tried: &mut History, other: &mut History, call: &Call) -> bool {
+    is_answered(tried, other, call)
+        && (answers(other, call) || answers(other, call))
+        && is_same(tried, other)
+}
+
+fn is_gone(tried: &mut History, other: &History, moment: Moment) -> bool {
+    goes(tried, moment) || (is_same(tried, other) && goes(tried, moment))
 }
 
 /// Goes to the moment in both.
-pub(super) fn go_both(rt: &impl Abort, tried: &mut History, other: &mut History, moment: Moment) {
-    if tried.goto(moment).is_err() {
-        assert!(rt; is_same(tried, other), "refused");
-        assert!(rt; tried.goto(moment).is_ok(), "asked again");
-    }
-    assert!(rt; goes(other, moment));
-    assert!(rt; is_same(tried, other), "answered");
+pub(super) fn go_both(tried: &mut History, other: &mut History, moment: Moment) -> bool {
+    is_gone(tried, other, moment)
+        && (goes(other, moment) || goes(other, moment))
+        && is_same(tried, other)
+}
+
+fn is_forked(tried: &mut History, other: &History) -> bool {
+    forks(tried) || (is_same(tried, other) && forks(tried))
 }
 
 /// Makes the branch `fix` at the position in both.
-pub(super) fn fork_both(rt: &impl Abort, tried: &mut History, other: &mut History) {
-    if !forks(tried) {
-        assert!(rt; is_same(tried, other), "refused");
-        assert!(rt; forks(tried), "asked again");
-    }
-    assert!(rt; forks_at_last(other));
-    assert!(rt; is_same(tried, other), "answered");
+pub(super) fn fork_both(tried: &mut History, other: &mut History) -> bool {
+    is_forked(tried, other) && (forks(other) || forks(other)) && is_same(tried, other)
 }
