@@ -11,14 +11,14 @@ mod calls;
 mod making;
 mod moving;
 
-use crate::asking::{leaks_asked, questions};
-use crate::making::{make_leaks, make_mixed};
-use crate::moving::{move_over, turn};
+use crate::asking::{asks_leaks, questions};
+use crate::making::{makes_leaks, makes_mixed};
+use crate::moving::{moved_over, turned};
 use anyhow::{Context, Result};
 use std::alloc::Global;
 use std::env;
 use std::rt::{Clock, Env};
-use std::time::{Duration, Instant};
+use std::time::Instant;
 use zt_history::History;
 use zt_rows::Happening;
 
@@ -29,14 +29,9 @@ fn main(rt: HostRuntime) -> Result<()> {
         return Ok(());
     };
     let count = number(words.next())?;
-    let mut history = History::new(rt.alloc())?;
-    let (time, of) = match workload.as_str() {
-        "calls" => (time_of_calls(&rt, rt.alloc(), &mut history, count)?, count),
-        "leaks" => (time_of_leaks(&rt, rt.alloc(), &mut history, count)?, 1),
-        name => time_behind_calls(&rt, rt.alloc(), &mut history, name, count)?,
-    };
-    let nanoseconds = time.as_nanos() / u128::from(of.max(1));
-    println!(rt; "{workload} {count} {nanoseconds}")?;
+    let time = time_of(&rt, rt.alloc(), workload.as_str(), count);
+    let time = time.context("no such workload, or it was refused")?;
+    println!(rt; "{workload} {count} {time}")?;
     Ok(())
 }
 
@@ -46,16 +41,49 @@ fn number(word: Option<String>) -> Result<u32> {
     word.as_str().parse::<u32>().context("a number is wanted")
 }
 
-/// The time of so many mixed calls.
+/// The nanoseconds of one step of the workload.
+fn time_of(rt: &impl Clock, alloc: Global, workload: &str, count: u32) -> Option<u128> {
+    match History::new(alloc) {
+        Ok(mut history) => time_over(rt, alloc, &mut history, workload, count),
+        Err(_) => None,
+    }
+}
+
+/// The same, over a history at the opening.
+fn time_over(
+    rt: &impl Clock,
+    alloc: Global,
+    history: &mut History,
+    workload: &str,
+    count: u32,
+) -> Option<u128> {
+    match workload {
+        "calls" => time_of_calls(rt, alloc, history, count),
+        "leaks" => time_of_leaks(rt, alloc, history, count),
+        _ => time_behind_calls(rt, alloc, history, workload, count),
+    }
+}
+
+/// The nanoseconds of one step, of so many since this time.
+fn time_since(rt: &impl Clock, start: Instant, steps: u32) -> Option<u128> {
+    match start.elapsed(rt) {
+        Ok(time) => Some(time.as_nanos() / u128::from(steps.max(1))),
+        Err(_) => None,
+    }
+}
+
+/// The time of one of so many mixed calls.
 fn time_of_calls(
     rt: &impl Clock,
     alloc: Global,
     history: &mut History,
     count: u32,
-) -> Result<Duration> {
-    let start = Instant::now(rt)?;
-    make_mixed(alloc, history, count)?;
-    Ok(start.elapsed(rt)?)
+) -> Option<u128> {
+    let start = Instant::now(rt).ok()?;
+    if !makes_mixed(alloc, history, count) {
+        return None;
+    }
+    time_since(rt, start, count)
 }
 
 /// The time in which what is leaked among so many objects is told.
@@ -64,39 +92,44 @@ fn time_of_leaks(
     alloc: Global,
     history: &mut History,
     count: u32,
-) -> Result<Duration> {
-    make_leaks(alloc, history, count / 2)?;
-    let start = Instant::now(rt)?;
-    leaks_asked(alloc, history)?;
-    Ok(start.elapsed(rt)?)
+) -> Option<u128> {
+    if !makes_leaks(alloc, history, count / 2) {
+        return None;
+    }
+    let start = Instant::now(rt).ok()?;
+    if !asks_leaks(alloc, history) {
+        return None;
+    }
+    time_since(rt, start, 1)
 }
 
-/// The time of a workload behind so many mixed calls, and the number of its steps.
+/// The time of one step of a workload behind so many mixed calls.
 fn time_behind_calls(
     rt: &impl Clock,
     alloc: Global,
     history: &mut History,
-    name: &str,
+    workload: &str,
     count: u32,
-) -> Result<(Duration, u32)> {
-    make_mixed(alloc, history, count)?;
-    let start = Instant::now(rt)?;
-    let steps = match name {
-        "moves" => move_over(history, count)?,
-        "turns" => turn(history, count)?,
+) -> Option<u128> {
+    if !makes_mixed(alloc, history, count) {
+        return None;
+    }
+    let start = Instant::now(rt).ok()?;
+    let steps = match workload {
+        "moves" => moved_over(history, count)?,
+        "turns" => turned(history, count)?,
         other => questions(alloc, history, happening(other)?)?,
     };
-    Ok((start.elapsed(rt)?, steps))
+    time_since(rt, start, steps)
 }
 
 /// What is asked about, by its word.
-fn happening(word: &str) -> Result<Happening> {
-    let found = match word {
+fn happening(word: &str) -> Option<Happening> {
+    match word {
         "made" => Some(Happening::Made),
         "ended" => Some(Happening::Ended),
         "peer_closed" => Some(Happening::PeerClosed),
         "leaked" => Some(Happening::Leaked),
         _ => None,
-    };
-    found.context("no such workload")
+    }
 }

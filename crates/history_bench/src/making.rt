@@ -2,10 +2,9 @@
 ghost use Rattle.std.specs.Prelude.{◌<◌, length, IfSome};
 
 use crate::calls::{leak, mixed};
-use anyhow::{Context, Result};
-use std::alloc::Global;
+use std::alloc::{AllocError, Global};
 use zt_history::{BranchId, History};
-use zt_rows::{Call, Koid, Refusal};
+use zt_rows::{Call, Koid};
 
 const ROOT: Koid = Koid(1025);
 
@@ -18,30 +17,32 @@ fn main_of(history: &History) -> Option<BranchId>
 }
 
 /// Makes a call of the first process.
-fn ask(history: &mut History, call: &Call) -> Result<(), Refusal> {
-    match main_of(history) {
-        Some(id) => {
-            history.call(id, ROOT, call)?;
-            Ok(())
-        }
-        None => Err(Refusal::NoBranch),
+fn makes(history: &mut History, call: &Result<Call, AllocError>) -> bool {
+    let Some(id) = main_of(history) else {
+        return false;
+    };
+    match call {
+        Ok(call) => history.call(id, ROOT, call).is_ok(),
+        Err(_) => false,
     }
 }
 
 /// Makes so many mixed calls.
-pub(crate) fn make_mixed(alloc: Global, history: &mut History, count: u32) -> Result<()> {
+pub(crate) fn makes_mixed(alloc: Global, history: &mut History, count: u32) -> bool {
     for number in 0..count {
-        let call = mixed(alloc, number)?;
-        ask(history, &call).ok().context("a call was refused")?;
+        if !makes(history, &mixed(alloc, number)) {
+            return false;
+        }
     }
-    Ok(())
+    true
 }
 
 /// Makes so many events, and as many ends of channels that are leaked.
-pub(crate) fn make_leaks(alloc: Global, history: &mut History, count: u32) -> Result<()> {
+pub(crate) fn makes_leaks(alloc: Global, history: &mut History, count: u32) -> bool {
     for number in 0..count.saturating_mul(4) {
-        let call = leak(alloc, number)?;
-        ask(history, &call).ok().context("a call was refused")?;
+        if !makes(history, &leak(alloc, number)) {
+            return false;
+        }
     }
-    Ok(())
+    true
 }

@@ -1,5 +1,4 @@
 //! Moves over a history of so many moments.
-use anyhow::{Context, Result};
 use zt_history::History;
 use zt_rows::Moment;
 
@@ -7,25 +6,25 @@ use zt_rows::Moment;
 const TURNS: u32 = 1_000;
 
 /// Goes to the moment.
-fn go(history: &mut History, moment: u32) -> Result<()> {
-    history
-        .goto(Moment(moment))
-        .ok()
-        .context("a move was refused")
+fn goes(history: &mut History, moment: u32) -> bool {
+    history.goto(Moment(moment)).is_ok()
 }
 
 /// Goes back to the opening and forth again, and tells how many moments it went over.
-pub(crate) fn move_over(history: &mut History, count: u32) -> Result<u32> {
-    go(history, 0)?;
-    go(history, count)?;
-    Ok(count.saturating_mul(2))
+pub(crate) fn moved_over(history: &mut History, count: u32) -> Option<u32> {
+    if goes(history, 0) && goes(history, count) {
+        Some(count.saturating_mul(2))
+    } else {
+        None
+    }
 }
 
 /// Makes moves of ten moments, back from the last moment and forth to it, and tells how many.
-pub(crate) fn turn(history: &mut History, count: u32) -> Result<u32> {
+pub(crate) fn turned(history: &mut History, count: u32) -> Option<u32> {
     for _ in 0..TURNS / 2 {
-        go(history, count.saturating_sub(10))?;
-        go(history, count)?;
+        if !goes(history, count.saturating_sub(10)) || !goes(history, count) {
+            return None;
+        }
     }
-    Ok(TURNS)
+    Some(TURNS)
 }
