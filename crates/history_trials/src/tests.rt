@@ -1,2 +1,10 @@
 mod asking;
+mod branches;
+mod cascades;
 mod limits;
+mod moves;
+mod pairs;
+mod queries;
+mod same;
+mod trials;
+mod twins;

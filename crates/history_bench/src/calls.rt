@@ -1,0 +1,103 @@
+//! Calls of the first process: mixed ones, of which twelve in turn leave an event and two handles to it, and calls of
+//! which four in turn leave an event and a leaked end of a channel.
+use std::alloc::{AllocError, Global};
+use zt_bits::Signals;
+use zt_rows::{Call, HandleValue, Parcel};
+
+/// The port that the first call makes.
+const PORT: HandleValue = HandleValue(7);
+
+/// How many handles twelve calls give out.
+const HANDLES: u32 = 5;
+
+/// The n-th handle, counted from 0, that is given out behind the port's in the turn of the number.
+fn handle(turn: u32, n: u32) -> HandleValue {
+    let given = turn.saturating_mul(HANDLES).saturating_add(n);
+    HandleValue(given.saturating_mul(4).saturating_add(11))
+}
+
+/// The call of this number: a port, and then twelve calls in turn.
+pub fn mixed(alloc: Global, number: u32) -> Result<Call, AllocError> {
+    if number == 0 {
+        return Ok(Call::PortCreate);
+    }
+    let turn = (number - 1) / 12;
+    match (number - 1) % 12 {
+        4 => send(alloc, handle(turn, 1), handle(turn, 3)),
+        step => Ok(plain(turn, step)),
+    }
+}
+
+/// The call of this number of those that leak: a channel, whose far end is sent through the near one, which is then
+/// closed, and an event.
+pub fn leak(alloc: Global, number: u32) -> Result<Call, AllocError> {
+    let near = (number / 4).saturating_mul(12).saturating_add(7);
+    let far = HandleValue(near.saturating_add(4));
+    match number % 4 {
+        0 => Ok(Call::ChannelCreate),
+        1 => send(alloc, HandleValue(near), far),
+        2 => Ok(close(HandleValue(near))),
+        _ => Ok(Call::EventCreate),
+    }
+}
+
+/// A message that sends one handle.
+fn send(alloc: Global, through: HandleValue, sent: HandleValue) -> Result<Call, AllocError> {
+    let bytes = Vec::from_slice(alloc, b"hello")?;
+    let handles = Vec::from_slice(alloc, [sent].as_slice())?;
+    let parcel = Parcel::new(bytes, handles).ok_or(AllocError)?;
+    Ok(Call::ChannelWrite {
+        handle: through,
+        parcel,
+    })
+}
+
+/// A call that sends no message: the one at this step of the turn.
+fn plain(turn: u32, step: u32) -> Call {
+    match step {
+        0 => Call::EventCreate,
+        1 => Call::ChannelCreate,
+        2 => Call::HandleDuplicate {
+            handle: handle(turn, 0),
+            rights: 0x8000_0000,
+        },
+        3 => wait(handle(turn, 0)),
+        5 => signal(handle(turn, 0), 0, 0x8),
+        6 => Call::PortWait { port: PORT },
+        7 => signal(handle(turn, 0), 0x8, 0),
+        8 => read(handle(turn, 2)),
+        9 => close(handle(turn, 4)),
+        10 => close(handle(turn, 1)),
+        _ => close(handle(turn, 2)),
+    }
+}
+
+fn wait(handle: HandleValue) -> Call {
+    Call::ObjectWaitAsync {
+        handle,
+        port: PORT,
+        key: 1,
+        signals: Signals(0x8),
+    }
+}
+
+fn signal(handle: HandleValue, clear: u32, set: u32) -> Call {
+    Call::ObjectSignal {
+        handle,
+        clear: Signals(clear),
+        set: Signals(set),
+    }
+}
+
+fn read(handle: HandleValue) -> Call {
+    Call::ChannelRead {
+        handle,
+        bytes: 16,
+        handles: 4,
+        discard: false,
+    }
+}
+
+fn close(handle: HandleValue) -> Call {
+    Call::HandleClose { handle }
+}

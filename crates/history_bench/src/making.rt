@@ -1,0 +1,48 @@
+//! Histories of many calls on `main`.
+ghost use Rattle.std.specs.Prelude.{◌<◌, length, IfSome};
+
+use crate::calls::{leak, mixed};
+use std::alloc::{AllocError, Global};
+use zt_history::{BranchId, History};
+use zt_rows::{Call, Koid};
+
+const ROOT: Koid = Koid(1025);
+
+/// The branch `main`.
+#[tactic(auto, using(crate::proofs::Branches::named_within))]
+fn main_of(history: &History) -> Option<BranchId>
+    ensures { IfSome result (λ id. id < length history.now.tree.branches) }
+{
+    history.find(b"main")
+}
+
+/// Makes a call of the first process.
+fn makes(history: &mut History, call: &Result<Call, AllocError>) -> bool {
+    let Some(id) = main_of(history) else {
+        return false;
+    };
+    match call {
+        Ok(call) => history.call(id, ROOT, call).is_ok(),
+        Err(_) => false,
+    }
+}
+
+/// Makes so many mixed calls.
+pub(crate) fn makes_mixed(alloc: Global, history: &mut History, count: u32) -> bool {
+    for number in 0..count {
+        if !makes(history, &mixed(alloc, number)) {
+            return false;
+        }
+    }
+    true
+}
+
+/// Makes so many events, and as many ends of channels that are leaked.
+pub(crate) fn makes_leaks(alloc: Global, history: &mut History, count: u32) -> bool {
+    for number in 0..count.saturating_mul(4) {
+        if !makes(history, &leak(alloc, number)) {
+            return false;
+        }
+    }
+    true
+}

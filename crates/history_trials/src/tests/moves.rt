@@ -1,0 +1,46 @@
+//! Moves over a history with each request for memory refused in turn, and over a long one with the third refused.
+use super::asking::{answers_often, close, sends};
+use super::twins::{call_both, fork_both, go_both, mark};
+use std::alloc::Global;
+use zt_history::History;
+use zt_rows::{Call, Moment};
+
+/// Sends the far end of each of 64 channels through the next: 63 calls.
+fn sends_each(alloc: Global, history: &mut History) -> bool {
+    for i in 1..64_u32 {
+        if !sends(alloc, history, 8 * i + 7, 8 * i + 3) {
+            return false;
+        }
+    }
+    true
+}
+
+/// Makes 64 channels of which each lies in the queue of the next: 127 moments.
+fn nests(alloc: Global, history: &mut History) -> bool {
+    answers_often(history, &Call::ChannelCreate, 64) && sends_each(alloc, history)
+}
+
+/// The close that brings all of them down, a branch, and the moves to the opening and back.
+fn asks_both(tried: &mut History, other: &mut History) -> bool {
+    call_both(tried, other, &close(515))
+        && fork_both(tried, other)
+        && go_both(tried, other, Moment(0))
+        && go_both(tried, other, Moment(128))
+}
+
+/// Whether each of these is made whole or not at all.
+pub(super) fn are_moves_whole(alloc: Global, tried: &mut History, other: &mut History) -> bool {
+    nests(alloc, tried) && nests(alloc, other) && mark(alloc) && asks_both(tried, other)
+}
+
+/// Whether the history goes to the moment, at the first try.
+fn goes_at_once(alloc: Global, history: &mut History, moment: u32) -> bool {
+    mark(alloc) && history.goto(Moment(moment)).is_ok() && history.position() == Moment(moment)
+}
+
+/// Whether the history goes over 1,000 moments and back, with the third request of each move refused.
+pub(super) fn is_long_move_made(alloc: Global, history: &mut History) -> bool {
+    answers_often(history, &Call::EventCreate, 1_000)
+        && goes_at_once(alloc, history, 0)
+        && goes_at_once(alloc, history, 1_000)
+}

@@ -1,0 +1,85 @@
+//! Whether anything tells two histories apart.
+use super::asking::{FIX, MAIN, head_of, values_of};
+use zt_history::History;
+use zt_rows::{Koid, Moment, RowKey};
+use zt_store::Store;
+
+/// Whether both stores have the same row under the key, and the same next key.
+fn agree_at(first: &Store, second: &Store, key: &RowKey) -> bool {
+    first.row(*key) == second.row(*key) && first.after(Some(*key)) == second.after(Some(*key))
+}
+
+/// Whether both stores have the same rows.
+fn has_same_rows(first: &Store, second: &Store) -> bool {
+    let mut next = second.after(None);
+    for _ in 0..10_000 {
+        let Some(key) = next else {
+            return first.after(None) == second.after(None);
+        };
+        if !agree_at(first, second, &key) {
+            return false;
+        }
+        next = second.after(Some(key));
+    }
+    false
+}
+
+/// Whether both stores have the same numbers of the koid.
+fn agree_on(first: &Store, second: &Store, koid: Koid) -> bool {
+    first.count(koid) == second.count(koid)
+        && first.child_jobs(koid) == second.child_jobs(koid)
+        && first.child_processes(koid) == second.child_processes(koid)
+        && first.first_message(koid) == second.first_message(koid)
+        && first.first_packet(koid) == second.first_packet(koid)
+}
+
+fn has_same_numbers(first: &Store, second: &Store) -> bool {
+    (1020..1300).all(|koid| agree_on(first, second, Koid(koid)))
+}
+
+/// The keys of the moment's record.
+pub(super) fn keys_of(history: &History, moment: Moment) -> &[RowKey] {
+    match history.record_of(moment) {
+        Some(kept) => kept.keys(),
+        None => &[],
+    }
+}
+
+/// The process that made the moment.
+fn caller_of(history: &History, moment: Moment) -> Option<Koid> {
+    match history.call_of(moment) {
+        Some((process, _)) => Some(process),
+        None => None,
+    }
+}
+
+/// Whether both histories tell the same of the moment.
+fn agree_about(first: &History, second: &History, moment: Moment) -> bool {
+    caller_of(first, moment) == caller_of(second, moment)
+        && values_of(first.reply_of(moment)) == values_of(second.reply_of(moment))
+        && keys_of(first, moment) == keys_of(second, moment)
+}
+
+fn has_same_moments(first: &History, second: &History) -> bool {
+    let last = first.last();
+    last == second.last() && (0..=last.0).all(|moment| agree_about(first, second, Moment(moment)))
+}
+
+fn has_same_heads(first: &History, second: &History) -> bool {
+    head_of(first, MAIN) == head_of(second, MAIN) && head_of(first, FIX) == head_of(second, FIX)
+}
+
+fn has_same_tree(first: &History, second: &History) -> bool {
+    has_same_heads(first, second) && has_same_moments(first, second)
+}
+
+fn has_same_store(first: &History, second: &History) -> bool {
+    has_same_rows(first.store(), second.store()) && has_same_numbers(first.store(), second.store())
+}
+
+/// Whether both are the same: position, rows, numbers of supports, moments with their records, heads.
+pub(super) fn is_same(first: &History, second: &History) -> bool {
+    first.position() == second.position()
+        && has_same_tree(first, second)
+        && has_same_store(first, second)
+}
