@@ -189,6 +189,13 @@ module _ (h : Timeline) (way here : List ℕ) (shared : ℕ) (w : AreWays h way 
       subst (λ l. length (filter (at_moment (leaked x) h.tree.made) l) ≤ 1) (sym w.asked.is) (once h.tree.made w.tree.moments w.asked.moment w.asked.there x happening.Leaked) in
       sym (one-last (filter (at_moment (leaked x) h.tree.made) way) q few (among-filter (at_moment (leaked x) h.tree.made) way q on passes))
 
+  -- where it is not leaked comes before where it is
+  pub leaks-later : (x i j : ℕ) → i ≤ j → is_leaked (at i) x ≡ false → is_leaked (at j) x ≡ true → i < j
+  leaks-later x i j up none t = elim (cases_lt i j) [
+    | inl l ↦ l
+    | inr g ↦ let same : i ≡ j = omega (arith, up, g) in absurd (true≢false (is_leaked (at j) x) t (ap (λ n. is_leaked (at n) x) (sym same) ∙ none))
+  ]
+
   -- the record of a moment on the path to the position has rows of the state before
   behind-by : (o : Option (List (RowKey × Option Row))) (k : RowKey) (r s : Option Row) → row_over o k r ≡ s → row_over o k s ≡ s
   behind-by None k r s e = refl

@@ -121,7 +121,7 @@ fn leaked_beyond(
 }
 
 /// The moment at which the object was leaked, where it is leaked at a place that both paths share, of which this is the
-/// graph.
+/// graph. Most are leaked by the call behind the last sign that they are not, so that is looked at first.
 fn onset_within(
     alloc: Global,
     history: &History,
@@ -137,7 +137,11 @@ fn onset_within(
     ensures { IfOk result (λ moment. Some moment ≡ last_or None (filter (at_moment (leaked koid) history.now.tree.made) ways.now.way.items)) }
 {
     let low = unleaked_before(history, ways, koid, place);
-    let onset = onset_back(alloc, history, ways, koid, graph, low, place)?;
+    let soon = leaked_back(alloc, history, ways, koid, &graph, place, low + 1)?;
+    if soon {
+        return Ok(ways.way[low]);
+    }
+    let onset = onset_back(alloc, history, ways, koid, graph, low + 1, place)?;
     Ok(ways.way[onset])
 }
 
@@ -218,6 +222,28 @@ fn between(low: usize, high: usize) -> usize
     ensures below { result < high }
 {
     low + (high - low) / 2
+}
+
+/// Whether the object is leaked at an earlier place of those that both paths share, by the graph of a later one.
+fn leaked_back(
+    alloc: Global,
+    history: &History,
+    ways: &Ways,
+    koid: Koid,
+    graph: &Graph,
+    from: usize,
+    to: usize,
+) -> Result<bool, AllocError>
+    requires ways { AreWays history.now ways.now.way.items ways.now.here.items ways.now.shared }
+    requires shared { from ≤ ways.now.shared }
+    requires down { to ≤ from }
+    requires drawn { IsGraph graph.now (state_after history.now.tree.made ways.now.way.items from) }
+    ensures { IfOk result (λ leaked. leaked ≡ is_leaked (state_after history.now.tree.made ways.now.way.items to) koid) }
+{
+    let mut other = copy_of(alloc, graph)?;
+    go_back(alloc, &mut other, history, ways, from, to)?;
+    let leaks = leaked_in(alloc, &other, koid)?;
+    Ok(leaks)
 }
 
 /// Whether the object is leaked at a later place beyond those that both paths share, by the graph of an earlier one.
