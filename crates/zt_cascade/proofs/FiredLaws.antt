@@ -1,8 +1,8 @@
 -- Firing by number: a wait that fires goes, and changes nothing that another is met by, so that it is enough to fire,
 -- by rising number, waits among which are all that are met.
-use Rattle.std.proofs.Common.{◌≡◌, ◌<◌, ◌≤◌, ◌^◌, ℕ, zero, suc, ◌+◌, Bool, true, false, cond, ◌&&◌, ◌||◌, List, [], ◌∷◌, length, take, get_or, is_some, refl, sym, ap, ◌∙◌, subst, arith, ◌⊎◌, inl, inr}
+use Rattle.std.proofs.Common.{◌≡◌, ◌<◌, ◌≤◌, ℕ, suc, Bool, true, false, cond, ◌&&◌, List, [], ◌∷◌, length, get_or, is_some, refl, sym, ap, ◌∙◌, subst, arith, inl, inr}
 use Rattle.std.specs.Prelude.{if◌then◌else◌, ◌==◌, Option, None, Some}
-use Rattle.std.specs.List.{fold, list_any}
+use Rattle.std.specs.List.{fold}
 use Rattle.std.specs.List.Sorted.{IsNonDecreasingBy, IsPermutation}
 use Rattle.std.proofs.lemmas.Bool.{cases_lt, eqb-true, eq-eqb}
 use Rattle.std.proofs.lemmas.List.Sorted.{list_any-IsPermutation}
@@ -16,9 +16,9 @@ use Rattle.zt_rows.specs.Keys.{rowkey_eq}
 use Rattle.zt_rows.specs.State.{State, row, put}
 use Rattle.zt_rows.specs.Reads.{as_entry, as_object, as_wait, entry, object, wait, waits}
 use Rattle.zt_rows.specs.Settle.{fire, fire_into, is_met, news, push_packet}
-use Rattle.zt_rows.specs.Tests.{among, object_signals, raised, signals_at}
+use Rattle.zt_rows.specs.Tests.{among, object_signals, raised}
 use Rattle.zt_rows.proofs.StateLaws.{row-put}
-use Rattle.zt_rows.proofs.RowLaws.{In, and_left, list_any-in, not_true, or_left, or_right, or_true, true≢false}
+use Rattle.zt_rows.proofs.RowLaws.{In, and_left, not_true, or_left, or_right, or_true, true≢false}
 use Rattle.zt_rows.proofs.ReadLaws.{some_one}
 use Rattle.zt_rows.proofs.SettleLaws.{in-waits, met-same, waits-in}
 use Rattle.zt_cascade.specs.Waking.{HasMet, fire_if, fire_number}
@@ -37,8 +37,8 @@ row-fired : (S : State) (n : ℕ) (w : Wait) (o : ObjectRow) (q : RowKey) → ro
 row-fired S n w o q =
     row-put (put (put S (key.Wait n) None) (key.Packet w.port o.next) (Some (rows.Packet (news S w)))) (key.Object w.port) (Some (rows.Object (raised o))) q
     ∙ ap (cond (rowkey_eq q (key.Object w.port)) (Some (rows.Object (raised o))))
-        (row-put (put S (key.Wait n) None) (key.Packet w.port o.next) (Some (rows.Packet (news S w))) q
-        ∙ ap (cond (rowkey_eq q (key.Packet w.port o.next)) (Some (rows.Packet (news S w)))) (row-put S (key.Wait n) None q))
+    (row-put (put S (key.Wait n) None) (key.Packet w.port o.next) (Some (rows.Packet (news S w))) q
+    ∙ ap (cond (rowkey_eq q (key.Packet w.port o.next)) (Some (rows.Packet (news S w)))) (row-put S (key.Wait n) None q))
 
 -- a fact of the state after it, from the two cases
 fire-either : (P : State → Type 0) (S : State) (n : ℕ) (w : Wait) → (fires S w ≡ false → P S) → ((o : ObjectRow) → object S w.port ≡ Some o → fires S w ≡ true → P (fired S n w o)) → P (fire S (n, w))
@@ -114,7 +114,7 @@ split ((n, v) ∷ L) m w order (inl is) =
       part = λ k u l. inr l;
       above = λ k u l. let less : n < k = order.0 k u l in omega arith;
       ordered = order.1;
-      all = λ k u l more. elim l [ | inl here ↦ let k_is : k ≡ n = ap (λ (z : ℕ × Wait). z.0) here in absurd (omega arith) | inr later ↦ later ];
+      all = λ k u l more. elim l [ inl here ↦ let k_is : k ≡ n = ap (λ (z : ℕ × Wait). z.0) here in absurd (omega arith) | inr later ↦ later ];
     }
 split ((n, v) ∷ L) m w order (inr l) =
     let s = split L m w order.1 l in
@@ -127,7 +127,7 @@ split ((n, v) ∷ L) m w order (inr l) =
       part = λ k u j. inr (s.part k u j);
       above = s.above;
       ordered = s.ordered;
-      all = λ k u j more. elim j [ | inl here ↦ let k_is : k ≡ n = ap (λ (z : ℕ × Wait). z.0) here in absurd (omega arith) | inr later ↦ s.all k u later more ];
+      all = λ k u j more. elim j [ inl here ↦ let k_is : k ≡ n = ap (λ (z : ℕ × Wait). z.0) here in absurd (omega arith) | inr later ↦ s.all k u later more ];
     }
 
 -- ---- by number
@@ -171,7 +171,7 @@ due-fired m w ns L S rising here s due = record {
       let le : m ≤ n = rising.0 n a in
       let left : cond (fires S w && (n == m)) None (wait S n) ≡ Some v = sym (wait-fire S m w n) ∙ e in
       let other : n ≡ m → ⊥ = λ is. none-some _ (λ i. cond (here i && eq-eqb n m is i) None (wait S n)) left in
-      let less : m < n = elim (cases_lt m n) [ | inl less ↦ less | inr ge ↦ let is : n ≡ m = omega arith in absurd (other is) ] in
+      let less : m < n = elim (cases_lt m n) [ inl less ↦ less | inr ge ↦ let is : n ≡ m = omega arith in absurd (other is) ] in
       let apart : (n == m) ≡ false = not_true (n == m) (λ q. other (eqb-true n m q)) in
       let stood : wait S n ≡ Some v = sym (ap (λ b. cond (fires S w && b) None (wait S n)) apart ∙ none-of (fires S w) (wait S n)) ∙ left in
       s.all n v (due.within n v (or_right (m == n) (among ns n) a) stood (sym (fires-fire S m w v) ∙ t)) less;
@@ -198,7 +198,7 @@ fired-first m ns L S rising order due others = by (wait S m) refl
         let s : IsSplit L m w = split L m w order l in
         ap (λ T. fold fire_number T ns) (number-is (Some w) e)
         ∙ others s.behind (fire S (m, w)) s.ordered (due-fired m w ns L S rising t s due)
-        ∙ sym (s.same S (λ n v j u. elim (or_true (m == n) (among ns n) (due.cover n v j u)) [ | inl same ↦ let is : m ≡ n = eqb-true m n same in omega arith | inr later ↦ rising.0 n later ]))
+        ∙ sym (s.same S (λ n v j u. elim (or_true (m == n) (among ns n) (due.cover n v j u)) [ inl same ↦ let is : m ≡ n = eqb-true m n same in omega arith | inr later ↦ rising.0 n later ]))
 
     one : (w v : Wait) → wait S m ≡ Some w → wait S m ≡ Some v → fires S w ≡ fires S v
     one w v e f = ap (fires S) (some_one w v (sym e ∙ f))

@@ -1,9 +1,8 @@
 -- Firing by number: each raises the next number of a port by one at most.
-use Rattle.std.proofs.Common.{◌≡◌, ◌<◌, ◌≤◌, ◌^◌, ℕ, zero, suc, ◌+◌, Bool, true, false, cond, List, [], ◌∷◌, ◌++◌, length, map, take, get_or, Option, Some, None, option_and_then, refl, sym, ap, ◌∙◌, subst, arith, append_assoc, inl, inr}
+use Rattle.std.proofs.Common.{◌≡◌, ◌<◌, ◌≤◌, ◌^◌, ℕ, zero, suc, ◌+◌, Bool, true, false, cond, List, [], ◌∷◌, length, take, Option, Some, None, option_and_then, refl, sym, ap, ◌∙◌, subst, arith}
 use Rattle.std.specs.Prelude.{if◌then◌else◌, ◌==◌}
-use Rattle.std.specs.List.{cons_option, filter, filter_map, flat_map, fold}
+use Rattle.std.specs.List.{fold}
 use Rattle.std.proofs.lemmas.Bool.{eqb-true}
-use Rattle.zt_rows.specs.declared.keys.RowKey.{RowKey}
 use Rattle.zt_rows.specs.declared.keys.RowKey.TheVariants as key
 use Rattle.zt_rows.specs.declared.rows.ObjectRow.{ObjectRow}
 use Rattle.zt_rows.specs.declared.rows.Packet.{Packet}
@@ -11,15 +10,10 @@ use Rattle.zt_rows.specs.declared.rows.Wait.{Wait}
 use Rattle.zt_rows.specs.declared.rows.Row.{Row}
 use Rattle.zt_rows.specs.declared.rows.Row.TheVariants as rows
 use Rattle.zt_rows.specs.State.{State, row, put, change}
-use Rattle.zt_rows.specs.Change.{keys}
-use Rattle.zt_rows.specs.Reads.{as_object, as_wait, object, wait, waits, wait_at}
-use Rattle.zt_rows.specs.Room.{is_above, next_key}
+use Rattle.zt_rows.specs.Reads.{as_object, as_wait, object, wait, waits}
 use Rattle.zt_rows.specs.Tests.{next_at, object_next, raised}
 use Rattle.zt_rows.specs.Settle.{refreshed, refresh, fire, fire_into, push_packet, is_met, news, settle}
 use Rattle.zt_rows.proofs.StateLaws.{row-change, row-put}
-use Rattle.zt_rows.proofs.RowLaws.{In, in-row}
-use Rattle.zt_rows.proofs.SettleLaws.{in-waits}
-use Rattle.zt_store.proofs.KeyWalks.{next_filtered, none-filter}
 use Rattle.zt_cascade.specs.Firing.{HasRoomToFire}
 use Rattle.zt_cascade.specs.Waking.{HasRoomFor, fire_if, fire_number}
 use Rattle.zt_cascade.proofs.FiredLaws.{wait-left}

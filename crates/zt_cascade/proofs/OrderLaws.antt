@@ -1,5 +1,5 @@
 -- The waits of a state stand by rising number.
-use Rattle.std.proofs.Common.{◌≡◌, ◌<◌, ℕ, Bool, true, false, List, [], ◌∷◌, refl, sym, ap, ◌∙◌, subst, arith, ◌⊎◌, inl, inr}
+use Rattle.std.proofs.Common.{◌≡◌, ◌<◌, ℕ, Bool, true, false, List, [], ◌∷◌, refl, sym, ap, subst, arith, inl, inr}
 use Rattle.std.specs.Prelude.{Option, None, Some, T, ◌&&◌}
 use Rattle.std.specs.FinMap.Entries as entries
 use Rattle.std.specs.List.{cons_option, filter_map}

@@ -1,9 +1,9 @@
 -- What a step can have woken: where it began consistent, a wait that is met was made in it, or is on an entry or at an
 -- object that it changed.
-use Rattle.std.proofs.Common.{◌≡◌, ◌<◌, ◌≤◌, ◌-◌, ◌^◌, ◌&&◌, ℕ, zero, suc, ◌+◌, Bool, true, false, not, List, [], ◌∷◌, ◌++◌, length, refl, sym, ap, ◌∙◌, subst, arith, ◌⊎◌, inl, inr}
+use Rattle.std.proofs.Common.{◌≡◌, ◌<◌, ◌≤◌, ◌-◌, ◌^◌, ℕ, suc, ◌+◌, Bool, true, false, not, List, [], ◌∷◌, ◌++◌, length, refl, sym, ap, ◌∙◌, subst, arith, inl, inr}
 use Rattle.std.specs.Prelude.{◌==◌, nat_le, Option, None, Some, slice_get, bit_and}
 use Rattle.std.specs.Option.{option_map_or}
-use Rattle.std.proofs.lemmas.Bool.{cases_lt, eqb-true, eq-eqb}
+use Rattle.std.proofs.lemmas.Bool.{cases_lt, eq-eqb}
 use Rattle.std.proofs.lemmas.Bool.Decides.{nat_tests}
 use Rattle.std.proofs.lemmas.Option.{slice_get_cases}
 use Rattle.zt_rows.specs.declared.keys.RowKey.{RowKey}
@@ -13,16 +13,16 @@ use Rattle.zt_rows.specs.declared.rows.Wait.{Wait}
 use Rattle.zt_rows.specs.Consistent.{IsConsistent}
 use Rattle.zt_rows.specs.Keys.{rowkey_eq}
 use Rattle.zt_rows.specs.KeyOrder.{rowkey_eq-equal}
-use Rattle.zt_rows.specs.State.{State, row}
+use Rattle.zt_rows.specs.State.{State}
 use Rattle.zt_rows.specs.Reads.{as_entry, as_object, as_wait, entry, wait}
 use Rattle.zt_rows.specs.Settle.{is_met, observed, signals_by}
-use Rattle.zt_rows.specs.Tests.{among, object_signals, signals_at}
+use Rattle.zt_rows.specs.Tests.{among, object_signals}
 use Rattle.zt_rows.proofs.RowLaws.{and_both, or_left, or_true, true≢false}
 use Rattle.zt_rows.proofs.ReadLaws.{some_one}
 use Rattle.zt_store.specs.Chains.{IsBehind, IsNext}
-use Rattle.zt_store.specs.Finding.{is_at, is_on, names, waits_where}
+use Rattle.zt_store.specs.Finding.{is_at, is_on, names}
 use Rattle.zt_store.specs.Stepping.{DiffersAtTouched, Stepping, listed}
-use Rattle.zt_cascade.specs.Waking.{HasMet, HasWoken, IsLonger, Lists}
+use Rattle.zt_cascade.specs.Waking.{HasMet, HasWoken, IsLonger}
 use Rattle.zt_cascade.proofs.TakingLaws.{among-left, among-right}
 
 -- ---- a walk over waits
@@ -117,10 +117,10 @@ woken-all s i list end so_far k there =
     no_value r x e f = cc
 
     past : length s.touched ≤ i
-    past = elim (slice_get_cases s.touched i).1 [ | inl w ↦ no_value (slice_get s.touched i) w.0 end w.2 | inr w ↦ w.0 ]
+    past = elim (slice_get_cases s.touched i).1 [ inl w ↦ no_value (slice_get s.touched i) w.0 end w.2 | inr w ↦ w.0 ]
 
     within : (j : ℕ) → slice_get s.touched j ≡ Some k → j < i
-    within j at = elim (slice_get_cases s.touched j).1 [ | inl w ↦ let less : j < length s.touched = w.1 in omega (arith, past) | inr w ↦ no_value (slice_get s.touched j) k w.1 at ]
+    within j at = elim (slice_get_cases s.touched j).1 [ inl w ↦ let less : j < length s.touched = w.1 in omega (arith, past) | inr w ↦ no_value (slice_get s.touched j) k w.1 at ]
 
 -- ---- what is met
 

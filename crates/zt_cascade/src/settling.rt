@@ -17,7 +17,7 @@ use zt_store::Step;
 
 /// Writes the derived signals anew, and then fires the waits that are met, by rising number. The step began
 /// consistent, so that only what is near a key that it put can have other signals than before. The work grows with
-/// these keys and with the numbers that waits were given, and not with the rows that there are. Refused for memory,
+/// these keys and with the waits on what changed, and not with the rows that there are. Refused for memory,
 /// the step is as it was begun.
 pub fn settle(step: &mut Step, alloc: Global) -> Result<(), AllocError>
     requires began { IsConsistent step.old.beginning }

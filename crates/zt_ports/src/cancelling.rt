@@ -16,7 +16,7 @@ use zt_signals::cancel_waits;
 use zt_store::Step;
 
 /// Takes away the waits for the port that the process made on the handle under the key, and the packets of such
-/// waits, and tells whether there was any. The port's packets and all places for waits are looked at.
+/// waits, and tells whether there was any. The port's packets and the waits on the handle are looked at.
 pub fn cancel(
     step: &mut Step,
     port: Koid,

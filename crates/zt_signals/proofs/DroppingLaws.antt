@@ -1,5 +1,5 @@
 -- The next wait that may be picked, and the waits as a column that is walked along.
-use Rattle.std.proofs.Common.{◌≡◌, ◌<◌, ◌&&◌, ℕ, Bool, true, false, Option, Some, None, refl, sym, ap, ◌∙◌, arith}
+use Rattle.std.proofs.Common.{◌≡◌, ◌<◌, ◌&&◌, ℕ, Bool, true, false, Option, Some, None, refl, ap}
 use Rattle.std.specs.Prelude.{◌^◌, ◌==◌}
 use Rattle.std.specs.Option.{option_map_or}
 use Rattle.zt_rows.specs.declared.keys.RowKey.{RowKey}

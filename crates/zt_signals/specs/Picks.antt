@@ -1,6 +1,5 @@
 -- What a walk over waits looks for, and where it goes on. This project's own form.
 use Rattle.std.specs.Prelude.{ℕ, Bool, Option}
-use Rattle.zt_rows.specs.declared.keys.RowKey.{RowKey}
 use Rattle.zt_rows.specs.declared.keys.RowKey.TheVariants as key
 use Rattle.zt_rows.specs.declared.rows.Wait.{Wait}
 use Rattle.zt_rows.specs.State.{State}

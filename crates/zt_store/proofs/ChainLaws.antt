@@ -1,13 +1,12 @@
 -- The links of items in buckets: what a search along them finds, and that they stay right when an item is put into a
 -- bucket or taken out.
-use Rattle.std.proofs.Common.{take_all, ◌≡◌, ◌<◌, ◌≤◌, ◌-◌, ◌==◌, arith, ℕ, zero, suc, Bool, true, false, cond, List, [], ◌∷◌, map, length, get_or, set, take, replicate, ◌++◌, Option, Some, None, refl, sym, ap, ◌∙◌, subst, inl, inr, ◌⊎◌, get_or-set_same, get_or-set_other}
+use Rattle.std.proofs.Common.{take_all, ◌≡◌, ◌<◌, ◌≤◌, ◌-◌, ◌==◌, arith, ℕ, zero, suc, Bool, true, false, cond, List, [], ◌∷◌, length, get_or, set, take, replicate, ◌++◌, Option, Some, None, refl, sym, ap, ◌∙◌, subst, inl, inr, get_or-set_same, get_or-set_other}
 use Rattle.std.specs.Prelude.{IfSome, if◌then◌else◌}
 use Rattle.std.proofs.lemmas.Bool.{cases_lt, eqb-true, eq-eqb}
-use Rattle.std.proofs.lemmas.List.{get_or-map, length-map, get_or_past}
-use Rattle.std.proofs.Math.Seq.{map-set_same}
+use Rattle.std.proofs.lemmas.List.{length-map, get_or_past}
 use Rattle.zt_store.specs.declared.chains.Link.{Link}
 use Rattle.zt_store.specs.declared.chains.Ends.{Ends}
-use Rattle.zt_store.specs.Chains.{IsBehind, IsShortOf, IsNext, IsPrevious, IsWithin, IsBesides, IsChained, is_slot, is_bucket, is_in, bucket_at, buckets, next_of, before_of, no_link, no_ends}
+use Rattle.zt_store.specs.Chains.{IsBehind, IsNext, IsPrevious, IsWithin, IsBesides, IsChained, is_slot, is_bucket, is_in, bucket_at, buckets, next_of, before_of, no_link, no_ends}
 use Rattle.zt_store.proofs.ChainOrder.{IsSingle, IsLinked, ComesIn, GoesOut, linked-alike, linked-in, linked-out, rising, falling}
 
 -- ---- a search for the next item

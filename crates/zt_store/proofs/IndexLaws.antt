@@ -1,5 +1,5 @@
 -- The waits by what they are on: what a put makes of their buckets, and the search for the next one.
-use Rattle.std.proofs.Common.{◌≡◌, ◌<◌, ◌≤◌, ◌+◌, ◌-◌, ◌&&◌, arith, ℕ, suc, Bool, true, false, not, cond, List, length, length-set, get_or, set, Option, Some, None, refl, sym, ap, ◌∙◌, subst, ◌⊎◌, inl, inr, get_or-set_same, get_or-set_other}
+use Rattle.std.proofs.Common.{◌≡◌, ◌<◌, ◌≤◌, ◌+◌, ◌-◌, ◌&&◌, arith, ℕ, suc, Bool, true, false, not, cond, List, length, length-set, set, Option, Some, None, refl, sym, ap, ◌∙◌, subst, ◌⊎◌, inl, inr, get_or-set_same, get_or-set_other}
 use Rattle.std.specs.Prelude.{◌==◌, if◌then◌else◌, nat_lt}
 use Rattle.std.specs.Option.{option_and_then, option_map, option_map_or}
 use Rattle.std.proofs.lemmas.Bool.{cases_lt, eqb-true, eq-eqb, ltb-true}
@@ -25,7 +25,6 @@ use Rattle.zt_store.specs.Shelves.{Shelves, has_place, no_shelves}
 use Rattle.zt_store.specs.Chains.{IsBehind, IsNext, bucket_at, is_bucket, is_in}
 use Rattle.zt_store.specs.Finding.{is_at, is_for, is_on, names, waits_where}
 use Rattle.zt_store.specs.Indexed.{HasBuckets, IsIndexed, IsRoomy, bucket_for, bucket_of, bucket_on, handle_bucket, held_bucket, index_with, koid_bucket, waits_after}
-use Rattle.zt_store.proofs.ChainLaws.{in-below}
 
 -- ---- puts
 

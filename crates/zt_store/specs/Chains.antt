@@ -1,5 +1,5 @@
 -- Numbered items in buckets, each in one or in none, and what comes next in a bucket: the least item above a low one.
-use Rattle.std.specs.Prelude.{◌≡◌, ◌<◌, ◌≤◌, ◌^◌, ◌==◌, ℕ, Bool, true, false, ⊤, if◌then◌else◌, List, length, map, slice_index_or, Option, None, Some, IfSome}
+use Rattle.std.specs.Prelude.{◌≡◌, ◌<◌, ◌≤◌, ◌^◌, ◌==◌, ℕ, Bool, true, false, ⊤, List, length, map, slice_index_or, Option, None, Some, IfSome}
 use Rattle.zt_store.specs.declared.chains.Link.{Link}
 use Rattle.zt_store.specs.declared.chains.Ends.{Ends}
 

@@ -1,7 +1,7 @@
 -- The waits on a handle, those for a port and those at an object, by the rows: and the buckets by which a store
 -- finds them.
-use Rattle.std.specs.Prelude.{max, ◌≡◌, ◌+◌, ◌/◌, ◌%◌, ◌≤◌, ◌<◌, ◌==◌, ◌&&◌, ⊤, ℕ, Bool, false, List, length, Option, None, Some, slice_set}
-use Rattle.std.specs.Option.{option_and_then, option_map, option_map_or}
+use Rattle.std.specs.Prelude.{max, ◌≡◌, ◌+◌, ◌/◌, ◌%◌, ◌≤◌, ⊤, ℕ, Bool, List, length, Option, slice_set}
+use Rattle.std.specs.Option.{option_and_then, option_map}
 use Rattle.zt_rows.specs.declared.keys.RowKey.{RowKey}
 use Rattle.zt_rows.specs.declared.keys.RowKey.TheVariants as key
 use Rattle.zt_rows.specs.declared.rows.Held.{Held}

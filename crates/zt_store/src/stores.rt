@@ -179,13 +179,7 @@ impl Store {
     {
         let bucket = koid_bucket(port);
         let index = self.index.index();
-        next_wait(
-            &self.cells,
-            &index.ports,
-            bucket,
-            Sought::For(port),
-            low,
-        )
+        next_wait(&self.cells, &index.ports, bucket, Sought::For(port), low)
     }
 
     /// The least number above the low one, or of all, of a wait on a handle that names the object. It takes no memory,
@@ -195,13 +189,7 @@ impl Store {
     {
         let bucket = koid_bucket(koid);
         let index = self.index.index();
-        next_wait(
-            &self.cells,
-            &index.objects,
-            bucket,
-            Sought::At(koid),
-            low,
-        )
+        next_wait(&self.cells, &index.objects, bucket, Sought::At(koid), low)
     }
 
     /// The object of the koid. It takes no memory.

@@ -1,4 +1,4 @@
-use Rattle.std.proofs.Common.{◌≡◌, ℕ, Some, true, false, sym, ap, ◌∙◌, subst}
+use Rattle.std.proofs.Common.{◌≡◌, Some, true, false, sym, ap, ◌∙◌, subst}
 use Rattle.std.specs.Prelude.{None}
 use Rattle.zt_rows.specs.Tests.{is_port}
 use Rattle.zt_rows.proofs.RowLaws.{true≢false}

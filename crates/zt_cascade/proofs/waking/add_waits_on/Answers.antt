@@ -1,4 +1,4 @@
-use Rattle.std.proofs.Common.{◌≡◌, ◌<◌, ◌^◌, ℕ, Bool, Some, subst, arith}
+use Rattle.std.proofs.Common.{◌<◌, ◌^◌, ℕ, Bool, Some, subst, arith}
 use Rattle.zt_store.specs.Chains.{IsNext}
 use Rattle.zt_store.specs.Finding.{is_on, waits_where}
 use Rattle.zt_cascade.proofs.WakingLaws.{fewer-left, longer-pushed, passed-end, passed-next}

@@ -1,6 +1,6 @@
-use Rattle.std.proofs.Common.{◌≡◌, ◌<◌, ℕ, Bool, true, false, Some, Option, length, sym, ◌∙◌, subst}
+use Rattle.std.proofs.Common.{◌<◌, ℕ, Bool, false, Some, Option, length, sym, subst}
 use Rattle.std.specs.Prelude.{IsTrue}
-use Rattle.zt_store.specs.Chains.{IsBehind, IsBesides, IsNext, buckets, is_in}
+use Rattle.zt_store.specs.Chains.{IsBesides, IsNext, buckets, is_in}
 use Rattle.zt_store.proofs.ChainLaws.{above-shorter, besides-more, room_above}
 use Rattle.zt_store.proofs.chains.after.Goals as goal
 

@@ -1,4 +1,4 @@
-use Rattle.std.proofs.Common.{◌≡◌, ◌<◌, ℕ, Bool, Some, Option, sym, ◌∙◌, subst}
+use Rattle.std.proofs.Common.{◌<◌, ℕ, Bool, Some, Option, sym, ◌∙◌, subst}
 use Rattle.zt_store.specs.Chains.{IsPrevious, buckets, is_in}
 use Rattle.zt_store.proofs.ChainLaws.{below-shorter, room_below}
 use Rattle.zt_store.proofs.chains.around.Goals as goal

@@ -1,4 +1,4 @@
-use Rattle.std.proofs.Common.{◌≡◌, ℕ, Bool, true, Some, None, Option, sym, ◌∙◌, subst}
+use Rattle.std.proofs.Common.{ℕ, Bool, Some, None, Option, sym, ◌∙◌, subst}
 use Rattle.zt_store.specs.Chains.{IsBesides, IsNext, buckets, is_in}
 use Rattle.zt_store.proofs.ChainLaws.{besides-next, besides-first}
 use Rattle.zt_store.proofs.chains.beside.Goals as goal

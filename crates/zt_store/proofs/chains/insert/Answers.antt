@@ -1,7 +1,7 @@
-use Rattle.std.proofs.Common.{◌≡◌, ◌<◌, ℕ, Bool, true, cond, Some, None, Option, List, length, set, get_or, refl, sym, ap, ◌∙◌, subst, arith, get_or-set_same}
+use Rattle.std.proofs.Common.{◌<◌, ℕ, Bool, cond, Some, Option, List, length, set, ap, ◌∙◌, arith, get_or-set_same}
 use Rattle.std.proofs.lemmas.List.{map-set}
 use Rattle.zt_store.specs.declared.chains.Link.{Link}
-use Rattle.zt_store.specs.Chains.{buckets, bucket_at, before_of, next_of, is_in, is_slot, no_link}
+use Rattle.zt_store.specs.Chains.{buckets, before_of, next_of, is_in, is_slot, no_link}
 use Rattle.zt_store.proofs.ChainLaws.{inserted, lengths-same, next-other, before-other, not-slot-before, not-slot-next}
 use Rattle.zt_store.proofs.chains.insert.Goals as goal
 

@@ -1,4 +1,4 @@
-use Rattle.std.proofs.Common.{Some, None, ap, sym, ◌∙◌, set, Option, ℕ}
+use Rattle.std.proofs.Common.{Some, None, ap, sym, ◌∙◌, set}
 use Rattle.std.proofs.lemmas.List.{set-set}
 use Rattle.zt_store.specs.Chains.{buckets}
 use Rattle.zt_store.proofs.chains.place.Goals as goal

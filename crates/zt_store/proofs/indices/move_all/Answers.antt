@@ -2,7 +2,7 @@ use Rattle.std.proofs.Common.{◌≡◌, ◌<◌, ℕ, Bool, Some, refl, sym, �
 use Rattle.zt_store.specs.Chains.{IsNext}
 use Rattle.zt_store.specs.Finding.{is_on, waits_where}
 use Rattle.zt_store.proofs.ChainLaws.{in-below}
-use Rattle.zt_store.proofs.IndexLaws.{moved-start, moved-next, moved-end, moved-set, left-shorter, none-next}
+use Rattle.zt_store.proofs.IndexLaws.{moved-start, moved-end, moved-set, left-shorter, none-next}
 use Rattle.zt_store.proofs.indices.move_all.Goals as goal
 
 pub waits-init : goal.waits-init

@@ -1,9 +1,9 @@
-use Rattle.std.proofs.Common.{◌≡◌, ℕ, Bool, true, false, Option, Some, None, sym, ◌∙◌, subst, length}
+use Rattle.std.proofs.Common.{Some, sym, ◌∙◌, subst, length}
 use Rattle.zt_store.specs.Chains.{IsNext, is_in}
 use Rattle.zt_store.specs.Finding.{waits_where}
 use Rattle.zt_store.specs.Indexed.{is_sought}
 use Rattle.zt_store.proofs.ChainLaws.{in-below}
-use Rattle.zt_store.proofs.IndexLaws.{passed-none, passed-found, passed-end, passed-more, left-shorter}
+use Rattle.zt_store.proofs.IndexLaws.{passed-none, passed-found, passed-more, left-shorter}
 use Rattle.zt_store.proofs.indices.next_wait.Goals as goal
 
 pub waits-init : goal.waits-init

@@ -1,6 +1,6 @@
 use Rattle.std.proofs.Common.{arith, ap, sym, ◌∙◌}
 use Rattle.zt_store.specs.declared.chains.Link.{Link}
-use Rattle.zt_store.specs.Chains.{buckets, bucket_at}
+use Rattle.zt_store.specs.Chains.{bucket_at}
 use Rattle.zt_store.proofs.ChainLaws.{bucket-link, more-links, more-ends}
 use Rattle.zt_store.proofs.chains.Chains.grow.Goals as goal
 
