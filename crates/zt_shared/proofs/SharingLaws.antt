@@ -34,7 +34,7 @@ row_of client asked answered = record { client = client; asked = asked; answered
 pub told-row : (other client : ℕ) (c : Command) (a : Answer) (b : Bool) → (client == other) ≡ b → told_to other (row_of client c a ∷ []) ≡ cond b ((c, a) ∷ []) []
 told-row other client c a b is =
     let tells : (b : Bool) → map said_in (cond b (row_of client c a ∷ []) []) ≡ cond b ((c, a) ∷ []) [] =
-        λ b. elim b as (λ b. map said_in (cond b (row_of client c a ∷ []) []) ≡ cond b ((c, a) ∷ []) []) [ true ↦ refl | false ↦ refl ] in
+    λ b. elim b as (λ b. map said_in (cond b (row_of client c a ∷ []) []) ≡ cond b ((c, a) ∷ []) []) [ true ↦ refl | false ↦ refl ] in
     ap (λ t. map said_in (cond t (row_of client c a ∷ []) [])) is ∙ tells b
 
 pub told-more : (other client : ℕ) (c : Command) (a : Answer) (log : List Recorded) (b : Bool) → (client == other) ≡ b
@@ -130,13 +130,12 @@ pub pinned-turn : (client : ℕ) (base begin M N : Session) (old new : List (Com
     → part client base old ≡ q → shown begin M log ≡ z → IsPartOf q z.log z.session
     → IfOk r (λ a. serve M client command.Pin ≡ Ok (a.0, N)) → IfOk r (λ a. a.1 ≡ snapshot_at M.tree (position_of M client)) → IfOk r (λ a. new ≡ old ++ (command.Pin, a.0) ∷ [])
     → IfOk r (λ a. IsPinned (part client base new) a.0 a.1)
-pinned-turn client base begin M N old new q z log (Ok a) pass desk known served frozen rows =
-    (
-      log,
-      N,
-      answered-part (part client base old) (part client base new) log M N command.Pin a.0 (part-here (part client base old) q z begin M log pass desk known) served refl refl rows,
-      rw frozen (pin-copies M N client a.0 served),
-    )
+pinned-turn client base begin M N old new q z log (Ok a) pass desk known served frozen rows = (
+  log,
+  N,
+  answered-part (part client base old) (part client base new) log M N command.Pin a.0 (part-here (part client base old) q z begin M log pass desk known) served refl refl rows,
+  rw frozen (pin-copies M N client a.0 served),
+)
 pinned-turn client base begin M N old new q z log (Err why) pass desk known served frozen rows = served
 
 -- what refuses a command refuses it where a log ends of which the client has its part

@@ -73,17 +73,28 @@ impl<A: Naming + Beginning, B: Naming, C: Naming, D: Naming> Desk<A, B, C, D> {
         self.agree(pass);
         match &mut pass.seat {
             Seat::First(side) => turn(self.alloc, &mut self.book, &mut self.first, side, 1, asked),
-            Seat::Second(side) => turn(self.alloc, &mut self.book, &mut self.second, side, 2, asked),
+            Seat::Second(side) => turn(
+                self.alloc,
+                &mut self.book,
+                &mut self.second,
+                side,
+                2,
+                asked,
+            ),
             Seat::Third(side) => turn(self.alloc, &mut self.book, &mut self.third, side, 3, asked),
-            Seat::Fourth(side) => turn(self.alloc, &mut self.book, &mut self.fourth, side, 4, asked),
+            Seat::Fourth(side) => turn(
+                self.alloc,
+                &mut self.book,
+                &mut self.fourth,
+                side,
+                4,
+                asked,
+            ),
         }
     }
 
     /// As `ask` of the command that pins, with a copy of the history at the client's position.
-    pub(crate) fn pin(
-        &mut self,
-        pass: &mut Pass<A, B, C, D>,
-    ) -> Result<(Answer, Frozen), Refusal>
+    pub(crate) fn pin(&mut self, pass: &mut Pass<A, B, C, D>) -> Result<(Answer, Frozen), Refusal>
         ensures who { pass.new.client ≡ pass.old.client }
         ensures base { pass.new.base ≡ pass.old.base }
         ensures added { IfOk result (λ pinned. pass.new.rows ≡ pass.old.rows ++ (command.Pin, pinned.0) ∷ []) }

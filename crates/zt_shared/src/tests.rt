@@ -105,7 +105,10 @@ fn four_commands<A: Naming + Beginning, B: Naming, C: Naming, D: Naming, R: Wait
     };
     let create = Call::ChannelCreate;
     let shut = Call::HandleClose { handle: FAR };
-    let write = Call::ChannelWrite { handle: NEAR, parcel };
+    let write = Call::ChannelWrite {
+        handle: NEAR,
+        parcel,
+    };
     let when = Command::When(Happening::PeerClosed, Koid(1026));
     ask(rt, &shared, &mut one, &Command::Call(ROOT, create))?;
     ask(rt, &shared, &mut two, &Command::Call(ROOT, shut))?;
@@ -125,7 +128,12 @@ fn pins<A: Naming + Beginning, B: Naming, C: Naming, D: Naming, R: Wait + Abort>
 ) -> Result<Log, Refusal>
     requires { A.clients ≡ 2 }
 {
-    ask(rt, &shared, &mut one, &Command::Call(ROOT, Call::ChannelCreate))?;
+    ask(
+        rt,
+        &shared,
+        &mut one,
+        &Command::Call(ROOT, Call::ChannelCreate),
+    )?;
     let (answer, copy) = match shared.pin(rt, &mut one) {
         Ok(pinned) => pinned,
         Err(_) => {
@@ -149,7 +157,13 @@ fn makes_events<A: Naming + Beginning, B: Naming, C: Naming, D: Naming, R: Wait>
     pass
 }
 
-fn often<A: Naming + Beginning + Send + Sync, B: Naming + Send + Sync, C: Naming + Send + Sync, D: Naming + Send + Sync, R: Threads + Wait + Abort + Sync>(
+fn often<
+    A: Naming + Beginning + Send + Sync,
+    B: Naming + Send + Sync,
+    C: Naming + Send + Sync,
+    D: Naming + Send + Sync,
+    R: Threads + Wait + Abort + Sync,
+>(
     rt: &R,
     alloc: Global,
     shared: Shared<A, B, C, D>,
@@ -167,12 +181,13 @@ fn often<A: Naming + Beginning + Send + Sync, B: Naming + Send + Sync, C: Naming
     close_both(rt, alloc, shared, one, two)
 }
 
-fn opened<A: Naming + Beginning + Send + Sync, B: Naming + Send + Sync, C: Naming + Send + Sync, D: Naming + Send + Sync, R: Threads + Wait + Abort + Sync>(
-    rt: &R,
-    alloc: Global,
-    blanks: Blanks,
-    trial: Trial,
-) -> Result<Log, Refusal>
+fn opened<
+    A: Naming + Beginning + Send + Sync,
+    B: Naming + Send + Sync,
+    C: Naming + Send + Sync,
+    D: Naming + Send + Sync,
+    R: Threads + Wait + Abort + Sync,
+>(rt: &R, alloc: Global, blanks: Blanks, trial: Trial) -> Result<Log, Refusal>
     requires base { (blanks.base ≡ A.base) × (blanks.clients ≡ A.clients) }
     requires first { IsNamed A.name A.parts A.cells blanks.first }
     requires second { IsNamed B.name B.parts B.cells blanks.second }
@@ -211,10 +226,34 @@ fn row(log: &Log, number: usize, client: u8) -> Option<&Answer> {
 
 fn check_four(rt: &impl Abort, log: &Log) {
     assert!(rt; log.len() == 4);
-    assert!(rt; matches!(row(log, 0, 1), Some(Answer::Called(Moment(1), Reply::Handles(NEAR, FAR)))));
-    assert!(rt; matches!(row(log, 1, 2), Some(Answer::Called(Moment(2), Reply::Status(Status::Ok)))));
-    assert!(rt; matches!(row(log, 2, 1), Some(Answer::Called(Moment(3), Reply::Status(Status::PeerClosed)))));
-    assert!(rt; matches!(row(log, 3, 1), Some(Answer::When(Some(Event { moment: Moment(2), process: ROOT, call: Call::HandleClose { handle: FAR } })))));
+    assert!(rt;
+        matches!(
+            row(log, 0, 1),
+            Some(Answer::Called(Moment(1), Reply::Handles(NEAR, FAR)))
+        )
+    );
+    assert!(rt;
+        matches!(
+            row(log, 1, 2),
+            Some(Answer::Called(Moment(2), Reply::Status(Status::Ok)))
+        )
+    );
+    assert!(rt;
+        matches!(
+            row(log, 2, 1),
+            Some(Answer::Called(Moment(3), Reply::Status(Status::PeerClosed)))
+        )
+    );
+    assert!(rt;
+        matches!(
+            row(log, 3, 1),
+            Some(Answer::When(Some(Event {
+                moment: Moment(2),
+                process: ROOT,
+                call: Call::HandleClose { handle: FAR }
+            })))
+        )
+    );
 }
 
 #[test]
@@ -261,7 +300,9 @@ fn replays(book: &mut Book, log: &Log) -> bool {
             return false;
         }
         match book.serve(row.client, &row.asked) {
-            Ok(answer) => same = same && made(&answer) == made(&row.answered) && made(&answer).is_some(),
+            Ok(answer) => same = same
+                && made(&answer) == made(&row.answered)
+                && made(&answer).is_some(),
             Err(_) => return false,
         }
     }

@@ -117,6 +117,6 @@ pub(crate) fn pin_turn<N: Naming>(
                 }
             }
         }
-        Err(why) => Err(why),
+        Err(refusal) => Err(refusal),
     }
 }

@@ -27,7 +27,7 @@ returns-clause-passes g c =
     let clients = c.blanks.inside.clients in
     let many : clients ≡ c.args.blanks.clients = ap (λ b. b.clients) c.blanks.view_is in
     let base : begun clients told.known ≡ c.args.book.session =
-        noted-begun c.args.blanks.clients clients c.args.book c.history.result.now.tree told.known (sym many) c.requires.fresh c.history.ensures known in
+    noted-begun c.args.blanks.clients clients c.args.book c.history.result.now.tree told.known (sym many) c.requires.fresh c.history.ensures known in
     let at = λ (n : Note (List (ℕ × Call))). begun clients n.known in
     handed-all clients c.args.blanks.clients c.args.book.session _ _ _ _ _ _ _ _ _ many c.blanks.invariant
     c.in-Ok.ensures.items c.hand_out.ensures.passes c.hand_out-2.ensures.passes c.hand_out-3.ensures.passes c.hand_out-4.ensures.passes

@@ -47,16 +47,16 @@ returns-clause-answered g c =
     let pass = c.pass.view_is ∙ c.agree.ensures.pass in
     let desk = c.self.view_is ∙ c.agree.ensures.desk in
     elim c.match-pass.branch [
-      in-First w ↦
+      | in-First w ↦
           rw (w.result-is, w.pass-inside-is) (answered-turn 1 base begin d.book.session w.turn.new.book.session w.in-First.side w.turn.new.mine c.args.pass.now c.args.self.now d.book.log
           c.args.asked w.turn.result (ap (λ seat. part (seat_number seat) base (seat_rows seat)) (sym w.in-First.is) ∙ pass) desk c.agree.ensures.part w.turn.ensures.served w.turn.ensures.mine)
-    | in-Second w ↦
+      | in-Second w ↦
           rw (w.result-is, w.pass-inside-is) (answered-turn 2 base begin d.book.session w.turn-in-Second.new.book.session w.in-Second.side w.turn-in-Second.new.mine c.args.pass.now c.args.self.now d.book.log
           c.args.asked w.turn-in-Second.result (ap (λ seat. part (seat_number seat) base (seat_rows seat)) (sym w.in-Second.is) ∙ pass) desk c.agree.ensures.part w.turn-in-Second.ensures.served w.turn-in-Second.ensures.mine)
-    | in-Third w ↦
+      | in-Third w ↦
           rw (w.result-is, w.pass-inside-is) (answered-turn 3 base begin d.book.session w.turn-in-Third.new.book.session w.in-Third.side w.turn-in-Third.new.mine c.args.pass.now c.args.self.now d.book.log
           c.args.asked w.turn-in-Third.result (ap (λ seat. part (seat_number seat) base (seat_rows seat)) (sym w.in-Third.is) ∙ pass) desk c.agree.ensures.part w.turn-in-Third.ensures.served w.turn-in-Third.ensures.mine)
-    | in-Fourth w ↦
+      | in-Fourth w ↦
           rw (w.result-is, w.pass-inside-is) (answered-turn 4 base begin d.book.session w.turn-in-Fourth.new.book.session w.in-Fourth.side w.turn-in-Fourth.new.mine c.args.pass.now c.args.self.now d.book.log
           c.args.asked w.turn-in-Fourth.result (ap (λ seat. part (seat_number seat) base (seat_rows seat)) (sym w.in-Fourth.is) ∙ pass) desk c.agree.ensures.part w.turn-in-Fourth.ensures.served w.turn-in-Fourth.ensures.mine)
     ]

@@ -48,16 +48,16 @@ returns-clause-answered g c =
     let pass = c.pass.view_is ∙ c.agree.ensures.pass in
     let desk = c.self.view_is ∙ c.agree.ensures.desk in
     elim c.match-pass.branch [
-      in-First w ↦
+      | in-First w ↦
           rw (w.result-is, w.pass-inside-is) (pinned-turn 1 base begin d.book.session w.pin_turn.new.book.session w.in-First.side w.pin_turn.new.mine c.args.pass.now c.args.self.now d.book.log
           w.pin_turn.result (ap (λ seat. part (seat_number seat) base (seat_rows seat)) (sym w.in-First.is) ∙ pass) desk c.agree.ensures.part w.pin_turn.ensures.served w.pin_turn.ensures.frozen w.pin_turn.ensures.mine)
-    | in-Second w ↦
+      | in-Second w ↦
           rw (w.result-is, w.pass-inside-is) (pinned-turn 2 base begin d.book.session w.pin_turn-in-Second.new.book.session w.in-Second.side w.pin_turn-in-Second.new.mine c.args.pass.now c.args.self.now d.book.log
           w.pin_turn-in-Second.result (ap (λ seat. part (seat_number seat) base (seat_rows seat)) (sym w.in-Second.is) ∙ pass) desk c.agree.ensures.part w.pin_turn-in-Second.ensures.served w.pin_turn-in-Second.ensures.frozen w.pin_turn-in-Second.ensures.mine)
-    | in-Third w ↦
+      | in-Third w ↦
           rw (w.result-is, w.pass-inside-is) (pinned-turn 3 base begin d.book.session w.pin_turn-in-Third.new.book.session w.in-Third.side w.pin_turn-in-Third.new.mine c.args.pass.now c.args.self.now d.book.log
           w.pin_turn-in-Third.result (ap (λ seat. part (seat_number seat) base (seat_rows seat)) (sym w.in-Third.is) ∙ pass) desk c.agree.ensures.part w.pin_turn-in-Third.ensures.served w.pin_turn-in-Third.ensures.frozen w.pin_turn-in-Third.ensures.mine)
-    | in-Fourth w ↦
+      | in-Fourth w ↦
           rw (w.result-is, w.pass-inside-is) (pinned-turn 4 base begin d.book.session w.pin_turn-in-Fourth.new.book.session w.in-Fourth.side w.pin_turn-in-Fourth.new.mine c.args.pass.now c.args.self.now d.book.log
           w.pin_turn-in-Fourth.result (ap (λ seat. part (seat_number seat) base (seat_rows seat)) (sym w.in-Fourth.is) ∙ pass) desk c.agree.ensures.part w.pin_turn-in-Fourth.ensures.served w.pin_turn-in-Fourth.ensures.frozen w.pin_turn-in-Fourth.ensures.mine)
     ]
