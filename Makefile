@@ -4,12 +4,14 @@
 # make test   the gate: everything from nothing
 # make quick  runs the program on standard input before any proof
 # make cases  proves and runs the worked runs, and says of each whether it went as told
+# make statuses  meets each exit status of the program once
+# make tutorial  replays the tutorial and says where the program prints something else
 # make times  what each crate costs the gate, in processor seconds
 # make bench  how the cost of a call grows with the calls before it
 # make refusals  refuses each request for memory in turn, in the tests that are to pass whichever it is
 PREFIX ?= /usr/local
 
-.PHONY: all install run test quick cases times bench refusals
+.PHONY: all install run test quick cases statuses tutorial times bench refusals
 
 all:
 	cd crates/zxtt && rt run </dev/null >/dev/null
@@ -33,6 +35,12 @@ refusals:
 cases:
 	cd crates/worked_runs && rt run </dev/null >/dev/null
 	cd crates/worked_runs/data && ../out/worked_runs
+
+statuses:
+	tools/statuses
+
+tutorial: all
+	tools/tutorial
 
 times:
 	tools/times

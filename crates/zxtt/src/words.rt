@@ -97,7 +97,7 @@ impl Words {
 }
 
 /// The command line.
-fn command(alloc: Global) -> Result<Command<'static>, Error> {
+fn command<'a>(alloc: Global) -> Result<Command<'a>, Error> {
     Ok(
         Command::new(alloc, "zxtt")
             .version("0.1")
@@ -109,7 +109,7 @@ fn command(alloc: Global) -> Result<Command<'static>, Error> {
 }
 
 /// The words behind `run`.
-fn run_command(alloc: Global) -> Result<Command<'static>, Error> {
+fn run_command<'a>(alloc: Global) -> Result<Command<'a>, Error> {
     let file = Arg::new(alloc, "FILE")
         .action(ArgAction::Set)
         .default_value("-")

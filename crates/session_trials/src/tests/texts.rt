@@ -1,0 +1,51 @@
+//! Session texts of a million calls, and books of too many clients.
+
+use std::alloc::Global;
+use std::test::Fail;
+use zt_console::{Book, load_text, main_text};
+use zt_rows::Refusal;
+
+/// The calls of a session text.
+const CALLS: usize = 1_000_000;
+
+/// Four calls of a process that makes an event, raises a signal of it twice, and makes another event.
+const FOUR_CALLS: &[u8] =
+    b"1025 event_create\n1025 object_signal 7 0x00000000 0x00000008\n1025 object_signal 7 0x00000008 0x01000000\n1025 event_create\n";
+
+/// A session text of so many times the four calls.
+fn text_of(alloc: Global, times: usize) -> Result<Vec<u8>, Fail> {
+    let mut text = Vec::new(alloc);
+    text.extend_from_slice(b"zxtt 1\n")?;
+    for _ in 0..times {
+        text.extend_from_slice(FOUR_CALLS)?;
+    }
+    Ok(text)
+}
+
+#[test]
+fn a_million_calls_are_loaded_and_saved(rt: HostRuntime) -> Result<(), Fail> {
+    let alloc = rt.alloc();
+    let text = text_of(alloc, CALLS / 4)?;
+    match load_text(alloc, 1, text.as_slice()) {
+        Ok(book) => {
+            let saved = main_text(alloc, &book)?;
+            assert!(rt; saved.as_slice() == text.as_slice());
+            Ok(())
+        }
+        Err((_, refusal)) => Err(refusal.into()),
+    }
+}
+
+#[test]
+fn more_than_four_clients_are_too_many(rt: HostRuntime) -> Result<(), Fail> {
+    let alloc = rt.alloc();
+    assert!(rt; matches!(Book::new(alloc, 5), Err(Refusal::TooManyClients)));
+    assert!(rt;
+        matches!(
+            load_text(alloc, 5, b"zxtt 1\n"),
+            Err((0, Refusal::TooManyClients))
+        )
+    );
+    assert!(rt; Book::new(alloc, 4).is_ok());
+    Ok(())
+}
