@@ -1,11 +1,14 @@
 //! A client's commands where memory is ample, and with each request for memory refused in turn.
 ghost use Rattle.std.specs.Prelude.{◌≡◌, ◌≤◌, length};
 
+use std::alloc::{AllocError, Global};
 use std::process::Abort;
 use std::test::Fail;
 use zt_bits::Signals;
 use zt_console::Book;
-use zt_rows::{Answer, Call, Command, HandleValue, Items, Koid, Refusal, Reply, Row, RowKey};
+use zt_rows::{
+    Answer, Call, Command, HandleValue, Items, Koid, Moment, Refusal, Reply, Row, RowKey,
+};
 
 const ROOT: Koid = Koid(1025);
 
@@ -57,7 +60,13 @@ pub(super) fn is_served(book: &mut Book, command: &Command) -> bool
     book.serve(1, command).is_ok()
 }
 
-/// Serves the command. Where memory is refused to it all rows are as before, and it is served when asked again.
+/// How many moments there are, and how many rows of the log.
+fn sizes(book: &Book) -> (Moment, usize) {
+    (book.history().last(), book.log().len())
+}
+
+/// Serves the command. Where memory is refused to it moments, log and all rows are as before, and it is served when
+/// asked again.
 fn ask(rt: &impl Abort, book: &mut Book, command: &Command)
     requires { 1 ≤ length book.old.session.clients }
     ensures { length book.new.session.clients ≡ length book.old.session.clients }
@@ -65,7 +74,9 @@ fn ask(rt: &impl Abort, book: &mut Book, command: &Command)
     let Ok(before) = rows_of(book) else {
         return;
     };
+    let had = sizes(book);
     if !is_served(book, command) {
+        assert!(rt; sizes(book) == had);
         assert!(rt; has_rows(book, &before));
         assert!(rt; is_served(book, command), "asked again");
     }
@@ -105,4 +116,51 @@ fn refused_memory_leaves_the_book(rt: HostRuntime) {
         ask(&rt, &mut book, &Command::Call(ROOT, call));
     }
     ask(&rt, &mut book, &Command::Back(4));
+}
+
+/// Three events, and a branch from the opening.
+fn ask_branch(rt: &impl Abort, book: &mut Book, name: Items<u8>)
+    requires { 1 ≤ length book.old.session.clients }
+{
+    let call = Command::Call(ROOT, Call::EventCreate);
+    ask(rt, book, &call);
+    ask(rt, book, &call);
+    ask(rt, book, &call);
+    ask(rt, book, &Command::Back(3));
+    ask(rt, book, &Command::Branch(name));
+    ask(rt, book, &Command::Show);
+    ask(rt, book, &call);
+}
+
+fn name(alloc: Global) -> Result<Items<u8>, AllocError> {
+    Ok(Items::new(b"fix".to_vec(alloc)?))
+}
+
+#[test]
+fn refused_memory_makes_no_branch(rt: HostRuntime) {
+    let Ok(name) = name(rt.alloc()) else {
+        return;
+    };
+    if let Ok(mut book) = Book::new(rt.alloc(), 1) {
+        ask_branch(&rt, &mut book, name);
+    }
+}
+
+/// Whether two calls are loaded.
+fn are_loaded(alloc: Global) -> bool {
+    let calls = [
+        (ROOT, Call::EventCreate),
+        (ROOT, Call::HandleClose { handle: NEAR }),
+    ];
+    match Book::load(alloc, 1, calls.as_slice()) {
+        Ok(book) => book.history().last() == Moment(2),
+        Err(_) => false,
+    }
+}
+
+#[test]
+fn refused_memory_loads_nothing(rt: HostRuntime) {
+    if !are_loaded(rt.alloc()) {
+        assert!(rt; are_loaded(rt.alloc()), "loaded again");
+    }
 }
