@@ -5,10 +5,12 @@ ghost use Rattle.std.specs.Prelude.{◌≤◌, length};
 
 mod faults;
 mod files;
+mod serving;
 mod words;
 
 use faults::Fault;
 use files::{load, open, save};
+use serving::serve;
 use std::io::Read;
 use std::process::ExitCode;
 use words::{Asked, Words};
@@ -44,6 +46,11 @@ fn start(rt: &HostRuntime) -> Result<(), Fault> {
                 None => Ok(()),
             }
         }
+        Asked::Serve {
+            port,
+            clients,
+            from,
+        } => serve(rt, port, clients, from),
     }
 }
 
