@@ -143,6 +143,14 @@ impl Book {
         &self.log
     }
 
+    /// What was answered, without the rest of the book. It takes no memory.
+    pub fn into_log(self) -> Log
+        ensures { result ≡ self.log }
+    {
+        let Book { desk: _, log, last: _ } = self;
+        log
+    }
+
     /// How many clients there are. It takes no memory.
     pub fn clients(&self) -> u8
         ensures clients { result ≡ length self.now.session.clients }

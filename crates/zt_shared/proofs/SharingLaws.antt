@@ -1,6 +1,6 @@
 -- One row more in a log: whose row it is, and how the log goes on.
 use Rattle.std.proofs.Common.{◌≡◌, ℕ, ◌+◌, ◌≤◌, ◌<◌, ◌==◌, Bool, true, false, cond, List, [], ◌∷◌, ◌++◌, length, map, refl, ap, sym, ◌∙◌, subst, arith, Ok, Err, inl, inr}
-use Rattle.std.specs.Prelude.{◌≢◌, Result, IfOk, OnErr, filter}
+use Rattle.std.specs.Prelude.{◌≢◌, nat_lt, Result, IfOk, OnErr, filter}
 use Rattle.std.proofs.lemmas.Bool.{eq-eqb}
 use Rattle.std.proofs.lemmas.List.{append-nil, map-append, length-map, length_push}
 use Rattle.std.proofs.lemmas.List.Elements.{filter-append}
@@ -9,13 +9,18 @@ use Rattle.zt_rows.specs.declared.calls.Command.{Command}
 use Rattle.zt_rows.specs.declared.refusals.Refusal.{Refusal}
 use Rattle.zt_rows.specs.declared.refusals.Refusal.TheVariants as refusal
 use Rattle.zt_book.specs.declared.logs.Recorded.{Recorded}
-use Rattle.zt_book.specs.Session.{Session, serve, IsRefused, client_of, most_rows}
-use Rattle.zt_book.specs.Log.{Standing, Replays, rows_of, IsCounted}
+use Rattle.zt_rows.specs.declared.calls.Answer.TheVariants as answer
+use Rattle.zt_rows.specs.declared.calls.Command.TheVariants as command
+use Rattle.zt_history.specs.Refusing.{check, ◌>>=◌}
+use Rattle.zt_history.specs.Tree.{state_at, calls_to}
+use Rattle.zt_queries.specs.Copies.{Snapshot}
+use Rattle.zt_book.specs.Session.{Session, serve, pin_to, position_of, IsRefused, client_of, most_rows}
+use Rattle.zt_book.specs.Log.{Standing, Replays, rows_of, IsCounted, snapshot_at}
 use Rattle.zt_shared.specs.Accounts.{most}
 use Rattle.once_cell.specs.declared.race.note.Note.{Note}
 use Rattle.zt_rows.specs.declared.calls.Call.{Call}
-use Rattle.zt_shared.specs.Sharing.{Part, IsPartOf, IsRefusedTo, told_to, logged, said_in, begun}
-use Rattle.zt_shared.specs.Desks.{Sides, sides_of, IsDesk}
+use Rattle.zt_shared.specs.Sharing.{Part, IsPartOf, IsAnswered, IsRefusedTo, IsPinned, IsCopyOf, told_to, logged, said_in, begun}
+use Rattle.zt_shared.specs.Desks.{Shown, Sides, sides_of, IsDesk}
 
 -- a session with its log
 abbrev pub standing : Session → List Recorded → Standing
@@ -73,6 +78,11 @@ told-other other client c a log is = told-more other client c a log false is ∙
 
 -- ---- a part of the log, and one more row of it
 
+-- an answer behind a check is an answer without it
+pub past : {A : Type 0} (b : Bool) (why : Refusal) (rest : Result A Refusal) (y : A) → (check b why >>= λ _. rest) ≡ Ok y → rest ≡ Ok y
+past true why rest y h = h
+past false why rest y h = absurd (let e : Err why ≡ Ok y = h in cc)
+
 -- a client's answer is one event of the history
 pub answered-part : (p q : Part) (log : List Recorded) (M N : Session) (c : Command) (a : Answer)
     → IsPartOf p log M → serve M p.client c ≡ Ok (a, N) → q.client ≡ p.client → q.base ≡ p.base → q.rows ≡ p.rows ++ (c, a) ∷ []
@@ -81,6 +91,53 @@ answered-part p q log M N c a part served who base rows = record {
   replays = rw (who, base) (replays-more p.base M N log p.client c a part.replays served);
   rows = rw (who, rows) (told-own p.client c a log ∙ ap (λ w. w ++ (c, a) ∷ []) part.rows);
 }
+
+-- a pass, by its parts, and a desk
+abbrev pub part : ℕ → Session → List (Command × Answer) → Part
+part client base rows = record { client = client; base = base; rows = rows }
+
+abbrev pub shown : Session → Session → List Recorded → Shown
+shown base M log = record { base = base; session = M; log = log }
+
+-- what a pass is part of, under another name for both
+part-here : (p q : Part) (z : Shown) (base M : Session) (log : List Recorded) → p ≡ q → shown base M log ≡ z → IsPartOf q z.log z.session → IsPartOf p log M
+part-here p q z base M log pass desk known =
+    subst (λ y. IsPartOf p y.log y.session) (sym desk) (subst (λ x. IsPartOf x z.log z.session) (sym pass) known)
+
+-- a turn's answer is one event of the history
+pub answered-turn : (client : ℕ) (base begin M N : Session) (old new : List (Command × Answer)) (q : Part) (z : Shown) (log : List Recorded) (c : Command) (r : Result Answer Refusal)
+    → part client base old ≡ q → shown begin M log ≡ z → IsPartOf q z.log z.session
+    → IfOk r (λ a. serve M client c ≡ Ok (a, N)) → IfOk r (λ a. new ≡ old ++ (c, a) ∷ [])
+    → IfOk r (IsAnswered (part client base new) c)
+answered-turn client base begin M N old new q z log c (Ok a) pass desk known served rows =
+    (log, N, answered-part (part client base old) (part client base new) log M N c a (part-here (part client base old) q z begin M log pass desk known) served refl refl rows)
+answered-turn client base begin M N old new q z log c (Err why) pass desk known served rows = served
+
+ok-same : {A : Type 0} (x y : A) → ◌≡◌ {A = Result A Refusal} (Ok x) (Ok y) → x ≡ y
+ok-same x y h = cc
+
+-- the copy that a pin gives is of the tree in which its event ends
+pin-copies : (M N : Session) (client : ℕ) (a : Answer) → serve M client command.Pin ≡ Ok (a, N) → IsCopyOf N.tree a (snapshot_at M.tree (position_of M client))
+unfolding serve pin_to state_at
+pin-copies M N client a served =
+    let last = past (nat_lt (client_of M client).rows most_rows) refusal.ClientFull _ (a, N) served in
+    let both = ok-same _ _ last in
+    let said : answer.Pinned (position_of M client) ≡ a = ap (λ z. z.0) both in
+    let tree : M.tree ≡ N.tree = ap (λ z. z.1.tree) both in
+    record { moment = sym said; path = ap (λ t. calls_to t.made (position_of M client)) tree; state = refl }
+
+pub pinned-turn : (client : ℕ) (base begin M N : Session) (old new : List (Command × Answer)) (q : Part) (z : Shown) (log : List Recorded) (r : Result (Answer × Snapshot) Refusal)
+    → part client base old ≡ q → shown begin M log ≡ z → IsPartOf q z.log z.session
+    → IfOk r (λ a. serve M client command.Pin ≡ Ok (a.0, N)) → IfOk r (λ a. a.1 ≡ snapshot_at M.tree (position_of M client)) → IfOk r (λ a. new ≡ old ++ (command.Pin, a.0) ∷ [])
+    → IfOk r (λ a. IsPinned (part client base new) a.0 a.1)
+pinned-turn client base begin M N old new q z log (Ok a) pass desk known served frozen rows =
+    (
+      log,
+      N,
+      answered-part (part client base old) (part client base new) log M N command.Pin a.0 (part-here (part client base old) q z begin M log pass desk known) served refl refl rows,
+      rw frozen (pin-copies M N client a.0 served),
+    )
+pinned-turn client base begin M N old new q z log (Err why) pass desk known served frozen rows = served
 
 -- what refuses a command refuses it where a log ends of which the client has its part
 pub refused-part : (p : Part) (log : List Recorded) (M : Session) (c : Command) (why : Refusal)
@@ -130,29 +187,30 @@ module _ (client : ℕ) (side : Sides → List (Command × Answer)) (with_side :
     (at : (log : List Recorded) → side (sides_of log) ≡ told_to client log)
     (more : (log : List Recorded) (c : Command) (a : Answer) → sides_of (logged log client c a) ≡ with_side (told_to client log ++ (c, a) ∷ []) (sides_of log))
     (same : (s : Sides) → with_side (side s) s ≡ s)
-    (base clients : ℕ) (told : Note (List (ℕ × Call))) (M N : Session) (log log' : List Recorded) (s : Sides) (ours : List (Command × Answer)) (desk : IsDesk base clients told M log s) where
+    (base clients cell : ℕ) (told : Note (List (ℕ × Call))) (M N : Session) (log log' : List Recorded) (s : Sides) (ours : List (Command × Answer)) (desk : IsDesk base clients cell told M log s) where
   pub desk-answered : (c : Command) (a : Answer) → serve M client c ≡ Ok (a, N) → log' ≡ logged log client c a → ours ≡ side s ++ (c, a) ∷ []
-      → length N.clients ≡ length M.clients → IsDesk base clients told N log' (with_side ours s)
+      → length N.clients ≡ length M.clients → IsDesk base clients cell told N log' (with_side ours s)
   desk-answered c a served grown mine kept = record {
-    cell = desk.cell;
+    named = desk.named;
+    noted = desk.noted;
     known = desk.known;
     replays = rw grown (replays-more (begun clients told.known) M N log client c a desk.replays served);
-    sides =
+    rows =
         ap (λ w. with_side w s) mine
-        ∙ (ap (λ z. with_side (side z ++ (c, a) ∷ []) z) desk.sides
+        ∙ (ap (λ z. with_side (side z ++ (c, a) ∷ []) z) desk.rows
         ∙ (ap (λ w. with_side (w ++ (c, a) ∷ []) (sides_of log)) (at log) ∙ (sym (more log c a) ∙ ap sides_of (sym grown))));
-    clients = kept ∙ desk.clients;
+    many = kept ∙ desk.many;
   }
 
-  pub desk-same : standing N log' ≡ standing M log → ours ≡ side s → IsDesk base clients told N log' (with_side ours s)
+  pub desk-same : standing N log' ≡ standing M log → ours ≡ side s → IsDesk base clients cell told N log' (with_side ours s)
   desk-same still mine =
       let here : N ≡ M = ap (λ z. z.session) still in
       let there : log' ≡ log = ap (λ z. z.log) still in
       rw (here, there, mine, same s) desk
 
-  pub desk-turned : (c : Command) (r : Result Answer Refusal)
-      → IfOk r (λ a. serve M client c ≡ Ok (a, N)) → IfOk r (λ a. log' ≡ logged log client c a) → IfOk r (λ a. ours ≡ side s ++ (c, a) ∷ [])
-      → length N.clients ≡ length M.clients → OnErr r ((standing N log' ≡ standing M log) × (ours ≡ side s))
-      → IsDesk base clients told N log' (with_side ours s)
-  desk-turned c (Ok a) served grown mine kept refused = desk-answered c a served grown mine kept
-  desk-turned c (Err why) served grown mine kept refused = desk-same refused.0 refused.1
+  pub desk-turned : (A X : Type 0) (said : A → Answer) (c : Command) (r : Result A Refusal)
+      → IfOk r (λ a. serve M client c ≡ Ok (said a, N)) → IfOk r (λ a. log' ≡ logged log client c (said a)) → IfOk r (λ a. ours ≡ side s ++ (c, said a) ∷ [])
+      → length N.clients ≡ length M.clients → OnErr r ((standing N log' ≡ standing M log) × (ours ≡ side s) × X)
+      → IsDesk base clients cell told N log' (with_side ours s)
+  desk-turned A X said c (Ok a) served grown mine kept refused = desk-answered c (said a) served grown mine kept
+  desk-turned A X said c (Err why) served grown mine kept refused = desk-same refused.0 refused.1

@@ -31,11 +31,13 @@ sides_of log = record {
   fourth = told_to 4 log;
 }
 
--- While the lock is free: the log replays from where the base cell says that it begins to the book's session, and the
--- rows of each account are the log's rows of its client.
-pub record IsDesk (base clients : ℕ) (told : Note (List (ℕ × Call))) (end : Session) (log : List Recorded) (sides : Sides) : Type 0 where
-  pub cell : told.cell ≡ base
+-- While the lock is free: the base cell, of this name, and the note of it are the ones that the naming type names; the
+-- log replays from where the note says that it begins to the book's session, which has so many clients; and the rows of
+-- each account are the log's rows of its client.
+pub record IsDesk (base clients cell : ℕ) (told : Note (List (ℕ × Call))) (end : Session) (log : List Recorded) (sides : Sides) : Type 0 where
+  pub named : cell ≡ base
+  pub noted : told.cell ≡ base
   pub known : IsSome told.known
   pub replays : Replays (begun clients told.known) log end
-  pub sides : sides ≡ sides_of log
-  pub clients : length end.clients ≡ clients
+  pub rows : sides ≡ sides_of log
+  pub many : length end.clients ≡ clients

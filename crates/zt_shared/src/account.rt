@@ -242,7 +242,7 @@ fn compare<T>(ours: &mut Vec<Slip<T>>, theirs: &mut Vec<Slip<T>>, at: usize)
 }
 
 /// Sets an empty cell, and notes what stands in it.
-fn claim<T: Drop>(cell: &OnceBox<T>, shown: Box<T>) -> Option<Note<T>>
+pub(crate) fn claim<T: Drop>(cell: &OnceBox<T>, shown: Box<T>) -> Option<Note<T>>
     ensures { IfSome result (λ note. (note.cell ≡ cell_name cell.now) × (note.known ≡ Some shown.value)) }
 {
     let mut note = cell.note();

@@ -15,7 +15,8 @@ pub fn close<A: Naming + Beginning, B: Naming, C: Naming, D: Naming>(
     requires all { map (λ pass. pass.client) passes.items ≡ numbers A.clients }
     ensures { IsClosed A.clients passes.items result }
 {
-    let mut desk = shared.lock.into_inner();
+    let Shared { lock } = shared;
+    let mut desk = lock.into_inner();
     desk.agree_with_all(&mut passes);
     desk.into_log()
 }

@@ -1,6 +1,7 @@
-ghost use Rattle.std.specs.Prelude.{◌≡◌, ◌++◌, ◌∷◌, [], IfOk, IfErr, OnErr, IfSome, IsSome};
+ghost use Rattle.std.specs.Prelude.{◌≡◌, ◌++◌, ◌∷◌, [], All, IfOk, IfErr, OnErr, IfSome};
+ghost use Rattle.std.specs.List.{AllByRecursion};
 ghost use Rattle.zt_rows.specs.declared.calls.Command.TheVariants as command;
-ghost use Rattle.zt_book.specs.Session.{serve};
+ghost use Rattle.zt_book.specs.Log.{IsOf};
 ghost use Rattle.once_cell.specs.Once.{Agrees};
 ghost use Rattle.zt_shared.specs.Sharing.{IsPartOf, IsAnswered, IsRefusedTo, IsPinned};
 
@@ -10,7 +11,7 @@ use crate::turns::{pin_turn, turn};
 use once_cell::race::{Note, OnceBox};
 use std::alloc::Global;
 use std::marker::Model;
-use zt_book::Book;
+use zt_book::{Book, Log};
 use zt_queries::Frozen;
 use zt_rows::{Answer, Command, Refusal};
 
@@ -29,6 +30,7 @@ pub(crate) struct Desk<A: Naming + Beginning, B: Naming, C: Naming, D: Naming> {
 }
 
 impl<A: Naming + Beginning, B: Naming, C: Naming, D: Naming> Model for Desk<A, B, C, D> {
+    ghost use Rattle.once_cell.specs.Once.{cell_name};
     ghost use Rattle.zt_shared.specs.Sharing.{begun};
     ghost use Rattle.zt_shared.specs.Desks.{Shown, IsDesk};
 
@@ -36,7 +38,7 @@ impl<A: Naming + Beginning, B: Naming, C: Naming, D: Naming> Model for Desk<A, B
 
     ghost view = { λ d. record { base = begun A.clients d.told.known; session = d.book.session; log = d.book.log } };
 
-    ghost invariant = { λ d. IsDesk A.base A.clients d.told d.book.session d.book.log (record { first = d.first; second = d.second; third = d.third; fourth = d.fourth }) };
+    ghost invariant = { λ d. IsDesk A.base A.clients (cell_name d.base) d.told d.book.session d.book.log (record { first = d.first; second = d.second; third = d.third; fourth = d.fourth }) };
 }
 
 impl<A: Naming + Beginning, B: Naming, C: Naming, D: Naming> Desk<A, B, C, D> {
@@ -96,6 +98,26 @@ impl<A: Naming + Beginning, B: Naming, C: Naming, D: Naming> Desk<A, B, C, D> {
             Seat::Third(side) => pin_turn(self.alloc, &mut self.book, &mut self.third, side, 3),
             Seat::Fourth(side) => pin_turn(self.alloc, &mut self.book, &mut self.fourth, side, 4),
         }
+    }
+
+    /// Each of the passes is a part of the log. It changes nothing and takes no memory.
+    pub(crate) fn agree_with_all(&mut self, passes: &mut Vec<Pass<A, B, C, D>>)
+        ensures desk { self.new ≡ self.old }
+        ensures passes { passes.new.items ≡ passes.old.items }
+        ensures parts { All (λ pass. IsPartOf pass self.old.log self.old.session) passes.old.items }
+    {
+        for at in 0..passes.len() {
+            self.agree(&mut passes[at]);
+        }
+    }
+
+    /// The log, of which each row is of one of the clients. It takes no memory.
+    pub(crate) fn into_log(self) -> Log
+        ensures log { result ≡ self.log }
+        ensures others { AllByRecursion (IsOf A.clients) result }
+    {
+        self.book.rows_are_counted();
+        self.book.into_log()
     }
 }
 

@@ -1,12 +1,14 @@
-ghost use Rattle.std.specs.Prelude.{◌≡◌, ◌≤◌, ◌<◌, ◌++◌, ◌∷◌, [], Some, IfOk, IfErr, IsErrOf, OnOk, length, map, take, vec_len, vec_capacity, ◌↔◌, ◌≢◌};
+ghost use Rattle.std.specs.Prelude.{◌≡◌, ◌≢◌, ◌≤◌, ◌<◌, ◌+◌, ◌++◌, ◌∷◌, [], Some, IfOk, IfErr, IsErrOf, IsSome, OnOk, ◌↔◌, length, vec_len, vec_capacity};
+ghost use Rattle.std.specs.List.{filter_map};
 ghost use Rattle.once_cell.specs.Once.{cell_name};
 ghost use Rattle.zt_rows.specs.declared.refusals.Refusal.TheVariants as refusal;
-ghost use Rattle.zt_history.specs.Tree.{Tree};
+ghost use Rattle.zt_history.specs.Tree.{call_at};
 ghost use Rattle.zt_book.specs.Session.{opening_session};
 ghost use Rattle.zt_shared.specs.Sharing.{IsFresh, first_parts, begun};
-ghost use Rattle.zt_shared.specs.Openings.{IsNamed, calls_in};
+ghost use Rattle.zt_shared.specs.Openings.{IsNamed, calls_in, part_of};
+ghost use Rattle.zt_shared.specs.Seats.{seat_number, seat_rows};
 
-use crate::account::{Blank, Naming};
+use crate::account::{Blank, Naming, Refused, claim};
 use crate::desk::Desk;
 use crate::passes::{Beginning, Calls, Pass, Said, Seat};
 use crate::shared::Shared;
@@ -53,15 +55,15 @@ impl Blanks {
         if clients > CLIENTS {
             return Err(Refusal::TooManyClients);
         }
-        match blanks(alloc, clients) {
+        match empty_accounts(alloc, clients) {
             Ok(blanks) => Ok(blanks),
             Err(_) => Err(Refusal::OutOfMemory),
         }
     }
 }
 
-/// The blanks of so many clients, who are few.
-fn blanks(alloc: Global, clients: u8) -> Result<Blanks, AllocError>
+/// A base cell and accounts, for so many clients, who are few.
+fn empty_accounts(alloc: Global, clients: u8) -> Result<Blanks, AllocError>
     requires { clients ≤ 4 }
     ensures { IfOk result (λ blanks. blanks.clients ≡ clients) }
 {
@@ -92,7 +94,9 @@ pub fn open<A: Naming + Beginning, B: Naming, C: Naming, D: Naming>(
     ensures passes { IfOk result (λ opened. opened.1.items ≡ first_parts blanks.clients (opening_session blanks.clients)) }
     ensures refused { IfErr result (λ why. why ≡ refusal.OutOfMemory) }
 {
-    let book = Book::new(alloc, blanks.clients)?;
+    let Ok(book) = Book::new(alloc, blanks.clients) else {
+        return Err(Refusal::OutOfMemory);
+    };
     match open_book::<A, B, C, D>(alloc, blanks, book) {
         Ok(opened) => Ok(opened),
         Err((_, why)) => Err(why),
@@ -115,21 +119,111 @@ pub fn open_book<A: Naming + Beginning, B: Naming, C: Naming, D: Naming>(
     ensures passes { IfOk result (λ opened. opened.1.items ≡ first_parts blanks.clients book.session) }
     ensures refused { IfErr result (λ back. (back.0 ≡ book) × (back.1 ≡ refusal.OutOfMemory)) }
 {
-    let Ok(mut passes) = Vec::with_capacity(alloc, 4) else {
+    let Ok(mut passes) = Vec::with_capacity(alloc, CLIENTS as usize) else {
         return Err((book, Refusal::OutOfMemory));
     };
     let Ok(mut told) = note_base(alloc, &blanks.base, book.history()) else {
         return Err((book, Refusal::OutOfMemory));
     };
-    let Blanks { clients, base, first, second, third, fourth } = blanks;
+    let Blanks {
+        clients,
+        base,
+        first,
+        second,
+        third,
+        fourth,
+    } = blanks;
     let (first, one) = first.open::<A>(alloc);
     let (second, two) = second.open::<B>(alloc);
     let (third, three) = third.open::<C>(alloc);
     let (fourth, four) = fourth.open::<D>(alloc);
-    passes.push_reserved((Seat::First(one), told.again()));
-    passes.push_reserved((Seat::Second(two), told.again()));
-    passes.push_reserved((Seat::Third(three), told.again()));
-    passes.push_reserved((Seat::Fourth(four), told.again()));
-    let desk = Desk { book, base, told, first, second, third, fourth, alloc };
-    Ok((Shared { lock: Mutex::new(desk) }, passes))
+    hand_out(&mut passes, &mut told, clients, Seat::First(one));
+    hand_out(&mut passes, &mut told, clients, Seat::Second(two));
+    hand_out(&mut passes, &mut told, clients, Seat::Third(three));
+    hand_out(&mut passes, &mut told, clients, Seat::Fourth(four));
+    let desk = Desk {
+        book,
+        base,
+        told,
+        first,
+        second,
+        third,
+        fourth,
+        alloc,
+    };
+    let lock = Mutex::new(desk);
+    Ok((Shared { lock }, passes))
+}
+
+/// Puts the pass of a client behind the others, where there are so many clients.
+fn hand_out<A: Naming + Beginning, B: Naming, C: Naming, D: Naming>(
+    passes: &mut Vec<Pass<A, B, C, D>>,
+    told: &mut Note<Calls>,
+    clients: u8,
+    seat: Seat<A, B, C, D>,
+)
+    requires clients { clients ≡ A.clients }
+    requires cell { told.old.cell ≡ A.base }
+    requires known { IsSome told.old.known }
+    requires first { seat_rows seat ≡ [] }
+    requires room { vec_len passes.old < vec_capacity passes.old }
+    ensures passes { passes.new.items ≡ passes.old.items ++ part_of clients (begun clients told.old.known) (seat_number seat) }
+    ensures few { vec_len passes.new ≤ vec_len passes.old + 1 }
+    ensures room { vec_capacity passes.new ≡ vec_capacity passes.old }
+    ensures told { told.new ≡ told.old }
+{
+    if seat.number() <= clients {
+        let told = told.again();
+        passes.push_reserved(Pass { seat, told });
+    }
+}
+
+/// Sets the base cell to the calls of the history, and notes what stands in it.
+fn note_base(
+    alloc: Global,
+    cell: &OnceBox<Calls>,
+    history: &History,
+) -> Result<Note<Calls>, Refused>
+    ensures { IfOk result (λ note. (note.cell ≡ cell_name cell.now) × (note.known ≡ Some (calls_in history.now.tree))) }
+{
+    let Ok(calls) = calls_of(alloc, history) else {
+        return Err(Refused);
+    };
+    let Ok(shown) = Box::new(alloc, Items::new(calls)) else {
+        return Err(Refused);
+    };
+    match claim(cell, shown) {
+        Some(note) => Ok(note),
+        None => Err(Refused),
+    }
+}
+
+/// The calls of the history's moments, each with its process.
+#[tactic(auto, using(crate::proofs::OpeningLaws::next_call))]
+fn calls_of(alloc: Global, history: &History) -> Result<Vec<(Koid, Call)>, AllocError>
+    ensures { IfOk result (λ calls. calls.items ≡ calls_in history.now.tree) }
+{
+    let last = history.last();
+    let mut calls = Vec::with_capacity(alloc, last.0 as usize)?;
+    for at in 0..last.0 {
+        push_call(&mut calls, history, Moment(at + 1))?;
+    }
+    Ok(calls)
+}
+
+/// Puts an equal call of the moment, if it has one, behind the others.
+fn push_call(
+    calls: &mut Vec<(Koid, Call)>,
+    history: &History,
+    moment: Moment,
+) -> Result<(), AllocError>
+    ensures { OnOk result (calls.new.items ≡ calls.old.items ++ filter_map (call_at history.now.tree.made) (moment ∷ [])) }
+{
+    match history.call_of(moment) {
+        Some((process, call)) => {
+            calls.push((process, call.copy()?))?;
+            Ok(())
+        }
+        None => Ok(()),
+    }
 }

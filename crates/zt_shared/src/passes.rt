@@ -73,7 +73,7 @@ impl<A: Naming + Beginning, B: Naming, C: Naming, D: Naming> Seat<A, B, C, D> {
     }
 
     /// The client's number.
-    fn number(&self) -> u8
+    pub(crate) fn number(&self) -> u8
         ensures { result ≡ seat_number self.now }
     {
         match self {
