@@ -8,7 +8,7 @@ use Rattle.zt_rows.specs.declared.calls.Answer.{Answer}
 use Rattle.zt_rows.specs.declared.calls.Command.{Command}
 use Rattle.zt_book.specs.declared.logs.Recorded.{Recorded}
 use Rattle.zt_book.specs.Session.{Session}
-use Rattle.zt_shared.specs.Sharing.{Part, IsPartOf, IsClosed, told_to}
+use Rattle.zt_shared.specs.Sharing.{Part, IsPartOf, told_to, first_part, first_parts, numbers}
 use Rattle.zt_console.specs.declared.serving.Place.{Place}
 use Rattle.zt_console.specs.declared.serving.Served.{Served}
 use Rattle.zt_console.specs.Places.{place_of, served_at, pass_at, IsTaken, HasServed}
@@ -105,3 +105,18 @@ module _ {I O A B C D : Type 0} (remaining : I → Option (List ℕ)) (contents 
 -- clients whose failures can be counted take places
 pub all_taken : {I O A B C D : Type 0} (cs : List (Caller I O)) → All IsCountable cs → All (IsTaken {I = I} {O = O} {A = A} {B = B} {C = C} {D = D}) (map place_of cs)
 all_taken cs h = All-map IsTaken place_of cs (λ i d lt. record { pass = (get_or cs i d).2; held = refl; counts = h i d lt })
+
+-- ---- the passes of a book that is opened
+
+callers-clients : {I O : Type 0} (cs : List (Caller I O)) → map (λ (c : Caller I O). c.2.client) cs ≡ map (λ (p : Part). p.client) (map (λ (c : Caller I O). c.2) cs)
+callers-clients [] = refl
+callers-clients (c ∷ cs) = ap (λ z. c.2.client ∷ z) (callers-clients cs)
+
+parts-clients : (base : Session) (ns : List ℕ) → map (λ (p : Part). p.client) (map (first_part base) ns) ≡ ns
+parts-clients base [] = refl
+parts-clients base (n ∷ ns) = ap (λ z. n ∷ z) (parts-clients base ns)
+
+-- clients with the passes of a book that is opened are all its clients
+pub first_callers : {I O : Type 0} (cs : List (Caller I O)) (ps : List Part) (n : ℕ) (base : Session) → map (λ (c : Caller I O). c.2) cs ≡ ps → ps ≡ first_parts n base
+    → map (λ (c : Caller I O). c.2.client) cs ≡ numbers n
+first_callers cs ps n base e f = callers-clients cs ∙ ap (map (λ (p : Part). p.client)) (e ∙ f) ∙ parts-clients base (numbers n)

@@ -76,15 +76,46 @@ pub fn sessions<
     ensures each { IfOk result (λ done. AllZip (λ caller served. IsServed I.remaining O.contents caller (told_in done.0 caller.2) served.reader served.writer served.end) callers.items done.1.items) }
     ensures refused { IfErr result (λ back. (back.0 ≡ shared) × (back.1 ≡ callers)) }
 {
-    let Ok(mut lists) = room_for(alloc, callers.len()) else {
+    let Ok(lists) = room_for(alloc, callers.len()) else {
         return Err((shared, callers));
     };
-    take_places(&mut lists.places, callers);
-    serve_all(rt, alloc, &shared, gate, lists.places.as_mut_slice());
-    let Lists { places, mut served, mut passes } = lists;
+    let Lists {
+        places,
+        mut served,
+        mut passes,
+    } = lists;
+    let places = serve_callers(rt, alloc, &shared, gate, callers, places);
     leave_places(places, &mut served, &mut passes);
     let log = close(shared, passes);
     Ok((log, served))
+}
+
+/// Serves all clients at places, of which there are none yet.
+fn serve_callers<
+    R: Threads + Wait + Sync,
+    I: Read + Send + Drop,
+    O: Write + Send + Drop,
+    A: Naming + Beginning + Send + Sync,
+    B: Naming + Send + Sync,
+    C: Naming + Send + Sync,
+    D: Naming + Send + Sync,
+    G: Gate + Sync,
+>(
+    rt: &R,
+    alloc: Global,
+    shared: &Shared<A, B, C, D>,
+    gate: &G,
+    callers: Vec<Caller<I, O, A, B, C, D>>,
+    mut places: Vec<Place<I, O, A, B, C, D>>,
+) -> Vec<Place<I, O, A, B, C, D>>
+    requires empty { places.items ≡ [] }
+    requires room { length callers.items ≤ vec_capacity places }
+    requires counts { All IsCountable callers.items }
+    ensures { AllZip (HasServed I.remaining O.contents) (map place_of callers.items) result.items }
+{
+    take_places(&mut places, callers);
+    serve_all(rt, alloc, shared, gate, places.as_mut_slice());
+    places
 }
 
 /// Empty lists with room for so many clients.
