@@ -1,5 +1,5 @@
 -- The clients of a shared book at their places, and what is left of them there.
-use Rattle.std.proofs.Common.{◌≡◌, ℕ, suc, ◌<◌, List, [], ◌∷◌, ◌++◌, length, map, take, drop, get_or, Option, Some, None, refl, sym, ◌∙◌, ap, subst, arith}
+use Rattle.std.proofs.Common.{◌≡◌, ℕ, suc, ◌<◌, ◌≤◌, List, [], ◌∷◌, ◌++◌, length, map, take, drop, get_or, Option, Some, None, refl, sym, ◌∙◌, ap, subst, arith}
 use Rattle.std.specs.Prelude.{All}
 use Rattle.std.specs.List.{AllZip, filter_map, cons_option}
 use Rattle.std.proofs.lemmas.List.Elements.{filter_map-append, All-head, All-tail, All-map}
@@ -8,7 +8,7 @@ use Rattle.zt_rows.specs.declared.calls.Answer.{Answer}
 use Rattle.zt_rows.specs.declared.calls.Command.{Command}
 use Rattle.zt_book.specs.declared.logs.Recorded.{Recorded}
 use Rattle.zt_book.specs.Session.{Session}
-use Rattle.zt_shared.specs.Sharing.{Part, IsPartOf, told_to, first_part, first_parts, numbers}
+use Rattle.zt_shared.specs.Sharing.{Part, IsPartOf, IsClosed, told_to, first_part, first_parts, numbers}
 use Rattle.zt_console.specs.declared.serving.Place.{Place}
 use Rattle.zt_console.specs.declared.serving.Served.{Served}
 use Rattle.zt_console.specs.Places.{place_of, served_at, pass_at, IsTaken, HasServed}
@@ -101,6 +101,34 @@ module _ {I O A B C D : Type 0} (remaining : I → Option (List ℕ)) (contents 
         subst (λ x. IsServed remaining contents c x p.reader p.writer p.end) told (subst (λ x. IsServed remaining contents (c.0, c.1, x) h.after p.reader p.writer p.end) same h.served),
         each_served log cs ps hs (All-tail (IsIn log) h.after (filter_map pass_at ps) all_left),
       )
+
+  length_left : (cs : List (Caller I O)) (ps : List (Place I O A B C D)) → Zipped cs ps → length ps ≡ length cs
+  length_left [] [] h = refl
+  length_left [] (p ∷ ps) h = absurd h
+  length_left (c ∷ cs) [] h = absurd h
+  length_left (c ∷ cs) (p ∷ ps) (h, hs) = ap suc (length_left cs ps hs)
+
+  -- there is room for what is left where there was room for the clients
+  pub room_left : (cs : List (Caller I O)) (ps : List (Place I O A B C D)) (n j k : ℕ) → Zipped cs ps → n ≡ length cs → n ≤ j → n ≤ k → (length ps ≤ j) × (length ps ≤ k)
+  room_left cs ps n j k z e f g = let same = length_left cs ps z in (omega (arith, same, e, f), omega (arith, same, e, g))
+
+  -- all passes are back
+  pub all_back : (cs : List (Caller I O)) (ps : List (Place I O A B C D)) (passes : List Part) (n : ℕ) → Zipped cs ps → passes ≡ filter_map pass_at ps
+      → map (λ (c : Caller I O). c.2.client) cs ≡ numbers n → map (λ (p : Part). p.client) passes ≡ numbers n
+  all_back cs ps passes n z e h = ap (map (λ (p : Part). p.client)) e ∙ clients_left cs ps z ∙ h
+
+  -- what is known of the passes that sessions end with is told of those that they began with
+  pub all_closed : (n : ℕ) (log : List Recorded) (cs : List (Caller I O)) (ps : List (Place I O A B C D)) (passes : List Part) → Zipped cs ps → passes ≡ filter_map pass_at ps
+      → IsClosed n passes log → IsClosed n (map (λ (c : Caller I O). told_in log c.2) cs) log
+  all_closed n log cs ps passes z e closed =
+      subst (λ l. IsClosed n l log) (e ∙ passes_left log cs ps z (subst (All (IsIn log)) e closed.parts)) closed
+
+  pub all_served : (n : ℕ) (log : List Recorded) (cs : List (Caller I O)) (ps : List (Place I O A B C D)) (passes : List Part) (served : List (Served I O)) → Zipped cs ps
+      → passes ≡ filter_map pass_at ps → served ≡ map served_at ps → IsClosed n passes log
+      → AllZip (λ (c : Caller I O) (s : Served I O). IsServed remaining contents c (told_in log c.2) s.reader s.writer s.end) cs served
+  all_served n log cs ps passes served z e f closed =
+      subst (λ l. AllZip (λ (c : Caller I O) (s : Served I O). IsServed remaining contents c (told_in log c.2) s.reader s.writer s.end) cs l) (sym f)
+      (each_served log cs ps z (subst (All (IsIn log)) e closed.parts))
 
 -- clients whose failures can be counted take places
 pub all_taken : {I O A B C D : Type 0} (cs : List (Caller I O)) → All IsCountable cs → All (IsTaken {I = I} {O = O} {A = A} {B = B} {C = C} {D = D}) (map place_of cs)
