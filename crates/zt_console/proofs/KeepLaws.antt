@@ -8,10 +8,12 @@ use Rattle.zt_text.specs.declared.reading.Line.{Line}
 use Rattle.zt_text.specs.declared.reading.Line.TheVariants as line
 use Rattle.zt_console.specs.declared.talking.Standing.{Standing}
 use Rattle.zt_console.specs.Talk.{Given, Manner, Answers, Talk}
+use Rattle.zt_shared.specs.Sharing.{Part}
 use Rattle.zt_console.specs.Books.{AsksBook}
 use Rattle.zt_console.specs.Running.{HasTalked}
+use Rattle.zt_console.specs.Sessions.{AsksPass}
 
-module _ {D : Type 0} (Asks : Manner D) (f : D → ℕ) (kept : (M : D) (asked : Command) (given : Given) (N : D) → Asks M asked given N → f N ≡ f M) where
+module _ {D X : Type 0} (Asks : Manner D) (f : D → X) (kept : (M : D) (asked : Command) (given : Given) (N : D) → Asks M asked given N → f N ≡ f M) where
   same-desk : (M N : Standing D) → N ≡ M → f N.desk ≡ f M.desk
   same-desk M N h = ap (λ (S : Standing D). f S.desk) h
 
@@ -36,3 +38,18 @@ asks-keep M asked (Err reason) N (_, same) = ap (λ (S : Stood). length S.sessio
 
 pub talked_clients : (M N : Kept) (known before after : Option (List ℕ)) (done : Bool) → HasTalked AsksBook M N known before after done → length N.session.clients ≡ length M.session.clients
 talked_clients M N known before after done h = talk-keeps AsksBook (λ (b : Kept). length b.session.clients) asks-keep _ h.lines h.spoken.text _ h.spoken.talk
+
+-- a pass keeps its client, and where its log begins
+who-kept : (M : Part) (asked : Command) (given : Given) (N : Part) → AsksPass M asked given N → N.client ≡ M.client
+who-kept M asked (Ok given) N h = h.who
+who-kept M asked (Err reason) N (_, same) = ap (λ (p : Part). p.client) same
+
+base-kept : (M : Part) (asked : Command) (given : Given) (N : Part) → AsksPass M asked given N → N.base ≡ M.base
+base-kept M asked (Ok given) N h = h.base
+base-kept M asked (Err reason) N (_, same) = ap (λ (p : Part). p.base) same
+
+pub talked_who : (M N : Part) (known before after : Option (List ℕ)) (done : Bool) → HasTalked AsksPass M N known before after done → N.client ≡ M.client
+talked_who M N known before after done h = talk-keeps AsksPass (λ (p : Part). p.client) who-kept _ h.lines h.spoken.text _ h.spoken.talk
+
+pub talked_base : (M N : Part) (known before after : Option (List ℕ)) (done : Bool) → HasTalked AsksPass M N known before after done → N.base ≡ M.base
+talked_base M N known before after done h = talk-keeps AsksPass (λ (p : Part). p.base) base-kept _ h.lines h.spoken.text _ h.spoken.talk

@@ -3,3 +3,5 @@ pub mod Talk
 pub mod Books
 pub mod Running
 pub mod Feeding
+pub mod Sessions
+pub mod Places

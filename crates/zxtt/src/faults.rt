@@ -20,6 +20,9 @@ pub enum Fault {
     /// A file could not be opened.
     #[error("zxtt: {path}: {error}")]
     Unopened { path: String, error: io::Error },
+    /// The port could not be listened on, or a connection could not be accepted.
+    #[error("zxtt: {0}")]
+    Unconnected(io::Error),
     /// Something was refused.
     #[error("zxtt: {}", RefusalLine(*.0))]
     Refused(Refusal),
@@ -38,7 +41,7 @@ impl Fault {
     pub fn status(&self) -> u8 {
         match self {
             Fault::Words(_) | Fault::Unread(_) => 2,
-            Fault::Unopened { .. } => 3,
+            Fault::Unopened { .. } | Fault::Unconnected(_) => 3,
             Fault::Refused(refusal) => stopped_status(*refusal),
             Fault::Trace { .. } => 6,
         }

@@ -1,6 +1,7 @@
 //! Session texts that are loaded and saved.
 
 ghost use Rattle.std.specs.Prelude.{◌≡◌, length, IfOk};
+ghost use Rattle.zt_shared.specs.Sharing.{IsFresh};
 
 use crate::faults::Fault;
 use std::alloc::Global;
@@ -19,9 +20,10 @@ pub fn open(rt: &HostRuntime, path: &str) -> Result<File, Fault> {
 }
 
 /// The book of so many clients over the calls of a session text.
-#[tactic(auto, using(crate::proofs::Loading::loaded_clients))]
+#[tactic(auto, using(crate::proofs::Loading::loaded_clients, crate::proofs::Loading::loaded_is_fresh))]
 pub fn load(rt: &HostRuntime, clients: u8, path: &str) -> Result<Book, Fault>
-    ensures { IfOk result (λ book. length book.session.clients ≡ clients) }
+    ensures clients { IfOk result (λ book. length book.session.clients ≡ clients) }
+    ensures fresh { IfOk result (IsFresh clients) }
 {
     let text = read(rt, path)?;
     match load_text(rt.alloc(), clients, text.as_slice()) {

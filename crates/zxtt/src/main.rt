@@ -1,49 +1,78 @@
 //! `zxtt` reads calls and commands line by line, and answers each.
 #![tactic(auto)]
 
-ghost use Rattle.std.specs.Prelude.{◌≤◌, length};
+ghost use Rattle.std.specs.Prelude.{◌≡◌, ◌≤◌, length, IfOk};
+ghost use Rattle.zt_shared.specs.Sharing.{IsFresh};
 
 mod faults;
 mod files;
+mod serving;
 mod words;
 
 use faults::Fault;
 use files::{load, open, save};
+use serving::serve;
 use std::io::Read;
 use std::process::ExitCode;
 use words::{Asked, Words};
 use zt_console::{Book, Counted, End, run};
 
 fn main(rt: HostRuntime) -> ExitCode {
-    match start(&rt) {
+    let words = match Words::of(&rt) {
+        Ok(words) => words,
+        Err(fault) => return failed(&rt, &fault),
+    };
+    let done = match words.asked(rt.alloc()) {
+        Ok(Asked::Run { file, from, save }) => run_asked(&rt, file, from, save),
+        Ok(Asked::Serve {
+            port,
+            clients,
+            from,
+        }) => match begin(&rt, clients, from) {
+            Ok(book) => serve(&rt, port, clients, book),
+            Err(fault) => Err(fault),
+        },
+        Err(fault) => Err(fault),
+    };
+    match done {
         Ok(()) => ExitCode::SUCCESS,
-        Err(fault) => {
-            let status = fault.status();
-            let _ = eprintln!(rt; "{fault}");
-            ExitCode::from(status)
-        }
+        Err(fault) => failed(&rt, &fault),
     }
 }
 
-/// Reads the words and does what they ask.
-fn start(rt: &HostRuntime) -> Result<(), Fault> {
-    let words = Words::of(rt)?;
-    match words.asked(rt.alloc())? {
-        Asked::Run {
-            file,
-            from,
-            save: to,
-        } => {
-            let book = match from {
-                Some(path) => load(rt, 1, path)?,
-                None => Book::new(rt.alloc(), 1)?,
-            };
-            let book = run_file(rt, book, file)?;
-            match to {
-                Some(path) => save(rt, &book, path),
-                None => Ok(()),
-            }
-        }
+/// Says what ended the program, and gives its status.
+fn failed(rt: &HostRuntime, fault: &Fault) -> ExitCode {
+    let _ = eprintln!(rt; "{fault}");
+    ExitCode::from(fault.status())
+}
+
+/// Runs the lines of a file, and saves the history of `main` if a file is named.
+fn run_asked(
+    rt: &HostRuntime,
+    file: &str,
+    from: Option<&str>,
+    to: Option<&str>,
+) -> Result<(), Fault> {
+    let book = begin(rt, 1, from)?;
+    let book = run_file(rt, book, file)?;
+    match to {
+        Some(path) => save(rt, &book, path),
+        None => Ok(()),
+    }
+}
+
+/// A book of so many clients at the opening, or over a trace if one is named.
+#[tactic(auto, using(crate::proofs::Loading::first_is_fresh, crate::proofs::Loading::first_clients))]
+fn begin(rt: &HostRuntime, clients: u8, from: Option<&str>) -> Result<Book, Fault>
+    ensures clients { IfOk result (λ book. length book.session.clients ≡ clients) }
+    ensures fresh { IfOk result (IsFresh clients) }
+{
+    match from {
+        Some(path) => load(rt, clients, path),
+        None => match Book::new(rt.alloc(), clients) {
+            Ok(book) => Ok(book),
+            Err(refusal) => Err(Fault::Refused(refusal)),
+        },
     }
 }
 

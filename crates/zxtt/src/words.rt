@@ -1,7 +1,7 @@
 //! The words of the command line.
 
 use crate::faults::Fault;
-use clap::{Arg, ArgAction, Command, Error};
+use clap::{Arg, ArgAction, Command, Error, value_parser};
 use std::alloc::Global;
 use std::env;
 
@@ -48,6 +48,12 @@ pub enum Asked<'a> {
         from: Option<&'a str>,
         save: Option<&'a str>,
     },
+    /// To serve so many clients of a port, from a trace if one is named.
+    Serve {
+        port: u16,
+        clients: u8,
+        from: Option<&'a str>,
+    },
 }
 
 impl Words {
@@ -81,6 +87,13 @@ impl Words {
     /// What they ask for, as the command line is declared.
     fn parsed(&self, alloc: Global) -> Result<Asked<'_>, Error> {
         let matches = command(alloc)?.try_get_matches_from(self.words.as_slice())?;
+        if let Some(serve) = matches.subcommand_matches("serve") {
+            return Ok(Asked::Serve {
+                port: serve.get_one::<u16>("PORT").unwrap_or(0),
+                clients: serve.get_one::<u8>("clients").unwrap_or(1),
+                from: serve.get_str("from"),
+            });
+        }
         match matches.subcommand_matches("run") {
             Some(run) => Ok(Asked::Run {
                 file: run.get_str("FILE").unwrap_or("-"),
@@ -104,7 +117,8 @@ fn command<'a>(alloc: Global) -> Result<Command<'a>, Error> {
             .about(ABOUT)
             .after_help(EXAMPLES)
             .subcommand_required(true)
-            .subcommand(run_command(alloc)?)?,
+            .subcommand(run_command(alloc)?)?
+            .subcommand(serve_command(alloc)?)?,
     )
 }
 
@@ -131,5 +145,34 @@ fn run_command<'a>(alloc: Global) -> Result<Command<'a>, Error> {
             .arg(file)?
             .arg(from)?
             .arg(save)?,
+    )
+}
+
+/// The words behind `serve`.
+fn serve_command(alloc: Global) -> Result<Command<'static>, Error> {
+    let port = Arg::new(alloc, "PORT")
+        .action(ArgAction::Set)
+        .required(true)
+        .value_parser(value_parser!(u16).range(1..=65_535))
+        .help("The port of 127.0.0.1 that is listened on");
+    let clients = Arg::new(alloc, "clients")
+        .long("clients")
+        .value_name("N")
+        .action(ArgAction::Set)
+        .value_parser(value_parser!(u8).range(1..=4))
+        .default_value("1")
+        .help("How many connections are accepted, 1 to 4; they are the clients 1 to N, in that order");
+    let from = Arg::new(alloc, "from")
+        .long("from")
+        .value_name("TRACE")
+        .action(ArgAction::Set)
+        .help("Begins with the calls of a session text, on the branch `main`");
+    Ok(
+        Command::new(alloc, "serve")
+            .about("Answers the lines of clients that connect to a port, over one history")
+            .after_help(EXAMPLES)
+            .arg(port)?
+            .arg(clients)?
+            .arg(from)?,
     )
 }

@@ -1,0 +1,150 @@
+-- The clients of a shared book at their places, and what is left of them there.
+use Rattle.std.proofs.Common.{◌≡◌, ℕ, suc, ◌<◌, ◌≤◌, List, [], ◌∷◌, ◌++◌, length, map, take, drop, get_or, Option, Some, None, refl, sym, ◌∙◌, ap, subst, arith}
+use Rattle.std.specs.Prelude.{All}
+use Rattle.std.specs.List.{AllZip, filter_map, cons_option}
+use Rattle.std.proofs.lemmas.List.Elements.{filter_map-append, All-head, All-tail, All-map}
+use lib.Seq.{take-append_seam}
+use Rattle.zt_rows.specs.declared.calls.Answer.{Answer}
+use Rattle.zt_rows.specs.declared.calls.Command.{Command}
+use Rattle.zt_book.specs.declared.logs.Recorded.{Recorded}
+use Rattle.zt_book.specs.Session.{Session}
+use Rattle.zt_shared.specs.Sharing.{Part, IsPartOf, IsClosed, told_to, first_part, first_parts, numbers}
+use Rattle.zt_console.specs.declared.serving.Place.{Place}
+use Rattle.zt_console.specs.declared.serving.Served.{Served}
+use Rattle.zt_console.specs.Places.{place_of, served_at, pass_at, IsTaken, HasServed}
+use Rattle.zt_console.specs.Sessions.{Caller, IsCountable, IsServed, told_in}
+
+-- ---- lists
+
+pub zip_each : {T : Type 0} (R : T → T → Type 0) (xs ys : List T) → length ys ≡ length xs → ((i : ℕ) (d : T) → i < length xs → R (get_or xs i d) (get_or ys i d)) → AllZip R xs ys
+zip_each R [] [] e h = tt
+zip_each R [] (y ∷ ys) e h = let no : ⊥ = omega arith in absurd no
+zip_each R (x ∷ xs) [] e h = let no : ⊥ = omega arith in absurd no
+zip_each R (x ∷ xs) (y ∷ ys) e h = (h 0 x (omega arith), zip_each R xs ys (omega arith) (λ i d lt. h (suc i) d (omega arith)))
+
+-- what is written through a slice of a whole list stands in it
+pub written_back : {T : Type 0} (n : ℕ) (xs ys : List T) → n ≡ length ys → take n (ys ++ drop (length ys) xs) ≡ ys
+written_back n xs ys e = ap (λ k. take k (ys ++ drop (length ys) xs)) e ∙ take-append_seam ys (drop (length ys) xs)
+
+pub map_more : {A B : Type 0} (f : A → B) (xs : List A) (x : A) → map f (xs ++ x ∷ []) ≡ map f xs ++ f x ∷ []
+map_more f [] x = refl
+map_more f (y ∷ xs) x = ap (λ z. f y ∷ z) (map_more f xs x)
+
+pub left_more : {A B : Type 0} (f : A → Option B) (xs : List A) (x : A) → filter_map f (xs ++ x ∷ []) ≡ filter_map f xs ++ cons_option (f x) []
+left_more f xs x = filter_map-append f xs (x ∷ [])
+
+-- ---- places
+
+some-same : (x y : Part) → Some x ≡ Some y → y ≡ x
+some-same x y e = cc
+
+part-with : ℕ → Session → List (Command × Answer) → Part
+part-with client base rows = record { client = client; base = base; rows = rows }
+
+-- a pass whose rows are those of the log
+told-in : (log : List Recorded) (before after : Part) (end : Session) → after.client ≡ before.client → after.base ≡ before.base → IsPartOf after log end → after ≡ told_in log before
+unfolding part-with
+told-in log before after end who base part =
+    ap (λ n. part-with n after.base after.rows) who
+    ∙ ap (λ b. part-with before.client b after.rows) base
+    ∙ ap (λ r. part-with before.client before.base r) (sym part.rows ∙ ap (λ n. told_to n log) who)
+
+abbrev pub IsIn : List Recorded → Part → Type 0
+IsIn log pass = (end : Session) × IsPartOf pass log end
+
+module _ {I O A B C D : Type 0} (remaining : I → Option (List ℕ)) (contents : O → Option (List ℕ)) where
+  abbrev pub Zipped : List (Caller I O) → List (Place I O A B C D) → Type 0
+  Zipped cs ps = AllZip (HasServed remaining contents) (map place_of cs) ps
+
+  left-one : (p : Place I O A B C D) (ps : List (Place I O A B C D)) (pass : Part) → p.pass ≡ Some pass → filter_map pass_at (p ∷ ps) ≡ pass ∷ filter_map pass_at ps
+  left-one p ps pass e = ap (λ o. cons_option o (filter_map pass_at ps)) e
+
+  -- the passes that are left have the clients of those that were brought
+  pub clients_left : (cs : List (Caller I O)) (ps : List (Place I O A B C D)) → Zipped cs ps → map (λ (p : Part). p.client) (filter_map pass_at ps) ≡ map (λ (c : Caller I O). c.2.client) cs
+  clients_left [] [] h = refl
+  clients_left [] (p ∷ ps) h = absurd h
+  clients_left (c ∷ cs) [] h = absurd h
+  clients_left (c ∷ cs) (p ∷ ps) (h, hs) =
+      ap (map (λ (p : Part). p.client)) (left-one p ps h.after h.holds)
+      ∙ ap (λ x. x ∷ map (λ (p : Part). p.client) (filter_map pass_at ps)) (h.who ∙ ap (λ (p : Part). p.client) (some-same c.2 h.before h.held))
+      ∙ ap (λ xs. c.2.client ∷ xs) (clients_left cs ps hs)
+
+  is-told : (log : List Recorded) (c : Caller I O) (p : Place I O A B C D) (h : HasServed remaining contents (place_of c) p) → IsIn log h.after → h.after ≡ told_in log c.2
+  is-told log c p h (end, part) =
+      told-in log h.before h.after end h.who h.base part ∙ ap (told_in log) (some-same c.2 h.before h.held)
+
+  -- they are those that were brought, with the rows of the log
+  pub passes_left : (log : List Recorded) (cs : List (Caller I O)) (ps : List (Place I O A B C D)) → Zipped cs ps → All (IsIn log) (filter_map pass_at ps)
+      → filter_map pass_at ps ≡ map (λ (c : Caller I O). told_in log c.2) cs
+  passes_left log [] [] h all = refl
+  passes_left log [] (p ∷ ps) h all = absurd h
+  passes_left log (c ∷ cs) [] h all = absurd h
+  passes_left log (c ∷ cs) (p ∷ ps) (h, hs) all =
+      let e = left-one p ps h.after h.holds in
+      let all_left = subst (All (IsIn log)) e all in
+      e
+      ∙ ap (λ x. x ∷ filter_map pass_at ps) (is-told log c p h (All-head (IsIn log) h.after (filter_map pass_at ps) all_left))
+      ∙ ap (λ xs. told_in log c.2 ∷ xs) (passes_left log cs ps hs (All-tail (IsIn log) h.after (filter_map pass_at ps) all_left))
+
+  -- each client was served, up to its part of the log
+  pub each_served : (log : List Recorded) (cs : List (Caller I O)) (ps : List (Place I O A B C D)) → Zipped cs ps → All (IsIn log) (filter_map pass_at ps)
+      → AllZip (λ (c : Caller I O) (s : Served I O). IsServed remaining contents c (told_in log c.2) s.reader s.writer s.end) cs (map served_at ps)
+  each_served log [] [] h all = tt
+  each_served log [] (p ∷ ps) h all = absurd h
+  each_served log (c ∷ cs) [] h all = absurd h
+  each_served log (c ∷ cs) (p ∷ ps) (h, hs) all =
+      let e = left-one p ps h.after h.holds in
+      let all_left = subst (All (IsIn log)) e all in
+      let told = is-told log c p h (All-head (IsIn log) h.after (filter_map pass_at ps) all_left) in
+      let same = some-same c.2 h.before h.held in
+      (
+        subst (λ x. IsServed remaining contents c x p.reader p.writer p.end) told (subst (λ x. IsServed remaining contents (c.0, c.1, x) h.after p.reader p.writer p.end) same h.served),
+        each_served log cs ps hs (All-tail (IsIn log) h.after (filter_map pass_at ps) all_left),
+      )
+
+  length_left : (cs : List (Caller I O)) (ps : List (Place I O A B C D)) → Zipped cs ps → length ps ≡ length cs
+  length_left [] [] h = refl
+  length_left [] (p ∷ ps) h = absurd h
+  length_left (c ∷ cs) [] h = absurd h
+  length_left (c ∷ cs) (p ∷ ps) (h, hs) = ap suc (length_left cs ps hs)
+
+  -- there is room for what is left where there was room for the clients
+  pub room_left : (cs : List (Caller I O)) (ps : List (Place I O A B C D)) (n j k : ℕ) → Zipped cs ps → n ≡ length cs → n ≤ j → n ≤ k → (length ps ≤ j) × (length ps ≤ k)
+  room_left cs ps n j k z e f g = let same = length_left cs ps z in (omega (arith, same, e, f), omega (arith, same, e, g))
+
+  -- all passes are back
+  pub all_back : (cs : List (Caller I O)) (ps : List (Place I O A B C D)) (passes : List Part) (n : ℕ) → Zipped cs ps → passes ≡ filter_map pass_at ps
+      → map (λ (c : Caller I O). c.2.client) cs ≡ numbers n → map (λ (p : Part). p.client) passes ≡ numbers n
+  all_back cs ps passes n z e h = ap (map (λ (p : Part). p.client)) e ∙ clients_left cs ps z ∙ h
+
+  -- what is known of the passes that sessions end with is told of those that they began with
+  pub all_closed : (n : ℕ) (log : List Recorded) (cs : List (Caller I O)) (ps : List (Place I O A B C D)) (passes : List Part) → Zipped cs ps → passes ≡ filter_map pass_at ps
+      → IsClosed n passes log → IsClosed n (map (λ (c : Caller I O). told_in log c.2) cs) log
+  all_closed n log cs ps passes z e closed =
+      subst (λ l. IsClosed n l log) (e ∙ passes_left log cs ps z (subst (All (IsIn log)) e closed.parts)) closed
+
+  pub all_served : (n : ℕ) (log : List Recorded) (cs : List (Caller I O)) (ps : List (Place I O A B C D)) (passes : List Part) (served : List (Served I O)) → Zipped cs ps
+      → passes ≡ filter_map pass_at ps → served ≡ map served_at ps → IsClosed n passes log
+      → AllZip (λ (c : Caller I O) (s : Served I O). IsServed remaining contents c (told_in log c.2) s.reader s.writer s.end) cs served
+  all_served n log cs ps passes served z e f closed =
+      subst (λ l. AllZip (λ (c : Caller I O) (s : Served I O). IsServed remaining contents c (told_in log c.2) s.reader s.writer s.end) cs l) (sym f)
+      (each_served log cs ps z (subst (All (IsIn log)) e closed.parts))
+
+-- clients whose failures can be counted take places
+pub all_taken : {I O A B C D : Type 0} (cs : List (Caller I O)) → All IsCountable cs → All (IsTaken {I = I} {O = O} {A = A} {B = B} {C = C} {D = D}) (map place_of cs)
+all_taken cs h = All-map IsTaken place_of cs (λ i d lt. record { pass = (get_or cs i d).2; held = refl; counts = h i d lt })
+
+-- ---- the passes of a book that is opened
+
+callers-clients : {I O : Type 0} (cs : List (Caller I O)) → map (λ (c : Caller I O). c.2.client) cs ≡ map (λ (p : Part). p.client) (map (λ (c : Caller I O). c.2) cs)
+callers-clients [] = refl
+callers-clients (c ∷ cs) = ap (λ z. c.2.client ∷ z) (callers-clients cs)
+
+parts-clients : (base : Session) (ns : List ℕ) → map (λ (p : Part). p.client) (map (first_part base) ns) ≡ ns
+parts-clients base [] = refl
+parts-clients base (n ∷ ns) = ap (λ z. n ∷ z) (parts-clients base ns)
+
+-- clients with the passes of a book that is opened are all its clients
+pub first_callers : {I O : Type 0} (cs : List (Caller I O)) (ps : List Part) (n : ℕ) (base : Session) → map (λ (c : Caller I O). c.2) cs ≡ ps → ps ≡ first_parts n base
+    → map (λ (c : Caller I O). c.2.client) cs ≡ numbers n
+first_callers cs ps n base e f = callers-clients cs ∙ ap (map (λ (p : Part). p.client)) (e ∙ f) ∙ parts-clients base (numbers n)
