@@ -118,7 +118,8 @@ fn refused_memory_leaves_the_book(rt: HostRuntime) {
     ask(&rt, &mut book, &Command::Back(4));
 }
 
-/// Three events, and a branch from the opening.
+/// Three events, a branch from the first of them, and its rows. Each is in its place too where one before it was left
+/// out, since memory was refused to the rows that it was to be compared with.
 fn ask_branch(rt: &impl Abort, book: &mut Book, name: Items<u8>)
     requires { 1 ≤ length book.old.session.clients }
 {
@@ -126,10 +127,9 @@ fn ask_branch(rt: &impl Abort, book: &mut Book, name: Items<u8>)
     ask(rt, book, &call);
     ask(rt, book, &call);
     ask(rt, book, &call);
-    ask(rt, book, &Command::Back(3));
+    ask(rt, book, &Command::Back(2));
     ask(rt, book, &Command::Branch(name));
     ask(rt, book, &Command::Show);
-    ask(rt, book, &call);
 }
 
 fn name(alloc: Global) -> Result<Items<u8>, AllocError> {
