@@ -14,7 +14,7 @@ use std::thread::{Threads, join};
 use zt_bits::Status;
 use zt_book::{Book, Log};
 use zt_rows::{
-    Answer, Call, Command, Event, HandleValue, Happening, Koid, Moment, Parcel, Refusal, Reply,
+    Answer, Call, Command, HandleValue, Happening, Koid, Moment, Parcel, Refusal, Reply,
 };
 
 const ROOT: Koid = Koid(1025);
@@ -141,7 +141,7 @@ fn pins<A: Naming + Beginning, B: Naming, C: Naming, D: Naming, R: Wait + Abort>
             shared.pin(rt, &mut one)?
         }
     };
-    assert!(rt; matches!(answer, Answer::Pinned(Moment(1))));
+    assert!(rt; pinned_at(&answer) == Some(Moment(1)));
     assert!(rt; copy.moment() == Moment(1) && copy.calls().len() == 1);
     close_both(rt, alloc, shared, one, two)
 }
@@ -224,36 +224,47 @@ fn row(log: &Log, number: usize, client: u8) -> Option<&Answer> {
     }
 }
 
+fn ends_of(answer: Option<&Answer>) -> Option<(Moment, HandleValue, HandleValue)> {
+    match answer {
+        Some(Answer::Called(moment, Reply::Handles(near, far))) => Some((*moment, *near, *far)),
+        _ => None,
+    }
+}
+
+fn status_of(answer: Option<&Answer>) -> Option<(Moment, Status)> {
+    match answer {
+        Some(Answer::Called(moment, Reply::Status(status))) => Some((*moment, *status)),
+        _ => None,
+    }
+}
+
+fn closed_by(answer: Option<&Answer>) -> Option<(Moment, Koid)> {
+    match answer {
+        Some(Answer::When(Some(event))) => Some((event.moment, event.process)),
+        _ => None,
+    }
+}
+
+fn shown_in(answer: Option<&Answer>) -> Option<(Moment, usize)> {
+    match answer {
+        Some(Answer::Rows(moment, rows)) => Some((*moment, rows.as_slice().len())),
+        _ => None,
+    }
+}
+
+fn pinned_at(answer: &Answer) -> Option<Moment> {
+    match answer {
+        Answer::Pinned(moment) => Some(*moment),
+        _ => None,
+    }
+}
+
 fn check_four(rt: &impl Abort, log: &Log) {
     assert!(rt; log.len() == 4);
-    assert!(rt;
-        matches!(
-            row(log, 0, 1),
-            Some(Answer::Called(Moment(1), Reply::Handles(NEAR, FAR)))
-        )
-    );
-    assert!(rt;
-        matches!(
-            row(log, 1, 2),
-            Some(Answer::Called(Moment(2), Reply::Status(Status::Ok)))
-        )
-    );
-    assert!(rt;
-        matches!(
-            row(log, 2, 1),
-            Some(Answer::Called(Moment(3), Reply::Status(Status::PeerClosed)))
-        )
-    );
-    assert!(rt;
-        matches!(
-            row(log, 3, 1),
-            Some(Answer::When(Some(Event {
-                moment: Moment(2),
-                process: ROOT,
-                call: Call::HandleClose { handle: FAR }
-            })))
-        )
-    );
+    assert!(rt; ends_of(row(log, 0, 1)) == Some((Moment(1), NEAR, FAR)));
+    assert!(rt; status_of(row(log, 1, 2)) == Some((Moment(2), Status::Ok)));
+    assert!(rt; status_of(row(log, 2, 1)) == Some((Moment(3), Status::PeerClosed)));
+    assert!(rt; closed_by(row(log, 3, 1)) == Some((Moment(2), ROOT)));
 }
 
 #[test]
@@ -364,10 +375,7 @@ fn shown<R: Wait + Abort>(rt: &R, alloc: Global) -> Result<Log, Refusal> {
 #[test]
 fn a_loaded_book_goes_on(rt: HostRuntime) -> Result<(), Fail> {
     let log = shown(&rt, rt.alloc())?;
-    match row(&log, 0, 1) {
-        Some(Answer::Rows(Moment(2), rows)) => assert!(rt; rows.as_slice().len() == 4),
-        _ => assert!(rt; false),
-    }
+    assert!(rt; shown_in(row(&log, 0, 1)) == Some((Moment(2), 4)));
     Ok(())
 }
 
