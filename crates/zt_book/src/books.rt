@@ -147,7 +147,11 @@ impl Book {
     pub fn into_log(self) -> Log
         ensures { result ≡ self.log }
     {
-        let Book { desk: _, log, last: _ } = self;
+        let Book {
+            desk: _,
+            log,
+            last: _,
+        } = self;
         log
     }
 

@@ -96,8 +96,7 @@ module _ {I O A B C D : Type 0} (remaining : I → Option (List ℕ)) (contents 
       let e = left-one p ps h.after h.holds in
       let all_left = subst (All (IsIn log)) e all in
       let told = is-told log c p h (All-head (IsIn log) h.after (filter_map pass_at ps) all_left) in
-      let same = some-same c.2 h.before h.held in
-      (
+      let same = some-same c.2 h.before h.held in (
         subst (λ x. IsServed remaining contents c x p.reader p.writer p.end) told (subst (λ x. IsServed remaining contents (c.0, c.1, x) h.after p.reader p.writer p.end) same h.served),
         each_served log cs ps hs (All-tail (IsIn log) h.after (filter_map pass_at ps) all_left),
       )

@@ -17,7 +17,15 @@ use zt_shared::account::Naming;
 use zt_shared::{Beginning, Gate, Pass, Shared};
 
 /// A client of a shared book: its pass, and what is called around its commands.
-pub(crate) struct Seat<'a, R: Wait, A: Naming + Beginning, B: Naming, C: Naming, D: Naming, G: Gate> {
+pub(crate) struct Seat<
+    'a,
+    R: Wait,
+    A: Naming + Beginning,
+    B: Naming,
+    C: Naming,
+    D: Naming,
+    G: Gate,
+> {
     rt: &'a R,
     shared: &'a Shared<A, B, C, D>,
     gate: &'a G,
@@ -25,8 +33,7 @@ pub(crate) struct Seat<'a, R: Wait, A: Naming + Beginning, B: Naming, C: Naming,
 }
 
 impl<'a, R: Wait, A: Naming + Beginning, B: Naming, C: Naming, D: Naming, G: Gate> Model
-    for Seat<'a, R, A, B, C, D, G>
-{
+    for Seat<'a, R, A, B, C, D, G> {
     ghost use Rattle.zt_shared.specs.Sharing.{Part};
 
     ghost Value = { Part };
@@ -35,8 +42,7 @@ impl<'a, R: Wait, A: Naming + Beginning, B: Naming, C: Naming, D: Naming, G: Gat
 }
 
 impl<'a, R: Wait, A: Naming + Beginning, B: Naming, C: Naming, D: Naming, G: Gate> Desk
-    for Seat<'a, R, A, B, C, D, G>
-{
+    for Seat<'a, R, A, B, C, D, G> {
     ghost use Rattle.zt_console.specs.Sessions.{AsksPass};
 
     ghost asks = { AsksPass };
@@ -53,9 +59,15 @@ impl<'a, R: Wait, A: Naming + Beginning, B: Naming, C: Naming, D: Naming, G: Gat
     }
 }
 
-impl<'a, R: Wait, A: Naming + Beginning, B: Naming, C: Naming, D: Naming, G: Gate>
-    Seat<'a, R, A, B, C, D, G>
-{
+impl<'a, R: Wait, A: Naming + Beginning, B: Naming, C: Naming, D: Naming, G: Gate> Seat<
+    'a,
+    R,
+    A,
+    B,
+    C,
+    D,
+    G,
+> {
     /// Answers a command by the shared book.
     fn answer(&mut self, request: &Command) -> Result<(Answer, Option<Frozen>), Refusal>
         ensures { AsksPass self.old request.now result self.new }

@@ -66,10 +66,7 @@ pub fn sessions<
     shared: Shared<A, B, C, D>,
     callers: Vec<Caller<I, O, A, B, C, D>>,
     gate: &G,
-) -> Result<
-    (Log, Vec<Served<I, O>>),
-    (Shared<A, B, C, D>, Vec<Caller<I, O, A, B, C, D>>),
->
+) -> Result<(Log, Vec<Served<I, O>>), (Shared<A, B, C, D>, Vec<Caller<I, O, A, B, C, D>>)>
     requires all { map (λ caller. caller.2.client) callers.items ≡ numbers A.clients }
     requires counts { All IsCountable callers.items }
     ensures log { IfOk result (λ done. IsClosed A.clients (map (λ caller. told_in done.0 caller.2) callers.items) done.0) }
@@ -178,9 +175,12 @@ fn serve_each<
 )
     ensures { (i : ℕ) (d : _) → i < length places.old → IsTaken (slice_index_or places.old i d) → HasServed I.remaining O.contents (slice_index_or places.old i d) (slice_index_or places.new i d) }
 {
-    thread::for_each_mut(rt, places, CLIENTS, &|_, place| {
-        serve_one(rt, alloc, shared, gate, place)
-    });
+    thread::for_each_mut(
+        rt,
+        places,
+        CLIENTS,
+        &|_, place| { serve_one(rt, alloc, shared, gate, place) },
+    );
 }
 
 /// Serves one client, where its pass is there and its failures can be counted.
@@ -193,13 +193,7 @@ fn serve_one<
     C: Naming + Send + Sync,
     D: Naming + Send + Sync,
     G: Gate,
->(
-    rt: &R,
-    alloc: Global,
-    shared: &Shared<A, B, C, D>,
-    gate: &G,
-    place: &mut Place<I, O, A, B, C, D>,
-)
+>(rt: &R, alloc: Global, shared: &Shared<A, B, C, D>, gate: &G, place: &mut Place<I, O, A, B, C, D>)
     ensures { IsTaken place.old → HasServed I.remaining O.contents place.old place.new }
 {
     if place.reader.faults() == u64::MAX || place.writer.faults() == u64::MAX {
