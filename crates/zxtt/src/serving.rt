@@ -49,7 +49,7 @@ pub fn serve<R: Net<Listener = TcpListener, Stream = TcpStream> + Threads + Wait
 }
 
 /// Listens on a port of 127.0.0.1.
-fn listen<R: Net<Listener = TcpListener>>(rt: &R, port: u16) -> io::Result<TcpListener> {
+fn listen<R: Net<Listener = TcpListener, Stream = TcpStream>>(rt: &R, port: u16) -> io::Result<TcpListener> {
     TcpListener::bind(rt, SocketAddr::from((Ipv4Addr::LOCALHOST, port)))
 }
 
