@@ -15,6 +15,3 @@ pub use gates::Gate;
 pub use opening::{Blanks, open, open_book};
 pub use passes::{Beginning, Calls, Pass, Said};
 pub use shared::Shared;
-
-#[cfg(test)]
-mod tests;
