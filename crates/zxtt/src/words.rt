@@ -87,24 +87,24 @@ impl Words {
     /// What they ask for, as the command line is declared.
     fn parsed(&self, alloc: Global) -> Result<Asked<'_>, Error> {
         let matches = command(alloc)?.try_get_matches_from(self.words.as_slice())?;
-        if let Some(serve) = matches.subcommand_matches("serve") {
-            return Ok(Asked::Serve {
-                port: serve.get_one::<u16>("PORT").unwrap_or(0),
-                clients: serve.get_one::<u8>("clients").unwrap_or(1),
-                from: serve.get_str("from"),
-            });
-        }
         match matches.subcommand_matches("run") {
             Some(run) => Ok(Asked::Run {
                 file: run.get_str("FILE").unwrap_or("-"),
                 from: run.get_str("from"),
                 save: run.get_str("save"),
             }),
-            None => Ok(Asked::Run {
-                file: "-",
-                from: None,
-                save: None,
-            }),
+            None => match matches.subcommand_matches("serve") {
+                Some(serve) => Ok(Asked::Serve {
+                    port: serve.get_one("PORT").unwrap_or(0),
+                    clients: serve.get_one("clients").unwrap_or(1),
+                    from: serve.get_str("from"),
+                }),
+                None => Ok(Asked::Run {
+                    file: "-",
+                    from: None,
+                    save: None,
+                }),
+            },
         }
     }
 }
@@ -149,7 +149,7 @@ fn run_command<'a>(alloc: Global) -> Result<Command<'a>, Error> {
 }
 
 /// The words behind `serve`.
-fn serve_command(alloc: Global) -> Result<Command<'static>, Error> {
+fn serve_command<'a>(alloc: Global) -> Result<Command<'a>, Error> {
     let port = Arg::new(alloc, "PORT")
         .action(ArgAction::Set)
         .required(true)
