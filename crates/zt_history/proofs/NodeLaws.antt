@@ -1,10 +1,10 @@
 -- Moments as they are kept: look-ups, depths, a record that changes, one more and one less.
-use Rattle.std.proofs.Common.{◌≡◌, ℕ, zero, suc, ◌+◌, ◌-◌, ◌≤◌, ◌<◌, Bool, true, false, eqb, inl, inr, List, [], ◌∷◌, ◌++◌, length, reverse, set, get_or, Option, Some, None, refl, sym, ◌∙◌, ap, subst, arith, Bor}
+use Rattle.std.proofs.Common.{◌≡◌, ℕ, zero, suc, ◌+◌, ◌-◌, ◌≤◌, ◌<◌, Bool, true, false, eqb, inl, inr, List, [], ◌∷◌, ◌++◌, length, reverse, set, take, get_or, Option, Some, None, refl, sym, ◌∙◌, ap, subst, arith, Bor}
 use Rattle.std.specs.Prelude.{slice_get, IfSome}
 use Rattle.std.specs.Option.{option_copied, option_map}
 use Rattle.std.specs.Slice.{IsItemAt}
 use Rattle.std.proofs.lemmas.Bool.{eqb-true, eqb-false}
-use Rattle.std.proofs.lemmas.List.{reverse-append, append_assoc, length-append, length-reverse, length-set, map-append, map-set}
+use Rattle.std.proofs.lemmas.List.{reverse-append, append_assoc, length-append, length-reverse, length-set, map-append, map-set, take-map}
 use Rattle.std.proofs.Math.Seq.{map-set_same}
 use Rattle.std.proofs.lemmas.Option.{slice_get-map, slice_get-get_or, get_or_from_slice_get, slice_get_past, slice_get_within, none-some, same_Some}
 use Rattle.zt_rows.specs.Change.{exchange}
@@ -18,7 +18,7 @@ use Rattle.zt_history.specs.declared.moments.Node.{Node}
 use Rattle.zt_history.specs.Tree.{Made, made_at, parent_of, parent_at, path}
 use Rattle.zt_history.specs.Refusing.{most_moments}
 use Rattle.zt_history.specs.Standing.{Falls}
-use Rattle.zt_history.specs.Nodes.{Chronicle, AreNodes, IsTurned, made_as, made_in, records_in}
+use Rattle.zt_history.specs.Nodes.{Chronicle, AreNodes, AreListed, IsTurned, made_as, made_in, records_in, parents_in}
 use Rattle.zt_history.proofs.ListLaws.{length-mapped, get-within, get-left, get-last, get-set_same, get-set_other, place}
 use Rattle.zt_history.proofs.MoreLaws.{path-more, falls-push, falls-left}
 use Rattle.zt_history.proofs.PathLaws.{path-opening, path-step, length-path, opening-path}
@@ -64,6 +64,23 @@ module _ (nodes xs : List Node) (h : Chronicle) (i m : ℕ) (r : Option (Bor Nod
       by : (r : Option (Bor Node)) → option_copied r ≡ slice_get nodes i → IfSome r (λ n. n.now.depth ≡ length (path h.made m))
       by None e = tt
       by (Some n) e = are.deep i n.now (sym e) ∙ (λ j. length (path (is j).made (sym place j)))
+
+abbrev pub or_opening : Option ℕ → ℕ
+or_opening None = 0
+or_opening (Some m) = m
+
+parent_in : (o : Option Node) → or_opening (option_map (λ n. n.parent) o) ≡ parent_of (option_map made_as o)
+parent_in None = refl
+parent_in (Some n) = refl
+
+-- the parent of a moment, as it is read from the list of the parents
+pub parent-listed : (nodes : List Node) (parents xs : List ℕ) (h : Chronicle) (i m : ℕ) (r : Option (Bor ℕ)) → IsItemAt xs i r → xs ≡ parents → AreListed nodes parents
+    → seen nodes ≡ h → m ≡ suc i → or_opening (option_copied r) ≡ parent_at h.made m
+parent-listed nodes parents xs h i m r at all are is place =
+    ap or_opening (got xs i r at ∙ ap (λ xs. slice_get xs i) (all ∙ are.listed) ∙ slice_get-map (λ n. n.parent) nodes i)
+    ∙ parent_in (slice_get nodes i)
+    ∙ ap parent_of (sym (slice_get-map made_as nodes i))
+    ∙ (λ j. parent_at (is j).made (sym place j))
 
 -- where nothing is kept of a moment, it is the opening, whose path is empty
 pub depth-none : (made : List Made) (m : ℕ) → m ≤ length made → made_at made m ≡ None → 0 ≡ length (path made m)
@@ -178,6 +195,27 @@ nodes-push nodes n there deep few are = record {
         ∙ omega (arith, length-path longer still (length nodes), ap length above)
         ∙ ap (λ made. length (path made (suc (length nodes)))) (sym all)
 
+-- ---- nodes with the list of their parents
+
+pub length-parents : (nodes : List Node) (parents : List ℕ) → AreListed nodes parents → length parents ≡ length nodes
+length-parents nodes parents are = ap length are.listed ∙ length-mapped (λ (n : Node). n.parent) nodes
+
+pub listed-left : (nodes fewer more : List Node) (parents left : List ℕ) (n k : ℕ) → nodes ≡ fewer ++ more → fewer ≡ take n nodes → left ≡ take k parents → k ≡ n
+    → AreListed nodes parents → AreListed fewer left
+listed-left nodes fewer more parents left n k apart first others same are = record {
+  stand = nodes-left fewer more (subst AreNodes apart are.stand);
+  listed =
+      others ∙ (λ i. take (same i) (are.listed i))
+      ∙ take-map (λ (n : Node). n.parent) n nodes
+      ∙ ap parents_in (sym first);
+}
+
+pub listed-set : (nodes : List Node) (parents : List ℕ) (i : ℕ) (n d : Node) → i < length nodes → d ≡ get_or nodes i d → made_as n ≡ made_as d → n.depth ≡ d.depth → AreListed nodes parents → AreListed (set nodes i n) parents
+listed-set nodes parents i n d within is same deep are = record {
+  stand = nodes-set nodes i n d within is same deep are.stand;
+  listed = are.listed ∙ sym (map-set_same (λ (n : Node). n.parent) nodes i n d (ap (λ (e : Made). e.parent) same ∙ ap (λ (n : Node). n.parent) is));
+}
+
 -- ---- a record that changes
 
 pub record_fits : (p : Places) (nodes : List Node) (i : ℕ) (n : Node) → i < length nodes → n ≡ get_or nodes i n → all_fit p (records_in nodes) ≡ true → fits p n.change ≡ true
@@ -212,3 +250,13 @@ nodes-pushed nodes middle new n h pushed kept is there deep few are =
     let many : length (made_in nodes) ≡ length h.made = ap length made in
     subst AreNodes (sym (pushed ∙ ap (λ xs. xs ++ n ∷ []) kept))
     (nodes-push nodes n (omega (arith, there, many, length-made_in nodes)) (deep ∙ ap (λ made. length (path made n.parent) + 1) (sym made)) (omega (arith, few, many, length-made_in nodes)) are)
+
+pub listed-pushed : (nodes middle new : List Node) (parents room longer : List ℕ) (n : Node) (h : Chronicle) → new ≡ middle ++ n ∷ [] → middle ≡ nodes
+    → longer ≡ room ++ n.parent ∷ [] → room ≡ parents → seen nodes ≡ h
+    → n.parent ≤ length h.made → n.depth ≡ length (path h.made n.parent) + 1 → length h.made < most_moments → AreListed nodes parents → AreListed new longer
+listed-pushed nodes middle new parents room longer n h pushed kept grown held is there deep few are = record {
+  stand = nodes-pushed nodes middle new n h pushed kept is there deep few are.stand;
+  listed =
+      grown ∙ ap (λ xs. xs ++ n.parent ∷ []) (held ∙ are.listed)
+      ∙ sym (ap parents_in (pushed ∙ ap (λ xs. xs ++ n ∷ []) kept) ∙ map-append (λ (n : Node). n.parent) nodes (n ∷ []));
+}

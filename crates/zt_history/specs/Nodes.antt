@@ -32,6 +32,14 @@ pub record AreNodes (nodes : List Node) : Type 0 where
   pub falls : Falls (made_in nodes)
   pub deep : (i : ℕ) (n : Node) → slice_get nodes i ≡ Some n → n.depth ≡ length (path (made_in nodes) (suc i))
 
+abbrev pub parents_in : List Node → List ℕ
+parents_in nodes = map (λ n. n.parent) nodes
+
+-- such nodes, and beside them the list of their parents
+pub record AreListed (nodes : List Node) (parents : List ℕ) : Type 0 where
+  pub stand : AreNodes nodes
+  pub listed : parents ≡ parents_in nodes
+
 -- what a call makes at a moment, in whose state the store stands
 abbrev pub run_at : ℕ → State → ℕ → Call → Made
 run_at m S process call = record { parent = m; process = process; call = call; reply = (step S process call).1 }

@@ -29,20 +29,22 @@ pub(crate) struct Node {
     pub(crate) change: Record,
 }
 
-/// The moments after the opening in the order in which they were made.
+/// The moments after the opening in the order in which they were made. The parents stand in a list of their own
+/// as well, so that a path is read from few bytes.
 #[derive(Drop)]
 pub(crate) struct Moments {
     nodes: Vec<Node>,
+    parents: Vec<Moment>,
 }
 
 impl Model for Moments {
-    ghost use Rattle.zt_history.specs.Nodes.{AreNodes, Chronicle, made_in, records_in};
+    ghost use Rattle.zt_history.specs.Nodes.{AreListed, Chronicle, made_in, records_in};
 
     ghost Value = { Chronicle };
 
     ghost view = { λ m. record { made = made_in m.nodes.items; records = records_in m.nodes.items } };
 
-    ghost invariant = { λ m. AreNodes m.nodes.items };
+    ghost invariant = { λ m. AreListed m.nodes.items m.parents.items };
 }
 
 impl Moments {
@@ -52,6 +54,7 @@ impl Moments {
     {
         Moments {
             nodes: Vec::new(alloc),
+            parents: Vec::new(alloc),
         }
     }
 
@@ -87,8 +90,11 @@ impl Moments {
     pub(crate) fn parent(&self, moment: Moment) -> Moment
         ensures { result ≡ parent_at self.now.made moment }
     {
-        match self.node(moment) {
-            Some(node) => node.parent,
+        if moment.0 == 0 {
+            return Moment(0);
+        }
+        match self.parents.get((moment.0 - 1) as usize) {
+            Some(parent) => *parent,
             None => Moment(0),
         }
     }
@@ -157,8 +163,10 @@ impl Moments {
         self.limits();
         let depth = self.depth(at) + 1;
         self.nodes.reserve(1)?;
+        self.parents.reserve(1)?;
         let alloc = *self.nodes.allocator();
         let run = carried_out(alloc, store, process, call)?;
+        self.parents.push_reserved(at);
         self.nodes.push_reserved(Node {
             parent: at,
             depth,
@@ -177,6 +185,7 @@ impl Moments {
         ensures records { self.new.records ≡ without_last self.old.records }
     {
         self.nodes.pop();
+        self.parents.pop();
     }
 }
 

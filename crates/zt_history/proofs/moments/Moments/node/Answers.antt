@@ -16,4 +16,4 @@ returns-clause-kept c =
 
 pub returns-clause-depth : goal.returns-clause-depth
 returns-clause-depth c =
-    node-depth c.self.inside.nodes.items c.deref.result.now c.args.self.now (c.moment.inside.0 - 1) c.args.moment c.get.result c.get.ensures.lookup c.deref.ensures.value c.self.view_is (place c) c.self.invariant
+    node-depth c.self.inside.nodes.items c.deref.result.now c.args.self.now (c.moment.inside.0 - 1) c.args.moment c.get.result c.get.ensures.lookup c.deref.ensures.value c.self.view_is (place c) c.self.invariant.stand
