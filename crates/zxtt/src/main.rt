@@ -24,11 +24,13 @@ fn main(rt: HostRuntime) -> ExitCode {
     };
     let done = match words.asked(rt.alloc()) {
         Ok(Asked::Run { file, from, save }) => run_asked(&rt, file, from, save),
-        Ok(Asked::Serve {
-            port,
-            clients,
-            from,
-        }) => match begin(&rt, clients, from) {
+        Ok(
+            Asked::Serve {
+                port,
+                clients,
+                from,
+            },
+        ) => match begin(&rt, clients, from) {
             Ok(book) => serve(&rt, port, clients, book),
             Err(fault) => Err(fault),
         },

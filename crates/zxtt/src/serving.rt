@@ -28,12 +28,14 @@ impl Gate for NoGate {
 
 /// Serves so many clients that connect to a port of 127.0.0.1 over the book, and prints how many rows its log has when
 /// all of them have gone.
-pub fn serve<R: Net<Listener = TcpListener, Stream = TcpStream> + Threads + Wait + AllocGlobal + Print + Sync>(
-    rt: &R,
-    port: u16,
-    clients: u8,
-    book: Book,
-) -> Result<(), Fault>
+pub fn serve<
+    R: Net<Listener = TcpListener, Stream = TcpStream>
+        + Threads
+        + Wait
+        + AllocGlobal
+        + Print
+        + Sync,
+>(rt: &R, port: u16, clients: u8, book: Book) -> Result<(), Fault>
     requires { IsFresh clients book }
 {
     let listener = match listen(rt, port) {
@@ -49,7 +51,10 @@ pub fn serve<R: Net<Listener = TcpListener, Stream = TcpStream> + Threads + Wait
 }
 
 /// Listens on a port of 127.0.0.1.
-fn listen<R: Net<Listener = TcpListener, Stream = TcpStream>>(rt: &R, port: u16) -> io::Result<TcpListener> {
+fn listen<R: Net<Listener = TcpListener, Stream = TcpStream>>(
+    rt: &R,
+    port: u16,
+) -> io::Result<TcpListener> {
     TcpListener::bind(rt, SocketAddr::from((Ipv4Addr::LOCALHOST, port)))
 }
 
@@ -60,12 +65,7 @@ fn serve_book<
     C: Naming + Send + Sync,
     D: Naming + Send + Sync,
     R: Threads + Wait + AllocGlobal + Sync,
->(
-    rt: &R,
-    blanks: Blanks,
-    book: Book,
-    listener: &TcpListener,
-) -> Result<usize, Fault>
+>(rt: &R, blanks: Blanks, book: Book, listener: &TcpListener) -> Result<usize, Fault>
     requires base { (blanks.base ≡ A.base) × (blanks.clients ≡ A.clients) }
     requires first { IsNamed A.name A.parts A.cells blanks.first }
     requires second { IsNamed B.name B.parts B.cells blanks.second }

@@ -161,7 +161,9 @@ fn serve_command<'a>(alloc: Global) -> Result<Command<'a>, Error> {
         .action(ArgAction::Set)
         .value_parser(value_parser!(u8).range(1..=4))
         .default_value("1")
-        .help("How many connections are accepted, 1 to 4; they are the clients 1 to N, in that order");
+        .help(
+            "How many connections are accepted, 1 to 4; they are the clients 1 to N, in that order",
+        );
     let from = Arg::new(alloc, "from")
         .long("from")
         .value_name("TRACE")
