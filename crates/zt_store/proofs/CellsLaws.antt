@@ -12,17 +12,25 @@ use Rattle.zt_rows.specs.Room.{SuitsKey}
 use Rattle.zt_rows.specs.State.{State, row, put}
 use Rattle.zt_rows.proofs.StateLaws.{row-put, same_state}
 use Rattle.zt_store.specs.Grids.{cell, table, cell_at, lengths, shelf, entry, entry_places, IsFirstCell}
-use Rattle.zt_store.specs.Cabinets.{cabinet_of, look, shelves_of, places_in, state_in, Exchanged, Widened, IsCells}
+use Rattle.zt_store.specs.Cabinets.{cabinet_in, cabinet_of, look, shelves_of, places_in, state_in, Exchanged, Widened, IsCells}
 use Rattle.zt_store.specs.Seen.{Shelved}
 use Rattle.zt_store.specs.Shelves.{Shelves, place_of, length_at, has_place}
 use Rattle.zt_store.specs.Walks.{IsFirst}
 use Rattle.zt_store.specs.declared.cells.cabinet.Cabinet.{Cabinet}
+use Rattle.zt_store.specs.declared.cells.cabinet.Tables.{Tables}
 use Rattle.zt_store.proofs.GridLaws.{length_table, length_entry_table}
 use Rattle.zt_store.proofs.CabinetLaws.{at_lengths, at_entries}
 use Rattle.zt_store.proofs.LookLaws.{row-state_in, length-state_in}
 
 abbrev pub seen_as : Cabinet → Shelved
 seen_as c = record { state = state_in c; shelves = shelves_of c }
+
+-- what a borrowed cabinet shows is what the tables show
+pub seen-by : (t : Tables) (c : Cabinet) (s : Shelved) → c ≡ cabinet_in t → seen_as (cabinet_in t) ≡ s → seen_as c ≡ s
+seen-by t c s is seen = ap seen_as is ∙ seen
+
+pub cells-by : (t : Tables) (c : Cabinet) (places : ℕ) → c ≡ cabinet_in t → IsCells (cabinet_in t) places → IsCells c places
+cells-by t c places is good = subst (λ x. IsCells x places) (sym is) good
 
 -- ---- looks
 

@@ -11,6 +11,8 @@ use Rattle.zt_rows.specs.State.{State, put, nothing}
 use Rattle.zt_store.specs.Grids.{cell, cell_at, entry, shelf, lengths, entry_places}
 use Rattle.zt_store.specs.Shelves.{Shelves, place_of, length_at}
 use Rattle.zt_store.specs.declared.cells.cabinet.Cabinet.{Cabinet}
+use Rattle.zt_store.specs.declared.cells.cabinet.Tables.{Tables}
+use Rattle.zt_store.specs.declared.cells.cabinet.Tables.TheVariants as tables
 
 -- what stands in the place of a key, or none where there is no such place
 unfoldable pub look : Cabinet → RowKey → Option Row
@@ -35,6 +37,9 @@ places_in c =
 abbrev pub cabinet_of : Row → Cabinet
 cabinet_of counters =
     record { counters = Some counters; objects = []; entries = [] ∷ [] ∷ [] ∷ [] ∷ []; messages = []; packets = []; waits = [] }
+
+abbrev pub cabinet_in : Tables → Cabinet
+cabinet_in (tables.All c) = c
 
 -- ---- the state
 

@@ -15,7 +15,7 @@ mod entries;
 mod shelf;
 mod table;
 
-use crate::cells::cabinet::{Cabinet, place_of};
+use crate::cells::cabinet::{Tables, place_of};
 use std::alloc::{AllocError, Global};
 use std::marker::Model;
 use zt_rows::{Counters, Koid, Row, RowKey};
@@ -27,20 +27,23 @@ const MOST_PLACES: usize = 1 << 48;
 #[derive(Drop)]
 pub(crate) struct Cells {
     alloc: Global,
-    cabinet: Cabinet,
+    tables: Tables,
     /// How many places there are, but for that of the counters.
     places: usize,
 }
 
 impl Model for Cells {
-    ghost use Rattle.zt_store.specs.Cabinets.{shelves_of, state_in, IsCells};
+    ghost use Rattle.zt_store.specs.Cabinets.{cabinet_in, shelves_of, state_in, IsCells};
     ghost use Rattle.zt_store.specs.Seen.{Shelved};
 
     ghost Value = { Shelved };
 
-    ghost view = { λ c. record { state = state_in c.cabinet; shelves = shelves_of c.cabinet } };
+    ghost view = { λ c. record {
+      state = state_in (cabinet_in c.tables);
+      shelves = shelves_of (cabinet_in c.tables);
+    } };
 
-    ghost invariant = { λ c. IsCells c.cabinet c.places };
+    ghost invariant = { λ c. IsCells (cabinet_in c.tables) c.places };
 }
 
 impl Cells {
@@ -51,7 +54,7 @@ impl Cells {
     {
         Cells {
             alloc,
-            cabinet: Cabinet::new(
+            tables: Tables::new(
                 alloc,
                 Row::Counters(Counters {
                     next_koid: Koid(0),
@@ -70,7 +73,7 @@ impl Cells {
     pub fn row(&self, key: RowKey) -> Option<&Row>
         ensures { option_copied result ≡ row self.now.state key }
     {
-        self.cabinet.row(key)
+        self.tables.row(key)
     }
 
     /// What holds of the rows: each suits its key, there are not too many, and no entry stands under a number that
@@ -80,7 +83,8 @@ impl Cells {
         ensures few { length self.now.state.rows ≤ 2 ^ 48 + 1 }
         ensures bounded { (x h : ℕ) → 2 ^ 32 ≤ h → row self.now.state (key_variant.Entry x h) ≡ None }
     {
-        self.cabinet.entries.limits();
+        let cabinet = self.tables.cabinet();
+        cabinet.entries.limits();
     }
 
     /// Whether the key has its place. It takes no memory.
@@ -88,7 +92,7 @@ impl Cells {
         ensures { result ≡ has_place self.now.shelves key }
     {
         let asked = key;
-        place_of(asked) < self.cabinet.len_at(key)
+        place_of(asked) < self.tables.len_at(key)
     }
 
     /// Makes the place of the key, and those below it in its table. Each table that grows asks once for all that it
@@ -101,14 +105,14 @@ impl Cells {
     {
         let (asked, counted) = (key, key);
         let place = place_of(asked);
-        let len = self.cabinet.len_at(counted);
+        let len = self.tables.len_at(counted);
         if place < len {
             return Ok(());
         }
         if place - len >= MOST_PLACES - self.places {
             return Err(AllocError);
         }
-        self.cabinet.grow(key)?;
+        self.tables.grow(key)?;
         self.places += place - len + 1;
         Ok(())
     }
@@ -120,7 +124,7 @@ impl Cells {
         ensures put { self.new ≡ record { state = put self.old.state key kept.old; shelves = self.old.shelves } }
         ensures was { kept.new ≡ row self.old.state key }
     {
-        self.cabinet.exchange(key, kept);
+        self.tables.exchange(key, kept);
     }
 
     /// Equal cells in memory of their own, with the same places.
@@ -129,7 +133,7 @@ impl Cells {
     {
         Ok(Cells {
             alloc: self.alloc,
-            cabinet: self.cabinet.copy()?,
+            tables: self.tables.copy()?,
             places: self.places,
         })
     }
@@ -139,7 +143,8 @@ impl Cells {
     pub fn first_message(&self, endpoint: Koid) -> Option<u64>
         ensures { IsFirst self.now.state (λ n. key_variant.Msg endpoint n) result }
     {
-        self.cabinet.messages.first(endpoint.0 as usize)
+        let cabinet = self.tables.cabinet();
+        cabinet.messages.first(endpoint.0 as usize)
     }
 
     /// The least number of a packet in the port. It takes no memory, and walks over no packet that was taken from
@@ -147,7 +152,8 @@ impl Cells {
     pub fn first_packet(&self, port: Koid) -> Option<u64>
         ensures { IsFirst self.now.state (λ n. key_variant.Packet port n) result }
     {
-        self.cabinet.packets.first(port.0 as usize)
+        let cabinet = self.tables.cabinet();
+        cabinet.packets.first(port.0 as usize)
     }
 
     // ---- where walks over all rows end
@@ -156,7 +162,8 @@ impl Cells {
     pub fn objects_end(&self) -> u64
         ensures { (x : ℕ) → result ≤ x → row self.now.state (key_variant.Object x) ≡ None }
     {
-        self.cabinet.objects.len() as u64
+        let cabinet = self.tables.cabinet();
+        cabinet.objects.len() as u64
     }
 
     /// From this koid on no owner has entries, messages or packets.
@@ -165,12 +172,9 @@ impl Cells {
         ensures messages { (x n : ℕ) → result ≤ x → row self.now.state (key_variant.Msg x n) ≡ None }
         ensures packets { (x n : ℕ) → result ≤ x → row self.now.state (key_variant.Packet x n) ≡ None }
     {
-        let owners = self
-            .cabinet
-            .messages
-            .owners()
-            .max(self.cabinet.packets.owners());
-        self.cabinet.entries.owners().max(owners) as u64
+        let cabinet = self.tables.cabinet();
+        let owners = cabinet.messages.owners().max(cabinet.packets.owners());
+        cabinet.entries.owners().max(owners) as u64
     }
 
     /// From this value on the process has no entry.
@@ -178,21 +182,24 @@ impl Cells {
         ensures end { (h : ℕ) → result ≤ h → row self.now.state (key_variant.Entry process h) ≡ None }
         ensures few { result ≤ 2 ^ 51 }
     {
-        self.cabinet.entries.end_of(process) as u64
+        let cabinet = self.tables.cabinet();
+        cabinet.entries.end_of(process) as u64
     }
 
     /// From this number on the endpoint has no message.
     pub fn messages_end(&self, endpoint: Koid) -> u64
         ensures { (n : ℕ) → result ≤ n → row self.now.state (key_variant.Msg endpoint n) ≡ None }
     {
-        self.cabinet.messages.len_of(endpoint.0 as usize) as u64
+        let cabinet = self.tables.cabinet();
+        cabinet.messages.len_of(endpoint.0 as usize) as u64
     }
 
     /// From this number on the port has no packet.
     pub fn packets_end(&self, port: Koid) -> u64
         ensures { (n : ℕ) → result ≤ n → row self.now.state (key_variant.Packet port n) ≡ None }
     {
-        self.cabinet.packets.len_of(port.0 as usize) as u64
+        let cabinet = self.tables.cabinet();
+        cabinet.packets.len_of(port.0 as usize) as u64
     }
 
     /// From this number on there is no wait.
@@ -200,6 +207,7 @@ impl Cells {
         ensures end { (n : ℕ) → result ≤ n → row self.now.state (key_variant.Wait n) ≡ None }
         ensures places { result ≡ self.now.shelves.waits }
     {
-        self.cabinet.waits.len() as u64
+        let cabinet = self.tables.cabinet();
+        cabinet.waits.len() as u64
     }
 }

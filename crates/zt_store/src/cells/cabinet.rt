@@ -1,6 +1,6 @@
 ghost use Rattle.std.specs.Prelude.{◌≡◌, ◌≤◌, ◌<◌, ◌+◌, ◌^◌, ℕ, true, false, length, IfOk, OnOk, OnErr};
 ghost use Rattle.std.specs.Option.{option_copied};
-ghost use Rattle.zt_store.specs.Cabinets.{cabinet_of, look, places_in, shelves_of, Exchanged, MadeFor, Widened};
+ghost use Rattle.zt_store.specs.Cabinets.{cabinet_in, cabinet_of, look, places_in, shelves_of, Exchanged, MadeFor, Widened};
 ghost use Rattle.zt_store.specs.Indexed.{waits_after};
 ghost use Rattle.zt_store.specs.Shelves.{has_place, length_at, place_of};
 
@@ -122,6 +122,82 @@ impl Cabinet {
             RowKey::Msg(owner, _) => self.messages.grow(owner.0 as usize, len),
             RowKey::Packet(owner, _) => self.packets.grow(owner.0 as usize, len),
             RowKey::Wait(_) => self.waits.grow(len),
+        }
+    }
+}
+
+/// The tables of a store, which a caller drops by one call: who owns a store drops its fields one after another, but an
+/// enum's at once.
+#[derive(Drop)]
+pub(crate) enum Tables {
+    All(Cabinet),
+}
+
+impl Tables {
+    /// No row but the counters, and no other place. It takes no memory.
+    pub fn new(alloc: Global, counters: Row) -> Tables
+        ensures { cabinet_in result ≡ cabinet_of counters }
+    {
+        Tables::All(Cabinet::new(alloc, counters))
+    }
+
+    /// The tables.
+    pub fn cabinet(&self) -> &Cabinet
+        ensures { result.now ≡ cabinet_in self.now }
+    {
+        match self {
+            Tables::All(cabinet) => cabinet,
+        }
+    }
+
+    /// The row in the place of the key. It takes no memory.
+    pub fn row(&self, key: RowKey) -> Option<&Row>
+        ensures { option_copied result ≡ look (cabinet_in self.now) key }
+    {
+        match self {
+            Tables::All(cabinet) => cabinet.row(key),
+        }
+    }
+
+    /// How many places the table of the key has.
+    pub fn len_at(&self, key: RowKey) -> usize
+        ensures { result ≡ length_at (shelves_of (cabinet_in self.now)) key }
+    {
+        match self {
+            Tables::All(cabinet) => cabinet.len_at(key),
+        }
+    }
+
+    /// Exchanges the row, or none, with what stands in the place of the key. It takes no memory.
+    pub fn exchange(&mut self, key: RowKey, kept: &mut Option<Row>)
+        requires { place_of key < length_at (shelves_of (cabinet_in self.old)) key }
+        ensures { Exchanged (cabinet_in self.old) (cabinet_in self.new) key kept.old kept.new }
+    {
+        match self {
+            Tables::All(cabinet) => cabinet.exchange(key, kept),
+        }
+    }
+
+    /// Makes the places in the table of the key, up to its own.
+    pub fn grow(&mut self, key: RowKey) -> Result<(), AllocError>
+        requires absent { length_at (shelves_of (cabinet_in self.old)) key ≤ place_of key }
+        requires near { place_of key < 2 ^ 62 }
+        ensures widened { Widened (cabinet_in self.old) (cabinet_in self.new) }
+        ensures waits { length (cabinet_in self.new).waits ≤ waits_after key (length (cabinet_in self.old).waits) }
+        ensures ok { OnOk result (MadeFor key (cabinet_in self.old) (cabinet_in self.new)) }
+        ensures err { OnErr result (places_in (cabinet_in self.new) ≡ places_in (cabinet_in self.old)) }
+    {
+        match self {
+            Tables::All(cabinet) => cabinet.grow(key),
+        }
+    }
+
+    /// Equal tables in memory of their own.
+    pub fn copy(&self) -> Result<Tables, AllocError>
+        ensures { IfOk result (λ copied. copied ≡ self.now) }
+    {
+        match self {
+            Tables::All(cabinet) => Ok(Tables::All(cabinet.copy()?)),
         }
     }
 }

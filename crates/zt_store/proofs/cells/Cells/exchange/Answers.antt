@@ -1,4 +1,5 @@
 use Rattle.std.proofs.Common.{◌≡◌, true, subst, sym}
+use Rattle.zt_store.specs.Cabinets.{cabinet_in}
 use Rattle.zt_store.specs.Seen.{Shelved}
 use Rattle.zt_store.specs.Shelves.{has_place}
 use Rattle.zt_store.proofs.CellsLaws.{place-there, cells-exchanged, seen-exchanged, out-exchanged}
@@ -14,8 +15,8 @@ invariant_of-self c =
 
 pub returns-clause-put : goal.returns-clause-put
 returns-clause-put c =
-    seen-exchanged c.self.inside.cabinet c.exchange.new.self c.args.self.now c.args.key _ _ c.self.view_is c.exchange.ensures
+    seen-exchanged (cabinet_in c.self.inside.tables) (cabinet_in c.exchange.new.self) c.args.self.now c.args.key _ _ c.self.view_is c.exchange.ensures
 
 pub returns-clause-was : goal.returns-clause-was
 returns-clause-was c =
-    out-exchanged c.self.inside.cabinet c.exchange.new.self c.args.self.now c.args.key _ _ c.self.view_is c.exchange.ensures
+    out-exchanged (cabinet_in c.self.inside.tables) (cabinet_in c.exchange.new.self) c.args.self.now c.args.key _ _ c.self.view_is c.exchange.ensures

@@ -1,6 +1,6 @@
-use Rattle.zt_store.proofs.CellsLaws.{first-message}
+use Rattle.zt_store.proofs.CellsLaws.{seen-by, first-message}
 use Rattle.zt_store.proofs.cells.Cells.first_message.Goals as goal
 
 pub returns : goal.returns
 returns c =
-    first-message c.self.inside.cabinet c.args.self.now c.self.view_is _ c.args.endpoint c.endpoint.view_is c.first.result c.first.ensures
+    first-message c.cabinet-cabinet.result.now c.args.self.now (seen-by c.self.inside.tables _ _ c.cabinet-cabinet.ensures c.self.view_is) _ c.args.endpoint c.endpoint.view_is c.first.result c.first.ensures

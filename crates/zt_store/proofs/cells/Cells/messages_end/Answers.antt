@@ -1,6 +1,6 @@
-use Rattle.zt_store.proofs.CellsLaws.{end-messages}
+use Rattle.zt_store.proofs.CellsLaws.{seen-by, end-messages}
 use Rattle.zt_store.proofs.cells.Cells.messages_end.Goals as goal
 
 pub returns : goal.returns
 returns c =
-    end-messages c.self.inside.cabinet c.args.self.now c.self.view_is _ c.args.endpoint c.endpoint.view_is c.len_of.result c.len_of.ensures
+    end-messages c.cabinet-cabinet.result.now c.args.self.now (seen-by c.self.inside.tables _ _ c.cabinet-cabinet.ensures c.self.view_is) _ c.args.endpoint c.endpoint.view_is c.len_of.result c.len_of.ensures

@@ -1,6 +1,6 @@
-use Rattle.zt_store.proofs.CellsLaws.{end-objects}
+use Rattle.zt_store.proofs.CellsLaws.{seen-by, end-objects}
 use Rattle.zt_store.proofs.cells.Cells.objects_end.Goals as goal
 
 pub returns : goal.returns
 returns c =
-    end-objects c.self.inside.cabinet c.args.self.now c.self.view_is c.len.result c.len.ensures
+    end-objects c.cabinet-cabinet.result.now c.args.self.now (seen-by c.self.inside.tables _ _ c.cabinet-cabinet.ensures c.self.view_is) c.len.result c.len.ensures

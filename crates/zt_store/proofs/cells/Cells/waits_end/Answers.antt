@@ -1,10 +1,10 @@
-use Rattle.zt_store.proofs.CellsLaws.{end-waits, places-waits}
+use Rattle.zt_store.proofs.CellsLaws.{seen-by, end-waits, places-waits}
 use Rattle.zt_store.proofs.cells.Cells.waits_end.Goals as goal
 
 pub returns-clause-end : goal.returns-clause-end
 returns-clause-end c =
-    end-waits c.self.inside.cabinet c.args.self.now c.self.view_is c.len.result c.len.ensures
+    end-waits c.cabinet-cabinet.result.now c.args.self.now (seen-by c.self.inside.tables _ _ c.cabinet-cabinet.ensures c.self.view_is) c.len.result c.len.ensures
 
 pub returns-clause-places : goal.returns-clause-places
 returns-clause-places c =
-    places-waits c.self.inside.cabinet c.args.self.now c.self.view_is c.len.result c.len.ensures
+    places-waits c.cabinet-cabinet.result.now c.args.self.now (seen-by c.self.inside.tables _ _ c.cabinet-cabinet.ensures c.self.view_is) c.len.result c.len.ensures
