@@ -5,7 +5,7 @@ use zt_queries::{ended, leaked_since, leaks_at, made, peer_closed};
 use zt_rows::{Happening, Koid, Moment, Refusal};
 
 /// How many questions there are.
-const QUESTIONS: u32 = 1_000;
+const QUESTIONS: u32 = 4_000;
 
 /// The first koid that an opening has not given out.
 const FIRST: u64 = 1026;
@@ -29,9 +29,10 @@ fn when(
 /// Asks when it happened to objects made all along the history, and tells how often it asked. Twelve mixed calls give
 /// out three koids.
 pub(crate) fn questions(alloc: Global, history: &History, what: Happening) -> Option<u32> {
-    let apart = u64::from(history.last().0 / 4 / QUESTIONS);
-    for number in 0..QUESTIONS {
-        let koid = FIRST.saturating_add(apart.saturating_mul(u64::from(number)));
+    let given_out = u64::from(history.last().0 / 4);
+    for number in 0..u64::from(QUESTIONS) {
+        let behind = given_out.saturating_mul(number) / u64::from(QUESTIONS);
+        let koid = FIRST.saturating_add(behind);
         if when(alloc, history, Koid(koid), what).is_err() {
             return None;
         }

@@ -1,6 +1,6 @@
 //! How long a history takes. `history_bench calls COUNT` makes COUNT mixed calls, `history_bench moves COUNT` goes over
 //! all of them, back to the opening and forth again, and `history_bench turns COUNT` makes 1,000 moves of ten moments
-//! at their end. Behind so many calls `history_bench made COUNT` asks of 1,000 objects when they were made, and `ended`,
+//! at their end. Behind so many calls `history_bench made COUNT` asks 4,000 times when an object was made, and `ended`,
 //! `peer_closed` and `leaked` ask likewise. `history_bench leaks COUNT` asks what is leaked among COUNT objects. Each
 //! prints the workload, the count, and the nanoseconds of one call, of one moment gone over, of one move or of one
 //! question. Without arguments it does nothing.

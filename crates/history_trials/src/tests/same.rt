@@ -1,7 +1,7 @@
 //! Whether anything tells two histories apart.
 use super::asking::{FIX, MAIN, head_of, values_of};
 use zt_history::History;
-use zt_rows::{Koid, Moment, RowKey};
+use zt_rows::{Koid, Moment, Row, RowKey};
 use zt_store::Store;
 
 /// Whether both stores have the same row under the key, and the same next key.
@@ -45,6 +45,20 @@ pub(super) fn keys_of(history: &History, moment: Moment) -> &[RowKey] {
     }
 }
 
+/// What the moment's record holds under the key: a row, or that there was none.
+fn held(history: &History, moment: Moment, key: RowKey) -> Option<Option<&Row>> {
+    history.record_of(moment)?.held(key)
+}
+
+/// Whether both records of the moment have the same keys, and the same rows under them.
+fn has_same_record(first: &History, second: &History, moment: Moment) -> bool {
+    let keys = keys_of(first, moment);
+    keys == keys_of(second, moment)
+        && keys
+            .iter()
+            .all(|key| held(first, moment, *key) == held(second, moment, *key))
+}
+
 /// The process that made the moment.
 fn caller_of(history: &History, moment: Moment) -> Option<Koid> {
     match history.call_of(moment) {
@@ -57,7 +71,7 @@ fn caller_of(history: &History, moment: Moment) -> Option<Koid> {
 fn agree_about(first: &History, second: &History, moment: Moment) -> bool {
     caller_of(first, moment) == caller_of(second, moment)
         && values_of(first.reply_of(moment)) == values_of(second.reply_of(moment))
-        && keys_of(first, moment) == keys_of(second, moment)
+        && has_same_record(first, second, moment)
 }
 
 fn has_same_moments(first: &History, second: &History) -> bool {
