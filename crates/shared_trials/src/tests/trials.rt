@@ -1,0 +1,193 @@
+//! Trials over a shared book of two clients each.
+ghost use Rattle.std.specs.Prelude.{◌≡◌};
+ghost use Rattle.zt_shared.specs.Openings.{IsNamed};
+
+use super::comparing::{Told, is_same_log, tells};
+use super::opening::{Opened, at_opening, over_loaded};
+use super::threads::{asks_on_threads, replays};
+use super::twins::{Twins, closed};
+use super::wholes::{is_ask_whole, is_pin_whole};
+use std::alloc::Global;
+use std::marker::Brand;
+use std::sync::Wait;
+use std::thread::Threads;
+use zt_book::{Book, Log};
+use zt_rows::Refusal;
+use zt_shared::account::Naming;
+use zt_shared::{Beginning, Blanks, Shared};
+
+/// A channel of which one client closes an end while the other writes to it, and asks who closed its peer.
+const CLOSED_END: [Told; 4] = [
+    (1, "1025 channel_create", "1 ok 7 11\n"),
+    (2, "1025 handle_close 11", "2 ok\n"),
+    (1, "1025 channel_write 7 - -", "3 peer_closed\n"),
+    (1, "when peer_closed 1026", "2 1025 handle_close 11\n"),
+];
+
+/// The rows of a loaded book, in which an event was made and closed.
+const LOADED: [Told; 1] = [(
+    1,
+    "show",
+    "rows 2 4\ncounters 1027 0\nobject 1024 job 0x00000010 0 live 0\nobject 1025 process 0x00000000 1024 live 2\nentry 1025 3 1024 0x0003d203\n",
+)];
+
+/// What is tried over a shared book.
+#[derive(Clone, Copy)]
+enum Trial {
+    ClosedEnd,
+    Loaded,
+    Threads,
+    Ask,
+    Pin,
+}
+
+/// What is asked and told, where both is known beforehand.
+fn told_in(trial: Trial) -> &'static [Told] {
+    match trial {
+        Trial::ClosedEnd => CLOSED_END.as_slice(),
+        Trial::Loaded => LOADED.as_slice(),
+        _ => &[],
+    }
+}
+
+/// Whether both books answer each of the lines.
+fn asks_each<A: Naming + Beginning, B: Naming, C: Naming, D: Naming, R: Wait>(
+    rt: &R,
+    alloc: Global,
+    shared: &Shared<A, B, C, D>,
+    twins: &mut Twins<A, B, C, D>,
+    told: &[Told],
+) -> bool {
+    for (client, line, _) in told {
+        if !twins.asks_both(rt, alloc, shared, *client, line) {
+            return false;
+        }
+    }
+    twins.have_same_rows(alloc)
+}
+
+fn try_over<
+    A: Naming + Beginning + Send + Sync,
+    B: Naming + Send + Sync,
+    C: Naming + Send + Sync,
+    D: Naming + Send + Sync,
+    R: Threads + Wait + Sync,
+>(
+    rt: &R,
+    alloc: Global,
+    shared: &Shared<A, B, C, D>,
+    twins: &mut Twins<A, B, C, D>,
+    trial: Trial,
+) -> bool {
+    match trial {
+        Trial::ClosedEnd | Trial::Loaded => asks_each(rt, alloc, shared, twins, told_in(trial)),
+        Trial::Threads => asks_on_threads(rt, shared, twins),
+        Trial::Ask => is_ask_whole(rt, alloc, shared, twins),
+        Trial::Pin => is_pin_whole(rt, alloc, shared, twins),
+    }
+}
+
+/// Whether the log has what was to be told.
+fn is_told(alloc: Global, log: &Log, twin: &mut Book, trial: Trial) -> bool {
+    match trial {
+        Trial::ClosedEnd | Trial::Loaded => tells(alloc, log, told_in(trial)),
+        Trial::Threads => replays(twin, log),
+        Trial::Ask | Trial::Pin => true,
+    }
+}
+
+/// Whether the log that closing gives has what was to be told, and is the twin's.
+fn closes<A: Naming + Beginning, B: Naming, C: Naming, D: Naming>(
+    alloc: Global,
+    shared: Shared<A, B, C, D>,
+    twins: Twins<A, B, C, D>,
+    trial: Trial,
+) -> bool
+    requires { A.clients ≡ 2 }
+{
+    let Twins { one, two, mut twin } = twins;
+    match closed(alloc, shared, one, two) {
+        Some(log) => {
+            is_told(alloc, &log, &mut twin, trial) && is_same_log(alloc, &log, twin.log())
+        }
+        None => false,
+    }
+}
+
+fn opened<A: Naming + Beginning, B: Naming, C: Naming, D: Naming>(
+    alloc: Global,
+    blanks: Blanks,
+    trial: Trial,
+) -> Option<Opened<A, B, C, D>>
+    requires base { (blanks.base ≡ A.base) × (blanks.clients ≡ A.clients) }
+    requires first { IsNamed A.name A.parts A.cells blanks.first }
+    requires second { IsNamed B.name B.parts B.cells blanks.second }
+    requires third { IsNamed C.name C.parts C.cells blanks.third }
+    requires fourth { IsNamed D.name D.parts D.cells blanks.fourth }
+    requires two { blanks.clients ≡ 2 }
+{
+    match trial {
+        Trial::Loaded => over_loaded(alloc, blanks),
+        _ => at_opening(alloc, blanks),
+    }
+}
+
+fn holds_over<
+    A: Naming + Beginning + Send + Sync,
+    B: Naming + Send + Sync,
+    C: Naming + Send + Sync,
+    D: Naming + Send + Sync,
+    R: Threads + Wait + Sync,
+>(rt: &R, alloc: Global, blanks: Blanks, trial: Trial) -> bool
+    requires base { (blanks.base ≡ A.base) × (blanks.clients ≡ A.clients) }
+    requires first { IsNamed A.name A.parts A.cells blanks.first }
+    requires second { IsNamed B.name B.parts B.cells blanks.second }
+    requires third { IsNamed C.name C.parts C.cells blanks.third }
+    requires fourth { IsNamed D.name D.parts D.cells blanks.fourth }
+    requires two { blanks.clients ≡ 2 }
+{
+    match opened::<A, B, C, D>(alloc, blanks, trial) {
+        Some((shared, mut twins)) => {
+            try_over(rt, alloc, &shared, &mut twins, trial) && closes(alloc, shared, twins, trial)
+        }
+        None => false,
+    }
+}
+
+/// Whether it holds over a new shared book of two clients.
+fn holds<R: Threads + Wait + Sync>(rt: &R, alloc: Global, trial: Trial) -> bool {
+    match Blanks::new(alloc, 2) {
+        Ok(blanks) => holds_over::<Brand, Brand, Brand, Brand, R>(rt, alloc, blanks, trial),
+        Err(_) => false,
+    }
+}
+
+#[test]
+fn two_clients_share_one_log(rt: HostRuntime) {
+    assert!(rt; holds(&rt, rt.alloc(), Trial::ClosedEnd));
+}
+
+#[test]
+fn a_loaded_book_goes_on(rt: HostRuntime) {
+    assert!(rt; holds(&rt, rt.alloc(), Trial::Loaded));
+}
+
+#[test]
+fn threads_share_one_log(rt: HostRuntime) {
+    assert!(rt; holds(&rt, rt.alloc(), Trial::Threads));
+}
+
+#[test]
+fn refused_after_mark_no_command_is_half_answered(rt: HostRuntime) {
+    assert!(rt; holds(&rt, rt.alloc(), Trial::Ask));
+}
+
+#[test]
+fn refused_after_mark_no_pin_is_half_made(rt: HostRuntime) {
+    assert!(rt; holds(&rt, rt.alloc(), Trial::Pin));
+}
+
+#[test]
+fn five_clients_are_too_many(rt: HostRuntime) {
+    assert!(rt; Blanks::new(rt.alloc(), 5).err() == Some(Refusal::TooManyClients));
+}
