@@ -6,12 +6,13 @@
 # make cases  proves and runs the worked runs, and says of each whether it went as told
 # make statuses  meets each exit status of the program once
 # make tutorial  replays the tutorial and says where the program prints something else
+# make wrong-bodies  puts bodies that no contract refuses into a copy, and says whether a trial tells each
 # make times  what each crate costs the gate, in processor seconds
 # make bench  how the cost of a call grows with the calls before it
 # make refusals  refuses each request for memory in turn, in the tests that are to pass whichever it is
 PREFIX ?= /usr/local
 
-.PHONY: all install run test quick cases statuses tutorial times bench refusals
+.PHONY: all install run test quick cases statuses tutorial wrong-bodies times bench refusals
 
 all:
 	cd crates/zxtt && rt run </dev/null >/dev/null
@@ -41,6 +42,9 @@ statuses:
 
 tutorial: all
 	tools/tutorial
+
+wrong-bodies:
+	tools/wrong-bodies
 
 times:
 	tools/times

@@ -1,17 +1,22 @@
-//! Runs each case of the folder that it is started in. The case NAME is the lines of NAME.in, and the text of NAME.out
-//! that a run has to tell them. It begins with the session text NAME.from, if there is one, and else at the opening; where
-//! that text does not load, its fault is what is told. If there is a file NAME.save, the calls on `main` are saved so in
-//! the end. One line is printed of each case, in the order of their names.
+//! Goes through each case of the folder that it is started in, by a run over a book and by a session over a shared book
+//! of one client. The case NAME is the lines of NAME.in, and the text of NAME.out that both have to tell them. It begins
+//! with the session text NAME.from, if there is one, and else at the opening; where that text does not load, its fault is
+//! what is told. If there is a file NAME.save, the calls on `main` are saved so in the end of the run. One line is printed
+//! of each case, in the order of their names.
 #![tactic(auto)]
 
-ghost use Rattle.std.specs.Prelude.{◌≤◌, length};
+ghost use Rattle.std.specs.Prelude.{◌≡◌, ◌≤◌, length, IfOk};
+ghost use Rattle.zt_shared.specs.Sharing.{IsFresh};
 
 mod differences;
+mod served;
 
 use differences::{Difference, first_difference};
+use served::serve_lines;
 use std::alloc::Global;
 use std::fmt::{Display, Formatter, Write};
 use std::rt::Files;
+use std::sync::Wait;
 use std::{fmt, fs, io};
 use zt_console::{Book, Counted, End, load_text, main_text, run};
 use zt_rows::Refusal;
@@ -37,13 +42,13 @@ fn cases<R: Files + AllocGlobal + Clone + Drop>(rt: &R) -> io::Result<Vec<String
 }
 
 /// Says whether the case goes as told, or where it does not.
-fn report(rt: &(impl Files + AllocGlobal + Print), name: &str) -> io::Result<()> {
+fn report(rt: &(impl Files + AllocGlobal + Print + Wait), name: &str) -> io::Result<()> {
     let alloc = rt.alloc();
     let asked = fs::read(rt, format!(in alloc; "{name}.in")?)?;
     let told = fs::read(rt, format!(in alloc; "{name}.out")?)?;
     let from = fs::read(rt, format!(in alloc; "{name}.from")?).ok();
     let saved = fs::read(rt, format!(in alloc; "{name}.save")?).ok();
-    match outcome(alloc, &from, asked.as_slice()) {
+    match outcome(rt, &from, asked.as_slice()) {
         Ok(came) => println!(rt; "{name} {}", how_it_went(told.as_slice(), &saved, &came)),
         Err(refusal) => {
             let cause = refusal.name();
@@ -52,50 +57,75 @@ fn report(rt: &(impl Files + AllocGlobal + Print), name: &str) -> io::Result<()>
     }
 }
 
-/// What a run wrote, and the session text of `main` behind it.
+/// What a run wrote, the session text of `main` behind it, and what a session wrote.
 #[derive(Drop)]
 struct Came {
     answers: Vec<u8>,
     saved: Vec<u8>,
+    session: Vec<u8>,
 }
 
-/// What a run over these lines writes and would save, from a session text if there is one. Where that does not load, the
-/// fault is written, and nothing is saved.
-fn outcome(alloc: Global, from: &Option<Vec<u8>>, asked: &[u8]) -> Result<Came, Refusal> {
+/// What a run over these lines writes and would save, and what a session over them writes, from a session text if there is
+/// one. Where that does not load, the fault is written, and nothing is saved.
+fn outcome(
+    rt: &(impl AllocGlobal + Wait),
+    from: &Option<Vec<u8>>,
+    asked: &[u8],
+) -> Result<Came, Refusal> {
+    let alloc = rt.alloc();
+    let (answers, saved) = match begin(alloc, from) {
+        Ok(book) => run_lines(alloc, book, asked)?,
+        Err((line, refusal)) => (fault(alloc, line, refusal)?, Vec::new(alloc)),
+    };
+    let session = match begin(alloc, from) {
+        Ok(book) => serve_lines(rt, book, asked)?,
+        Err((line, refusal)) => fault(alloc, line, refusal)?,
+    };
+    Ok(Came {
+        answers,
+        saved,
+        session,
+    })
+}
+
+/// The book of one client in which a case begins; or why there is none, with the number of the session text's line at
+/// fault, or 0.
+#[tactic(auto, using(crate::proofs::Beginning::loaded_clients, crate::proofs::Beginning::loaded_is_fresh, crate::proofs::Beginning::first_clients, crate::proofs::Beginning::first_is_fresh))]
+fn begin(alloc: Global, from: &Option<Vec<u8>>) -> Result<Book, (u64, Refusal)>
+    ensures clients { IfOk result (λ book. length book.session.clients ≡ 1) }
+    ensures fresh { IfOk result (IsFresh 1) }
+{
     match from {
-        None => answers(alloc, Book::new(alloc, 1)?, asked),
         Some(text) => match load_text(alloc, 1, text.as_slice()) {
-            Ok(book) => answers(alloc, book, asked),
-            Err((line, refusal)) => fault(alloc, line, refusal),
+            Ok(book) => Ok(book),
+            Err(fault) => Err(fault),
+        },
+        None => match Book::new(alloc, 1) {
+            Ok(book) => Ok(book),
+            Err(refusal) => Err((0, refusal)),
         },
     }
 }
 
 /// What is written where a session text does not load.
-fn fault(alloc: Global, line: u64, refusal: Refusal) -> Result<Came, Refusal> {
+fn fault(alloc: Global, line: u64, refusal: Refusal) -> Result<Vec<u8>, Refusal> {
     let number = refusal.number();
     let name = refusal.name();
     match format!(in alloc; "line {line}: refused {number} {name}\n") {
-        Ok(text) => Ok(Came {
-            answers: text.into_bytes(),
-            saved: Vec::new(alloc),
-        }),
+        Ok(text) => Ok(text.into_bytes()),
         Err(_) => Err(Refusal::OutOfMemory),
     }
 }
 
 /// What a run over these lines writes, and would save.
-fn answers(alloc: Global, book: Book, asked: &[u8]) -> Result<Came, Refusal>
+fn run_lines(alloc: Global, book: Book, asked: &[u8]) -> Result<(Vec<u8>, Vec<u8>), Refusal>
     requires { 1 ≤ length book.session.clients }
 {
     let mut reader = Counted::new(asked);
     let mut writer = Counted::new(Vec::new(alloc));
     let (book, end) = run(alloc, book, &mut reader, &mut writer);
     match end {
-        End::Finished => Ok(Came {
-            answers: writer.into_inner(),
-            saved: main_text(alloc, &book)?,
-        }),
+        End::Finished => Ok((writer.into_inner(), main_text(alloc, &book)?)),
         End::Stopped(refusal) => Err(refusal),
     }
 }
@@ -106,12 +136,16 @@ enum Verdict<'a> {
     AsTold,
     Answers(Difference<'a>),
     Saved(Difference<'a>),
+    Session(Difference<'a>),
 }
 
 /// How a case went, by what it had to tell and, where that is told, to save.
 fn how_it_went<'a>(told: &'a [u8], saved: &'a Option<Vec<u8>>, came: &'a Came) -> Verdict<'a> {
     if let Some(difference) = first_difference(told, came.answers.as_slice()) {
         return Verdict::Answers(difference);
+    }
+    if let Some(difference) = first_difference(told, came.session.as_slice()) {
+        return Verdict::Session(difference);
     }
     let Some(saved) = saved else {
         return Verdict::AsTold;
@@ -128,6 +162,7 @@ impl<'a> Display for Verdict<'a> {
             Verdict::AsTold => f.write_str("as told"),
             Verdict::Answers(difference) => write!(f, "{difference}"),
             Verdict::Saved(difference) => write!(f, "saved: {difference}"),
+            Verdict::Session(difference) => write!(f, "session: {difference}"),
         }
     }
 }

@@ -1,0 +1,206 @@
+//! Gates that hold clients, and gates that count.
+
+use crate::faults::Fault;
+use crate::serving::serve;
+use std::hint::spin_loop;
+use std::sync::Wait;
+use std::sync::atomic::{AtomicBool, AtomicU64, Ordering};
+use std::thread::Threads;
+use zt_shared::Gate;
+
+/// How often a gate looks for what it waits for, before it gives up.
+const TURNS: u32 = 1_000_000_000;
+
+/// What a client types: two calls.
+const CALLS: &[u8] = b"1025 event_create\n1025 event_create\n";
+
+/// What a client types: four commands, of which the second is refused, and lines that are none.
+const LINES: &[u8] =
+    b"1025 event_create\n# a comment\n\nbad\npinned show\ngoto 9\ngoto 0\npin\npinned show\n";
+
+/// Nothing is called around commands.
+pub struct NoGate;
+
+impl Gate for NoGate {
+    fn before(&self, _client: u8, _n: u32) {}
+
+    fn after(&self, _client: u8, _n: u32) {}
+}
+
+/// A flag that a thread raises, and another waits for.
+#[derive(Drop)]
+struct Flag(AtomicBool);
+
+impl Flag {
+    fn new() -> Flag {
+        Flag(AtomicBool::new(false))
+    }
+
+    fn raise(&self) {
+        self.0.store(true, Ordering::SeqCst);
+    }
+
+    fn stands(&self) -> bool {
+        self.0.load(Ordering::SeqCst)
+    }
+
+    /// Whether the flag stands at one of so many looks.
+    fn stands_in_time(&self) -> bool {
+        for _ in 0..TURNS {
+            if self.stands() {
+                return true;
+            }
+            spin_loop();
+        }
+        false
+    }
+}
+
+/// Holds the first command of client 1 until the first one of client 2 is answered.
+#[derive(Drop)]
+struct SecondFirst {
+    answered: Flag,
+    in_vain: Flag,
+}
+
+impl Gate for SecondFirst {
+    fn before(&self, client: u8, n: u32) {
+        if client == 1 && n == 1 && !self.answered.stands_in_time() {
+            self.in_vain.raise();
+        }
+    }
+
+    fn after(&self, client: u8, n: u32) {
+        if client == 2 && n == 1 {
+            self.answered.raise();
+        }
+    }
+}
+
+/// Holds the first command of each of two clients until the first one of the other has come too.
+#[derive(Drop)]
+struct Meeting {
+    first: Flag,
+    second: Flag,
+    in_vain: Flag,
+}
+
+impl Gate for Meeting {
+    fn before(&self, client: u8, n: u32) {
+        if n != 1 {
+            return;
+        }
+        let (mine, other) = if client == 1 {
+            (&self.first, &self.second)
+        } else {
+            (&self.second, &self.first)
+        };
+        mine.raise();
+        if !other.stands_in_time() {
+            self.in_vain.raise();
+        }
+    }
+
+    fn after(&self, _client: u8, _n: u32) {}
+}
+
+/// How often something was called, and the sum of the numbers.
+#[derive(Drop)]
+struct Tally {
+    calls: AtomicU64,
+    numbers: AtomicU64,
+}
+
+impl Tally {
+    fn new() -> Tally {
+        Tally {
+            calls: AtomicU64::new(0),
+            numbers: AtomicU64::new(0),
+        }
+    }
+
+    fn add(&self, n: u32) {
+        self.calls.fetch_add(1, Ordering::SeqCst);
+        self.numbers.fetch_add(u64::from(n), Ordering::SeqCst);
+    }
+
+    fn is(&self, calls: u64, numbers: u64) -> bool {
+        self.calls.load(Ordering::SeqCst) == calls && self.numbers.load(Ordering::SeqCst) == numbers
+    }
+}
+
+/// Counts its calls.
+#[derive(Drop)]
+struct Counting {
+    before: Tally,
+    after: Tally,
+}
+
+impl Gate for Counting {
+    fn before(&self, _client: u8, n: u32) {
+        self.before.add(n);
+    }
+
+    fn after(&self, _client: u8, n: u32) {
+        self.after.add(n);
+    }
+}
+
+/// Two clients, of whom the first is held until the second has its first answer.
+pub fn second_before_first<R: Threads + Wait + AllocGlobal + Sync>(rt: &R) -> Result<usize, Fault> {
+    let gate = SecondFirst {
+        answered: Flag::new(),
+        in_vain: Flag::new(),
+    };
+    let rows = rows_of_all(rt, [CALLS, CALLS].as_slice(), &gate)?;
+    in_time(rows, &gate.in_vain)
+}
+
+/// Two clients, of whom each is held until the other has come.
+pub fn each_for_the_other<R: Threads + Wait + AllocGlobal + Sync>(rt: &R) -> Result<usize, Fault> {
+    let gate = Meeting {
+        first: Flag::new(),
+        second: Flag::new(),
+        in_vain: Flag::new(),
+    };
+    let rows = rows_of_all(rt, [CALLS, CALLS].as_slice(), &gate)?;
+    in_time(rows, &gate.in_vain)
+}
+
+/// So many rows, where no client was held in vain.
+fn in_time(rows: usize, in_vain: &Flag) -> Result<usize, Fault> {
+    if in_vain.stands() {
+        Err(Fault::HeldInVain)
+    } else {
+        Ok(rows)
+    }
+}
+
+/// One client, whose gate is called around its four commands and no other line. Their numbers are 1, 2, 2 and 3, since a
+/// refused command takes none.
+pub fn around_commands<R: Threads + Wait + AllocGlobal + Sync>(rt: &R) -> Result<usize, Fault> {
+    let gate = Counting {
+        before: Tally::new(),
+        after: Tally::new(),
+    };
+    let rows = rows_of_all(rt, [LINES].as_slice(), &gate)?;
+    if gate.before.is(4, 8) && gate.after.is(4, 8) {
+        Ok(rows)
+    } else {
+        Err(Fault::GateElsewhere)
+    }
+}
+
+/// How many rows the log has, where each client types one of the texts.
+fn rows_of_all<R: Threads + Wait + AllocGlobal + Sync, G: Gate + Sync>(
+    rt: &R,
+    texts: &[&'static [u8]],
+    gate: &G,
+) -> Result<usize, Fault> {
+    let mut ends = Vec::new(rt.alloc());
+    for text in texts {
+        ends.push((*text, Vec::new(rt.alloc())))?;
+    }
+    let (log, _) = serve(rt, ends, gate)?;
+    Ok(log.len())
+}

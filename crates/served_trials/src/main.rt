@@ -1,0 +1,54 @@
+//! Serves clients of shared books, and prints a line for each trial: how many rows the logs have, or what went otherwise.
+#![tactic(auto)]
+
+mod failing;
+mod faults;
+mod gates;
+mod serving;
+mod sockets;
+mod typed;
+
+use failing::{half_a_line, reads_fail, writes_fail};
+use faults::Fault;
+use gates::{around_commands, each_for_the_other, second_before_first};
+use sockets::{four_clients, two_clients};
+use std::io;
+
+fn main(rt: HostRuntime) -> io::Result<()> {
+    report(
+        &rt,
+        "the second client is answered before the first",
+        second_before_first(&rt),
+    )?;
+    report(
+        &rt,
+        "each client waits for the other",
+        each_for_the_other(&rt),
+    )?;
+    report(
+        &rt,
+        "gates are called around commands alone",
+        around_commands(&rt),
+    )?;
+    report(&rt, "each read fails once", reads_fail(&rt))?;
+    report(&rt, "each write fails once", writes_fail(&rt))?;
+    report(
+        &rt,
+        "a client goes away in the middle of a line",
+        half_a_line(&rt),
+    )?;
+    report(&rt, "two clients over loopback", two_clients(&rt))?;
+    report(
+        &rt,
+        "four clients talk over loopback, a row for each answer",
+        four_clients(&rt),
+    )
+}
+
+/// Says how a trial went.
+fn report(rt: &impl Print, trial: &str, went: Result<usize, Fault>) -> io::Result<()> {
+    match went {
+        Ok(rows) => println!(rt; "{trial}: {rows} rows"),
+        Err(fault) => println!(rt; "{trial}: {fault}"),
+    }
+}

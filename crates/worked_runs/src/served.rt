@@ -1,0 +1,72 @@
+//! Lines that the one client of a shared book types.
+
+ghost use Rattle.std.specs.Prelude.{◌≡◌};
+ghost use Rattle.zt_shared.specs.Openings.{IsNamed};
+ghost use Rattle.zt_shared.specs.Sharing.{IsFresh};
+
+use std::marker::Brand;
+use std::sync::Wait;
+use zt_console::{Book, Counted, End, session};
+use zt_rows::Refusal;
+use zt_shared::account::Naming;
+use zt_shared::{Beginning, Blanks, Gate, open_book};
+
+/// Nothing is called around commands.
+struct NoGate;
+
+impl Gate for NoGate {
+    fn before(&self, _client: u8, _n: u32) {}
+
+    fn after(&self, _client: u8, _n: u32) {}
+}
+
+/// What a session over these lines writes, where the book is shared by one client.
+pub fn serve_lines<R: Wait + AllocGlobal>(
+    rt: &R,
+    book: Book,
+    asked: &[u8],
+) -> Result<Vec<u8>, Refusal>
+    requires { IsFresh 1 book }
+{
+    let blanks = Blanks::new(rt.alloc(), 1)?;
+    serve_named::<Brand, Brand, Brand, Brand, R>(rt, blanks, book, asked)
+}
+
+/// The same, where types name what the shared book is made of.
+fn serve_named<A: Naming + Beginning, B: Naming, C: Naming, D: Naming, R: Wait + AllocGlobal>(
+    rt: &R,
+    blanks: Blanks,
+    book: Book,
+    asked: &[u8],
+) -> Result<Vec<u8>, Refusal>
+    requires base { (blanks.base ≡ A.base) × (blanks.clients ≡ A.clients) }
+    requires first { IsNamed A.name A.parts A.cells blanks.first }
+    requires second { IsNamed B.name B.parts B.cells blanks.second }
+    requires third { IsNamed C.name C.parts C.cells blanks.third }
+    requires fourth { IsNamed D.name D.parts D.cells blanks.fourth }
+    requires one { blanks.clients ≡ 1 }
+    requires fresh { IsFresh 1 book }
+{
+    let (shared, mut passes) = match open_book::<A, B, C, D>(rt.alloc(), blanks, book) {
+        Ok(opened) => opened,
+        Err((_, refusal)) => return Err(refusal),
+    };
+    let Some(pass) = passes.pop() else {
+        unreachable!()
+    };
+    let mut reader = Counted::new(asked);
+    let mut writer = Counted::new(Vec::new(rt.alloc()));
+    let (_, end) = session(
+        rt,
+        rt.alloc(),
+        &mut reader,
+        &mut writer,
+        &shared,
+        pass,
+        &NoGate,
+    );
+    match end {
+        End::Finished => Ok(writer.into_inner()),
+        End::Stopped(refusal) => Err(refusal),
+    }
+}
