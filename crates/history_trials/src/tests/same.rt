@@ -54,9 +54,7 @@ fn held(history: &History, moment: Moment, key: RowKey) -> Option<Option<&Row>> 
 fn has_same_record(first: &History, second: &History, moment: Moment) -> bool {
     let keys = keys_of(first, moment);
     keys == keys_of(second, moment)
-        && keys
-            .iter()
-            .all(|key| held(first, moment, *key) == held(second, moment, *key))
+        && keys.iter().all(|key| held(first, moment, *key) == held(second, moment, *key))
 }
 
 /// The process that made the moment.
