@@ -6,8 +6,6 @@ mod kinds;
 mod right_bits;
 mod signal_bits;
 mod statuses;
-#[cfg(test)]
-mod tests;
 
 pub use kinds::Kind;
 pub use right_bits::{Rights, asked, defaults};
