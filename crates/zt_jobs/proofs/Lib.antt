@@ -1,5 +1,5 @@
 pub mod ChainLaws
-pub mod NextLaws
+pub mod BelowLaws
 pub mod MemberLaws
 pub mod PartLaws
 pub mod WalkLaws

@@ -1,21 +1,17 @@
--- One rising walk over the objects finds exactly what is under a job.
+-- A walk from each member to what is below it, by rising koids, finds exactly what is under a job.
 use Rattle.std.proofs.Common.{◌≡◌, ◌≢◌, ◌≤◌, ◌<◌, ℕ, zero, suc, ◌+◌, Bool, true, false, not, ◌&&◌, ◌||◌, List, [], ◌∷◌, ◌++◌, length, get_or, inl, inr, refl, sym, ap, ◌∙◌, subst, arith}
-use Rattle.std.specs.Prelude.{None, ◌==◌, nat_lt, Result, Ok, Err, is_ok}
-use Rattle.std.specs.List.{Any}
-use Rattle.std.specs.List.Sorted.{IsBinarySearchResult}
-use Rattle.std.specs.Ordering.{nat_cmp}
+use Rattle.std.specs.Prelude.{◌==◌, nat_lt, if◌then◌else◌}
 use Rattle.std.proofs.lemmas.Bool.{eqb-true, eq-eqb, cases_lt}
 use Rattle.std.proofs.lemmas.Bool.Decides.{nat_tests}
-use Rattle.std.proofs.lemmas.List.Folds.{list_any-append, list_any_at, Any-from_list_any}
+use Rattle.std.proofs.lemmas.List.Folds.{list_any-append, list_any_at}
 use Rattle.std.proofs.lemmas.List.Quantifiers.{all_pairs_push}
-use Rattle.std.proofs.lemmas.List.Sorted.{searched}
-use Rattle.zt_rows.specs.declared.keys.RowKey.TheVariants as key
-use Rattle.zt_rows.specs.State.{State, row}
-use Rattle.zt_rows.specs.Reads.{as_object, object}
+use Rattle.zt_rows.specs.State.{State}
+use Rattle.zt_rows.specs.Reads.{object}
 use Rattle.zt_rows.specs.Tests.{among, link_at}
-use Rattle.zt_rows.specs.End.{chain, is_live_task, is_under}
+use Rattle.zt_rows.specs.End.{is_live_task, is_under}
 use Rattle.zt_rows.proofs.RowLaws.{and_left, and_right, and_both, or_left, or_right, or_true, true≢false, not_true, same_test}
-use Rattle.zt_jobs.specs.Above.{HasParents, is_child_in, IsRising, HasMembers}
+use Rattle.zt_jobs.specs.Above.{HasParents, is_child_in, IsRising, HasMembers, HasChildren}
+use Rattle.zt_jobs.specs.Parts.{only}
 use Rattle.zt_jobs.proofs.ChainLaws.{link-above, under-step, under-itself, under-above}
 
 -- ---- tests of numbers
@@ -43,155 +39,220 @@ among-at xs i d lt = list_any_at (λ m. m == get_or xs i d) xs i d lt (eq-eqb (g
 
 -- ---- the walk
 
+-- a child in two sets together is one in either
+either-child : (S : State) (one two both : ℕ → Bool) (y : ℕ) → ((z : ℕ) → both z ≡ (one z || two z)) → is_child_in S both y ≡ (is_child_in S one y || is_child_in S two y)
+either-child S one two both y is = ap (λ b. is_live_task (object S y) && (not (link_at S y == 0) && b)) (is (link_at S y)) ∙ spread (is_live_task (object S y)) (not (link_at S y == 0)) (one (link_at S y)) (two (link_at S y))
+  where
+    spread : (l n a b : Bool) → (l && (n && (a || b))) ≡ ((l && (n && a)) || (l && (n && b)))
+    spread true true a b = refl
+    spread true false a b = refl
+    spread false n a b = refl
+
 module _ (S : State) (parents : HasParents S) (job : ℕ) where
-  -- where there is no object, nothing is under the job
-  none-under : (x : ℕ) → job < x → row S (key.Object x) ≡ None → is_under S job x ≡ false
-  none-under x above none =
-      let apart : (x == job) ≡ false = not_true (x == job) (λ e. let same : x ≡ job = eqb-true x job e in absurd (omega arith)) in
-      ap (λ b. b || (is_live_task (object S x) && among (chain S x) job)) apart
-      ∙ ap (λ r. is_live_task (as_object r) && among (chain S x) job) none
-
-  pub members-start : HasMembers S job (job + 1) (job ∷ [])
-  members-start x =
-      same_test (among (job ∷ []) x) (nat_lt x (job + 1) && is_under S job x)
-      (λ t. let same : job ≡ x = elim (or_true (job == x) false t) [ inl e ↦ eqb-true job x e | inr e ↦ absurd (true≢false false e refl) ] in
-      and_both _ _ (lt_true x (job + 1) (omega arith)) (subst (λ y. is_under S job y ≡ true) same (under-itself S parents job)))
-      (λ t.
-      let a : x < job + 1 = true_lt x (job + 1) (and_left _ _ t) in
-      let b : job ≤ x = under-above S parents job x (and_right (nat_lt x (job + 1)) _ t) in
-      let same : job ≡ x = omega arith in
-      or_left (job == x) false (eq-eqb job x same))
-
-  module _ (at : ℕ) (members : List ℕ) (has : HasMembers S job (at + 1) members) (from : job ≤ at) where
-    -- nothing between two objects is a member
-    skipped : (x : ℕ) → at < x → ((m : ℕ) → at < m → m < x → row S (key.Object m) ≡ None) → HasMembers S job x members
-    skipped x over none y =
-        has y
-        ∙ elim (cases_lt y (at + 1)) [
-          | inl l ↦ ap (λ b. b && is_under S job y) (lt_true y (at + 1) l ∙ sym (lt_true y x (omega arith)))
-          | inr g ↦
-              ap (λ b. b && is_under S job y) (lt_false y (at + 1) g)
-              ∙ elim (cases_lt y x) [
-                | inl l ↦ sym (ap (λ b. nat_lt y x && b) (none-under y (omega arith) (none y (omega arith) l)) ∙ and_none (nat_lt y x))
-                | inr past ↦ sym (ap (λ b. b && is_under S job y) (lt_false y x past))
-              ]
-        ]
-      where
-        and_none : (b : Bool) → (b && false) ≡ false
-        and_none true = refl
-        and_none false = refl
-
-    module _ (x : ℕ) (over : at < x) (none : (m : ℕ) → at < m → m < x → row S (key.Object m) ≡ None) where
-      apart : x ≢ job
-      apart e = absurd (omega arith)
-
-      -- a parent that is below x is a member exactly where it is under the job
-      parent-same : is_live_task (object S x) ≡ true → (not (link_at S x == 0) && among members (link_at S x)) ≡ (not (link_at S x == 0) && is_under S job (link_at S x))
-      parent-same live = elim (link-above S parents x live) [
-        | inl z ↦
-            let no : not (link_at S x == 0) ≡ false = ap not (eq-eqb (link_at S x) 0 z) in
-            ap (λ b. b && among members (link_at S x)) no ∙ sym (ap (λ b. b && is_under S job (link_at S x)) no)
-        | inr w ↦
-            let less : link_at S x < x = w.0 in
-            ap (λ b. not (link_at S x == 0) && b) (skipped x over none (link_at S x) ∙ ap (λ b. b && is_under S job (link_at S x)) (lt_true (link_at S x) x less))
+  -- the parent of a child is below it, and passes the test
+  child-parent : (passes : ℕ → Bool) (y : ℕ) → is_child_in S passes y ≡ true → (link_at S y < y) × (passes (link_at S y) ≡ true)
+  child-parent passes y child =
+      let live : is_live_task (object S y) ≡ true = and_left _ _ child in
+      let rest : (not (link_at S y == 0) && passes (link_at S y)) ≡ true = and_right (is_live_task (object S y)) _ child in
+      elim (link-above S parents y live) [
+        | inl z ↦ absurd (true≢false (not (link_at S y == 0)) (and_left _ _ rest) (ap not (eq-eqb (link_at S y) 0 z)))
+        | inr w ↦ (w.0, and_right (not (link_at S y == 0)) _ rest)
       ]
 
-      pub child-same : is_child_in S (among members) x ≡ is_under S job x
-      child-same =
-          elim (is_live_task (object S x)) as (λ b. is_live_task (object S x) ≡ b → (b && (not (link_at S x == 0) && among members (link_at S x))) ≡ (b && (not (link_at S x == 0) && is_under S job (link_at S x)))) [
-            | true ↦ λ live. parent-same live
-            | false ↦ λ _. refl
-          ] refl
-          ∙ sym (under-step S parents job x apart)
+  -- the same child, where another test passes its parent too
+  child-also : (one two : ℕ → Bool) (y : ℕ) → is_child_in S one y ≡ true → two (link_at S y) ≡ true → is_child_in S two y ≡ true
+  child-also one two y child passed =
+      and_both _ _ (and_left (is_live_task (object S y)) _ child)
+      (and_both _ _ (and_left (not (link_at S y == 0)) _ (and_right (is_live_task (object S y)) _ child)) passed)
 
-      with-x : (y : ℕ) → (x == y) ≡ false → (nat_lt y x && is_under S job y) ≡ (nat_lt y (x + 1) && is_under S job y)
-      with-x y other = ap (λ b. b && is_under S job y) (same_test (nat_lt y x) (nat_lt y (x + 1))
-          (λ t. let a : y < x = true_lt y x t in lt_true y (x + 1) (omega arith))
-          (λ t. let a : y < x + 1 = true_lt y (x + 1) t in
-          let b : x ≢ y = λ e. true≢false (x == y) (eq-eqb x y e) other in
-          lt_true y x (omega arith)))
+  members-start : HasMembers S job job []
+  members-start x =
+      sym (not_true (nat_lt x job && is_under S job x) (λ t.
+      let less : x < job = true_lt x job (and_left _ _ t) in
+      let le : job ≤ x = under-above S parents job x (and_right (nat_lt x job) _ t) in
+      absurd (omega arith)))
 
-      at-x : (y : ℕ) → (x == y) ≡ true → (nat_lt y (x + 1) && is_under S job y) ≡ is_under S job x
-      at-x y same =
-          let e : x ≡ y = eqb-true x y same in
-          ap (λ b. b && is_under S job y) (lt_true y (x + 1) (omega arith)) ∙ ap (is_under S job) (sym e)
+  children-start : HasChildren S job [] (λ x. false)
+  children-start x =
+      sym (not_true (nat_lt job x && is_child_in S (among []) x) (λ t.
+      true≢false false (child-parent (among []) x (and_right (nat_lt job x) _ t)).1 refl))
 
-      -- x is a member
-      pub members-more : is_child_in S (among members) x ≡ true → HasMembers S job (x + 1) (members ++ x ∷ [])
-      members-more child y =
-          among-push members x y
-          ∙ elim (x == y) as (λ b. (x == y) ≡ b → (among members y || b) ≡ (nat_lt y (x + 1) && is_under S job y)) [
-            | true ↦ λ e. or_right (among members y) true refl ∙ sym (at-x y e ∙ sym child-same ∙ child)
-            | false ↦ λ e. or-false (among members y) ∙ skipped x over none y ∙ with-x y e
-          ] refl
-        where
-          or-false : (b : Bool) → (b || false) ≡ b
-          or-false true = refl
-          or-false false = refl
+  module _ (at : ℕ) (members : List ℕ) (has : HasMembers S job at members) (here : is_under S job at ≡ true) where
+    -- the next member
+    members-more : HasMembers S job (at + 1) (members ++ at ∷ [])
+    members-more y =
+        among-push members at y
+        ∙ same_test (among members y || (at == y)) (nat_lt y (at + 1) && is_under S job y)
+        (λ t. elim (or_true (among members y) (at == y) t) [
+          | inl e ↦
+              let both : (nat_lt y at && is_under S job y) ≡ true = sym (has y) ∙ e in
+              let less : y < at = true_lt y at (and_left _ _ both) in
+              and_both _ _ (lt_true y (at + 1) (omega arith)) (and_right (nat_lt y at) _ both)
+          | inr e ↦
+              let same : at ≡ y = eqb-true at y e in
+              and_both _ _ (lt_true y (at + 1) (omega arith)) (subst (λ z. is_under S job z ≡ true) same here)
+        ])
+        (λ t.
+        let less : y < at + 1 = true_lt y (at + 1) (and_left _ _ t) in
+        elim (cases_lt y at) [
+          | inl l ↦ or_left (among members y) (at == y) (has y ∙ and_both _ _ (lt_true y at l) (and_right (nat_lt y (at + 1)) _ t))
+          | inr g ↦ let same : at ≡ y = omega arith in or_right (among members y) (at == y) (eq-eqb at y same)
+        ])
 
-      -- x is no member
-      pub members-same : is_child_in S (among members) x ≡ false → HasMembers S job (x + 1) members
-      members-same other y =
-          skipped x over none y
-          ∙ elim (x == y) as (λ b. (x == y) ≡ b → (nat_lt y x && is_under S job y) ≡ (nat_lt y (x + 1) && is_under S job y)) [
-            | true ↦ λ e.
-                let same : x ≡ y = eqb-true x y e in
-                ap (λ b. b && is_under S job y) (lt_false y x (omega arith)) ∙ sym (at-x y e ∙ sym child-same ∙ other)
-            | false ↦ λ e. with-x y e
-          ] refl
+    below-at : (k d : ℕ) → k < length members → get_or members k d < at
+    below-at k d lt =
+        let t : (nat_lt (get_or members k d) at && is_under S job (get_or members k d)) ≡ true = sym (has (get_or members k d)) ∙ among-at members k d lt in
+        true_lt (get_or members k d) at (and_left _ _ t)
 
-      below-x : (k d : ℕ) → k < length members → get_or members k d < x
-      below-x k d lt =
-          let t : (nat_lt (get_or members k d) x && is_under S job (get_or members k d)) ≡ true = sym (skipped x over none (get_or members k d)) ∙ among-at members k d lt in
-          true_lt (get_or members k d) x (and_left _ _ t)
+    rising-more : IsRising members → IsRising (members ++ at ∷ [])
+    rising-more rising = all_pairs_push (λ a b. a < b) members at rising (λ k d lt. below-at k d lt)
 
-      pub rising-more : IsRising members → IsRising (members ++ x ∷ [])
-      rising-more rising = all_pairs_push (λ a b. a < b) members x rising (λ k d lt. below-x k d lt)
+  -- with the children of the next member, all children of members are there
+  children-more : (at : ℕ) (members : List ℕ) (found more : ℕ → Bool) → HasChildren S at members found → ((x : ℕ) → more x ≡ (found x || is_child_in S (only at) x)) → HasChildren S at (members ++ at ∷ []) more
+  children-more at members found more has is x =
+      is x
+      ∙ elim (nat_lt at x) as (λ b. nat_lt at x ≡ b → (found x || is_child_in S (only at) x) ≡ (b && is_child_in S (among (members ++ at ∷ [])) x)) [
+        | true ↦ λ e.
+            ap (λ b. b || is_child_in S (only at) x) (has x ∙ ap (λ b. b && is_child_in S (among members) x) e)
+            ∙ sym (either-child S (among members) (only at) (among (members ++ at ∷ [])) x (among-push members at))
+        | false ↦ λ e.
+            ap (λ b. b || is_child_in S (only at) x) (has x ∙ ap (λ b. b && is_child_in S (among members) x) e)
+            ∙ not_true (is_child_in S (only at) x) (λ t.
+            let w : (link_at S x < x) × (only at (link_at S x) ≡ true) = child-parent (only at) x t in
+            let same : at ≡ link_at S x = eqb-true at (link_at S x) w.1 in
+            let less : link_at S x < x = w.0 in
+            true≢false (nat_lt at x) (lt_true at x (omega arith)) e)
+      ] refl
 
-    pub members-all : ((n : ℕ) → at < n → row S (key.Object n) ≡ None) → among members ≡ is_under S job
-    members-all none =
-        let each : (y : ℕ) → among members y ≡ is_under S job y = λ y.
+  module _ (at : ℕ) (members : List ℕ) (has : HasMembers S job (at + 1) members) (from : job ≤ at) where
+    apart-from : (y : ℕ) → at < y → y ≢ job
+    apart-from y over e = absurd (omega arith)
+
+    -- where no child of a member is, nothing is under the job
+    bare-from : (n bound : ℕ) → ((y : ℕ) → at < y → y < bound → is_child_in S (among members) y ≡ false) → (y : ℕ) → y < n → at < y → y < bound → is_under S job y ≡ false
+    bare-from zero bound none y a over under = absurd (omega arith)
+    bare-from (suc n) bound none y a over under =
+        not_true (is_under S job y) (λ t.
+        let child : is_child_in S (is_under S job) y ≡ true = sym (under-step S parents job y (apart-from y over)) ∙ t in
+        let w : (link_at S y < y) × (is_under S job (link_at S y) ≡ true) = child-parent (is_under S job) y child in
+        let less : link_at S y < y = w.0 in
+        elim (cases_lt (link_at S y) (at + 1)) [
+          | inl l ↦
+              let member : among members (link_at S y) ≡ true = has (link_at S y) ∙ and_both _ _ (lt_true (link_at S y) (at + 1) l) w.1 in
+              true≢false (is_child_in S (among members) y) (child-also (is_under S job) (among members) y child member) (none y over under)
+          | inr g ↦ true≢false (is_under S job (link_at S y)) w.1 (bare-from n bound none (link_at S y) (omega arith) (omega arith) (omega arith))
+        ])
+
+    -- up to the next child of a member, the members are all
+    skipped : (bound : ℕ) → at < bound → ((y : ℕ) → at < y → y < bound → is_child_in S (among members) y ≡ false) → HasMembers S job bound members
+    skipped bound over none y =
         has y
-        ∙ elim (cases_lt y (at + 1)) [
-          | inl l ↦ ap (λ b. b && is_under S job y) (lt_true y (at + 1) l)
-          | inr g ↦ ap (λ b. b && is_under S job y) (lt_false y (at + 1) g) ∙ sym (none-under y (omega arith) (none y (omega arith)))
-        ] in
+        ∙ same_test (nat_lt y (at + 1) && is_under S job y) (nat_lt y bound && is_under S job y)
+        (λ t.
+        let less : y < at + 1 = true_lt y (at + 1) (and_left _ _ t) in
+        and_both _ _ (lt_true y bound (omega arith)) (and_right (nat_lt y (at + 1)) _ t))
+        (λ t.
+        let less : y < bound = true_lt y bound (and_left _ _ t) in
+        let under : is_under S job y ≡ true = and_right (nat_lt y bound) _ t in
+        elim (cases_lt y (at + 1)) [
+          | inl l ↦ and_both _ _ (lt_true y (at + 1) l) under
+          | inr g ↦ absurd (true≢false (is_under S job y) under (bare-from (y + 1) bound none y (omega arith) (omega arith) less))
+        ])
+
+    members-all : (found : ℕ → Bool) → HasChildren S at members found → ((x : ℕ) → found x ≡ false) → among members ≡ is_under S job
+    members-all found children empty =
+        let none : (y : ℕ) → at < y → is_child_in S (among members) y ≡ false = λ y over. sym (ap (λ b. b && is_child_in S (among members) y) (lt_true at y over)) ∙ sym (children y) ∙ empty y in
+        let each : (y : ℕ) → among members y ≡ is_under S job y = λ y.
+        let past : nat_lt y (at + 1 + y) ≡ true = lt_true y (at + 1 + y) (omega arith) in
+        skipped (at + 1 + y) (omega arith) (λ z over _. none z over) y ∙ ap (λ b. b && is_under S job y) past in
         λ i y. each y i
 
-pub rising-one : (x : ℕ) → IsRising (x ∷ [])
-rising-one x = λ i j d less within. absurd (omega arith)
+    module _ (found left : ℕ → Bool) (next : ℕ) (children : HasChildren S at members found) (there : found next ≡ true) (least : (x : ℕ) → found x ≡ true → next ≤ x) (gone : (x : ℕ) → left x ≡ (if next == x then false else found x)) where
+      both-next : (nat_lt at next && is_child_in S (among members) next) ≡ true
+      both-next = sym (children next) ∙ there
 
--- ---- a search in a rising list
+      next-over : at < next
+      next-over = true_lt at next (and_left _ _ both-next)
 
-found-among : (xs : List ℕ) (x i : ℕ) → (i < length xs) × (get_or xs i 0 ≡ x) → true ≡ among xs x
-found-among xs x i h = sym (subst (λ y. among xs y ≡ true) h.1 (among-at xs i 0 h.0))
+      next-members : HasMembers S job next members
+      next-members =
+          skipped next next-over (λ y over under. not_true (is_child_in S (among members) y) (λ t.
+          let le : next ≤ y = least y (children y ∙ and_both _ _ (lt_true at y over) t) in
+          absurd (omega arith)))
 
-not-among : (xs : List ℕ) (x i : ℕ) → (i ≤ length xs) × ((k : ℕ) → k < i → get_or xs k 0 < x) × ((k : ℕ) → i ≤ k → k < length xs → x < get_or xs k 0) → false ≡ among xs x
-not-among xs x i h =
-    sym
-    (not_true (among xs x) (λ t.
-    let w : Any (λ m. (m == x) ≡ true) xs = Any-from_list_any (λ m. m == x) xs t in
-    let k : ℕ = w.0 in
-    let at : get_or xs k 0 ≡ x = same-default xs k w.1 w.2 ∙ w.3 ∙ eqb-true w.1 x w.4 in
-    let less : k < length xs = w.2 in
-    elim (cases_lt k i) [
-      | inl l ↦ let a : get_or xs k 0 < x = h.1 k l in absurd (omega arith)
-      | inr g ↦ let a : x < get_or xs k 0 = h.2 k g less in absurd (omega arith)
-    ]))
-  where
-    same-default : (xs : List ℕ) (k d : ℕ) → k < length xs → get_or xs k 0 ≡ get_or xs k d
-    same-default [] k d lt = absurd (omega arith)
-    same-default (x ∷ xs) zero d lt = refl
-    same-default (x ∷ xs) (suc k) d lt = same-default xs k d (omega arith)
+      next-here : is_under S job next ≡ true
+      next-here =
+          let child : is_child_in S (among members) next ≡ true = and_right (nat_lt at next) _ both-next in
+          let w : (link_at S next < next) × (among members (link_at S next) ≡ true) = child-parent (among members) next child in
+          let under : (nat_lt (link_at S next) (at + 1) && is_under S job (link_at S next)) ≡ true = sym (has (link_at S next)) ∙ w.1 in
+          under-step S parents job next (apart-from next next-over)
+          ∙ child-also (among members) (is_under S job) next child (and_right (nat_lt (link_at S next) (at + 1)) _ under)
 
-rises : (xs : List ℕ) → IsRising xs → (a b : ℕ) → a ≤ b → b < length xs → get_or xs a 0 ≤ get_or xs b 0
-rises xs rising a b le within =
-    elim (cases_lt a b) [
-      | inl l ↦ let less : get_or xs a 0 < get_or xs b 0 = rising a b 0 l within in omega arith
-      | inr g ↦ let same : a ≡ b = omega arith in let e : get_or xs a 0 ≡ get_or xs b 0 = ap (λ n. get_or xs n 0) same in omega arith
-    ]
+      next-children : HasChildren S next members left
+      next-children x =
+          gone x
+          ∙ elim (next == x) as (λ b. next == x ≡ b → (if b then false else found x) ≡ (nat_lt next x && is_child_in S (among members) x)) [
+            | true ↦ λ e. let same : next ≡ x = eqb-true next x e in sym (ap (λ b. b && is_child_in S (among members) x) (lt_false next x (omega arith)))
+            | false ↦ λ e.
+                children x
+                ∙ same_test (nat_lt at x && is_child_in S (among members) x) (nat_lt next x && is_child_in S (among members) x)
+                (λ t.
+                let le : next ≤ x = least x (children x ∙ t) in
+                and_both _ _ (lt_true next x (above le e)) (and_right (nat_lt at x) _ t))
+                (λ t.
+                let less : next < x = true_lt next x (and_left _ _ t) in
+                let over : at < next = next-over in
+                and_both _ _ (lt_true at x (omega arith)) (and_right (nat_lt next x) _ t))
+          ] refl
+        where
+          above : {y : ℕ} → next ≤ y → (next == y) ≡ false → next < y
+          above {y} le e = elim (cases_lt next y) [ inl l ↦ l | inr g ↦ let same : next ≡ y = omega arith in absurd (true≢false (next == y) (eq-eqb next y same) e) ]
 
--- a binary search in a rising list finds what is in it
-pub search-among : (xs : List ℕ) (x : ℕ) (r : Result ℕ ℕ) → IsRising xs → IsBinarySearchResult (λ y. nat_cmp y x) xs r → is_ok r ≡ among xs x
-search-among xs x (Ok i) rising found = found-among xs x i (searched xs x (Ok i) found (rises xs rising))
-search-among xs x (Err i) rising found = not-among xs x i (searched xs x (Err i) found (rises xs rising))
+-- ---- the walk from one member to the next
+
+-- the members below the next one are there, and all their children above it were found
+pub record IsWalked (S : State) (job at : ℕ) (members : List ℕ) (found : ℕ → Bool) : Type 0 where
+  pub from : job ≤ at
+  pub here : is_under S job at ≡ true
+  pub has : HasMembers S job at members
+  pub rising : IsRising members
+  pub children : HasChildren S at members found
+
+module _ (S : State) (parents : HasParents S) (job : ℕ) where
+  pub walk-start : (members : List ℕ) (found : ℕ → Bool) → members ≡ [] → ((x : ℕ) → found x ≡ false) → IsWalked S job job members found
+  walk-start members found none empty = record {
+    from = omega arith;
+    here = under-itself S parents job;
+    has = subst (HasMembers S job job) (sym none) (members-start S parents job);
+    rising = subst IsRising (sym none) (λ i j d less within. absurd (omega arith));
+    children = λ x. empty x ∙ children-start S parents job x ∙ ap (λ l. nat_lt job x && is_child_in S (among l) x) (sym none);
+  }
+
+  module _ (at : ℕ) (members later : List ℕ) (found more : ℕ → Bool) (walked : IsWalked S job at members found) (pushed : later ≡ members ++ at ∷ []) (added : (x : ℕ) → more x ≡ (found x || is_child_in S (only at) x)) where
+    later-has : HasMembers S job (at + 1) later
+    later-has = subst (HasMembers S job (at + 1)) (sym pushed) (members-more S parents job at members walked.has walked.here)
+
+    later-children : HasChildren S at later more
+    later-children = subst (λ l. HasChildren S at l more) (sym pushed) (children-more S parents job at members found more walked.children added)
+
+    pub later-rising : IsRising later
+    later-rising = subst IsRising (sym pushed) (rising-more S parents job at members walked.has walked.here walked.rising)
+
+    pub walk-end : ((x : ℕ) → more x ≡ false) → among later ≡ is_under S job
+    walk-end empty = members-all S parents job at later later-has walked.from more later-children empty
+
+    module _ (left : ℕ → Bool) (next : ℕ) (there : more next ≡ true) (least : (x : ℕ) → more x ≡ true → next ≤ x) (gone : (x : ℕ) → left x ≡ (if next == x then false else more x)) where
+      pub walk-over : at < next
+      walk-over = next-over S parents job at later later-has walked.from more left next later-children there least gone
+
+      pub walk-next : IsWalked S job next later left
+      walk-next =
+          let over : at < next = walk-over in
+          let from : job ≤ at = walked.from in
+          record {
+            from = omega arith;
+            here = next-here S parents job at later later-has walked.from more left next later-children there least gone;
+            has = next-members S parents job at later later-has walked.from more left next later-children there least gone;
+            rising = later-rising;
+            children = next-children S parents job at later later-has walked.from more left next later-children there least gone;
+          }

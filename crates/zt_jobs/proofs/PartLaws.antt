@@ -1,5 +1,6 @@
--- Ending in parts is ending: rows of objects, tables and waits, member after member and wait after wait.
-use Rattle.std.proofs.Common.{◌≡◌, ◌<◌, ◌≤◌, ℕ, zero, suc, add-one, ◌+◌, Bool, true, false, ◌&&◌, ◌||◌, List, length, take, get_or, ◌⊎◌, inl, inr, refl, sym, ap, ◌∙◌, arith, option_and_then}
+-- Ending in parts is ending: rows of objects, tables and waits, member after member.
+use Rattle.std.proofs.Common.{◌≡◌, ◌<◌, ◌≤◌, ℕ, zero, suc, add-one, ◌+◌, Bool, true, false, cond, ◌&&◌, ◌||◌, List, length, take, get_or, ◌⊎◌, inl, inr, refl, sym, ap, ◌∙◌, arith, option_and_then, subst}
+use Rattle.std.specs.Option.{option_map_or}
 use Rattle.std.specs.Prelude.{Option, None, Some, ◌==◌, nat_lt, if◌then◌else◌}
 use Rattle.std.proofs.lemmas.Bool.{eqb-true, eq-eqb}
 use Rattle.std.proofs.lemmas.List.Folds.{list_any_more}
@@ -10,20 +11,22 @@ use Rattle.zt_rows.specs.declared.rows.Life.{Life}
 use Rattle.zt_rows.specs.declared.rows.ObjectRow.{ObjectRow}
 use Rattle.zt_rows.specs.declared.rows.Row.{Row}
 use Rattle.zt_rows.specs.declared.rows.Row.TheVariants as rows
-use Rattle.zt_rows.specs.declared.rows.Wait.{Wait}
 use Rattle.zt_rows.specs.Keys.{rowkey_eq}
 use Rattle.zt_rows.specs.State.{State, row, put, change}
-use Rattle.zt_rows.specs.Reads.{as_object, as_entry, as_wait, object, entry, wait}
+use Rattle.zt_rows.specs.Reads.{as_object, as_entry, as_wait, object, entry}
 use Rattle.zt_rows.specs.Tests.{among}
 use Rattle.zt_rows.specs.End.{left_by, end}
-use Rattle.zt_rows.proofs.StateLaws.{row-change, same_state}
-use Rattle.zt_rows.proofs.ReadLaws.{object-row, entry-row, wait-row}
+use Rattle.zt_rows.proofs.StateLaws.{row-change, row-put, same_state}
+use Rattle.zt_rows.proofs.ReadLaws.{object-row, entry-row}
 use Rattle.zt_rows.proofs.RowLaws.{or_true, true≢false, not_true}
+use Rattle.zt_store.specs.Chains as chains
+use Rattle.zt_store.specs.Chains.{IsBehind}
+use Rattle.zt_store.specs.Finding.{is_by, waits_where}
 use Rattle.zt_store.specs.Stepping.{Stepping}
 use Rattle.zt_jobs.specs.Above.{IsRising}
 use Rattle.zt_jobs.specs.Parts.{IsAhead, left_behind, only, with_end, without_tables, without_waits}
 use Rattle.zt_jobs.specs.Walks.{IsNext}
-use Rattle.zt_jobs.proofs.WalkLaws.{behind-same, behind-change, change-then, IsSeen, seen-none, seen-put, seen-past, seen-all, unseen-none, below_more, below_same, below_none, below_past, below_all}
+use Rattle.zt_jobs.proofs.WalkLaws.{behind-same, behind-change, change-then, IsSeen, seen-none, seen-put, seen-past, seen-all, none-left, unseen-left, below_more, below_same, below_none, below_past, below_all, below_over, below_or}
 
 -- ---- later moments of the step
 
@@ -194,14 +197,14 @@ module _ (S : State) (p : ℕ) where
   pub entries-past : (T : State) (v next : ℕ) → EntriesSeen T (v + 1) → IsNext T (λ h. key.Entry p h) v (Some next) → EntriesSeen T next
   entries-past T v next seen is = seen-past (without_tables (only p)) S T (seen_entries p (v + 1)) (seen_entries p next) seen at
     where
-      of : (q h : ℕ) (b : Bool) → (q == p) ≡ b → ((b && nat_lt h next) ≡ (b && nat_lt h (v + 1))) ⊎ (((b && nat_lt h (v + 1)) ≡ false) × (row T (key.Entry q h) ≡ None))
+      of : (q h : ℕ) (b : Bool) → (q == p) ≡ b → ((b && nat_lt h next) ≡ (b && nat_lt h (v + 1))) ⊎ (((b && nat_lt h (v + 1)) ≡ false) × (option_and_then (without_tables (only p) (key.Entry q h)) (row T (key.Entry q h)) ≡ row T (key.Entry q h)))
       of q h true e = elim (below_past h v next is.0) [
         | inl same ↦ inl same
-        | inr w ↦ inr (w.0, ap (λ z. row T (key.Entry z h)) (eqb-true q p e) ∙ is.1 h w.1 w.2)
+        | inr w ↦ inr (w.0, none-left (without_tables (only p)) S (row T (key.Entry q h)) (key.Entry q h) (ap (λ z. row T (key.Entry z h)) (eqb-true q p e) ∙ is.1 h w.1 w.2))
       ]
       of q h false e = inl refl
 
-      at : (k : RowKey) → (seen_entries p next k ≡ seen_entries p (v + 1) k) ⊎ ((seen_entries p (v + 1) k ≡ false) × (row T k ≡ None))
+      at : (k : RowKey) → (seen_entries p next k ≡ seen_entries p (v + 1) k) ⊎ ((seen_entries p (v + 1) k ≡ false) × (option_and_then (without_tables (only p) k) (row T k) ≡ row T k))
       at (key.Entry q h) = of q h (q == p) refl
       at _ = inl refl
 
@@ -217,7 +220,7 @@ module _ (S : State) (p : ℕ) where
       of : (q h : ℕ) (b : Bool) → (q == p) ≡ b → ((b && nat_lt h (v + 1)) ≡ true) ⊎ (((b && nat_lt h (v + 1)) ≡ false) × (option_and_then (without_tables (only p) (key.Entry q h)) (row S (key.Entry q h)) ≡ row S (key.Entry q h)))
       of q h true e = elim (below_all h v) [
         | inl t ↦ inl t
-        | inr w ↦ inr (w.0, unseen-none (without_tables (only p)) S T (seen_entries p (v + 1)) seen (key.Entry q h) (ap (λ b. b && nat_lt h (v + 1)) e ∙ w.0) (ap (λ z. row T (key.Entry z h)) (eqb-true q p e) ∙ is h w.1))
+        | inr w ↦ inr (w.0, unseen-left (without_tables (only p)) S T (seen_entries p (v + 1)) seen (key.Entry q h) (ap (λ b. b && nat_lt h (v + 1)) e ∙ w.0) (none-left (without_tables (only p)) S (row T (key.Entry q h)) (key.Entry q h) (ap (λ z. row T (key.Entry z h)) (eqb-true q p e) ∙ is h w.1)))
       ]
       of q h false e = inr (refl, other q h e (row S (key.Entry q h)))
 
@@ -235,77 +238,142 @@ module _ (S : State) (p : ℕ) where
 
 -- ---- waits
 
--- what is left of one wait
-pub wait-none : (S : State) (ending : ℕ → Bool) (n : ℕ) → wait S n ≡ None → S ≡ left_behind (without_waits ending) S (key.Wait n)
-wait-none S ending n none = behind-same (without_waits ending) S (key.Wait n) (stays (row S (key.Wait n)) none)
+pub waits-more : (S : State) (before after : ℕ → Bool) (x : ℕ) → ((y : ℕ) → after y ≡ (before y || only x y)) → change (without_waits (only x)) (change (without_waits before) S) ≡ change (without_waits after) S
+waits-more S before after x is = change-then (without_waits (only x)) (without_waits before) (without_waits after) S at
   where
-    stays : (r : Option Row) → as_wait r ≡ None → option_and_then (without_waits ending (key.Wait n)) r ≡ r
-    stays (Some (rows.Wait w)) e = cc
+    at : (k : RowKey) (r : Row) → option_and_then (without_waits (only x) k) (without_waits before k r) ≡ without_waits after k r
+    at (key.Wait n) (rows.Wait w) =
+        gone-either (before w.process) (only x w.process) (without_waits (only x) (key.Wait n)) (rows.Wait w) refl
+        ∙ ap (λ b. if b then None else Some (rows.Wait w)) (sym (is w.process))
+    at _ r = refl
+
+pub waits-nothing : (S : State) (before : ℕ → Bool) → ((y : ℕ) → before y ≡ false) → S ≡ change (without_waits before) S
+waits-nothing S before none = same_state _ _ (λ q. sym (row-change (without_waits before) S q ∙ at q (row S q)))
+  where
+    at : (q : RowKey) (r : Option Row) → option_and_then (without_waits before q) r ≡ r
+    at (key.Wait n) (Some (rows.Wait w)) = ap (λ b. if b then None else Some (rows.Wait w)) (none w.process)
+    at _ (Some r) = refl
+    at q None = refl
+
+-- what is left of one wait
+wait-gone : (T : State) (p n : ℕ) → waits_where T (is_by p) n ≡ true → put T (key.Wait n) None ≡ left_behind (without_waits (only p)) T (key.Wait n)
+wait-gone T p n made = ap (put T (key.Wait n)) (sym (gone (row T (key.Wait n)) made))
+  where
+    gone : (r : Option Row) → option_map_or (is_by p) (as_wait r) false ≡ true → option_and_then (without_waits (only p) (key.Wait n)) r ≡ None
+    gone (Some (rows.Wait w)) e = ap (λ b. if b then None else Some (rows.Wait w)) (eq-eqb p w.process (sym (eqb-true w.process p e)))
+    gone (Some r) e = cc
+    gone None e = cc
+
+wait-stays : (T : State) (p n : ℕ) → waits_where T (is_by p) n ≡ false → option_and_then (without_waits (only p) (key.Wait n)) (row T (key.Wait n)) ≡ row T (key.Wait n)
+wait-stays T p n other = stays (row T (key.Wait n)) other
+  where
+    stays : (r : Option Row) → option_map_or (is_by p) (as_wait r) false ≡ false → option_and_then (without_waits (only p) (key.Wait n)) r ≡ r
+    stays (Some (rows.Wait w)) e =
+        ap (λ b. if b then None else Some (rows.Wait w)) (not_true (p == w.process) (λ t. true≢false (w.process == p) (eq-eqb w.process p (sym (eqb-true p w.process t))) e))
     stays (Some r) e = refl
     stays None e = refl
-
-module _ (S : State) (ending : ℕ → Bool) (n : ℕ) (w : Wait) (there : wait S n ≡ Some w) where
-  left_of : (b : Bool) → ending w.process ≡ b → option_and_then (without_waits ending (key.Wait n)) (row S (key.Wait n)) ≡ (if b then None else Some (rows.Wait w))
-  left_of b e =
-      ap (option_and_then (without_waits ending (key.Wait n))) (wait-row S n w there)
-      ∙ ap (λ b. if b then None else Some (rows.Wait w)) e
-
-  pub wait-gone : ending w.process ≡ true → put S (key.Wait n) None ≡ left_behind (without_waits ending) S (key.Wait n)
-  wait-gone e = ap (put S (key.Wait n)) (sym (left_of true e))
-
-  pub wait-stays : ending w.process ≡ false → S ≡ left_behind (without_waits ending) S (key.Wait n)
-  wait-stays e = behind-same (without_waits ending) S (key.Wait n) (left_of false e ∙ sym (wait-row S n w there))
 
 abbrev pub seen_waits : ℕ → RowKey → Bool
 seen_waits n (key.Wait m) = nat_lt m n
 seen_waits n _ = false
 
-module _ (S : State) (ending : ℕ → Bool) where
-  abbrev pub WaitsSeen : State → ℕ → Type 0
-  WaitsSeen T n = IsSeen (without_waits ending) S T (seen_waits n)
+-- the first number behind the low one, or of all
+abbrev pub first_behind : Option ℕ → ℕ
+first_behind None = 0
+first_behind (Some n) = n + 1
 
-  pub waits-start : WaitsSeen S 0
-  waits-start = seen-none (without_waits ending) S (seen_waits 0) at
+behind : (low : Option ℕ) (m : ℕ) → first_behind low ≤ m → IsBehind (λ a b. a < b) low m
+behind None m le = tt
+behind (Some n) m le = omega arith
+
+pub behind-least : (low : Option ℕ) (n : ℕ) → IsBehind (λ a b. a < b) low n → first_behind low ≤ n
+behind-least None n h = omega arith
+behind-least (Some m) n h = omega arith
+
+-- what comes behind a wait is the same where that wait has gone
+next-kept : (T : State) (p n : ℕ) (later : Option ℕ) → chains.IsNext (waits_where T (is_by p)) (Some n) later → chains.IsNext (waits_where (put T (key.Wait n) None) (is_by p)) (Some n) later
+next-kept T p n later is = at later is
+  where
+    same : (m : ℕ) → n < m → waits_where (put T (key.Wait n) None) (is_by p) m ≡ waits_where T (is_by p) m
+    same m over =
+        ap (λ r. option_map_or (is_by p) (as_wait r) false)
+        (row-put T (key.Wait n) None (key.Wait m)
+        ∙ ap (λ b. cond b None (row T (key.Wait m))) (not_true (m == n) (λ t. let e : m ≡ n = eqb-true m n t in absurd (omega arith))))
+
+    at : (o : Option ℕ) → chains.IsNext (waits_where T (is_by p)) (Some n) o → chains.IsNext (waits_where (put T (key.Wait n) None) (is_by p)) (Some n) o
+    at None h = (tt, λ m over short. same m over ∙ h.1 m over tt)
+    at (Some k) h = ((h.0.0, same k h.0.0 ∙ h.0.1), λ m over short. same m over ∙ h.1 m over short)
+
+module _ (S : State) (p : ℕ) where
+  abbrev pub WaitsSeen : State → ℕ → Type 0
+  WaitsSeen T n = IsSeen (without_waits (only p)) S T (seen_waits n)
+
+  waits-start : WaitsSeen S 0
+  waits-start = seen-none (without_waits (only p)) S (seen_waits 0) at
     where
       at : (k : RowKey) → seen_waits 0 k ≡ false
       at (key.Wait m) = below_none m
       at _ = refl
 
-  pub waits-put : (T : State) (n : ℕ) → WaitsSeen T n → WaitsSeen (left_behind (without_waits ending) T (key.Wait n)) (n + 1)
-  waits-put T n seen = seen-put (without_waits ending) S T (key.Wait n) (seen_waits n) (seen_waits (n + 1)) seen (below_same n) at
+  waits-put : (T : State) (n : ℕ) → WaitsSeen T n → WaitsSeen (left_behind (without_waits (only p)) T (key.Wait n)) (n + 1)
+  waits-put T n seen = seen-put (without_waits (only p)) S T (key.Wait n) (seen_waits n) (seen_waits (n + 1)) seen (below_same n) at
     where
       at : (k : RowKey) → seen_waits (n + 1) k ≡ (seen_waits n k || rowkey_eq k (key.Wait n))
       at (key.Wait m) = below_more m n
       at key.Counters = refl
       at (key.Object x) = refl
-      at (key.Entry p h) = refl
+      at (key.Entry q h) = refl
       at (key.Msg e i) = refl
       at (key.Packet e i) = refl
 
-  pub waits-past : (T : State) (n next : ℕ) → WaitsSeen T (n + 1) → IsNext T (λ m. key.Wait m) n (Some next) → WaitsSeen T next
-  waits-past T n next seen is = seen-past (without_waits ending) S T (seen_waits (n + 1)) (seen_waits next) seen at
+  waits-past : (T : State) (low : Option ℕ) (n : ℕ) → WaitsSeen T (first_behind low) → chains.IsNext (waits_where T (is_by p)) low (Some n) → WaitsSeen T n
+  waits-past T low n seen is = seen-past (without_waits (only p)) S T (seen_waits (first_behind low)) (seen_waits n) seen at
     where
-      at : (k : RowKey) → (seen_waits next k ≡ seen_waits (n + 1) k) ⊎ ((seen_waits (n + 1) k ≡ false) × (row T k ≡ None))
-      at (key.Wait m) = elim (below_past m n next is.0) [ inl same ↦ inl same | inr w ↦ inr (w.0, is.1 m w.1 w.2) ]
+      at : (k : RowKey) → (seen_waits n k ≡ seen_waits (first_behind low) k) ⊎ ((seen_waits (first_behind low) k ≡ false) × (option_and_then (without_waits (only p) k) (row T k) ≡ row T k))
+      at (key.Wait m) = elim (below_over m (first_behind low) n (behind-least low n is.0.0)) [ inl same ↦ inl same | inr w ↦ inr (w.0, wait-stays T p m (is.1 m (behind low m w.1) w.2)) ]
       at _ = inl refl
 
-  pub waits-all : (T : State) (n : ℕ) → WaitsSeen T (n + 1) → IsNext T (λ m. key.Wait m) n None → T ≡ change (without_waits ending) S
-  waits-all T n seen is = seen-all (without_waits ending) S T (seen_waits (n + 1)) seen at
+  -- the next wait has gone
+  waits-next : (T : State) (low : Option ℕ) (n : ℕ) → WaitsSeen T (first_behind low) → chains.IsNext (waits_where T (is_by p)) low (Some n) → WaitsSeen (put T (key.Wait n) None) (n + 1)
+  waits-next T low n seen is = subst (λ U. WaitsSeen U (n + 1)) (sym (wait-gone T p n is.0.1)) (waits-put T n (waits-past T low n seen is))
+
+  waits-all : (T : State) (low : Option ℕ) → WaitsSeen T (first_behind low) → chains.IsNext (waits_where T (is_by p)) low None → T ≡ change (without_waits (only p)) S
+  waits-all T low seen is = seen-all (without_waits (only p)) S T (seen_waits (first_behind low)) seen at
     where
-      same : (k : RowKey) → ((r : Row) → without_waits ending k r ≡ Some r) → (r : Option Row) → option_and_then (without_waits ending k) r ≡ r
+      same : (k : RowKey) → ((r : Row) → without_waits (only p) k r ≡ Some r) → (r : Option Row) → option_and_then (without_waits (only p) k) r ≡ r
       same k h (Some r) = h r
       same k h None = refl
 
-      at : (k : RowKey) → (seen_waits (n + 1) k ≡ true) ⊎ ((seen_waits (n + 1) k ≡ false) × (option_and_then (without_waits ending k) (row S k) ≡ row S k))
-      at (key.Wait m) = elim (below_all m n) [
+      at : (k : RowKey) → (seen_waits (first_behind low) k ≡ true) ⊎ ((seen_waits (first_behind low) k ≡ false) × (option_and_then (without_waits (only p) k) (row S k) ≡ row S k))
+      at (key.Wait m) = elim (below_or m (first_behind low)) [
         | inl t ↦ inl t
-        | inr w ↦ inr (w.0, unseen-none (without_waits ending) S T (seen_waits (n + 1)) seen (key.Wait m) w.0 (is m w.1))
+        | inr w ↦ inr (w.0, unseen-left (without_waits (only p)) S T (seen_waits (first_behind low)) seen (key.Wait m) w.0 (wait-stays T p m (is.1 m (behind low m w.1) tt)))
       ]
       at key.Counters = inr (refl, same key.Counters (λ r. refl) (row S key.Counters))
       at (key.Object x) = inr (refl, same (key.Object x) (λ r. refl) (row S (key.Object x)))
-      at (key.Entry p h) = inr (refl, same (key.Entry p h) (λ r. refl) (row S (key.Entry p h)))
+      at (key.Entry q h) = inr (refl, same (key.Entry q h) (λ r. refl) (row S (key.Entry q h)))
       at (key.Msg e i) = inr (refl, same (key.Msg e i) (λ r. refl) (row S (key.Msg e i)))
       at (key.Packet e i) = inr (refl, same (key.Packet e i) (λ r. refl) (row S (key.Packet e i)))
+
+  -- all waits up to the next one were seen
+  pub record WaitsLeft (T : State) (next : Option ℕ) : Type 0 where
+    pub low : Option ℕ
+    pub seen : WaitsSeen T (first_behind low)
+    pub is : chains.IsNext (waits_where T (is_by p)) low next
+
+  pub left-start : (next : Option ℕ) → chains.IsNext (waits_where S (is_by p)) None next → WaitsLeft S next
+  left-start next is = record { low = None; seen = waits-start; is = is }
+
+  pub left-next : (T : State) (next later : Option ℕ) (n : ℕ) → next ≡ Some n → WaitsLeft T next → chains.IsNext (waits_where T (is_by p)) (Some n) later → WaitsLeft (put T (key.Wait n) None) later
+  left-next T next later n e left is = record {
+    low = Some n;
+    seen = waits-next T left.low n left.seen (subst (chains.IsNext (waits_where T (is_by p)) left.low) e left.is);
+    is = next-kept T p n later is;
+  }
+
+  pub left-end : (T : State) (next : Option ℕ) → ((n : ℕ) → next ≡ Some n → ⊥) → WaitsLeft T next → T ≡ change (without_waits (only p)) S
+  left-end T None none left = waits-all T left.low left.seen left.is
+  left-end T (Some n) none left = absurd (none n refl)
 
 -- ---- all parts
 

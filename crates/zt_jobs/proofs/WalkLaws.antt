@@ -76,26 +76,28 @@ module _ (f : RowKey → Row → Option Row) (S : State) where
       or-false true = refl
       or-false false = refl
 
-  none-either : (b : Bool) (r : Option Row) (k : RowKey) → r ≡ None → r ≡ cond b (option_and_then (f k) r) r
-  none-either true r k e = e ∙ sym (ap (option_and_then (f k)) e)
-  none-either false r k e = refl
+  left-either : (b : Bool) (r : Option Row) (k : RowKey) → option_and_then (f k) r ≡ r → r ≡ cond b (option_and_then (f k) r) r
+  left-either true r k e = sym e
+  left-either false r k e = refl
 
-  -- keys without a row count as seen
-  pub seen-past : (T : State) (seen more : RowKey → Bool) → IsSeen T seen → ((q : RowKey) → (more q ≡ seen q) ⊎ ((seen q ≡ false) × (row T q ≡ None))) → IsSeen T more
+  -- a key that was not seen, where f leaves the row as it is, had the same row before
+  pub unseen-left : (T : State) (seen : RowKey → Bool) → IsSeen T seen → (q : RowKey) → seen q ≡ false → option_and_then (f q) (row T q) ≡ row T q → option_and_then (f q) (row S q) ≡ row S q
+  unseen-left T seen before q new same =
+      let here : row T q ≡ row S q = before q ∙ ap (λ b. cond b (option_and_then (f q) (row S q)) (row S q)) new in
+      ap (option_and_then (f q)) (sym here) ∙ same ∙ here
+
+  -- keys whose rows f leaves as they are count as seen
+  pub seen-past : (T : State) (seen more : RowKey → Bool) → IsSeen T seen → ((q : RowKey) → (more q ≡ seen q) ⊎ ((seen q ≡ false) × (option_and_then (f q) (row T q) ≡ row T q))) → IsSeen T more
   seen-past T seen more before past q = elim (past q) [
     | inl same ↦ before q ∙ ap (λ b. cond b (option_and_then (f q) (row S q)) (row S q)) (sym same)
     | inr w ↦
-        let here : row T q ≡ row S q = before q ∙ ap (λ b. cond b (option_and_then (f q) (row S q)) (row S q)) w.0 in
-        here ∙ none-either (more q) (row S q) q (sym here ∙ w.1)
+        before q ∙ ap (λ b. cond b (option_and_then (f q) (row S q)) (row S q)) w.0
+        ∙ left-either (more q) (row S q) q (unseen-left T seen before q w.0 w.1)
   ]
 
-  none-left : (r : Option Row) (k : RowKey) → r ≡ None → option_and_then (f k) r ≡ r
+  -- there is nothing of which f could leave less
+  pub none-left : (r : Option Row) (k : RowKey) → r ≡ None → option_and_then (f k) r ≡ r
   none-left r k e = ap (option_and_then (f k)) e ∙ sym e
-
-  -- a key without a row that was not seen had none before
-  pub unseen-none : (T : State) (seen : RowKey → Bool) → IsSeen T seen → (q : RowKey) → seen q ≡ false → row T q ≡ None → option_and_then (f q) (row S q) ≡ row S q
-  unseen-none T seen before q new none =
-      none-left (row S q) q (sym (before q ∙ ap (λ b. cond b (option_and_then (f q) (row S q)) (row S q)) new) ∙ none)
 
   pub seen-all : (T : State) (seen : RowKey → Bool) → IsSeen T seen → ((q : RowKey) → (seen q ≡ true) ⊎ ((seen q ≡ false) × (option_and_then (f q) (row S q) ≡ row S q))) → T ≡ change f S
   seen-all T seen before all =
@@ -140,6 +142,36 @@ below_all m n =
     elim (cases_lt m (n + 1)) [
       | inl l ↦ inl (lt_true m (n + 1) l)
       | inr g ↦ inr (lt_false m (n + 1) g, omega arith)
+    ]
+  where
+    lt_true : (a b : ℕ) → a < b → nat_lt a b ≡ true
+    lt_true a b h = grind (arith, nat_tests)
+
+    lt_false : (a b : ℕ) → b ≤ a → nat_lt a b ≡ false
+    lt_false a b h = grind (arith, nat_tests)
+
+-- from a number on up to a greater one, or the same
+pub below_over : (m from next : ℕ) → from ≤ next → (nat_lt m next ≡ nat_lt m from) ⊎ ((nat_lt m from ≡ false) × (from ≤ m) × (m < next))
+below_over m from next over =
+    elim (cases_lt m from) [
+      | inl l ↦ inl (lt_true m next (omega arith) ∙ sym (lt_true m from l))
+      | inr g ↦ elim (cases_lt m next) [
+        | inl l ↦ inr (lt_false m from g, g, l)
+        | inr h ↦ inl (lt_false m next h ∙ sym (lt_false m from g))
+      ]
+    ]
+  where
+    lt_true : (a b : ℕ) → a < b → nat_lt a b ≡ true
+    lt_true a b h = grind (arith, nat_tests)
+
+    lt_false : (a b : ℕ) → b ≤ a → nat_lt a b ≡ false
+    lt_false a b h = grind (arith, nat_tests)
+
+pub below_or : (m from : ℕ) → (nat_lt m from ≡ true) ⊎ ((nat_lt m from ≡ false) × (from ≤ m))
+below_or m from =
+    elim (cases_lt m from) [
+      | inl l ↦ inl (lt_true m from l)
+      | inr g ↦ inr (lt_false m from g, g)
     ]
   where
     lt_true : (a b : ℕ) → a < b → nat_lt a b ≡ true

@@ -22,3 +22,7 @@ IsRising xs = AllPairs (λ x y. x < y) xs
 -- the list has what is under the job among the koids below n, and nothing else
 abbrev pub HasMembers : State → ℕ → ℕ → List ℕ → Type 0
 HasMembers S job n members = (x : ℕ) → among members x ≡ (nat_lt x n && is_under S job x)
+
+-- the live processes and jobs above n whose parents are members, and nothing else
+abbrev pub HasChildren : State → ℕ → List ℕ → (ℕ → Bool) → Type 0
+HasChildren S n members found = (x : ℕ) → found x ≡ (nat_lt n x && is_child_in S (among members) x)

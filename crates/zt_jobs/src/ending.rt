@@ -17,7 +17,8 @@ use zt_rows::{Held, Koid, Life, ObjectRow, Row, RowKey};
 use zt_store::Step;
 
 /// Ends the process and nothing else: it has no parent any more, its entries go, and so do the waits that it made.
-/// Answers what its entries held, by rising value. The work grows with its entries and with the waits that there are.
+/// Answers what its entries held, by rising value. The work grows with the places that its entries had and with its
+/// waits: no other row is looked at.
 pub fn end_process(
     alloc: Global,
     step: &mut Step,
@@ -35,8 +36,7 @@ pub fn end_process(
 
 /// Ends the job and all that is under it: each of them has no parent any more, their entries go, and so do the waits
 /// that they made. Answers what the entries held, by rising process and value. The work grows with what is under the
-/// job, with the objects that are younger than the job, each of which is looked at once, and with the waits that
-/// there are.
+/// job, with the places that their entries had and with their waits: no other row is looked at.
 pub fn end_subtree(
     alloc: Global,
     step: &mut Step,

@@ -5,7 +5,7 @@ ghost use Rattle.zt_rows.specs.State.{change};
 ghost use Rattle.zt_rows.specs.Tests.{among};
 ghost use Rattle.zt_jobs.specs.Above.{IsRising};
 ghost use Rattle.zt_jobs.specs.Parts.{IsAhead, handles_of, left_behind, only, without_tables};
-ghost use Rattle.zt_jobs.specs.Walks.{IsNext, value_in};
+ghost use Rattle.zt_jobs.specs.Walks.{IsNext};
 
 use std::alloc::{AllocError, Global};
 use zt_rows::{HandleValue, Held, Koid, Row, RowKey};
@@ -30,7 +30,7 @@ pub(crate) fn take_tables(
 }
 
 /// Takes away all entries of the process, and adds to the list what they held, by rising value. It looks at the
-/// entries of the process, and for the next row behind them.
+/// places of this process alone.
 fn take_table(step: &mut Step, process: Koid, taken: &mut Vec<Held>) -> Result<(), AllocError>
     ensures ahead { IsAhead step.old step.new }
     ensures handles { OnOk result (taken.new.items ≡ taken.old.items ++ handles_of step.old.current (only process)) }
@@ -80,24 +80,6 @@ fn entry_of(step: &Step, process: Koid, value: HandleValue) -> Option<Held>
 fn next_value(step: &Step, process: Koid, low: u32) -> Option<u32>
     ensures { IsNext step.now.current (λ h. key_variant.Entry process h) low result }
 {
-    match step.after(Some(RowKey::Entry(process, HandleValue(low)))) {
-        Some(key) => value_in(process, key),
-        None => None,
-    }
-}
-
-/// The value in the key, if it is one of an entry of the process.
-fn value_in(process: Koid, key: RowKey) -> Option<u32>
-    ensures { result ≡ value_in process key }
-{
-    match key {
-        RowKey::Entry(owner, value) => {
-            if owner == process {
-                Some(value.0)
-            } else {
-                None
-            }
-        }
-        _ => None,
-    }
+    let value = step.handle_of(process, Some(HandleValue(low)))?;
+    Some(value.0)
 }

@@ -1,5 +1,6 @@
--- The waits by what they are on: what a put makes of their buckets, and the search for the next one.
-use Rattle.std.proofs.Common.{◌≡◌, ◌<◌, ◌≤◌, ◌+◌, ◌-◌, ◌&&◌, arith, ℕ, suc, Bool, true, false, not, cond, List, length, length-set, set, Option, Some, None, refl, sym, ap, ◌∙◌, subst, ◌⊎◌, inl, inr, get_or-set_same, get_or-set_other}
+-- The waits by what they are on, and the live jobs and processes by their parents: what a put makes of their buckets,
+-- and the search for the next one.
+use Rattle.std.proofs.Common.{◌≡◌, ◌<◌, ◌≤◌, ◌+◌, ◌-◌, ◌&&◌, ◌||◌, arith, ℕ, suc, Bool, true, false, not, cond, List, length, length-set, set, Option, Some, None, refl, sym, ap, ◌∙◌, subst, ◌⊎◌, inl, inr, get_or-set_same, get_or-set_other}
 use Rattle.std.specs.Prelude.{◌==◌, if◌then◌else◌, nat_lt}
 use Rattle.std.specs.Option.{option_and_then, option_map, option_map_or}
 use Rattle.std.proofs.lemmas.Bool.{cases_lt, eqb-true, eq-eqb, ltb-true}
@@ -8,9 +9,10 @@ use Rattle.std.proofs.lemmas.List.{get_or_past}
 use Rattle.zt_rows.specs.declared.keys.RowKey.{RowKey}
 use Rattle.zt_rows.specs.declared.keys.RowKey.TheVariants as key
 use Rattle.zt_rows.specs.declared.rows.Held.{Held}
+use Rattle.zt_rows.specs.declared.rows.ObjectRow.{ObjectRow}
 use Rattle.zt_rows.specs.declared.rows.Row.{Row}
 use Rattle.zt_rows.specs.declared.rows.Wait.{Wait}
-use Rattle.zt_rows.specs.Reads.{as_entry, as_wait, entry, wait}
+use Rattle.zt_rows.specs.Reads.{as_entry, as_object, as_wait, entry, is_live_job, is_live_process, object, wait}
 use Rattle.zt_rows.specs.Opening.{hollow}
 use Rattle.zt_rows.specs.State.{State, row, put, nothing}
 use Rattle.zt_rows.proofs.RowLaws.{and_left, and_right}
@@ -23,8 +25,8 @@ use Rattle.zt_store.specs.Places.{fits_row}
 use Rattle.zt_store.specs.Seen.{Shelved, Stored}
 use Rattle.zt_store.specs.Shelves.{Shelves, has_place, no_shelves}
 use Rattle.zt_store.specs.Chains.{IsBehind, IsNext, bucket_at, is_bucket, is_in}
-use Rattle.zt_store.specs.Finding.{is_at, is_for, is_on, names, waits_where}
-use Rattle.zt_store.specs.Indexed.{HasBuckets, IsIndexed, IsRoomy, bucket_for, bucket_of, bucket_on, handle_bucket, held_bucket, index_with, koid_bucket, waits_after}
+use Rattle.zt_store.specs.Finding.{is_at, is_below, is_by, is_for, is_on, names, objects_where, waits_where}
+use Rattle.zt_store.specs.Indexed.{HasBuckets, IsIndexed, IsRoomy, bucket_below, bucket_by, bucket_for, bucket_of, bucket_on, handle_bucket, held_bucket, index_below, index_with, koid_bucket, objects_after, waits_after}
 
 -- ---- puts
 
@@ -44,6 +46,14 @@ entry-other S (key.Msg x y) r out p h = ap as_entry (row-put S (key.Msg x y) r (
 entry-other S (key.Packet x y) r out p h = ap as_entry (row-put S (key.Packet x y) r (key.Entry p h))
 entry-other S (key.Wait n) r out p h = ap as_entry (row-put S (key.Wait n) r (key.Entry p h))
 
+pub object-other : (S : State) (k : RowKey) (r : Option Row) → ((x : ℕ) → k ≡ key.Object x → ⊥) → (y : ℕ) → object (put S k r) y ≡ object S y
+object-other S key.Counters r out y = ap as_object (row-put S key.Counters r (key.Object y))
+object-other S (key.Object x) r out y = absurd (out x refl)
+object-other S (key.Entry p h) r out y = ap as_object (row-put S (key.Entry p h) r (key.Object y))
+object-other S (key.Msg e n) r out y = ap as_object (row-put S (key.Msg e n) r (key.Object y))
+object-other S (key.Packet p n) r out y = ap as_object (row-put S (key.Packet p n) r (key.Object y))
+object-other S (key.Wait n) r out y = ap as_object (row-put S (key.Wait n) r (key.Object y))
+
 -- a wait is in the bucket of the same object where the entries are the same
 same-bucket : (S T : State) → ((p h : ℕ) → entry T p h ≡ entry S p h) → (o : Option Wait) → option_and_then (bucket_of S) o ≡ option_and_then (bucket_of T) o
 same-bucket S T same None = refl
@@ -52,47 +62,72 @@ same-bucket S T same (Some w) = ap (option_map held_bucket) (sym (same w.process
 abbrev pub shelved_put : Shelved → RowKey → Option Row → Shelved
 shelved_put s k r = record { state = put s.state k r; shelves = s.shelves }
 
-pub followed-other : (s : Shelved) (k : RowKey) (r : Option Row) (index : Index) → ((n : ℕ) → k ≡ key.Wait n → ⊥) → ((p h : ℕ) → k ≡ key.Entry p h → ⊥) → IsIndexed s index → IsIndexed (shelved_put s k r) index
-followed-other s k r index no_wait no_entry h = record {
+pub followed-other : (s : Shelved) (k : RowKey) (r : Option Row) (index : Index) → ((n : ℕ) → k ≡ key.Wait n → ⊥) → ((p h : ℕ) → k ≡ key.Entry p h → ⊥) → ((x : ℕ) → k ≡ key.Object x → ⊥) → IsIndexed s index → IsIndexed (shelved_put s k r) index
+followed-other s k r index no_wait no_entry no_object h = record {
   on = λ m. h.on m ∙ ap (option_map bucket_on) (sym (wait-other s.state k r no_wait m));
   to = λ m. h.to m ∙ ap (option_map bucket_for) (sym (wait-other s.state k r no_wait m));
   at = λ m.
       h.at m ∙ ap (option_and_then (bucket_of s.state)) (sym (wait-other s.state k r no_wait m))
       ∙ same-bucket s.state (put s.state k r) (entry-other s.state k r no_entry) (wait (put s.state k r) m);
+  by = λ m. h.by m ∙ ap (option_map bucket_by) (sym (wait-other s.state k r no_wait m));
+  below = λ x. h.below x ∙ ap (option_and_then bucket_below) (sym (object-other s.state k r no_object x));
   roomy = h.roomy;
+  tasks = h.tasks;
 }
 
-bucket-put : (S : State) (n : ℕ) (r : Option Row) (g : Option Wait → Option ℕ) (all : List (Option ℕ)) → n < length all → ((m : ℕ) → bucket_at all m ≡ g (wait S m))
-    → (m : ℕ) → bucket_at (set all n (g (as_wait r))) m ≡ g (wait (put S (key.Wait n) r) m)
-bucket-put S n r g all lt h m = by (m == n) refl
+-- an item's bucket follows its row, where a put under its key is all that changes the rows of such keys
+bucket-put : (S T : State) (key_of : ℕ → RowKey) (n : ℕ) (r : Option Row) (g : Option Row → Option ℕ) (all : List (Option ℕ)) → ((m : ℕ) → row T (key_of m) ≡ cond (m == n) r (row S (key_of m)))
+    → n < length all → ((m : ℕ) → bucket_at all m ≡ g (row S (key_of m))) → (m : ℕ) → bucket_at (set all n (g r)) m ≡ g (row T (key_of m))
+bucket-put S T key_of n r g all there lt h m = at (m == n) refl
   where
-    there : wait (put S (key.Wait n) r) m ≡ as_wait (cond (m == n) r (row S (key.Wait m)))
-    there = ap as_wait (row-put S (key.Wait n) r (key.Wait m))
+    at : (t : Bool) → (m == n) ≡ t → bucket_at (set all n (g r)) m ≡ g (row T (key_of m))
+    at true e =
+        ap (bucket_at (set all n (g r))) (eqb-true m n e) ∙ get_or-set_same all n (g r) None lt
+        ∙ sym (ap g (there m ∙ ap (λ t. cond t r (row S (key_of m))) e))
+    at false e =
+        get_or-set_other all n m (g r) None (λ same. let t : true ≡ false = sym (eq-eqb m n same) ∙ e in cc) ∙ h m
+        ∙ sym (ap g (there m ∙ ap (λ t. cond t r (row S (key_of m))) e))
 
-    by : (t : Bool) → (m == n) ≡ t → bucket_at (set all n (g (as_wait r))) m ≡ g (wait (put S (key.Wait n) r) m)
-    by true e =
-        ap (bucket_at (set all n (g (as_wait r)))) (eqb-true m n e) ∙ get_or-set_same all n (g (as_wait r)) None lt
-        ∙ sym (ap g (there ∙ ap (λ t. as_wait (cond t r (row S (key.Wait m)))) e))
-    by false e =
-        get_or-set_other all n m (g (as_wait r)) None (λ same. let t : true ≡ false = sym (eq-eqb m n same) ∙ e in cc) ∙ h m
-        ∙ sym (ap g (there ∙ ap (λ t. as_wait (cond t r (row S (key.Wait m)))) e))
+wait-put : (S : State) (n : ℕ) (r : Option Row) (g : Option Wait → Option ℕ) (all : List (Option ℕ)) → n < length all → ((m : ℕ) → bucket_at all m ≡ g (wait S m))
+    → (m : ℕ) → bucket_at (set all n (g (as_wait r))) m ≡ g (wait (put S (key.Wait n) r) m)
+wait-put S n r g all lt h = bucket-put S (put S (key.Wait n) r) (λ m. key.Wait m) n r (λ o. g (as_wait o)) all (λ m. row-put S (key.Wait n) r (key.Wait m)) lt h
 
 length-put : {A : Type 0} (all : List A) (n : ℕ) (a : A) (waits : ℕ) → waits ≤ length all → waits ≤ length (set all n a)
 length-put all n a waits h = subst (λ m. waits ≤ m) (sym (length-set all n a)) h
 
 pub followed-wait : (s : Shelved) (n : ℕ) (r : Option Row) (index : Index) → IsRoomy (n + 1) index → IsIndexed s index → IsIndexed (shelved_put s (key.Wait n) r) (index_with s.state index n (as_wait r))
 followed-wait s n r index room h = record {
-  on = bucket-put s.state n r (option_map bucket_on) index.handles (omega (arith, room.on)) h.on;
-  to = bucket-put s.state n r (option_map bucket_for) index.ports (omega (arith, room.to)) h.to;
+  on = wait-put s.state n r (option_map bucket_on) index.handles (omega (arith, room.on)) h.on;
+  to = wait-put s.state n r (option_map bucket_for) index.ports (omega (arith, room.to)) h.to;
   at = λ m.
-      bucket-put s.state n r (option_and_then (bucket_of s.state)) index.objects (omega (arith, room.at)) h.at m
+      wait-put s.state n r (option_and_then (bucket_of s.state)) index.objects (omega (arith, room.at)) h.at m
       ∙ same-bucket s.state (put s.state (key.Wait n) r) (entry-other s.state (key.Wait n) r (λ p g e. cc)) (wait (put s.state (key.Wait n) r) m);
+  by = wait-put s.state n r (option_map bucket_by) index.processes (omega (arith, room.by)) h.by;
+  below = λ x. h.below x ∙ ap (option_and_then bucket_below) (sym (object-other s.state (key.Wait n) r (λ y e. cc) x));
   roomy = record {
     on = length-put index.handles n (option_map bucket_on (as_wait r)) s.shelves.waits h.roomy.on;
     to = length-put index.ports n (option_map bucket_for (as_wait r)) s.shelves.waits h.roomy.to;
     at = length-put index.objects n (option_and_then (bucket_of s.state) (as_wait r)) s.shelves.waits h.roomy.at;
+    by = length-put index.processes n (option_map bucket_by (as_wait r)) s.shelves.waits h.roomy.by;
   };
+  tasks = h.tasks;
 }
+
+pub followed-object : (s : Shelved) (x : ℕ) (r : Option Row) (index : Index) → x < length index.parents → IsIndexed s index → IsIndexed (shelved_put s (key.Object x) r) (index_below index x (as_object r))
+followed-object s x r index lt h = record {
+  on = λ m. h.on m ∙ ap (option_map bucket_on) (sym (same m));
+  to = λ m. h.to m ∙ ap (option_map bucket_for) (sym (same m));
+  at = λ m.
+      h.at m ∙ ap (option_and_then (bucket_of s.state)) (sym (same m))
+      ∙ same-bucket s.state (put s.state (key.Object x) r) (entry-other s.state (key.Object x) r (λ p g e. cc)) (wait (put s.state (key.Object x) r) m);
+  by = λ m. h.by m ∙ ap (option_map bucket_by) (sym (same m));
+  below = bucket-put s.state (put s.state (key.Object x) r) (λ y. key.Object y) x r (λ o. option_and_then bucket_below (as_object o)) index.parents (λ y. row-put s.state (key.Object x) r (key.Object y)) lt h.below;
+  roomy = record { on = h.roomy.on; to = h.roomy.to; at = h.roomy.at; by = h.roomy.by };
+  tasks = length-put index.parents x (option_and_then bucket_below (as_object r)) s.shelves.objects h.tasks;
+}
+  where
+    same : (m : ℕ) → wait (put s.state (key.Object x) r) m ≡ wait s.state m
+    same = wait-other s.state (key.Object x) r (λ n e. cc)
 
 -- ---- an entry that changes
 
@@ -111,32 +146,25 @@ wait-moved : (S : State) (p h : ℕ) (r : Option Row) (o : Option Wait) (old new
 wait-moved S p h r None old new is e = is ∙ e
 wait-moved S p h r (Some w) old new is e = is ∙ entry-moved S p h r w old e
 
-pub followed-entry : (s : Shelved) (p h : ℕ) (r : Option Row) (old new : Index) → IsIndexed s old → new.handles ≡ old.handles → new.ports ≡ old.ports → length new.objects ≡ length old.objects
+pub followed-entry : (s : Shelved) (p h : ℕ) (r : Option Row) (old new : Index) → IsIndexed s old → new.handles ≡ old.handles → new.ports ≡ old.ports → new.processes ≡ old.processes → new.parents ≡ old.parents → length new.objects ≡ length old.objects
     → ((n : ℕ) → bucket_at new.objects n ≡ (if waits_where s.state (is_on p h) n then option_map held_bucket (as_entry r) else bucket_at old.objects n)) → IsIndexed (shelved_put s (key.Entry p h) r) new
-followed-entry s p h r old new is handles ports len moved = record {
+followed-entry s p h r old new is handles ports processes parents len moved = record {
   on = λ m. ap (λ all. bucket_at all m) handles ∙ is.on m ∙ ap (option_map bucket_on) (sym (same m));
   to = λ m. ap (λ all. bucket_at all m) ports ∙ is.to m ∙ ap (option_map bucket_for) (sym (same m));
   at = λ m. wait-moved s.state p h r (wait s.state m) (bucket_at old.objects m) (bucket_at new.objects m) (moved m) (is.at m) ∙ ap (option_and_then (bucket_of (put s.state (key.Entry p h) r))) (sym (same m));
+  by = λ m. ap (λ all. bucket_at all m) processes ∙ is.by m ∙ ap (option_map bucket_by) (sym (same m));
+  below = λ x. ap (λ all. bucket_at all x) parents ∙ is.below x ∙ ap (option_and_then bucket_below) (sym (object-other s.state (key.Entry p h) r (λ y e. cc) x));
   roomy = record {
     on = subst (λ all. s.shelves.waits ≤ length all) (sym handles) is.roomy.on;
     to = subst (λ all. s.shelves.waits ≤ length all) (sym ports) is.roomy.to;
     at = subst (λ n. s.shelves.waits ≤ n) (sym len) is.roomy.at;
+    by = subst (λ all. s.shelves.waits ≤ length all) (sym processes) is.roomy.by;
   };
+  tasks = subst (λ all. s.shelves.objects ≤ length all) (sym parents) is.tasks;
 }
   where
     same : (m : ℕ) → wait (put s.state (key.Entry p h) r) m ≡ wait s.state m
     same = wait-other s.state (key.Entry p h) r (λ n e. cc)
-
--- ---- more room
-
-pub indexed-grown : (s : Shelved) (old new : Index) → ((n : ℕ) → bucket_at new.handles n ≡ bucket_at old.handles n) → ((n : ℕ) → bucket_at new.ports n ≡ bucket_at old.ports n) → ((n : ℕ) → bucket_at new.objects n ≡ bucket_at old.objects n)
-    → length old.handles ≤ length new.handles → length old.ports ≤ length new.ports → length old.objects ≤ length new.objects → IsIndexed s old → IsIndexed s new
-indexed-grown s old new handles ports objects a b d is = record {
-  on = λ n. handles n ∙ is.on n;
-  to = λ n. ports n ∙ is.to n;
-  at = λ n. objects n ∙ is.at n;
-  roomy = record { on = omega (arith, is.roomy.on); to = omega (arith, is.roomy.to); at = omega (arith, is.roomy.at) };
-}
 
 -- ---- the next one
 
@@ -272,7 +300,7 @@ moved-end q b first all low last moved n = moved n ∙ ap (λ t. cond t b (bucke
 
 -- ---- buckets
 
-pub in-map : (g : Option Wait → Option ℕ) (o : Option Wait) (w : Wait) (all : List (Option ℕ)) (n b : ℕ) → o ≡ Some w → bucket_at all n ≡ g o → g (Some w) ≡ Some b → is_in all b n ≡ true
+pub in-map : {A : Type 0} (g : Option A → Option ℕ) (o : Option A) (w : A) (all : List (Option ℕ)) (n b : ℕ) → o ≡ Some w → bucket_at all n ≡ g o → g (Some w) ≡ Some b → is_in all b n ≡ true
 in-map g o w all n b e h is = ap (is_bucket b) (h ∙ ap g e ∙ is) ∙ eq-eqb b b refl
 
 -- ---- what is looked for is in its bucket
@@ -308,6 +336,26 @@ at-bucket s index is x n e = by (wait s.state n) refl e
     by (Some w) there t = in-map (option_and_then (bucket_of s.state)) (wait s.state n) w index.objects n (koid_bucket x) there (is.at n) (same (entry s.state w.process w.handle) t)
     by None there t = cc
 
+pub by-bucket : (s : Shelved) (index : Index) → IsIndexed s index → (p n : ℕ) → waits_where s.state (is_by p) n ≡ true → is_in index.processes (koid_bucket p) n ≡ true
+by-bucket s index is p n e = by (wait s.state n) refl e
+  where
+    by : (o : Option Wait) → wait s.state n ≡ o → option_map_or (is_by p) o false ≡ true → is_in index.processes (koid_bucket p) n ≡ true
+    by (Some w) there t = in-map (option_map bucket_by) (wait s.state n) w index.processes n (koid_bucket p) there (is.by n) (ap (λ y. Some (koid_bucket y)) (eqb-true w.process p t))
+    by None there t = cc
+
+pub below-bucket : (s : Shelved) (index : Index) → IsIndexed s index → (p x : ℕ) → objects_where s.state (is_below p) x ≡ true → is_in index.parents (koid_bucket p) x ≡ true
+below-bucket s index is p x e = by (object s.state x) refl e
+  where
+    same : (o : ObjectRow) → is_below p o ≡ true → bucket_below o ≡ Some (koid_bucket p)
+    same o t =
+        let task : (is_live_job o || is_live_process o) ≡ true = and_left (is_live_job o || is_live_process o) (o.link == p) t in
+        let link : o.link ≡ p = eqb-true o.link p (and_right (is_live_job o || is_live_process o) (o.link == p) t) in
+        ap (λ b. cond b (Some (koid_bucket o.link)) None) task ∙ ap (λ y. Some (koid_bucket y)) link
+
+    by : (o : Option ObjectRow) → object s.state x ≡ o → option_map_or (is_below p) o false ≡ true → is_in index.parents (koid_bucket p) x ≡ true
+    by (Some o) there t = in-map (option_and_then bucket_below) (object s.state x) o index.parents x (koid_bucket p) there (is.below x) (same o t)
+    by None there t = cc
+
 -- each wait has its place among the objects'
 pub on-below : (s : Shelved) (index : Index) → IsIndexed s index → (end : ℕ) → end ≡ s.shelves.waits → ((n : ℕ) → end ≤ n → row s.state (key.Wait n) ≡ None) → (p h n : ℕ) → waits_where s.state (is_on p h) n ≡ true → n < length index.objects
 on-below s index is end places none p h n e = elim (cases_lt n end) [
@@ -317,44 +365,71 @@ on-below s index is end places none p h n e = elim (cases_lt n end) [
 
 -- ---- places
 
-pub indexed-hollow : (index : Index) → length index.handles ≡ 0 → length index.ports ≡ 0 → length index.objects ≡ 0 → IsIndexed (record { state = hollow; shelves = no_shelves }) index
+pub indexed-hollow : (index : Index) → length index.handles ≡ 0 → length index.ports ≡ 0 → length index.objects ≡ 0 → length index.processes ≡ 0 → length index.parents ≡ 0 → IsIndexed (record { state = hollow; shelves = no_shelves }) index
 unfolding hollow
-indexed-hollow index a b d = record {
+indexed-hollow index a b d f g = record {
   on = λ n. get_or_past index.handles n None (omega arith) ∙ sym (ap (option_map bucket_on) (none n));
   to = λ n. get_or_past index.ports n None (omega arith) ∙ sym (ap (option_map bucket_for) (none n));
   at = λ n. get_or_past index.objects n None (omega arith) ∙ sym (ap (option_and_then (bucket_of hollow)) (none n));
-  roomy = record { on = omega arith; to = omega arith; at = omega arith };
+  by = λ n. get_or_past index.processes n None (omega arith) ∙ sym (ap (option_map bucket_by) (none n));
+  below = λ x. get_or_past index.parents x None (omega arith) ∙ sym (ap (option_and_then bucket_below) (no_object x));
+  roomy = record { on = omega arith; to = omega arith; at = omega arith; by = omega arith };
+  tasks = omega arith;
 }
   where
     none : (n : ℕ) → wait hollow n ≡ None
     none n = ap as_wait (row-put nothing key.Counters _ (key.Wait n) ∙ row-nothing (key.Wait n))
 
+    no_object : (x : ℕ) → object hollow x ≡ None
+    no_object x = ap as_object (row-put nothing key.Counters _ (key.Object x) ∙ row-nothing (key.Object x))
+
 pub room-for : (s : Shelved) (n : ℕ) (index : Index) → has_place s.shelves (key.Wait n) ≡ true → IsIndexed s index → IsRoomy (n + 1) index
 unfolding has_place
 room-for s n index h is =
     let lt : n < s.shelves.waits = ltb-true n s.shelves.waits h in
-    record { on = omega (arith, is.roomy.on); to = omega (arith, is.roomy.to); at = omega (arith, is.roomy.at) }
+    record { on = omega (arith, is.roomy.on); to = omega (arith, is.roomy.to); at = omega (arith, is.roomy.at); by = omega (arith, is.roomy.by) }
+
+pub room-below : (s : Shelved) (x : ℕ) (index : Index) → has_place s.shelves (key.Object x) ≡ true → IsIndexed s index → x < length index.parents
+unfolding has_place
+room-below s x index h is =
+    let lt : x < s.shelves.objects = ltb-true x s.shelves.objects h in
+    omega (arith, is.tasks)
 
 roomy-after : (k : RowKey) (waits later : ℕ) (index : Index) → IsRoomy waits index → HasBuckets k index → later ≤ waits_after k waits → IsRoomy later index
-roomy-after (key.Wait n) waits later index room has le = record { on = omega (arith, room.on, has.on); to = omega (arith, room.to, has.to); at = omega (arith, room.at, has.at) }
-roomy-after key.Counters waits later index room has le = record { on = omega (arith, room.on); to = omega (arith, room.to); at = omega (arith, room.at) }
-roomy-after (key.Object x) waits later index room has le = record { on = omega (arith, room.on); to = omega (arith, room.to); at = omega (arith, room.at) }
-roomy-after (key.Entry x y) waits later index room has le = record { on = omega (arith, room.on); to = omega (arith, room.to); at = omega (arith, room.at) }
-roomy-after (key.Msg x y) waits later index room has le = record { on = omega (arith, room.on); to = omega (arith, room.to); at = omega (arith, room.at) }
-roomy-after (key.Packet x y) waits later index room has le = record { on = omega (arith, room.on); to = omega (arith, room.to); at = omega (arith, room.at) }
+roomy-after (key.Wait n) waits later index room has le = record { on = omega (arith, room.on, has.on); to = omega (arith, room.to, has.to); at = omega (arith, room.at, has.at); by = omega (arith, room.by, has.by) }
+roomy-after key.Counters waits later index room has le = record { on = omega (arith, room.on); to = omega (arith, room.to); at = omega (arith, room.at); by = omega (arith, room.by) }
+roomy-after (key.Object x) waits later index room has le = record { on = omega (arith, room.on); to = omega (arith, room.to); at = omega (arith, room.at); by = omega (arith, room.by) }
+roomy-after (key.Entry x y) waits later index room has le = record { on = omega (arith, room.on); to = omega (arith, room.to); at = omega (arith, room.at); by = omega (arith, room.by) }
+roomy-after (key.Msg x y) waits later index room has le = record { on = omega (arith, room.on); to = omega (arith, room.to); at = omega (arith, room.at); by = omega (arith, room.by) }
+roomy-after (key.Packet x y) waits later index room has le = record { on = omega (arith, room.on); to = omega (arith, room.to); at = omega (arith, room.at); by = omega (arith, room.by) }
 
--- more places for waits, as many as there is room for
-pub indexed-made : (k : RowKey) (s t : Shelved) (index : Index) → IsIndexed s index → HasBuckets k index → t.state ≡ s.state → t.shelves.waits ≤ waits_after k s.shelves.waits → IsIndexed t index
-indexed-made k s t index is has same le = record {
+tasks-after : (k : RowKey) (objects later : ℕ) (index : Index) → objects ≤ length index.parents → HasBuckets k index → later ≤ objects_after k objects → later ≤ length index.parents
+tasks-after key.Counters objects later index room has le = omega arith
+tasks-after (key.Object x) objects later index room has le = omega arith
+tasks-after (key.Entry x y) objects later index room has le = omega arith
+tasks-after (key.Msg x y) objects later index room has le = omega arith
+tasks-after (key.Packet x y) objects later index room has le = omega arith
+tasks-after (key.Wait n) objects later index room has le = omega arith
+
+-- more places for waits and for objects, as many as there is room for
+pub indexed-made : (k : RowKey) (s t : Shelved) (index : Index) → IsIndexed s index → HasBuckets k index → t.state ≡ s.state → t.shelves.waits ≤ waits_after k s.shelves.waits → t.shelves.objects ≤ objects_after k s.shelves.objects → IsIndexed t index
+indexed-made k s t index is has same le few = record {
   on = λ n. is.on n ∙ ap (λ (S : State). option_map bucket_on (wait S n)) (sym same);
   to = λ n. is.to n ∙ ap (λ (S : State). option_map bucket_for (wait S n)) (sym same);
   at = λ n. is.at n ∙ ap (λ (S : State). option_and_then (bucket_of S) (wait S n)) (sym same);
+  by = λ n. is.by n ∙ ap (λ (S : State). option_map bucket_by (wait S n)) (sym same);
+  below = λ x. is.below x ∙ ap (λ (S : State). option_and_then bucket_below (object S x)) (sym same);
   roomy = roomy-after k s.shelves.waits t.shelves.waits index is.roomy has le;
+  tasks = tasks-after k s.shelves.objects t.shelves.objects index is.tasks has few;
 }
 
 pub waits-made : (old new : Cabinet) (s : Shelved) (k : RowKey) → record { state = state_in old; shelves = shelves_of old } ≡ s → length new.waits ≤ waits_after k (length old.waits) → (shelves_of new).waits ≤ waits_after k s.shelves.waits
 unfolding shelves_of
 waits-made old new s k seen h = subst (λ (t : Shelved). length new.waits ≤ waits_after k t.shelves.waits) seen h
+
+pub objects-made : (old new : Cabinet) (s : Shelved) (k : RowKey) → record { state = state_in old; shelves = shelves_of old } ≡ s → length new.objects ≤ objects_after k (length old.objects) → (shelves_of new).objects ≤ objects_after k s.shelves.objects
+unfolding shelves_of
+objects-made old new s k seen h = subst (λ (t : Shelved). length new.objects ≤ objects_after k t.shelves.objects) seen h
 
 pub place-there : (s : Stored) (S : State) (p : Shelves) (koids : ℕ) (k : RowKey) (r : Option Row) → record { state = S; places = record { shelves = p; koids = koids } } ≡ s → fits_row s.places k r ≡ true → has_place p k ≡ true
 place-there s S p koids k r seen fit = ap (λ (t : Stored). has_place t.places.shelves k) seen ∙ and_left (has_place s.places.shelves k) (counts_within_if s.places.koids k r) fit

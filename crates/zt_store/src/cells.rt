@@ -5,7 +5,7 @@ ghost use Rattle.zt_rows.specs.declared.keys.RowKey.TheVariants as key_variant;
 ghost use Rattle.zt_rows.specs.Opening.{hollow};
 ghost use Rattle.zt_rows.specs.Room.{SuitsKey};
 ghost use Rattle.zt_rows.specs.State.{row, put};
-ghost use Rattle.zt_store.specs.Indexed.{waits_after};
+ghost use Rattle.zt_store.specs.Indexed.{objects_after, waits_after};
 ghost use Rattle.zt_store.specs.Seen.{Shelved};
 ghost use Rattle.zt_store.specs.Shelves.{has_place, no_shelves};
 ghost use Rattle.zt_store.specs.Walks.{IsFirst};
@@ -102,6 +102,7 @@ impl Cells {
         ensures kept { (k : RowKey) → has_place self.old.shelves k ≡ true → has_place self.new.shelves k ≡ true }
         ensures made { OnOk result (has_place self.new.shelves key ≡ true) }
         ensures waits { self.new.shelves.waits ≤ waits_after key self.old.shelves.waits }
+        ensures objects { self.new.shelves.objects ≤ objects_after key self.old.shelves.objects }
     {
         let (asked, counted) = (key, key);
         let place = place_of(asked);

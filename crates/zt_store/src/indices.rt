@@ -1,22 +1,23 @@
-ghost use Rattle.std.specs.Prelude.{◌≡◌, ◌≤◌, ◌<◌, ◌^◌, ◌+◌, ℕ, true, length, IfOk, OnOk, Option, IfSome, if◌then◌else◌};
-ghost use Rattle.std.specs.Option.{option_and_then, option_map};
-ghost use Rattle.zt_rows.specs.Reads.{as_entry, as_wait, entry};
+ghost use Rattle.std.specs.Prelude.{◌≡◌, ◌≤◌, ◌<◌, ◌^◌, ◌+◌, ◌||◌, ℕ, true, false, length, IfOk, OnOk, Option, IfSome, if◌then◌else◌};
+ghost use Rattle.std.specs.Option.{option_and_then, option_map, option_map_or};
+ghost use Rattle.zt_rows.specs.Reads.{as_entry, as_object, as_wait, entry, is_live_job, is_live_process, object, wait};
 ghost use Rattle.zt_rows.specs.State.{put};
 ghost use Rattle.zt_store.specs.Chains.{IsNext, bucket_at, is_in};
-ghost use Rattle.zt_store.specs.Finding.{is_on, names, waits_where};
-ghost use Rattle.zt_store.specs.Indexed.{HasBuckets, IsIndexed, IsRoomy, bucket_for, bucket_of, bucket_on, handle_bucket, held_bucket, index_in, index_with, is_sought, koid_bucket};
+ghost use Rattle.zt_store.specs.Finding.{is_at, is_below, is_by, is_for, is_on, names, waits_where};
+ghost use Rattle.zt_store.specs.Indexed.{HasBuckets, IsIndexed, IsRoomy, bucket_below, bucket_by, bucket_for, bucket_of, bucket_on, handle_bucket, held_bucket, index_below, index_in, index_with, is_sought, koid_bucket};
 ghost use Rattle.zt_store.specs.Seen.{Shelved};
 ghost use Rattle.zt_store.specs.Shelves.{has_place};
 
 use crate::cells::Cells;
 use crate::chains::{BUCKETS, Chains};
 use std::alloc::{AllocError, Global};
-use zt_rows::{HandleValue, Held, Koid, Row, RowKey, Wait};
+use zt_bits::Kind;
+use zt_rows::{HandleValue, Held, Koid, Life, ObjectRow, Row, RowKey, Wait};
 
-/// From this number on no wait has a place.
+/// From this number on no wait and no object has a place.
 const NUMBERS_END: u64 = 1 << 48;
 
-/// What waits are looked for by.
+/// What waits, or live jobs and processes, are looked for by.
 #[derive(Clone, Copy, Debug)]
 pub(crate) enum Sought {
     /// The process that made them, and its handle.
@@ -25,50 +26,65 @@ pub(crate) enum Sought {
     For(Koid),
     /// The object that their handle names.
     At(Koid),
+    /// The process that made them.
+    By(Koid),
+    /// The parent of the live jobs and processes.
+    Below(Koid),
 }
 
 impl Sought {
-    /// Whether the wait is one of them.
-    fn takes(&self, cells: &Cells, wait: &Wait) -> bool
-        ensures { result ≡ is_sought cells.now.state self.now wait.now }
+    /// Whether what stands under this number is one of them.
+    fn takes(&self, cells: &Cells, number: u64) -> bool
+        ensures { result ≡ is_sought cells.now.state self.now number }
     {
         match *self {
-            Sought::On(process, handle) => wait.process == process && wait.handle == handle,
-            Sought::For(port) => wait.port == port,
-            Sought::At(koid) => is_name(cells, wait.process, wait.handle, koid),
+            Sought::On(process, handle) => is_on(&wait_at(cells, number), process, handle),
+            Sought::For(port) => is_for(&wait_at(cells, number), port),
+            Sought::At(koid) => is_at(cells, &wait_at(cells, number), koid),
+            Sought::By(process) => is_by(&wait_at(cells, number), process),
+            Sought::Below(parent) => is_below(&object_at(cells, Koid(number)), parent),
         }
     }
 }
 
-/// The waits by their handles, by their ports and by the objects that their handles name.
+/// The waits by their handles, by their ports, by the objects that their handles name and by their processes; and the
+/// live jobs and processes by their parents.
 #[derive(Drop)]
 pub(crate) struct Index {
     pub handles: Chains,
     pub ports: Chains,
     pub objects: Chains,
+    pub processes: Chains,
+    pub parents: Chains,
 }
 
 impl Index {
-    /// No waits. It takes no memory.
+    /// No waits and no objects. It takes no memory.
     pub fn new(alloc: Global) -> Index
         ensures handles { length result.handles ≡ 0 }
         ensures ports { length result.ports ≡ 0 }
         ensures objects { length result.objects ≡ 0 }
+        ensures processes { length result.processes ≡ 0 }
+        ensures parents { length result.parents ≡ 0 }
     {
         Index {
             handles: Chains::new(alloc),
             ports: Chains::new(alloc),
             objects: Chains::new(alloc),
+            processes: Chains::new(alloc),
+            parents: Chains::new(alloc),
         }
     }
 
-    /// Makes room for the wait under the key, if it is one of a wait. Numbers from 2^48 on are refused.
+    /// Makes room for the wait or the object under the key, if it is one of those. Numbers and koids from 2^48 on are
+    /// refused.
     pub fn grow_for(&mut self, key: RowKey) -> Result<(), AllocError>
         ensures same { (s : Shelved) → IsIndexed s self.old → IsIndexed s self.new }
         ensures made { OnOk result (HasBuckets key self.new) }
     {
         match key {
             RowKey::Wait(number) => self.grow_to(number),
+            RowKey::Object(koid) => self.grow_below(koid),
             _ => Ok(()),
         }
     }
@@ -84,7 +100,19 @@ impl Index {
         let len = number as usize + 1;
         self.handles.grow(len)?;
         self.ports.grow(len)?;
-        self.objects.grow(len)
+        self.objects.grow(len)?;
+        self.processes.grow(len)
+    }
+
+    /// Makes room for the object of this koid.
+    fn grow_below(&mut self, koid: Koid) -> Result<(), AllocError>
+        ensures same { (s : Shelved) → IsIndexed s self.old → IsIndexed s self.new }
+        ensures made { OnOk result (koid + 1 ≤ length self.new.parents) }
+    {
+        if koid.0 >= NUMBERS_END {
+            return Err(AllocError);
+        }
+        self.parents.grow(koid.0 as usize + 1)
     }
 
     /// Follows the exchange of a row with what stands under the key, ahead of it. It takes no memory. Where an entry
@@ -97,11 +125,13 @@ impl Index {
         match key {
             RowKey::Wait(number) => self.set(cells, number, wait_in(row)),
             RowKey::Entry(process, handle) => self.rename(cells, process, handle, held_in(row)),
+            RowKey::Object(koid) => self.set_below(koid, object_in(row)),
             _ => {}
         }
     }
 
-    /// Puts the wait of this number into the buckets of its handle, of its port and of its object, or into none.
+    /// Puts the wait of this number into the buckets of its handle, of its port, of its object and of its process, or
+    /// into none.
     fn set(&mut self, cells: &Cells, number: u64, wait: Option<Wait>)
         requires { IsRoomy (number + 1) self.old }
         ensures { self.new ≡ index_with cells.now.state self.old number wait }
@@ -109,6 +139,15 @@ impl Index {
         self.handles.set(number, bucket_on(&wait));
         self.ports.set(number, bucket_for(&wait));
         self.objects.set(number, bucket_of(cells, &wait));
+        self.processes.set(number, bucket_by(&wait));
+    }
+
+    /// Puts the object of this koid into the bucket of its parent, if it is a live job or process, or into none.
+    fn set_below(&mut self, koid: Koid, object: Option<ObjectRow>)
+        requires { koid < length self.old.parents }
+        ensures { self.new ≡ index_below self.old koid object }
+    {
+        self.parents.set(koid.0, bucket_below(&object));
     }
 
     /// Puts the waits on the handle into the bucket of the object that it will name, or into none.
@@ -116,6 +155,8 @@ impl Index {
         requires { IsIndexed cells.now self.old }
         ensures handles { self.new.handles ≡ self.old.handles }
         ensures ports { self.new.ports ≡ self.old.ports }
+        ensures processes { self.new.processes ≡ self.old.processes }
+        ensures parents { self.new.parents ≡ self.old.parents }
         ensures moved { (n : ℕ) → bucket_at self.new.objects n
             ≡ (if waits_where cells.now.state (is_on process handle) n then option_map held_bucket held else bucket_at self.old.objects n) }
         ensures objects { length self.new.objects ≡ length self.old.objects }
@@ -140,6 +181,8 @@ impl Index {
             handles: self.handles.copy()?,
             ports: self.ports.copy()?,
             objects: self.objects.copy()?,
+            processes: self.processes.copy()?,
+            parents: self.parents.copy()?,
         })
     }
 }
@@ -147,26 +190,28 @@ impl Index {
 /// An index that a caller drops by one call: who owns a store drops its fields one after another, but an enum's at once.
 #[derive(Drop)]
 pub(crate) enum Indexed {
-    Waits(Index),
+    Whole(Index),
 }
 
 impl Indexed {
-    /// No waits. It takes no memory.
+    /// No waits and no objects. It takes no memory.
     pub fn new(alloc: Global) -> Indexed
         ensures handles { length (index_in result).handles ≡ 0 }
         ensures ports { length (index_in result).ports ≡ 0 }
         ensures objects { length (index_in result).objects ≡ 0 }
+        ensures processes { length (index_in result).processes ≡ 0 }
+        ensures parents { length (index_in result).parents ≡ 0 }
     {
-        Indexed::Waits(Index::new(alloc))
+        Indexed::Whole(Index::new(alloc))
     }
 
-    /// Makes room for the wait under the key, if it is one of a wait.
+    /// Makes room for the wait or the object under the key, if it is one of those.
     pub fn grow_for(&mut self, key: RowKey) -> Result<(), AllocError>
         ensures same { (s : Shelved) → IsIndexed s (index_in self.old) → IsIndexed s (index_in self.new) }
         ensures made { OnOk result (HasBuckets key (index_in self.new)) }
     {
         match self {
-            Indexed::Waits(index) => index.grow_for(key),
+            Indexed::Whole(index) => index.grow_for(key),
         }
     }
 
@@ -177,16 +222,16 @@ impl Indexed {
         ensures { IsIndexed (record { state = put cells.now.state key row.now; shelves = cells.now.shelves }) (index_in self.new) }
     {
         match self {
-            Indexed::Waits(index) => index.follow(cells, key, row),
+            Indexed::Whole(index) => index.follow(cells, key, row),
         }
     }
 
-    /// The waits by their handles, by their ports and by the objects that their handles name.
+    /// The chains of the waits, and those of the live jobs and processes.
     pub fn index(&self) -> &Index
         ensures { result.now ≡ index_in self.now }
     {
         match self {
-            Indexed::Waits(index) => index,
+            Indexed::Whole(index) => index,
         }
     }
 
@@ -195,7 +240,7 @@ impl Indexed {
         ensures { IfOk result (λ copied. copied ≡ self.now) }
     {
         match self {
-            Indexed::Waits(index) => Ok(Indexed::Waits(index.copy()?)),
+            Indexed::Whole(index) => Ok(Indexed::Whole(index.copy()?)),
         }
     }
 }
@@ -235,7 +280,7 @@ pub(crate) fn next_on(
     ensures { IsNext (waits_where cells.now.state (is_on process handle)) low result }
 {
     let waits = handle_bucket(process, handle);
-    next_wait(cells, handles, waits, Sought::On(process, handle), low)
+    next_sought(cells, handles, waits, Sought::On(process, handle), low)
 }
 
 /// The wait that the row is.
@@ -244,6 +289,16 @@ fn wait_in(row: &Option<Row>) -> Option<Wait>
 {
     match row {
         Some(Row::Wait(wait)) => Some(*wait),
+        _ => None,
+    }
+}
+
+/// The object that the row is.
+fn object_in(row: &Option<Row>) -> Option<ObjectRow>
+    ensures { result ≡ as_object row.now }
+{
+    match row {
+        Some(Row::Object(object)) => Some(*object),
         _ => None,
     }
 }
@@ -267,7 +322,8 @@ pub(crate) fn handle_bucket(process: Koid, handle: HandleValue) -> u64
     (process.0 % buckets + u64::from(handle.0 / 4)) % buckets
 }
 
-/// The bucket of waits for the port, and of those at the object.
+/// The bucket of waits for the port, of those at the object, of those of the process, and of the live jobs and processes
+/// below the job.
 pub(crate) fn koid_bucket(koid: Koid) -> u64
     ensures bucket { result ≡ koid_bucket koid }
     ensures few { result < 16384 }
@@ -295,6 +351,35 @@ fn bucket_for(wait: &Option<Wait>) -> Option<u64>
         Some(wait) => Some(koid_bucket(wait.port)),
         None => None,
     }
+}
+
+/// The bucket of the wait's process.
+fn bucket_by(wait: &Option<Wait>) -> Option<u64>
+    ensures bucket { result ≡ option_map bucket_by wait.now }
+    ensures few { IfSome result (λ b. b < 2 ^ 14) }
+{
+    match wait {
+        Some(wait) => Some(koid_bucket(wait.process)),
+        None => None,
+    }
+}
+
+/// The bucket of the object's parent, if it is a live job or process.
+fn bucket_below(object: &Option<ObjectRow>) -> Option<u64>
+    ensures bucket { result ≡ option_and_then bucket_below object.now }
+    ensures few { IfSome result (λ b. b < 2 ^ 14) }
+{
+    match object {
+        Some(object) if is_task(object) => Some(koid_bucket(object.link)),
+        _ => None,
+    }
+}
+
+/// Whether it is a live job or process.
+fn is_task(object: &ObjectRow) -> bool
+    ensures { result ≡ (is_live_job object.now || is_live_process object.now) }
+{
+    object.life == Life::Live && (object.kind == Kind::Job || object.kind == Kind::Process)
 }
 
 /// The bucket of what the wait's handle names.
@@ -339,33 +424,93 @@ fn is_name(cells: &Cells, process: Koid, handle: HandleValue, koid: Koid) -> boo
     }
 }
 
-/// The least number above the low one of a wait that is looked for. All such waits are in the bucket.
-pub(crate) fn next_wait(
+/// The wait of this number.
+fn wait_at(cells: &Cells, number: u64) -> Option<Wait>
+    ensures { result ≡ wait cells.now.state number }
+{
+    match cells.row(RowKey::Wait(number)) {
+        Some(Row::Wait(wait)) => Some(*wait),
+        _ => None,
+    }
+}
+
+/// The object of this koid.
+fn object_at(cells: &Cells, koid: Koid) -> Option<ObjectRow>
+    ensures { result ≡ object cells.now.state koid }
+{
+    match cells.row(RowKey::Object(koid)) {
+        Some(Row::Object(object)) => Some(*object),
+        _ => None,
+    }
+}
+
+/// Whether there is a wait, and the process made it on the handle.
+fn is_on(wait: &Option<Wait>, process: Koid, handle: HandleValue) -> bool
+    ensures { result ≡ option_map_or (is_on process handle) wait.now false }
+{
+    match wait {
+        Some(wait) => wait.process == process && wait.handle == handle,
+        None => false,
+    }
+}
+
+/// Whether there is a wait, and it is for the port.
+fn is_for(wait: &Option<Wait>, port: Koid) -> bool
+    ensures { result ≡ option_map_or (is_for port) wait.now false }
+{
+    match wait {
+        Some(wait) => wait.port == port,
+        None => false,
+    }
+}
+
+/// Whether there is a wait, and its handle names the object.
+fn is_at(cells: &Cells, wait: &Option<Wait>, koid: Koid) -> bool
+    ensures { result ≡ option_map_or (is_at cells.now.state koid) wait.now false }
+{
+    match wait {
+        Some(wait) => is_name(cells, wait.process, wait.handle, koid),
+        None => false,
+    }
+}
+
+/// Whether there is a wait, and the process made it.
+fn is_by(wait: &Option<Wait>, process: Koid) -> bool
+    ensures { result ≡ option_map_or (is_by process) wait.now false }
+{
+    match wait {
+        Some(wait) => wait.process == process,
+        None => false,
+    }
+}
+
+/// Whether there is an object, and it is a live job or process whose parent is the koid.
+fn is_below(object: &Option<ObjectRow>, parent: Koid) -> bool
+    ensures { result ≡ option_map_or (is_below parent) object.now false }
+{
+    match object {
+        Some(object) => is_task(object) && object.link == parent,
+        None => false,
+    }
+}
+
+/// The least number above the low one under which there is what is looked for. All such numbers are in the bucket.
+pub(crate) fn next_sought(
     cells: &Cells,
     chain: &Chains,
     bucket: u64,
     sought: Sought,
     low: Option<u64>,
 ) -> Option<u64>
-    requires { (n : ℕ) → waits_where cells.now.state (is_sought cells.now.state sought) n ≡ true → is_in chain.now bucket n ≡ true }
-    ensures { IsNext (waits_where cells.now.state (is_sought cells.now.state sought)) low result }
+    requires { (n : ℕ) → is_sought cells.now.state sought n ≡ true → is_in chain.now bucket n ≡ true }
+    ensures { IsNext (is_sought cells.now.state sought) low result }
 {
     let mut at = low;
-    'waits: while let Some(number) = chain.after(bucket, at) {
-        if is_there(cells, number, &sought) {
+    'numbers: while let Some(number) = chain.after(bucket, at) {
+        if sought.takes(cells, number) {
             return Some(number);
         }
         at = Some(number);
     }
     None
-}
-
-/// Whether there is a wait of this number, and it is looked for.
-fn is_there(cells: &Cells, number: u64, sought: &Sought) -> bool
-    ensures { result ≡ waits_where cells.now.state (is_sought cells.now.state sought.now) number }
-{
-    match cells.row(RowKey::Wait(number)) {
-        Some(Row::Wait(wait)) => sought.takes(cells, wait),
-        _ => false,
-    }
 }

@@ -10,17 +10,17 @@ ghost use Rattle.zt_rows.specs.State.{row, put};
 ghost use Rattle.zt_rows.specs.Support.{support_count};
 ghost use Rattle.zt_rows.specs.Tests.{count_row};
 ghost use Rattle.zt_store.specs.Chains.{IsNext};
-ghost use Rattle.zt_store.specs.Finding.{is_at, is_for, is_on, waits_where};
+ghost use Rattle.zt_store.specs.Finding.{has_entry, is_at, is_below, is_by, is_for, is_on, objects_where, waits_where};
 ghost use Rattle.zt_store.specs.Numbers.{keeps_itself, keeps_tasks};
 ghost use Rattle.zt_store.specs.Places.{Keeps, fits, fits_row, no_places};
 ghost use Rattle.zt_store.specs.Seen.{Stored, standing};
 ghost use Rattle.zt_store.specs.Walks.{IsFirst};
 
 use crate::cells::Cells;
-use crate::indices::{Indexed, Sought, koid_bucket, next_on, next_wait};
+use crate::indices::{Indexed, Sought, koid_bucket, next_on, next_sought};
 use crate::records::Record;
 use crate::tallies::{Numbers, Tally};
-use crate::walks::{has_room, key_after};
+use crate::walks::{handle_of, has_room, key_after};
 use std::alloc::{AllocError, Global};
 use std::marker::Model;
 use zt_bits::{Kind, Rights, Signals};
@@ -179,7 +179,7 @@ impl Store {
     {
         let bucket = koid_bucket(port);
         let index = self.index.index();
-        next_wait(&self.cells, &index.ports, bucket, Sought::For(port), low)
+        next_sought(&self.cells, &index.ports, bucket, Sought::For(port), low)
     }
 
     /// The least number above the low one, or of all, of a wait on a handle that names the object. It takes no memory,
@@ -189,7 +189,43 @@ impl Store {
     {
         let bucket = koid_bucket(koid);
         let index = self.index.index();
-        next_wait(&self.cells, &index.objects, bucket, Sought::At(koid), low)
+        next_sought(&self.cells, &index.objects, bucket, Sought::At(koid), low)
+    }
+
+    /// The least number above the low one, or of all, of a wait that the process made. It takes no memory, and looks at
+    /// waits that share a bucket with the process alone.
+    pub fn wait_by(&self, process: Koid, low: Option<u64>) -> Option<u64>
+        ensures { IsNext (waits_where self.now.state (is_by process)) low result }
+    {
+        let bucket = koid_bucket(process);
+        let index = self.index.index();
+        next_sought(
+            &self.cells,
+            &index.processes,
+            bucket,
+            Sought::By(process),
+            low,
+        )
+    }
+
+    /// The least koid above the low one, or of all, of a live job or process whose parent is the koid. It takes no
+    /// memory, and looks at live jobs and processes whose parents share a bucket with the koid alone.
+    pub fn task_below(&self, parent: Koid, low: Option<Koid>) -> Option<Koid>
+        ensures { IsNext (objects_where self.now.state (is_below parent)) low result }
+    {
+        let bucket = koid_bucket(parent);
+        let chain = &self.index.index().parents;
+        let low = low.map(|koid| koid.0);
+        let found = next_sought(&self.cells, chain, bucket, Sought::Below(parent), low)?;
+        Some(Koid(found))
+    }
+
+    /// The least value above the low one, or of all, under which the process has an entry. It takes no memory, and looks
+    /// at the places of this process alone.
+    pub fn handle_of(&self, process: Koid, low: Option<HandleValue>) -> Option<HandleValue>
+        ensures { IsNext (has_entry self.now.state process) low result }
+    {
+        handle_of(&self.cells, process, low)
     }
 
     /// The object of the koid. It takes no memory.

@@ -6,6 +6,8 @@ ghost use Rattle.zt_rows.specs.Change.{keys};
 ghost use Rattle.zt_rows.specs.Reads.{counters, object};
 ghost use Rattle.zt_rows.specs.Room.{HasRoom, NextFits, is_above, next_key};
 ghost use Rattle.zt_rows.specs.State.{row};
+ghost use Rattle.zt_store.specs.Chains.{IsBehind, IsNext};
+ghost use Rattle.zt_store.specs.Finding.{has_entry};
 ghost use Rattle.zt_store.specs.KeyColumns.{is_from, key_in, next_column, numbers_end};
 
 use crate::cells::Cells;
@@ -82,6 +84,35 @@ fn stands(cells: &Cells, key: RowKey) -> bool
     ensures { result ≡ is_some (row cells.now.state key) }
 {
     cells.row(key).is_some()
+}
+
+/// The least value above the low one, or of all, under which the process has an entry. It looks at the places of this
+/// process alone.
+pub(crate) fn handle_of(
+    cells: &Cells,
+    process: Koid,
+    low: Option<HandleValue>,
+) -> Option<HandleValue>
+    ensures { IsNext (has_entry cells.now.state process) low result }
+{
+    let from = value_above(low);
+    for value in from..values_end(cells, process) {
+        let handle = HandleValue(value as u32);
+        if stands(cells, RowKey::Entry(process, handle)) {
+            return Some(handle);
+        }
+    }
+    None
+}
+
+/// The least number above the low value, or of all.
+fn value_above(low: Option<HandleValue>) -> u64
+    ensures { (h : ℕ) → (result ≤ h) ↔ IsBehind (λ a b. a < b) low h }
+{
+    match low {
+        Some(low) => u64::from(low.0) + 1,
+        None => 0,
+    }
 }
 
 /// The first key of the column from this number on, which is then the least of all from there on.

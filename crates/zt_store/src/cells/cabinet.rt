@@ -1,7 +1,7 @@
 ghost use Rattle.std.specs.Prelude.{◌≡◌, ◌≤◌, ◌<◌, ◌+◌, ◌^◌, ℕ, true, false, length, IfOk, OnOk, OnErr};
 ghost use Rattle.std.specs.Option.{option_copied};
 ghost use Rattle.zt_store.specs.Cabinets.{cabinet_in, cabinet_of, look, places_in, shelves_of, Exchanged, MadeFor, Widened};
-ghost use Rattle.zt_store.specs.Indexed.{waits_after};
+ghost use Rattle.zt_store.specs.Indexed.{objects_after, waits_after};
 ghost use Rattle.zt_store.specs.Shelves.{has_place, length_at, place_of};
 
 use crate::cells::entries::Entries;
@@ -110,6 +110,7 @@ impl Cabinet {
         requires near { place_of key < 2 ^ 62 }
         ensures widened { Widened self.old self.new }
         ensures waits { length self.new.waits ≤ waits_after key (length self.old.waits) }
+        ensures objects { length self.new.objects ≤ objects_after key (length self.old.objects) }
         ensures ok { OnOk result (MadeFor key self.old self.new) }
         ensures err { OnErr result (places_in self.new ≡ places_in self.old) }
     {
@@ -184,6 +185,7 @@ impl Tables {
         requires near { place_of key < 2 ^ 62 }
         ensures widened { Widened (cabinet_in self.old) (cabinet_in self.new) }
         ensures waits { length (cabinet_in self.new).waits ≤ waits_after key (length (cabinet_in self.old).waits) }
+        ensures objects { length (cabinet_in self.new).objects ≤ objects_after key (length (cabinet_in self.old).objects) }
         ensures ok { OnOk result (MadeFor key (cabinet_in self.old) (cabinet_in self.new)) }
         ensures err { OnErr result (places_in (cabinet_in self.new) ≡ places_in (cabinet_in self.old)) }
     {

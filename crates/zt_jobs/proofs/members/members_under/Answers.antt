@@ -1,50 +1,39 @@
-use Rattle.std.proofs.Common.{◌≡◌, ◌≤◌, ◌<◌, ◌+◌, ◌++◌, ◌∷◌, [], ℕ, List, sym, ap, ◌∙◌, subst, arith}
-use Rattle.zt_rows.specs.Tests.{among}
-use Rattle.zt_jobs.specs.Above.{IsRising, HasMembers, is_child_in}
-use Rattle.zt_jobs.proofs.MemberLaws.{members-start, members-more, members-same, members-all, rising-one, rising-more}
+use Rattle.std.proofs.Common.{◌<◌, ℕ, List, false, cond, ap, ◌∙◌, arith}
+use Rattle.std.specs.BTreeSet.{contains}
+use Rattle.std.specs.BTreeMap.{is_at}
+use Rattle.std.specs.List.{list_any}
+use Rattle.std.specs.Ordering.{nat_cmp}
+use Rattle.zt_jobs.proofs.BelowLaws.{at-same, none-there, not-less}
+use Rattle.zt_jobs.proofs.MemberLaws.{walk-start, walk-end, walk-over, walk-next, later-rising}
 use Rattle.zt_jobs.proofs.members.members_under.Goals as goal
 
-pub objects-init : goal.objects-init
-objects-init c =
-    let v : c.args.job ≡ c.job.inside.0 = sym c.job.view_is in
-    let one : c.push.new.self.items ≡ c.args.job ∷ [] = c.in_ok-push.ensures.items ∙ ap (λ (l : List ℕ). l ++ c.args.job ∷ []) c.new-members.ensures.items in
-    record {
-      from = omega arith;
-      has = subst (λ (l : List ℕ). HasMembers c.args.step.now.current c.args.job (c.job.inside.0 + 1) l) (sym one)
-          (subst (λ n. HasMembers c.args.step.now.current c.args.job (n + 1) (c.args.job ∷ [])) v (members-start c.args.step.now.current c.requires c.args.job));
-      rising = subst IsRising (sym one) (rising-one c.args.job);
-    }
+pub members-init : goal.members-init
+members-init c =
+    walk-start c.args.step.now.current c.requires c.args.job c.new-members.result.items (contains nat_cmp c.new-found.result) c.new-members.ensures.items
+    (λ x. ap (λ (ks : List ℕ). list_any (is_at (nat_cmp x)) ks) c.new-found.ensures.empty)
 
-pub objects-preserved : goal.objects-preserved
-objects-preserved c =
-    let over : c.objects.at < c.in-Some.koid = c.in-Some.ensures.0 in
-    let from : c.args.job ≤ c.objects.at = c.objects.invariant.from in
-    record {
-      from = omega arith;
-      has = members-same c.args.step.now.current c.requires c.args.job c.objects.at c.objects.members.items c.objects.invariant.has c.objects.invariant.from
-          c.in-Some.koid c.in-Some.ensures.0 c.in-Some.ensures.1
-          (ap (λ (l : List ℕ). is_child_in c.args.step.now.current (among l) c.in-Some.koid) (sym c.as_slice.ensures.value) ∙ sym c.is_child_in.ensures ∙ c.if-is_child_in.false);
-      rising = c.objects.invariant.rising;
-    }
+pub members-smaller : goal.members-smaller
+members-smaller c =
+    let over : c.members.at < c.in-Some.next = walk-over c.args.step.now.current c.requires c.args.job c.members.at c.members.members.items c.push.new.self.items
+    (contains nat_cmp c.members.found) (contains nat_cmp c.add_below.new.found) c.members.invariant c.in_ok-push.ensures.items c.in_ok-add_below.ensures
+    (contains nat_cmp c.pop_first.new.self) c.in-Some.next c.in-Some.ensures.member (λ x h. not-less c.in-Some.next x (c.in-Some.ensures.least x h))
+    (λ x. c.in-Some.ensures.updates.0 x ∙ ap (λ b. cond b false (contains nat_cmp c.add_below.new.found x)) (at-same c.in-Some.next x)) in
+    omega arith
 
-pub objects-preserved-in_ok-push-2 : goal.objects-preserved-in_ok-push-2
-objects-preserved-in_ok-push-2 c =
-    let over : c.objects.at < c.in-Some.koid = c.in-Some.ensures.0 in
-    let from : c.args.job ≤ c.objects.at = c.objects.invariant.from in
-    let more : c.push-then-is_child_in.new.self.items ≡ c.objects.members.items ++ c.in-Some.koid ∷ [] = c.in_ok-push-2.ensures.items in
-    record {
-      from = omega arith;
-      has = subst (λ (l : List ℕ). HasMembers c.args.step.now.current c.args.job (c.in-Some.koid + 1) l) (sym more)
-          (members-more c.args.step.now.current c.requires c.args.job c.objects.at c.objects.members.items c.objects.invariant.has c.objects.invariant.from
-          c.in-Some.koid c.in-Some.ensures.0 c.in-Some.ensures.1
-          (ap (λ (l : List ℕ). is_child_in c.args.step.now.current (among l) c.in-Some.koid) (sym c.as_slice.ensures.value) ∙ sym c.is_child_in.ensures ∙ c.if-is_child_in.true));
-      rising = subst IsRising (sym more)
-          (rising-more c.args.step.now.current c.requires c.args.job c.objects.at c.objects.members.items c.objects.invariant.has c.objects.invariant.from
-          c.in-Some.koid c.in-Some.ensures.0 c.in-Some.ensures.1 c.objects.invariant.rising);
-    }
+pub members-preserved : goal.members-preserved
+members-preserved c =
+    walk-next c.args.step.now.current c.requires c.args.job c.members.at c.members.members.items c.push.new.self.items
+    (contains nat_cmp c.members.found) (contains nat_cmp c.add_below.new.found) c.members.invariant c.in_ok-push.ensures.items c.in_ok-add_below.ensures
+    (contains nat_cmp c.pop_first.new.self) c.in-Some.next c.in-Some.ensures.member (λ x h. not-less c.in-Some.next x (c.in-Some.ensures.least x h))
+    (λ x. c.in-Some.ensures.updates.0 x ∙ ap (λ b. cond b false (contains nat_cmp c.add_below.new.found x)) (at-same c.in-Some.next x))
 
-pub returns : goal.returns
-returns c = record {
-  members = members-all c.args.step.now.current c.requires c.args.job c.objects.at c.objects.members.items c.objects.invariant.has c.objects.invariant.from c.in_default.ensures;
-  rising = c.objects.invariant.rising;
-}
+pub returns-in-None-clause-members : goal.returns-in-None-clause-members
+returns-in-None-clause-members c =
+    walk-end c.args.step.now.current c.requires c.args.job c.members.at c.members.members.items c.push.new.self.items
+    (contains nat_cmp c.members.found) (contains nat_cmp c.add_below.new.found) c.members.invariant c.in_ok-push.ensures.items c.in_ok-add_below.ensures
+    (none-there c.add_below.new.found.keys c.in-None.ensures.variant.1)
+
+pub returns-in-None-clause-rising : goal.returns-in-None-clause-rising
+returns-in-None-clause-rising c =
+    later-rising c.args.step.now.current c.requires c.args.job c.members.at c.members.members.items c.push.new.self.items
+    (contains nat_cmp c.members.found) (contains nat_cmp c.add_below.new.found) c.members.invariant c.in_ok-push.ensures.items c.in_ok-add_below.ensures

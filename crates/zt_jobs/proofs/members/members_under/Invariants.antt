@@ -1,13 +1,11 @@
-use Rattle.std.proofs.Common.{◌≤◌, ◌+◌, ◌-◌, ◌^◌}
-use Rattle.zt_jobs.specs.Above.{HasMembers, IsRising}
+use Rattle.std.proofs.Common.{◌-◌, ◌^◌}
+use Rattle.std.specs.BTreeSet.{contains}
+use Rattle.std.specs.Ordering.{nat_cmp}
+use Rattle.zt_jobs.proofs.MemberLaws.{IsWalked}
 use Rattle.zt_jobs.proofs.members.members_under.Given as goal
 
-abbrev pub invariant-objects : goal.invariant-objects
-invariant-objects l = record {
-  from : l.fn.job ≤ l.at;
-  has : HasMembers l.step.current l.fn.job (l.at + 1) l.members.items;
-  rising : IsRising l.members.items;
-}
+abbrev pub invariant-members : goal.invariant-members
+invariant-members l = IsWalked l.step.current l.fn.job l.at l.members.items (contains nat_cmp l.found)
 
-abbrev pub decreases-objects : goal.decreases-objects
-decreases-objects l = 2 ^ 64 - l.at
+abbrev pub decreases-members : goal.decreases-members
+decreases-members l = 2 ^ 64 - l.at

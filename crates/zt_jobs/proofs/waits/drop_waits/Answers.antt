@@ -1,25 +1,26 @@
-use Rattle.std.proofs.Common.{ℕ, Bool, ◌+◌, sym, subst}
-use Rattle.zt_rows.specs.State.{State}
+use Rattle.std.proofs.Common.{◌+◌, ℕ, take, ap, ◌∙◌, refl}
+use Rattle.zt_rows.specs.State.{State, change}
 use Rattle.zt_rows.specs.Tests.{among}
-use Rattle.zt_jobs.proofs.PartLaws.{ahead-then, WaitsSeen, waits-put, waits-past, waits-all}
+use Rattle.zt_jobs.specs.Parts.{only, without_waits}
+use Rattle.zt_jobs.proofs.PartLaws.{ahead-itself, ahead-then, among-item, waits-more, waits-nothing}
 use Rattle.zt_jobs.proofs.waits.drop_waits.Goals as goal
 
-pub waits-preserved : goal.waits-preserved
-waits-preserved c =
-    let S : State = c.args.step.now.current in
-    let ending : ℕ → Bool = among c.args.members.now in
-    record {
-      ahead = ahead-then c.args.step.now c.waits.step c.drop_wait.new.step c.waits.invariant.ahead c.drop_wait.ensures.ahead;
-      seen =
-          waits-past S ending c.drop_wait.new.step.current c.waits.number c.in-Some.next
-          (subst (λ s. WaitsSeen S ending s (c.waits.number + 1)) (sym c.in_ok-drop_wait.ensures.ok) (waits-put S ending c.waits.step.current c.waits.number c.waits.invariant.seen))
-          c.in-Some.ensures;
-    }
+pub loop-koid-init : goal.loop-koid-init
+loop-koid-init c = record {
+  ahead = ahead-itself c.args.step.now;
+  rest = waits-nothing c.args.step.now.current (among (take 0 c.args.members.now)) (λ y. refl);
+}
 
-pub returns-in-None-clause-ok : goal.returns-in-None-clause-ok
-returns-in-None-clause-ok c =
+pub loop-koid-preserved : goal.loop-koid-preserved
+loop-koid-preserved c =
     let S : State = c.args.step.now.current in
-    let ending : ℕ → Bool = among c.args.members.now in
-    waits-all S ending c.drop_wait.new.step.current c.waits.number
-    (subst (λ s. WaitsSeen S ending s (c.waits.number + 1)) (sym c.in_ok-drop_wait.ensures.ok) (waits-put S ending c.waits.step.current c.waits.number c.waits.invariant.seen))
-    c.in-None.ensures
+    let i : ℕ = c.loop-koid.koid-index in
+    let m : ℕ = c.koid-item.result in
+    record {
+      ahead = ahead-then c.args.step.now c.loop-koid.step c.drop_waits_by.new.step c.loop-koid.invariant.ahead c.drop_waits_by.ensures.ahead;
+      rest =
+          c.in_ok-drop_waits_by.ensures.ok
+          ∙ ap (change (without_waits (only m))) c.loop-koid.invariant.rest
+          ∙ waits-more S (among (take i c.args.members.now)) (among (take (i + 1) c.args.members.now)) m
+          (among-item c.args.members.now i m c.loop-koid-test.true c.koid-item.is);
+    }

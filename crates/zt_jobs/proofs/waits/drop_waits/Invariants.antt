@@ -1,14 +1,11 @@
-use Rattle.std.proofs.Common.{◌-◌, ◌^◌}
+use Rattle.std.proofs.Common.{◌≡◌, take}
+use Rattle.zt_rows.specs.State.{change}
 use Rattle.zt_rows.specs.Tests.{among}
-use Rattle.zt_jobs.specs.Parts.{IsAhead}
-use Rattle.zt_jobs.proofs.PartLaws.{WaitsSeen}
+use Rattle.zt_jobs.specs.Parts.{IsAhead, without_waits}
 use Rattle.zt_jobs.proofs.waits.drop_waits.Given as goal
 
-abbrev pub invariant-waits : goal.invariant-waits
-invariant-waits l = record {
+abbrev pub invariant-loop-koid : goal.invariant-loop-koid
+invariant-loop-koid l = record {
   ahead : IsAhead l.fn.step l.step;
-  seen : WaitsSeen l.fn.step.current (among l.members) l.step.current l.number;
+  rest : l.step.current ≡ change (without_waits (among (take l.koid-index l.members))) l.fn.step.current;
 }
-
-abbrev pub decreases-waits : goal.decreases-waits
-decreases-waits l = 2 ^ 64 - l.number

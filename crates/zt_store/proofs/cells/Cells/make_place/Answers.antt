@@ -3,7 +3,7 @@ use Rattle.zt_store.specs.Cabinets.{cabinet_in, shelves_of}
 use Rattle.zt_store.specs.Seen.{Shelved}
 use Rattle.zt_store.specs.Shelves.{has_place}
 use Rattle.zt_store.proofs.CellsLaws.{seen_as, there-place, length_at-few, state-widened, kept-widened}
-use Rattle.zt_store.proofs.IndexLaws.{waits-made}
+use Rattle.zt_store.proofs.IndexLaws.{objects-made, waits-made}
 use Rattle.zt_store.proofs.cells.Cells.make_place.Goals as goal
 
 pub returns-then-place-len-clause-made : goal.returns-then-place-len-clause-made
@@ -43,3 +43,9 @@ returns-in_err-grow-clause-waits c = waits-made (cabinet_in c.self.inside.tables
 
 pub returns-clause-waits : goal.returns-clause-waits
 returns-clause-waits c = waits-made (cabinet_in c.self.inside.tables) (cabinet_in c.grow.new.self) c.args.self.now c.args.key c.self.view_is c.grow.ensures.waits
+
+pub returns-in_err-grow-clause-objects : goal.returns-in_err-grow-clause-objects
+returns-in_err-grow-clause-objects c = objects-made (cabinet_in c.self.inside.tables) (cabinet_in c.grow.new.self) c.args.self.now c.args.key c.self.view_is c.grow.ensures.objects
+
+pub returns-clause-objects : goal.returns-clause-objects
+returns-clause-objects c = objects-made (cabinet_in c.self.inside.tables) (cabinet_in c.grow.new.self) c.args.self.now c.args.key c.self.view_is c.grow.ensures.objects

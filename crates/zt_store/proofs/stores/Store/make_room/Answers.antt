@@ -17,12 +17,12 @@ pub invariant_of-self-in_err-make_place : goal.invariant_of-self-in_err-make_pla
 invariant_of-self-in_err-make_place c = record {
   tallied = subst (λ (S : State). IsTallied S c.self.inside.tally) (sym c.make_place.ensures.state) c.self.invariant.tallied;
   few = subst (λ (S : State). NamesFew S) (sym c.make_place.ensures.state) c.self.invariant.few;
-  indexed = indexed-made c.args.key c.self.inside.cells c.make_place.new.self (index_in c.grow_for.new.self) (c.grow_for.ensures.same c.self.inside.cells c.self.invariant.indexed) c.in_ok-grow_for.ensures.made c.make_place.ensures.state c.make_place.ensures.waits;
+  indexed = indexed-made c.args.key c.self.inside.cells c.make_place.new.self (index_in c.grow_for.new.self) (c.grow_for.ensures.same c.self.inside.cells c.self.invariant.indexed) c.in_ok-grow_for.ensures.made c.make_place.ensures.state c.make_place.ensures.waits c.make_place.ensures.objects;
 }
 
 pub invariant_of-self-2 : goal.invariant_of-self-2
 invariant_of-self-2 c = record {
   tallied = λ x. c.grow_if.ensures.same x ∙ c.self.invariant.tallied x ∙ ap (λ (S : State). numbers_of S x) (sym c.make_place.ensures.state);
   few = subst (λ (S : State). NamesFew S) (sym c.make_place.ensures.state) c.self.invariant.few;
-  indexed = indexed-made c.args.key c.self.inside.cells c.make_place.new.self (index_in c.grow_for.new.self) (c.grow_for.ensures.same c.self.inside.cells c.self.invariant.indexed) c.in_ok-grow_for.ensures.made c.make_place.ensures.state c.make_place.ensures.waits;
+  indexed = indexed-made c.args.key c.self.inside.cells c.make_place.new.self (index_in c.grow_for.new.self) (c.grow_for.ensures.same c.self.inside.cells c.self.invariant.indexed) c.in_ok-grow_for.ensures.made c.make_place.ensures.state c.make_place.ensures.waits c.make_place.ensures.objects;
 }
