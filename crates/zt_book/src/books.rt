@@ -125,8 +125,10 @@ impl Book {
         ensures clients { length self.new.session.clients ≡ length self.old.session.clients }
     {
         let frozen = self.frozen(client)?;
-        let said = self.serve(client, &Command::Pin)?;
-        Ok((said, frozen))
+        match self.serve(client, &Command::Pin) {
+            Ok(said) => Ok((said, frozen)),
+            Err(reason) => Err(reason),
+        }
     }
 
     /// The tree, with a store at one of its moments. It takes no memory.
