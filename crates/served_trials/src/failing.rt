@@ -3,7 +3,7 @@
 use crate::faults::Fault;
 use crate::gates::NoGate;
 use crate::serving::{rows_of, serve};
-use crate::typed::{ANSWERS, LINES, OTHER_LINES, OTHER_ROWS, OTHER_TOLD, line_ends, told};
+use crate::typed::{ANSWERS, OTHER_ROWS, line_ends, lines, other_lines, other_told, told};
 use std::alloc::Global;
 use std::io;
 use std::io::{ErrorKind, Read, Write};
@@ -14,10 +14,14 @@ use zt_console::{End, Served};
 use zt_rows::Refusal;
 
 /// What a client types who goes away in the middle of a line.
-const CUT_LINES: &[u8] = b"1025 event_create\nback 1\n1025 object_sig";
+fn cut_lines() -> &'static [u8] {
+    b"1025 event_create\nback 1\n1025 object_sig"
+}
 
 /// What that client is told.
-const CUT_TOLD: &[u8] = b"1 ok 7\nat 0\nrefused 10 BadLine 6\n";
+fn cut_told() -> &'static [u8] {
+    b"1 ok 7\nat 0\nrefused 10 BadLine 6\n"
+}
 
 /// Moves one byte at a use, and fails once, after so many uses that did not.
 #[derive(Drop)]
@@ -105,7 +109,7 @@ fn serve_beside<R: Threads + Wait + AllocGlobal + Sync>(
     lost: (Reader, Writer),
     left: &Left<'_>,
 ) -> Result<usize, Fault> {
-    let other = ends(rt.alloc(), OTHER_LINES, usize::MAX, usize::MAX);
+    let other = ends(rt.alloc(), other_lines(), usize::MAX, usize::MAX);
     let mut all = Vec::new(rt.alloc());
     all.push(lost)?;
     all.push(other)?;
@@ -121,7 +125,7 @@ fn serve_beside<R: Threads + Wait + AllocGlobal + Sync>(
 fn are_left(log: &Log, served: Vec<Served<Reader, Writer>>, left: &Left<'_>) -> bool {
     let other = Left {
         end: End::Finished,
-        told: OTHER_TOLD,
+        told: other_told(),
         rows: OTHER_ROWS,
     };
     let mut served = served.into_iter();
@@ -135,14 +139,15 @@ fn are_left(log: &Log, served: Vec<Served<Reader, Writer>>, left: &Left<'_>) -> 
 
 /// A client whose reader fails after so many reads. The lines that were read whole are answered, and stand in the log.
 fn read_fails<R: Threads + Wait + AllocGlobal + Sync>(rt: &R, good: usize) -> Result<usize, Fault> {
-    let lines = line_ends(LINES.split_at(good.min(LINES.len())).0);
-    let told = told(rt.alloc(), lines)?;
+    let typed = lines();
+    let whole = line_ends(typed.split_at(good.min(typed.len())).0);
+    let told = told(rt.alloc(), whole)?;
     let left = Left {
         end: End::Stopped(Refusal::ReadFault),
         told: told.as_bytes(),
-        rows: lines,
+        rows: whole,
     };
-    serve_beside(rt, ends(rt.alloc(), LINES, good, usize::MAX), &left)
+    serve_beside(rt, ends(rt.alloc(), typed, good, usize::MAX), &left)
 }
 
 /// A client whose writer fails after so many writes, and who is else told this. The command whose answer could not be
@@ -158,13 +163,13 @@ fn write_fails<R: Threads + Wait + AllocGlobal + Sync>(
         told,
         rows: line_ends(told).saturating_add(1),
     };
-    serve_beside(rt, ends(rt.alloc(), LINES, usize::MAX, good), &left)
+    serve_beside(rt, ends(rt.alloc(), lines(), usize::MAX, good), &left)
 }
 
 /// Clients of whom each is lost at another read, up to the one that would find the end.
 pub fn reads_fail<R: Threads + Wait + AllocGlobal + Sync>(rt: &R) -> Result<usize, Fault> {
     let mut rows = 0usize;
-    for good in 0..=LINES.len() {
+    for good in 0..=lines().len() {
         rows = rows.saturating_add(read_fails(rt, good)?);
     }
     Ok(rows)
@@ -184,12 +189,12 @@ pub fn writes_fail<R: Threads + Wait + AllocGlobal + Sync>(rt: &R) -> Result<usi
 pub fn half_a_line<R: Threads + Wait + AllocGlobal + Sync>(rt: &R) -> Result<usize, Fault> {
     let left = Left {
         end: End::Finished,
-        told: CUT_TOLD,
+        told: cut_told(),
         rows: 2,
     };
     serve_beside(
         rt,
-        ends(rt.alloc(), CUT_LINES, usize::MAX, usize::MAX),
+        ends(rt.alloc(), cut_lines(), usize::MAX, usize::MAX),
         &left,
     )
 }

@@ -12,11 +12,14 @@ use zt_shared::Gate;
 const TURNS: u32 = 1_000_000_000;
 
 /// What a client types: two calls.
-const CALLS: &[u8] = b"1025 event_create\n1025 event_create\n";
+fn calls() -> &'static [u8] {
+    b"1025 event_create\n1025 event_create\n"
+}
 
 /// What a client types: four commands, of which the second is refused, and lines that are none.
-const LINES: &[u8] =
-    b"1025 event_create\n# a comment\n\nbad\npinned show\ngoto 9\ngoto 0\npin\npinned show\n";
+fn lines() -> &'static [u8] {
+    b"1025 event_create\n# a comment\n\nbad\npinned show\ngoto 9\ngoto 0\npin\npinned show\n"
+}
 
 /// Nothing is called around commands.
 pub struct NoGate;
@@ -152,7 +155,7 @@ pub fn second_before_first<R: Threads + Wait + AllocGlobal + Sync>(rt: &R) -> Re
         answered: Flag::new(),
         in_vain: Flag::new(),
     };
-    let rows = rows_of_all(rt, [CALLS, CALLS].as_slice(), &gate)?;
+    let rows = rows_of_all(rt, [calls(), calls()].as_slice(), &gate)?;
     in_time(rows, &gate.in_vain)
 }
 
@@ -163,7 +166,7 @@ pub fn each_for_the_other<R: Threads + Wait + AllocGlobal + Sync>(rt: &R) -> Res
         second: Flag::new(),
         in_vain: Flag::new(),
     };
-    let rows = rows_of_all(rt, [CALLS, CALLS].as_slice(), &gate)?;
+    let rows = rows_of_all(rt, [calls(), calls()].as_slice(), &gate)?;
     in_time(rows, &gate.in_vain)
 }
 
@@ -183,7 +186,7 @@ pub fn around_commands<R: Threads + Wait + AllocGlobal + Sync>(rt: &R) -> Result
         before: Tally::new(),
         after: Tally::new(),
     };
-    let rows = rows_of_all(rt, [LINES].as_slice(), &gate)?;
+    let rows = rows_of_all(rt, [lines()].as_slice(), &gate)?;
     if gate.before.is(4, 8) && gate.after.is(4, 8) {
         Ok(rows)
     } else {

@@ -3,7 +3,7 @@
 use crate::faults::Fault;
 use crate::gates::NoGate;
 use crate::serving::serve;
-use crate::typed::{ANSWERS, LINES, OTHER_LINES, OTHER_TOLD, told};
+use crate::typed::{ANSWERS, lines, other_lines, other_told, told};
 use std::alloc::{AllocError, Global};
 use std::io::{BufRead, BufReader, Read, Write};
 use std::net::{Ipv4Addr, Net, Shutdown, SocketAddr, TcpListener, TcpStream};
@@ -66,15 +66,15 @@ pub fn two_clients<
 >(rt: &R) -> Result<usize, Fault> {
     let alloc = rt.alloc();
     let listener = listen(rt)?;
-    let (near, far) = connect_typed(rt, &listener, LINES)?;
-    let (other_near, other_far) = connect_typed(rt, &listener, OTHER_LINES)?;
+    let (near, far) = connect_typed(rt, &listener, lines())?;
+    let (other_near, other_far) = connect_typed(rt, &listener, other_lines())?;
     let mut ends = Vec::new(alloc);
     ends.push(far)?;
     ends.push(other_far)?;
     let (log, served) = serve(rt, ends, &NoGate)?;
     drop(served);
     let told = told(alloc, ANSWERS.len())?;
-    if is_told(alloc, near, told.as_bytes())? && is_told(alloc, other_near, OTHER_TOLD)? {
+    if is_told(alloc, near, told.as_bytes())? && is_told(alloc, other_near, other_told())? {
         Ok(log.len())
     } else {
         Err(Fault::LeftOtherwise)

@@ -5,17 +5,22 @@ use clap::{Arg, ArgAction, Command, Error, value_parser};
 use std::alloc::Global;
 use std::env;
 
+// No clause tells the texts that these functions give, so that who asks for one is proved without going over its bytes.
+
 /// What the program does.
-const ABOUT: &str = "A time-travel debugger for traces of Zircon's kernel objects.
+fn about() -> &'static str {
+    "A time-travel debugger for traces of Zircon's kernel objects.
 
 It executes system calls of processes on handles and kernel objects by a written
 semantics. Each line of its input is a call, which makes the next moment of the
 history, or a command, which looks at the history or moves in it; each is answered
 at once. So one can go back to the call that leaked a handle, closed a peer or
-killed a job.";
+killed a job."
+}
 
 /// What is said behind the words.
-const EXAMPLES: &str = "Lines, with what they do:
+fn examples() -> &'static str {
+    "Lines, with what they do:
   1025 event_create               process 1025, which is there from the start, makes an event
   1025 handle_close 7             it closes its handle 7
   back 1                          one moment back; `goto 4` goes to moment 4
@@ -31,7 +36,8 @@ Exit statuses:
   2  the words were not accepted, or help was asked for
   3  a file could not be opened
   4  a read failed            5  a write failed
-  6  anything else was refused, as a line of a loaded trace";
+  6  anything else was refused, as a line of a loaded trace"
+}
 
 /// The words that the program was started with.
 #[derive(Drop)]
@@ -114,12 +120,30 @@ fn command<'a>(alloc: Global) -> Result<Command<'a>, Error> {
     Ok(
         Command::new(alloc, "zxtt")
             .version("0.1")
-            .about(ABOUT)
-            .after_help(EXAMPLES)
+            .about(about())
+            .after_help(examples())
             .subcommand_required(true)
             .subcommand(run_command(alloc)?)?
             .subcommand(serve_command(alloc)?)?,
     )
+}
+
+/// The word of the session text that a history begins with.
+fn begin<'a>(alloc: Global) -> Arg<'a> {
+    Arg::new(alloc, "from")
+        .long("from")
+        .value_name("TRACE")
+        .action(ArgAction::Set)
+        .help("Begins with the calls of a session text, on the branch `main`")
+}
+
+/// The word of the session text that a run leaves.
+fn end<'a>(alloc: Global) -> Arg<'a> {
+    Arg::new(alloc, "save")
+        .long("save")
+        .value_name("OUT")
+        .action(ArgAction::Set)
+        .help("Writes the calls on `main` as a session text, once the input has ended")
 }
 
 /// The words behind `run`.
@@ -128,23 +152,13 @@ fn run_command<'a>(alloc: Global) -> Result<Command<'a>, Error> {
         .action(ArgAction::Set)
         .default_value("-")
         .help("The lines; `-` is standard input");
-    let from = Arg::new(alloc, "from")
-        .long("from")
-        .value_name("TRACE")
-        .action(ArgAction::Set)
-        .help("Begins with the calls of a session text, on the branch `main`");
-    let save = Arg::new(alloc, "save")
-        .long("save")
-        .value_name("OUT")
-        .action(ArgAction::Set)
-        .help("Writes the calls on `main` as a session text, once the input has ended");
     Ok(
         Command::new(alloc, "run")
             .about("Answers the lines of a file; without any words the program does this")
-            .after_help(EXAMPLES)
+            .after_help(examples())
             .arg(file)?
-            .arg(from)?
-            .arg(save)?,
+            .arg(begin(alloc))?
+            .arg(end(alloc))?,
     )
 }
 
@@ -164,17 +178,12 @@ fn serve_command<'a>(alloc: Global) -> Result<Command<'a>, Error> {
         .help(
             "How many connections are accepted, 1 to 4; they are the clients 1 to N, in that order",
         );
-    let from = Arg::new(alloc, "from")
-        .long("from")
-        .value_name("TRACE")
-        .action(ArgAction::Set)
-        .help("Begins with the calls of a session text, on the branch `main`");
     Ok(
         Command::new(alloc, "serve")
             .about("Answers the lines of clients that connect to a port, over one history")
-            .after_help(EXAMPLES)
+            .after_help(examples())
             .arg(port)?
             .arg(clients)?
-            .arg(from)?,
+            .arg(begin(alloc))?,
     )
 }

@@ -44,28 +44,33 @@ fn check_taken_back(rt: &(impl Abort + AllocGlobal), lines: &[u8], call: Call) {
     assert!(rt; same, "taken back");
 }
 
-/// The far end of each channel lies in the queue of the next one's.
+/// Three channels, of which the far end of each lies in the queue of the next one's. No clause tells the lines, so that
+/// who asks for them is proved without going over their bytes.
+fn nested_channels() -> &'static [u8] {
+    b"1025 channel_create\n1025 channel_create\n1025 channel_create\n1025 event_create\n1025 channel_write 15 6869 11,31\n1025 channel_write 23 - 19\n"
+}
+
 #[test]
 fn refused_memory_leaves_no_half_a_cascade(rt: HostRuntime) {
-    let lines =
-        b"1025 channel_create\n1025 channel_create\n1025 channel_create\n1025 event_create\n1025 channel_write 15 6869 11,31\n1025 channel_write 23 - 19\n";
     let call = Call::HandleClose {
         handle: HandleValue(27),
     };
-    check_taken_back(&rt, lines, call);
+    check_taken_back(&rt, nested_channels(), call);
 }
 
 /// Ten waits on one event, for three ports.
+fn ten_waits() -> &'static [u8] {
+    b"1025 event_create\n1025 port_create\n1025 port_create\n1025 port_create\n1025 object_wait_async 7 11 1 0x00000008\n1025 object_wait_async 7 15 2 0x00000008\n1025 object_wait_async 7 19 3 0x00000008\n1025 object_wait_async 7 11 4 0x00000008\n1025 object_wait_async 7 15 5 0x00000008\n1025 object_wait_async 7 19 6 0x00000008\n1025 object_wait_async 7 11 7 0x00000008\n1025 object_wait_async 7 15 8 0x00000008\n1025 object_wait_async 7 19 9 0x00000008\n1025 object_wait_async 7 11 10 0x00000008\n"
+}
+
 #[test]
 fn refused_memory_fires_no_wait(rt: HostRuntime) {
-    let lines =
-        b"1025 event_create\n1025 port_create\n1025 port_create\n1025 port_create\n1025 object_wait_async 7 11 1 0x00000008\n1025 object_wait_async 7 15 2 0x00000008\n1025 object_wait_async 7 19 3 0x00000008\n1025 object_wait_async 7 11 4 0x00000008\n1025 object_wait_async 7 15 5 0x00000008\n1025 object_wait_async 7 19 6 0x00000008\n1025 object_wait_async 7 11 7 0x00000008\n1025 object_wait_async 7 15 8 0x00000008\n1025 object_wait_async 7 19 9 0x00000008\n1025 object_wait_async 7 11 10 0x00000008\n";
     let call = Call::ObjectSignal {
         handle: HandleValue(7),
         clear: Signals(0),
         set: Signals(0x8),
     };
-    check_taken_back(&rt, lines, call);
+    check_taken_back(&rt, ten_waits(), call);
 }
 
 /// A process under the job of handle 7, with an event, a port and a wait of its own.

@@ -9,11 +9,15 @@ use std::test::Fail;
 use zt_console::{Book, Counted, End, run};
 use zt_rows::Refusal;
 
-const ASKED: &[u8] =
-    b"1025 event_create\n1025 object_signal 7 0x00000000 0x00000008\nback 1\nshow\n";
+/// Two calls and two commands. No clause tells them, so that who asks for them is proved without going over their bytes.
+fn asked() -> &'static [u8] {
+    b"1025 event_create\n1025 object_signal 7 0x00000000 0x00000008\nback 1\nshow\n"
+}
 
-const TOLD: &[u8] =
-    b"1 ok 7\n2 ok\nat 1\nrows 1 6\ncounters 1027 0\nobject 1024 job 0x00000010 0 live 0\nobject 1025 process 0x00000000 1024 live 2\nobject 1026 event 0x00000000 0 live 0\nentry 1025 3 1024 0x0003d203\nentry 1025 7 1026 0x0000d003\n";
+/// What they are told.
+fn answers() -> &'static [u8] {
+    b"1 ok 7\n2 ok\nat 1\nrows 1 6\ncounters 1027 0\nobject 1024 job 0x00000010 0 live 0\nobject 1025 process 0x00000000 1024 live 2\nobject 1026 event 0x00000000 0 live 0\nentry 1025 3 1024 0x0003d203\nentry 1025 7 1026 0x0000d003\n"
+}
 
 /// Moves one byte in a turn, and fails once, after so many turns that did not.
 #[derive(Drop)]
@@ -105,35 +109,38 @@ fn behind(text: &[u8], feeds: usize) -> &[u8] {
 /// The lines that were read whole are answered, and a run over the others goes on from there.
 fn check_failed_read(rt: &(impl Abort + AllocGlobal), good: usize) -> Result<(), Fail> {
     let alloc = rt.alloc();
+    let lines = asked();
     let book = Book::new(alloc, 1)?;
     let reader = Turns {
-        inner: ASKED,
+        inner: lines,
         good: good as u64,
     };
     let (book, end, told) = talk(alloc, book, reader, Vec::new(alloc));
     assert!(rt; end == End::Stopped(Refusal::ReadFault));
-    let whole = feeds(ASKED.split_at(good.min(ASKED.len())).0);
-    let (_, end, told) = talk(alloc, book, behind(ASKED, whole), told);
+    let whole = feeds(lines.split_at(good.min(lines.len())).0);
+    let (_, end, told) = talk(alloc, book, behind(lines, whole), told);
     assert!(rt; end == End::Finished);
-    assert!(rt; told.as_slice() == TOLD);
+    assert!(rt; told.as_slice() == answers());
     Ok(())
 }
 
 #[test]
 fn each_read_fails_once(rt: HostRuntime) -> Result<(), Fail> {
-    for good in 0..ASKED.len() {
+    let len = asked().len();
+    for good in 0..len {
         check_failed_read(&rt, good)?;
     }
-    check_failed_read(&rt, ASKED.len())
+    check_failed_read(&rt, len)
 }
 
 /// The lines come byte by byte, so that each is answered before the next is read. What was written is a prefix, and a run
 /// over the lines that were not served goes on behind them.
 fn check_failed_write(rt: &(impl Abort + AllocGlobal), good: usize) -> Result<(), Fail> {
     let alloc = rt.alloc();
+    let (lines, answers) = (asked(), answers());
     let book = Book::new(alloc, 1)?;
     let reader = Turns {
-        inner: ASKED,
+        inner: lines,
         good: u64::MAX,
     };
     let writer = Turns {
@@ -142,16 +149,16 @@ fn check_failed_write(rt: &(impl Abort + AllocGlobal), good: usize) -> Result<()
     };
     let (book, end, writer) = talk(alloc, book, reader, writer);
     assert!(rt; end == End::Stopped(Refusal::WriteFault));
-    let told = TOLD.split_at(good.min(TOLD.len())).0;
+    let told = answers.split_at(good.min(answers.len())).0;
     assert!(rt; writer.inner.as_slice() == told);
     let served = feeds(told) + 1;
-    let asked = behind(ASKED, served);
-    let (_, end, told) = talk(alloc, book, asked, Vec::new(alloc));
+    let left = behind(lines, served);
+    let (_, end, told) = talk(alloc, book, left, Vec::new(alloc));
     assert!(rt; end == End::Finished);
-    let wanted = if asked.is_empty() {
+    let wanted = if left.is_empty() {
         &[]
     } else {
-        behind(TOLD, served)
+        behind(answers, served)
     };
     assert!(rt; told.as_slice() == wanted);
     Ok(())
@@ -159,7 +166,7 @@ fn check_failed_write(rt: &(impl Abort + AllocGlobal), good: usize) -> Result<()
 
 #[test]
 fn each_write_fails_once(rt: HostRuntime) -> Result<(), Fail> {
-    for good in 0..TOLD.len() {
+    for good in 0..answers().len() {
         check_failed_write(&rt, good)?;
     }
     Ok(())
