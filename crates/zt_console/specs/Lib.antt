@@ -5,3 +5,4 @@ pub mod Running
 pub mod Feeding
 pub mod Sessions
 pub mod Places
+pub mod Loading

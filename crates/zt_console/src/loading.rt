@@ -3,16 +3,18 @@ ghost use Rattle.zt_rows.specs.declared.calls.Call.{Call};
 ghost use Rattle.zt_history.specs.Tree.{Tree};
 ghost use Rattle.zt_book.specs.Log.{book_over, loaded};
 ghost use Rattle.zt_text.specs.Session.{session_of};
+ghost use Rattle.zt_console.specs.Loading.{at_line, IsNotLoaded};
 
 use std::alloc::Global;
 use zt_book::Book;
 use zt_rows::Refusal;
-use zt_text::read_session;
+use zt_text::{line_of_call, read_session};
 
 /// The book of so many clients over the calls of a session text. The number with a refusal is that of the line at fault,
 /// counted from 1, skipped lines too, or 0 where no line is at fault.
 pub fn load_text(alloc: Global, clients: u8, text: &[u8]) -> Result<Book, (u64, Refusal)>
     ensures ok { IfOk result (λ book. (calls : List (ℕ × Call)) × (tree : Tree) × (session_of text.now ≡ Ok calls) × (loaded calls ≡ Ok tree) × (book ≡ book_over tree clients)) }
+    ensures refused { IfErr result (IsNotLoaded clients text.now) }
     ensures few { OnOk result (clients ≤ 4) }
 {
     let calls = match read_session(alloc, text) {
@@ -27,32 +29,12 @@ pub fn load_text(alloc: Global, clients: u8, text: &[u8]) -> Result<Book, (u64, 
 
 /// The fault at the number of a call, from 0, at the number of its line. Want of memory is no line's fault, nor are too
 /// many clients.
-fn at_line(text: &[u8], fault: (u64, Refusal)) -> (u64, Refusal) {
+fn at_line(text: &[u8], fault: (u64, Refusal)) -> (u64, Refusal)
+    ensures { result ≡ at_line text.now fault }
+{
     let (number, refusal) = fault;
     match refusal {
         Refusal::OutOfMemory | Refusal::TooManyClients => (0, refusal),
         _ => (line_of_call(text, number), refusal),
     }
-}
-
-/// The line of the call with this number, counted from 0, in a session text that reads: skipped lines count as lines,
-/// and not as calls.
-fn line_of_call(text: &[u8], number: u64) -> u64 {
-    let mut line = 0u64;
-    let mut calls = 0u64;
-    for bytes in text.split(|byte| *byte == b'\n') {
-        line = line.saturating_add(1);
-        if line > 1 && !is_skipped(bytes) {
-            if calls == number {
-                return line;
-            }
-            calls = calls.saturating_add(1);
-        }
-    }
-    0
-}
-
-/// Whether a line behind the first is skipped.
-fn is_skipped(line: &[u8]) -> bool {
-    matches!(line, [] | [b'#', ..])
 }

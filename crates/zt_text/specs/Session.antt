@@ -1,5 +1,5 @@
 -- What a session text reads as: its first line, then the line of each call.
-use Rattle.std.specs.Prelude.{◌≡◌, ◌⊎◌, ℕ, ◌+◌, Bool, true, false, ◌&&◌, nat_lt, List, [], ◌∷◌, ◌++◌, length, Option, is_some, Some, None, Result, Ok, Err, is_ok, if◌then◌else◌, codes}
+use Rattle.std.specs.Prelude.{◌≡◌, ◌⊎◌, ◌==◌, ℕ, ◌+◌, ◌-◌, Bool, true, false, ◌&&◌, nat_lt, List, [], ◌∷◌, ◌++◌, length, Option, is_some, Some, None, Result, Ok, Err, is_ok, if◌then◌else◌, codes}
 use Rattle.std.specs.Str.{bytes_eq}
 use Rattle.zt_rows.specs.declared.refusals.Refusal.{Refusal}
 use Rattle.zt_rows.specs.declared.refusals.Refusal.TheVariants.{BadLine, LineTooLong, OutOfMemory}
@@ -7,7 +7,7 @@ use Rattle.zt_rows.specs.declared.calls.Call.{Call}
 use Rattle.zt_text.specs.Fields.{◌>>=◌}
 use Rattle.zt_text.specs.Lines.{lines_of}
 use Rattle.zt_text.specs.ReadingCalls.{process_call}
-use Rattle.zt_text.specs.Reading.{most_line_bytes, fields_in, each_by}
+use Rattle.zt_text.specs.Reading.{most_line_bytes, is_skipped, fields_in, each_by}
 
 -- the call of a line behind the first; nothing, where the line is skipped
 unfoldable pub call_in : List ℕ → Result (Option (ℕ × Call)) Refusal
@@ -53,6 +53,25 @@ calls_of_lines (first ∷ lines) = do
 -- the calls of a session text, or its first fault from above with the number of its line
 unfoldable pub session_of : List ℕ → Result (List (ℕ × Call)) (ℕ × Refusal)
 session_of text = calls_of_lines (lines_of text)
+
+-- ---- the line of a call
+
+-- the number of the line of this call, counted from 0, among lines of which the first has the number `line`; skipped
+-- lines are counted as lines, and not as calls; 0, where there are not so many calls
+abbrev pub line_of_call_in : ℕ → ℕ → List (List ℕ) → ℕ
+line_of_call_in line call [] = 0
+line_of_call_in line call (first ∷ lines) =
+    if is_skipped first then line_of_call_in (line + 1) call lines
+    else (if call == 0 then line else line_of_call_in (line + 1) (call - 1) lines)
+
+-- so it is behind the first line
+abbrev pub line_of_call_behind : ℕ → List (List ℕ) → ℕ
+line_of_call_behind call [] = 0
+line_of_call_behind call (first ∷ lines) = line_of_call_in 2 call lines
+
+-- the number of the line of this call of a session text, whose first line has the number 1
+abbrev pub line_of_call : List ℕ → ℕ → ℕ
+line_of_call text call = line_of_call_behind call (lines_of text)
 
 -- ---- memory
 

@@ -21,4 +21,4 @@ pub use answers::print_answer;
 pub use calls::{print_call, print_session};
 pub use printing::{print_refusal, print_reply, print_rows};
 pub use reading::{Line, read_line};
-pub use session::read_session;
+pub use session::{line_of_call, read_session};

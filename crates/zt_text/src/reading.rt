@@ -1,5 +1,5 @@
 ghost use Rattle.std.specs.Prelude.{◌≡◌, IfOk, IfErr};
-ghost use Rattle.zt_text.specs.Reading.{IsUnread, takes_memory, asked_takes_memory, line_takes_memory, fields_in, read_as, asked_by, word_named, pinned, pinned_named, pinned_show, pinned_holders, pinned_leaks, command_named, plain_command_named, question_named, goto, back, only_name, branch, follow, show, holders, leaks, when, pin};
+ghost use Rattle.zt_text.specs.Reading.{IsUnread, takes_memory, asked_takes_memory, line_takes_memory, is_skipped, fields_in, read_as, asked_by, word_named, pinned, pinned_named, pinned_show, pinned_holders, pinned_leaks, command_named, plain_command_named, question_named, goto, back, only_name, branch, follow, show, holders, leaks, when, pin};
 
 use crate::fields::{Field, Fields};
 use crate::names::Name;
@@ -44,10 +44,18 @@ pub fn fields_in(line: &[u8]) -> Result<Option<Fields<'_>>, Refusal>
     if line.len() > LINE_BYTES {
         return Err(Refusal::LineTooLong);
     }
-    match line {
-        [] | [b'#', ..] => Ok(None),
-        _ => Ok(Some(Fields::new(line))),
+    if is_skipped(line) {
+        Ok(None)
+    } else {
+        Ok(Some(Fields::new(line)))
     }
+}
+
+/// An empty line, and one that begins with `#`.
+pub(crate) fn is_skipped(line: &[u8]) -> bool
+    ensures { result ≡ is_skipped line.now }
+{
+    matches!(line, [] | [b'#', ..])
 }
 
 /// A line that begins with a number is a call of that process.

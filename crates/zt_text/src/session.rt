@@ -2,11 +2,11 @@ ghost use Rattle.std.specs.Prelude.{◌≡◌, ◌∷◌, ◌<◌, true, length,
 ghost use Rattle.zt_text.specs.Lines.{lines_of};
 ghost use Rattle.zt_text.specs.Reading.{IsUnread};
 ghost use Rattle.zt_text.specs.ReadingCalls.{process_call};
-ghost use Rattle.zt_text.specs.Session.{call_in, fault_at, first_line, calls_in, has_call, session_of, session_has_call, IsFaultOf, IsTaken, IsNotTaken};
+ghost use Rattle.zt_text.specs.Session.{call_in, fault_at, first_line, calls_in, has_call, session_of, session_has_call, line_of_call, line_of_call_in, IsFaultOf, IsTaken, IsNotTaken};
 
 use crate::cutting::cut;
 use crate::fields::Fields;
-use crate::reading::{LINE_BYTES, fields_in};
+use crate::reading::{LINE_BYTES, fields_in, is_skipped};
 use crate::reading_calls::call;
 use std::alloc::Global;
 use zt_rows::{Call, Koid, Refusal};
@@ -124,4 +124,37 @@ fn process_call(alloc: Global, fields: Fields<'_>) -> Result<(Koid, Call), Refus
 {
     let (process, rest) = fields.koid()?;
     Ok((process, call(alloc, rest)?))
+}
+
+/// The line of the call with this number, counted from 0, in a session text that reads: lines are counted from 1, and
+/// skipped ones too. It is 0 where there are not so many calls. It takes no memory.
+pub fn line_of_call(text: &[u8], call: u64) -> u64
+    ensures { result ≡ line_of_call text.now call }
+{
+    if text.is_empty() {
+        return 0;
+    }
+    let (_, calls) = next_line(text);
+    line_of_call_in(calls, call)
+}
+
+/// As `line_of_call`, in the lines behind the first.
+fn line_of_call_in(text: &[u8], call: u64) -> u64
+    ensures { result ≡ line_of_call_in 2 call (lines_of text.now) }
+{
+    let mut left = text;
+    let mut line = 2;
+    let mut before = call;
+    while !left.is_empty() {
+        let (bytes, others) = next_line(left);
+        if !is_skipped(bytes) {
+            if before == 0 {
+                return line;
+            }
+            before -= 1;
+        }
+        left = others;
+        line += 1;
+    }
+    0
 }
