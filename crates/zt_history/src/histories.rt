@@ -33,13 +33,26 @@ pub(crate) enum Undo {
 
 /// The tree of moments, with a store at one of them, the position. Each moment has the record by which the store goes
 /// over the call that made it: back where the moment is on the path to the position, and forth where it is not.
-#[derive(Drop)]
 pub struct History {
     pub(crate) store: Store,
     pub(crate) moments: Moments,
     pub(crate) branches: Branches,
     pub(crate) position: Moment,
     pub(crate) undo: Undo,
+}
+
+/// Lets all parts go in one call, so that a function that owns a history is proved without going through them at each of
+/// its ways out.
+impl Drop for History {
+    fn drop(self) {
+        let History {
+            store: _store,
+            moments: _moments,
+            branches: _branches,
+            position: _position,
+            undo: _undo,
+        } = self;
+    }
 }
 
 impl Model for History {

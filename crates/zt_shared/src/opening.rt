@@ -22,7 +22,6 @@ use zt_rows::{Call, Items, Koid, Moment, Refusal};
 
 /// What a shared book is made of, before any type names it: an empty base cell, and an account without rows for each
 /// of the four clients, also those beyond the number of clients.
-#[derive(Drop)]
 pub struct Blanks {
     clients: u8,
     base: OnceBox<Calls>,
@@ -30,6 +29,21 @@ pub struct Blanks {
     second: Blank<Said>,
     third: Blank<Said>,
     fourth: Blank<Said>,
+}
+
+/// Lets all parts go in one call, so that a function that owns blanks is proved without going through them at each of its
+/// ways out.
+impl Drop for Blanks {
+    fn drop(self) {
+        let Blanks {
+            clients: _clients,
+            base: _base,
+            first: _first,
+            second: _second,
+            third: _third,
+            fourth: _fourth,
+        } = self;
+    }
 }
 
 impl Model for Blanks {
@@ -119,12 +133,48 @@ pub fn open_book<A: Naming + Beginning, B: Naming, C: Naming, D: Naming>(
     ensures passes { IfOk result (λ opened. opened.1.items ≡ first_parts blanks.clients book.session) }
     ensures refused { IfErr result (λ back. (back.0 ≡ book) × (back.1 ≡ refusal.OutOfMemory)) }
 {
-    let Ok(mut passes) = Vec::with_capacity(alloc, CLIENTS as usize) else {
-        return Err((book, Refusal::OutOfMemory));
+    match set_out(alloc, &blanks, book.history()) {
+        Ok((passes, told)) => Ok(hand_over(alloc, blanks, book, passes, told)),
+        Err(_) => Err((book, Refusal::OutOfMemory)),
+    }
+}
+
+/// Room for the passes, and a note of the base cell, in which the calls of the history stand from now on.
+fn set_out<A: Naming + Beginning, B: Naming, C: Naming, D: Naming>(
+    alloc: Global,
+    blanks: &Blanks,
+    history: &History,
+) -> Result<(Vec<Pass<A, B, C, D>>, Note<Calls>), Refused>
+    ensures passes { IfOk result (λ set. (set.0.items ≡ []) × (4 ≤ vec_capacity set.0)) }
+    ensures told { IfOk result (λ set. (set.1.cell ≡ blanks.now.base) × (set.1.known ≡ Some (calls_in history.now.tree))) }
+{
+    let Ok(passes) = Vec::with_capacity(alloc, CLIENTS as usize) else {
+        return Err(Refused);
     };
-    let Ok(mut told) = note_base(alloc, &blanks.base, book.history()) else {
-        return Err((book, Refusal::OutOfMemory));
-    };
+    match note_base(alloc, &blanks.base, history) {
+        Ok(told) => Ok((passes, told)),
+        Err(refused) => Err(refused),
+    }
+}
+
+/// The book with the lock's sides of the accounts under the lock, and a pass for each client. It takes no memory.
+fn hand_over<A: Naming + Beginning, B: Naming, C: Naming, D: Naming>(
+    alloc: Global,
+    blanks: Blanks,
+    book: Book,
+    mut passes: Vec<Pass<A, B, C, D>>,
+    mut told: Note<Calls>,
+) -> (Shared<A, B, C, D>, Vec<Pass<A, B, C, D>>)
+    requires base { (blanks.base ≡ A.base) × (blanks.clients ≡ A.clients) }
+    requires first { IsNamed A.name A.parts A.cells blanks.first }
+    requires second { IsNamed B.name B.parts B.cells blanks.second }
+    requires third { IsNamed C.name C.parts C.cells blanks.third }
+    requires fourth { IsNamed D.name D.parts D.cells blanks.fourth }
+    requires fresh { IsFresh blanks.clients book }
+    requires empty { (passes.items ≡ []) × (4 ≤ vec_capacity passes) }
+    requires told { (told.cell ≡ blanks.base) × (told.known ≡ Some (calls_in book.session.tree)) }
+    ensures { result.1.items ≡ first_parts blanks.clients book.session }
+{
     let Blanks {
         clients,
         base,
@@ -152,7 +202,7 @@ pub fn open_book<A: Naming + Beginning, B: Naming, C: Naming, D: Naming>(
         alloc,
     };
     let lock = Mutex::new(desk);
-    Ok((Shared { lock }, passes))
+    (Shared { lock }, passes)
 }
 
 /// Puts the pass of a client behind the others, where there are so many clients.
@@ -220,10 +270,16 @@ fn push_call(
     ensures { OnOk result (calls.new.items ≡ calls.old.items ++ filter_map (call_at history.now.tree.made) (moment ∷ [])) }
 {
     match history.call_of(moment) {
-        Some((process, call)) => {
-            calls.push((process, call.copy()?))?;
-            Ok(())
-        }
+        Some((process, call)) => push_copy(calls, process, call),
         None => Ok(()),
     }
+}
+
+/// Puts an equal call of the process behind the others.
+fn push_copy(calls: &mut Vec<(Koid, Call)>, process: Koid, call: &Call) -> Result<(), AllocError>
+    ensures { OnOk result (calls.new.items ≡ calls.old.items ++ (process, call.now) ∷ []) }
+{
+    let call = call.copy()?;
+    calls.push((process, call))?;
+    Ok(())
 }

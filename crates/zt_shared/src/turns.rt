@@ -26,22 +26,46 @@ fn enter<N: Naming>(
     ensures mine { OnOk result (mine.new ≡ mine.old ++ (asked, said.now) ∷ []) }
     ensures unchanged { OnErr result ((ours.new ≡ ours.old) × (mine.new ≡ mine.old)) }
 {
-    let Ok(answered) = said.copy() else {
-        return Err(Refused);
-    };
-    let Ok(shown) = shown(alloc, &asked, said) else {
-        return Err(Refused);
-    };
-    ours.add(mine, shown, (asked, answered))
+    match row(alloc, asked, said) {
+        Ok((shown, row)) => ours.add(mine, shown, row),
+        Err(_) => Err(Refused),
+    }
+}
+
+/// A command with its answer as a row, and an equal one as a cell shows it.
+fn row(alloc: Global, asked: Command, said: &Answer) -> Result<(Box<Said>, Said), AllocError>
+    ensures shown { IfOk result (λ rows. rows.0.value ≡ (asked, said.now)) }
+    ensures row { IfOk result (λ rows. rows.1 ≡ (asked, said.now)) }
+{
+    let shown = shown(alloc, &asked, said)?;
+    let row = answered(asked, said)?;
+    Ok((shown, row))
 }
 
 /// A command with its answer, as a cell shows them.
 fn shown(alloc: Global, asked: &Command, said: &Answer) -> Result<Box<Said>, AllocError>
     ensures { IfOk result (λ shown. shown.value ≡ (asked.now, said.now)) }
 {
+    let row = copied(asked, said)?;
+    Ok(Box::new(alloc, row)?)
+}
+
+/// An equal command with an equal answer.
+fn copied(asked: &Command, said: &Answer) -> Result<Said, AllocError>
+    ensures { IfOk result (λ row. row ≡ (asked.now, said.now)) }
+{
     let asked = asked.copy()?;
-    let said = said.copy()?;
-    Ok(Box::new(alloc, (asked, said))?)
+    answered(asked, said)
+}
+
+/// The command with an equal answer.
+fn answered(asked: Command, said: &Answer) -> Result<Said, AllocError>
+    ensures { IfOk result (λ row. row ≡ (asked, said.now)) }
+{
+    match said.copy() {
+        Ok(said) => Ok((asked, said)),
+        Err(error) => Err(error),
+    }
 }
 
 /// A client's command, which is answered by the book and put into both sides of its account, or refused, where

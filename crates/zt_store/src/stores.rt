@@ -29,12 +29,55 @@ use zt_rows::{Counters, HandleValue, Held, Koid, Life, ObjectRow, Row, RowKey};
 /// The koid of the root job, which keeps itself.
 const ROOT_JOB: Koid = Koid(1024);
 
+/// The koid of the first process.
+const FIRST_KOID: Koid = Koid(1025);
+
+/// The handle that the first process has.
+const FIRST_HANDLE: HandleValue = HandleValue(3);
+
+const FIRST_COUNTERS: Counters = Counters {
+    next_koid: Koid(1026),
+    next_wait: 0,
+};
+
+const FIRST_JOB: ObjectRow = ObjectRow {
+    kind: Kind::Job,
+    signals: Signals(0x10),
+    link: Koid(0),
+    life: Life::Live,
+    next: 0,
+};
+
+const FIRST_PROCESS: ObjectRow = ObjectRow {
+    kind: Kind::Process,
+    signals: Signals(0),
+    link: ROOT_JOB,
+    life: Life::Live,
+    next: 1,
+};
+
+const TO_ROOT_JOB: Held = Held {
+    koid: ROOT_JOB,
+    rights: Rights(0x3d203),
+};
+
 /// The rows of a system, each under its key, and how often they name each object.
-#[derive(Drop)]
 pub struct Store {
     cells: Cells,
     tally: Tally,
     index: Indexed,
+}
+
+/// Lets all parts go in one call, so that a function that owns a store is proved without going through them at each of its
+/// ways out.
+impl Drop for Store {
+    fn drop(self) {
+        let Store {
+            cells: _cells,
+            tally: _tally,
+            index: _index,
+        } = self;
+    }
 }
 
 impl Model for Store {
@@ -69,41 +112,22 @@ impl Store {
         ensures { IfOk result (λ store. store.state ≡ opening) }
     {
         let mut store = Store::hollow(alloc);
-        store.keep(
-            RowKey::Counters,
-            Row::Counters(Counters {
-                next_koid: Koid(1026),
-                next_wait: 0,
-            }),
-        )?;
-        store.keep(
-            RowKey::Object(ROOT_JOB),
-            Row::Object(ObjectRow {
-                kind: Kind::Job,
-                signals: Signals(0x10),
-                link: Koid(0),
-                life: Life::Live,
-                next: 0,
-            }),
-        )?;
-        store.keep(
-            RowKey::Object(Koid(1025)),
-            Row::Object(ObjectRow {
-                kind: Kind::Process,
-                signals: Signals(0),
-                link: ROOT_JOB,
-                life: Life::Live,
-                next: 1,
-            }),
-        )?;
-        store.keep(
-            RowKey::Entry(Koid(1025), HandleValue(3)),
-            Row::Entry(Held {
-                koid: ROOT_JOB,
-                rights: Rights(0x3d203),
-            }),
-        )?;
+        store.keep_opening()?;
         Ok(store)
+    }
+
+    /// Puts the rows that a history begins with into a hollow store.
+    fn keep_opening(&mut self) -> Result<(), AllocError>
+        requires { self.old.state ≡ hollow }
+        ensures { OnOk result (self.new.state ≡ opening) }
+    {
+        self.keep(RowKey::Counters, Row::Counters(FIRST_COUNTERS))?;
+        self.keep(RowKey::Object(ROOT_JOB), Row::Object(FIRST_JOB))?;
+        self.keep(RowKey::Object(FIRST_KOID), Row::Object(FIRST_PROCESS))?;
+        self.keep(
+            RowKey::Entry(FIRST_KOID, FIRST_HANDLE),
+            Row::Entry(TO_ROOT_JOB),
+        )
     }
 
     /// The row under the key. It takes no memory.

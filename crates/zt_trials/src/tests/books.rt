@@ -23,12 +23,27 @@ fn handle_of(answer: &Answer) -> Option<HandleValue> {
     }
 }
 
+/// The handle of an event that the client makes.
+fn made(book: &mut Book) -> Option<HandleValue>
+    requires { 1 ≤ length book.old.session.clients }
+{
+    match book.serve(1, &Command::Call(ROOT, Call::EventCreate)) {
+        Ok(answer) => handle_of(&answer),
+        Err(_) => None,
+    }
+}
+
+/// The handle of the first event in a fresh book.
+fn made_first(alloc: Global) -> Option<HandleValue> {
+    match Book::new(alloc, 1) {
+        Ok(mut book) => made(&mut book),
+        Err(_) => None,
+    }
+}
+
 #[test]
-fn always_out_of_memory(rt: HostRuntime) -> Result<(), Fail> {
-    let mut book = Book::new(rt.alloc(), 1)?;
-    let answer = book.serve(1, &Command::Call(ROOT, Call::EventCreate))?;
-    assert_eq!(rt; handle_of(&answer), Some(NEAR));
-    Ok(())
+fn always_out_of_memory(rt: HostRuntime) {
+    assert_eq!(rt; made_first(rt.alloc()), Some(NEAR));
 }
 
 /// All rows at the position of the client.
@@ -36,7 +51,14 @@ pub(super) fn rows_of(book: &mut Book) -> Result<Items<(RowKey, Row)>, Refusal>
     requires { 1 ≤ length book.old.session.clients }
     ensures { length book.new.session.clients ≡ length book.old.session.clients }
 {
-    match book.serve(1, &Command::Show)? {
+    match book.serve(1, &Command::Show) {
+        Ok(answer) => rows_in(answer),
+        Err(refusal) => Err(refusal),
+    }
+}
+
+fn rows_in(answer: Answer) -> Result<Items<(RowKey, Row)>, Refusal> {
+    match answer {
         Answer::Rows(_, rows) => Ok(rows),
         _ => Err(Refusal::NoMoment),
     }
@@ -71,51 +93,67 @@ fn ask(rt: &impl Abort, book: &mut Book, command: &Command)
     requires { 1 ≤ length book.old.session.clients }
     ensures { length book.new.session.clients ≡ length book.old.session.clients }
 {
-    let Ok(before) = rows_of(book) else {
-        return;
-    };
+    if let Ok(before) = rows_of(book) {
+        ask_over(rt, book, command, &before);
+    }
+}
+
+/// As `ask`, in a book with these rows.
+fn ask_over(rt: &impl Abort, book: &mut Book, command: &Command, before: &Items<(RowKey, Row)>)
+    requires { 1 ≤ length book.old.session.clients }
+    ensures { length book.new.session.clients ≡ length book.old.session.clients }
+{
     let had = sizes(book);
     if !is_served(book, command) {
         assert!(rt; sizes(book) == had);
-        assert!(rt; has_rows(book, &before));
+        assert!(rt; has_rows(book, before));
         assert!(rt; is_served(book, command), "asked again");
     }
 }
 
+/// How many calls `nth_call` tells apart.
+const CALLS: u8 = 7;
+
 /// A pair of events is made, one handle duplicated and replaced, the far end signalled, and handles closed.
-fn calls() -> [Call; 7] {
-    [
-        Call::EventPairCreate,
-        Call::HandleDuplicate {
+fn nth_call(n: u8) -> Call {
+    match n {
+        0 => Call::EventPairCreate,
+        1 => Call::HandleDuplicate {
             handle: NEAR,
             rights: 0x8000_0000,
         },
-        Call::ObjectSignalPeer {
+        2 => Call::ObjectSignalPeer {
             handle: NEAR,
             clear: Signals(0),
             set: Signals(0x8),
         },
-        Call::HandleReplace {
+        3 => Call::HandleReplace {
             handle: NEAR,
             rights: 0x4000,
         },
-        Call::HandleClose { handle: FAR },
-        Call::EventCreate,
-        Call::HandleClose {
+        4 => Call::HandleClose { handle: FAR },
+        5 => Call::EventCreate,
+        _ => Call::HandleClose {
             handle: HandleValue(15),
         },
-    ]
+    }
+}
+
+/// Asks for each of the calls, and goes back over four of them.
+fn ask_calls(rt: &impl Abort, book: &mut Book)
+    requires { 1 ≤ length book.old.session.clients }
+{
+    for n in 0..CALLS {
+        ask(rt, book, &Command::Call(ROOT, nth_call(n)));
+    }
+    ask(rt, book, &Command::Back(4));
 }
 
 #[test]
 fn refused_memory_leaves_the_book(rt: HostRuntime) {
-    let Ok(mut book) = Book::new(rt.alloc(), 1) else {
-        return;
-    };
-    for call in calls() {
-        ask(&rt, &mut book, &Command::Call(ROOT, call));
+    if let Ok(mut book) = Book::new(rt.alloc(), 1) {
+        ask_calls(&rt, &mut book);
     }
-    ask(&rt, &mut book, &Command::Back(4));
 }
 
 /// Three events, a branch from the first of them, and its rows. Each is in its place too where one before it was left
@@ -136,13 +174,19 @@ fn name(alloc: Global) -> Result<Items<u8>, AllocError> {
     Ok(Items::new(b"fix".to_vec(alloc)?))
 }
 
+/// As `ask_branch`, where there is memory for the name.
+fn ask_named_branch(rt: &(impl Abort + AllocGlobal), book: &mut Book)
+    requires { 1 ≤ length book.old.session.clients }
+{
+    if let Ok(name) = name(rt.alloc()) {
+        ask_branch(rt, book, name);
+    }
+}
+
 #[test]
 fn refused_memory_makes_no_branch(rt: HostRuntime) {
-    let Ok(name) = name(rt.alloc()) else {
-        return;
-    };
     if let Ok(mut book) = Book::new(rt.alloc(), 1) {
-        ask_branch(&rt, &mut book, name);
+        ask_named_branch(&rt, &mut book);
     }
 }
 

@@ -1,6 +1,6 @@
 //! Calls that bring down nested channels, fire waits over several ports and kill many processes, with each request for
 //! memory refused in turn.
-ghost use Rattle.std.specs.Prelude.{◌≤◌, IfOk, length};
+ghost use Rattle.std.specs.Prelude.{◌≡◌, ◌≤◌, IfOk, length};
 
 use super::books::{has_rows, is_served, rows_of};
 use super::runs::talk;
@@ -10,7 +10,7 @@ use std::io::Write;
 use std::process::Abort;
 use zt_bits::Signals;
 use zt_console::Book;
-use zt_rows::{Call, Command, HandleValue, Koid, Refusal};
+use zt_rows::{Call, Command, HandleValue, Items, Koid, Refusal, Row, RowKey};
 
 const ROOT: Koid = Koid(1025);
 
@@ -26,21 +26,40 @@ fn book_after(alloc: Global, lines: &[u8]) -> Result<Book, Refusal>
 /// Serves the call behind these lines, and goes back over it. Where memory is refused to it, all rows are as before, and
 /// it is served when asked again; taken back, all rows are as before.
 fn check_taken_back(rt: &(impl Abort + AllocGlobal), lines: &[u8], call: Call) {
-    let Ok(mut book) = book_after(rt.alloc(), lines) else {
-        return;
-    };
-    let Ok(before) = rows_of(&mut book) else {
-        return;
-    };
-    let command = Command::Call(ROOT, call);
-    if !is_served(&mut book, &command) {
-        assert!(rt; has_rows(&mut book, &before), "refused");
-        assert!(rt; is_served(&mut book, &command), "asked again");
+    if let Ok(mut book) = book_after(rt.alloc(), lines) {
+        check_command(rt, &mut book, &Command::Call(ROOT, call));
     }
+}
+
+/// As `check_taken_back`, of a command in this book.
+fn check_command(rt: &impl Abort, book: &mut Book, command: &Command)
+    requires { 1 ≤ length book.old.session.clients }
+{
+    if let Ok(before) = rows_of(book) {
+        check_served(rt, book, command, &before);
+        check_gone_back(rt, book, &before);
+    }
+}
+
+/// Serves the command. Where memory is refused to it, all rows are as before, and it is served when asked again.
+fn check_served(rt: &impl Abort, book: &mut Book, command: &Command, before: &Items<(RowKey, Row)>)
+    requires { 1 ≤ length book.old.session.clients }
+    ensures { length book.new.session.clients ≡ length book.old.session.clients }
+{
+    if !is_served(book, command) {
+        assert!(rt; has_rows(book, before), "refused");
+        assert!(rt; is_served(book, command), "asked again");
+    }
+}
+
+/// Goes back over the last call: all rows are as before it.
+fn check_gone_back(rt: &impl Abort, book: &mut Book, before: &Items<(RowKey, Row)>)
+    requires { 1 ≤ length book.old.session.clients }
+{
     let back = Command::Back(1);
-    let moved = is_served(&mut book, &back) || is_served(&mut book, &back);
+    let moved = is_served(book, &back) || is_served(book, &back);
     assert!(rt; moved, "gone back");
-    let same = has_rows(&mut book, &before) || has_rows(&mut book, &before);
+    let same = has_rows(book, before) || has_rows(book, before);
     assert!(rt; same, "taken back");
 }
 

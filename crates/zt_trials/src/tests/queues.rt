@@ -37,12 +37,10 @@ fn put_end(step: &mut Step, koid: Koid, link: Koid) -> Result<(), AllocError> {
     step.put(RowKey::Object(koid), Some(Row::Object(end)))
 }
 
-/// A step over both ends of a channel, whose queues are empty.
-fn over_channel(alloc: Global) -> Result<Step, AllocError> {
-    let mut step = Step::begin(Store::opening(alloc)?);
-    put_end(&mut step, NEAR, FAR)?;
-    put_end(&mut step, FAR, NEAR)?;
-    Ok(step)
+/// Puts both ends of a channel, whose queues are empty.
+fn put_ends(step: &mut Step) -> Result<(), AllocError> {
+    put_end(step, NEAR, FAR)?;
+    put_end(step, FAR, NEAR)
 }
 
 fn message(alloc: Global, bytes: &[u8], handles: &[Held]) -> Result<Message, AllocError> {
@@ -72,11 +70,17 @@ fn pushed(rt: &impl Abort, step: &mut Step, sent: Message) -> Result<(), AllocEr
     push(step, NEAR, sent)
 }
 
+/// Puts both ends of a channel, and two messages that wait at the near end.
+fn put_messages(rt: &impl Abort, alloc: Global, step: &mut Step) -> Result<(), AllocError> {
+    put_ends(step)?;
+    pushed(rt, step, message(alloc, b"first", &[FIRST])?)?;
+    pushed(rt, step, message(alloc, b"second", &[SECOND, FIRST])?)
+}
+
 /// A step over two messages that wait at the near end.
 fn over_messages(rt: &impl Abort, alloc: Global) -> Result<Step, AllocError> {
-    let mut step = over_channel(alloc)?;
-    pushed(rt, &mut step, message(alloc, b"first", &[FIRST])?)?;
-    pushed(rt, &mut step, message(alloc, b"second", &[SECOND, FIRST])?)?;
+    let mut step = Step::begin(Store::opening(alloc)?);
+    put_messages(rt, alloc, &mut step)?;
     let (store, _) = step.finish();
     Ok(Step::begin(store))
 }
@@ -88,60 +92,85 @@ fn is_first(step: &Step, number: u64, bytes: &[u8]) -> bool {
     }
 }
 
-#[test]
-fn refused_memory_pushes_nothing(rt: HostRuntime) {
-    let alloc = rt.alloc();
-    let Ok(mut step) = over_messages(&rt, alloc) else {
-        return;
-    };
-    let (Ok(one), Ok(again)) = (message(alloc, b"one", &[]), message(alloc, b"one", &[])) else {
-        return;
-    };
-    if pushed(&rt, &mut step, one).is_err() {
-        assert!(rt; is_first(&step, 0, b"first"));
+/// Whether one more message was pushed.
+fn is_pushed(rt: &(impl Abort + AllocGlobal), step: &mut Step) -> bool {
+    match message(rt.alloc(), b"one", &[]) {
+        Ok(one) => pushed(rt, step, one).is_ok(),
+        Err(_) => false,
+    }
+}
+
+fn check_push(rt: &(impl Abort + AllocGlobal), step: &mut Step) {
+    if !is_pushed(rt, step) {
+        assert!(rt; is_first(step, 0, b"first"));
         assert!(rt; step.row(RowKey::Msg(NEAR, 2)).is_none());
-        assert!(rt; pushed(&rt, &mut step, again).is_ok(), "pushed later");
+        assert!(rt; is_pushed(rt, step), "pushed later");
     }
     assert!(rt; step.row(RowKey::Msg(NEAR, 2)).is_some());
 }
 
 #[test]
-fn refused_memory_pops_nothing(rt: HostRuntime) {
-    let Ok(mut step) = over_messages(&rt, rt.alloc()) else {
-        return;
-    };
-    if pop(&mut step, NEAR).is_err() {
-        assert!(rt; is_first(&step, 0, b"first"));
-        assert!(rt; pop(&mut step, NEAR).is_ok(), "popped later");
+fn refused_memory_pushes_nothing(rt: HostRuntime) {
+    if let Ok(mut step) = over_messages(&rt, rt.alloc()) {
+        check_push(&rt, &mut step);
     }
-    assert!(rt; is_first(&step, 1, b"second"));
+}
+
+fn check_pop(rt: &impl Abort, step: &mut Step) {
+    if pop(step, NEAR).is_err() {
+        assert!(rt; is_first(step, 0, b"first"));
+        assert!(rt; pop(step, NEAR).is_ok(), "popped later");
+    }
+    assert!(rt; is_first(step, 1, b"second"));
+}
+
+#[test]
+fn refused_memory_pops_nothing(rt: HostRuntime) {
+    if let Ok(mut step) = over_messages(&rt, rt.alloc()) {
+        check_pop(&rt, &mut step);
+    }
+}
+
+fn check_take(rt: &(impl Abort + AllocGlobal), step: &mut Step) {
+    if take_all(rt.alloc(), step, NEAR).is_err() {
+        assert!(rt; is_first(step, 0, b"first"));
+        let again = take_all(rt.alloc(), step, NEAR);
+        assert!(rt; again.is_ok(), "taken later");
+    }
+    assert!(rt; front(step, NEAR).is_none());
 }
 
 #[test]
 fn refused_memory_takes_nothing(rt: HostRuntime) {
-    let Ok(mut step) = over_messages(&rt, rt.alloc()) else {
-        return;
-    };
-    if take_all(rt.alloc(), &mut step, NEAR).is_err() {
-        assert!(rt; is_first(&step, 0, b"first"));
-        let again = take_all(rt.alloc(), &mut step, NEAR);
-        assert!(rt; again.is_ok(), "taken later");
+    if let Ok(mut step) = over_messages(&rt, rt.alloc()) {
+        check_take(&rt, &mut step);
     }
-    assert!(rt; front(&step, NEAR).is_none());
+}
+
+/// Whether the message that is popped is the first that was pushed.
+fn is_popped(alloc: Global, step: &mut Step) -> Result<bool, AllocError> {
+    let first = message(alloc, b"first", &[FIRST])?;
+    Ok(pop(step, NEAR)? == Some(first))
 }
 
 #[test]
 fn a_message_is_taken(rt: HostRuntime) -> Result<(), Fail> {
     let mut step = over_messages(&rt, rt.alloc())?;
-    let first = message(rt.alloc(), b"first", &[FIRST])?;
-    assert!(rt; pop(&mut step, NEAR)? == Some(first));
+    let popped = is_popped(rt.alloc(), &mut step);
+    assert!(rt; popped == Ok(true));
     Ok(())
+}
+
+/// Whether the handles that are taken are those that were sent, in their order.
+fn are_taken(alloc: Global, step: &mut Step) -> Result<bool, AllocError> {
+    let taken = take_all(alloc, step, NEAR)?;
+    Ok(taken.as_slice() == [FIRST, SECOND, FIRST].as_slice())
 }
 
 #[test]
 fn all_handles_are_taken_in_order(rt: HostRuntime) -> Result<(), Fail> {
     let mut step = over_messages(&rt, rt.alloc())?;
-    let taken = take_all(rt.alloc(), &mut step, NEAR)?;
-    assert_eq!(rt; taken.as_slice(), [FIRST, SECOND, FIRST].as_slice());
+    let taken = are_taken(rt.alloc(), &mut step);
+    assert!(rt; taken == Ok(true));
     Ok(())
 }

@@ -1,5 +1,5 @@
 //! Runs in which one read or one write fails.
-ghost use Rattle.std.specs.Prelude.{◌≡◌, ◌≤◌, length};
+ghost use Rattle.std.specs.Prelude.{◌≡◌, ◌≤◌, IfOk, length};
 
 use std::alloc::Global;
 use std::io;
@@ -106,20 +106,26 @@ fn behind(text: &[u8], feeds: usize) -> &[u8] {
     left
 }
 
-/// The lines that were read whole are answered, and a run over the others goes on from there.
-fn check_failed_read(rt: &(impl Abort + AllocGlobal), good: usize) -> Result<(), Fail> {
-    let alloc = rt.alloc();
+/// The ends of a run in which a read fails after so many, and of a run over the lines that it did not read whole, with
+/// what both wrote.
+fn read_again(alloc: Global, good: usize) -> Result<(End, End, Vec<u8>), Refusal> {
     let lines = asked();
-    let book = Book::new(alloc, 1)?;
+    let whole = feeds(lines.split_at(good.min(lines.len())).0);
     let reader = Turns {
         inner: lines,
         good: good as u64,
     };
-    let (book, end, told) = talk(alloc, book, reader, Vec::new(alloc));
-    assert!(rt; end == End::Stopped(Refusal::ReadFault));
-    let whole = feeds(lines.split_at(good.min(lines.len())).0);
-    let (_, end, told) = talk(alloc, book, behind(lines, whole), told);
-    assert!(rt; end == End::Finished);
+    let book = Book::new(alloc, 1)?;
+    let (book, first, told) = talk(alloc, book, reader, Vec::new(alloc));
+    let (_, second, told) = talk(alloc, book, behind(lines, whole), told);
+    Ok((first, second, told))
+}
+
+/// The lines that were read whole are answered, and a run over the others goes on from there.
+fn check_failed_read(rt: &(impl Abort + AllocGlobal), good: usize) -> Result<(), Fail> {
+    let (first, second, told) = read_again(rt.alloc(), good)?;
+    assert!(rt; first == End::Stopped(Refusal::ReadFault));
+    assert!(rt; second == End::Finished);
     assert!(rt; told.as_slice() == answers());
     Ok(())
 }
@@ -133,34 +139,51 @@ fn each_read_fails_once(rt: HostRuntime) -> Result<(), Fail> {
     check_failed_read(&rt, len)
 }
 
-/// The lines come byte by byte, so that each is answered before the next is read. What was written is a prefix, and a run
-/// over the lines that were not served goes on behind them.
-fn check_failed_write(rt: &(impl Abort + AllocGlobal), good: usize) -> Result<(), Fail> {
-    let alloc = rt.alloc();
-    let (lines, answers) = (asked(), answers());
-    let book = Book::new(alloc, 1)?;
+/// A run whose lines come byte by byte, so that each is answered before the next is read, in which a write fails after so
+/// many; with what it wrote.
+fn write_some(alloc: Global, good: usize) -> Result<(Book, End, Vec<u8>), Refusal>
+    ensures { IfOk result (λ ran. 1 ≤ length ran.0.session.clients) }
+{
     let reader = Turns {
-        inner: lines,
+        inner: asked(),
         good: u64::MAX,
     };
     let writer = Turns {
         inner: Vec::new(alloc),
         good: good as u64,
     };
+    let book = Book::new(alloc, 1)?;
     let (book, end, writer) = talk(alloc, book, reader, writer);
-    assert!(rt; end == End::Stopped(Refusal::WriteFault));
-    let told = answers.split_at(good.min(answers.len())).0;
-    assert!(rt; writer.inner.as_slice() == told);
-    let served = feeds(told) + 1;
-    let left = behind(lines, served);
-    let (_, end, told) = talk(alloc, book, left, Vec::new(alloc));
-    assert!(rt; end == End::Finished);
-    let wanted = if left.is_empty() {
+    Ok((book, end, writer.inner))
+}
+
+/// The ends of such a run, and of a run over the lines that it did not serve, each with what it wrote.
+fn write_again(
+    alloc: Global,
+    good: usize,
+    left: &[u8],
+) -> Result<(End, Vec<u8>, End, Vec<u8>), Refusal> {
+    let (book, first, written) = write_some(alloc, good)?;
+    let (_, second, told) = talk(alloc, book, left, Vec::new(alloc));
+    Ok((first, written, second, told))
+}
+
+/// What was written is a prefix, and a run over the lines that were not served goes on behind them.
+fn check_failed_write(rt: &(impl Abort + AllocGlobal), good: usize) -> Result<(), Fail> {
+    let answers = answers();
+    let wanted = answers.split_at(good.min(answers.len())).0;
+    let served = feeds(wanted) + 1;
+    let left = behind(asked(), served);
+    let (first, written, second, told) = write_again(rt.alloc(), good, left)?;
+    assert!(rt; first == End::Stopped(Refusal::WriteFault));
+    assert!(rt; written.as_slice() == wanted);
+    assert!(rt; second == End::Finished);
+    let rest = if left.is_empty() {
         &[]
     } else {
         behind(answers, served)
     };
-    assert!(rt; told.as_slice() == wanted);
+    assert!(rt; told.as_slice() == rest);
     Ok(())
 }
 

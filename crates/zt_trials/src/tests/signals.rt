@@ -1,5 +1,6 @@
 //! Signals of a channel, with each request for memory refused in turn.
 use std::alloc::{AllocError, Global};
+use std::process::Abort;
 use zt_bits::{Kind, Signals};
 use zt_rows::{Koid, Life, ObjectRow, Row, RowKey};
 use zt_signals::{refresh, set_bits};
@@ -34,31 +35,38 @@ fn set(step: &mut Step) -> Result<(), AllocError> {
     set_bits(step, MADE, Signals(0), Signals(0x2000000))
 }
 
+fn check_set(rt: &impl Abort, step: &mut Step) {
+    if set(step).is_err() {
+        assert!(rt; has_channel(step, 0x1000000));
+        assert!(rt; set(step).is_ok(), "set later");
+    }
+    assert!(rt; has_channel(step, 0x3000000));
+}
+
 #[test]
 fn refused_memory_sets_nothing(rt: HostRuntime) {
-    let Ok(mut step) = over_channel(rt.alloc()) else {
-        return;
-    };
-    if set(&mut step).is_err() {
-        assert!(rt; has_channel(&step, 0x1000000));
-        assert!(rt; set(&mut step).is_ok(), "set later");
+    if let Ok(mut step) = over_channel(rt.alloc()) {
+        check_set(&rt, &mut step);
     }
-    assert!(rt; has_channel(&step, 0x3000000));
+}
+
+/// A refused refresh takes back all that the step did, the bits that were set too.
+fn check_refresh(rt: &impl Abort, step: &mut Step) {
+    if set(step).is_err() {
+        return;
+    }
+    let mut signals = 0x3000004;
+    if refresh(step, MADE).is_err() {
+        assert!(rt; has_channel(step, 0x1000000));
+        assert!(rt; refresh(step, MADE).is_ok(), "refreshed later");
+        signals = 0x1000004;
+    }
+    assert!(rt; has_channel(step, signals));
 }
 
 #[test]
 fn refused_memory_refreshes_nothing(rt: HostRuntime) {
-    let Ok(mut step) = over_channel(rt.alloc()) else {
-        return;
-    };
-    if set(&mut step).is_err() {
-        return;
+    if let Ok(mut step) = over_channel(rt.alloc()) {
+        check_refresh(&rt, &mut step);
     }
-    let mut signals = 0x3000004;
-    if refresh(&mut step, MADE).is_err() {
-        assert!(rt; has_channel(&step, 0x1000000));
-        assert!(rt; refresh(&mut step, MADE).is_ok(), "refreshed later");
-        signals = 0x1000004;
-    }
-    assert!(rt; has_channel(&step, signals));
 }

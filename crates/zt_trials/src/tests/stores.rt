@@ -1,6 +1,6 @@
 //! Steps of a store and the records that take them back, with each request for memory refused in turn, and with all
 //! refused from one on.
-ghost use Rattle.std.specs.Prelude.{◌≡◌, true};
+ghost use Rattle.std.specs.Prelude.{◌≡◌, true, IfOk};
 ghost use Rattle.zt_store.specs.Places.{fits};
 
 use std::alloc::{AllocError, Global};
@@ -182,24 +182,51 @@ fn is_same(first: &Store, second: &Store) -> bool {
     false
 }
 
-/// Puts over rows of all variants. Where memory is refused, the store that is given up has the rows and numbers of
-/// before, and the puts then succeed. It is `Ok` only where no memory was refused.
-fn rows_are_put(rt: &impl Abort, alloc: Global) -> Result<(), AllocError> {
-    let store = all_variants(alloc)?;
-    let before = store.copy()?;
+/// Gives up a step to which memory was refused: its store has the rows and numbers of before. The puts then succeed.
+fn put_again(rt: &impl Abort, alloc: Global, step: Step, before: &Store) -> Step {
+    let store = step.abandon();
+    assert!(rt; is_same(&store, before), "refused");
     let mut step = Step::begin(store);
-    let put = put_over_all_variants(alloc, &mut step);
-    if put.is_err() {
-        let store = step.abandon();
-        assert!(rt; is_same(&store, &before), "refused");
-        step = Step::begin(store);
-        assert!(rt; put_over_all_variants(alloc, &mut step).is_ok(), "again");
-    }
+    assert!(rt; put_over_all_variants(alloc, &mut step).is_ok(), "again");
+    step
+}
+
+/// The numbers of a step over whose rows of all variants others were put, and what comes of it given up.
+fn check_put(rt: &impl Abort, step: Step, before: &Store) {
     assert_eq!(rt; step.count(EVENT), 0);
     assert_eq!(rt; step.count(PORT), 3);
     assert_eq!(rt; step.first_message(NEAR_END), Some(1));
-    assert!(rt; is_same(&step.abandon(), &before), "abandoned");
+    assert!(rt; is_same(&step.abandon(), before), "abandoned");
+}
+
+/// Puts over rows of all variants, in a store that has the rows of before. It is `Ok` only where no memory was refused.
+fn put_over(
+    rt: &impl Abort,
+    alloc: Global,
+    store: Store,
+    before: &Store,
+) -> Result<(), AllocError> {
+    let mut step = Step::begin(store);
+    let put = put_over_all_variants(alloc, &mut step);
+    if put.is_err() {
+        step = put_again(rt, alloc, step, before);
+    }
+    check_put(rt, step, before);
     put
+}
+
+/// A store with rows of all six variants, and a copy of it.
+fn all_variants_twice(alloc: Global) -> Result<(Store, Store), AllocError> {
+    let store = all_variants(alloc)?;
+    let before = store.copy()?;
+    Ok((store, before))
+}
+
+/// Puts over rows of all variants. Where memory is refused, the store that is given up has the rows and numbers of
+/// before, and the puts then succeed. It is `Ok` only where no memory was refused.
+fn rows_are_put(rt: &impl Abort, alloc: Global) -> Result<(), AllocError> {
+    let (store, before) = all_variants_twice(alloc)?;
+    put_over(rt, alloc, store, &before)
 }
 
 #[test]
@@ -213,24 +240,36 @@ fn rows_of_all_variants_are_put(rt: HostRuntime) -> Result<(), Fail> {
     Ok(())
 }
 
+/// A step over the store that puts over rows of all variants, finished.
+fn finished(alloc: Global, store: Store) -> Result<(Store, Record), AllocError>
+    ensures { IfOk result (λ after. fits after.0.places after.1 ≡ true) }
+{
+    let mut step = Step::begin(store);
+    match put_over_all_variants(alloc, &mut step) {
+        Ok(()) => Ok(step.finish()),
+        Err(error) => Err(error),
+    }
+}
+
 /// A finished step, taken back, made again and taken back: from the last put on no memory is asked for. It is `Ok`
 /// only where none was refused before.
 fn a_step_is_taken_back(rt: &impl Abort, alloc: Global) -> Result<(), AllocError> {
-    let store = all_variants(alloc)?;
-    let before = store.copy()?;
-    let mut step = Step::begin(store);
-    put_over_all_variants(alloc, &mut step)?;
-    let (mut store, mut kept) = step.finish();
-    assert_eq!(rt; kept.keys().len(), 11);
-    assert_eq!(rt; store.count(PORT), 3);
-    exchange_twice(rt, &before, &mut store, &mut kept);
-    Ok(())
+    let (store, before) = all_variants_twice(alloc)?;
+    match finished(alloc, store) {
+        Ok((mut store, mut kept)) => {
+            exchange_twice(rt, &before, &mut store, &mut kept);
+            Ok(())
+        }
+        Err(error) => Err(error),
+    }
 }
 
 /// Takes the step that led to this store back by its record, makes it again, and takes it back.
 fn exchange_twice(rt: &impl Abort, before: &Store, store: &mut Store, kept: &mut Record)
     requires { fits store.old.places kept.old ≡ true }
 {
+    assert_eq!(rt; kept.keys().len(), 11);
+    assert_eq!(rt; store.count(PORT), 3);
     swap(store, kept);
     assert!(rt; is_same(store, before), "taken back");
     swap(store, kept);
@@ -250,12 +289,23 @@ fn a_record_takes_its_step_back(rt: HostRuntime) -> Result<(), Fail> {
     Ok(())
 }
 
-#[test]
-fn a_place_beyond_all_memory_is_refused(rt: HostRuntime) -> Result<(), Fail> {
-    let opening = Store::opening(rt.alloc())?;
-    let mut step = Step::begin(opening.copy()?);
+/// The opening twice.
+fn opened_twice(alloc: Global) -> Result<(Store, Store), AllocError> {
+    let store = Store::opening(alloc)?;
+    let before = store.copy()?;
+    Ok((store, before))
+}
+
+fn check_place_beyond_all_memory(rt: &impl Abort, store: Store, before: &Store) {
+    let mut step = Step::begin(store);
     let put = put_object(&mut step, Koid(u64::MAX), Kind::Event, 0, 0);
     assert!(rt; put.is_err());
-    assert!(rt; is_same(&step.abandon(), &opening));
+    assert!(rt; is_same(&step.abandon(), before));
+}
+
+#[test]
+fn a_place_beyond_all_memory_is_refused(rt: HostRuntime) -> Result<(), Fail> {
+    let (store, before) = opened_twice(rt.alloc())?;
+    check_place_beyond_all_memory(&rt, store, &before);
     Ok(())
 }

@@ -23,6 +23,12 @@ const TO_EVENT: Held = Held {
     rights: Rights(0xd003),
 };
 
+/// A duplicate of it with one right alone.
+const DUPLICATE: Held = Held {
+    koid: Koid(1026),
+    rights: Rights(1),
+};
+
 /// Whether the first process has numbers left for one more handle.
 fn has_room(step: &Step) -> bool
     ensures { IsTrue result ↔ (next_at step.now.current 1025 < 2 ^ 30) }
@@ -66,48 +72,54 @@ fn second_of(step: Step) -> Option<Held> {
     find(&store, ROOT, SECOND)
 }
 
-#[test]
-fn refused_memory_installs_nothing(rt: HostRuntime) {
-    let Ok(mut step) = opened(rt.alloc()) else {
-        return;
-    };
-    let mut made = installed(&rt, &mut step);
+fn check_install(rt: &impl Abort, step: &mut Step) {
+    let mut made = installed(rt, step);
     if made.is_err() {
-        assert!(rt; is_as_begun(&step));
-        made = installed(&rt, &mut step);
+        assert!(rt; is_as_begun(step));
+        made = installed(rt, step);
     }
     assert!(rt; made == Ok(SECOND));
-    if let Some(held) = second_of(step) {
-        assert_eq!(rt; held, TO_EVENT);
+}
+
+#[test]
+fn refused_memory_installs_nothing(rt: HostRuntime) {
+    if let Ok(mut step) = opened(rt.alloc()) {
+        check_install(&rt, &mut step);
+        assert!(rt; second_of(step) == Some(TO_EVENT));
     }
+}
+
+fn check_duplicate(rt: &impl Abort, step: &mut Step) {
+    let mut made = duplicated(rt, step);
+    if made.is_err() {
+        assert!(rt; is_as_begun(step));
+        made = duplicated(rt, step);
+    }
+    assert!(rt; made == Ok(SECOND));
 }
 
 #[test]
 fn refused_memory_duplicates_nothing(rt: HostRuntime) {
-    let Ok(mut step) = opened(rt.alloc()) else {
-        return;
-    };
-    let mut made = duplicated(&rt, &mut step);
-    if made.is_err() {
-        assert!(rt; is_as_begun(&step));
-        made = duplicated(&rt, &mut step);
+    if let Ok(mut step) = opened(rt.alloc()) {
+        check_duplicate(&rt, &mut step);
+        let held = second_of(step);
+        assert!(rt; held == Some(DUPLICATE));
     }
-    assert!(rt; made == Ok(SECOND));
-    if let Some(held) = second_of(step) {
-        assert_eq!(rt; held.rights, Rights(1));
+}
+
+fn check_remove(rt: &impl Abort, step: &mut Step) {
+    let mut taken = remove(step, ROOT, FIRST);
+    if taken.is_err() {
+        assert!(rt; is_as_begun(step));
+        taken = remove(step, ROOT, FIRST);
     }
+    assert!(rt; matches!(&taken, Ok(Some(_))));
+    assert!(rt; step.row(RowKey::Entry(ROOT, FIRST)).is_none());
 }
 
 #[test]
 fn refused_memory_removes_nothing(rt: HostRuntime) {
-    let Ok(mut step) = opened(rt.alloc()) else {
-        return;
-    };
-    let mut taken = remove(&mut step, ROOT, FIRST);
-    if taken.is_err() {
-        assert!(rt; is_as_begun(&step));
-        taken = remove(&mut step, ROOT, FIRST);
+    if let Ok(mut step) = opened(rt.alloc()) {
+        check_remove(&rt, &mut step);
     }
-    assert!(rt; matches!(&taken, Ok(Some(_))));
-    assert!(rt; step.row(RowKey::Entry(ROOT, FIRST)).is_none());
 }
