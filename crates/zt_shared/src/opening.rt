@@ -22,6 +22,7 @@ use zt_rows::{Call, Items, Koid, Moment, Refusal};
 
 /// What a shared book is made of, before any type names it: an empty base cell, and an account without rows for each
 /// of the four clients, also those beyond the number of clients.
+#[derive(Drop)]
 pub struct Blanks {
     clients: u8,
     base: OnceBox<Calls>,
@@ -29,21 +30,6 @@ pub struct Blanks {
     second: Blank<Said>,
     third: Blank<Said>,
     fourth: Blank<Said>,
-}
-
-/// Lets all parts go in one call, so that a function that owns blanks is proved without going through them at each of its
-/// ways out.
-impl Drop for Blanks {
-    fn drop(self) {
-        let Blanks {
-            clients: _clients,
-            base: _base,
-            first: _first,
-            second: _second,
-            third: _third,
-            fourth: _fourth,
-        } = self;
-    }
 }
 
 impl Model for Blanks {
