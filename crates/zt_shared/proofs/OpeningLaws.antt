@@ -1,6 +1,6 @@
 -- The calls of a loaded tree, and the passes that are handed out.
-use Rattle.std.proofs.Common.{append_assoc, add-one, ◌+◌, ◌≡◌, ℕ, zero, suc, ◌≤◌, ◌<◌, List, [], ◌∷◌, ◌++◌, length, map, take, get_or, refl, ap, sym, ◌∙◌, arith, Ok, Err, Some, None}
-use Rattle.std.specs.Prelude.{Result, Bool, true, false, Option, slice_get, nat_lt}
+use Rattle.std.proofs.Common.{append_assoc, add-one, ◌+◌, ◌≡◌, ℕ, zero, suc, ◌≤◌, List, [], ◌∷◌, ◌++◌, length, map, take, refl, ap, sym, ◌∙◌, arith, Ok, Err, Some}
+use Rattle.std.specs.Prelude.{Result, Option, nat_lt}
 use Rattle.std.specs.List.{filter_map}
 use Rattle.std.proofs.lemmas.List.{append-nil, map-append, length-replicate}
 use Rattle.zt_rows.specs.declared.calls.Answer.{Answer}
@@ -9,11 +9,11 @@ use Rattle.zt_rows.specs.declared.calls.Call.{Call}
 use Rattle.zt_rows.specs.declared.refusals.Refusal.{Refusal}
 use Rattle.zt_rows.specs.declared.refusals.Refusal.TheVariants as refusal
 use Rattle.zt_rows.specs.Reads.{runs}
-use Rattle.zt_history.specs.Refusing.{check, ◌>>=◌, call_on, most_moments}
+use Rattle.zt_history.specs.Refusing.{call_on, most_moments}
 use Rattle.zt_history.specs.Tree.{Tree, Made, last_moment, state_at, head_at, opening_tree, made_by, called, call_at}
 use Rattle.zt_book.specs.Session.{Session, session_over, first_client}
 use Rattle.zt_book.specs.Log.{Kept, loaded, loaded_behind, loaded_from}
-use Rattle.zt_shared.specs.Sharing.{Part, IsFresh, first_part, first_parts, numbers, begun, begun_over}
+use Rattle.zt_shared.specs.Sharing.{Part, IsFresh, first_parts, begun, begun_over}
 use Rattle.once_cell.specs.declared.race.note.Note.{Note}
 use Rattle.zt_rows.specs.declared.calls.Command.{Command}
 use Rattle.zt_shared.specs.Desks.{IsDesk}

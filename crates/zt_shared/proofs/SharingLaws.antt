@@ -1,6 +1,6 @@
 -- One row more in a log: whose row it is, and how the log goes on.
 use Rattle.std.proofs.Common.{◌≡◌, ℕ, ◌+◌, ◌≤◌, ◌<◌, ◌==◌, Bool, true, false, cond, List, [], ◌∷◌, ◌++◌, length, map, refl, ap, sym, ◌∙◌, subst, arith, Ok, Err, inl, inr}
-use Rattle.std.specs.Prelude.{◌≢◌, nat_lt, Result, IfOk, OnErr, filter}
+use Rattle.std.specs.Prelude.{◌≢◌, nat_lt, Result, IfOk, OnErr}
 use Rattle.std.proofs.lemmas.Bool.{eq-eqb}
 use Rattle.std.proofs.lemmas.List.{append-nil, map-append, length-map, length_push}
 use Rattle.std.proofs.lemmas.List.Elements.{filter-append}

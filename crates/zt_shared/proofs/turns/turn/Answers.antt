@@ -1,6 +1,5 @@
 -- The client has room for one row more, since the book has counted one more.
-use Rattle.std.proofs.Common.{◌≡◌, ◌≤◌, length, sym}
-use Rattle.zt_shared.specs.Sharing.{logged}
+use Rattle.std.proofs.Common.{◌≤◌, length}
 use Rattle.zt_shared.proofs.SharingLaws.{room-left}
 use Rattle.zt_shared.proofs.turns.turn.Goals as goal
 

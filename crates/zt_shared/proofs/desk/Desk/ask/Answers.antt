@@ -1,5 +1,5 @@
 -- One client's account has one row more, or none; and the answer is one event of the history.
-use Rattle.std.proofs.Common.{◌≡◌, refl, ap, sym, ◌∙◌}
+use Rattle.std.proofs.Common.{refl, ap, sym, ◌∙◌}
 use Rattle.once_cell.specs.Once.{cell_name}
 use Rattle.zt_shared.specs.Sharing.{begun}
 use Rattle.zt_shared.specs.Seats.{seat_number, seat_rows}

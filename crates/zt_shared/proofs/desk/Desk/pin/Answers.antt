@@ -1,5 +1,5 @@
 -- One client's account has one row more, or none; and the answer with its copy is one event of the history.
-use Rattle.std.proofs.Common.{◌≡◌, refl, ap, sym, ◌∙◌}
+use Rattle.std.proofs.Common.{refl, ap, sym, ◌∙◌}
 use Rattle.once_cell.specs.Once.{cell_name}
 use Rattle.zt_rows.specs.declared.calls.Command.TheVariants as command
 use Rattle.zt_shared.specs.Sharing.{begun}
