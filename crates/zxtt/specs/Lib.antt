@@ -1,1 +1,3 @@
 pub mod Statuses
+pub mod Traces
+pub mod Words

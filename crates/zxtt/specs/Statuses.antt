@@ -1,9 +1,26 @@
--- The exit status of a run that was stopped, by its cause.
-use Rattle.std.specs.Prelude.{ℕ}
+-- The exit status, by what ended the program.
+use Rattle.std.specs.Prelude.{ℕ, Result, Ok, Err}
 use Rattle.zt_rows.specs.declared.refusals.Refusal.{Refusal}
 use Rattle.zt_rows.specs.declared.refusals.Refusal.TheVariants as refusal
+use Rattle.zxtt.specs.declared.faults.Fault.{Fault}
+use Rattle.zxtt.specs.declared.faults.Fault.TheVariants as fault
 
+-- of a run that was stopped, by its cause
 abbrev pub stopped_status : Refusal → ℕ
 stopped_status refusal.ReadFault = 4
 stopped_status refusal.WriteFault = 5
 stopped_status _ = 6
+
+-- of a fault
+abbrev pub fault_status : Fault → ℕ
+fault_status (fault.Words error) = 2
+fault_status (fault.Unread error) = 2
+fault_status (fault.Unopened path error) = 3
+fault_status (fault.Unconnected error) = 3
+fault_status (fault.Refused reason) = stopped_status reason
+fault_status (fault.Trace line reason) = 6
+
+-- of the program: 0 where nothing ended it before it was done
+abbrev pub end_status : {A : Type 0} → Result A Fault → ℕ
+end_status (Ok done) = 0
+end_status (Err fault) = fault_status fault

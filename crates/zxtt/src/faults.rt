@@ -1,7 +1,9 @@
 //! What ends the program before it is done.
 
 ghost use Rattle.std.specs.Prelude.{◌≡◌};
-ghost use Rattle.zxtt.specs.Statuses.{stopped_status};
+ghost use Rattle.zt_rows.specs.declared.refusals.Refusal.TheVariants as refusal;
+ghost use Rattle.zxtt.specs.declared.faults.Fault.TheVariants as fault;
+ghost use Rattle.zxtt.specs.Statuses.{fault_status, stopped_status};
 
 use std::fmt::{Display, Formatter, Write};
 use std::{fmt, io};
@@ -33,12 +35,16 @@ pub enum Fault {
 
 impl Fault {
     /// Memory was refused.
-    pub fn of_memory() -> Fault {
+    pub fn of_memory() -> Fault
+        ensures { result ≡ fault.Refused refusal.OutOfMemory }
+    {
         Fault::Refused(Refusal::OutOfMemory)
     }
 
     /// The exit status.
-    pub fn status(&self) -> u8 {
+    pub fn status(&self) -> u8
+        ensures { result ≡ fault_status self.now }
+    {
         match self {
             Fault::Words(_) | Fault::Unread(_) => 2,
             Fault::Unopened { .. } | Fault::Unconnected(_) => 3,

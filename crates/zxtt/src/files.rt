@@ -1,7 +1,8 @@
 //! Session texts that are loaded and saved.
 
-ghost use Rattle.std.specs.Prelude.{◌≡◌, length, IfOk};
+ghost use Rattle.std.specs.Prelude.{◌≡◌, length, IfErr, IfOk, List, ℕ};
 ghost use Rattle.zt_shared.specs.Sharing.{IsFresh};
+ghost use Rattle.zxtt.specs.Traces.{IsFaultOfText, IsLoadedFrom, TellsOfSomeText};
 
 use crate::faults::Fault;
 use std::alloc::Global;
@@ -12,21 +13,35 @@ use zt_console::{Book, load_text, main_text};
 use zt_rows::Refusal;
 
 /// Opens a file to be read.
-pub fn open(rt: &HostRuntime, path: &str) -> Result<File, Fault> {
+pub fn open(rt: &HostRuntime, path: &str) -> Result<File, Fault>
+    ensures { (clients : ℕ) → IfErr result (TellsOfSomeText clients) }
+{
     match fs::open(rt, path) {
         Ok(file) => Ok(file),
         Err(error) => Err(unopened(rt.alloc(), path, error)),
     }
 }
 
-/// The book of so many clients over the calls of a session text.
+/// The book of so many clients over the calls of a session text that is read from a file.
 #[tactic(auto, using(crate::proofs::Loading::loaded_clients, crate::proofs::Loading::loaded_is_fresh))]
 pub fn load(rt: &HostRuntime, clients: u8, path: &str) -> Result<Book, Fault>
+    ensures loaded { IfOk result (λ book. (text : List ℕ) × IsLoadedFrom clients text book) }
+    ensures refused { IfErr result (TellsOfSomeText clients) }
     ensures clients { IfOk result (λ book. length book.session.clients ≡ clients) }
     ensures fresh { IfOk result (IsFresh clients) }
 {
-    let text = read(rt, path)?;
-    match load_text(rt.alloc(), clients, text.as_slice()) {
+    match read(rt, path) {
+        Ok(text) => book_of(rt.alloc(), clients, text.as_slice()),
+        Err(fault) => Err(fault),
+    }
+}
+
+/// The book of so many clients over the calls of a session text.
+fn book_of(alloc: Global, clients: u8, text: &[u8]) -> Result<Book, Fault>
+    ensures loaded { IfOk result (IsLoadedFrom clients text.now) }
+    ensures refused { IfErr result (IsFaultOfText clients text.now) }
+{
+    match load_text(alloc, clients, text) {
         Ok(book) => Ok(book),
         Err((line, refusal)) => Err(Fault::Trace { line, refusal }),
     }
@@ -46,8 +61,13 @@ pub fn save(rt: &HostRuntime, book: &Book, path: &str) -> Result<(), Fault> {
 }
 
 /// All bytes of a file.
-fn read(rt: &HostRuntime, path: &str) -> Result<Vec<u8>, Fault> {
-    let mut file = open(rt, path)?;
+fn read(rt: &HostRuntime, path: &str) -> Result<Vec<u8>, Fault>
+    ensures { (clients : ℕ) → IfErr result (TellsOfSomeText clients) }
+{
+    let mut file = match open(rt, path) {
+        Ok(file) => file,
+        Err(fault) => return Err(fault),
+    };
     let mut bytes = Vec::new(rt.alloc());
     match file.read_to_end(&mut bytes) {
         Ok(_) => Ok(bytes),
@@ -57,7 +77,9 @@ fn read(rt: &HostRuntime, path: &str) -> Result<Vec<u8>, Fault> {
 }
 
 /// The file of this path could not be opened.
-fn unopened(alloc: Global, path: &str, error: io::Error) -> Fault {
+fn unopened(alloc: Global, path: &str, error: io::Error) -> Fault
+    ensures { (clients : ℕ) → TellsOfSomeText clients result }
+{
     match String::from_str(alloc, path) {
         Ok(path) => Fault::Unopened { path, error },
         Err(_) => Fault::of_memory(),

@@ -1,8 +1,14 @@
 //! `zxtt` reads calls and commands line by line, and answers each.
 #![tactic(auto)]
 
-ghost use Rattle.std.specs.Prelude.{◌≡◌, ◌≤◌, length, IfOk};
+ghost use Rattle.std.specs.Prelude.{◌≡◌, ◌≤◌, length, IfErr, IfOk};
+ghost use Rattle.std.specs.Process.{exit_status};
+ghost use Rattle.zt_rows.specs.declared.refusals.Refusal.{Refusal};
+ghost use Rattle.zt_console.specs.declared.running.End.TheVariants.{Finished, Stopped};
 ghost use Rattle.zt_shared.specs.Sharing.{IsFresh};
+ghost use Rattle.zxtt.specs.declared.faults.Fault.TheVariants.{Refused};
+ghost use Rattle.zxtt.specs.Statuses.{end_status};
+ghost use Rattle.zxtt.specs.Traces.{BeginsFrom};
 
 mod faults;
 mod files;
@@ -20,7 +26,7 @@ use zt_console::{Book, Counted, End, run};
 fn main(rt: HostRuntime) -> ExitCode {
     let words = match Words::of(&rt) {
         Ok(words) => words,
-        Err(fault) => return failed(&rt, &fault),
+        Err(fault) => return ended(&rt, &Err(fault)),
     };
     let done = match words.asked(rt.alloc()) {
         Ok(Asked::Run { file, from, save }) => run_asked(&rt, file, from, save),
@@ -36,16 +42,20 @@ fn main(rt: HostRuntime) -> ExitCode {
         },
         Err(fault) => Err(fault),
     };
-    match done {
-        Ok(()) => ExitCode::SUCCESS,
-        Err(fault) => failed(&rt, &fault),
-    }
+    ended(&rt, &done)
 }
 
-/// Says what ended the program, and gives its status.
-fn failed(rt: &HostRuntime, fault: &Fault) -> ExitCode {
-    let _ = eprintln!(rt; "{fault}");
-    ExitCode::from(fault.status())
+/// Says what ended the program before it was done, if something did, and gives its status.
+fn ended(rt: &HostRuntime, done: &Result<(), Fault>) -> ExitCode
+    ensures { exit_status result ≡ end_status done.now }
+{
+    match done {
+        Ok(()) => ExitCode::SUCCESS,
+        Err(fault) => {
+            let _ = eprintln!(rt; "{fault}");
+            ExitCode::from(fault.status())
+        }
+    }
 }
 
 /// Runs the lines of a file, and saves the history of `main` if a file is named.
@@ -66,6 +76,7 @@ fn run_asked(
 /// A book of so many clients at the opening, or over a trace if one is named.
 #[tactic(auto, using(crate::proofs::Loading::first_is_fresh, crate::proofs::Loading::first_clients))]
 fn begin(rt: &HostRuntime, clients: u8, from: Option<&str>) -> Result<Book, Fault>
+    ensures begins { IfOk result (BeginsFrom clients from.entry) }
     ensures clients { IfOk result (λ book. length book.session.clients ≡ clients) }
     ensures fresh { IfOk result (IsFresh clients) }
 {
@@ -96,6 +107,14 @@ fn run_lines<R: Read + Drop>(rt: &HostRuntime, book: Book, reader: R) -> Result<
     let mut reader = Counted::new(reader);
     let mut writer = Counted::new(rt.stdout());
     let (book, end) = run(rt.alloc(), book, &mut reader, &mut writer);
+    left(book, end)
+}
+
+/// The book that a run left, if the run was finished.
+fn left(book: Book, end: End) -> Result<Book, Fault>
+    ensures finished { IfOk result (λ given. (end ≡ Finished) × (given ≡ book)) }
+    ensures stopped { IfErr result (λ fault. (cause : Refusal) × (end ≡ Stopped cause) × (fault ≡ Refused cause)) }
+{
     match end {
         End::Finished => Ok(book),
         End::Stopped(refusal) => Err(Fault::Refused(refusal)),

@@ -1,7 +1,12 @@
 //! The words of the command line.
 
+ghost use Rattle.std.specs.Prelude.{◌≡◌, IfOk, codes, false, map, string_bytes};
+ghost use Rattle.clap.specs.Words.{app_of, found_of, rows_of, rule_of, subcommand_of, subcommand_rows_of};
+ghost use Rattle.clap.specs.declared.builder.command.Command.TheViews.{out-Command as fields_of};
+ghost use Rattle.zxtt.specs.Words.{IsAskedBy, IsAskedWith, IsRunOf, IsStandardInput, IsServeOf, clients_word, command_line, file_word, port_word, run_line, serve_line, valued};
+
 use crate::faults::Fault;
-use clap::{Arg, ArgAction, Command, Error, value_parser};
+use clap::{Arg, ArgAction, ArgMatches, Command, Error, value_parser};
 use std::alloc::Global;
 use std::env;
 
@@ -42,7 +47,7 @@ Exit statuses:
 /// The words that the program was started with.
 #[derive(Drop)]
 pub struct Words {
-    words: Vec<String>,
+    pub words: Vec<String>,
 }
 
 /// What the words ask for.
@@ -76,13 +81,11 @@ impl Words {
     }
 
     /// What they ask for. No words at all ask to run standard input.
-    pub fn asked(&self, alloc: Global) -> Result<Asked<'_>, Fault> {
+    pub fn asked(&self, alloc: Global) -> Result<Asked<'_>, Fault>
+        ensures { IfOk result (IsAskedWith (map string_bytes self.now.words.items)) }
+    {
         if self.words.len() <= 1 {
-            return Ok(Asked::Run {
-                file: "-",
-                from: None,
-                save: None,
-            });
+            return Ok(unasked());
         }
         match self.parsed(alloc) {
             Ok(asked) => Ok(asked),
@@ -91,32 +94,64 @@ impl Words {
     }
 
     /// What they ask for, as the command line is declared.
-    fn parsed(&self, alloc: Global) -> Result<Asked<'_>, Error> {
+    fn parsed(&self, alloc: Global) -> Result<Asked<'_>, Error>
+        ensures { IfOk result (IsAskedBy (subcommand_of command_line (map string_bytes self.now.words.items))) }
+    {
         let matches = command(alloc)?.try_get_matches_from(self.words.as_slice())?;
-        match matches.subcommand_matches("run") {
-            Some(run) => Ok(Asked::Run {
-                file: run.get_str("FILE").unwrap_or("-"),
-                from: run.get_str("from"),
-                save: run.get_str("save"),
-            }),
-            None => match matches.subcommand_matches("serve") {
-                Some(serve) => Ok(Asked::Serve {
-                    port: serve.get_one("PORT").unwrap_or(0),
-                    clients: serve.get_one("clients").unwrap_or(1),
-                    from: serve.get_str("from"),
-                }),
-                None => Ok(Asked::Run {
-                    file: "-",
-                    from: None,
-                    save: None,
-                }),
-            },
-        }
+        Ok(asked_of(&matches))
+    }
+}
+
+/// What is done where nothing else is asked for: standard input is run.
+fn unasked<'a>() -> Asked<'a>
+    ensures { IsStandardInput result }
+{
+    Asked::Run {
+        file: "-",
+        from: None,
+        save: None,
+    }
+}
+
+/// What the words that were met ask for.
+fn asked_of<'a>(matches: &ArgMatches<'a>) -> Asked<'a>
+    ensures { IsAskedBy (subcommand_rows_of matches.now) result }
+{
+    if let Some(run) = matches.subcommand_matches("run") {
+        run_of(run)
+    } else if let Some(serve) = matches.subcommand_matches("serve") {
+        serve_of(serve)
+    } else {
+        unasked()
+    }
+}
+
+/// What the words behind `run` ask for.
+fn run_of<'a>(words: &ArgMatches<'a>) -> Asked<'a>
+    ensures { IsRunOf (rows_of (found_of words.now)) result }
+{
+    Asked::Run {
+        file: words.get_str("FILE").unwrap_or("-"),
+        from: words.get_str("from"),
+        save: words.get_str("save"),
+    }
+}
+
+/// What the words behind `serve` ask for.
+fn serve_of<'a>(words: &ArgMatches<'a>) -> Asked<'a>
+    ensures { IsServeOf (rows_of (found_of words.now)) result }
+{
+    Asked::Serve {
+        port: words.get_one("PORT").unwrap_or(0),
+        clients: words.get_one("clients").unwrap_or(1),
+        from: words.get_str("from"),
     }
 }
 
 /// The command line.
-fn command<'a>(alloc: Global) -> Result<Command<'a>, Error> {
+fn command<'a>(alloc: Global) -> Result<Command<'a>, Error>
+    ensures { IfOk result (λ command. app_of command ≡ command_line) }
+{
     Ok(
         Command::new(alloc, "zxtt")
             .version("0.1")
@@ -129,7 +164,10 @@ fn command<'a>(alloc: Global) -> Result<Command<'a>, Error> {
 }
 
 /// The word of the session text that a history begins with.
-fn begin<'a>(alloc: Global) -> Arg<'a> {
+fn from_word<'a>(alloc: Global) -> Arg<'a>
+    ensures rule { rule_of result ≡ valued (codes "from") }
+    ensures global { result.global ≡ false }
+{
     Arg::new(alloc, "from")
         .long("from")
         .value_name("TRACE")
@@ -138,7 +176,10 @@ fn begin<'a>(alloc: Global) -> Arg<'a> {
 }
 
 /// The word of the session text that a run leaves.
-fn end<'a>(alloc: Global) -> Arg<'a> {
+fn save_word<'a>(alloc: Global) -> Arg<'a>
+    ensures rule { rule_of result ≡ valued (codes "save") }
+    ensures global { result.global ≡ false }
+{
     Arg::new(alloc, "save")
         .long("save")
         .value_name("OUT")
@@ -146,30 +187,35 @@ fn end<'a>(alloc: Global) -> Arg<'a> {
         .help("Writes the calls on `main` as a session text, once the input has ended")
 }
 
-/// The words behind `run`.
-fn run_command<'a>(alloc: Global) -> Result<Command<'a>, Error> {
-    let file = Arg::new(alloc, "FILE")
+/// The word of the lines that are run.
+fn file_word<'a>(alloc: Global) -> Arg<'a>
+    ensures rule { rule_of result ≡ file_word }
+    ensures global { result.global ≡ false }
+{
+    Arg::new(alloc, "FILE")
         .action(ArgAction::Set)
         .default_value("-")
-        .help("The lines; `-` is standard input");
-    Ok(
-        Command::new(alloc, "run")
-            .about("Answers the lines of a file; without any words the program does this")
-            .after_help(examples())
-            .arg(file)?
-            .arg(begin(alloc))?
-            .arg(end(alloc))?,
-    )
+        .help("The lines; `-` is standard input")
 }
 
-/// The words behind `serve`.
-fn serve_command<'a>(alloc: Global) -> Result<Command<'a>, Error> {
-    let port = Arg::new(alloc, "PORT")
+/// The word of the port that is listened on.
+fn port_word<'a>(alloc: Global) -> Arg<'a>
+    ensures rule { rule_of result ≡ port_word }
+    ensures global { result.global ≡ false }
+{
+    Arg::new(alloc, "PORT")
         .action(ArgAction::Set)
         .required(true)
         .value_parser(value_parser!(u16).range(1..=65_535))
-        .help("The port of 127.0.0.1 that is listened on");
-    let clients = Arg::new(alloc, "clients")
+        .help("The port of 127.0.0.1 that is listened on")
+}
+
+/// The word of how many clients are served.
+fn clients_word<'a>(alloc: Global) -> Arg<'a>
+    ensures rule { rule_of result ≡ clients_word }
+    ensures global { result.global ≡ false }
+{
+    Arg::new(alloc, "clients")
         .long("clients")
         .value_name("N")
         .action(ArgAction::Set)
@@ -177,13 +223,35 @@ fn serve_command<'a>(alloc: Global) -> Result<Command<'a>, Error> {
         .default_value("1")
         .help(
             "How many connections are accepted, 1 to 4; they are the clients 1 to N, in that order",
-        );
+        )
+}
+
+/// The words behind `run`.
+fn run_command<'a>(alloc: Global) -> Result<Command<'a>, Error>
+    ensures line { IfOk result (λ command. app_of command ≡ run_line) }
+    ensures globals { IfOk result (λ command. (fields_of command).has_globals ≡ false) }
+{
+    Ok(
+        Command::new(alloc, "run")
+            .about("Answers the lines of a file; without any words the program does this")
+            .after_help(examples())
+            .arg(file_word(alloc))?
+            .arg(from_word(alloc))?
+            .arg(save_word(alloc))?,
+    )
+}
+
+/// The words behind `serve`.
+fn serve_command<'a>(alloc: Global) -> Result<Command<'a>, Error>
+    ensures line { IfOk result (λ command. app_of command ≡ serve_line) }
+    ensures globals { IfOk result (λ command. (fields_of command).has_globals ≡ false) }
+{
     Ok(
         Command::new(alloc, "serve")
             .about("Answers the lines of clients that connect to a port, over one history")
             .after_help(examples())
-            .arg(port)?
-            .arg(clients)?
-            .arg(begin(alloc))?,
+            .arg(port_word(alloc))?
+            .arg(clients_word(alloc))?
+            .arg(from_word(alloc))?,
     )
 }
