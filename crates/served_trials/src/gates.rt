@@ -2,14 +2,18 @@
 
 use crate::faults::Fault;
 use crate::serving::serve;
-use std::hint::spin_loop;
 use std::sync::Wait;
-use std::sync::atomic::{AtomicBool, AtomicU64, Ordering};
+use std::sync::atomic::{AtomicBool, AtomicU64, AtomicUsize, Ordering};
+use std::thread;
 use std::thread::Threads;
+use std::time::{Clock, Duration};
 use zt_shared::Gate;
 
 /// How often a gate looks for what it waits for, before it gives up.
-const TURNS: u32 = 1_000_000_000;
+const TURNS: u32 = 5_000;
+
+/// How many milliseconds it sleeps after each look.
+const PAUSE: u64 = 1;
 
 /// What a client types: two calls.
 fn calls() -> &'static [u8] {
@@ -30,7 +34,7 @@ impl Gate for NoGate {
     fn after(&self, _client: u8, _n: u32) {}
 }
 
-/// A flag that a thread raises, and another waits for.
+/// A flag that a thread raises, and others wait for.
 #[derive(Drop)]
 struct Flag(AtomicBool);
 
@@ -48,12 +52,12 @@ impl Flag {
     }
 
     /// Whether the flag stands at one of so many looks.
-    fn stands_in_time(&self) -> bool {
+    fn stands_in_time(&self, clock: &impl Clock) -> bool {
         for _ in 0..TURNS {
             if self.stands() {
                 return true;
             }
-            spin_loop();
+            thread::sleep(clock, Duration::from_millis(PAUSE));
         }
         false
     }
@@ -61,14 +65,15 @@ impl Flag {
 
 /// Holds the first command of client 1 until the first one of client 2 is answered.
 #[derive(Drop)]
-struct SecondFirst {
+struct SecondFirst<'a, C> {
+    clock: &'a C,
     answered: Flag,
     in_vain: Flag,
 }
 
-impl Gate for SecondFirst {
+impl<C: Clock> Gate for SecondFirst<'_, C> {
     fn before(&self, client: u8, n: u32) {
-        if client == 1 && n == 1 && !self.answered.stands_in_time() {
+        if client == 1 && n == 1 && !self.answered.stands_in_time(self.clock) {
             self.in_vain.raise();
         }
     }
@@ -80,27 +85,29 @@ impl Gate for SecondFirst {
     }
 }
 
-/// Holds the first command of each of two clients until the first one of the other has come too.
+/// Holds the first command of each client until the first ones of all the others have come too. One who has waited in vain
+/// goes on, and lets the others go on.
 #[derive(Drop)]
-struct Meeting {
-    first: Flag,
-    second: Flag,
+struct Meeting<'a, C> {
+    clock: &'a C,
+    /// How many clients have not come yet.
+    missing: AtomicUsize,
+    /// Stands once all have come, or one has waited in vain.
+    open: Flag,
     in_vain: Flag,
 }
 
-impl Gate for Meeting {
-    fn before(&self, client: u8, n: u32) {
+impl<C: Clock> Gate for Meeting<'_, C> {
+    fn before(&self, _client: u8, n: u32) {
         if n != 1 {
             return;
         }
-        let (mine, other) = if client == 1 {
-            (&self.first, &self.second)
-        } else {
-            (&self.second, &self.first)
-        };
-        mine.raise();
-        if !other.stands_in_time() {
+        if self.missing.fetch_sub(1, Ordering::SeqCst) == 1 {
+            self.open.raise();
+        }
+        if !self.open.stands_in_time(self.clock) {
             self.in_vain.raise();
+            self.open.raise();
         }
     }
 
@@ -150,8 +157,11 @@ impl Gate for Counting {
 }
 
 /// Two clients, of whom the first is held until the second has its first answer.
-pub fn second_before_first<R: Threads + Wait + AllocGlobal + Sync>(rt: &R) -> Result<usize, Fault> {
+pub fn second_before_first<R: Threads + Wait + AllocGlobal + Clock + Sync>(
+    rt: &R,
+) -> Result<usize, Fault> {
     let gate = SecondFirst {
+        clock: rt,
         answered: Flag::new(),
         in_vain: Flag::new(),
     };
@@ -159,14 +169,19 @@ pub fn second_before_first<R: Threads + Wait + AllocGlobal + Sync>(rt: &R) -> Re
     in_time(rows, &gate.in_vain)
 }
 
-/// Two clients, of whom each is held until the other has come.
-pub fn each_for_the_other<R: Threads + Wait + AllocGlobal + Sync>(rt: &R) -> Result<usize, Fault> {
+/// So many clients, of whom each is held until all the others have come.
+pub fn each_for_the_others<R: Threads + Wait + AllocGlobal + Clock + Sync>(
+    rt: &R,
+    clients: usize,
+) -> Result<usize, Fault> {
     let gate = Meeting {
-        first: Flag::new(),
-        second: Flag::new(),
+        clock: rt,
+        missing: AtomicUsize::new(clients),
+        open: Flag::new(),
         in_vain: Flag::new(),
     };
-    let rows = rows_of_all(rt, [calls(), calls()].as_slice(), &gate)?;
+    let texts = vec![in rt.alloc(); calls(); clients]?;
+    let rows = rows_of_all(rt, texts.as_slice(), &gate)?;
     in_time(rows, &gate.in_vain)
 }
 

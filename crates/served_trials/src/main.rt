@@ -10,21 +10,15 @@ mod typed;
 
 use failing::{half_a_line, reads_fail, writes_fail};
 use faults::Fault;
-use gates::{around_commands, each_for_the_other, second_before_first};
+use gates::{around_commands, each_for_the_others, second_before_first};
 use sockets::{four_clients, two_clients};
 use std::io;
+use std::sync::Wait;
+use std::thread::Threads;
+use std::time::Clock;
 
 fn main(rt: HostRuntime) -> io::Result<()> {
-    report(
-        &rt,
-        "the second client is answered before the first",
-        second_before_first(&rt),
-    )?;
-    report(
-        &rt,
-        "each client waits for the other",
-        each_for_the_other(&rt),
-    )?;
+    report_held(&rt)?;
     report(
         &rt,
         "gates are called around commands alone",
@@ -42,6 +36,30 @@ fn main(rt: HostRuntime) -> io::Result<()> {
         &rt,
         "four clients talk over loopback, a row for each answer",
         four_clients(&rt),
+    )
+}
+
+/// Says how the trials went in which clients are held until others have come.
+fn report_held<R: Threads + Wait + AllocGlobal + Clock + Print + Sync>(rt: &R) -> io::Result<()> {
+    report(
+        rt,
+        "the second client is answered before the first",
+        second_before_first(rt),
+    )?;
+    report(
+        rt,
+        "each client waits for the other",
+        each_for_the_others(rt, 2),
+    )?;
+    report(
+        rt,
+        "each of three clients waits for the others",
+        each_for_the_others(rt, 3),
+    )?;
+    report(
+        rt,
+        "each of four clients waits for the others",
+        each_for_the_others(rt, 4),
     )
 }
 
