@@ -3,13 +3,20 @@
 rt lets one run at a time work in a crate and in what the crate stands on. So each run here gets a room, a repository of one
 crate and what it stands on alone, whose libraries are those of this repository, by hard links.
 """
-import os, shutil, signal, subprocess, sys, time
+import fcntl, os, shutil, signal, subprocess, sys, time
 
 TOP = os.path.dirname(os.path.dirname(os.path.abspath(__file__)))
 # Where the rooms are. rt looks at nothing below .git.
 ROOMS = f"{TOP}/.git/rooms"
 # The memory that one more run may take, in bytes.
 NEED = 4_000_000_000
+
+
+def claim():
+    """Waits until no other run works in the rooms, and returns what keeps others out until it is closed."""
+    held = open(f"{TOP}/.git/rooms.lock", "w")
+    fcntl.flock(held, fcntl.LOCK_EX)
+    return held
 
 
 def graph():

@@ -1,3 +1,4 @@
+mod accounts;
 mod books;
 mod cascades;
 mod copies;
@@ -6,3 +7,5 @@ mod runs;
 mod signals;
 mod stores;
 mod tables;
+mod texts;
+mod undoing;

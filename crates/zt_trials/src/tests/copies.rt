@@ -2,7 +2,7 @@
 use std::alloc::{AllocError, Global};
 use std::test::Fail;
 use zt_bits::Signals;
-use zt_rows::{HandleValue, Items, Koid, Message, Parcel, Reply, Row, Wait};
+use zt_rows::{Call, Event, HandleValue, Items, Koid, Message, Moment, Parcel, Reply, Row, Wait};
 
 const HANDLES: [HandleValue; 1] = [HandleValue(7)];
 
@@ -83,5 +83,35 @@ fn lists_and_replies_are_copied(rt: HostRuntime) -> Result<(), Fail> {
     assert!(rt; is_list_copied(&list)?);
     let reply = Reply::Message(list, Items::new(Vec::new(alloc)));
     assert!(rt; is_reply_copied(&reply)?);
+    Ok(())
+}
+
+/// The handle that the call closes.
+fn closed_by(call: &Call) -> Option<HandleValue> {
+    match call {
+        Call::HandleClose { handle } => Some(*handle),
+        _ => None,
+    }
+}
+
+fn is_event_copied(event: &Event) -> Result<bool, AllocError> {
+    let copied = event.copy()?;
+    Ok(
+        copied.moment == event.moment
+            && copied.process == event.process
+            && closed_by(&copied.call) == Some(HandleValue(7)),
+    )
+}
+
+#[test]
+fn events_are_copied(rt: HostRuntime) -> Result<(), Fail> {
+    let event = Event {
+        moment: Moment(2),
+        process: Koid(1025),
+        call: Call::HandleClose {
+            handle: HandleValue(7),
+        },
+    };
+    assert!(rt; is_event_copied(&event)?);
     Ok(())
 }

@@ -1,12 +1,17 @@
-//! Signals of a channel, with each request for memory refused in turn.
+//! Signals of a channel, with each request for memory refused in turn, and waits for a port that are dropped.
 use std::alloc::{AllocError, Global};
 use std::process::Abort;
+use std::test::Fail;
 use zt_bits::{Kind, Signals};
-use zt_rows::{Koid, Life, ObjectRow, Row, RowKey};
-use zt_signals::{refresh, set_bits};
+use zt_rows::{HandleValue, Koid, Life, ObjectRow, Row, RowKey, Wait};
+use zt_signals::{drop_waits_of_port, refresh, set_bits};
 use zt_store::{Step, Store};
 
 const MADE: Koid = Koid(1026);
+
+const PORT: Koid = Koid(1027);
+
+const OTHER_PORT: Koid = Koid(1028);
 
 /// A channel without a peer, before its signals follow from the rows.
 fn channel(signals: u32) -> ObjectRow {
@@ -69,4 +74,39 @@ fn refused_memory_refreshes_nothing(rt: HostRuntime) {
     if let Ok(mut step) = over_channel(rt.alloc()) {
         check_refresh(&rt, &mut step);
     }
+}
+
+/// A wait of the first process on its first handle.
+fn wait_for(port: Koid) -> Wait {
+    Wait {
+        process: Koid(1025),
+        handle: HandleValue(3),
+        port,
+        key: 5,
+        signals: Signals(8),
+    }
+}
+
+/// A step over three waits, of which the second is for another port than the first and the third.
+fn over_waits(alloc: Global) -> Result<Step, AllocError> {
+    let mut step = Step::begin(Store::opening(alloc)?);
+    step.put(RowKey::Wait(0), Some(Row::Wait(wait_for(PORT))))?;
+    step.put(RowKey::Wait(1), Some(Row::Wait(wait_for(OTHER_PORT))))?;
+    step.put(RowKey::Wait(2), Some(Row::Wait(wait_for(PORT))))?;
+    Ok(step)
+}
+
+/// Whether the waits for the port go, and the one for the other port stays as it was.
+fn are_dropped(step: &mut Step) -> bool {
+    drop_waits_of_port(step, PORT).is_ok()
+        && step.row(RowKey::Wait(0)).is_none()
+        && step.row(RowKey::Wait(1)) == Some(&Row::Wait(wait_for(OTHER_PORT)))
+        && step.row(RowKey::Wait(2)).is_none()
+}
+
+#[test]
+fn waits_of_a_port_are_dropped(rt: HostRuntime) -> Result<(), Fail> {
+    let mut step = over_waits(rt.alloc())?;
+    assert!(rt; are_dropped(&mut step));
+    Ok(())
 }
