@@ -25,7 +25,7 @@ test:
 	tools/test
 
 quick:
-	cd crates/zxtt && rt try --steps 1
+	@cd crates/zxtt && rt try --steps 1
 
 try-cases:
 	tools/try-cases

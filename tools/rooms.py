@@ -13,7 +13,10 @@ NEED = 4_000_000_000
 
 
 def claim():
-    """Waits until no other run works in the rooms, and returns what keeps others out until it is closed."""
+    """Waits until no other run works in the rooms, and returns what keeps others out until it is closed. From then on what
+    runs is ended too where this run is."""
+    for ending in (signal.SIGTERM, signal.SIGHUP):
+        signal.signal(ending, lambda *_: sys.exit(1))
     held = open(f"{TOP}/.git/rooms.lock", "w")
     fcntl.flock(held, fcntl.LOCK_EX)
     return held
