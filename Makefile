@@ -8,7 +8,7 @@
 # make try-program tries what users meet of bin/zxtt: exit statuses, tutorial, worked runs, sockets, large traces
 # make cases       proves and runs the worked runs alone, and says of each whether it went as told
 # make statuses    meets each exit status of the program once
-# make tutorial    replays the tutorial and says where the program prints something else
+# make tutorial    replays the tutorial and the call pages, and says where the program prints something else
 # make wrong-bodies  puts bodies that no contract refuses into a copy, and says whether a trial tells each
 # make refusals    refuses each request for memory in turn, in the tests that are to pass whichever it is
 # make times       what each crate costs the gate, in processor seconds
