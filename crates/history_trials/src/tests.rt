@@ -1,4 +1,4 @@
-mod asking;
+mod branch_calls;
 mod branches;
 mod cascades;
 mod limits;

@@ -1,7 +1,7 @@
 //! Gates that hold clients, and gates that count.
 
 use crate::faults::Fault;
-use crate::serving::serve;
+use crate::served_clients::serve;
 use std::sync::Wait;
 use std::sync::atomic::{AtomicBool, AtomicU64, AtomicUsize, Ordering};
 use std::thread;

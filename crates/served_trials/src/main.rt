@@ -1,16 +1,16 @@
 //! Serves clients of shared books, and prints a line for each trial: how many rows the logs have, or what went otherwise.
 #![tactic(auto)]
 
-mod failing;
 mod faults;
 mod gates;
-mod serving;
+mod lost_clients;
+mod served_clients;
 mod sockets;
 mod typed;
 
-use failing::{half_a_line, reads_fail, writes_fail};
 use faults::Fault;
 use gates::{around_commands, each_for_the_others, second_before_first};
+use lost_clients::{half_a_line, reads_fail, writes_fail};
 use sockets::{four_clients, two_clients};
 use std::io;
 use std::sync::Wait;

@@ -2,7 +2,7 @@
 
 use crate::faults::Fault;
 use crate::gates::NoGate;
-use crate::serving::serve;
+use crate::served_clients::serve;
 use crate::typed::{ANSWERS, lines, other_lines, other_told, told};
 use std::alloc::{AllocError, Global};
 use std::io::{BufRead, BufReader, Read, Write};

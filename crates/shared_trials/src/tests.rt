@@ -1,6 +1,6 @@
-mod asking;
-mod comparing;
-mod opening;
+mod commands;
+mod opened_books;
+mod same_logs;
 mod threads;
 mod trials;
 mod twins;

@@ -20,6 +20,7 @@ use std::sync::Wait;
 use std::{fmt, fs, io};
 use zt_console::{Book, Counted, End, load_text, main_text, run};
 use zt_rows::Refusal;
+use zt_text::RefusalLine;
 
 fn main(rt: HostRuntime) -> io::Result<()> {
     for name in cases(&rt)? {
@@ -109,12 +110,8 @@ fn begin(alloc: Global, from: &Option<Vec<u8>>) -> Result<Book, (u64, Refusal)>
 
 /// What is written where a session text does not load.
 fn fault(alloc: Global, line: u64, refusal: Refusal) -> Result<Vec<u8>, Refusal> {
-    let number = refusal.number();
-    let name = refusal.name();
-    match format!(in alloc; "line {line}: refused {number} {name}\n") {
-        Ok(text) => Ok(text.into_bytes()),
-        Err(_) => Err(Refusal::OutOfMemory),
-    }
+    let text = format!(in alloc; "line {line}: {}\n", RefusalLine(refusal))?;
+    Ok(text.into_bytes())
 }
 
 /// What a run over these lines writes, and would save.

@@ -1,7 +1,7 @@
 //! Lines that the one client of a shared book types.
 
 ghost use Rattle.std.specs.Prelude.{◌≡◌};
-ghost use Rattle.zt_shared.specs.Openings.{IsNamed};
+ghost use Rattle.zt_shared.specs.OpenedBook.{IsNamed};
 ghost use Rattle.zt_shared.specs.Sharing.{IsFresh};
 
 use std::marker::Brand;

@@ -1,26 +1,26 @@
 -- What a book keeps while a command is answered and written, and while the last one is taken back.
 use Rattle.std.proofs.Common.{◌≡◌, ℕ, ◌≤◌, ◌<◌, List, [], ◌∷◌, ◌++◌, length, Option, Some, None, sym, ◌∙◌, ap, subst, arith, length-append}
 use Rattle.zt_history.specs.Branches.{without_last}
-use Rattle.zt_book.specs.declared.books.Served.{Served}
-use Rattle.zt_book.specs.declared.clients.Client.{Client}
-use Rattle.zt_book.specs.declared.logs.Recorded.{Recorded}
+use Rattle.zt_book.specs.declared.book.LastServed.{LastServed}
+use Rattle.zt_book.specs.declared.client.Client.{Client}
+use Rattle.zt_book.specs.declared.log.Recorded.{Recorded}
 use Rattle.zt_book.specs.Session.{client_of}
-use Rattle.zt_book.specs.Log.{Standing, IsCounted}
-use Rattle.zt_book.specs.Desk.{Seats, Stand, IsOneMore, session_before, before_of, CanTakeBack, IsBook}
+use Rattle.zt_book.specs.Log.{SessionLog, IsCounted}
+use Rattle.zt_book.specs.Clients.{ClientsView, Stand, IsOneMore, session_before, before_of, CanTakeBack, IsBook}
 use Rattle.zt_book.proofs.ListLaws.{without_last-push}
 use Rattle.zt_book.proofs.ServedLaws.{one-more-length}
 use Rattle.zt_book.proofs.CountLaws.{counted-row}
 
-module _ (d e : Seats) (log more : List Recorded) (row : Recorded) (client : ℕ) (was : Client) (written : more ≡ log ++ row ∷ [])
+module _ (d e : ClientsView) (log more : List Recorded) (row : Recorded) (client : ℕ) (was : Client) (written : more ≡ log ++ row ∷ [])
     (back : session_before e client was ≡ d.session) where
   shorter : without_last more ≡ log
   shorter = ap without_last written ∙ without_last-push log row
 
   -- what it was before is there
   pub before-answered : before_of e more (Some (record { client = client; was = was })) ≡ Some (record { session = d.session; log = log })
-  before-answered = λ i. let z : Option Standing = Some (record { session = back i; log = shorter i }) in z
+  before-answered = λ i. let z : Option SessionLog = Some (record { session = back i; log = shorter i }) in z
 
-  pub book-answered : (last : Option Served) → 1 ≤ client → client ≤ length d.session.clients → row.client ≡ client → (client_of d.session client).rows < 4096
+  pub book-answered : (last : Option LastServed) → 1 ≤ client → client ≤ length d.session.clients → row.client ≡ client → (client_of d.session client).rows < 4096
       → IsOneMore d.session.clients e.session.clients client → Stand d.session → IsBook d log last → IsBook e more (Some (record { client = client; was = was }))
   book-answered last one known of_it room moved stand kept =
       let long : length e.session.clients ≡ length d.session.clients = one-more-length d.session.clients e.session.clients client moved in
@@ -36,11 +36,11 @@ module _ (d e : Seats) (log more : List Recorded) (row : Recorded) (client : ℕ
       }
 
 -- with the same session and log it stays a book, whatever was answered last
-pub book-same : (d e : Seats) (log : List Recorded) (last : Option Served) → e.session ≡ d.session → IsBook d log last → IsBook e log None
+pub book-same : (d e : ClientsView) (log : List Recorded) (last : Option LastServed) → e.session ≡ d.session → IsBook d log last → IsBook e log None
 book-same d e log last same kept = record { counted = subst (λ M. IsCounted M log) (sym same) kept.counted; served = tt }
 
 -- the last command is taken back
-pub book-back : (d e : Seats) (log less : List Recorded) (last : Served) → e.session ≡ session_before d last.client last.was → less ≡ without_last log
+pub book-back : (d e : ClientsView) (log less : List Recorded) (last : LastServed) → e.session ≡ session_before d last.client last.was → less ≡ without_last log
     → CanTakeBack d log last → IsBook e less None
 book-back d e log less last same shorter can = record {
   counted = subst (λ l. IsCounted e.session l) (sym shorter) (subst (λ M. IsCounted M (without_last log)) (sym same) can.counted);

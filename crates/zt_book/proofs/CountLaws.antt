@@ -6,12 +6,12 @@ use Rattle.std.proofs.lemmas.Bool.{eqb-true, eqb-false}
 use Rattle.std.proofs.lemmas.List.{length-replicate, get_or-set_same, get_or-set_other, get_or-replicate}
 use Rattle.std.proofs.lemmas.List.Elements.{filter-append}
 use Rattle.zt_history.specs.Tree.{Tree}
-use Rattle.zt_book.specs.declared.clients.Client.{Client}
-use Rattle.zt_book.specs.declared.logs.Recorded.{Recorded}
+use Rattle.zt_book.specs.declared.client.Client.{Client}
+use Rattle.zt_book.specs.declared.log.Recorded.{Recorded}
 use Rattle.zt_book.specs.Session.{Session, first_client, client_of, session_over, most_rows}
 use Rattle.zt_book.specs.Log.{rows_of, IsOf, IsCounted}
 use Rattle.zt_book.proofs.ListLaws.{all-append}
-use Rattle.zt_book.specs.Desk.{IsOneMore}
+use Rattle.zt_book.specs.Clients.{IsOneMore}
 use Rattle.zt_book.proofs.ServedLaws.{one-more-length}
 
 -- ---- no row yet

@@ -1,7 +1,7 @@
 pub mod ListLaws
 pub mod ServedLaws
 pub mod CountLaws
-pub mod DeskLaws
+pub mod ClientsLaws
 pub mod LoadLaws
 pub mod BookLaws
 mod WorkedSessions

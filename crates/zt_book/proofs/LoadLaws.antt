@@ -7,7 +7,7 @@ use Rattle.zt_rows.specs.declared.calls.Call.{Call}
 use Rattle.zt_rows.specs.declared.refusals.Refusal.{Refusal}
 use Rattle.zt_rows.specs.declared.refusals.Refusal.TheVariants as refusal
 use Rattle.zt_rows.specs.Reads.{runs}
-use Rattle.zt_history.specs.Refusing.{check, ◌>>=◌, call_on, most_moments, IsRefused}
+use Rattle.zt_history.specs.HistoryRefusals.{check, ◌>>=◌, call_on, most_moments, IsHistoryRefusal}
 use Rattle.zt_history.specs.Tree.{Tree, Branch, last_moment, state_at, head_at, headed, called, made_by}
 use Rattle.zt_rows.specs.declared.calls.Answer.TheVariants as answer
 use Rattle.std.specs.Prelude.{nat_lt}
@@ -45,7 +45,7 @@ loaded-more i t u process call said rest h = ap (λ r. loaded_behind i r (λ v. 
 
 -- ---- a call that is refused
 
-refused-either : (A : Type 0) (reason given : Refusal) → IsRefused {A = A} (Err reason) given → (given ≡ reason) ⊎ (given ≡ refusal.OutOfMemory)
+refused-either : (A : Type 0) (reason given : Refusal) → IsHistoryRefusal {A = A} (Err reason) given → (given ≡ reason) ⊎ (given ≡ refusal.OutOfMemory)
 refused-either A refusal.NoProcess given h = h
 refused-either A _ given h = inl h
 
@@ -58,7 +58,7 @@ pub unloaded-memory : (whole : Result Tree (ℕ × Refusal)) → IsUnloadedBy fa
 unloaded-memory (Ok t) = refl
 unloaded-memory (Err first) = inr refl
 
-unloaded_here : (r : Result (Answer × Tree) Refusal) (i : ℕ) (given : Refusal) (rest : Tree → Result Tree (ℕ × Refusal)) → IsRefused r given
+unloaded_here : (r : Result (Answer × Tree) Refusal) (i : ℕ) (given : Refusal) (rest : Tree → Result Tree (ℕ × Refusal)) → IsHistoryRefusal r given
     → IsUnloadedBy false (loaded_behind i r rest) (fault_at i given)
 unloaded_here (Ok done) i given rest h =
     subst (λ g. IsUnloadedBy false (rest done.1) (fault_at i g)) (sym h) (unloaded-memory (rest done.1))
@@ -71,7 +71,7 @@ unloaded_here (Err reason) i given rest h =
       | inr memory ↦ inr (ap (fault_at i) memory)
     ]
 
-pub unloaded-here : (i : ℕ) (t : Tree) (process : ℕ) (call : Call) (given : Refusal) (rest : List (ℕ × Call)) → IsRefused (call_on t 0 process call) given
+pub unloaded-here : (i : ℕ) (t : Tree) (process : ℕ) (call : Call) (given : Refusal) (rest : List (ℕ × Call)) → IsHistoryRefusal (call_on t 0 process call) given
     → IsUnloadedBy false (loaded_from i t ((process, call) ∷ rest)) (fault_at i given)
 unloaded-here i t process call given rest = unloaded_here (call_on t 0 process call) i given (λ u. loaded_from (suc i) u rest)
 
@@ -95,7 +95,7 @@ loaded-so-far calls i j t u x said there next is done so_far =
     ∙ so_far
 
 pub unloaded-so-far : (calls : List (ℕ × Call)) (i : ℕ) (t : Tree) (x : ℕ × Call) (given : Refusal) → i < length calls → x ≡ get_or calls i x
-    → IsRefused (call_on t 0 x.0 x.1) given → loaded_from i t (drop i calls) ≡ loaded calls → IsUnloadedBy false (loaded calls) (fault_at i given)
+    → IsHistoryRefusal (call_on t 0 x.0 x.1) given → loaded_from i t (drop i calls) ≡ loaded calls → IsUnloadedBy false (loaded calls) (fault_at i given)
 unloaded-so-far calls i t x given there is refused so_far =
     let here : loaded_from i t (x ∷ drop (suc i) calls) ≡ loaded calls = sym (ap (loaded_from i t) (front calls i x there is)) ∙ so_far in
     subst (λ w. IsUnloadedBy false w (fault_at i given)) here (unloaded-here i t x.0 x.1 given (drop (suc i) calls) refused)

@@ -10,15 +10,15 @@ use Rattle.zt_rows.specs.declared.calls.Command.TheVariants as command
 use Rattle.zt_rows.specs.declared.calls.Happening.{Happening}
 use Rattle.zt_rows.specs.declared.refusals.Refusal.{Refusal}
 use Rattle.zt_rows.specs.declared.refusals.Refusal.TheVariants as refusal
-use Rattle.zt_history.specs.Refusing.{check, ◌>>=◌, call_on, branch_on, moment_on}
+use Rattle.zt_history.specs.HistoryRefusals.{check, ◌>>=◌, call_on, branch_on, moment_on}
 use Rattle.zt_history.specs.Tree.{head_at, branch_named, path}
-use Rattle.zt_queries.specs.Copies.{holders_on}
+use Rattle.zt_queries.specs.FrozenCopy.{holders_on}
 use Rattle.zt_queries.specs.Leaks.{leaks}
-use Rattle.zt_queries.specs.Times.{when_on}
-use Rattle.zt_book.specs.declared.clients.Client.{Client}
-use Rattle.zt_book.specs.declared.clients.Cursor.TheVariants.{Follows, At}
-use Rattle.zt_book.specs.Session.{Session, first_client, most_rows, is_name, client_of, with_client, standing, position_of, state_of, followed, ancestor, branch_found, event_at, counted, asked, serve, call_by, goto_by, back_by, branch_by, follow_by, show_to, holders_to, leaks_to, when_to, pin_to, IsRefused}
-use Rattle.zt_book.specs.Desk.{Seats, IsOneMore, session_before}
+use Rattle.zt_queries.specs.HappeningTimes.{when_on}
+use Rattle.zt_book.specs.declared.client.Client.{Client}
+use Rattle.zt_book.specs.declared.client.Cursor.TheVariants.{Follows, At}
+use Rattle.zt_book.specs.Session.{Session, first_client, most_rows, is_name, client_of, with_client, standing, position_of, state_of, followed, ancestor, branch_found, event_at, counted, asked, serve, call_by, goto_by, back_by, branch_by, follow_by, show_to, holders_to, leaks_to, when_to, pin_to, IsCommandRefusal}
+use Rattle.zt_book.specs.Clients.{ClientsView, IsOneMore, session_before}
 use Rattle.zt_book.proofs.ListLaws.{set-again}
 
 -- ---- checks in a row
@@ -168,21 +168,21 @@ moved-rows old N client known h =
     ∙ h.rows
 
 -- what the checks of a command refuse, serving it refuses
-refused_behind : {A B : Type 0} (r : Result A Refusal) (f : A → B) (given : Refusal) → IsRefused r given → IsRefused (r >>= λ x. Ok (f x)) given
+refused_behind : {A B : Type 0} (r : Result A Refusal) (f : A → B) (given : Refusal) → IsCommandRefusal r given → IsCommandRefusal (r >>= λ x. Ok (f x)) given
 refused_behind (Ok x) f given h = h
 refused_behind (Err refusal.NoProcess) f given h = h
 refused_behind (Err refusal.NoObject) f given h = h
 refused_behind (Err _) f given h = h
 
 pub serve-refused : (M : Session) (client : ℕ) (request : Command) (given : Refusal) → nat_lt (client_of M client).rows most_rows ≡ true
-    → IsRefused (asked M client request) given → IsRefused (serve M client request) given
+    → IsCommandRefusal (asked M client request) given → IsCommandRefusal (serve M client request) given
 unfolding serve
 serve-refused M client request given room h =
     rw room (refused_behind (asked M client request) (λ (y : Answer × Session). let z : Answer × Session = (y.0, counted y.1 client) in z) given h)
 
--- ---- a desk that served a command
+-- ---- the clients after a command was served
 
-module _ (d e f : Seats) (client : ℕ) (request : Command) (said : Answer) (one : 1 ≤ client) (known : client ≤ length d.session.clients)
+module _ (d e f : ClientsView) (client : ℕ) (request : Command) (said : Answer) (one : 1 ≤ client) (known : client ≤ length d.session.clients)
     (done : asked d.session client request ≡ Ok (said, e.session)) where
   stood : IsMoved d.session.clients e.session.clients client
   stood = moved d.session client request (said, e.session) done

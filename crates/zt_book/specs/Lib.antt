@@ -1,3 +1,4 @@
+-- Definitions to believe: public clauses are stated in them.
 pub mod Session
 pub mod Log
-pub mod Desk
+pub mod Clients

@@ -5,10 +5,10 @@ use Rattle.zt_rows.specs.declared.calls.Answer.{Answer}
 use Rattle.zt_rows.specs.declared.calls.Call.{Call}
 use Rattle.zt_rows.specs.declared.refusals.Refusal.{Refusal}
 use Rattle.zt_rows.specs.declared.refusals.Refusal.TheVariants as refusal
-use Rattle.zt_history.specs.Refusing.{call_on}
+use Rattle.zt_history.specs.HistoryRefusals.{call_on}
 use Rattle.zt_history.specs.Tree.{Tree, opening_tree, state_at, calls_to}
-use Rattle.zt_queries.specs.Copies.{Snapshot}
-use Rattle.zt_book.specs.declared.logs.Recorded.{Recorded}
+use Rattle.zt_queries.specs.FrozenCopy.{Snapshot}
+use Rattle.zt_book.specs.declared.log.Recorded.{Recorded}
 use Rattle.zt_book.specs.Session.{Session, opening_session, session_over, client_of, most_rows, serve}
 
 -- ---- the log
@@ -38,23 +38,23 @@ pub record IsCounted (M : Session) (log : List Recorded) : Type 0 where
 -- ---- a book
 
 -- a session with its log
-pub record Standing : Type 0 where
+pub record SessionLog : Type 0 where
   pub session : Session
   pub log : List Recorded
 
 -- how a book is seen. `before` is there where the last command was answered, and nothing was changed since: what it
 -- was before that command.
-pub record Kept : Type 0 where
+pub record BookView : Type 0 where
   pub session : Session
   pub log : List Recorded
-  pub before : Option Standing
+  pub before : Option SessionLog
 
 -- the session and the log, of a book
-abbrev pub standing_of : Kept → Standing
+abbrev pub standing_of : BookView → SessionLog
 standing_of b = record { session = b.session; log = b.log }
 
 -- a book of so many clients at the opening
-abbrev pub first_book : ℕ → Kept
+abbrev pub first_book : ℕ → BookView
 first_book clients = record { session = opening_session clients; log = []; before = None }
 
 -- a copy of the history at this moment of a tree
@@ -78,7 +78,7 @@ abbrev pub loaded : List (ℕ × Call) → Result Tree (ℕ × Refusal)
 loaded calls = loaded_from 0 opening_tree calls
 
 -- a book of so many clients over a loaded tree: its log begins there
-abbrev pub book_over : Tree → ℕ → Kept
+abbrev pub book_over : Tree → ℕ → BookView
 book_over t clients = record { session = session_over t clients; log = []; before = None }
 
 -- what is told where a book is not loaded: that there are too many clients; or the first call that is refused; or that

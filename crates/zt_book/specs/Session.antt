@@ -13,14 +13,14 @@ use Rattle.zt_rows.specs.declared.calls.Happening.{Happening}
 use Rattle.zt_rows.specs.declared.refusals.Refusal.{Refusal}
 use Rattle.zt_rows.specs.declared.refusals.Refusal.TheVariants as refusal
 use Rattle.zt_rows.specs.State.{State}
-use Rattle.zt_history.specs.Refusing.{check, ◌>>=◌, call_on, branch_on, moment_on}
+use Rattle.zt_history.specs.HistoryRefusals.{check, ◌>>=◌, call_on, branch_on, moment_on}
 use Rattle.zt_history.specs.Tree.{Made, Tree, opening_tree, made_at, path, state_at, head_at, branch_named}
-use Rattle.zt_queries.specs.Copies.{holders_on}
+use Rattle.zt_queries.specs.FrozenCopy.{holders_on}
 use Rattle.zt_queries.specs.Leaks.{leaks}
-use Rattle.zt_queries.specs.Times.{when_on}
-use Rattle.zt_book.specs.declared.clients.Client.{Client}
-use Rattle.zt_book.specs.declared.clients.Cursor.{Cursor}
-use Rattle.zt_book.specs.declared.clients.Cursor.TheVariants.{Follows, At}
+use Rattle.zt_queries.specs.HappeningTimes.{when_on}
+use Rattle.zt_book.specs.declared.client.Client.{Client}
+use Rattle.zt_book.specs.declared.client.Cursor.{Cursor}
+use Rattle.zt_book.specs.declared.client.Cursor.TheVariants.{Follows, At}
 
 pub record Session : Type 0 where
   pub tree : Tree
@@ -187,8 +187,8 @@ serve M client request = do
 
 -- The refusal that was given, where the checks end so. The caller is looked for at the head, and an object at the
 -- position, and the way there wants memory; what the other checks find is told without any.
-abbrev pub IsRefused : {A : Type 0} → Result A Refusal → Refusal → Type 0
-IsRefused (Ok _) given = given ≡ refusal.OutOfMemory
-IsRefused (Err refusal.NoProcess) given = (given ≡ refusal.NoProcess) ⊎ (given ≡ refusal.OutOfMemory)
-IsRefused (Err refusal.NoObject) given = (given ≡ refusal.NoObject) ⊎ (given ≡ refusal.OutOfMemory)
-IsRefused (Err reason) given = given ≡ reason
+abbrev pub IsCommandRefusal : {A : Type 0} → Result A Refusal → Refusal → Type 0
+IsCommandRefusal (Ok _) given = given ≡ refusal.OutOfMemory
+IsCommandRefusal (Err refusal.NoProcess) given = (given ≡ refusal.NoProcess) ⊎ (given ≡ refusal.OutOfMemory)
+IsCommandRefusal (Err refusal.NoObject) given = (given ≡ refusal.NoObject) ⊎ (given ≡ refusal.OutOfMemory)
+IsCommandRefusal (Err reason) given = given ≡ reason

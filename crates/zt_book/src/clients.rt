@@ -1,21 +1,183 @@
-use zt_history::BranchId;
-use zt_rows::Moment;
+ghost use Rattle.std.specs.Prelude.{◌≡◌, ◌≤◌, ◌<◌, ◌-◌, IfOk, IfErr, OnOk, length};
+ghost use Rattle.zt_history.specs.TreeInvariant.{IsTree};
+ghost use Rattle.zt_book.specs.Session.{client_of, counted, position_of, session_over, with_client};
+ghost use Rattle.zt_book.specs.Log.{snapshot_at};
+ghost use Rattle.zt_book.specs.Clients.{IsClient, IsCursor, Stand, session_before};
 
-/// Where a client stands.
-#[derive(Clone, Copy, Debug)]
-pub enum Cursor {
-    /// At the head of a branch, wherever it moves.
-    Follows(BranchId),
-    /// At a moment, where no call is taken.
-    At(Moment),
+use crate::client::{Client, Cursor};
+use std::alloc::{AllocError, Global};
+use std::marker::Model;
+use zt_history::{BranchId, History};
+use zt_queries::Frozen;
+use zt_rows::{Moment, Refusal};
+
+/// The history, with the clients that stand in it.
+#[derive(Drop)]
+pub(crate) struct Clients {
+    pub(crate) history: History,
+    pub(crate) clients: Vec<Client>,
+    /// Whether the last command changed the history.
+    pub(crate) grown: bool,
 }
 
-/// What a book knows of a client.
-#[derive(Clone, Copy, Debug)]
-pub struct Client {
-    pub cursor: Cursor,
-    /// The moment that it pinned last.
-    pub pinned: Option<Moment>,
-    /// How many commands were answered to it.
-    pub rows: u32,
+impl Model for Clients {
+    ghost use Rattle.zt_book.specs.Clients.{ClientsView, clients_view, AreClients};
+
+    ghost Value = { ClientsView };
+
+    ghost view = { λ d. clients_view d.history d.clients.items d.grown };
+
+    ghost invariant = { λ d. AreClients d.history d.clients.items d.grown };
+}
+
+impl Clients {
+    /// So many clients over a history, each following `main`.
+    #[tactic(auto, using(crate::proofs::ClientsLaws::first_all_clients))]
+    pub(crate) fn new(alloc: Global, history: History, clients: u8) -> Result<Clients, AllocError>
+        requires { clients ≤ 4 }
+        ensures { IfOk result (λ all_clients. all_clients.session ≡ session_over history.tree clients) }
+    {
+        let _position = history.position();
+        let first = Client {
+            cursor: Cursor::Follows(BranchId(0)),
+            pinned: None,
+            rows: 0,
+        };
+        let clients = vec![in alloc; first; clients as usize]?;
+        let grown = false;
+        Ok(Clients {
+            history,
+            clients,
+            grown,
+        })
+    }
+
+    /// What holds of all clients and of their history.
+    pub(crate) fn limits(&self)
+        ensures few { length self.now.session.clients ≤ 4 }
+        ensures stand { Stand self.now.session }
+        ensures tree { IsTree self.now.session.tree }
+    {
+        let _position = self.history.position();
+    }
+
+    /// The history.
+    pub(crate) fn history(&self) -> &History
+        ensures tree { result.now.tree ≡ self.now.session.tree }
+        ensures position { result.now.position ≡ self.now.at }
+    {
+        &self.history
+    }
+
+    /// How many clients there are.
+    pub(crate) fn clients(&self) -> u8
+        ensures { result ≡ length self.now.session.clients }
+    {
+        self.clients.len() as u8
+    }
+
+    /// What is known of a client.
+    pub(crate) fn client(&self, client: u8) -> Client
+        requires numbered { 1 ≤ client }
+        requires known { client ≤ length self.now.session.clients }
+        ensures client { result ≡ client_of self.now.session client }
+        ensures stands { IsClient self.now.session.tree result }
+    {
+        self.clients[client as usize - 1]
+    }
+
+    /// Where a client stands.
+    pub(crate) fn cursor(&self, client: u8) -> Cursor
+        requires numbered { 1 ≤ client }
+        requires known { client ≤ length self.now.session.clients }
+        ensures cursor { result ≡ (client_of self.now.session client).cursor }
+        ensures stands { IsCursor self.now.session.tree result }
+    {
+        let known = self.client(client);
+        known.cursor
+    }
+
+    /// The moment at which a client stands.
+    pub(crate) fn position(&self, client: u8) -> Moment
+        requires numbered { 1 ≤ client }
+        requires known { client ≤ length self.now.session.clients }
+        ensures position { result ≡ position_of self.now.session client }
+        ensures within { result ≤ length self.now.session.tree.made }
+    {
+        match self.cursor(client) {
+            Cursor::Follows(branch) => self.history.head(branch),
+            Cursor::At(moment) => moment,
+        }
+    }
+
+    /// Moves the store to the moment at which a client stands, and tells it.
+    pub(crate) fn go(&mut self, client: u8) -> Result<Moment, Refusal>
+        requires numbered { 1 ≤ client }
+        requires known { client ≤ length self.old.session.clients }
+        ensures ok { IfOk result (λ position. position ≡ position_of self.old.session client) }
+        ensures there { IfOk result (λ position. self.new.at ≡ position) }
+        ensures session { self.new.session ≡ self.old.session }
+        ensures earlier { OnOk result (self.new.earlier ≡ self.old.session.tree) }
+        ensures refused { IfErr result (λ refusal. refusal ≡ Refusal.OutOfMemory) }
+    {
+        self.grown = false;
+        let position = self.position(client);
+        if self.history.position() == position {
+            return Ok(position);
+        }
+        match self.history.goto(position) {
+            Ok(()) => Ok(position),
+            Err(_) => Err(Refusal::OutOfMemory),
+        }
+    }
+
+    /// A copy of the history at the moment at which a client stands.
+    pub(crate) fn frozen(&mut self, client: u8) -> Result<Frozen, Refusal>
+        requires numbered { 1 ≤ client }
+        requires known { client ≤ length self.old.session.clients }
+        ensures ok { IfOk result (λ frozen. frozen ≡ snapshot_at self.old.session.tree (position_of self.old.session client)) }
+        ensures session { self.new.session ≡ self.old.session }
+        ensures refused { IfErr result (λ refusal. refusal ≡ Refusal.OutOfMemory) }
+    {
+        self.go(client)?;
+        Frozen::copy(*self.clients.allocator(), &self.history)
+    }
+
+    /// Puts another for what is known of a client.
+    pub(crate) fn put(&mut self, client: u8, to: Client)
+        requires numbered { 1 ≤ client }
+        requires known { client ≤ length self.old.session.clients }
+        requires stands { IsClient self.old.session.tree to }
+        ensures session { self.new.session ≡ with_client self.old.session client to }
+        ensures earlier { self.new.earlier ≡ self.old.earlier }
+    {
+        self.clients[client as usize - 1] = to;
+    }
+
+    /// One answered command more of a client.
+    pub(crate) fn count(&mut self, client: u8)
+        requires numbered { 1 ≤ client }
+        requires known { client ≤ length self.old.session.clients }
+        requires few { (client_of self.old.session client).rows < 4096 }
+        ensures session { self.new.session ≡ counted self.old.session client }
+        ensures earlier { self.new.earlier ≡ self.old.earlier }
+    {
+        let mut known = self.client(client);
+        known.rows += 1;
+        self.put(client, known);
+    }
+
+    /// Takes the last command back, of a client that was so before. It takes no memory.
+    pub(crate) fn retract(&mut self, client: u8, was: Client)
+        requires numbered { 1 ≤ client }
+        requires known { client ≤ length self.old.session.clients }
+        requires stand { Stand (session_before self.old client was) }
+        ensures { self.new.session ≡ session_before self.old client was }
+    {
+        if self.grown {
+            self.history.retract();
+            self.grown = false;
+        }
+        self.clients[client as usize - 1] = was;
+    }
 }

@@ -1,14 +1,14 @@
 //! The book of a session: the tree of moments with the clients that stand in it, and the log of what they were answered.
 #![tactic(auto)]
 
-mod answering;
-mod books;
+mod book;
+mod branch_name;
+mod client;
 mod clients;
-mod desks;
-mod loading;
-mod logs;
-mod names;
+mod commands;
+mod loaded_history;
+mod log;
 
-pub use books::{Book, CLIENTS};
-pub use clients::{Client, Cursor};
-pub use logs::{Log, Recorded};
+pub use book::Book;
+pub use client::{Client, Cursor};
+pub use log::{Log, Recorded};

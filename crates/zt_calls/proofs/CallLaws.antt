@@ -16,7 +16,7 @@ use Rattle.zt_rows.specs.Room.{HasRoom}
 use Rattle.zt_rows.specs.Handles.{◌>>=◌, answered, caller, value_of, whole, fresh, next_koid, install, make, make_pair, take_out}
 use Rattle.zt_rows.specs.ObjectCalls.{create, create_pair, received, handle_replace}
 use Rattle.zt_rows.specs.Consistent.{IsSound}
-use Rattle.zt_store.specs.Stepping.{Stepping, Advanced}
+use Rattle.zt_store.specs.StepView.{Stepping, Advanced}
 use Rattle.zt_tables.specs.Entries.{with_rights}
 use Rattle.zt_calls.proofs.GoingOn.{further, reached}
 use Rattle.zt_calls.proofs.CallerLaws.{room-installs, caller-same, next-same, caller-next, object-of-made, object-of-paired, object-of-rest, caller-of-installed, next-of-installed}

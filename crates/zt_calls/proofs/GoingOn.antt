@@ -1,7 +1,7 @@
 -- A step that went on to a state goes on from there.
 use Rattle.std.proofs.Common.{◌≡◌, ap, ◌∙◌}
 use Rattle.zt_rows.specs.State.{State}
-use Rattle.zt_store.specs.Stepping.{Stepping, Advanced}
+use Rattle.zt_store.specs.StepView.{Stepping, Advanced}
 
 pub further : (s t u : Stepping) (T : State) (more : State → State) → Advanced s t T → Advanced t u (more t.current) → Advanced s u (more T)
 further s t u T more went again = (again.0 ∙ went.0, again.1 ∙ ap more went.1)

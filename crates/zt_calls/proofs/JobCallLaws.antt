@@ -21,13 +21,13 @@ use Rattle.zt_rows.specs.JobCalls.{argument, give_up, child, hand_over, spawn}
 use Rattle.zt_rows.specs.Consistent.{IsSound}
 use Rattle.zt_rows.proofs.StateLaws.{row-put}
 use Rattle.zt_rows.proofs.TakeLaws.{object-taken, counters-taken, sound-taken}
-use Rattle.zt_store.specs.Stepping.{Stepping, Advanced, begun}
-use Rattle.zt_calls.specs.declared.arguments.Wanted.TheVariants as want
-use Rattle.zt_calls.specs.declared.failures.Failure.{Failure}
-use Rattle.zt_calls.specs.declared.failures.Failure.TheVariants as failure
-use Rattle.zt_calls.specs.Outcomes.{Does}
-use Rattle.zt_calls.specs.Wanting.{handle_to}
-use Rattle.zt_calls.specs.Tasks.{job_made, process_made}
+use Rattle.zt_store.specs.StepView.{Stepping, Advanced, begun}
+use Rattle.zt_calls.specs.declared.handle_arguments.WantedKind.TheVariants as want
+use Rattle.zt_calls.specs.declared.failure.Failure.{Failure}
+use Rattle.zt_calls.specs.declared.failure.Failure.TheVariants as failure
+use Rattle.zt_calls.specs.CallOutcomes.{Does}
+use Rattle.zt_calls.specs.WantedKinds.{handle_to}
+use Rattle.zt_calls.specs.NewTasks.{job_made, process_made}
 use Rattle.zt_calls.proofs.GoingOn.{reached}
 use Rattle.zt_calls.proofs.CallLaws.{installed_on}
 use Rattle.zt_calls.proofs.CallerLaws.{room-installs, next-same, object-of-made}

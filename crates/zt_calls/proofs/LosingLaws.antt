@@ -13,10 +13,10 @@ use Rattle.zt_rows.specs.State.{State, row}
 use Rattle.zt_rows.specs.Reads.{as_entry, as_message}
 use Rattle.zt_rows.proofs.RowLaws.{or_true, or_left, or_right}
 use Rattle.zt_rows.proofs.ReadLaws.{entry-row, message-row}
-use Rattle.zt_store.specs.Stepping.{Stepping, listed, DiffersAtTouched}
-use Rattle.zt_cascade.specs.OnTheWay.{is_named}
-use Rattle.zt_cascade.specs.Covered.{NamesLost}
-use Rattle.zt_calls.specs.Losing.{named_by}
+use Rattle.zt_store.specs.StepView.{Stepping, listed, DiffersAtTouched}
+use Rattle.zt_cascade.specs.OneByOne.{is_named}
+use Rattle.zt_cascade.specs.ToldObjects.{NamesLost}
+use Rattle.zt_calls.specs.LostObjects.{named_by}
 
 -- what the rows of B under these keys name
 abbrev pub all_named : State → List RowKey → List Held

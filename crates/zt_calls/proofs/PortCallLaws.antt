@@ -19,7 +19,7 @@ use Rattle.zt_rows.specs.Handles.{◌>>=◌, answered, check, done, handle, hand
 use Rattle.zt_rows.specs.PortCalls.{cancel, is_cancelled, port_cancel}
 use Rattle.zt_rows.proofs.StateLaws.{row-change, same_state}
 use Rattle.zt_rows.proofs.RowLaws.{any_row-at, not_true, true≢false}
-use Rattle.zt_store.specs.Stepping.{Stepping, Advanced}
+use Rattle.zt_store.specs.StepView.{Stepping, Advanced}
 use Rattle.zt_calls.proofs.GoingOn.{reached}
 
 -- ---- a port by a handle

@@ -18,7 +18,7 @@ use Rattle.zt_rows.proofs.CollectLaws.{sound-collect}
 use Rattle.zt_rows.proofs.GivenLaws.{growth, OfKind, Called}
 use Rattle.zt_rows.proofs.CallLaws.{sound-direct}
 use Rattle.zt_rows.proofs.SpentLaws.{called-direct}
-use Rattle.zt_cascade.specs.Firing.{HasRoomToFire}
+use Rattle.zt_cascade.specs.PacketRoom.{HasRoomToFire}
 
 -- the next number of a row, if it is a port's, leaves room for more packets than memory has place for
 abbrev pub PortFits : ObjectRow → Type 0

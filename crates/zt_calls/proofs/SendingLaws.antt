@@ -21,9 +21,9 @@ use Rattle.zt_rows.specs.Consistent.{IsSound}
 use Rattle.zt_rows.proofs.TakeLaws.{object-taken}
 use Rattle.zt_rows.proofs.StepLaws.{peer_kind}
 use Rattle.zt_rows.proofs.SentLaws.{bound, found, is_channel-is}
-use Rattle.zt_store.specs.Stepping.{Stepping, Advanced}
-use Rattle.zt_queues.specs.Pushed.{pushed_to, pushed}
-use Rattle.zt_calls.specs.Sending.{sendable, message_for}
+use Rattle.zt_store.specs.StepView.{Stepping, Advanced}
+use Rattle.zt_queues.specs.QueueEnd.{pushed_to, pushed}
+use Rattle.zt_calls.specs.SentMessage.{sendable, message_for}
 use Rattle.zt_calls.proofs.ListLemmas.{drop-past}
 use Rattle.zt_calls.proofs.GoingOn.{further, reached}
 

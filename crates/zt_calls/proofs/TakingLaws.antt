@@ -18,10 +18,10 @@ use Rattle.zt_rows.specs.Handles.{taken, take_out, take_out_all}
 use Rattle.zt_rows.proofs.StateLaws.{row-put, row-change, same_state}
 use Rattle.zt_rows.proofs.ReadLaws.{entry-row}
 use Rattle.zt_rows.proofs.TakeLaws.{sound-taken}
-use Rattle.zt_store.specs.Stepping.{Stepping, Advanced}
+use Rattle.zt_store.specs.StepView.{Stepping, Advanced}
 use Rattle.zt_calls.proofs.ListLemmas.{drop-past}
 use Rattle.zt_calls.proofs.GoingOn.{further, reached}
-use Rattle.zt_signals.specs.Waits.{without_waits_on}
+use Rattle.zt_signals.specs.DroppedWaits.{without_waits_on}
 
 module _ (S : State) (p h : ℕ) (held : Held) (there : entry S p h ≡ Some held) where
   abbrev values : ℕ → Bool

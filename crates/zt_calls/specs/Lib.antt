@@ -1,6 +1,7 @@
-pub mod Wanting
-pub mod Outcomes
-pub mod Losing
-pub mod Sending
-pub mod Receiving
-pub mod Tasks
+-- Used by proofs only: no public clause depends on them.
+pub mod WantedKinds
+pub mod CallOutcomes
+pub mod LostObjects
+pub mod SentMessage
+pub mod ReceivedMessage
+pub mod NewTasks

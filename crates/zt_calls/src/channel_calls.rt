@@ -4,14 +4,14 @@ ghost use Rattle.zt_rows.specs.Room.{HasRoom};
 ghost use Rattle.zt_rows.specs.ChannelCalls.{channel_create, channel_write, channel_read};
 ghost use Rattle.zt_rows.specs.Consistent.{IsSound};
 ghost use Rattle.zt_store.specs.Places.{Keeps};
-ghost use Rattle.zt_calls.specs.Outcomes.{Does};
+ghost use Rattle.zt_calls.specs.CallOutcomes.{Does};
 
-use crate::arguments::{Wanted, handle_to};
-use crate::failures::Failure;
+use crate::failure::Failure;
+use crate::handle_arguments::{WantedKind, handle_to};
 use crate::object_calls::create_pair;
-use crate::receiving::{has_room_for, take_message};
-use crate::sending::message_for;
-use crate::takings::take_out_all;
+use crate::received_message::{has_room_for, take_message};
+use crate::sent_message::message_for;
+use crate::taken_handles::take_out_all;
 use std::alloc::Global;
 use zt_bits::{Kind, Rights, Status};
 use zt_queues::{front, push};
@@ -79,7 +79,7 @@ pub fn channel_read(
     ensures does { Does (channel_read step.old.current process handle bytes handles discard) step.old step.new result }
     ensures kept { Keeps step.old.places step.new.places }
 {
-    let (held, object) = handle_to(step, process, handle, Wanted::Channel, Rights::READ)?;
+    let (held, object) = handle_to(step, process, handle, WantedKind::Channel, Rights::READ)?;
     let Some((number, message)) = front(step, held.koid) else {
         let peer_is_gone = object.link == Koid(0);
         let empty = if peer_is_gone {

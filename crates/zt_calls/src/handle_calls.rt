@@ -3,12 +3,11 @@ ghost use Rattle.zt_rows.specs.Reads.{runs};
 ghost use Rattle.zt_rows.specs.Room.{HasRoom};
 ghost use Rattle.zt_rows.specs.ObjectCalls.{handle_close, handle_duplicate, handle_replace};
 ghost use Rattle.zt_store.specs.Places.{Keeps};
-ghost use Rattle.zt_calls.specs.Outcomes.{Does};
+ghost use Rattle.zt_calls.specs.CallOutcomes.{Does};
 
-use crate::arguments::{Wanted, handle_to};
-use crate::failures::Failure;
-use crate::looks::held_by;
-use crate::takings::take_out;
+use crate::failure::Failure;
+use crate::handle_arguments::{WantedKind, handle_to};
+use crate::taken_handles::take_out;
 use zt_bits::{Rights, Status, asked};
 use zt_rows::{HandleValue, Koid, Reply};
 use zt_store::Step;
@@ -20,7 +19,7 @@ pub fn handle_close(step: &mut Step, process: Koid, handle: HandleValue) -> Resu
     ensures kept { Keeps step.old.places step.new.places }
 {
     if handle != HandleValue(0) {
-        held_by(step, process, handle).ok_or(Status::BadHandle)?;
+        step.entry(process, handle).ok_or(Status::BadHandle)?;
         take_out(step, process, handle)?;
     }
     Ok(Reply::Status(Status::Ok))
@@ -38,7 +37,7 @@ pub fn handle_duplicate(
     ensures does { Does (handle_duplicate step.old.current process handle rights) step.old step.new result }
     ensures kept { Keeps step.old.places step.new.places }
 {
-    let (held, _) = handle_to(step, process, handle, Wanted::Any, Rights::DUPLICATE)?;
+    let (held, _) = handle_to(step, process, handle, WantedKind::Any, Rights::DUPLICATE)?;
     let rights = asked(rights, held.rights).ok_or(Status::InvalidArgs)?;
     let value = duplicate(step, process, held, rights)?;
     Ok(Reply::Handle(value))
@@ -57,7 +56,7 @@ pub fn handle_replace(
     ensures does { Does (handle_replace step.old.current process handle rights) step.old step.new result }
     ensures kept { Keeps step.old.places step.new.places }
 {
-    let held = held_by(step, process, handle).ok_or(Status::BadHandle)?;
+    let held = step.entry(process, handle).ok_or(Status::BadHandle)?;
     let granted = asked(rights, held.rights);
     take_out(step, process, handle)?;
     let rights = granted.ok_or(Status::InvalidArgs)?;

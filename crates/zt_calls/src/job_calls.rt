@@ -8,14 +8,14 @@ ghost use Rattle.zt_rows.specs.Reads.{entry, runs};
 ghost use Rattle.zt_rows.specs.Room.{HasRoom};
 ghost use Rattle.zt_rows.specs.Tests.{next_at};
 ghost use Rattle.zt_store.specs.Places.{Keeps};
-ghost use Rattle.zt_store.specs.Stepping.{Advanced, AsBegun};
-ghost use Rattle.zt_calls.specs.Outcomes.{Does};
-ghost use Rattle.zt_calls.specs.Tasks.{job_made, process_made};
+ghost use Rattle.zt_store.specs.StepView.{Advanced, AsBegun};
+ghost use Rattle.zt_calls.specs.CallOutcomes.{Does};
+ghost use Rattle.zt_calls.specs.NewTasks.{job_made, process_made};
 
-use crate::additions::whole;
-use crate::arguments::{Wanted, handle_to};
-use crate::failures::Failure;
-use crate::takings::take_out;
+use crate::failure::Failure;
+use crate::handle_arguments::{WantedKind, handle_to};
+use crate::new_objects::whole;
+use crate::taken_handles::take_out;
 use std::alloc::{AllocError, Global};
 use zt_bits::{Kind, Rights, Status};
 use zt_jobs::{depth, end_process, end_subtree, make_job, make_process};
@@ -36,7 +36,7 @@ pub fn job_create(step: &mut Step, process: Koid, job: HandleValue) -> Result<Re
     ensures does { Does (job_create step.old.current process job) step.old step.new result }
     ensures kept { Keeps step.old.places step.new.places }
 {
-    let (held, parent) = handle_to(step, process, job, Wanted::Job, Rights::MANAGE_JOB)?;
+    let (held, parent) = handle_to(step, process, job, WantedKind::Job, Rights::MANAGE_JOB)?;
     if parent.life != Life::Live {
         return Err(Failure::Status(Status::BadState));
     }
@@ -74,7 +74,7 @@ pub fn spawn(
     ensures does { Does (spawn step.old.current process job value) step.old step.new result }
     ensures kept { Keeps step.old.places step.new.places }
 {
-    let (held, parent) = handle_to(step, process, job, Wanted::Job, Rights::MANAGE_PROCESS)?;
+    let (held, parent) = handle_to(step, process, job, WantedKind::Job, Rights::MANAGE_PROCESS)?;
     let given = argument(step, process, value)?;
     if parent.life != Life::Live {
         return Err(Failure::Status(Status::BadState));
@@ -90,7 +90,7 @@ fn argument(step: &Step, process: Koid, value: HandleValue) -> Result<Option<Hel
     if value == HandleValue(0) {
         return Ok(None);
     }
-    let (held, _) = handle_to(step, process, value, Wanted::Any, Rights::TRANSFER)?;
+    let (held, _) = handle_to(step, process, value, WantedKind::Any, Rights::TRANSFER)?;
     Ok(Some(held))
 }
 
@@ -146,7 +146,7 @@ pub fn task_kill(
     ensures does { Does (task_kill step.old.current process handle) step.old step.new result }
     ensures kept { Keeps step.old.places step.new.places }
 {
-    let (held, task) = handle_to(step, process, handle, Wanted::Task, Rights::DESTROY)?;
+    let (held, task) = handle_to(step, process, handle, WantedKind::Task, Rights::DESTROY)?;
     if task.life == Life::Live {
         kill(alloc, step, held.koid, task.kind)?;
     }

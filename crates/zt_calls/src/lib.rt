@@ -1,19 +1,18 @@
 //! The system calls: each checks its arguments in order, changes rows in a step of the store, and answers.
 #![tactic(auto)]
 
-mod additions;
-mod applying;
-mod arguments;
+mod applied_call;
 mod channel_calls;
-mod failures;
+mod failure;
+mod handle_arguments;
 mod handle_calls;
 mod job_calls;
-mod looks;
-mod losing;
+mod lost_objects;
+mod new_objects;
 mod object_calls;
 mod port_calls;
-mod receiving;
-mod sending;
-mod takings;
+mod received_message;
+mod sent_message;
+mod taken_handles;
 
-pub use applying::{apply, runs};
+pub use applied_call::{apply, runs};

@@ -5,12 +5,11 @@ ghost use Rattle.zt_rows.specs.Tests.{is_endpoint};
 ghost use Rattle.zt_rows.specs.ObjectCalls.{create, create_pair, event_create, eventpair_create, object_signal, object_signal_peer};
 ghost use Rattle.zt_rows.specs.Consistent.{IsSound};
 ghost use Rattle.zt_store.specs.Places.{Keeps};
-ghost use Rattle.zt_calls.specs.Outcomes.{Does};
+ghost use Rattle.zt_calls.specs.CallOutcomes.{Does};
 
-use crate::additions::{new_object, new_pair, whole};
-use crate::arguments::{Wanted, handle_to, may_set};
-use crate::failures::Failure;
-use crate::looks::object_of;
+use crate::failure::Failure;
+use crate::handle_arguments::{WantedKind, handle_to, may_set};
+use crate::new_objects::{new_object, new_pair, whole};
 use zt_bits::{Kind, Rights, Signals, Status};
 use zt_rows::{HandleValue, Koid, Reply};
 use zt_signals::set_bits;
@@ -78,7 +77,7 @@ pub fn object_signal(
     ensures does { Does (object_signal step.old.current process handle clear.0 set.0) step.old step.new result }
     ensures kept { Keeps step.old.places step.new.places }
 {
-    let (held, object) = handle_to(step, process, handle, Wanted::Any, Rights::SIGNAL)?;
+    let (held, object) = handle_to(step, process, handle, WantedKind::Any, Rights::SIGNAL)?;
     if !may_set(object.kind, clear, set) {
         return Err(Failure::Status(Status::InvalidArgs));
     }
@@ -97,11 +96,17 @@ pub fn object_signal_peer(
     ensures does { Does (object_signal_peer step.old.current process handle clear.0 set.0) step.old step.new result }
     ensures kept { Keeps step.old.places step.new.places }
 {
-    let (_, object) = handle_to(step, process, handle, Wanted::Endpoint, Rights::SIGNAL_PEER)?;
+    let (_, object) = handle_to(
+        step,
+        process,
+        handle,
+        WantedKind::Endpoint,
+        Rights::SIGNAL_PEER,
+    )?;
     if !may_set(object.kind, clear, set) {
         return Err(Failure::Status(Status::InvalidArgs));
     }
-    object_of(step, object.link).ok_or(Status::PeerClosed)?;
+    step.object(object.link).ok_or(Status::PeerClosed)?;
     set_bits(step, object.link, clear, set)?;
     Ok(Reply::Status(Status::Ok))
 }

@@ -4,10 +4,10 @@ ghost use Rattle.zt_rows.specs.Room.{HasRoom};
 ghost use Rattle.zt_rows.specs.Consistent.{IsSound};
 ghost use Rattle.zt_rows.specs.PortCalls.{object_wait_async, port_cancel, port_create, port_queue, port_wait};
 ghost use Rattle.zt_store.specs.Places.{Keeps};
-ghost use Rattle.zt_calls.specs.Outcomes.{Does};
+ghost use Rattle.zt_calls.specs.CallOutcomes.{Does};
 
-use crate::arguments::{Wanted, handle_to};
-use crate::failures::Failure;
+use crate::failure::Failure;
+use crate::handle_arguments::{WantedKind, handle_to};
 use crate::object_calls::create;
 use zt_bits::{Kind, Rights, Signals, Status};
 use zt_ports::{cancel, pending, queue, take_front};
@@ -42,8 +42,8 @@ pub fn object_wait_async(
     ensures does { Does (object_wait_async step.old.current process handle port key signals.0) step.old step.new result }
     ensures kept { Keeps step.old.places step.new.places }
 {
-    handle_to(step, process, handle, Wanted::Any, Rights::WAIT)?;
-    let (held, _) = handle_to(step, process, port, Wanted::Port, Rights::WRITE)?;
+    handle_to(step, process, handle, WantedKind::Any, Rights::WAIT)?;
+    let (held, _) = handle_to(step, process, port, WantedKind::Port, Rights::WRITE)?;
     let wait = Wait {
         process,
         handle,
@@ -68,7 +68,7 @@ pub fn port_queue(
     ensures does { Does (port_queue step.old.current process port key bytes) step.old step.new result }
     ensures kept { Keeps step.old.places step.new.places }
 {
-    let (held, _) = handle_to(step, process, port, Wanted::Port, Rights::WRITE)?;
+    let (held, _) = handle_to(step, process, port, WantedKind::Port, Rights::WRITE)?;
     if pending(step, held.koid) >= MOST_PENDING {
         return Err(Failure::Status(Status::ShouldWait));
     }
@@ -81,7 +81,7 @@ pub fn port_wait(step: &mut Step, process: Koid, port: HandleValue) -> Result<Re
     ensures does { Does (port_wait step.old.current process port) step.old step.new result }
     ensures kept { Keeps step.old.places step.new.places }
 {
-    let (held, _) = handle_to(step, process, port, Wanted::Port, Rights::READ)?;
+    let (held, _) = handle_to(step, process, port, WantedKind::Port, Rights::READ)?;
     let packet = take_front(step, held.koid)?.ok_or(Status::TimedOut)?;
     Ok(Reply::Packet(packet))
 }
@@ -97,8 +97,8 @@ pub fn port_cancel(
     ensures does { Does (port_cancel step.old.current process port source key) step.old step.new result }
     ensures kept { Keeps step.old.places step.new.places }
 {
-    let (held, _) = handle_to(step, process, port, Wanted::Port, Rights::WRITE)?;
-    handle_to(step, process, source, Wanted::Any, Rights::WAIT)?;
+    let (held, _) = handle_to(step, process, port, WantedKind::Port, Rights::WRITE)?;
+    handle_to(step, process, source, WantedKind::Any, Rights::WAIT)?;
     if !cancel(step, held.koid, process, source, key)? {
         return Err(Failure::Status(Status::NotFound));
     }

@@ -13,9 +13,9 @@ use Rattle.zt_rows.proofs.ReadLaws.{exists-some, some-exists}
 use Rattle.zt_rows.proofs.SupportLaws.{KeptBy, by_entry, by_message, by_itself, supported-kept, kept-supported}
 use Rattle.zt_rows.proofs.SupportLaws as support
 use Rattle.zt_rows.proofs.CollectLaws.{goes-there, goes-free}
-use Rattle.zt_store.specs.Stepping.{Stepping, listed, DiffersAtTouched}
-use Rattle.zt_cascade.specs.OnTheWay.{is_named}
-use Rattle.zt_cascade.specs.Covered.{IsTold, by_list, by_put, by_child, IsCovered, NamesLost}
+use Rattle.zt_store.specs.StepView.{Stepping, listed, DiffersAtTouched}
+use Rattle.zt_cascade.specs.OneByOne.{is_named}
+use Rattle.zt_cascade.specs.ToldObjects.{IsTold, by_list, by_put, by_child, IsCovered, NamesLost}
 
 module _ (s : Stepping) (released : List Held) (differs : DiffersAtTouched s) (lost : NamesLost s released) where
   object-same : (x : ℕ) → listed s.touched (key.Object x) ≡ false → object s.current x ≡ object s.beginning x

@@ -14,8 +14,8 @@ use Rattle.zt_rows.specs.Reads.{as_object, as_wait, object, wait, waits}
 use Rattle.zt_rows.specs.Tests.{next_at, object_next, raised}
 use Rattle.zt_rows.specs.Settle.{refreshed, refresh, fire, fire_into, push_packet, is_met, news, settle}
 use Rattle.zt_rows.proofs.StateLaws.{row-change, row-put}
-use Rattle.zt_cascade.specs.Firing.{HasRoomToFire}
-use Rattle.zt_cascade.specs.Waking.{HasRoomFor, fire_if, fire_number}
+use Rattle.zt_cascade.specs.PacketRoom.{HasRoomToFire}
+use Rattle.zt_cascade.specs.RaisedWaits.{HasRoomFor, fire_if, fire_number}
 use Rattle.zt_cascade.proofs.FiredLaws.{wait-left}
 
 -- ---- room to fire

@@ -13,7 +13,7 @@ use Rattle.zt_rows.specs.Collect.{unlinked, without}
 use Rattle.zt_rows.specs.Consistent.{IsPeer, SoundObject, SoundWait, IsSound}
 use Rattle.zt_rows.proofs.ReadLaws.{object-without, counters-without, stayed, stays, wait-stayed, kind_at-some}
 use Rattle.zt_rows.proofs.SoundLaws.{link-kept, and_no_right}
-use Rattle.zt_cascade.specs.Joined.{IsJoined, WaitsForPorts}
+use Rattle.zt_cascade.specs.JoinedLinks.{IsJoined, WaitsForPorts}
 
 -- ---- links
 

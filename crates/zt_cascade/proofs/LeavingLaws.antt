@@ -19,9 +19,9 @@ use Rattle.zt_rows.proofs.StateLaws.{row-put, row-put-same, same_state, put-row}
 use Rattle.zt_rows.proofs.ReadLaws.{then_none, row-without}
 use Rattle.zt_rows.proofs.WithoutLaws.{without-twice}
 use Rattle.zt_store.proofs.Totals.{share, total-put}
-use Rattle.zt_cascade.specs.OnTheWay.{only}
-use Rattle.zt_cascade.specs.Leaving.{left_at, left_behind, IsLeft, weighs, weight, IsPartly}
-use Rattle.zt_cascade.specs.Under.{object_under}
+use Rattle.zt_cascade.specs.OneByOne.{only}
+use Rattle.zt_cascade.specs.RemovedObject.{left_at, left_behind, IsLeft, weighs, weight, IsPartly}
+use Rattle.zt_cascade.specs.RowsUnderKeys.{object_under}
 
 -- ---- under one key
 

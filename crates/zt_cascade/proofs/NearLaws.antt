@@ -24,9 +24,9 @@ use Rattle.zt_rows.proofs.StateLaws.{row-put-other, row-put-same, same_state}
 use Rattle.zt_rows.proofs.RowLaws.{and_right, any_row-at, at-any_row, not_true, or_left, or_right, or_true, same_test, true≢false}
 use Rattle.zt_rows.proofs.ReadLaws.{object-row, some_one}
 use Rattle.zt_rows.proofs.SettleLaws.{derived-out, renew, row-refresh}
-use Rattle.zt_store.specs.Stepping.{Stepping, listed, DiffersAtTouched}
-use Rattle.zt_signals.specs.Written.{refreshed_object, refreshed_object_of}
-use Rattle.zt_cascade.specs.Near.{near, near_touched}
+use Rattle.zt_store.specs.StepView.{Stepping, listed, DiffersAtTouched}
+use Rattle.zt_signals.specs.ObjectSignals.{refreshed_object, refreshed_object_of}
+use Rattle.zt_cascade.specs.NearObjects.{near, near_touched}
 use Rattle.zt_cascade.proofs.TakingLaws.{among-left, among-right}
 
 -- ---- derived signals of states whose rows near the object are the same

@@ -18,11 +18,11 @@ use Rattle.std.proofs.lemmas.List.Folds.{list_any-append}
 use Rattle.zt_rows.proofs.RowLaws.{or_true, or_left, or_right, not_true, true≢false}
 use Rattle.zt_rows.proofs.ReadLaws.{some-exists, stayed}
 use Rattle.zt_rows.proofs.CollectLaws.{goes-there, free-goes, supported-stays}
-use Rattle.zt_store.specs.Stepping.{Stepping, listed}
-use Rattle.zt_cascade.specs.OnTheWay.{only, IsOnTheWay, IsLetGo}
-use Rattle.zt_cascade.specs.Joined.{IsJoined, WaitsForPorts}
-use Rattle.zt_cascade.specs.Covered.{IsTold, by_list, by_put, by_child, IsListed, IsCovered}
-use Rattle.zt_cascade.specs.Leaving.{koids, Covers}
+use Rattle.zt_store.specs.StepView.{Stepping, listed}
+use Rattle.zt_cascade.specs.OneByOne.{only, IsOnTheWay, IsLetGo}
+use Rattle.zt_cascade.specs.JoinedLinks.{IsJoined, WaitsForPorts}
+use Rattle.zt_cascade.specs.ToldObjects.{IsTold, by_list, by_put, by_child, IsListed, IsCovered}
+use Rattle.zt_cascade.specs.RemovedObject.{koids, Covers}
 use Rattle.zt_cascade.proofs.OnTheWayLaws.{on_the_way-more, on_the_way-end, goes-newly}
 use Rattle.zt_cascade.proofs.JoinedLaws.{joined-without, waits-without}
 use Rattle.zt_cascade.proofs.TakingLaws.{among-koids, among-left, among-right}

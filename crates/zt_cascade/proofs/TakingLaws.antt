@@ -23,12 +23,12 @@ use Rattle.zt_rows.proofs.StateLaws.{row-put-other}
 use Rattle.zt_rows.proofs.RowLaws.{and_left, and_right, or_left, or_right, not_true, true≢false}
 use Rattle.zt_rows.proofs.ReadLaws.{some_one, object-row, message-row, row-without, wait-stayed}
 use Rattle.zt_rows.proofs.SoundLaws.{and_no_right}
-use Rattle.zt_cascade.specs.OnTheWay.{only, is_named, IsLetGo, by_message, by_link}
-use Rattle.zt_cascade.specs.Joined.{IsJoined, WaitsForPorts}
+use Rattle.zt_cascade.specs.OneByOne.{only, is_named, IsLetGo, by_message, by_link}
+use Rattle.zt_cascade.specs.JoinedLinks.{IsJoined, WaitsForPorts}
 use Rattle.zt_store.specs.Chains.{IsNext}
-use Rattle.zt_store.specs.Finding.{is_for, waits_where}
-use Rattle.zt_store.specs.Stepping.{Stepping}
-use Rattle.zt_cascade.specs.Leaving.{IsAhead, left_at, left_behind, IsLeft, weighs, weight, IsPartly, koids, handles_in, IsNoted}
+use Rattle.zt_store.specs.Criteria.{is_for, waits_where}
+use Rattle.zt_store.specs.StepView.{Stepping}
+use Rattle.zt_cascade.specs.RemovedObject.{IsAhead, left_at, left_behind, IsLeft, weighs, weight, IsPartly, koids, handles_in, AreHandlesListed}
 use Rattle.zt_cascade.proofs.LeavingLaws.{left-none, left-object, left-wait, left-stays, behind-left, behind-lighter, behind-gone, partly-behind, partly-more, partly-then, partly-end, all-left, suited-partly}
 
 -- ---- later moments of the step
@@ -110,7 +110,7 @@ among-left xs ys y e = list_any-append (λ m. m == y) xs ys ∙ or_left (among x
 pub among-right : (xs ys : List ℕ) (y : ℕ) → among ys y ≡ true → among (xs ++ ys) y ≡ true
 among-right xs ys y e = list_any-append (λ m. m == y) xs ys ∙ or_right (among xs y) (among ys y) e
 
-pub noted-none : (x : ℕ) (S : State) (list : List ℕ) → IsNoted x S list S list
+pub noted-none : (x : ℕ) (S : State) (list : List ℕ) → AreHandlesListed x S list S list
 noted-none x S list = record { noted = λ n m e y g. inl e; grown = λ y e. e; lighter = omega arith }
 
 module _ (x n : ℕ) (S T : State) (list later : List ℕ) (m : MessageContent) (there : message T x n ≡ Some m) where
@@ -120,7 +120,7 @@ module _ (x n : ℕ) (S T : State) (list later : List ℕ) (m : MessageContent) 
   pub message-lighter : weight after + (1 + length m.handles) ≡ weight T
   message-lighter = behind-gone x T (key.Msg x n) (rows.Msg m) (message-row T x n m there) (none-self x (rows.Msg m))
 
-  noted_at : IsNoted x S list T later → (k : ℕ) (p : MessageContent) → message S x k ≡ Some p → (y : ℕ) → is_named p.handles y ≡ true → (message after x k ≡ Some p) ⊎ (among (later ++ koids m.handles) y ≡ true)
+  noted_at : AreHandlesListed x S list T later → (k : ℕ) (p : MessageContent) → message S x k ≡ Some p → (y : ℕ) → is_named p.handles y ≡ true → (message after x k ≡ Some p) ⊎ (among (later ++ koids m.handles) y ≡ true)
   noted_at h k p e y g = elim (h.noted k p e y g) [
     | inl still ↦ elim (k == n) as (λ b. (k == n) ≡ b → (message after x k ≡ Some p) ⊎ (among (later ++ koids m.handles) y ≡ true)) [
       | true ↦ λ t.
@@ -132,7 +132,7 @@ module _ (x n : ℕ) (S T : State) (list later : List ℕ) (m : MessageContent) 
     | inr found ↦ inr (among-left later (koids m.handles) y found)
   ]
 
-  pub noted-more : IsNoted x S list T later → IsNoted x S list after (later ++ koids m.handles)
+  pub noted-more : AreHandlesListed x S list T later → AreHandlesListed x S list after (later ++ koids m.handles)
   noted-more h = record {
     noted = noted_at h;
     grown = λ y e. among-left later (koids m.handles) y (h.grown y e);
@@ -145,17 +145,17 @@ module _ (x n : ℕ) (S T : State) (list later : List ℕ) (m : MessageContent) 
   }
 
 pub messages-step : (x n : ℕ) (S T U : State) (list later more : List ℕ) → IsSome (row T (key.Msg x n)) → SuitsKey (key.Msg x n) (row T (key.Msg x n))
-    → IsPartly x S T → IsNoted x S list T later → U ≡ left_behind x T (key.Msg x n) → more ≡ later ++ koids (handles_in (message T x n))
-    → IsPartly x S U × IsNoted x S list U more × (weight U < weight T)
+    → IsPartly x S T → AreHandlesListed x S list T later → U ≡ left_behind x T (key.Msg x n) → more ≡ later ++ koids (handles_in (message T x n))
+    → IsPartly x S U × AreHandlesListed x S list U more × (weight U < weight T)
 messages-step x n S T U list later more some suits partly noted next added =
     let w = some-message T x n some suits in
     let V : State = left_behind x T (key.Msg x n) in
     let all : more ≡ later ++ koids w.0.handles = added ∙ ap (λ z. later ++ koids (handles_in z)) w.1 in
-    let here : IsNoted x S list V (later ++ koids w.0.handles) = noted-more x n S T list later w.0 w.1 noted in
+    let here : AreHandlesListed x S list V (later ++ koids w.0.handles) = noted-more x n S T list later w.0 w.1 noted in
     let less : weight V + (1 + length w.0.handles) ≡ weight T = message-lighter x n S T list later w.0 w.1 in
     let same : weight U ≡ weight V = ap weight next in (
       subst (IsPartly x S) (sym next) (partly-more x S T (key.Msg x n) partly),
-      subst (λ s. IsNoted x S list s more) (sym next) (subst (IsNoted x S list V) (sym all) here),
+      subst (λ s. AreHandlesListed x S list s more) (sym next) (subst (AreHandlesListed x S list V) (sym all) here),
       omega arith,
     )
 
@@ -253,7 +253,7 @@ taken-out x S A B C D a objects b messages c packets d waits =
 
 -- what the object may let go was noted
 pub taken-noted : (x : ℕ) (S A B : State) (o : ObjectRow) (list later : List ℕ) → object S x ≡ Some o → ((n : ℕ) → message A x n ≡ message S x n)
-    → IsNoted x A list B later → ((n : ℕ) → row B (key.Msg x n) ≡ None) → (y : ℕ) → IsLetGo S x y → among (later ++ o.link ∷ []) y ≡ true
+    → AreHandlesListed x A list B later → ((n : ℕ) → row B (key.Msg x n) ≡ None) → (y : ℕ) → IsLetGo S x y → among (later ++ o.link ∷ []) y ≡ true
 taken-noted x S A B o list later there same h gone y (by_message n m e g) = elim (h.noted n m (same n ∙ e) y g) [
   | inl still ↦ absurd (no_message (row B (key.Msg x n)) (gone n) still)
   | inr found ↦ among-left later (o.link ∷ []) y found
@@ -265,10 +265,10 @@ taken-noted x S A B o list later there same h gone y (by_link e) =
     let mine : o.link ≡ y = sym (ap object_link there) ∙ e in
     among-right later (o.link ∷ []) y (or_left (o.link == y) false (eq-eqb o.link y mine))
 
-pub taken-grown : (x : ℕ) (A B : State) (list later more : List ℕ) → IsNoted x A list B later → (y : ℕ) → among list y ≡ true → among (later ++ more) y ≡ true
+pub taken-grown : (x : ℕ) (A B : State) (list later more : List ℕ) → AreHandlesListed x A list B later → (y : ℕ) → among list y ≡ true → among (later ++ more) y ≡ true
 taken-grown x A B list later more h y e = among-left later more y (h.grown y e)
 
-pub taken-lighter : (x : ℕ) (S A B C D : State) (list later : List ℕ) (l : ℕ) → weight A + 1 ≤ weight S → IsNoted x A list B later → IsPartly x B C → IsPartly x C D → weight D + length (later ++ l ∷ []) ≤ weight S + length list
+pub taken-lighter : (x : ℕ) (S A B C D : State) (list later : List ℕ) (l : ℕ) → weight A + 1 ≤ weight S → AreHandlesListed x A list B later → IsPartly x B C → IsPartly x C D → weight D + length (later ++ l ∷ []) ≤ weight S + length list
 taken-lighter x S A B C D list later l a b c d =
     let p : weight B + length later ≤ weight A + length list = b.lighter in
     let q : weight C ≤ weight B = c.lighter in

@@ -20,9 +20,9 @@ use Rattle.zt_rows.specs.Tests.{among, object_signals}
 use Rattle.zt_rows.proofs.RowLaws.{and_both, or_left, or_true, true≢false}
 use Rattle.zt_rows.proofs.ReadLaws.{some_one}
 use Rattle.zt_store.specs.Chains.{IsBehind, IsNext}
-use Rattle.zt_store.specs.Finding.{is_at, is_on, names}
-use Rattle.zt_store.specs.Stepping.{DiffersAtTouched, Stepping, listed}
-use Rattle.zt_cascade.specs.Waking.{HasMet, HasWoken, IsLonger}
+use Rattle.zt_store.specs.Criteria.{is_at, is_on, names}
+use Rattle.zt_store.specs.StepView.{DiffersAtTouched, Stepping, listed}
+use Rattle.zt_cascade.specs.RaisedWaits.{HasMet, HasWoken, IsLonger}
 use Rattle.zt_cascade.proofs.TakingLaws.{among-left, among-right}
 
 -- ---- a walk over waits

@@ -1,8 +1,10 @@
-pub mod OnTheWay
-pub mod Joined
-pub mod Covered
-pub mod Leaving
-pub mod Under
-pub mod Near
-pub mod Firing
-pub mod Waking
+-- Definitions to believe: public clauses are stated in them.
+pub mod OneByOne
+pub mod JoinedLinks
+pub mod ToldObjects
+pub mod PacketRoom
+-- Used by proofs only: no public clause depends on them.
+pub mod RemovedObject
+pub mod RowsUnderKeys
+pub mod NearObjects
+pub mod RaisedWaits

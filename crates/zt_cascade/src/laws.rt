@@ -6,10 +6,10 @@ ghost use Rattle.zt_rows.specs.Collect.{collect, goes, without};
 ghost use Rattle.zt_rows.specs.Consistent.{IsSound};
 ghost use Rattle.zt_rows.specs.Support.{is_supported};
 ghost use Rattle.zt_rows.specs.Tests.{exists};
-ghost use Rattle.zt_store.specs.Stepping.{DiffersAtTouched, Stepping};
-ghost use Rattle.zt_cascade.specs.Covered.{IsCovered, NamesLost};
-ghost use Rattle.zt_cascade.specs.OnTheWay.{IsLetGo, IsOnTheWay, only};
-ghost use Rattle.zt_cascade.specs.Joined.{IsJoined, WaitsForPorts};
+ghost use Rattle.zt_store.specs.StepView.{DiffersAtTouched, Stepping};
+ghost use Rattle.zt_cascade.specs.ToldObjects.{IsCovered, NamesLost};
+ghost use Rattle.zt_cascade.specs.OneByOne.{IsLetGo, IsOnTheWay, only};
+ghost use Rattle.zt_cascade.specs.JoinedLinks.{IsJoined, WaitsForPorts};
 
 /// A state is on the way from itself; one more object that goes leads further; and where nothing goes any more,
 /// the way has ended at what collecting gives.

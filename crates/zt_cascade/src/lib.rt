@@ -2,13 +2,13 @@
 //! once, and then the derived signals anew and the firing of waits.
 #![tactic(auto)]
 
-mod firing;
+mod fired_waits;
 pub mod laws;
-mod leaving;
-mod releasing;
-mod settling;
-mod taking;
-mod waking;
+mod raised_waits;
+mod removed_object;
+mod removed_rows;
+mod settled_signals;
+mod worklist;
 
-pub use releasing::release;
-pub use settling::settle;
+pub use settled_signals::settle;
+pub use worklist::release;

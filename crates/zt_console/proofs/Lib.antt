@@ -1,5 +1,5 @@
-pub mod TalkLaws
-pub mod FeedLaws
+pub mod ConversationLaws
+pub mod LineFeedLaws
 pub mod KeepLaws
 pub mod SaveLaws
 pub mod ServeLaws

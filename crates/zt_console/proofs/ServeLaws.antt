@@ -6,12 +6,12 @@ use Rattle.std.proofs.lemmas.List.Elements.{filter_map-append, All-head, All-tai
 use lib.Seq.{take-append_seam}
 use Rattle.zt_rows.specs.declared.calls.Answer.{Answer}
 use Rattle.zt_rows.specs.declared.calls.Command.{Command}
-use Rattle.zt_book.specs.declared.logs.Recorded.{Recorded}
+use Rattle.zt_book.specs.declared.log.Recorded.{Recorded}
 use Rattle.zt_book.specs.Session.{Session}
-use Rattle.zt_shared.specs.Sharing.{Part, IsPartOf, IsClosed, told_to, first_part, first_parts, numbers}
-use Rattle.zt_console.specs.declared.serving.Place.{Place}
-use Rattle.zt_console.specs.declared.serving.Served.{Served}
-use Rattle.zt_console.specs.Places.{place_of, served_at, pass_at, IsTaken, HasServed}
+use Rattle.zt_shared.specs.Sharing.{PassView, IsPartOf, IsOneLog, told_to, first_part, first_parts, numbers}
+use Rattle.zt_console.specs.declared.client_sessions.ClientSession.{ClientSession}
+use Rattle.zt_console.specs.declared.client_sessions.Served.{Served}
+use Rattle.zt_console.specs.ClientSessions.{place_of, served_at, pass_at, IsTaken, HasServed}
 use Rattle.zt_console.specs.Sessions.{Caller, IsCountable, IsServed, told_in}
 
 -- ---- lists
@@ -35,46 +35,46 @@ left_more f xs x = filter_map-append f xs (x ∷ [])
 
 -- ---- places
 
-some-same : (x y : Part) → Some x ≡ Some y → y ≡ x
+some-same : (x y : PassView) → Some x ≡ Some y → y ≡ x
 some-same x y e = cc
 
-part-with : ℕ → Session → List (Command × Answer) → Part
+part-with : ℕ → Session → List (Command × Answer) → PassView
 part-with client base rows = record { client = client; base = base; rows = rows }
 
 -- a pass whose rows are those of the log
-told-in : (log : List Recorded) (before after : Part) (end : Session) → after.client ≡ before.client → after.base ≡ before.base → IsPartOf after log end → after ≡ told_in log before
+told-in : (log : List Recorded) (before after : PassView) (end : Session) → after.client ≡ before.client → after.base ≡ before.base → IsPartOf after log end → after ≡ told_in log before
 unfolding part-with
 told-in log before after end who base part =
     ap (λ n. part-with n after.base after.rows) who
     ∙ ap (λ b. part-with before.client b after.rows) base
     ∙ ap (λ r. part-with before.client before.base r) (sym part.rows ∙ ap (λ n. told_to n log) who)
 
-abbrev pub IsIn : List Recorded → Part → Type 0
+abbrev pub IsIn : List Recorded → PassView → Type 0
 IsIn log pass = (end : Session) × IsPartOf pass log end
 
 module _ {I O A B C D : Type 0} (remaining : I → Option (List ℕ)) (contents : O → Option (List ℕ)) where
-  abbrev pub Zipped : List (Caller I O) → List (Place I O A B C D) → Type 0
+  abbrev pub Zipped : List (Caller I O) → List (ClientSession I O A B C D) → Type 0
   Zipped cs ps = AllZip (HasServed remaining contents) (map place_of cs) ps
 
-  left-one : (p : Place I O A B C D) (ps : List (Place I O A B C D)) (pass : Part) → p.pass ≡ Some pass → filter_map pass_at (p ∷ ps) ≡ pass ∷ filter_map pass_at ps
+  left-one : (p : ClientSession I O A B C D) (ps : List (ClientSession I O A B C D)) (pass : PassView) → p.pass ≡ Some pass → filter_map pass_at (p ∷ ps) ≡ pass ∷ filter_map pass_at ps
   left-one p ps pass e = ap (λ o. cons_option o (filter_map pass_at ps)) e
 
   -- the passes that are left have the clients of those that were brought
-  pub clients_left : (cs : List (Caller I O)) (ps : List (Place I O A B C D)) → Zipped cs ps → map (λ (p : Part). p.client) (filter_map pass_at ps) ≡ map (λ (c : Caller I O). c.2.client) cs
+  pub clients_left : (cs : List (Caller I O)) (ps : List (ClientSession I O A B C D)) → Zipped cs ps → map (λ (p : PassView). p.client) (filter_map pass_at ps) ≡ map (λ (c : Caller I O). c.2.client) cs
   clients_left [] [] h = refl
   clients_left [] (p ∷ ps) h = absurd h
   clients_left (c ∷ cs) [] h = absurd h
   clients_left (c ∷ cs) (p ∷ ps) (h, hs) =
-      ap (map (λ (p : Part). p.client)) (left-one p ps h.after h.holds)
-      ∙ ap (λ x. x ∷ map (λ (p : Part). p.client) (filter_map pass_at ps)) (h.who ∙ ap (λ (p : Part). p.client) (some-same c.2 h.before h.held))
+      ap (map (λ (p : PassView). p.client)) (left-one p ps h.after h.holds)
+      ∙ ap (λ x. x ∷ map (λ (p : PassView). p.client) (filter_map pass_at ps)) (h.who ∙ ap (λ (p : PassView). p.client) (some-same c.2 h.before h.held))
       ∙ ap (λ xs. c.2.client ∷ xs) (clients_left cs ps hs)
 
-  is-told : (log : List Recorded) (c : Caller I O) (p : Place I O A B C D) (h : HasServed remaining contents (place_of c) p) → IsIn log h.after → h.after ≡ told_in log c.2
+  is-told : (log : List Recorded) (c : Caller I O) (p : ClientSession I O A B C D) (h : HasServed remaining contents (place_of c) p) → IsIn log h.after → h.after ≡ told_in log c.2
   is-told log c p h (end, part) =
       told-in log h.before h.after end h.who h.base part ∙ ap (told_in log) (some-same c.2 h.before h.held)
 
   -- they are those that were brought, with the rows of the log
-  pub passes_left : (log : List Recorded) (cs : List (Caller I O)) (ps : List (Place I O A B C D)) → Zipped cs ps → All (IsIn log) (filter_map pass_at ps)
+  pub passes_left : (log : List Recorded) (cs : List (Caller I O)) (ps : List (ClientSession I O A B C D)) → Zipped cs ps → All (IsIn log) (filter_map pass_at ps)
       → filter_map pass_at ps ≡ map (λ (c : Caller I O). told_in log c.2) cs
   passes_left log [] [] h all = refl
   passes_left log [] (p ∷ ps) h all = absurd h
@@ -87,7 +87,7 @@ module _ {I O A B C D : Type 0} (remaining : I → Option (List ℕ)) (contents 
       ∙ ap (λ xs. told_in log c.2 ∷ xs) (passes_left log cs ps hs (All-tail (IsIn log) h.after (filter_map pass_at ps) all_left))
 
   -- each client was served, up to its part of the log
-  pub each_served : (log : List Recorded) (cs : List (Caller I O)) (ps : List (Place I O A B C D)) → Zipped cs ps → All (IsIn log) (filter_map pass_at ps)
+  pub each_served : (log : List Recorded) (cs : List (Caller I O)) (ps : List (ClientSession I O A B C D)) → Zipped cs ps → All (IsIn log) (filter_map pass_at ps)
       → AllZip (λ (c : Caller I O) (s : Served I O). IsServed remaining contents c (told_in log c.2) s.reader s.writer s.end) cs (map served_at ps)
   each_served log [] [] h all = tt
   each_served log [] (p ∷ ps) h all = absurd h
@@ -101,29 +101,29 @@ module _ {I O A B C D : Type 0} (remaining : I → Option (List ℕ)) (contents 
         each_served log cs ps hs (All-tail (IsIn log) h.after (filter_map pass_at ps) all_left),
       )
 
-  length_left : (cs : List (Caller I O)) (ps : List (Place I O A B C D)) → Zipped cs ps → length ps ≡ length cs
+  length_left : (cs : List (Caller I O)) (ps : List (ClientSession I O A B C D)) → Zipped cs ps → length ps ≡ length cs
   length_left [] [] h = refl
   length_left [] (p ∷ ps) h = absurd h
   length_left (c ∷ cs) [] h = absurd h
   length_left (c ∷ cs) (p ∷ ps) (h, hs) = ap suc (length_left cs ps hs)
 
   -- there is room for what is left where there was room for the clients
-  pub room_left : (cs : List (Caller I O)) (ps : List (Place I O A B C D)) (n j k : ℕ) → Zipped cs ps → n ≡ length cs → n ≤ j → n ≤ k → (length ps ≤ j) × (length ps ≤ k)
+  pub room_left : (cs : List (Caller I O)) (ps : List (ClientSession I O A B C D)) (n j k : ℕ) → Zipped cs ps → n ≡ length cs → n ≤ j → n ≤ k → (length ps ≤ j) × (length ps ≤ k)
   room_left cs ps n j k z e f g = let same = length_left cs ps z in (omega (arith, same, e, f), omega (arith, same, e, g))
 
   -- all passes are back
-  pub all_back : (cs : List (Caller I O)) (ps : List (Place I O A B C D)) (passes : List Part) (n : ℕ) → Zipped cs ps → passes ≡ filter_map pass_at ps
-      → map (λ (c : Caller I O). c.2.client) cs ≡ numbers n → map (λ (p : Part). p.client) passes ≡ numbers n
-  all_back cs ps passes n z e h = ap (map (λ (p : Part). p.client)) e ∙ clients_left cs ps z ∙ h
+  pub all_back : (cs : List (Caller I O)) (ps : List (ClientSession I O A B C D)) (passes : List PassView) (n : ℕ) → Zipped cs ps → passes ≡ filter_map pass_at ps
+      → map (λ (c : Caller I O). c.2.client) cs ≡ numbers n → map (λ (p : PassView). p.client) passes ≡ numbers n
+  all_back cs ps passes n z e h = ap (map (λ (p : PassView). p.client)) e ∙ clients_left cs ps z ∙ h
 
   -- what is known of the passes that sessions end with is told of those that they began with
-  pub all_closed : (n : ℕ) (log : List Recorded) (cs : List (Caller I O)) (ps : List (Place I O A B C D)) (passes : List Part) → Zipped cs ps → passes ≡ filter_map pass_at ps
-      → IsClosed n passes log → IsClosed n (map (λ (c : Caller I O). told_in log c.2) cs) log
+  pub all_closed : (n : ℕ) (log : List Recorded) (cs : List (Caller I O)) (ps : List (ClientSession I O A B C D)) (passes : List PassView) → Zipped cs ps → passes ≡ filter_map pass_at ps
+      → IsOneLog n passes log → IsOneLog n (map (λ (c : Caller I O). told_in log c.2) cs) log
   all_closed n log cs ps passes z e closed =
-      subst (λ l. IsClosed n l log) (e ∙ passes_left log cs ps z (subst (All (IsIn log)) e closed.parts)) closed
+      subst (λ l. IsOneLog n l log) (e ∙ passes_left log cs ps z (subst (All (IsIn log)) e closed.parts)) closed
 
-  pub all_served : (n : ℕ) (log : List Recorded) (cs : List (Caller I O)) (ps : List (Place I O A B C D)) (passes : List Part) (served : List (Served I O)) → Zipped cs ps
-      → passes ≡ filter_map pass_at ps → served ≡ map served_at ps → IsClosed n passes log
+  pub all_served : (n : ℕ) (log : List Recorded) (cs : List (Caller I O)) (ps : List (ClientSession I O A B C D)) (passes : List PassView) (served : List (Served I O)) → Zipped cs ps
+      → passes ≡ filter_map pass_at ps → served ≡ map served_at ps → IsOneLog n passes log
       → AllZip (λ (c : Caller I O) (s : Served I O). IsServed remaining contents c (told_in log c.2) s.reader s.writer s.end) cs served
   all_served n log cs ps passes served z e f closed =
       subst (λ l. AllZip (λ (c : Caller I O) (s : Served I O). IsServed remaining contents c (told_in log c.2) s.reader s.writer s.end) cs l) (sym f)
@@ -135,15 +135,15 @@ all_taken cs h = All-map IsTaken place_of cs (λ i d lt. record { pass = (get_or
 
 -- ---- the passes of a book that is opened
 
-callers-clients : {I O : Type 0} (cs : List (Caller I O)) → map (λ (c : Caller I O). c.2.client) cs ≡ map (λ (p : Part). p.client) (map (λ (c : Caller I O). c.2) cs)
+callers-clients : {I O : Type 0} (cs : List (Caller I O)) → map (λ (c : Caller I O). c.2.client) cs ≡ map (λ (p : PassView). p.client) (map (λ (c : Caller I O). c.2) cs)
 callers-clients [] = refl
 callers-clients (c ∷ cs) = ap (λ z. c.2.client ∷ z) (callers-clients cs)
 
-parts-clients : (base : Session) (ns : List ℕ) → map (λ (p : Part). p.client) (map (first_part base) ns) ≡ ns
+parts-clients : (base : Session) (ns : List ℕ) → map (λ (p : PassView). p.client) (map (first_part base) ns) ≡ ns
 parts-clients base [] = refl
 parts-clients base (n ∷ ns) = ap (λ z. n ∷ z) (parts-clients base ns)
 
 -- clients with the passes of a book that is opened are all its clients
-pub first_callers : {I O : Type 0} (cs : List (Caller I O)) (ps : List Part) (n : ℕ) (base : Session) → map (λ (c : Caller I O). c.2) cs ≡ ps → ps ≡ first_parts n base
+pub first_callers : {I O : Type 0} (cs : List (Caller I O)) (ps : List PassView) (n : ℕ) (base : Session) → map (λ (c : Caller I O). c.2) cs ≡ ps → ps ≡ first_parts n base
     → map (λ (c : Caller I O). c.2.client) cs ≡ numbers n
-first_callers cs ps n base e f = callers-clients cs ∙ ap (map (λ (p : Part). p.client)) (e ∙ f) ∙ parts-clients base (numbers n)
+first_callers cs ps n base e f = callers-clients cs ∙ ap (map (λ (p : PassView). p.client)) (e ∙ f) ∙ parts-clients base (numbers n)

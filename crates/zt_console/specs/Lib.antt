@@ -1,8 +1,10 @@
-pub mod Counting
-pub mod Talk
-pub mod Books
-pub mod Running
-pub mod Feeding
+-- Definitions to believe: public clauses are stated in them.
+pub mod CountedFaults
+pub mod Conversations
+pub mod BookRun
+pub mod Run
 pub mod Sessions
-pub mod Places
-pub mod Loading
+pub mod LoadedText
+-- Used by proofs only: no public clause depends on them.
+pub mod LineFeed
+pub mod ClientSessions

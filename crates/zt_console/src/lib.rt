@@ -1,23 +1,23 @@
 //! Lines in, lines out: what a client types is read as commands, and what the debugger answers is printed.
 #![tactic(auto)]
 
-mod books;
-mod counted;
-mod desks;
-mod feeding;
-mod loading;
-mod parts;
-mod passes;
-mod running;
-mod saving;
-mod serving;
-mod talking;
+mod book_run;
+mod client_sessions;
+mod conversation;
+mod counted_faults;
+mod line_buffer;
+mod line_feed;
+mod loaded_text;
+mod pass_session;
+mod responder;
+mod run_loop;
+mod saved_text;
 
-pub use books::run;
-pub use counted::Counted;
-pub use loading::load_text;
-pub use passes::session;
-pub use running::End;
-pub use saving::main_text;
-pub use serving::{Caller, Served, sessions};
+pub use book_run::run;
+pub use client_sessions::{Caller, Served, sessions};
+pub use counted_faults::Counted;
+pub use loaded_text::load_text;
+pub use pass_session::session;
+pub use run_loop::End;
+pub use saved_text::main_text;
 pub use zt_book::Book;

@@ -9,17 +9,17 @@ use Rattle.zt_rows.specs.Room.{HasRoom}
 use Rattle.zt_rows.specs.State.{State}
 use Rattle.zt_rows.specs.Step.{IsCall, step}
 use Rattle.zt_store.specs.Places.{Keeps, fits}
-use Rattle.zt_store.specs.Seen.{Stored}
+use Rattle.zt_store.specs.StoreView.{Stored}
 use Rattle.zt_store.proofs.Fitting.{all_fit-kept}
-use Rattle.zt_history.specs.declared.histories.Undo.{Undo}
-use Rattle.zt_history.specs.declared.histories.Undo.TheVariants as undo
+use Rattle.zt_history.specs.declared.history.Undo.{Undo}
+use Rattle.zt_history.specs.declared.history.Undo.TheVariants as undo
 use Rattle.zt_history.specs.Tree.{Made, Branch, parent_of, parent_at, made_by, state_at, head_at, headed, branch_named}
-use Rattle.zt_history.specs.Refusing.{most_moments}
+use Rattle.zt_history.specs.HistoryRefusals.{most_moments}
 use Rattle.zt_history.specs.Branches.{without_last}
 use Rattle.zt_history.specs.Timeline.{after_call}
-use Rattle.zt_history.specs.Standing.{AreMoments, AreBranches, IsMade, IsHistory}
-use Rattle.zt_history.specs.Nodes.{Chronicle, IsTurned, run_at}
-use Rattle.zt_history.specs.Keeping.{IsKept, timeline_of}
+use Rattle.zt_history.specs.TreeInvariant.{AreMoments, AreBranches, IsMade, IsHistory}
+use Rattle.zt_history.specs.MomentNodes.{Chronicle, IsTurned, run_at}
+use Rattle.zt_history.specs.KeptHistory.{IsKept, timeline_of}
 use Rattle.zt_history.proofs.ListLaws.{get-last}
 use Rattle.zt_history.proofs.RunLaws.{moment-consistent, moment-room}
 use Rattle.zt_history.proofs.GrownLaws.{history-push, history-dropped, moments-push, moments-left}

@@ -6,14 +6,14 @@ use Rattle.zt_rows.specs.declared.calls.Reply.{Reply}
 use Rattle.zt_rows.specs.Opening.{opening}
 use Rattle.zt_rows.specs.State.{State}
 use Rattle.zt_rows.specs.Step.{run}
-use Rattle.zt_store.specs.Seen.{Stored}
-use Rattle.zt_history.specs.declared.histories.Undo.{Undo}
-use Rattle.zt_history.specs.declared.histories.Undo.TheVariants as undo
+use Rattle.zt_store.specs.StoreView.{Stored}
+use Rattle.zt_history.specs.declared.history.Undo.{Undo}
+use Rattle.zt_history.specs.declared.history.Undo.TheVariants as undo
 use Rattle.zt_history.specs.Tree.{Made, Branch, opening_tree, parent_at, state_at, calls_to, replies_to}
 use Rattle.zt_history.specs.Timeline.{Timeline}
-use Rattle.zt_history.specs.Standing.{AreMoments, AreBranches, IsHistory}
-use Rattle.zt_history.specs.Nodes.{Chronicle, IsTurned}
-use Rattle.zt_history.specs.Keeping.{IsKept, timeline_of}
+use Rattle.zt_history.specs.TreeInvariant.{AreMoments, AreBranches, IsHistory}
+use Rattle.zt_history.specs.MomentNodes.{Chronicle, IsTurned}
+use Rattle.zt_history.specs.KeptHistory.{IsKept, timeline_of}
 use Rattle.zt_history.proofs.HistoryLaws.{history-opening, history-back, history-forth}
 use Rattle.zt_history.proofs.RunLaws.{run-path}
 

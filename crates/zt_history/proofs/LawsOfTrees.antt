@@ -14,8 +14,8 @@ use Rattle.zt_rows.specs.Reads.{runs}
 use Rattle.zt_rows.specs.Room.{HasRoom}
 use Rattle.zt_rows.specs.State.{State}
 use Rattle.zt_rows.specs.Step.{IsCall, run}
-use Rattle.zt_history.specs.Refusing.{call_on, branch_on, most_moments, ◌>>=◌, check}
-use Rattle.zt_history.specs.Standing.{IsTree}
+use Rattle.zt_history.specs.HistoryRefusals.{call_on, branch_on, most_moments, ◌>>=◌, check}
+use Rattle.zt_history.specs.TreeInvariant.{IsTree}
 use Rattle.zt_history.specs.Tree.{Made, Tree, last_moment, opening_tree, made_by, head_at, called, branched, branch_named, calls_to, replies_to, state_at}
 use Rattle.zt_history.proofs.PathLaws.{path-step, path-end}
 use Rattle.zt_history.proofs.RunLaws.{run-path, moment-consistent, moment-room}

@@ -7,7 +7,7 @@ use Rattle.zt_rows.specs.Change.{before}
 use Rattle.zt_rows.specs.Step.{step}
 use Rattle.zt_rows.specs.Tests.{among}
 use Rattle.zt_history.specs.Tree.{Made, made_at, parent_of, parent_at, upto, path, state_at}
-use Rattle.zt_history.specs.Standing.{Falls, record_of}
+use Rattle.zt_history.specs.TreeInvariant.{Falls, record_of}
 use Rattle.zt_history.proofs.ListLaws.{get-left, get-last, get-within, place}
 use Rattle.zt_history.proofs.PathLaws.{by_parents}
 use Rattle.zt_history.proofs.RunLaws.{state-opening, state-step}

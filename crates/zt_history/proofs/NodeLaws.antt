@@ -11,14 +11,14 @@ use Rattle.zt_rows.specs.Change.{exchange}
 use Rattle.zt_rows.specs.State.{State}
 use Rattle.zt_rows.proofs.ChangeLaws.{Rows}
 use Rattle.zt_store.specs.Places.{Places, fits}
-use Rattle.zt_store.specs.Recorded.{all_fit}
-use Rattle.zt_store.specs.Seen.{Stored}
+use Rattle.zt_store.specs.RecordRows.{all_fit}
+use Rattle.zt_store.specs.StoreView.{Stored}
 use Rattle.zt_store.proofs.Fitting.{all_fit-at}
-use Rattle.zt_history.specs.declared.moments.Node.{Node}
+use Rattle.zt_history.specs.declared.moments.MomentNode.{MomentNode}
 use Rattle.zt_history.specs.Tree.{Made, made_at, parent_of, parent_at, path}
-use Rattle.zt_history.specs.Refusing.{most_moments}
-use Rattle.zt_history.specs.Standing.{Falls}
-use Rattle.zt_history.specs.Nodes.{Chronicle, AreNodes, AreListed, IsTurned, made_as, made_in, records_in, parents_in}
+use Rattle.zt_history.specs.HistoryRefusals.{most_moments}
+use Rattle.zt_history.specs.TreeInvariant.{Falls}
+use Rattle.zt_history.specs.MomentNodes.{Chronicle, AreNodes, AreListed, IsTurned, made_as, made_in, records_in, parents_in}
 use Rattle.zt_history.proofs.ListLaws.{length-mapped, get-within, get-left, get-last, get-set_same, get-set_other, place}
 use Rattle.zt_history.proofs.MoreLaws.{path-more, falls-push, falls-left}
 use Rattle.zt_history.proofs.PathLaws.{path-opening, path-step, length-path, opening-path}
@@ -29,10 +29,10 @@ got : {X : Type 0} (xs : List X) (i : ℕ) (r : Option (Bor X)) → IsItemAt xs 
 got xs i None h = sym (slice_get_past xs i h.3)
 got xs i (Some x) h = ap Some h.1 ∙ sym (slice_get-get_or xs i x.now h.3.0)
 
-abbrev pub seen : List Node → Chronicle
+abbrev pub seen : List MomentNode → Chronicle
 seen nodes = record { made = made_in nodes; records = records_in nodes }
 
-module _ (nodes xs : List Node) (h : Chronicle) (i m : ℕ) (r : Option (Bor Node)) (at : IsItemAt xs i r) (all : xs ≡ nodes) (is : seen nodes ≡ h) (place : m ≡ suc i) where
+module _ (nodes xs : List MomentNode) (h : Chronicle) (i m : ℕ) (r : Option (Bor MomentNode)) (at : IsItemAt xs i r) (all : xs ≡ nodes) (is : seen nodes ≡ h) (place : m ≡ suc i) where
   here : option_copied r ≡ slice_get nodes i
   here = got xs i r at ∙ ap (λ xs. slice_get xs i) all
 
@@ -42,26 +42,26 @@ module _ (nodes xs : List Node) (h : Chronicle) (i m : ℕ) (r : Option (Bor Nod
       end : option_map made_as (slice_get nodes i) ≡ made_at h.made m
       end = sym (slice_get-map made_as nodes i) ∙ (λ j. made_at (is j).made (sym place j))
 
-      by : (r : Option (Bor Node)) → option_copied r ≡ slice_get nodes i → option_map (λ n. made_as n.now) r ≡ made_at h.made m
+      by : (r : Option (Bor MomentNode)) → option_copied r ≡ slice_get nodes i → option_map (λ n. made_as n.now) r ≡ made_at h.made m
       by None e = ap (option_map made_as) e ∙ end
       by (Some n) e = ap (option_map made_as) e ∙ end
 
   pub node-kept : IfSome r (λ n. slice_get h.records (m - 1) ≡ Some n.now.change)
   node-kept = by r here
     where
-      end : (n : Node) → Some n ≡ slice_get nodes i → slice_get h.records (m - 1) ≡ Some n.change
+      end : (n : MomentNode) → Some n ≡ slice_get nodes i → slice_get h.records (m - 1) ≡ Some n.change
       end n e =
           let less : m - 1 ≡ i = omega (arith, place) in
           (λ j. slice_get (sym is j).records (less j)) ∙ slice_get-map (λ n. n.change) nodes i ∙ ap (option_map (λ n. n.change)) (sym e)
 
-      by : (r : Option (Bor Node)) → option_copied r ≡ slice_get nodes i → IfSome r (λ n. slice_get h.records (m - 1) ≡ Some n.now.change)
+      by : (r : Option (Bor MomentNode)) → option_copied r ≡ slice_get nodes i → IfSome r (λ n. slice_get h.records (m - 1) ≡ Some n.now.change)
       by None e = tt
       by (Some n) e = end n.now e
 
   pub node-depth : AreNodes nodes → IfSome r (λ n. n.now.depth ≡ length (path h.made m))
   node-depth are = by r here
     where
-      by : (r : Option (Bor Node)) → option_copied r ≡ slice_get nodes i → IfSome r (λ n. n.now.depth ≡ length (path h.made m))
+      by : (r : Option (Bor MomentNode)) → option_copied r ≡ slice_get nodes i → IfSome r (λ n. n.now.depth ≡ length (path h.made m))
       by None e = tt
       by (Some n) e = are.deep i n.now (sym e) ∙ (λ j. length (path (is j).made (sym place j)))
 
@@ -69,12 +69,12 @@ abbrev pub or_opening : Option ℕ → ℕ
 or_opening None = 0
 or_opening (Some m) = m
 
-parent_in : (o : Option Node) → or_opening (option_map (λ n. n.parent) o) ≡ parent_of (option_map made_as o)
+parent_in : (o : Option MomentNode) → or_opening (option_map (λ n. n.parent) o) ≡ parent_of (option_map made_as o)
 parent_in None = refl
 parent_in (Some n) = refl
 
 -- the parent of a moment, as it is read from the list of the parents
-pub parent-listed : (nodes : List Node) (parents xs : List ℕ) (h : Chronicle) (i m : ℕ) (r : Option (Bor ℕ)) → IsItemAt xs i r → xs ≡ parents → AreListed nodes parents
+pub parent-listed : (nodes : List MomentNode) (parents xs : List ℕ) (h : Chronicle) (i m : ℕ) (r : Option (Bor ℕ)) → IsItemAt xs i r → xs ≡ parents → AreListed nodes parents
     → seen nodes ≡ h → m ≡ suc i → or_opening (option_copied r) ≡ parent_at h.made m
 parent-listed nodes parents xs h i m r at all are is place =
     ap or_opening (got xs i r at ∙ ap (λ xs. slice_get xs i) (all ∙ are.listed) ∙ slice_get-map (λ n. n.parent) nodes i)
@@ -118,15 +118,15 @@ gathered-all made falls end at way depth is whole =
 
 -- ---- nodes that stay, one that changes, and one more
 
-module _ (nodes more : List Node) where
+module _ (nodes more : List MomentNode) where
   made_in-more : made_in (nodes ++ more) ≡ made_in nodes ++ made_in more
   made_in-more = map-append made_as nodes more
 
-pub length-made_in : (nodes : List Node) → length (made_in nodes) ≡ length nodes
+pub length-made_in : (nodes : List MomentNode) → length (made_in nodes) ≡ length nodes
 length-made_in nodes = length-mapped made_as nodes
 
 -- the first nodes of a list of nodes
-pub nodes-left : (nodes more : List Node) → AreNodes (nodes ++ more) → AreNodes nodes
+pub nodes-left : (nodes more : List MomentNode) → AreNodes (nodes ++ more) → AreNodes nodes
 nodes-left nodes more are = record {
   few = omega (arith, are.few, length-append nodes more);
   falls = falls;
@@ -140,7 +140,7 @@ nodes-left nodes more are = record {
     falls = falls-left (made_in nodes) (made_in more) (subst Falls (made_in-more nodes more) are.falls)
 
 -- a node whose record alone changes
-pub nodes-set : (nodes : List Node) (i : ℕ) (n d : Node) → i < length nodes → d ≡ get_or nodes i d → made_as n ≡ made_as d → n.depth ≡ d.depth → AreNodes nodes → AreNodes (set nodes i n)
+pub nodes-set : (nodes : List MomentNode) (i : ℕ) (n d : MomentNode) → i < length nodes → d ≡ get_or nodes i d → made_as n ≡ made_as d → n.depth ≡ d.depth → AreNodes nodes → AreNodes (set nodes i n)
 nodes-set nodes i n d within is same deep are = record {
   few = omega (arith, are.few, length-set nodes i n);
   falls = subst Falls (sym all) are.falls;
@@ -150,17 +150,17 @@ nodes-set nodes i n d within is same deep are = record {
     all : made_in (set nodes i n) ≡ made_in nodes
     all = map-set_same made_as nodes i n d (same ∙ ap made_as is)
 
-    each : (j : ℕ) (k : Node) → slice_get (set nodes i n) j ≡ Some k → (b : Bool) → eqb j i ≡ b → k.depth ≡ length (path (made_in (set nodes i n)) (suc j))
+    each : (j : ℕ) (k : MomentNode) → slice_get (set nodes i n) j ≡ Some k → (b : Bool) → eqb j i ≡ b → k.depth ≡ length (path (made_in (set nodes i n)) (suc j))
     each j k at true e =
         let at_i : j ≡ i = eqb-true j i e in
         let k_is : n ≡ k = same_Some n k (sym (get-set_same nodes i n within) ∙ ap (slice_get (set nodes i n)) (sym at_i) ∙ at) in
         let there : slice_get nodes j ≡ Some d = ap (slice_get nodes) at_i ∙ slice_get-get_or nodes i d within ∙ ap Some (sym is) in
-        ap (λ (k : Node). k.depth) (sym k_is) ∙ deep ∙ are.deep j d there ∙ ap (λ made. length (path made (suc j))) (sym all)
+        ap (λ (k : MomentNode). k.depth) (sym k_is) ∙ deep ∙ are.deep j d there ∙ ap (λ made. length (path made (suc j))) (sym all)
     each j k at false e =
         are.deep j k (sym (get-set_other nodes i j n (eqb-false j i e)) ∙ at) ∙ ap (λ made. length (path made (suc j))) (sym all)
 
 -- one more node, one deeper than its parent
-pub nodes-push : (nodes : List Node) (n : Node) → n.parent ≤ length nodes → n.depth ≡ length (path (made_in nodes) n.parent) + 1 → length nodes < most_moments → AreNodes nodes → AreNodes (nodes ++ n ∷ [])
+pub nodes-push : (nodes : List MomentNode) (n : MomentNode) → n.parent ≤ length nodes → n.depth ≡ length (path (made_in nodes) n.parent) + 1 → length nodes < most_moments → AreNodes nodes → AreNodes (nodes ++ n ∷ [])
 nodes-push nodes n there deep few are = record {
   few = omega (arith, few, length-append nodes (n ∷ []));
   falls = falls;
@@ -170,7 +170,7 @@ nodes-push nodes n there deep few are = record {
         ∙ ap length (sym (path-more (made_in nodes) (made_as n ∷ []) are.falls (suc i) (omega (arith, l, length-made_in nodes))) ∙ ap (λ made. path made (suc i)) (sym all))
     | inr r ↦ elim r [
       | inl end ↦
-          ap (λ (k : Node). k.depth) (sym (same_Some n k (sym (get-last nodes n i end) ∙ at)))
+          ap (λ (k : MomentNode). k.depth) (sym (same_Some n k (sym (get-last nodes n i end) ∙ at)))
           ∙ deep_end
           ∙ ap (λ i. length (path (made_in (nodes ++ n ∷ [])) (suc i))) (sym end)
       | inr past ↦ absurd (none-some k (sym (slice_get_past (nodes ++ n ∷ []) i past) ∙ at))
@@ -197,35 +197,35 @@ nodes-push nodes n there deep few are = record {
 
 -- ---- nodes with the list of their parents
 
-pub length-parents : (nodes : List Node) (parents : List ℕ) → AreListed nodes parents → length parents ≡ length nodes
-length-parents nodes parents are = ap length are.listed ∙ length-mapped (λ (n : Node). n.parent) nodes
+pub length-parents : (nodes : List MomentNode) (parents : List ℕ) → AreListed nodes parents → length parents ≡ length nodes
+length-parents nodes parents are = ap length are.listed ∙ length-mapped (λ (n : MomentNode). n.parent) nodes
 
-pub listed-left : (nodes fewer more : List Node) (parents left : List ℕ) (n k : ℕ) → nodes ≡ fewer ++ more → fewer ≡ take n nodes → left ≡ take k parents → k ≡ n
+pub listed-left : (nodes fewer more : List MomentNode) (parents left : List ℕ) (n k : ℕ) → nodes ≡ fewer ++ more → fewer ≡ take n nodes → left ≡ take k parents → k ≡ n
     → AreListed nodes parents → AreListed fewer left
 listed-left nodes fewer more parents left n k apart first others same are = record {
   stand = nodes-left fewer more (subst AreNodes apart are.stand);
   listed =
       others ∙ (λ i. take (same i) (are.listed i))
-      ∙ take-map (λ (n : Node). n.parent) n nodes
+      ∙ take-map (λ (n : MomentNode). n.parent) n nodes
       ∙ ap parents_in (sym first);
 }
 
-pub listed-set : (nodes : List Node) (parents : List ℕ) (i : ℕ) (n d : Node) → i < length nodes → d ≡ get_or nodes i d → made_as n ≡ made_as d → n.depth ≡ d.depth → AreListed nodes parents → AreListed (set nodes i n) parents
+pub listed-set : (nodes : List MomentNode) (parents : List ℕ) (i : ℕ) (n d : MomentNode) → i < length nodes → d ≡ get_or nodes i d → made_as n ≡ made_as d → n.depth ≡ d.depth → AreListed nodes parents → AreListed (set nodes i n) parents
 listed-set nodes parents i n d within is same deep are = record {
   stand = nodes-set nodes i n d within is same deep are.stand;
-  listed = are.listed ∙ sym (map-set_same (λ (n : Node). n.parent) nodes i n d (ap (λ (e : Made). e.parent) same ∙ ap (λ (n : Node). n.parent) is));
+  listed = are.listed ∙ sym (map-set_same (λ (n : MomentNode). n.parent) nodes i n d (ap (λ (e : Made). e.parent) same ∙ ap (λ (n : MomentNode). n.parent) is));
 }
 
 -- ---- a record that changes
 
-pub record_fits : (p : Places) (nodes : List Node) (i : ℕ) (n : Node) → i < length nodes → n ≡ get_or nodes i n → all_fit p (records_in nodes) ≡ true → fits p n.change ≡ true
+pub record_fits : (p : Places) (nodes : List MomentNode) (i : ℕ) (n : MomentNode) → i < length nodes → n ≡ get_or nodes i n → all_fit p (records_in nodes) ≡ true → fits p n.change ≡ true
 record_fits p nodes i n within is fit =
     let at : get_or (records_in nodes) i n.change ≡ n.change =
     get_or_from_slice_get (records_in nodes) i n.change n.change (slice_get-map (λ n. n.change) nodes i ∙ ap (option_map (λ n. n.change)) (slice_get-get_or nodes i n within ∙ ap Some (sym is))) in
-    ap (fits p) (sym at) ∙ all_fit-at p (records_in nodes) i n.change (omega (arith, within, length-mapped (λ (n : Node). n.change) nodes)) fit
+    ap (fits p) (sym at) ∙ all_fit-at p (records_in nodes) i n.change (omega (arith, within, length-mapped (λ (n : MomentNode). n.change) nodes)) fit
 
 -- the record of the i-th node exchanged its rows with the store's
-pub turned_at : (nodes : List Node) (n m : Node) (old new : Chronicle) (before after : Stored) (i j : ℕ) → i < length nodes → n ≡ get_or nodes i n → made_as m ≡ made_as n
+pub turned_at : (nodes : List MomentNode) (n m : MomentNode) (old new : Chronicle) (before after : Stored) (i j : ℕ) → i < length nodes → n ≡ get_or nodes i n → made_as m ≡ made_as n
     → seen nodes ≡ old → seen (set nodes i m) ≡ new → i ≡ j
     → ◌≡◌ {A = State × Rows} (after.state, m.change) (exchange before.state n.change) → after.places ≡ before.places → fits after.places m.change ≡ true
     → IsTurned old new before after j
@@ -238,12 +238,12 @@ turned_at nodes n m old new before after i j within is same was goes number done
       ∙ slice_get-map (λ n. n.change) nodes i
       ∙ ap (option_map (λ n. n.change)) (slice_get-get_or nodes i n within ∙ ap Some (sym is));
   exchanged = done;
-  records = ap (λ (h : Chronicle). h.records) (sym goes) ∙ map-set (λ (n : Node). n.change) nodes i m ∙ (λ k. set (was k).records (number k) m.change);
+  records = ap (λ (h : Chronicle). h.records) (sym goes) ∙ map-set (λ (n : MomentNode). n.change) nodes i m ∙ (λ k. set (was k).records (number k) m.change);
   places = places;
   fit = fit;
 }
 
-pub nodes-pushed : (nodes middle new : List Node) (n : Node) (h : Chronicle) → new ≡ middle ++ n ∷ [] → middle ≡ nodes → seen nodes ≡ h
+pub nodes-pushed : (nodes middle new : List MomentNode) (n : MomentNode) (h : Chronicle) → new ≡ middle ++ n ∷ [] → middle ≡ nodes → seen nodes ≡ h
     → n.parent ≤ length h.made → n.depth ≡ length (path h.made n.parent) + 1 → length h.made < most_moments → AreNodes nodes → AreNodes new
 nodes-pushed nodes middle new n h pushed kept is there deep few are =
     let made : made_in nodes ≡ h.made = ap (λ (h : Chronicle). h.made) is in
@@ -251,12 +251,12 @@ nodes-pushed nodes middle new n h pushed kept is there deep few are =
     subst AreNodes (sym (pushed ∙ ap (λ xs. xs ++ n ∷ []) kept))
     (nodes-push nodes n (omega (arith, there, many, length-made_in nodes)) (deep ∙ ap (λ made. length (path made n.parent) + 1) (sym made)) (omega (arith, few, many, length-made_in nodes)) are)
 
-pub listed-pushed : (nodes middle new : List Node) (parents room longer : List ℕ) (n : Node) (h : Chronicle) → new ≡ middle ++ n ∷ [] → middle ≡ nodes
+pub listed-pushed : (nodes middle new : List MomentNode) (parents room longer : List ℕ) (n : MomentNode) (h : Chronicle) → new ≡ middle ++ n ∷ [] → middle ≡ nodes
     → longer ≡ room ++ n.parent ∷ [] → room ≡ parents → seen nodes ≡ h
     → n.parent ≤ length h.made → n.depth ≡ length (path h.made n.parent) + 1 → length h.made < most_moments → AreListed nodes parents → AreListed new longer
 listed-pushed nodes middle new parents room longer n h pushed kept grown held is there deep few are = record {
   stand = nodes-pushed nodes middle new n h pushed kept is there deep few are.stand;
   listed =
       grown ∙ ap (λ xs. xs ++ n.parent ∷ []) (held ∙ are.listed)
-      ∙ sym (ap parents_in (pushed ∙ ap (λ xs. xs ++ n ∷ []) kept) ∙ map-append (λ (n : Node). n.parent) nodes (n ∷ []));
+      ∙ sym (ap parents_in (pushed ∙ ap (λ xs. xs ++ n ∷ []) kept) ∙ map-append (λ (n : MomentNode). n.parent) nodes (n ∷ []));
 }

@@ -8,7 +8,7 @@ use Rattle.std.proofs.lemmas.Option.{slice_get_past, same_Some, none-some}
 use Rattle.std.proofs.lemmas.List.Folds.{list_any-append}
 use Rattle.zt_rows.specs.Tests.{among}
 use Rattle.zt_history.specs.Tree.{Made, parent_at, upto, path, end_of}
-use Rattle.zt_history.specs.Standing.{Falls}
+use Rattle.zt_history.specs.TreeInvariant.{Falls}
 use Rattle.zt_history.proofs.ListLaws.{get-left, get-last, place, end_of-push}
 
 or_true : (b : Bool) → (b || true) ≡ true

@@ -4,7 +4,7 @@ use Rattle.std.specs.Prelude.{if◌then◌else◌}
 use Rattle.zt_rows.specs.Change.{before, exchange}
 use Rattle.zt_rows.proofs.ChangeLaws.{Rows, exchange-before}
 use Rattle.zt_history.specs.Tree.{Made, parent_at, state_at}
-use Rattle.zt_history.specs.Standing.{Falls, record_of}
+use Rattle.zt_history.specs.TreeInvariant.{Falls, record_of}
 use Rattle.zt_history.proofs.PathLaws.{among-self, among-other, among-parent}
 
 module _ (made : List Made) (falls : Falls made) (i : ℕ) where

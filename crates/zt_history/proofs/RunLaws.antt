@@ -14,7 +14,7 @@ use Rattle.zt_rows.proofs.OpeningLaws.{opening-consistent}
 use Rattle.zt_rows.proofs.SpentLaws.{spent-opening, spent-step, spent-room}
 use Rattle.zt_rows.proofs.CallLaws.{step-consistent}
 use Rattle.zt_history.specs.Tree.{Made, made_at, parent_of, parent_at, call_at, reply_at, path, calls_to, replies_to, state_at}
-use Rattle.zt_history.specs.Standing.{Falls, AreMoments}
+use Rattle.zt_history.specs.TreeInvariant.{Falls, AreMoments}
 use Rattle.zt_history.proofs.ListLaws.{get-within}
 use Rattle.zt_history.proofs.PathLaws.{path-opening, path-step, by_parents, short-path, length-path}
 

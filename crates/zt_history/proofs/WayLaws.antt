@@ -7,7 +7,7 @@ use Rattle.std.proofs.Math.Seq.{take-append_seam, take-length}
 use Rattle.std.proofs.lemmas.Map.Keys.{any_passes_from_place}
 use Rattle.std.proofs.lemmas.Option.{slice_get_within}
 use Rattle.zt_history.specs.Tree.{Made, parent_at, path, end_of}
-use Rattle.zt_history.specs.Standing.{Falls}
+use Rattle.zt_history.specs.TreeInvariant.{Falls}
 use Rattle.zt_history.specs.Timeline.{Timeline, IsPath, moved_to}
 use Rattle.zt_history.proofs.PathLaws.{path-opening, path-step, path-at, path-end, length-path, among-early}
 

@@ -22,8 +22,8 @@ use Rattle.zt_bits.specs.declared.kinds.Kind.TheVariants as kind
 use Rattle.zt_rows.specs.declared.rows.Life.TheVariants as life
 use Rattle.zt_rows.proofs.WorkedRowsForm.{object_row}
 use Rattle.zt_history.specs.Tree.{Tree, opening_tree, called, branched, path, parent_at, reply_at, replies_to, state_at, head_at, branch_named}
-use Rattle.zt_history.specs.Refusing.{call_on, branch_on, moment_on}
-use Rattle.zt_history.specs.Standing.{record_of}
+use Rattle.zt_history.specs.HistoryRefusals.{call_on, branch_on, moment_on}
+use Rattle.zt_history.specs.TreeInvariant.{record_of}
 
 -- a call of the root process at the head of a branch
 abbrev by_root : Tree → ℕ → Call → Tree

@@ -1,4 +1,4 @@
--- The branches as the entries of a map from names to heads, and lists without their last element.
+-- The branches as the entries of a map from names to heads, and lists without their last element. Used by proofs only.
 use Rattle.std.specs.Prelude.{ℕ, ◌-◌, List, map, take, length}
 use Rattle.zt_history.specs.Tree.{Branch}
 

@@ -1,7 +1,9 @@
+-- Definitions to believe: public clauses are stated in them.
 pub mod Tree
-pub mod Refusing
-pub mod Branches
+pub mod HistoryRefusals
 pub mod Timeline
-pub mod Standing
-pub mod Nodes
-pub mod Keeping
+pub mod TreeInvariant
+pub mod KeptHistory
+-- Used by proofs only: no public clause depends on them.
+pub mod Branches
+pub mod MomentNodes

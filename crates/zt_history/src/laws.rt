@@ -2,14 +2,13 @@
 ghost use Rattle.std.specs.Prelude.{◌≡◌, ◌≤◌, ◌<◌, ◌++◌, ◌∷◌, [], ℕ, suc, List, length, Ok};
 ghost use Rattle.zt_rows.specs.declared.calls.Answer.{Answer};
 ghost use Rattle.zt_rows.specs.declared.calls.Call.{Call};
-ghost use Rattle.zt_rows.specs.declared.calls.Reply.{Reply};
 ghost use Rattle.zt_rows.specs.Change.{exchange};
 ghost use Rattle.zt_rows.specs.Consistent.{IsConsistent};
 ghost use Rattle.zt_rows.specs.Opening.{opening};
 ghost use Rattle.zt_rows.specs.Room.{HasRoom};
 ghost use Rattle.zt_rows.specs.Step.{IsCall, run};
-ghost use Rattle.zt_history.specs.Refusing.{call_on, branch_on};
-ghost use Rattle.zt_history.specs.Standing.{Falls, IsTree, record_of};
+ghost use Rattle.zt_history.specs.HistoryRefusals.{call_on, branch_on};
+ghost use Rattle.zt_history.specs.TreeInvariant.{Falls, IsTree, record_of};
 ghost use Rattle.zt_history.specs.Tree.{Made, Tree, last_moment, parent_at, path, end_of, calls_to, replies_to, state_at, opening_tree};
 
 /// Where each parent is earlier, the path to a moment is its parent's, and the moment; and the path to a moment ends

@@ -3,11 +3,13 @@
 #![tactic(auto)]
 
 mod branches;
-mod changes;
-mod growing;
-mod histories;
+mod copied_calls;
+mod history;
 pub mod laws;
 mod moments;
+mod new_moment;
+mod tree_changes;
 
 pub use branches::BranchId;
-pub use histories::{History, LAST_MOMENT};
+pub use copied_calls::push_call;
+pub use history::{History, LAST_MOMENT};

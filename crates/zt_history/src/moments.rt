@@ -1,15 +1,15 @@
 ghost use Rattle.std.specs.Prelude.{◌≡◌, ◌<◌, ◌≤◌, ◌+◌, ◌-◌, ◌++◌, ◌∷◌, [], true, IfOk, OnOk, OnErr, IfSome, length, slice_get};
-ghost use Rattle.std.specs.Option.{option_copied, option_map};
+ghost use Rattle.std.specs.Option.{option_map};
 ghost use Rattle.zt_rows.specs.Change.{before};
 ghost use Rattle.zt_rows.specs.Consistent.{IsConsistent};
 ghost use Rattle.zt_rows.specs.Reads.{runs};
 ghost use Rattle.zt_rows.specs.Room.{HasRoom};
 ghost use Rattle.zt_rows.specs.Step.{step};
 ghost use Rattle.zt_store.specs.Places.{Keeps, fits};
-ghost use Rattle.zt_store.specs.Recorded.{all_fit};
+ghost use Rattle.zt_store.specs.RecordRows.{all_fit};
 ghost use Rattle.zt_history.specs.Branches.{without_last};
-ghost use Rattle.zt_history.specs.Nodes.{IsTurned, made_as, run_at};
-ghost use Rattle.zt_history.specs.Standing.{Falls};
+ghost use Rattle.zt_history.specs.MomentNodes.{IsTurned, made_as, run_at};
+ghost use Rattle.zt_history.specs.TreeInvariant.{Falls};
 ghost use Rattle.zt_history.specs.Tree.{made_at, parent_at, path};
 
 use std::alloc::{AllocError, Global};
@@ -20,7 +20,7 @@ use zt_store::{Record, Store, swap};
 
 /// How a moment was made, how long its path is, and the record by which a store goes over it.
 #[derive(Drop)]
-pub(crate) struct Node {
+pub(crate) struct MomentNode {
     pub(crate) parent: Moment,
     pub(crate) depth: u32,
     pub(crate) process: Koid,
@@ -33,12 +33,12 @@ pub(crate) struct Node {
 /// as well, so that a path is read from few bytes.
 #[derive(Drop)]
 pub(crate) struct Moments {
-    nodes: Vec<Node>,
+    nodes: Vec<MomentNode>,
     parents: Vec<Moment>,
 }
 
 impl Model for Moments {
-    ghost use Rattle.zt_history.specs.Nodes.{AreListed, Chronicle, made_in, records_in};
+    ghost use Rattle.zt_history.specs.MomentNodes.{AreListed, Chronicle, made_in, records_in};
 
     ghost Value = { Chronicle };
 
@@ -75,7 +75,7 @@ impl Moments {
     }
 
     /// What is kept of a moment; nothing of the opening, nor beyond the last.
-    pub(crate) fn node(&self, moment: Moment) -> Option<&Node>
+    pub(crate) fn node(&self, moment: Moment) -> Option<&MomentNode>
         ensures made { option_map (λ n. made_as n.now) result ≡ made_at self.now.made moment }
         ensures kept { IfSome result (λ n. slice_get self.now.records (moment - 1) ≡ Some n.now.change) }
         ensures depth { IfSome result (λ n. n.now.depth ≡ length (path self.now.made moment)) }
@@ -167,7 +167,7 @@ impl Moments {
         let alloc = *self.nodes.allocator();
         let run = carried_out(alloc, store, process, call)?;
         self.parents.push_reserved(at);
-        self.nodes.push_reserved(Node {
+        self.nodes.push_reserved(MomentNode {
             parent: at,
             depth,
             process,
@@ -191,7 +191,7 @@ impl Moments {
 
 /// A call that was run: its copy, its reply twice, and its record.
 #[derive(Drop)]
-struct Run {
+struct AnsweredCall {
     call: Call,
     reply: Reply,
     answer: Reply,
@@ -204,7 +204,7 @@ fn carried_out(
     store: &mut Store,
     process: Koid,
     call: &Call,
-) -> Result<Run, AllocError>
+) -> Result<AnsweredCall, AllocError>
     requires running { runs store.old.state process ≡ true }
     requires room { HasRoom store.old.state }
     requires consistent { IsConsistent store.old.state }
@@ -221,7 +221,7 @@ fn carried_out(
         return Err(AllocError);
     };
     match reply.copy() {
-        Ok(answer) => Ok(Run {
+        Ok(answer) => Ok(AnsweredCall {
             call: copied,
             reply,
             answer,

@@ -11,7 +11,7 @@ use Rattle.zt_rows.specs.End.{upward, links, chain, depth, is_live_task, is_unde
 use Rattle.zt_rows.specs.Consistent.{IsChild, has_parent, SoundObject, IsSound}
 use Rattle.zt_rows.proofs.RowLaws.{and_left, and_right, or_left, true≢false, not_true}
 use Rattle.zt_rows.proofs.SoundLaws.{task-not-endpoint}
-use Rattle.zt_jobs.specs.Above.{HasParents, is_child_in}
+use Rattle.zt_jobs.specs.TaskTree.{HasParents, is_child_in}
 
 -- ---- parents
 

@@ -21,7 +21,7 @@ use Rattle.zt_rows.specs.Reads.{as_entry, entry}
 use Rattle.zt_rows.proofs.ReadLaws.{entry-row}
 use Rattle.zt_rows.proofs.RowLaws.{In, in-row, true≢false, not_true}
 use Rattle.zt_rows.proofs.StateLaws.{row-change}
-use Rattle.zt_jobs.specs.Parts.{left_behind, only, with_end, without_tables, held_at, handles_of}
+use Rattle.zt_jobs.specs.EndedTasks.{left_behind, only, with_end, without_tables, held_at, handles_of}
 use Rattle.zt_jobs.proofs.PartLaws.{EntriesSeen, entry-none, entry-some}
 
 -- ---- lists of rows

@@ -10,8 +10,8 @@ use Rattle.zt_rows.specs.Reads.{object}
 use Rattle.zt_rows.specs.Tests.{among, link_at}
 use Rattle.zt_rows.specs.End.{is_live_task, is_under}
 use Rattle.zt_rows.proofs.RowLaws.{and_left, and_right, and_both, or_left, or_right, or_true, true≢false, not_true, same_test}
-use Rattle.zt_jobs.specs.Above.{HasParents, is_child_in, IsRising, HasMembers, HasChildren}
-use Rattle.zt_jobs.specs.Parts.{only}
+use Rattle.zt_jobs.specs.TaskTree.{HasParents, is_child_in, IsRising, HasMembers, HasChildren}
+use Rattle.zt_jobs.specs.EndedTasks.{only}
 use Rattle.zt_jobs.proofs.ChainLaws.{link-above, under-step, under-itself, under-above}
 
 -- ---- tests of numbers

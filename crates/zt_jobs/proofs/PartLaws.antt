@@ -21,11 +21,11 @@ use Rattle.zt_rows.proofs.ReadLaws.{object-row, entry-row}
 use Rattle.zt_rows.proofs.RowLaws.{or_true, true≢false, not_true}
 use Rattle.zt_store.specs.Chains as chains
 use Rattle.zt_store.specs.Chains.{IsBehind}
-use Rattle.zt_store.specs.Finding.{is_by, waits_where}
-use Rattle.zt_store.specs.Stepping.{Stepping}
-use Rattle.zt_jobs.specs.Above.{IsRising}
-use Rattle.zt_jobs.specs.Parts.{IsAhead, left_behind, only, with_end, without_tables, without_waits}
-use Rattle.zt_jobs.specs.Walks.{IsNext}
+use Rattle.zt_store.specs.Criteria.{is_by, waits_where}
+use Rattle.zt_store.specs.StepView.{Stepping}
+use Rattle.zt_jobs.specs.TaskTree.{IsRising}
+use Rattle.zt_jobs.specs.EndedTasks.{IsAhead, left_behind, only, with_end, without_tables, without_waits}
+use Rattle.zt_jobs.specs.NextRow.{IsNextRow}
 use Rattle.zt_jobs.proofs.WalkLaws.{behind-same, behind-change, change-then, IsSeen, seen-none, seen-put, seen-past, seen-all, none-left, unseen-left, below_more, below_same, below_none, below_past, below_all, below_over, below_or}
 
 -- ---- later moments of the step
@@ -194,7 +194,7 @@ module _ (S : State) (p : ℕ) where
       at (key.Packet e n) = refl
       at (key.Wait n) = refl
 
-  pub entries-past : (T : State) (v next : ℕ) → EntriesSeen T (v + 1) → IsNext T (λ h. key.Entry p h) v (Some next) → EntriesSeen T next
+  pub entries-past : (T : State) (v next : ℕ) → EntriesSeen T (v + 1) → IsNextRow T (λ h. key.Entry p h) v (Some next) → EntriesSeen T next
   entries-past T v next seen is = seen-past (without_tables (only p)) S T (seen_entries p (v + 1)) (seen_entries p next) seen at
     where
       of : (q h : ℕ) (b : Bool) → (q == p) ≡ b → ((b && nat_lt h next) ≡ (b && nat_lt h (v + 1))) ⊎ (((b && nat_lt h (v + 1)) ≡ false) × (option_and_then (without_tables (only p) (key.Entry q h)) (row T (key.Entry q h)) ≡ row T (key.Entry q h)))
@@ -208,7 +208,7 @@ module _ (S : State) (p : ℕ) where
       at (key.Entry q h) = of q h (q == p) refl
       at _ = inl refl
 
-  pub entries-all : (T : State) (v : ℕ) → EntriesSeen T (v + 1) → IsNext T (λ h. key.Entry p h) v None → T ≡ change (without_tables (only p)) S
+  pub entries-all : (T : State) (v : ℕ) → EntriesSeen T (v + 1) → IsNextRow T (λ h. key.Entry p h) v None → T ≡ change (without_tables (only p)) S
   entries-all T v seen is = seen-all (without_tables (only p)) S T (seen_entries p (v + 1)) seen at
     where
       other : (q h : ℕ) → (q == p) ≡ false → (r : Option Row) → option_and_then (without_tables (only p) (key.Entry q h)) r ≡ r

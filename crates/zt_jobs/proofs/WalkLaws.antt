@@ -9,7 +9,7 @@ use Rattle.zt_rows.specs.Keys.{rowkey_eq}
 use Rattle.zt_rows.specs.KeyOrder.{rowkey_eq-equal}
 use Rattle.zt_rows.specs.State.{State, row, put, change}
 use Rattle.zt_rows.proofs.StateLaws.{row-put, row-change, same_state, put-row}
-use Rattle.zt_jobs.specs.Parts.{left_behind}
+use Rattle.zt_jobs.specs.EndedTasks.{left_behind}
 
 -- ---- one key
 

@@ -1,3 +1,5 @@
-pub mod Above
-pub mod Parts
-pub mod Walks
+-- Definitions to believe: public clauses are stated in them.
+pub mod TaskTree
+pub mod EndedTasks
+-- Used by proofs only: no public clause depends on them.
+pub mod NextRow

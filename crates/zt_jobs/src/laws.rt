@@ -3,7 +3,7 @@ ghost use Rattle.std.specs.Prelude.{◌≡◌, ◌≢◌, ℕ};
 ghost use Rattle.zt_rows.specs.State.{State};
 ghost use Rattle.zt_rows.specs.Consistent.{IsSound};
 ghost use Rattle.zt_rows.specs.End.{is_under};
-ghost use Rattle.zt_jobs.specs.Above.{HasParents, is_child_in};
+ghost use Rattle.zt_jobs.specs.TaskTree.{HasParents, is_child_in};
 
 /// In a sound state the parent of a live process or job is live, and has a smaller koid.
 pub fn sound_states_have_parents()

@@ -1,14 +1,14 @@
 //! Jobs and processes, over a step of the store: where they stand, how they are made, and how they end.
 #![tactic(auto)]
 
-mod ending;
+mod ended_tables;
+mod ended_tasks;
+mod ended_waits;
 pub mod laws;
-mod looks;
-mod making;
-mod members;
-mod tables;
-mod waits;
+mod new_task;
+mod subtree;
+mod task_tree;
 
-pub use ending::{end_process, end_subtree};
-pub use looks::{depth, is_under};
-pub use making::{make_job, make_process};
+pub use ended_tasks::{end_process, end_subtree};
+pub use new_task::{make_job, make_process};
+pub use task_tree::{depth, is_under};

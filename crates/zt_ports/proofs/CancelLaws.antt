@@ -11,10 +11,10 @@ use Rattle.zt_rows.specs.Tests.{any_row}
 use Rattle.zt_rows.specs.PortCalls.{cancel, is_cancelled}
 use Rattle.zt_rows.proofs.StateLaws.{row-change, same_state}
 use Rattle.zt_rows.proofs.RowLaws.{any_row-at, at-any_row, or_true, or_left, or_right, same_test}
-use Rattle.zt_store.specs.Stepping.{Stepping, Advanced}
-use Rattle.zt_signals.specs.Waits.{is_cancelled_wait, without_cancelled_waits}
+use Rattle.zt_store.specs.StepView.{Stepping, Advanced}
+use Rattle.zt_signals.specs.DroppedWaits.{is_cancelled_wait, without_cancelled_waits}
 use Rattle.zt_signals.proofs.ColumnLaws.{without_those}
-use Rattle.zt_ports.specs.Cancelled.{is_cancelled_packet}
+use Rattle.zt_ports.specs.CancelledWaits.{is_cancelled_packet}
 
 -- ---- two tests, one after the other
 

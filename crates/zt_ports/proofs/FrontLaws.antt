@@ -1,6 +1,6 @@
 -- The first packet of a port, found by the least number under which the port has a row.
 use Rattle.std.proofs.Common.{◌≡◌, ◌<◌, ℕ, Bool, true, false, cond, ◌&&◌, T, List, [], ◌∷◌, refl, sym, ap, ◌∙◌, subst, arith}
-use Rattle.std.specs.Prelude.{Option, None, Some, ◌==◌, if◌then◌else◌}
+use Rattle.std.specs.Prelude.{Option, None, Some, IsSome, ◌==◌, if◌then◌else◌}
 use Rattle.std.specs.List.{filter_map, cons_option}
 use Rattle.std.specs.FinMap.Entries as entries
 use Rattle.std.specs.Ordering.{eq_by_cmp, is_lt, nat_cmp, ordering_then}
@@ -14,11 +14,12 @@ use Rattle.zt_rows.specs.declared.rows.Row.TheVariants as rows
 use Rattle.zt_rows.specs.Keys.{rowkey_cmp}
 use Rattle.zt_rows.specs.KeyOrder.{rowkey_eq-cmp, rowkey_eq-self, rowkey_eq-equal}
 use Rattle.zt_rows.specs.State.{State, row, put}
-use Rattle.zt_rows.specs.Reads.{packet_of, packets}
+use Rattle.zt_rows.specs.Reads.{as_packet, packet, packet_of, packets}
+use Rattle.zt_rows.specs.Room.{SuitsKey}
 use Rattle.zt_rows.specs.Tests.{first}
 use Rattle.zt_rows.proofs.ReadLaws.{some_one}
-use Rattle.zt_store.specs.Walks.{IsFirst}
-use Rattle.zt_ports.specs.Taken.{without_packet, without_front}
+use Rattle.zt_store.specs.FirstNumber.{IsFirst}
+use Rattle.zt_ports.specs.PortFront.{without_packet, without_front}
 
 -- ---- tests
 
@@ -143,6 +144,19 @@ first-none S x none = ap first (none-there x S.rows none)
 pub first-some : (S : State) (x n : ℕ) (m : Packet) → IsFirst S (λ j. key.Packet x j) (Some n) → row S (key.Packet x n) ≡ Some (rows.Packet m) → first (packets S x) ≡ Some (n, m)
 unfolding packets row
 first-some S x n m is here = first-in x n m S.rows S.sorted here is.1
+
+-- under the least number there is a packet
+pub front-there : (S : State) (x n : ℕ) → IsFirst S (λ j. key.Packet x j) (Some n) → ((k : RowKey) → SuitsKey k (row S k)) → packet S x n ≡ None → ⊥
+front-there S x n is suited none = of (row S (key.Packet x n)) (suited (key.Packet x n)) is.0 none
+  where
+    of : (r : Option Row) → SuitsKey (key.Packet x n) r → IsSome r → as_packet r ≡ None → ⊥
+    of (Some (rows.Packet p)) fits some gone = cc
+    of (Some (rows.Counters c)) fits some gone = cc
+    of (Some (rows.Object o)) fits some gone = cc
+    of (Some (rows.Entry h)) fits some gone = cc
+    of (Some (rows.Msg m)) fits some gone = cc
+    of (Some (rows.Wait w)) fits some gone = cc
+    of None fits some gone = cc
 
 -- ---- without the first
 

@@ -14,12 +14,12 @@ use Rattle.zt_rows.specs.State.{State, row}
 use Rattle.zt_rows.specs.Room.{is_above, next_key}
 use Rattle.zt_rows.specs.PortCalls.{is_user_packet_of}
 use Rattle.zt_rows.proofs.ReadLaws.{some_one}
-use Rattle.zt_store.specs.Walks.{IsFirst}
-use Rattle.zt_signals.specs.Columns.{IsNext}
+use Rattle.zt_store.specs.FirstNumber.{IsFirst}
+use Rattle.zt_signals.specs.KeyWalk.{IsNextUnder}
 use Rattle.zt_signals.proofs.NextKeyLaws.{next-none, next-above, next-there, next-least}
 use Rattle.zt_signals.proofs.ColumnLaws.{IsColumn, numbers_after, numbers-fewer}
-use Rattle.zt_ports.specs.Walks.{packet_key, packet_index}
-use Rattle.zt_ports.specs.Cancelled.{is_cancelled_packet}
+use Rattle.zt_ports.specs.PacketWalk.{packet_key, packet_index}
+use Rattle.zt_ports.specs.CancelledWaits.{is_cancelled_packet}
 
 -- ---- keys of one port
 
@@ -65,7 +65,7 @@ between x l n (key.Wait m) above out greater = cc
 
 -- ---- the next packet
 
-pub behind-none : (S : State) (x l : ℕ) → None ≡ next_key S (Some (key.Packet x l)) → IsNext S (packet_key x) (Some l) None
+pub behind-none : (S : State) (x l : ℕ) → None ≡ next_key S (Some (key.Packet x l)) → IsNextUnder S (packet_key x) (Some l) None
 behind-none S x l h = λ n past. next-none S (Some (key.Packet x l)) (sym h) (key.Packet x n) (packet-above x l n past)
 
 module _ (S : State) (x l : ℕ) (k : RowKey) (next : Some k ≡ next_key S (Some (key.Packet x l))) where
@@ -82,7 +82,7 @@ module _ (S : State) (x l : ℕ) (k : RowKey) (next : Some k ≡ next_key S (Som
     | Greater ↦ λ greater. absurd (between x l n k (next-above S low_key k (sym next)) out greater)
   ] refl
 
-  one_behind : (n : ℕ) → packet_index x k ≡ Some n → IsNext S (packet_key x) (Some l) (Some n)
+  one_behind : (n : ℕ) → packet_index x k ≡ Some n → IsNextUnder S (packet_key x) (Some l) (Some n)
   one_behind n in_it =
       let is : k ≡ key.Packet x n = key-of x k n in_it in
       let found : next_key S low_key ≡ Some (key.Packet x n) = sym next ∙ ap Some is in (
@@ -91,12 +91,12 @@ module _ (S : State) (x l : ℕ) (k : RowKey) (next : Some k ≡ next_key S (Som
         λ m past less. next-least S low_key (key.Packet x n) found (key.Packet x m) (packet-above x l m past) (packet-less x m n less),
       )
 
-  pub behind-found : (found : Option ℕ) → found ≡ packet_index x k → IsNext S (packet_key x) (Some l) found
+  pub behind-found : (found : Option ℕ) → found ≡ packet_index x k → IsNextUnder S (packet_key x) (Some l) found
   behind-found None e = none_behind (sym e)
   behind-found (Some n) e = one_behind n (sym e)
 
 -- the first packet is the next after none
-pub first-next : (S : State) (x : ℕ) (found : Option ℕ) → IsFirst S (λ n. key.Packet x n) found → IsNext S (packet_key x) None found
+pub first-next : (S : State) (x : ℕ) (found : Option ℕ) → IsFirst S (λ n. key.Packet x n) found → IsNextUnder S (packet_key x) None found
 first-next S x None none = λ n past. none n
 first-next S x (Some n) is = (tt, is.0, λ m past less. is.1 m less)
 
@@ -140,5 +140,5 @@ only_users x (key.Wait n) r e = refl
 pub user-column : (x : ℕ) → IsColumn (λ n. key.Packet x n) (packet_index x) (is_user_packet_of x)
 user-column x = record { here = index-here x; is = key-of x; within = only_users x }
 
-pub packets-fewer : (S : State) (x : ℕ) (low : Option ℕ) (n : ℕ) → n < 2 ^ 64 → IsNext S (packet_key x) low (Some n) → numbers_after (Some n) < numbers_after low
+pub packets-fewer : (S : State) (x : ℕ) (low : Option ℕ) (n : ℕ) → n < 2 ^ 64 → IsNextUnder S (packet_key x) low (Some n) → numbers_after (Some n) < numbers_after low
 packets-fewer S x low n few next = numbers-fewer low n few next.0

@@ -10,8 +10,8 @@ use Rattle.zt_rows.specs.Tests.{any_row, count_row}
 use Rattle.zt_rows.proofs.StateLaws.{row-change}
 use Rattle.zt_rows.proofs.RowLaws.{at-any_row, not_true}
 use Rattle.zt_store.proofs.Totals.{total-put, count-total, share}
-use Rattle.zt_store.specs.Numbers.{total}
-use Rattle.zt_signals.specs.Columns.{IsAfter, IsNext, passes_under}
+use Rattle.zt_store.specs.KoidCounts.{total}
+use Rattle.zt_signals.specs.KeyWalk.{IsAfter, IsNextUnder, passes_under}
 use Rattle.zt_signals.proofs.ColumnLaws.{IsColumn, left_by, without_those, next-that, drop-start, drop-next, drop-end, ahead}
 use Rattle.zt_signals.proofs.DerivedLaws.{count-none}
 
@@ -76,30 +76,30 @@ module _ (at : ℕ → RowKey) (index : RowKey → Option ℕ) (test : RowKey �
     same n past = ahead at index test column S rest low refl n past
 
     -- what comes next in S comes next in what is left of it
-    next-left : (n : ℕ) → IsNext S at low (Some n) → IsNext rest at low (Some n)
+    next-left : (n : ℕ) → IsNextUnder S at low (Some n) → IsNextUnder rest at low (Some n)
     next-left n next = (
       next.0,
       subst IsSome (sym (same n next.0)) next.1,
       λ m past less. same m past ∙ next.2 m past less,
     )
 
-    none-left : IsNext S at low None → IsNext rest at low None
+    none-left : IsNextUnder S at low None → IsNextUnder rest at low None
     none-left last = λ n past. same n past ∙ last n past
 
-    pub count-next : (n : ℕ) → IsNext S at low (Some n) → count_left (Some n) + cond (passes_under test S (at n)) 1 0 ≡ count_left low
+    pub count-next : (n : ℕ) → IsNextUnder S at low (Some n) → count_left (Some n) + cond (passes_under test S (at n)) 1 0 ≡ count_left low
     count-next n next =
         ap (λ (T : State). count_row test T + cond (passes_under test S (at n)) 1 0) (drop-next at index test column S rest low refl n (next-that test rest at low (Some n) (next-left n next)))
         ∙ ap (λ o. count_row test (put rest (at n) (option_and_then (without_those test (at n)) (row rest (at n)))) + cond (option_map_or (test (at n)) o false) 1 0) (sym (same n next.0))
         ∙ count-taken test rest (at n)
 
-    pub count-end : IsNext S at low None → count_left low ≡ 0
+    pub count-end : IsNextUnder S at low None → count_left low ≡ 0
     count-end last = ap (count_row test) (drop-end at index test column S rest low refl (next-that test rest at low None (none-left last))) ∙ count-none_left test S
 
   -- one that passes, and one that does not
-  pub count-yes : (low : Option ℕ) (n : ℕ) → IsNext S at low (Some n) → passes_under test S (at n) ≡ true → count_left (Some n) + 1 ≡ count_left low
+  pub count-yes : (low : Option ℕ) (n : ℕ) → IsNextUnder S at low (Some n) → passes_under test S (at n) ≡ true → count_left (Some n) + 1 ≡ count_left low
   count-yes low n next passes = ap (λ b. count_left (Some n) + cond b 1 0) (sym passes) ∙ count-next low n next
 
-  pub count-no : (low : Option ℕ) (n : ℕ) → IsNext S at low (Some n) → passes_under test S (at n) ≡ false → count_left (Some n) ≡ count_left low
+  pub count-no : (low : Option ℕ) (n : ℕ) → IsNextUnder S at low (Some n) → passes_under test S (at n) ≡ false → count_left (Some n) ≡ count_left low
   count-no low n next fails =
       let e : count_left (Some n) + 0 ≡ count_left low = ap (λ b. count_left (Some n) + cond b 1 0) (sym fails) ∙ count-next low n next in
       omega arith

@@ -1,4 +1,6 @@
-pub mod Queued
-pub mod Taken
-pub mod Walks
-pub mod Cancelled
+-- Definitions to believe: public clauses are stated in them.
+pub mod PortEnd
+pub mod PortFront
+-- Used by proofs only: no public clause depends on them.
+pub mod PacketWalk
+pub mod CancelledWaits

@@ -2,15 +2,15 @@
 //! cancelled, and the news of waits that fire.
 #![tactic(auto)]
 
-mod cancelling;
-mod counting;
-mod firing;
-mod queueing;
-mod taking;
-mod walking;
+mod cancelled_waits;
+mod fired_wait;
+mod packet_walk;
+mod pending_packets;
+mod port_end;
+mod port_front;
 
-pub use cancelling::cancel;
-pub use counting::pending;
-pub use firing::fire;
-pub use queueing::queue;
-pub use taking::{front, take_front};
+pub use cancelled_waits::cancel;
+pub use fired_wait::fire;
+pub use pending_packets::pending;
+pub use port_end::queue;
+pub use port_front::{front, take_front};

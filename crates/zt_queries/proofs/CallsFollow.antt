@@ -39,7 +39,7 @@ use Rattle.zt_rows.proofs.SoundLaws.{all_map}
 use Rattle.zt_rows.proofs.StepLaws.{Found, chained, after_check, after_some, after_result, after_handle_of, after_handle, caller-is}
 use Rattle.zt_rows.proofs.SentLaws.{sent-held}
 use Rattle.zt_rows.proofs.ReceivedLaws.{first-message}
-use Rattle.zt_queries.specs.Reach.{reached}
+use Rattle.zt_queries.specs.Reachability.{reached}
 use Rattle.zt_queries.proofs.ReachLaws.{in-all, entry-reached, message-reached}
 use Rattle.zt_queries.proofs.FollowLaws.{aged_itself, Was, is_old, was-raised, IsFresh, plain-fresh, is_known, AllKnown, known-reached, known-new, known-entry, Direct, direct-itself, direct-less, direct-object, direct-counters, direct-entry, direct-message, direct-taken, direct-end, direct-cancel, direct-install, direct-install_all, direct-made, direct-paired}
 

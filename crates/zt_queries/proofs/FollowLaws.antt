@@ -31,7 +31,7 @@ use Rattle.zt_rows.proofs.ReadLaws.{some_one, exists-some, some-exists, kind_at-
 use Rattle.zt_rows.proofs.TakeLaws.{object-taken, counters-taken, message-taken, entry-taken}
 use Rattle.zt_rows.proofs.EndLaws.{ended, object-end, counters-end, ended-was}
 use Rattle.zt_rows.proofs.FramedLaws.{shaped, Framed, shaped-there, turned}
-use Rattle.zt_queries.specs.Reach.{reached, IsClosed}
+use Rattle.zt_queries.specs.Reachability.{reached, HoldsAllNamed}
 use Rattle.zt_queries.proofs.ReachLaws.{in-all, entry-reached, message-reached}
 
 -- ---- objects that age
@@ -116,7 +116,7 @@ pub record Follows (S T : State) : Type 0 where
   pub messages : (e n : ℕ) (m : MessageContent) → message T e n ≡ Some m → is_known S e ≡ true → AllKnown S m.handles
 
 -- what was reached, with what is new, is closed in what follows
-pub known-closed : (S T : State) → Follows S T → IsClosed T (is_known S)
+pub known-closed : (S T : State) → Follows S T → HoldsAllNamed T (is_known S)
 known-closed S T f = record { entries = f.entries; messages = f.messages }
 
 -- by a call's direct change nothing goes, and no message that nothing reaches is read

@@ -13,8 +13,8 @@ use Rattle.zt_rows.specs.KeyOrder.{rowkey_eq-equal, rowkey_eq-self, rowkey_eq-cm
 use Rattle.zt_rows.specs.Change.{keys}
 use Rattle.zt_rows.specs.State.{State, row}
 use Rattle.zt_rows.proofs.RowLaws.{In, row-in, list_any-in}
-use Rattle.zt_queries.specs.declared.graph.Sketch.{Sketch}
-use Rattle.zt_queries.specs.Graphs.{first_of, sketched}
+use Rattle.zt_queries.specs.declared.leak_graph.graph.GraphRow.{GraphRow}
+use Rattle.zt_queries.specs.LeakGraph.{first_of, graph_row_if}
 
 -- ---- drawn so far
 
@@ -22,25 +22,25 @@ use Rattle.zt_queries.specs.Graphs.{first_of, sketched}
 abbrev pub listed : List RowKey → RowKey → Bool
 listed ks q = list_any (λ k. rowkey_eq k q) ks
 
-abbrev pub drawn : State → List RowKey → RowKey → Option Sketch
-drawn S ks q = if listed ks q then sketched (row S q) else None
+abbrev pub drawn : State → List RowKey → RowKey → Option GraphRow
+drawn S ks q = if listed ks q then graph_row_if (row S q) else None
 
-more_by : (S : State) (q k : RowKey) (a : Bool) → (if rowkey_eq k q then sketched (row S k) else (if a then sketched (row S q) else None)) ≡ (if a || (rowkey_eq k q || false) then sketched (row S q) else None)
-more_by S q k a = more_of (rowkey_eq k q) a (λ e. ap (λ x. sketched (row S x)) (rowkey_eq-equal k q e))
+more_by : (S : State) (q k : RowKey) (a : Bool) → (if rowkey_eq k q then graph_row_if (row S k) else (if a then graph_row_if (row S q) else None)) ≡ (if a || (rowkey_eq k q || false) then graph_row_if (row S q) else None)
+more_by S q k a = more_of (rowkey_eq k q) a (λ e. ap (λ x. graph_row_if (row S x)) (rowkey_eq-equal k q e))
   where
-    more_of : (b a : Bool) → (b ≡ true → sketched (row S k) ≡ sketched (row S q)) → (if b then sketched (row S k) else (if a then sketched (row S q) else None)) ≡ (if a || (b || false) then sketched (row S q) else None)
+    more_of : (b a : Bool) → (b ≡ true → graph_row_if (row S k) ≡ graph_row_if (row S q)) → (if b then graph_row_if (row S k) else (if a then graph_row_if (row S q) else None)) ≡ (if a || (b || false) then graph_row_if (row S q) else None)
     more_of true true h = h refl
     more_of true false h = h refl
     more_of false true h = refl
     more_of false false h = refl
 
-pub drawn_more : (S : State) (ks : List RowKey) (i : ℕ) (k q : RowKey) (old new : Option Sketch) → i < length ks → k ≡ get_or ks i k
-    → old ≡ drawn S (take i ks) q → new ≡ (if rowkey_eq k q then sketched (row S k) else old) → new ≡ drawn S (take (i + 1) ks) q
+pub drawn_more : (S : State) (ks : List RowKey) (i : ℕ) (k q : RowKey) (old new : Option GraphRow) → i < length ks → k ≡ get_or ks i k
+    → old ≡ drawn S (take i ks) q → new ≡ (if rowkey_eq k q then graph_row_if (row S k) else old) → new ≡ drawn S (take (i + 1) ks) q
 drawn_more S ks i k q old new l is o n =
     n
-    ∙ ap (λ x. if rowkey_eq k q then sketched (row S k) else x) o
+    ∙ ap (λ x. if rowkey_eq k q then graph_row_if (row S k) else x) o
     ∙ more_by S q k (listed (take i ks) q)
-    ∙ ap (λ b. if b then sketched (row S q) else None) (sym (list_any-append (λ x. rowkey_eq x q) (take i ks) (k ∷ [])))
+    ∙ ap (λ b. if b then graph_row_if (row S q) else None) (sym (list_any-append (λ x. rowkey_eq x q) (take i ks) (k ∷ [])))
     ∙ ap (λ x. drawn S (take i ks ++ x ∷ []) q) is
     ∙ ap (λ xs. drawn S xs q) (sym (take_more ks i k l))
 
@@ -51,14 +51,14 @@ key-in k r [] m = absurd m
 key-in k r (e ∷ es) (inl p) = inl (ap (λ (z : RowKey × Row). z.0) p)
 key-in k r (e ∷ es) (inr m) = inr (key-in k r es m)
 
-all_of : (S : State) (q : RowKey) (o : Option Row) → row S q ≡ o → drawn S (keys S) q ≡ sketched o
-all_of S q None e = none_of (listed (keys S) q) (ap sketched e)
+all_of : (S : State) (q : RowKey) (o : Option Row) → row S q ≡ o → drawn S (keys S) q ≡ graph_row_if o
+all_of S q None e = none_of (listed (keys S) q) (ap graph_row_if e)
   where
-    none_of : (b : Bool) → sketched (row S q) ≡ None → (if b then sketched (row S q) else None) ≡ None
+    none_of : (b : Bool) → graph_row_if (row S q) ≡ None → (if b then graph_row_if (row S q) else None) ≡ None
     none_of true h = h
     none_of false h = refl
 all_of S q (Some r) e =
-    ap (λ b. if b then sketched (row S q) else None) (list_any-in (λ k. rowkey_eq k q) q (keys S) (key-in q r S.rows (row-in S q r e)) (rowkey_eq-self q)) ∙ ap sketched e
+    ap (λ b. if b then graph_row_if (row S q) else None) (list_any-in (λ k. rowkey_eq k q) q (keys S) (key-in q r S.rows (row-in S q r e)) (rowkey_eq-self q)) ∙ ap graph_row_if e
 
 take_whole : {A : Type 0} (xs : List A) (i : ℕ) → length xs ≤ i → take i xs ≡ xs
 take_whole [] zero h = refl
@@ -66,21 +66,21 @@ take_whole [] (suc i) h = refl
 take_whole (x ∷ xs) zero h = absurd (omega (arith, h))
 take_whole (x ∷ xs) (suc i) h = ap (λ l. x ∷ l) (take_whole xs i (omega (arith, h)))
 
-pub all_drawn : (S : State) (ks : List RowKey) (i : ℕ) (q : RowKey) (found : Option Sketch) → ks ≡ keys S → length ks ≤ i → found ≡ drawn S (take i ks) q → found ≡ sketched (row S q)
+pub all_drawn : (S : State) (ks : List RowKey) (i : ℕ) (q : RowKey) (found : Option GraphRow) → ks ≡ keys S → length ks ≤ i → found ≡ drawn S (take i ks) q → found ≡ graph_row_if (row S q)
 all_drawn S ks i q found all past so_far =
     so_far ∙ ap (λ xs. drawn S xs q) (take_whole ks i past ∙ all) ∙ all_of S q (row S q) refl
 
 -- ---- an equal graph
 
-abbrev pub from_rest : List (RowKey × Sketch) → RowKey → Option Sketch
+abbrev pub from_rest : List (RowKey × GraphRow) → RowKey → Option GraphRow
 from_rest es q = lookup (is_at (rowkey_cmp q)) es
 
-first_by : (o t : Option Sketch) (b : Bool) (s : Sketch) → first_of (first_of o (if b then Some s else None)) t ≡ first_of o (if b then Some s else t)
+first_by : (o t : Option GraphRow) (b : Bool) (s : GraphRow) → first_of (first_of o (if b then Some s else None)) t ≡ first_of o (if b then Some s else t)
 first_by (Some r) t b s = refl
 first_by None t true s = refl
 first_by None t false s = refl
 
-pub copied_more : (old new : Option Sketch) (k q : RowKey) (s : Sketch) (es rest : List (RowKey × Sketch)) (all : Option Sketch) → es ≡ (k, s) ∷ rest
+pub copied_more : (old new : Option GraphRow) (k q : RowKey) (s : GraphRow) (es rest : List (RowKey × GraphRow)) (all : Option GraphRow) → es ≡ (k, s) ∷ rest
     → first_of old (from_rest es q) ≡ all → new ≡ first_of old (if rowkey_eq k q then Some s else None) → first_of new (from_rest rest q) ≡ all
 copied_more old new k q s es rest all is so_far n =
     ap (λ o. first_of o (from_rest rest q)) n
@@ -89,15 +89,15 @@ copied_more old new k q s es rest all is so_far n =
     ∙ ap (λ l. first_of old (from_rest l q)) (sym is)
     ∙ so_far
 
-first_none : (o : Option Sketch) → first_of o None ≡ o
+first_none : (o : Option GraphRow) → first_of o None ≡ o
 first_none (Some s) = refl
 first_none None = refl
 
-pub copied_all : (new : Option Sketch) (q : RowKey) (es : List (RowKey × Sketch)) (all : Option Sketch) → es ≡ [] → first_of new (from_rest es q) ≡ all → new ≡ all
+pub copied_all : (new : Option GraphRow) (q : RowKey) (es : List (RowKey × GraphRow)) (all : Option GraphRow) → es ≡ [] → first_of new (from_rest es q) ≡ all → new ≡ all
 copied_all new q es all none so_far = sym (first_none new) ∙ ap (λ l. first_of new (from_rest l q)) (sym none) ∙ so_far
 
--- one sketch put where there was none, or left where there was one
-pub put_where_none : (old : RowKey → Option Sketch) (k q : RowKey) (s : Sketch) (new : Option Sketch) → old k ≡ None
+-- one graph row put where there was none, or left where there was one
+pub put_where_none : (old : RowKey → Option GraphRow) (k q : RowKey) (s : GraphRow) (new : Option GraphRow) → old k ≡ None
     → new ≡ (if rowkey_eq k q then Some s else old q) → new ≡ first_of (old q) (if rowkey_eq k q then Some s else None)
 put_where_none old k q s new none n = n ∙ by (rowkey_eq k q) refl
   where
@@ -107,10 +107,10 @@ put_where_none old k q s new none n = n ∙ by (rowkey_eq k q) refl
     by false e =
         ap (λ b. if b then Some s else old q) e ∙ sym (ap (λ b. first_of (old q) (if b then Some s else None)) e ∙ first_none (old q))
 
-pub left_where_some : (old : RowKey → Option Sketch) (k q : RowKey) (s : Sketch) → is_some (old k) ≡ true → old q ≡ first_of (old q) (if rowkey_eq k q then Some s else None)
+pub left_where_some : (old : RowKey → Option GraphRow) (k q : RowKey) (s : GraphRow) → is_some (old k) ≡ true → old q ≡ first_of (old q) (if rowkey_eq k q then Some s else None)
 left_where_some old k q s there = by (rowkey_eq k q) refl
   where
-    held_first : (o t : Option Sketch) → is_some o ≡ true → o ≡ first_of o t
+    held_first : (o t : Option GraphRow) → is_some o ≡ true → o ≡ first_of o t
     held_first (Some r) t h = refl
     held_first None t h = cc
 

@@ -11,9 +11,9 @@ use Rattle.zt_rows.specs.Change.{keys}
 use Rattle.zt_rows.specs.Reads.{object}
 use Rattle.zt_rows.specs.State.{State, row}
 use Rattle.zt_rows.specs.Support.{entry_support, child_support, message_supports, children, itself, supports}
-use Rattle.zt_queries.specs.declared.supports.Part.{Part}
-use Rattle.zt_queries.specs.declared.supports.Part.TheVariants as part
-use Rattle.zt_queries.specs.Holding.{supports_at, supports_in}
+use Rattle.zt_queries.specs.declared.support_list.Source.{Source}
+use Rattle.zt_queries.specs.declared.support_list.Source.TheVariants as part
+use Rattle.zt_queries.specs.Holders.{supports_at, supports_in}
 use Rattle.zt_queries.proofs.KeyLaws.{row-at}
 
 -- ---- the rows under the keys are the rows
@@ -35,7 +35,7 @@ under_keys f S (e ∷ es) h =
     ap (λ o. f e.0 o ++ flat_map (λ k. f k (row S k)) (map (λ q. q.0) es)) (h 0 e refl)
     ∙ ap (λ l. f e.0 (Some e.1) ++ l) (under_keys f S es (λ i q at. h (suc i) q at))
 
-by_keys : (which : Part) (x : ℕ) (S : State) → flat_map (λ k. supports_at which x k (row S k)) (keys S) ≡ supports_in which x S
+by_keys : (which : Source) (x : ℕ) (S : State) → flat_map (λ k. supports_at which x k (row S k)) (keys S) ≡ supports_in which x S
 by_keys which x S = under_keys (supports_at which x) S S.rows (row_of S)
 
 take_whole : {A : Type 0} (xs : List A) (i : ℕ) → length xs ≤ i → take i xs ≡ xs
@@ -44,7 +44,7 @@ take_whole [] (suc i) h = refl
 take_whole (x ∷ xs) zero h = absurd (omega (arith, h))
 take_whole (x ∷ xs) (suc i) h = ap (λ l. x ∷ l) (take_whole xs i (omega (arith, h)))
 
-pub all_keys : (which : Part) (x : ℕ) (S : State) (ks : List RowKey) (i : ℕ) (ys zs : List Support) → ks ≡ keys S → length ks ≤ i
+pub all_keys : (which : Source) (x : ℕ) (S : State) (ks : List RowKey) (i : ℕ) (ys zs : List Support) → ks ≡ keys S → length ks ≤ i
     → zs ≡ ys ++ flat_map (λ k. supports_at which x k (row S k)) (take i ks) → zs ≡ ys ++ supports_in which x S
 all_keys which x S ks i ys zs all h so_far =
     so_far

@@ -34,7 +34,7 @@ use Rattle.zt_rows.proofs.SettleLaws.{framed-settle}
 use Rattle.zt_rows.proofs.WithoutLaws.{IsLast, collect-set}
 use Rattle.zt_rows.proofs.ChainLaws.{chain-from, links-chain}
 use Rattle.zt_rows.proofs.CallLaws.{sound-direct}
-use Rattle.zt_queries.specs.Reach.{reached}
+use Rattle.zt_queries.specs.Reachability.{reached}
 use Rattle.zt_queries.specs.Leaks.{keeps_above, is_above, is_kept, is_lost, is_leaked, lost_at, leaks}
 use Rattle.zt_queries.proofs.ReachLaws.{in-map, map-in, among-in, in-among, entry-reached, message-reached, reached-least}
 use Rattle.zt_queries.proofs.FollowLaws.{Aged, Was, is_new, is_old, IsFresh, is_known, known-closed, known-low, Follows, Direct, low-koid, follows-without, follows-framed}

@@ -8,11 +8,11 @@ pub mod KeyLaws
 pub mod CopyLaws
 pub mod HoldLaws
 pub mod GraphLaws
-pub mod SurveyLaws
+pub mod ReachabilityLaws
 pub mod ListLeaks
 pub mod WayLaws
 pub mod TreeTimes
 pub mod WhenLaws
 pub mod ForkLaws
 pub mod SinceLaws
-pub mod OnsetLaws
+pub mod FirstLeakLaws

@@ -15,15 +15,15 @@ use Rattle.zt_rows.specs.Reads.{as_object, object_at, objects, on_object, is_liv
 use Rattle.zt_rows.specs.Tests.{among, exists}
 use Rattle.zt_rows.specs.Support.{root_job}
 use Rattle.zt_rows.proofs.RowLaws.{In, in-row}
-use Rattle.zt_queries.specs.declared.graph.Sketch.{Sketch}
-use Rattle.zt_queries.specs.Reach.{reached}
+use Rattle.zt_queries.specs.declared.leak_graph.graph.GraphRow.{GraphRow}
+use Rattle.zt_queries.specs.Reachability.{reached}
 use Rattle.zt_queries.specs.Leaks.{is_above, is_lost, is_leaked, lost_at, leaks}
-use Rattle.zt_queries.specs.Graphs.{sketched, IsGraph, node_at, node, is_left, left_node, left_at}
+use Rattle.zt_queries.specs.LeakGraph.{graph_row_if, IsGraph, node_at, node, is_left, left_node, left_at}
 
 -- ---- one object
 
 left_of : (o : Option Row) (x : ℕ) (r a : ℕ → Bool)
-    → is_left r a x (node_at (sketched o)) ≡ (is_some (as_object o) && not (r x || ((x == root_job) || on_object is_live_process (as_object o) || a x)))
+    → is_left r a x (node_at (graph_row_if o)) ≡ (is_some (as_object o) && not (r x || ((x == root_job) || on_object is_live_process (as_object o) || a x)))
 left_of (Some (rows.Object row)) x r a = refl
 left_of (Some (rows.Counters c)) x r a = refl
 left_of (Some (rows.Entry o)) x r a = refl
@@ -32,7 +32,7 @@ left_of (Some (rows.Packet p)) x r a = refl
 left_of (Some (rows.Wait w)) x r a = refl
 left_of None x r a = refl
 
-module _ (graph : BTreeMap RowKey Sketch) (S : State) (drawn : IsGraph graph S) (reach above : ℕ → Bool)
+module _ (graph : BTreeMap RowKey GraphRow) (S : State) (drawn : IsGraph graph S) (reach above : ℕ → Bool)
     (of_reached : (x : ℕ) → reach x ≡ among (reached S) x) (of_above : (x : ℕ) → above x ≡ is_above S (reached S) x) where
   left_lost : (x : ℕ) → is_left reach above x (node graph x) ≡ is_lost S (reached S) x
   left_lost x =
@@ -53,8 +53,8 @@ module _ (graph : BTreeMap RowKey Sketch) (S : State) (drawn : IsGraph graph S) 
   abbrev left_key : RowKey → Option (ℕ × Kind)
   left_key k = left_at graph reach above k
 
-  drawn_at : (x : ℕ) (r : Row) → row S (key.Object x) ≡ Some r → node graph x ≡ node_at (sketched (Some r))
-  drawn_at x r h = ap node_at (drawn.draws (key.Object x) ∙ ap sketched h)
+  drawn_at : (x : ℕ) (r : Row) → row S (key.Object x) ≡ Some r → node graph x ≡ node_at (graph_row_if (Some r))
+  drawn_at x r h = ap node_at (drawn.draws (key.Object x) ∙ ap graph_row_if h)
 
   one_object : (x : ℕ) (o : ObjectRow) → row S (key.Object x) ≡ Some (rows.Object o) → left_key (key.Object x) ≡ lost (x, o)
   one_object x o h =

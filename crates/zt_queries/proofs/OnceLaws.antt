@@ -19,19 +19,19 @@ use Rattle.zt_rows.specs.Consistent.{IsSound, IsConsistent}
 use Rattle.zt_rows.proofs.RowLaws.{and_left, and_right, and_both, true≢false, not_true}
 use Rattle.zt_rows.proofs.ReadLaws.{some_one, exists-some, some-exists}
 use Rattle.zt_rows.proofs.CallLaws.{step-consistent}
-use Rattle.zt_queries.specs.Reach.{reached}
+use Rattle.zt_queries.specs.Reachability.{reached}
 use Rattle.zt_queries.specs.Leaks.{is_leaked}
-use Rattle.zt_queries.specs.Happenings.{lives, is_cut_off, lacks_peer, made, ended, peer_closed, leaked, IsNext, IsPath, moments, last_moment}
+use Rattle.zt_queries.specs.Happenings.{lives, is_cut_off, lacks_peer, made, ended, peer_closed, leaked, IsCallStep, IsCallPath, moments, last_moment}
 use Rattle.zt_queries.proofs.ReachLaws.{reached-least}
 use Rattle.zt_queries.proofs.FollowLaws.{Aged, Was, is_new, is_old, Follows, low-koid}
 use Rattle.zt_queries.proofs.LeakLaws.{leaked-lost, lost-leaked, lost-follows, follows-step}
 
 -- ---- what holds from one state of a path to the next
 
-pub next-consistent : (S T : State) → IsConsistent S → IsNext S T → IsConsistent T
+pub next-consistent : (S T : State) → IsConsistent S → IsCallStep S T → IsConsistent T
 next-consistent S T consistent n = subst IsConsistent (sym n.gives) (step-consistent S n.process n.call consistent n.live n.is)
 
-pub next-follows : (S T : State) → IsConsistent S → IsNext S T → Follows S T
+pub next-follows : (S T : State) → IsConsistent S → IsCallStep S T → Follows S T
 next-follows S T consistent n = subst (Follows S) (sym n.gives) (follows-step S consistent.sound n.process n.live n.call n.is)
 
 -- ---- what happens once
@@ -44,7 +44,7 @@ record Passes (happens : State → State → Bool) (Past : State → Type 0) : T
 
 module _ (happens : State → State → Bool) (Past : State → Type 0) (w : Passes happens Past) where
   -- what is past it does not happen any more
-  moments-none : (S : State) (path : List (ℕ × State)) → IsConsistent S → IsPath S path → Past S → moments happens S path ≡ []
+  moments-none : (S : State) (path : List (ℕ × State)) → IsConsistent S → IsCallPath S path → Past S → moments happens S path ≡ []
   moments-none S [] consistent is past = refl
   moments-none S ((n, T) ∷ path) consistent is past =
       let later : IsConsistent T = next-consistent S T consistent is.0 in
@@ -53,7 +53,7 @@ module _ (happens : State → State → Bool) (Past : State → Type 0) (w : Pas
       let here : happens S T ≡ false = not_true (happens S T) (w.never S T consistent later f past) in
       ap (λ b. if b then n ∷ moments happens T path else moments happens T path) here ∙ rest
 
-  moments-once : (S : State) (path : List (ℕ × State)) → IsConsistent S → IsPath S path → length (moments happens S path) ≤ 1
+  moments-once : (S : State) (path : List (ℕ × State)) → IsConsistent S → IsCallPath S path → length (moments happens S path) ≤ 1
   moments-once S [] consistent is = omega arith
   moments-once S ((n, T) ∷ path) consistent is =
       let later : IsConsistent T = next-consistent S T consistent is.0 in
@@ -233,12 +233,12 @@ leaked-passes x = record {
 pub leaked-begins : (S : State) (x : ℕ) → IsConsistent S → is_leaked S x ≡ true → has_leaked x S
 leaked-begins S x c l = (low-koid S c.sound x (leaked-exists S x l), λ e. l)
 
-pub leaked-goes-on : (S T : State) (x : ℕ) → IsConsistent S → IsNext S T → has_leaked x S → has_leaked x T
+pub leaked-goes-on : (S T : State) (x : ℕ) → IsConsistent S → IsCallStep S T → has_leaked x S → has_leaked x T
 leaked-goes-on S T x c n p = (leaked-passes x).stays S T c (next-consistent S T c n) (next-follows S T c n) p
 
 -- ---- the laws
 
-module _ (S : State) (path : List (ℕ × State)) (x : ℕ) (consistent : IsConsistent S) (is : IsPath S path) where
+module _ (S : State) (path : List (ℕ × State)) (x : ℕ) (consistent : IsConsistent S) (is : IsCallPath S path) where
   pub made-once : length (moments (made x) S path) ≤ 1
   made-once = moments-once (made x) (given x) (made-passes x) S path consistent is
 
@@ -263,7 +263,7 @@ reached-there S sound x e = reached-least S (exists S) (record {
 unreached : (S : State) (x : ℕ) → IsConsistent S → has_leaked x S → among (reached S) x ≡ false
 unreached S x c p = not_true (among (reached S) x) (λ t. true≢false (among (reached S) x) t (leaked-lost S x (p.1 (reached-there S c.sound x t))).unreached)
 
-never-reached : (S : State) (path : List (ℕ × State)) (x : ℕ) → IsConsistent S → IsPath S path → has_leaked x S → AllByRecursion (λ m. among (reached m.1) x ≡ false) path
+never-reached : (S : State) (path : List (ℕ × State)) (x : ℕ) → IsConsistent S → IsCallPath S path → has_leaked x S → AllByRecursion (λ m. among (reached m.1) x ≡ false) path
 never-reached S [] x consistent is p = tt
 never-reached S ((n, T) ∷ path) x consistent is p =
     let later : IsConsistent T = next-consistent S T consistent is.0 in
@@ -271,7 +271,7 @@ never-reached S ((n, T) ∷ path) x consistent is p =
     (unreached T x later q, never-reached T path x later is.1 q)
 
 -- what is leaked is reached at no later state of a path
-pub leaked-unreached : (S : State) (path : List (ℕ × State)) (x : ℕ) → IsConsistent S → IsPath S path → is_leaked S x ≡ true → AllByRecursion (λ m. among (reached m.1) x ≡ false) path
+pub leaked-unreached : (S : State) (path : List (ℕ × State)) (x : ℕ) → IsConsistent S → IsCallPath S path → is_leaked S x ≡ true → AllByRecursion (λ m. among (reached m.1) x ≡ false) path
 leaked-unreached S path x consistent is e = never-reached S path x consistent is (low-koid S consistent.sound x (leaked-exists S x e), λ there. e)
 
 pub last-moment-only : (happens : State → State → Bool) (S : State) (path : List (ℕ × State)) (n : ℕ) → length (moments happens S path) ≤ 1 → last_moment happens S path ≡ Some n → moments happens S path ≡ n ∷ []

@@ -15,7 +15,7 @@ use Rattle.zt_rows.specs.Reads.{as_entry, as_message, entry, message, message_at
 use Rattle.zt_rows.specs.Tests.{among}
 use Rattle.zt_rows.proofs.RowLaws.{In, list_any-in, in-list_any, row-in, in-row, count-cons}
 use Rattle.zt_rows.proofs.ReadLaws.{entry-row, message-row}
-use Rattle.zt_queries.specs.Reach.{named, found, reached, IsClosed}
+use Rattle.zt_queries.specs.Reachability.{named, found, reached, HoldsAllNamed}
 
 -- ---- lists
 
@@ -233,13 +233,13 @@ module _ (S : State) where
       named-reached held.koid (key.Msg e n, rows.Msg m) (row-in S (key.Msg e n) (rows.Msg m) (message-row S e n m h))
       (subst (λ ks. In held.koid ks) (sym (named-opened (reached S) e n m known)) (map-in (λ (held : Held). held.koid) held m.handles l))
 
-  pub reached-closed : IsClosed S (among (reached S))
+  pub reached-closed : HoldsAllNamed S (among (reached S))
   reached-closed = record {
     entries = entry-reached;
     messages = λ e n m h known. in-all (λ (held : Held). among (reached S) held.koid ≡ true) m.handles (message-reached e n m h known);
   }
 
-  module _ (set : ℕ → Bool) (closed : IsClosed S set) where
+  module _ (set : ℕ → Bool) (closed : HoldsAllNamed S set) where
     named-inside : (known : List ℕ) → ((y : ℕ) → In y known → set y ≡ true) → (x : ℕ) (k : RowKey) (r : Row) → row S k ≡ Some r → In x (named known (k, r)) → set x ≡ true
     named-inside known inside x (key.Entry p h) (rows.Entry held) there (inl e) = ap set e ∙ closed.entries p h held (ap as_entry there)
     named-inside known inside x (key.Entry p h) (rows.Entry held) there (inr m) = absurd m

@@ -16,21 +16,21 @@ use Rattle.zt_rows.specs.State.{State, row}
 use Rattle.zt_rows.specs.Reads.{is_process}
 use Rattle.zt_rows.specs.Support.{root_job}
 use Rattle.zt_rows.proofs.RowLaws.{or_right, not_true, true≢false}
-use Rattle.zt_store.specs.Held.{held}
-use Rattle.zt_history.specs.Standing.{recorded_at}
+use Rattle.zt_store.specs.RecordLook.{held}
+use Rattle.zt_history.specs.TreeInvariant.{recorded_at}
 use Rattle.zt_history.specs.Timeline.{Timeline}
 use Rattle.zt_history.specs.Tree.{end_of, state_at}
-use Rattle.zt_queries.specs.declared.graph.Node.{Node}
-use Rattle.zt_queries.specs.declared.graph.Sketch.{Sketch}
-use Rattle.zt_queries.specs.Graphs.{sketched, held_over, IsGraph, is_left, node, roots}
+use Rattle.zt_queries.specs.declared.leak_graph.graph.GraphNode.{GraphNode}
+use Rattle.zt_queries.specs.declared.leak_graph.graph.GraphRow.{GraphRow}
+use Rattle.zt_queries.specs.LeakGraph.{graph_row_if, held_over, IsGraph, is_left, node, roots}
 use Rattle.zt_queries.specs.Leaks.{is_above, is_leaked}
-use Rattle.zt_queries.specs.Reach.{reached}
+use Rattle.zt_queries.specs.Reachability.{reached}
 use Rattle.zt_rows.specs.Tests.{among}
-use Rattle.zt_queries.specs.Turns.{row_over, AreWays}
+use Rattle.zt_queries.specs.RowHappenings.{row_over, AreWays}
 use Rattle.zt_queries.proofs.GraphLaws.{listed}
 use Rattle.zt_queries.proofs.LeakLaws.{leaked-lost}
 use Rattle.zt_queries.proofs.ReachLaws.{among-in, reached-closed}
-use Rattle.zt_queries.proofs.SurveyLaws.{closed_under}
+use Rattle.zt_queries.proofs.ReachabilityLaws.{closed_under}
 use Rattle.zt_queries.proofs.WayLaws.{back-over, forth-over, at-position}
 use Rattle.zt_queries.proofs.ListLeaks.{left_leaked}
 
@@ -49,15 +49,15 @@ listed_more ks i k q l is =
     ∙ ap (λ x. listed (take i ks ++ x ∷ []) q) (sym is)
     ∙ list_any-append (λ x. rowkey_eq x q) (take i ks) (k ∷ [])
 
-abbrev pub redrawn : Rows → List RowKey → (RowKey → Option Sketch) → RowKey → Option Sketch
+abbrev pub redrawn : Rows → List RowKey → (RowKey → Option GraphRow) → RowKey → Option GraphRow
 redrawn R ks old q = if listed ks q then held_over (held R q) (old q) else old q
 
-twice : (o : Option (Option Row)) (b : Bool) (s : Option Sketch) → held_over o (if b then held_over o s else s) ≡ held_over o s
+twice : (o : Option (Option Row)) (b : Bool) (s : Option GraphRow) → held_over o (if b then held_over o s else s) ≡ held_over o s
 twice None true s = refl
 twice None false s = refl
 twice (Some r) b s = refl
 
-module _ (R : Rows) (ks : List RowKey) (i : ℕ) (k : RowKey) (below : i < length ks) (is : k ≡ get_or ks i k) (old now : RowKey → Option Sketch) (new : Option Sketch) where
+module _ (R : Rows) (ks : List RowKey) (i : ℕ) (k : RowKey) (below : i < length ks) (is : k ≡ get_or ks i k) (old now : RowKey → Option GraphRow) (new : Option GraphRow) where
   redrawn_by : (q : RowKey) (b : Bool) → rowkey_eq k q ≡ b → now k ≡ redrawn R (take i ks) old k → now q ≡ redrawn R (take i ks) old q
       → new ≡ (if rowkey_eq k q then held_over (held R k) (now k) else now q) → new ≡ redrawn R (take (i + 1) ks) old q
   redrawn_by q true e at_key at_other n =
@@ -98,33 +98,33 @@ take_whole [] (suc i) h = refl
 take_whole (x ∷ xs) zero h = absurd (omega (arith, h))
 take_whole (x ∷ xs) (suc i) h = ap (λ l. x ∷ l) (take_whole xs i (omega (arith, h)))
 
-all_of : (R : Rows) (old : Option Sketch) (q : RowKey) (b : Bool) → listed (map (λ e. e.0) R) q ≡ b → (if listed (map (λ e. e.0) R) q then held_over (held R q) old else old) ≡ held_over (held R q) old
+all_of : (R : Rows) (old : Option GraphRow) (q : RowKey) (b : Bool) → listed (map (λ e. e.0) R) q ≡ b → (if listed (map (λ e. e.0) R) q then held_over (held R q) old else old) ≡ held_over (held R q) old
 all_of R old q true h = ap (λ b. if b then held_over (held R q) old else old) h
 all_of R old q false h = ap (λ b. if b then held_over (held R q) old else old) h ∙ ap (λ o. held_over o old) (sym (unheld R q h))
 
-pub all_redrawn : (R : Rows) (ks : List RowKey) (i : ℕ) (old : RowKey → Option Sketch) (new : Option Sketch) (q : RowKey) → ks ≡ map (λ e. e.0) R → length ks ≤ i
+pub all_redrawn : (R : Rows) (ks : List RowKey) (i : ℕ) (old : RowKey → Option GraphRow) (new : Option GraphRow) (q : RowKey) → ks ≡ map (λ e. e.0) R → length ks ≤ i
     → new ≡ redrawn R (take i ks) old q → new ≡ held_over (held R q) (old q)
 all_redrawn R ks i old new q all past so_far =
     so_far ∙ ap (λ xs. redrawn R xs old q) (take_whole ks i past ∙ all) ∙ all_of R (old q) q (listed (map (λ e. e.0) R) q) refl
 
 -- ---- a graph turned over a call
 
-over_row : (o : Option (Option Row)) (r : Option Row) → held_over o (sketched r) ≡ sketched (unwrap_or o r)
+over_row : (o : Option (Option Row)) (r : Option Row) → held_over o (graph_row_if r) ≡ graph_row_if (unwrap_or o r)
 over_row None r = refl
 over_row (Some s) r = refl
 
-pub turned : (graph : BTreeMap RowKey Sketch) (S : State) → IsGraph graph S → (o : Option Rows) (R : Rows) (k : RowKey) (new : Option Sketch) → o ≡ Some R
-    → new ≡ held_over (held R k) (get rowkey_cmp graph k) → new ≡ sketched (row_over o k (row S k))
+pub turned : (graph : BTreeMap RowKey GraphRow) (S : State) → IsGraph graph S → (o : Option Rows) (R : Rows) (k : RowKey) (new : Option GraphRow) → o ≡ Some R
+    → new ≡ held_over (held R k) (get rowkey_cmp graph k) → new ≡ graph_row_if (row_over o k (row S k))
 turned graph S drawn o R k new e h =
-    h ∙ ap (held_over (held R k)) (drawn.draws k) ∙ over_row (held R k) (row S k) ∙ ap (λ p. sketched (row_over p k (row S k))) (sym e)
+    h ∙ ap (held_over (held R k)) (drawn.draws k) ∙ over_row (held R k) (row S k) ∙ ap (λ p. graph_row_if (row_over p k (row S k))) (sym e)
 
-pub unturned : (graph : BTreeMap RowKey Sketch) (S : State) → IsGraph graph S → (o : Option Rows) (k : RowKey) → ◌≡◌ {A = Option Rows} o None
-    → get rowkey_cmp graph k ≡ sketched (row_over o k (row S k))
-unturned graph S drawn o k e = drawn.draws k ∙ ap (λ p. sketched (row_over p k (row S k))) (sym e)
+pub unturned : (graph : BTreeMap RowKey GraphRow) (S : State) → IsGraph graph S → (o : Option Rows) (k : RowKey) → ◌≡◌ {A = Option Rows} o None
+    → get rowkey_cmp graph k ≡ graph_row_if (row_over o k (row S k))
+unturned graph S drawn o k e = drawn.draws k ∙ ap (λ p. graph_row_if (row_over p k (row S k))) (sym e)
 
 -- the graph after it was turned over the call of a moment
-abbrev pub IsTurned : Timeline → ℕ → BTreeMap RowKey Sketch → BTreeMap RowKey Sketch → Type 0
-IsTurned h q old new = (S : State) → IsGraph old S → (k : RowKey) → get rowkey_cmp new k ≡ sketched (row_over (recorded_at h.tree.made h.position q) k (row S k))
+abbrev pub IsTurned : Timeline → ℕ → BTreeMap RowKey GraphRow → BTreeMap RowKey GraphRow → Type 0
+IsTurned h q old new = (S : State) → IsGraph old S → (k : RowKey) → get rowkey_cmp new k ≡ graph_row_if (row_over (recorded_at h.tree.made h.position q) k (row S k))
 
 -- ---- along the paths
 
@@ -135,32 +135,32 @@ module _ (h : Timeline) (way here : List ℕ) (shared : ℕ) (w : AreWays h way 
   abbrev there_at : ℕ → State
   there_at i = state_at h.tree.made (end_of (take i way))
 
-  pub graph_starts : (graph : BTreeMap RowKey Sketch) (S : State) (i : ℕ) → IsGraph graph S → S ≡ state_at h.tree.made h.position → i ≡ length here → IsGraph graph (here_at i)
-  graph_starts graph S i drawn stands whole = record { draws = λ k. drawn.draws k ∙ ap sketched (at-position h way here shared w S k i (row S k) stands whole refl) }
+  pub graph_starts : (graph : BTreeMap RowKey GraphRow) (S : State) (i : ℕ) → IsGraph graph S → S ≡ state_at h.tree.made h.position → i ≡ length here → IsGraph graph (here_at i)
+  graph_starts graph S i drawn stands whole = record { draws = λ k. drawn.draws k ∙ ap graph_row_if (at-position h way here shared w S k i (row S k) stands whole refl) }
 
-  pub graph_back : (i q : ℕ) (old new : BTreeMap RowKey Sketch) → slice_get here i ≡ Some q → IsGraph old (here_at (i + 1)) → IsTurned h q old new → IsGraph new (here_at i)
+  pub graph_back : (i q : ℕ) (old new : BTreeMap RowKey GraphRow) → slice_get here i ≡ Some q → IsGraph old (here_at (i + 1)) → IsTurned h q old new → IsGraph new (here_at i)
   graph_back i q old new at was moved = record {
-    draws = λ k. moved (here_at (i + 1)) was k ∙ ap sketched (back-over h way here shared w k i q (row (here_at (i + 1)) k) (row_over (recorded_at h.tree.made h.position q) k (row (here_at (i + 1)) k)) at refl refl);
+    draws = λ k. moved (here_at (i + 1)) was k ∙ ap graph_row_if (back-over h way here shared w k i q (row (here_at (i + 1)) k) (row_over (recorded_at h.tree.made h.position q) k (row (here_at (i + 1)) k)) at refl refl);
   }
 
-  pub graph_forth : (i q : ℕ) (old new : BTreeMap RowKey Sketch) → shared ≤ i → slice_get way i ≡ Some q → IsGraph old (there_at i) → IsTurned h q old new → IsGraph new (there_at (i + 1))
+  pub graph_forth : (i q : ℕ) (old new : BTreeMap RowKey GraphRow) → shared ≤ i → slice_get way i ≡ Some q → IsGraph old (there_at i) → IsTurned h q old new → IsGraph new (there_at (i + 1))
   graph_forth i q old new far at was moved = record {
-    draws = λ k. moved (there_at i) was k ∙ ap sketched (forth-over h way here shared w k i q (row (there_at i) k) (row_over (recorded_at h.tree.made h.position q) k (row (there_at i) k)) far at refl refl);
+    draws = λ k. moved (there_at i) was k ∙ ap graph_row_if (forth-over h way here shared w k i q (row (there_at i) k) (row_over (recorded_at h.tree.made h.position q) k (row (there_at i) k)) far at refl refl);
   }
 
   -- ---- as loops meet them, back from a place and forth
 
-  pub back_step : (i q : ℕ) (old new : BTreeMap RowKey Sketch) → 0 < i → i ≤ length here → q ≡ get_or here (i - 1) q → IsGraph old (here_at i) → IsTurned h q old new → IsGraph new (here_at (i - 1))
+  pub back_step : (i q : ℕ) (old new : BTreeMap RowKey GraphRow) → 0 < i → i ≤ length here → q ≡ get_or here (i - 1) q → IsGraph old (here_at i) → IsTurned h q old new → IsGraph new (here_at (i - 1))
   back_step i q old new some inside read was moved =
       let up : i ≡ i - 1 + 1 = omega arith in
       graph_back (i - 1) q old new (slice_get_read here (length here) (i - 1) q refl (omega arith) read) (subst (λ n. IsGraph old (here_at n)) up was) moved
 
-  pub forth_step : (i q : ℕ) (old new : BTreeMap RowKey Sketch) → shared ≤ i → i < length way → q ≡ get_or way i q → IsGraph old (there_at i) → IsTurned h q old new → IsGraph new (there_at (i + 1))
+  pub forth_step : (i q : ℕ) (old new : BTreeMap RowKey GraphRow) → shared ≤ i → i < length way → q ≡ get_or way i q → IsGraph old (there_at i) → IsTurned h q old new → IsGraph new (there_at (i + 1))
   forth_step i q old new far inside read was moved = graph_forth i q old new far (slice_get_read way (length way) i q refl inside read) was moved
 
 -- ---- no such object
 
-pub none_leaked : (graph : BTreeMap RowKey Sketch) (S : State) → IsGraph graph S → (x : ℕ) → ◌≡◌ {A = Option Node} None (node graph x) → false ≡ is_leaked S x
+pub none_leaked : (graph : BTreeMap RowKey GraphRow) (S : State) → IsGraph graph S → (x : ℕ) → ◌≡◌ {A = Option GraphNode} None (node graph x) → false ≡ is_leaked S x
 none_leaked graph S drawn x e =
     ap (is_left (among (reached S)) (λ y. is_above S (reached S) y) x) e
     ∙ left_leaked graph S drawn (among (reached S)) (λ y. is_above S (reached S) y) (λ y. refl) (λ y. refl) x
@@ -172,14 +172,14 @@ reached_or true b c h = refl
 reached_or false true c h = refl
 reached_or false false c h = cc
 
-pub kept_leaked : (graph : BTreeMap RowKey Sketch) (S : State) → IsGraph graph S → (x : ℕ) (o : Node) → Some o ≡ node graph x
+pub kept_leaked : (graph : BTreeMap RowKey GraphRow) (S : State) → IsGraph graph S → (x : ℕ) (o : GraphNode) → Some o ≡ node graph x
     → ((x == root_job) || (is_process o.kind && o.live)) ≡ true → false ≡ is_leaked S x
 kept_leaked graph S drawn x o there keeps =
     sym (reached_or (among (reached S) x) ((x == root_job) || (is_process o.kind && o.live)) (is_above S (reached S) x) keeps)
     ∙ ap (is_left (among (reached S)) (λ y. is_above S (reached S) y) x) there
     ∙ left_leaked graph S drawn (among (reached S)) (λ y. is_above S (reached S) y) (λ y. refl) (λ y. refl) x
 
-pub rooted_leaked : (graph : BTreeMap RowKey Sketch) → IsOrdered rowkey_cmp graph → (S : State) → IsGraph graph S → (xs : List ℕ) (x : ℕ) → xs ≡ roots graph
+pub rooted_leaked : (graph : BTreeMap RowKey GraphRow) → IsOrdered rowkey_cmp graph → (S : State) → IsGraph graph S → (xs : List ℕ) (x : ℕ) → xs ≡ roots graph
     → list_any (λ y. y == x) xs ≡ true → false ≡ is_leaked S x
 rooted_leaked graph ordered S drawn xs x all named =
     let known : among (reached S) x ≡ true =
@@ -188,5 +188,5 @@ rooted_leaked graph ordered S drawn xs x all named =
 
 -- ---- an equal graph
 
-pub same_graph : (graph copied : BTreeMap RowKey Sketch) (S : State) → IsGraph graph S → ((k : RowKey) → get rowkey_cmp copied k ≡ get rowkey_cmp graph k) → IsGraph copied S
+pub same_graph : (graph copied : BTreeMap RowKey GraphRow) (S : State) → IsGraph graph S → ((k : RowKey) → get rowkey_cmp copied k ≡ get rowkey_cmp graph k) → IsGraph copied S
 same_graph graph copied S drawn same = record { draws = λ k. same k ∙ drawn.draws k }

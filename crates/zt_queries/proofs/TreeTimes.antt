@@ -16,13 +16,13 @@ use Rattle.zt_rows.specs.State.{State}
 use Rattle.zt_rows.specs.Step.{step}
 use Rattle.zt_rows.specs.Tests.{among}
 use Rattle.zt_rows.proofs.OpeningLaws.{opening-consistent}
-use Rattle.zt_history.specs.Refusing.{check, ◌>>=◌}
-use Rattle.zt_history.specs.Standing.{AreMoments}
+use Rattle.zt_history.specs.HistoryRefusals.{check, ◌>>=◌}
+use Rattle.zt_history.specs.TreeInvariant.{AreMoments}
 use Rattle.zt_history.specs.Tree.{Made, made_at, parent_of, parent_at, path, state_at}
 use Rattle.zt_history.proofs.PathLaws.{path-opening, path-step, by_parents}
 use Rattle.zt_history.proofs.RunLaws.{state-opening, state-step, made-there, parent-within}
-use Rattle.zt_queries.specs.Happenings.{IsNext, IsPath, moments}
-use Rattle.zt_queries.specs.Times.{at_moment, happens, last_on, is_known, when_on}
+use Rattle.zt_queries.specs.Happenings.{IsCallStep, IsCallPath, moments}
+use Rattle.zt_queries.specs.HappeningTimes.{at_moment, happens, last_on, is_known, when_on}
 use Rattle.zt_queries.proofs.OnceLaws.{made-once, ended-once, peer_closed-once, leaked-once, last-only}
 
 -- ---- one more state at the end of a path
@@ -35,7 +35,7 @@ last_state-push : (S : State) (path : List (ℕ × State)) (n : ℕ) (T : State)
 last_state-push S [] n T = refl
 last_state-push S ((m, U) ∷ path) n T = last_state-push U path n T
 
-path-push : (S : State) (path : List (ℕ × State)) (n : ℕ) (T : State) → IsPath S path → IsNext (last_state S path) T → IsPath S (path ++ (n, T) ∷ [])
+path-push : (S : State) (path : List (ℕ × State)) (n : ℕ) (T : State) → IsCallPath S path → IsCallStep (last_state S path) T → IsCallPath S (path ++ (n, T) ∷ [])
 path-push S [] n T is one = (one, tt)
 path-push S ((m, U) ∷ path) n T is one = (is.0, path-push U path n T is.1 one)
 
@@ -56,12 +56,12 @@ abbrev with_states : List Made → List ℕ → List (ℕ × State)
 with_states made ms = map (λ n. (n, state_at made n)) ms
 
 record IsWalked (made : List Made) (test : State → State → Bool) (m : ℕ) : Type 0 where
-  is_path : IsPath opening (with_states made (path made m))
+  is_path : IsCallPath opening (with_states made (path made m))
   end : last_state opening (with_states made (path made m)) ≡ state_at made m
   same : moments test opening (with_states made (path made m)) ≡ filter (at_moment test made) (path made m)
 
 module _ (made : List Made) (are : AreMoments made) (test : State → State → Bool) where
-  pub next-made : (i : ℕ) (e : Made) → made_at made (suc i) ≡ Some e → IsNext (state_at made (parent_at made (suc i))) (state_at made (suc i))
+  pub next-made : (i : ℕ) (e : Made) → made_at made (suc i) ≡ Some e → IsCallStep (state_at made (parent_at made (suc i))) (state_at made (suc i))
   next-made i e at =
       let is = are.each i e at in
       let up : parent_at made (suc i) ≡ e.parent = ap parent_of at in
@@ -78,7 +78,7 @@ module _ (made : List Made) (are : AreMoments made) (test : State → State → 
     where
       base : 0 ≤ length made → IsWalked made test 0
       base h = record {
-        is_path = subst (λ ms. IsPath opening (with_states made ms)) (sym (path-opening made)) tt;
+        is_path = subst (λ ms. IsCallPath opening (with_states made ms)) (sym (path-opening made)) tt;
         end = ap (λ ms. last_state opening (with_states made ms)) (path-opening made) ∙ sym (state-opening made);
         same = rw (path-opening made) refl;
       }
@@ -91,9 +91,9 @@ module _ (made : List Made) (are : AreMoments made) (test : State → State → 
           let T : State = state_at made (suc i) in
           let longer : with_states made (path made (suc i)) ≡ with_states made (path made up) ++ (suc i, T) ∷ [] =
           ap (with_states made) (path-step made are.falls i) ∙ map-append (λ n. (n, state_at made n)) (path made up) (suc i ∷ []) in
-          let onward : IsNext (last_state opening (with_states made (path made up))) T = subst (λ S. IsNext S T) (sym rest.end) (next-made i e.0 e.1) in
+          let onward : IsCallStep (last_state opening (with_states made (path made up))) T = subst (λ S. IsCallStep S T) (sym rest.end) (next-made i e.0 e.1) in
           record {
-            is_path = subst (IsPath opening) (sym longer) (path-push opening (with_states made (path made up)) (suc i) T rest.is_path onward);
+            is_path = subst (IsCallPath opening) (sym longer) (path-push opening (with_states made (path made up)) (suc i) T rest.is_path onward);
             end = ap (last_state opening) longer ∙ last_state-push opening (with_states made (path made up)) (suc i) T;
             same =
                 ap (moments test opening) longer

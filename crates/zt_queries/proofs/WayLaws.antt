@@ -18,17 +18,17 @@ use Rattle.zt_rows.specs.State.{State, row}
 use Rattle.zt_rows.specs.Tests.{among}
 use Rattle.zt_rows.proofs.ChangeLaws.{with_rows-before, row-with_rows}
 use Rattle.zt_rows.proofs.RowLaws.{not_true}
-use Rattle.zt_store.specs.Held.{held}
-use Rattle.zt_history.specs.Standing.{Falls, record_of, recorded_at}
+use Rattle.zt_store.specs.RecordLook.{held}
+use Rattle.zt_history.specs.TreeInvariant.{Falls, record_of, recorded_at}
 use Rattle.zt_history.specs.Timeline.{Timeline, IsPath}
 use Rattle.zt_history.specs.Tree.{Made, made_at, parent_at, path, end_of, state_at}
 use Rattle.zt_history.proofs.ListLaws.{get-within}
 use Rattle.zt_history.proofs.PathLaws.{path-opening, path-end}
 use Rattle.zt_history.proofs.WayLaws as ways
-use Rattle.zt_queries.specs.declared.times.Turn.{Turn}
-use Rattle.zt_queries.specs.declared.times.Turn.TheVariants as turn
-use Rattle.zt_queries.specs.Times.{at_moment, happens}
-use Rattle.zt_queries.specs.Turns.{shows, happening_of, row_over, AreWays}
+use Rattle.zt_queries.specs.declared.happening_times.RowHappening.{RowHappening}
+use Rattle.zt_queries.specs.declared.happening_times.RowHappening.TheVariants as turn
+use Rattle.zt_queries.specs.HappeningTimes.{at_moment, happens}
+use Rattle.zt_queries.specs.RowHappenings.{shows, happening_of, row_over, AreWays}
 
 -- ---- the row on the other side of a call
 
@@ -103,14 +103,14 @@ module _ (made : List Made) (falls : Falls made) (way : List ℕ) (is : IsPath m
       by (suc j) h g = get-within made j (omega (arith, g))
 
   -- what happens at a moment shows in the rows before and after it
-  way-shows : (t : Turn) (x i q : ℕ) (r s : Option Row) → slice_get way i ≡ Some q → r ≡ row (state_at made (end_of (take i way))) (key.Object x)
+  way-shows : (t : RowHappening) (x i q : ℕ) (r s : Option Row) → slice_get way i ≡ Some q → r ≡ row (state_at made (end_of (take i way))) (key.Object x)
       → s ≡ row (state_at made (end_of (take (suc i) way))) (key.Object x) → shows t r s ≡ at_moment (happens (happening_of t) x) made q
   way-shows t x i q r s at was is_now =
       ap (λ r. shows t r s) (was ∙ ap (λ m. row (state_at made m) (key.Object x)) (sym (way-parent i q at)))
       ∙ ap (shows t (row (state_at made (parent_at made q)) (key.Object x))) (is_now ∙ ap (λ m. row (state_at made m) (key.Object x)) (way-end i q at))
       ∙ told t
     where
-      told : (t : Turn) → shows t (row (state_at made (parent_at made q)) (key.Object x)) (row (state_at made q) (key.Object x)) ≡ at_moment (happens (happening_of t) x) made q
+      told : (t : RowHappening) → shows t (row (state_at made (parent_at made q)) (key.Object x)) (row (state_at made q) (key.Object x)) ≡ at_moment (happens (happening_of t) x) made q
       told turn.Made = refl
       told turn.Ended = refl
       told turn.PeerClosed = refl
@@ -208,12 +208,12 @@ module _ (h : Timeline) (way here : List ℕ) (shared : ℕ) (w : AreWays h way 
   pub from-fork : (k : RowKey) (i : ℕ) (r : Option Row) → i ≡ shared → r ≡ row (state_at h.tree.made (end_of (take shared way))) k → r ≡ row (state_at h.tree.made (end_of (take i here))) k
   from-fork k i r there is = is ∙ ap (λ l. row (state_at h.tree.made (end_of l)) k) w.fork.same ∙ ap (λ n. row (state_at h.tree.made (end_of (take n here))) k) (sym there)
 
-  pub here-shows : (t : Turn) (x i q : ℕ) (r s : Option Row) → slice_get here i ≡ Some q → r ≡ row (state_at h.tree.made (end_of (take i here))) (key.Object x)
+  pub here-shows : (t : RowHappening) (x i q : ℕ) (r s : Option Row) → slice_get here i ≡ Some q → r ≡ row (state_at h.tree.made (end_of (take i here))) (key.Object x)
       → s ≡ row (state_at h.tree.made (end_of (take (i + 1) here))) (key.Object x) → shows t r s ≡ at_moment (happens (happening_of t) x) h.tree.made q
   here-shows t x i q r s at was is =
       way-shows h.tree.made falls here stands t x i q r s at was (is ∙ ap (λ n. row (state_at h.tree.made (end_of (take n here))) (key.Object x)) (sym (next i)))
 
-  pub there-shows : (t : Turn) (x i q : ℕ) (r s : Option Row) → slice_get way i ≡ Some q → r ≡ row (state_at h.tree.made (end_of (take i way))) (key.Object x)
+  pub there-shows : (t : RowHappening) (x i q : ℕ) (r s : Option Row) → slice_get way i ≡ Some q → r ≡ row (state_at h.tree.made (end_of (take i way))) (key.Object x)
       → s ≡ row (state_at h.tree.made (end_of (take (i + 1) way))) (key.Object x) → shows t r s ≡ at_moment (happens (happening_of t) x) h.tree.made q
   there-shows t x i q r s at was is =
       way-shows h.tree.made falls way w.asked t x i q r s at was (is ∙ ap (λ n. row (state_at h.tree.made (end_of (take n way))) (key.Object x)) (sym (next i)))
@@ -230,14 +230,14 @@ module _ (h : Timeline) (way here : List ℕ) (shared : ℕ) (w : AreWays h way 
       → s ≡ row_over (recorded_at h.tree.made h.position q) k r → s ≡ row (state_at h.tree.made (end_of (take (i + 1) way))) k
   forth-up k i q r s far inside read was turned = forth-over k i q r s far (slice_get_read way (length way) i q refl inside read) was turned
 
-  pub shows-down : (t : Turn) (x i q : ℕ) (r s : Option Row) → 0 < i → i ≤ length here → q ≡ get_or here (i - 1) q → r ≡ row (state_at h.tree.made (end_of (take i here))) (key.Object x)
+  pub shows-down : (t : RowHappening) (x i q : ℕ) (r s : Option Row) → 0 < i → i ≤ length here → q ≡ get_or here (i - 1) q → r ≡ row (state_at h.tree.made (end_of (take i here))) (key.Object x)
       → s ≡ row_over (recorded_at h.tree.made h.position q) (key.Object x) r → at_moment (happens (happening_of t) x) h.tree.made q ≡ shows t s r
   shows-down t x i q r s some inside read was turned =
       let up : i ≡ i - 1 + 1 = omega arith in
       let at : slice_get here (i - 1) ≡ Some q = slice_get_read here (length here) (i - 1) q refl (omega arith) read in
       sym (here-shows t x (i - 1) q s r at (back-down (key.Object x) i q r s some inside read was turned) (was ∙ ap (λ n. row (state_at h.tree.made (end_of (take n here))) (key.Object x)) up))
 
-  pub shows-up : (t : Turn) (x i q : ℕ) (r s : Option Row) → shared ≤ i → i < length way → q ≡ get_or way i q → r ≡ row (state_at h.tree.made (end_of (take i way))) (key.Object x)
+  pub shows-up : (t : RowHappening) (x i q : ℕ) (r s : Option Row) → shared ≤ i → i < length way → q ≡ get_or way i q → r ≡ row (state_at h.tree.made (end_of (take i way))) (key.Object x)
       → s ≡ row_over (recorded_at h.tree.made h.position q) (key.Object x) r → at_moment (happens (happening_of t) x) h.tree.made q ≡ shows t r s
   shows-up t x i q r s far inside read was turned =
       let at : slice_get way i ≡ Some q = slice_get_read way (length way) i q refl inside read in

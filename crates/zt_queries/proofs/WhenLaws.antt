@@ -6,11 +6,11 @@ use Rattle.std.specs.List.{last_or}
 use Rattle.zt_rows.specs.declared.calls.Happening.{Happening}
 use Rattle.zt_rows.specs.declared.refusals.Refusal.{Refusal}
 use Rattle.zt_rows.specs.declared.refusals.Refusal.TheVariants as refusal
-use Rattle.zt_history.specs.Refusing.{check, ◌>>=◌}
-use Rattle.zt_history.specs.Standing.{Falls}
+use Rattle.zt_history.specs.HistoryRefusals.{check, ◌>>=◌}
+use Rattle.zt_history.specs.TreeInvariant.{Falls}
 use Rattle.zt_history.specs.Tree.{Made, path, end_of, state_at}
 use Rattle.zt_history.proofs.PathLaws.{path-end}
-use Rattle.zt_queries.specs.Times.{at_moment, happens, last_on, is_known, when_on, IsRefusedWhen}
+use Rattle.zt_queries.specs.HappeningTimes.{at_moment, happens, last_on, is_known, when_on, IsRefusedWhen}
 
 module _ (made : List Made) (falls : Falls made) (at x : ℕ) (what : Happening) (way : List ℕ) (is : way ≡ path made at) where
   known-at : is_known (state_at made (end_of way)) x ≡ is_known (state_at made at) x

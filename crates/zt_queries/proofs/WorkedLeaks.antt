@@ -14,7 +14,7 @@ use Rattle.zt_rows.specs.Settle.{refresh, settle}
 use Rattle.zt_rows.specs.End.{links, chain, end}
 use Rattle.zt_rows.specs.Step.{completed}
 use Rattle.zt_rows.proofs.WorkedRowsForm.{Asked, EventCreate, EventPairCreate, ChannelCreate, HandleClose, ChannelWrite, JobCreate, Spawn, TaskKill, ProcessExit, performed, ran, root, by_root}
-use Rattle.zt_queries.specs.Reach.{found, reached}
+use Rattle.zt_queries.specs.Reachability.{found, reached}
 use Rattle.zt_queries.specs.Leaks.{is_above, is_leaked, leaks}
 use Rattle.zt_queries.specs.Happenings.{made, ended, peer_closed, leaked, moments}
 

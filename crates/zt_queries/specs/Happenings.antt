@@ -45,7 +45,7 @@ leaked x S T = not (is_leaked S x) && is_leaked T x
 -- ---- paths
 
 -- T is what a call of a process that runs makes of S
-pub record IsNext (S T : State) : Type 0 where
+pub record IsCallStep (S T : State) : Type 0 where
   pub process : ℕ
   pub call : Call
   pub live : runs S process ≡ true
@@ -54,9 +54,9 @@ pub record IsNext (S T : State) : Type 0 where
 
 -- a path that begins at S: its moments as they rise, each with its state, which is what a call makes of the one
 -- before it
-abbrev pub IsPath : State → List (ℕ × State) → Type 0
-IsPath S [] = ⊤
-IsPath S ((n, T) ∷ path) = IsNext S T × IsPath T path
+abbrev pub IsCallPath : State → List (ℕ × State) → Type 0
+IsCallPath S [] = ⊤
+IsCallPath S ((n, T) ∷ path) = IsCallStep S T × IsCallPath T path
 
 -- the moments of a path that begins at S at which it happens
 abbrev pub moments : (State → State → Bool) → State → List (ℕ × State) → List ℕ

@@ -9,7 +9,7 @@ use Rattle.zt_rows.specs.Reads.{objects, is_job, is_live_process, runs}
 use Rattle.zt_rows.specs.Tests.{among, exists}
 use Rattle.zt_rows.specs.Support.{root_job}
 use Rattle.zt_rows.specs.End.{chain}
-use Rattle.zt_queries.specs.Reach.{reached}
+use Rattle.zt_queries.specs.Reachability.{reached}
 
 -- ---- what is kept
 

@@ -1,10 +1,12 @@
-pub mod Reach
+-- Definitions to believe: public clauses are stated in them.
+pub mod Reachability
 pub mod Leaks
 pub mod Happenings
-pub mod Times
-pub mod Copies
-pub mod Holding
-pub mod Graphs
-pub mod Surveys
-pub mod Turns
-pub mod Onsets
+pub mod HappeningTimes
+pub mod FrozenCopy
+-- Used by proofs only: no public clause depends on them.
+pub mod Holders
+pub mod LeakGraph
+pub mod ReachabilitySearch
+pub mod RowHappenings
+pub mod FirstLeak

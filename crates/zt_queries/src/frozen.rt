@@ -1,11 +1,10 @@
-ghost use Rattle.std.specs.Prelude.{◌≡◌, ◌++◌, ◌∷◌, [], IfOk, IfErr, OnOk};
-ghost use Rattle.std.specs.List.{filter_map};
-ghost use Rattle.zt_history.specs.Tree.{call_at, calls_to};
-ghost use Rattle.zt_queries.specs.Copies.{at_position};
+ghost use Rattle.std.specs.Prelude.{◌≡◌, IfOk, IfErr};
+ghost use Rattle.zt_history.specs.Tree.{calls_to};
+ghost use Rattle.zt_queries.specs.FrozenCopy.{at_position};
 
 use std::alloc::{AllocError, Global};
 use std::marker::Model;
-use zt_history::History;
+use zt_history::{History, push_call};
 use zt_rows::{Call, Koid, Moment, Refusal};
 use zt_store::Store;
 
@@ -19,7 +18,7 @@ pub struct Frozen {
 }
 
 impl Model for Frozen {
-    ghost use Rattle.zt_queries.specs.Copies.{Snapshot};
+    ghost use Rattle.zt_queries.specs.FrozenCopy.{Snapshot};
 
     ghost Value = { Snapshot };
 
@@ -32,10 +31,7 @@ impl Frozen {
         ensures ok { IfOk result (λ frozen. frozen ≡ at_position history.now) }
         ensures refused { IfErr result (λ refusal. refusal ≡ Refusal.OutOfMemory) }
     {
-        match copied(alloc, history) {
-            Ok(frozen) => Ok(frozen),
-            Err(_) => Err(Refusal::OutOfMemory),
-        }
+        Ok(copied(alloc, history)?)
     }
 
     /// The moment at which the history stood. It takes no memory.
@@ -83,21 +79,4 @@ fn calls_to(alloc: Global, history: &History) -> Result<Vec<(Koid, Call)>, Alloc
         push_call(&mut calls, history, *moment)?;
     }
     Ok(calls)
-}
-
-/// Puts an equal call of the moment, if it has one, behind the others.
-fn push_call(
-    calls: &mut Vec<(Koid, Call)>,
-    history: &History,
-    moment: Moment,
-) -> Result<(), AllocError>
-    ensures { OnOk result (calls.new.items ≡ calls.old.items ++ filter_map (call_at history.now.tree.made) (moment ∷ [])) }
-{
-    match history.call_of(moment) {
-        Some((process, call)) => {
-            calls.push((process, call.copy()?))?;
-            Ok(())
-        }
-        None => Ok(()),
-    }
 }

@@ -10,18 +10,18 @@ ghost use Rattle.zt_rows.specs.Reads.{object, on_object, runs};
 ghost use Rattle.zt_rows.specs.Tests.{among, exists, is_endpoint};
 ghost use Rattle.zt_rows.specs.Step.{IsCall, step};
 ghost use Rattle.zt_rows.specs.Consistent.{IsConsistent};
-ghost use Rattle.zt_history.specs.Standing.{AreMoments};
+ghost use Rattle.zt_history.specs.TreeInvariant.{AreMoments};
 ghost use Rattle.zt_history.specs.Tree.{Made, path};
-ghost use Rattle.zt_queries.specs.Times.{at_moment, happens, when_on};
-ghost use Rattle.zt_queries.specs.Reach.{reached, IsClosed};
+ghost use Rattle.zt_queries.specs.HappeningTimes.{at_moment, happens, when_on};
+ghost use Rattle.zt_queries.specs.Reachability.{reached, HoldsAllNamed};
 ghost use Rattle.zt_queries.specs.Leaks.{is_leaked, leaks};
-ghost use Rattle.zt_queries.specs.Happenings.{lacks_peer, made, ended, peer_closed, leaked, IsPath, moments, last_moment};
+ghost use Rattle.zt_queries.specs.Happenings.{lacks_peer, made, ended, peer_closed, leaked, IsCallPath, moments, last_moment};
 
 /// What is reached is the least closed set: it is closed, and it is inside every closed set.
 #[tactic(auto, using(crate::proofs::ReachLaws::reach_laws))]
 pub fn reached_is_least()
-    ensures closed { (S : State) → IsClosed S (among (reached S)) }
-    ensures least { (S : State) (set : ℕ → Bool) → IsClosed S set → (x : ℕ)
+    ensures closed { (S : State) → HoldsAllNamed S (among (reached S)) }
+    ensures least { (S : State) (set : ℕ → Bool) → HoldsAllNamed S set → (x : ℕ)
         → among (reached S) x ≡ true → set x ≡ true }
 {}
 
@@ -45,20 +45,20 @@ pub fn what_leaked_stays_leaked()
     ensures endpoint { (S : State) (p : ℕ) (c : Call) (x : ℕ) → IsConsistent S → runs S p ≡ true → IsCall c
         → is_leaked S x ≡ true → on_object (λ o. is_endpoint o.kind) (object S x) ≡ true
         → is_leaked (step S p c).0 x ≡ true }
-    ensures out_of_reach { (S : State) (path : List (ℕ × State)) (x : ℕ) → IsConsistent S → IsPath S path
+    ensures out_of_reach { (S : State) (path : List (ℕ × State)) (x : ℕ) → IsConsistent S → IsCallPath S path
         → is_leaked S x ≡ true → AllByRecursion (λ m. among (reached m.1) x ≡ false) path }
 {}
 
 /// On a path of calls an object is made at one moment at most, ends at one at most, loses its peer at one at most,
 /// and is leaked at one at most.
 pub fn once_each()
-    ensures made { (S : State) (path : List (ℕ × State)) (x : ℕ) → IsConsistent S → IsPath S path
+    ensures made { (S : State) (path : List (ℕ × State)) (x : ℕ) → IsConsistent S → IsCallPath S path
         → length (moments (made x) S path) ≤ 1 }
-    ensures ended { (S : State) (path : List (ℕ × State)) (x : ℕ) → IsConsistent S → IsPath S path
+    ensures ended { (S : State) (path : List (ℕ × State)) (x : ℕ) → IsConsistent S → IsCallPath S path
         → length (moments (ended x) S path) ≤ 1 }
-    ensures peer_closed { (S : State) (path : List (ℕ × State)) (x : ℕ) → IsConsistent S → IsPath S path
+    ensures peer_closed { (S : State) (path : List (ℕ × State)) (x : ℕ) → IsConsistent S → IsCallPath S path
         → length (moments (peer_closed x) S path) ≤ 1 }
-    ensures leaked { (S : State) (path : List (ℕ × State)) (x : ℕ) → IsConsistent S → IsPath S path
+    ensures leaked { (S : State) (path : List (ℕ × State)) (x : ℕ) → IsConsistent S → IsCallPath S path
         → length (moments (leaked x) S path) ≤ 1 }
 {}
 

@@ -2,20 +2,15 @@
 #![tactic(auto)]
 
 mod frozen;
-mod graph;
+mod happening_times;
 pub mod laws;
-mod leaked;
-mod looks;
-mod moves;
-mod reach;
-mod signs;
-mod since;
-mod supports;
-mod times;
+mod leak_graph;
+mod shown_rows;
+mod support_list;
 
 pub use frozen::Frozen;
-pub use leaked::{leaks, leaks_at};
-pub use looks::{rows, rows_at};
-pub use since::leaked_since;
-pub use supports::{holders, holders_at};
-pub use times::{ended, made, peer_closed};
+pub use happening_times::{ended, made, peer_closed};
+pub use leak_graph::first_leak::leaked_since;
+pub use leak_graph::leak_list::{leaks, leaks_at};
+pub use shown_rows::{rows, rows_at};
+pub use support_list::{holders, holders_at};

@@ -1,6 +1,6 @@
 -- The front of a queue, found by the least number under which an endpoint has a row; and the queue without it.
 use Rattle.std.proofs.Common.{◌≡◌, ◌<◌, ℕ, Bool, true, false, not, cond, ◌&&◌, T, List, [], ◌∷◌, inl, refl, sym, ap, ◌∙◌, subst, arith}
-use Rattle.std.specs.Prelude.{Option, None, Some, ◌==◌, if◌then◌else◌}
+use Rattle.std.specs.Prelude.{Option, None, Some, IsSome, ◌==◌, if◌then◌else◌}
 use Rattle.std.specs.List.{filter_map, cons_option}
 use Rattle.std.specs.FinMap.Entries as entries
 use Rattle.std.specs.Ordering.{eq_by_cmp, is_lt, nat_cmp, ordering_then}
@@ -15,11 +15,12 @@ use Rattle.zt_rows.specs.Contents.{MessageContent}
 use Rattle.zt_rows.specs.Keys.{rowkey_cmp, rowkey_eq}
 use Rattle.zt_rows.specs.KeyOrder.{rowkey_cmp_total, rowkey_eq-cmp, rowkey_eq-self, rowkey_eq-equal}
 use Rattle.zt_rows.specs.State.{State, row, put}
-use Rattle.zt_rows.specs.Reads.{queued, queue}
+use Rattle.zt_rows.specs.Reads.{as_message, message, queued, queue}
+use Rattle.zt_rows.specs.Room.{SuitsKey}
 use Rattle.zt_rows.specs.Tests.{first}
 use Rattle.zt_rows.proofs.ReadLaws.{some_one}
 use Rattle.zt_rows.proofs.RowLaws.{In, in-filter_map, in-row}
-use Rattle.zt_store.specs.Walks.{IsFirst}
+use Rattle.zt_store.specs.FirstNumber.{IsFirst}
 
 -- ---- tests
 
@@ -226,6 +227,19 @@ first-none S x none = ap first (queue-empty S x none)
 
 pub first-some : (S : State) (x n : ℕ) (m : MessageContent) → IsFirst S (λ j. key.Msg x j) (Some n) → row S (key.Msg x n) ≡ Some (rows.Msg m) → first (queue S x) ≡ Some (n, m)
 first-some S x n m is here = ap first (queue-front S x n m here is.1)
+
+-- under the least number there is a message
+pub front-there : (S : State) (x n : ℕ) → IsFirst S (λ j. key.Msg x j) (Some n) → ((k : RowKey) → SuitsKey k (row S k)) → message S x n ≡ None → ⊥
+front-there S x n is suited none = of (row S (key.Msg x n)) (suited (key.Msg x n)) is.0 none
+  where
+    of : (r : Option Row) → SuitsKey (key.Msg x n) r → IsSome r → as_message r ≡ None → ⊥
+    of (Some (rows.Msg m)) fits some gone = cc
+    of (Some (rows.Counters c)) fits some gone = cc
+    of (Some (rows.Object o)) fits some gone = cc
+    of (Some (rows.Entry h)) fits some gone = cc
+    of (Some (rows.Packet p)) fits some gone = cc
+    of (Some (rows.Wait w)) fits some gone = cc
+    of None fits some gone = cc
 
 -- a queue without its front is the rest of it
 pub queue-behind : (S : State) (x n : ℕ) (m : MessageContent) (later : List (ℕ × MessageContent)) → queue S x ≡ (n, m) ∷ later → queue (put S (key.Msg x n) None) x ≡ later

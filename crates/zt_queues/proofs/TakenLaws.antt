@@ -16,7 +16,7 @@ use Rattle.zt_rows.specs.Settle.{is_message_of}
 use Rattle.zt_rows.specs.Tests.{first}
 use Rattle.zt_rows.proofs.StateLaws.{row-put, row-change, same_state}
 use Rattle.zt_rows.proofs.RowLaws.{In, row-in, filter_map-in}
-use Rattle.zt_queues.specs.Taken.{without_message, popped, left_by, without_messages, handles_of}
+use Rattle.zt_queues.specs.QueueFront.{without_message, popped, left_by, without_messages, handles_of}
 use Rattle.zt_queues.proofs.FrontLaws.{queue-behind, queued-here, queue-row}
 
 -- ---- the first message

@@ -1,2 +1,3 @@
-pub mod Pushed
-pub mod Taken
+-- Definitions to believe: public clauses are stated in them.
+pub mod QueueEnd
+pub mod QueueFront

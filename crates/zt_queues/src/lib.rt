@@ -1,8 +1,8 @@
 //! The queue of an endpoint, over a step of the store: messages pushed at its end, and taken from its front.
 #![tactic(auto)]
 
-mod pushing;
-mod taking;
+mod queue_end;
+mod queue_front;
 
-pub use pushing::push;
-pub use taking::{front, pop, take_all};
+pub use queue_end::push;
+pub use queue_front::{front, pop, take_all};

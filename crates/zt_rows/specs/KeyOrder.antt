@@ -1,4 +1,4 @@
--- The order of keys is total, and only equal keys tie in it.
+-- The order of keys is total, and only equal keys tie in it. Used by proofs only.
 use Rattle.std.proofs.Common.{◌≡◌, ℕ, Bool, true, false, cond, refl, sym, ap, ◌∙◌, subst}
 use Rattle.std.specs.Prelude.{◌==◌, ◌&&◌}
 use Rattle.std.specs.declared.cmp.Ordering.{Ordering}

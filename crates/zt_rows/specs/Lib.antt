@@ -1,7 +1,7 @@
+-- Definitions to believe: public clauses are stated in them.
 pub mod Contents
 pub mod Refusals
 pub mod Keys
-pub mod KeyOrder
 pub mod RowOrder
 pub mod State
 pub mod Reads
@@ -19,8 +19,10 @@ pub mod PortCalls
 pub mod JobCalls
 pub mod Step
 pub mod Same
-pub mod SameRows
 pub mod Change
 pub mod Path
 pub mod Room
 pub mod Consistent
+-- Used by proofs only: no public clause depends on them.
+pub mod KeyOrder
+pub mod SameRows

@@ -1,4 +1,4 @@
--- The test that two rows are one is exact.
+-- The test that two rows are one is exact. Used by proofs only.
 use Rattle.std.proofs.Common.{◌≡◌, ℕ, List, Bool, cond, refl, sym, ap, ◌∙◌}
 use Rattle.std.specs.Prelude.{◌==◌, ℤ}
 use Rattle.std.specs.Bool.{Decides, one_answer}

@@ -4,8 +4,9 @@ ghost use Rattle.zt_rows.specs.Step.{IsCall};
 
 use crate::items::Items;
 use crate::keys::RowKey;
+use crate::limits::{MESSAGE_BYTES, MESSAGE_HANDLES};
 use crate::numbers::{HandleValue, Koid, Moment};
-use crate::rows::{MESSAGE_BYTES, MESSAGE_HANDLES, Packet, Row};
+use crate::rows::{Packet, Row};
 use crate::supports::Support;
 use std::alloc::AllocError;
 use std::marker::Model;

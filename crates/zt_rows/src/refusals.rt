@@ -1,6 +1,8 @@
 ghost use Rattle.std.specs.Prelude.{◌≡◌};
 ghost use Rattle.zt_rows.specs.Refusals.{refusal_number, refusal_name};
 
+use std::alloc::AllocError;
+
 /// Why the debugger did not do what it was asked; nothing is changed by it.
 #[derive(Clone, Copy, Debug, PartialEq, Eq)]
 pub enum Refusal {
@@ -75,5 +77,16 @@ impl Refusal {
             Refusal::WriteFault => "WriteFault",
             Refusal::BadName => "BadName",
         }
+    }
+}
+
+impl From<AllocError> for Refusal {
+    ghost use Rattle.std.specs.Prelude.{◌≡◌};
+    ghost use Rattle.zt_rows.specs.declared.refusals.Refusal.TheVariants as refusal;
+
+    ghost from_gives = { λ _ made. made ≡ refusal.OutOfMemory };
+
+    fn from(_refused: AllocError) -> Refusal {
+        Refusal::OutOfMemory
     }
 }

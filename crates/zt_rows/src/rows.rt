@@ -2,16 +2,11 @@ ghost use Rattle.std.specs.Prelude.{◌≡◌, ◌≤◌, ◌↔◌, IfOk, IsSom
 ghost use Rattle.zt_rows.specs.Contents.{IsWithinMessage};
 
 use crate::items::Items;
+use crate::limits::{MESSAGE_BYTES, MESSAGE_HANDLES};
 use crate::numbers::{HandleValue, Koid};
 use std::alloc::AllocError;
 use std::marker::Model;
 use zt_bits::{Kind, Rights, Signals};
-
-/// The most bytes that a message carries.
-pub const MESSAGE_BYTES: usize = 65_536;
-
-/// The most handles that a message carries.
-pub const MESSAGE_HANDLES: usize = 64;
 
 /// The next numbers that the system gives out.
 #[derive(Clone, Copy, Debug, PartialEq, Eq)]

@@ -9,16 +9,16 @@ use Rattle.zt_rows.specs.declared.calls.Call.{Call}
 use Rattle.zt_rows.specs.declared.refusals.Refusal.{Refusal}
 use Rattle.zt_rows.specs.declared.refusals.Refusal.TheVariants as refusal
 use Rattle.zt_rows.specs.Reads.{runs}
-use Rattle.zt_history.specs.Refusing.{call_on, most_moments}
+use Rattle.zt_history.specs.HistoryRefusals.{call_on, most_moments}
 use Rattle.zt_history.specs.Tree.{Tree, Made, last_moment, state_at, head_at, opening_tree, made_by, called, call_at}
 use Rattle.zt_book.specs.Session.{Session, session_over, first_client}
-use Rattle.zt_book.specs.Log.{Kept, loaded, loaded_behind, loaded_from}
-use Rattle.zt_shared.specs.Sharing.{Part, IsFresh, first_parts, begun, begun_over}
+use Rattle.zt_book.specs.Log.{BookView, loaded, loaded_behind, loaded_from}
+use Rattle.zt_shared.specs.Sharing.{PassView, IsFresh, first_parts, begun, begun_over}
 use Rattle.once_cell.specs.declared.race.note.Note.{Note}
 use Rattle.zt_rows.specs.declared.calls.Command.{Command}
-use Rattle.zt_shared.specs.Desks.{IsDesk}
+use Rattle.zt_shared.specs.LockedBooks.{IsLockedBook}
 use Rattle.zt_shared.proofs.SharingLaws.{past, sides}
-use Rattle.zt_shared.specs.Openings.{call_of, calls_in, part_of}
+use Rattle.zt_shared.specs.OpenedBook.{call_of, calls_in, part_of}
 
 -- a call adds itself to the calls of a tree
 calls-called : (t : Tree) (b process : ℕ) (call : Call) (y : Answer × Tree) → call_on t b process call ≡ Ok y
@@ -59,7 +59,7 @@ next_call made i = rw add-one (next-call made i)
 
 -- ---- where a fresh book's log begins, and the passes that are handed out
 
-pub fresh-begun : (clients : ℕ) (book : Kept) → IsFresh clients book → begun clients (Some (calls_in book.session.tree)) ≡ book.session
+pub fresh-begun : (clients : ℕ) (book : BookView) → IsFresh clients book → begun clients (Some (calls_in book.session.tree)) ≡ book.session
 fresh-begun clients book fresh =
     let calls = fresh.loaded.0 in
     let tree = fresh.loaded.1 in
@@ -78,14 +78,14 @@ handed-out (suc (suc (suc (suc zero)))) base few = refl
 handed-out (suc (suc (suc (suc (suc n))))) base few = absurd (omega arith)
 
 -- what was noted of the base cell tells where the book's log begins
-pub noted-begun : (number clients : ℕ) (book : Kept) (t : Tree) (known : Option (List (ℕ × Call)))
+pub noted-begun : (number clients : ℕ) (book : BookView) (t : Tree) (known : Option (List (ℕ × Call)))
     → number ≡ clients → IsFresh number book → t ≡ book.session.tree → known ≡ Some (calls_in t) → begun clients known ≡ book.session
 noted-begun number clients book t known many fresh same noted =
     let here : known ≡ Some (calls_in book.session.tree) = noted ∙ ap (λ u. Some (calls_in u)) same in
     ap (λ n. begun n known) (sym many) ∙ (ap (begun number) here ∙ fresh-begun number book fresh)
 
 -- the passes, one after another
-pub handed-all : (number clients : ℕ) (base b1 b2 b3 b4 : Session) (p0 p1 p2 p3 p4 : List Part) → number ≡ clients → number ≤ 4
+pub handed-all : (number clients : ℕ) (base b1 b2 b3 b4 : Session) (p0 p1 p2 p3 p4 : List PassView) → number ≡ clients → number ≤ 4
     → p0 ≡ [] → p1 ≡ p0 ++ part_of number b1 1 → p2 ≡ p1 ++ part_of number b2 2 → p3 ≡ p2 ++ part_of number b3 3 → p4 ≡ p3 ++ part_of number b4 4
     → b1 ≡ base → b2 ≡ base → b3 ≡ base → b4 ≡ base → p4 ≡ first_parts clients base
 handed-all number clients base b1 b2 b3 b4 p0 p1 p2 p3 p4 many few e0 e1 e2 e3 e4 h1 h2 h3 h4 =
@@ -97,10 +97,10 @@ handed-all number clients base b1 b2 b3 b4 p0 p1 p2 p3 p4 many few e0 e1 e2 e3 e
     ∙ (handed-out number base few ∙ ap (λ n. first_parts n base) many)))
 
 -- the lock is free for the first time
-pub opened-desk : (base clients cell number : ℕ) (told : Note (List (ℕ × Call))) (book : Kept) (t : Tree) (f s u v : List (Command × Answer))
+pub opened-locked : (base clients cell number : ℕ) (told : Note (List (ℕ × Call))) (book : BookView) (t : Tree) (f s u v : List (Command × Answer))
     → cell ≡ base → number ≡ clients → IsFresh number book → t ≡ book.session.tree → told.cell ≡ cell → told.known ≡ Some (calls_in t)
-    → f ≡ [] → s ≡ [] → u ≡ [] → v ≡ [] → IsDesk base clients cell told book.session book.log (sides f s u v)
-opened-desk base clients cell number told book t f s u v named many fresh same noted known first second third fourth = record {
+    → f ≡ [] → s ≡ [] → u ≡ [] → v ≡ [] → IsLockedBook base clients cell told book.session book.log (sides f s u v)
+opened-locked base clients cell number told book t f s u v named many fresh same noted known first second third fourth = record {
   named = named;
   noted = noted ∙ named;
   known = rw known refl;

@@ -8,22 +8,22 @@ use Rattle.zt_rows.specs.declared.calls.Answer.{Answer}
 use Rattle.zt_rows.specs.declared.calls.Command.{Command}
 use Rattle.zt_rows.specs.declared.refusals.Refusal.{Refusal}
 use Rattle.zt_rows.specs.declared.refusals.Refusal.TheVariants as refusal
-use Rattle.zt_book.specs.declared.logs.Recorded.{Recorded}
+use Rattle.zt_book.specs.declared.log.Recorded.{Recorded}
 use Rattle.zt_rows.specs.declared.calls.Answer.TheVariants as answer
 use Rattle.zt_rows.specs.declared.calls.Command.TheVariants as command
-use Rattle.zt_history.specs.Refusing.{check, ◌>>=◌}
+use Rattle.zt_history.specs.HistoryRefusals.{check, ◌>>=◌}
 use Rattle.zt_history.specs.Tree.{state_at, calls_to}
-use Rattle.zt_queries.specs.Copies.{Snapshot}
-use Rattle.zt_book.specs.Session.{Session, serve, pin_to, position_of, IsRefused, client_of, most_rows}
-use Rattle.zt_book.specs.Log.{Standing, Replays, rows_of, IsCounted, snapshot_at}
+use Rattle.zt_queries.specs.FrozenCopy.{Snapshot}
+use Rattle.zt_book.specs.Session.{Session, serve, pin_to, position_of, IsCommandRefusal, client_of, most_rows}
+use Rattle.zt_book.specs.Log.{SessionLog, Replays, rows_of, IsCounted, snapshot_at}
 use Rattle.zt_shared.specs.Accounts.{most}
 use Rattle.once_cell.specs.declared.race.note.Note.{Note}
 use Rattle.zt_rows.specs.declared.calls.Call.{Call}
-use Rattle.zt_shared.specs.Sharing.{Part, IsPartOf, IsAnswered, IsRefusedTo, IsPinned, IsCopyOf, told_to, logged, said_in, begun}
-use Rattle.zt_shared.specs.Desks.{Shown, Sides, sides_of, IsDesk}
+use Rattle.zt_shared.specs.Sharing.{PassView, IsPartOf, IsAnsweredOnPass, IsRefusedTo, IsPinnedOnPass, IsCopyOf, told_to, logged, said_in, begun}
+use Rattle.zt_shared.specs.LockedBooks.{Shown, Sides, sides_of, IsLockedBook}
 
 -- a session with its log
-abbrev pub standing : Session → List Recorded → Standing
+abbrev pub standing : Session → List Recorded → SessionLog
 standing M log = record { session = M; log = log }
 
 -- the row of a client, of which it is asked whether it is of this one
@@ -53,7 +53,7 @@ replays-more M N P [] client c a end served = (P, subst (λ (S : Session). serve
 replays-more M N P (row ∷ rows) client c a log served = (log.0, log.1, replays-more log.0 N P rows client c a log.2 served)
 
 -- what is refused, but for memory, is refused so by the checks
-pub refused-so : {A : Type 0} (r : Result A Refusal) (why : Refusal) → IsRefused r why → why ≢ refusal.OutOfMemory → r ≡ Err why
+pub refused-so : {A : Type 0} (r : Result A Refusal) (why : Refusal) → IsCommandRefusal r why → why ≢ refusal.OutOfMemory → r ≡ Err why
 refused-so (Ok x) why is other = absurd (other is)
 refused-so (Err refusal.NoProcess) why (inl is) other = ap Err (sym is)
 refused-so (Err refusal.NoProcess) why (inr is) other = absurd (other is)
@@ -84,7 +84,7 @@ past true why rest y h = h
 past false why rest y h = absurd (let e : Err why ≡ Ok y = h in cc)
 
 -- a client's answer is one event of the history
-pub answered-part : (p q : Part) (log : List Recorded) (M N : Session) (c : Command) (a : Answer)
+pub answered-part : (p q : PassView) (log : List Recorded) (M N : Session) (c : Command) (a : Answer)
     → IsPartOf p log M → serve M p.client c ≡ Ok (a, N) → q.client ≡ p.client → q.base ≡ p.base → q.rows ≡ p.rows ++ (c, a) ∷ []
     → IsPartOf q (logged log q.client c a) N
 answered-part p q log M N c a part served who base rows = record {
@@ -92,26 +92,26 @@ answered-part p q log M N c a part served who base rows = record {
   rows = rw (who, rows) (told-own p.client c a log ∙ ap (λ w. w ++ (c, a) ∷ []) part.rows);
 }
 
--- a pass, by its parts, and a desk
-abbrev pub part : ℕ → Session → List (Command × Answer) → Part
+-- a pass, by its parts, and a locked book
+abbrev pub part : ℕ → Session → List (Command × Answer) → PassView
 part client base rows = record { client = client; base = base; rows = rows }
 
 abbrev pub shown : Session → Session → List Recorded → Shown
 shown base M log = record { base = base; session = M; log = log }
 
 -- what a pass is part of, under another name for both
-part-here : (p q : Part) (z : Shown) (base M : Session) (log : List Recorded) → p ≡ q → shown base M log ≡ z → IsPartOf q z.log z.session → IsPartOf p log M
-part-here p q z base M log pass desk known =
-    subst (λ y. IsPartOf p y.log y.session) (sym desk) (subst (λ x. IsPartOf x z.log z.session) (sym pass) known)
+part-here : (p q : PassView) (z : Shown) (base M : Session) (log : List Recorded) → p ≡ q → shown base M log ≡ z → IsPartOf q z.log z.session → IsPartOf p log M
+part-here p q z base M log pass locked known =
+    subst (λ y. IsPartOf p y.log y.session) (sym locked) (subst (λ x. IsPartOf x z.log z.session) (sym pass) known)
 
 -- a turn's answer is one event of the history
-pub answered-turn : (client : ℕ) (base begin M N : Session) (old new : List (Command × Answer)) (q : Part) (z : Shown) (log : List Recorded) (c : Command) (r : Result Answer Refusal)
+pub answered-turn : (client : ℕ) (base begin M N : Session) (old new : List (Command × Answer)) (q : PassView) (z : Shown) (log : List Recorded) (c : Command) (r : Result Answer Refusal)
     → part client base old ≡ q → shown begin M log ≡ z → IsPartOf q z.log z.session
     → IfOk r (λ a. serve M client c ≡ Ok (a, N)) → IfOk r (λ a. new ≡ old ++ (c, a) ∷ [])
-    → IfOk r (IsAnswered (part client base new) c)
-answered-turn client base begin M N old new q z log c (Ok a) pass desk known served rows =
-    (log, N, answered-part (part client base old) (part client base new) log M N c a (part-here (part client base old) q z begin M log pass desk known) served refl refl rows)
-answered-turn client base begin M N old new q z log c (Err why) pass desk known served rows = served
+    → IfOk r (IsAnsweredOnPass (part client base new) c)
+answered-turn client base begin M N old new q z log c (Ok a) pass locked known served rows =
+    (log, N, answered-part (part client base old) (part client base new) log M N c a (part-here (part client base old) q z begin M log pass locked known) served refl refl rows)
+answered-turn client base begin M N old new q z log c (Err why) pass locked known served rows = served
 
 ok-same : {A : Type 0} (x y : A) → ◌≡◌ {A = Result A Refusal} (Ok x) (Ok y) → x ≡ y
 ok-same x y h = cc
@@ -126,20 +126,20 @@ pin-copies M N client a served =
     let tree : M.tree ≡ N.tree = ap (λ z. z.1.tree) both in
     record { moment = sym said; path = ap (λ t. calls_to t.made (position_of M client)) tree; state = refl }
 
-pub pinned-turn : (client : ℕ) (base begin M N : Session) (old new : List (Command × Answer)) (q : Part) (z : Shown) (log : List Recorded) (r : Result (Answer × Snapshot) Refusal)
+pub pinned-turn : (client : ℕ) (base begin M N : Session) (old new : List (Command × Answer)) (q : PassView) (z : Shown) (log : List Recorded) (r : Result (Answer × Snapshot) Refusal)
     → part client base old ≡ q → shown begin M log ≡ z → IsPartOf q z.log z.session
     → IfOk r (λ a. serve M client command.Pin ≡ Ok (a.0, N)) → IfOk r (λ a. a.1 ≡ snapshot_at M.tree (position_of M client)) → IfOk r (λ a. new ≡ old ++ (command.Pin, a.0) ∷ [])
-    → IfOk r (λ a. IsPinned (part client base new) a.0 a.1)
-pinned-turn client base begin M N old new q z log (Ok a) pass desk known served frozen rows = (
+    → IfOk r (λ a. IsPinnedOnPass (part client base new) a.0 a.1)
+pinned-turn client base begin M N old new q z log (Ok a) pass locked known served frozen rows = (
   log,
   N,
-  answered-part (part client base old) (part client base new) log M N command.Pin a.0 (part-here (part client base old) q z begin M log pass desk known) served refl refl rows,
+  answered-part (part client base old) (part client base new) log M N command.Pin a.0 (part-here (part client base old) q z begin M log pass locked known) served refl refl rows,
   rw frozen (pin-copies M N client a.0 served),
 )
-pinned-turn client base begin M N old new q z log (Err why) pass desk known served frozen rows = served
+pinned-turn client base begin M N old new q z log (Err why) pass locked known served frozen rows = served
 
 -- what refuses a command refuses it where a log ends of which the client has its part
-pub refused-part : (p : Part) (log : List Recorded) (M : Session) (c : Command) (why : Refusal)
+pub refused-part : (p : PassView) (log : List Recorded) (M : Session) (c : Command) (why : Refusal)
     → IsPartOf p log M → (why ≢ refusal.OutOfMemory → serve M p.client c ≡ Err why) → IsRefusedTo p c why
 refused-part p log M c why part because = λ other. (log, M, part, because other)
 
@@ -186,30 +186,30 @@ module _ (client : ℕ) (side : Sides → List (Command × Answer)) (with_side :
     (at : (log : List Recorded) → side (sides_of log) ≡ told_to client log)
     (more : (log : List Recorded) (c : Command) (a : Answer) → sides_of (logged log client c a) ≡ with_side (told_to client log ++ (c, a) ∷ []) (sides_of log))
     (same : (s : Sides) → with_side (side s) s ≡ s)
-    (base clients cell : ℕ) (told : Note (List (ℕ × Call))) (M N : Session) (log log' : List Recorded) (s : Sides) (ours : List (Command × Answer)) (desk : IsDesk base clients cell told M log s) where
-  pub desk-answered : (c : Command) (a : Answer) → serve M client c ≡ Ok (a, N) → log' ≡ logged log client c a → ours ≡ side s ++ (c, a) ∷ []
-      → length N.clients ≡ length M.clients → IsDesk base clients cell told N log' (with_side ours s)
-  desk-answered c a served grown mine kept = record {
-    named = desk.named;
-    noted = desk.noted;
-    known = desk.known;
-    replays = rw grown (replays-more (begun clients told.known) M N log client c a desk.replays served);
+    (base clients cell : ℕ) (told : Note (List (ℕ × Call))) (M N : Session) (log log' : List Recorded) (s : Sides) (ours : List (Command × Answer)) (locked : IsLockedBook base clients cell told M log s) where
+  pub locked-answered : (c : Command) (a : Answer) → serve M client c ≡ Ok (a, N) → log' ≡ logged log client c a → ours ≡ side s ++ (c, a) ∷ []
+      → length N.clients ≡ length M.clients → IsLockedBook base clients cell told N log' (with_side ours s)
+  locked-answered c a served grown mine kept = record {
+    named = locked.named;
+    noted = locked.noted;
+    known = locked.known;
+    replays = rw grown (replays-more (begun clients told.known) M N log client c a locked.replays served);
     rows =
         ap (λ w. with_side w s) mine
-        ∙ (ap (λ z. with_side (side z ++ (c, a) ∷ []) z) desk.rows
+        ∙ (ap (λ z. with_side (side z ++ (c, a) ∷ []) z) locked.rows
         ∙ (ap (λ w. with_side (w ++ (c, a) ∷ []) (sides_of log)) (at log) ∙ (sym (more log c a) ∙ ap sides_of (sym grown))));
-    many = kept ∙ desk.many;
+    many = kept ∙ locked.many;
   }
 
-  pub desk-same : standing N log' ≡ standing M log → ours ≡ side s → IsDesk base clients cell told N log' (with_side ours s)
-  desk-same still mine =
+  pub locked-same : standing N log' ≡ standing M log → ours ≡ side s → IsLockedBook base clients cell told N log' (with_side ours s)
+  locked-same still mine =
       let here : N ≡ M = ap (λ z. z.session) still in
       let there : log' ≡ log = ap (λ z. z.log) still in
-      rw (here, there, mine, same s) desk
+      rw (here, there, mine, same s) locked
 
-  pub desk-turned : (A X : Type 0) (said : A → Answer) (c : Command) (r : Result A Refusal)
+  pub locked-turned : (A X : Type 0) (said : A → Answer) (c : Command) (r : Result A Refusal)
       → IfOk r (λ a. serve M client c ≡ Ok (said a, N)) → IfOk r (λ a. log' ≡ logged log client c (said a)) → IfOk r (λ a. ours ≡ side s ++ (c, said a) ∷ [])
       → length N.clients ≡ length M.clients → OnErr r ((standing N log' ≡ standing M log) × (ours ≡ side s) × X)
-      → IsDesk base clients cell told N log' (with_side ours s)
-  desk-turned A X said c (Ok a) served grown mine kept refused = desk-answered c (said a) served grown mine kept
-  desk-turned A X said c (Err why) served grown mine kept refused = desk-same refused.0 refused.1
+      → IsLockedBook base clients cell told N log' (with_side ours s)
+  locked-turned A X said c (Ok a) served grown mine kept refused = locked-answered c (said a) served grown mine kept
+  locked-turned A X said c (Err why) served grown mine kept refused = locked-same refused.0 refused.1

@@ -1,5 +1,7 @@
+-- Definitions to believe: public clauses are stated in them.
 pub mod Accounts
 pub mod Sharing
-pub mod Seats
-pub mod Desks
-pub mod Openings
+pub mod OpenedBook
+pub mod ClientSlots
+-- Used by proofs only: no public clause depends on them.
+pub mod LockedBooks

@@ -11,10 +11,10 @@ use Rattle.zt_rows.specs.declared.refusals.Refusal.TheVariants as refusal
 use Rattle.zt_rows.specs.Opening.{opening}
 use Rattle.zt_rows.specs.Step.{run}
 use Rattle.zt_history.specs.Tree.{Tree, calls_to}
-use Rattle.zt_queries.specs.Copies.{Snapshot}
-use Rattle.zt_book.specs.declared.logs.Recorded.{Recorded}
+use Rattle.zt_queries.specs.FrozenCopy.{Snapshot}
+use Rattle.zt_book.specs.declared.log.Recorded.{Recorded}
 use Rattle.zt_book.specs.Session.{Session, opening_session, session_over, serve}
-use Rattle.zt_book.specs.Log.{Kept, Replays, IsOf, rows_of, loaded}
+use Rattle.zt_book.specs.Log.{BookView, Replays, IsOf, rows_of, loaded}
 
 -- ---- the rows of one client
 
@@ -43,20 +43,20 @@ begun clients None = opening_session clients
 begun clients (Some calls) = begun_over clients (loaded calls)
 
 -- a book of so many clients over a loaded tree, to whom nothing was answered yet
-pub record IsFresh (clients : ℕ) (book : Kept) : Type 0 where
+pub record IsFresh (clients : ℕ) (book : BookView) : Type 0 where
   pub loaded : (calls : List (ℕ × Call)) × (tree : Tree) × (loaded calls ≡ Ok tree) × (book.session ≡ session_over tree clients)
   pub empty : book.log ≡ []
 
 -- ---- passes
 
 -- how a client's pass is seen: the client's number, the session at which the log begins, and what the client was told
-pub record Part : Type 0 where
+pub record PassView : Type 0 where
   pub client : ℕ
   pub base : Session
   pub rows : List (Command × Answer)
 
 -- the pass of a client who was told nothing yet
-abbrev pub first_part : Session → ℕ → Part
+abbrev pub first_part : Session → ℕ → PassView
 first_part base client = record { client = client; base = base; rows = [] }
 
 -- the numbers of so many clients, which are four at most
@@ -64,7 +64,7 @@ abbrev pub numbers : ℕ → List ℕ
 numbers clients = take clients (1 ∷ 2 ∷ 3 ∷ 4 ∷ [])
 
 -- one pass for each client, in order, without rows
-abbrev pub first_parts : ℕ → Session → List Part
+abbrev pub first_parts : ℕ → Session → List PassView
 first_parts clients base = map (first_part base) (numbers clients)
 
 -- the n-th of some rows, from 1; nothing at 0, nor beyond the last
@@ -75,17 +75,17 @@ row_at rows (suc n) = slice_get rows n
 -- ---- what a pass knows of the one log
 
 -- the log replays from the pass's base and ends in this session, and its rows of the pass's client are the pass's rows
-pub record IsPartOf (pass : Part) (log : List Recorded) (end : Session) : Type 0 where
+pub record IsPartOf (pass : PassView) (log : List Recorded) (end : Session) : Type 0 where
   pub replays : Replays pass.base log end
   pub rows : told_to pass.client log ≡ pass.rows
 
 -- one event of the history: some log of which the pass is a part ends with this answer to this command
-abbrev pub IsAnswered : Part → Command → Answer → Type 0
-IsAnswered pass asked answered =
+abbrev pub IsAnsweredOnPass : PassView → Command → Answer → Type 0
+IsAnsweredOnPass pass asked answered =
     (log : List Recorded) × (end : Session) × IsPartOf pass (logged log pass.client asked answered) end
 
 -- Unless memory was refused, some log of which the pass is a part ends in a session in which the command is refused so.
-abbrev pub IsRefusedTo : Part → Command → Refusal → Type 0
+abbrev pub IsRefusedTo : PassView → Command → Refusal → Type 0
 IsRefusedTo pass asked reason =
     reason ≢ refusal.OutOfMemory
     → (log : List Recorded) × (end : Session) × IsPartOf pass log end × (serve end pass.client asked ≡ Err reason)
@@ -98,11 +98,11 @@ pub record IsCopyOf (tree : Tree) (answered : Answer) (copy : Snapshot) : Type 0
   pub state : copy.state ≡ (run opening copy.calls).0
 
 -- a pin is one event of the history, and its copy is of a moment of the tree in which the log ends
-abbrev pub IsPinned : Part → Answer → Snapshot → Type 0
-IsPinned pass answered copy =
+abbrev pub IsPinnedOnPass : PassView → Answer → Snapshot → Type 0
+IsPinnedOnPass pass answered copy =
     (log : List Recorded) × (end : Session) × IsPartOf pass (logged log pass.client command.Pin answered) end × IsCopyOf end.tree answered copy
 
 -- the one log: it replays, its rows of each client are those of its pass, and there are no others
-pub record IsClosed (clients : ℕ) (passes : List Part) (log : List Recorded) : Type 0 where
+pub record IsOneLog (clients : ℕ) (passes : List PassView) (log : List Recorded) : Type 0 where
   pub parts : All (λ pass. (end : Session) × IsPartOf pass log end) passes
   pub others : AllByRecursion (IsOf clients) log

@@ -9,9 +9,7 @@ use std::alloc::{AllocError, Global};
 use std::marker::{Brand, Model};
 use std::sync::ledger;
 use std::sync::ledger::{Book, Ledger, Share};
-
-/// How many rows an account takes.
-pub const ROWS: usize = 4096;
+use zt_rows::CLIENT_ROWS;
 
 /// Which account it is: the ledger's name, and the names of the cells in their order.
 pub trait Naming: Ledger {
@@ -47,7 +45,7 @@ impl<T> Model for Blank<T> {
 
 /// A note in a list. A note alone takes no bytes, and no list is made of such.
 #[derive(Drop)]
-struct Slip<T> {
+struct NoteSlot<T> {
     number: usize,
     note: Note<T>,
 }
@@ -56,46 +54,46 @@ struct Slip<T> {
 #[derive(Drop)]
 pub struct LockSide<N: Naming, T> {
     cells: Vec<OnceBox<T>>,
-    notes: Vec<Slip<T>>,
+    notes: Vec<NoteSlot<T>>,
     book: Book<N>,
 }
 
 impl<N: Naming, T> Model for LockSide<N, T> {
     ghost use Rattle.std.specs.Prelude.{◌≡◌, List, map, length};
     ghost use Rattle.once_cell.specs.Once.{cell_name};
-    ghost use Rattle.zt_shared.specs.Accounts.{IsNoted, known_of, somes};
+    ghost use Rattle.zt_shared.specs.Accounts.{KnowsItsRows, known_of, somes};
 
     ghost Value = { List T };
 
     ghost view = { λ k. somes (known_of k.notes.items) };
 
-    ghost invariant = { λ k. (map cell_name k.cells.items ≡ N.cells) × IsNoted N.cells k.notes.items (somes (known_of k.notes.items)) × (k.book.total ≡ length k.notes.items) };
+    ghost invariant = { λ k. (map cell_name k.cells.items ≡ N.cells) × KnowsItsRows N.cells k.notes.items (somes (known_of k.notes.items)) × (k.book.total ≡ length k.notes.items) };
 }
 
 /// The side of the account that a client has. Contracts see it as its rows.
 #[derive(Drop)]
 pub struct PassSide<N: Naming, T> {
     rows: Vec<T>,
-    notes: Vec<Slip<T>>,
+    notes: Vec<NoteSlot<T>>,
     share: Share<N>,
 }
 
 impl<N: Naming, T> Model for PassSide<N, T> {
     ghost use Rattle.std.specs.Prelude.{◌≡◌, List, map, length};
-    ghost use Rattle.zt_shared.specs.Accounts.{IsNoted};
+    ghost use Rattle.zt_shared.specs.Accounts.{KnowsItsRows};
 
     ghost Value = { List T };
 
     ghost view = { λ p. p.rows.items };
 
-    ghost invariant = { λ p. IsNoted N.cells p.notes.items p.rows.items × (p.share.parts ≡ 1) × (N.parts ≡ 1) × (p.share.amount ≡ length p.notes.items) };
+    ghost invariant = { λ p. KnowsItsRows N.cells p.notes.items p.rows.items × (p.share.parts ≡ 1) × (N.parts ≡ 1) × (p.share.amount ≡ length p.notes.items) };
 }
 
 impl<T: Drop> Blank<T> {
     /// An account with an empty cell for each row that it takes.
     pub fn new(alloc: Global) -> Result<Blank<T>, AllocError> {
-        let mut cells = Vec::with_capacity(alloc, ROWS)?;
-        for _ in 0..ROWS {
+        let mut cells = Vec::with_capacity(alloc, CLIENT_ROWS as usize)?;
+        for _ in 0..CLIENT_ROWS {
             cells.push(OnceBox::new(alloc))?;
         }
         Ok(Blank {
@@ -168,11 +166,11 @@ impl<N: Naming, T: Drop> LockSide<N, T> {
         let Some(mut note) = claim(&self.cells[at], shown) else {
             return Err(Refused);
         };
-        self.notes.push_reserved(Slip {
+        self.notes.push_reserved(NoteSlot {
             number: at,
             note: note.again(),
         });
-        side.notes.push_reserved(Slip { number: at, note });
+        side.notes.push_reserved(NoteSlot { number: at, note });
         side.rows.push_reserved(row);
         self.book.add(&mut side.share, 1);
         Ok(())
@@ -190,8 +188,8 @@ impl<N: Naming, T> PassSide<N, T> {
 
 /// Makes room for one more in each of the three.
 fn room<T>(
-    ours: &mut Vec<Slip<T>>,
-    theirs: &mut Vec<Slip<T>>,
+    ours: &mut Vec<NoteSlot<T>>,
+    theirs: &mut Vec<NoteSlot<T>>,
     rows: &mut Vec<T>,
 ) -> Result<(), Refused>
     ensures ours { ours.new.items ≡ ours.old.items }
@@ -214,7 +212,7 @@ fn room<T>(
 }
 
 /// Notes of the same cells, in turn, know the same rows.
-fn compare_all<T>(ours: &mut Vec<Slip<T>>, theirs: &mut Vec<Slip<T>>)
+fn compare_all<T>(ours: &mut Vec<NoteSlot<T>>, theirs: &mut Vec<NoteSlot<T>>)
     requires many { length ours.old.items ≡ length theirs.old.items }
     requires cells { cells_of ours.old.items ≡ cells_of theirs.old.items }
     ensures ours { ours.new.items ≡ ours.old.items }
@@ -227,7 +225,7 @@ fn compare_all<T>(ours: &mut Vec<Slip<T>>, theirs: &mut Vec<Slip<T>>)
 }
 
 /// The notes at this place, of one cell, know one row.
-fn compare<T>(ours: &mut Vec<Slip<T>>, theirs: &mut Vec<Slip<T>>, at: usize)
+fn compare<T>(ours: &mut Vec<NoteSlot<T>>, theirs: &mut Vec<NoteSlot<T>>, at: usize)
     requires ours { at < length ours.old.items }
     requires theirs { at < length theirs.old.items }
     requires cell { slice_index (cells_of ours.old.items) at ≡ slice_index (cells_of theirs.old.items) at }

@@ -2,16 +2,16 @@
 #![tactic(auto)]
 
 pub mod account;
-mod closing;
-mod desk;
-mod gates;
-mod opening;
-mod passes;
+mod answered_command;
+mod closed_book;
+mod gate;
+mod locked_book;
+mod opened_book;
+mod pass;
 mod shared;
-mod turns;
 
-pub use closing::close;
-pub use gates::Gate;
-pub use opening::{Blanks, open, open_book};
-pub use passes::{Beginning, Calls, Pass, Said};
+pub use closed_book::close;
+pub use gate::Gate;
+pub use opened_book::{Blanks, open, open_book};
+pub use pass::{Beginning, Calls, Pass, Said};
 pub use shared::Shared;

@@ -1,10 +1,10 @@
 ghost use Rattle.std.specs.Prelude.{◌≡◌, ◌++◌, ◌∷◌, [], IfOk, IfErr, OnErr};
 ghost use Rattle.zt_rows.specs.declared.calls.Command.TheVariants as command;
-ghost use Rattle.zt_shared.specs.Sharing.{IsAnswered, IsRefusedTo, IsPinned};
+ghost use Rattle.zt_shared.specs.Sharing.{IsAnsweredOnPass, IsRefusedTo, IsPinnedOnPass};
 
 use crate::account::Naming;
-use crate::desk::Desk;
-use crate::passes::{Beginning, Pass};
+use crate::locked_book::LockedBook;
+use crate::pass::{Beginning, Pass};
 use std::sync::{Mutex, Wait};
 use zt_queries::Frozen;
 use zt_rows::{Answer, Command, Refusal};
@@ -12,7 +12,7 @@ use zt_rows::{Answer, Command, Refusal};
 /// A book that several clients share. Each has a pass, by which it speaks.
 #[derive(Drop)]
 pub struct Shared<A: Naming + Beginning, B: Naming, C: Naming, D: Naming> {
-    pub(crate) lock: Mutex<Desk<A, B, C, D>>,
+    pub(crate) lock: Mutex<LockedBook<A, B, C, D>>,
 }
 
 impl<A: Naming + Beginning, B: Naming, C: Naming, D: Naming> Shared<A, B, C, D> {
@@ -26,7 +26,7 @@ impl<A: Naming + Beginning, B: Naming, C: Naming, D: Naming> Shared<A, B, C, D> 
         ensures who { pass.new.client ≡ pass.old.client }
         ensures base { pass.new.base ≡ pass.old.base }
         ensures added { IfOk result (λ said. pass.new.rows ≡ pass.old.rows ++ (asked, said) ∷ []) }
-        ensures answered { IfOk result (IsAnswered pass.new asked) }
+        ensures answered { IfOk result (IsAnsweredOnPass pass.new asked) }
         ensures same { OnErr result (pass.new ≡ pass.old) }
         ensures refused { IfErr result (IsRefusedTo pass.old asked) }
     {
@@ -43,7 +43,7 @@ impl<A: Naming + Beginning, B: Naming, C: Naming, D: Naming> Shared<A, B, C, D> 
         ensures who { pass.new.client ≡ pass.old.client }
         ensures base { pass.new.base ≡ pass.old.base }
         ensures added { IfOk result (λ pinned. pass.new.rows ≡ pass.old.rows ++ (command.Pin, pinned.0) ∷ []) }
-        ensures answered { IfOk result (λ pinned. IsPinned pass.new pinned.0 pinned.1) }
+        ensures answered { IfOk result (λ pinned. IsPinnedOnPass pass.new pinned.0 pinned.1) }
         ensures same { OnErr result (pass.new ≡ pass.old) }
         ensures refused { IfErr result (IsRefusedTo pass.old command.Pin) }
     {

@@ -12,7 +12,7 @@ use Rattle.zt_rows.specs.State.{State, row, put, change}
 use Rattle.zt_rows.specs.Tests.{any_row}
 use Rattle.zt_rows.proofs.StateLaws.{row-put, row-change, same_state, put-row}
 use Rattle.zt_rows.proofs.RowLaws.{any_row-at, at-any_row, and_left, and_right, and_both, or_true, or_left, or_right, same_test, true≢false}
-use Rattle.zt_signals.specs.Columns.{IsAfter, IsNext, IsNextThat, passes_under}
+use Rattle.zt_signals.specs.KeyWalk.{IsAfter, IsNextUnder, IsNextThat, passes_under}
 
 -- ---- numbers
 
@@ -107,7 +107,7 @@ none-passes : (test : RowKey → Row → Bool) (k : RowKey) (r : Option Row) →
 none-passes test k r e = ap (λ o. option_map_or (test k) o false) e
 
 -- the next row of all is one before which no row passes
-pub next-that : (test : RowKey → Row → Bool) (S : State) (at : ℕ → RowKey) (low found : Option ℕ) → IsNext S at low found → IsNextThat test S at low found
+pub next-that : (test : RowKey → Row → Bool) (S : State) (at : ℕ → RowKey) (low found : Option ℕ) → IsNextUnder S at low found → IsNextThat test S at low found
 next-that test S at low None h = λ n past. none-passes test (at n) (row S (at n)) (h n past)
 next-that test S at low (Some n) h = (h.0, λ m past less. none-passes test (at m) (row S (at m)) (h.2 m past less))
 

@@ -1,4 +1,6 @@
-pub mod Written
-pub mod Columns
-pub mod Waits
-pub mod Picks
+-- Definitions to believe: public clauses are stated in them.
+pub mod ObjectSignals
+pub mod DroppedWaits
+-- Used by proofs only: no public clause depends on them.
+pub mod KeyWalk
+pub mod WaitGroups

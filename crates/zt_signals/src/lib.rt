@@ -2,10 +2,10 @@
 //! rows. And the waits for signals: added, and taken away.
 #![tactic(auto)]
 
-mod dropping;
-mod renewing;
-mod waiting;
-mod writing;
+mod derived_signals;
+mod object_signals;
+mod wait;
+mod wait_group;
 
-pub use waiting::{add_wait, cancel_waits, drop_waits, drop_waits_of_port};
-pub use writing::{refresh, set_bits};
+pub use object_signals::{refresh, set_bits};
+pub use wait::{add_wait, cancel_waits, drop_waits, drop_waits_of_port};

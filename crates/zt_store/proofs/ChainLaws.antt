@@ -4,9 +4,9 @@ use Rattle.std.proofs.Common.{take_all, ◌≡◌, ◌<◌, ◌≤◌, ◌-◌, 
 use Rattle.std.specs.Prelude.{IfSome, if◌then◌else◌}
 use Rattle.std.proofs.lemmas.Bool.{cases_lt, eqb-true, eq-eqb}
 use Rattle.std.proofs.lemmas.List.{length-map, get_or_past}
-use Rattle.zt_store.specs.declared.chains.Link.{Link}
-use Rattle.zt_store.specs.declared.chains.Ends.{Ends}
-use Rattle.zt_store.specs.Chains.{IsBehind, IsNext, IsPrevious, IsWithin, IsBesides, IsChained, is_slot, is_bucket, is_in, bucket_at, buckets, next_of, before_of, no_link, no_ends}
+use Rattle.zt_store.specs.declared.chains.BucketLink.{BucketLink}
+use Rattle.zt_store.specs.declared.chains.BucketEnds.{BucketEnds}
+use Rattle.zt_store.specs.Chains.{IsBehind, IsNext, IsPrevious, IsItemOf, IsBesides, IsChained, is_slot, is_bucket, is_in, bucket_at, buckets, next_of, before_of, no_link, no_ends}
 use Rattle.zt_store.proofs.ChainOrder.{IsSingle, IsLinked, ComesIn, GoesOut, linked-alike, linked-in, linked-out, rising, falling}
 
 -- ---- a search for the next item
@@ -26,7 +26,7 @@ besides-more q (Some low) item next h not g = (within next g.0, λ m behind shor
     above : (m : ℕ) → low < m → item < m
     above m less = elim (cases_lt item m) [ inl h ↦ h | inr h ↦ absurd (not (omega arith)) ]
 
-    within : (next : Option ℕ) → IfSome next (λ n. (item < n) × (q n ≡ true)) → IsWithin q next
+    within : (next : Option ℕ) → IfSome next (λ n. (item < n) × (q n ≡ true)) → IsItemOf q next
     within None h = tt
     within (Some n) h = h.1
 
@@ -107,7 +107,7 @@ not_bucket c b ne = by (b == c) refl
 
 -- ---- an item goes out of its bucket
 
-pub removed : (links later : List Link) (ends ends_later : List Ends) (n b : ℕ) (before found : Option ℕ) → IsChained links ends
+pub removed : (links later : List BucketLink) (ends ends_later : List BucketEnds) (n b : ℕ) (before found : Option ℕ) → IsChained links ends
     → n < length (buckets links) → bucket_at (buckets links) n ≡ Some b → before ≡ before_of links ends b (Some n) → found ≡ next_of links ends b (Some n)
     → ((c : ℕ) (l : Option ℕ) → (l ≡ Some n → ⊥) → next_of later ends_later c l ≡ cond (is_slot b before c l) found (next_of links ends c l))
     → ((c : ℕ) (l : Option ℕ) → (l ≡ Some n → ⊥) → before_of later ends_later c l ≡ cond (is_slot b found c l) before (before_of links ends c l))
@@ -128,7 +128,7 @@ removed links later ends ends_later n b before found chained lt at is_before is_
 
 -- ---- an item comes into a bucket
 
-pub inserted : (links later : List Link) (ends ends_later : List Ends) (n b : ℕ) (before found : Option ℕ) → IsChained links ends
+pub inserted : (links later : List BucketLink) (ends ends_later : List BucketEnds) (n b : ℕ) (before found : Option ℕ) → IsChained links ends
     → n < length (buckets links) → bucket_at (buckets links) n ≡ None → IsPrevious (is_in (buckets links) b) (Some n) before → IsNext (is_in (buckets links) b) (Some n) found
     → next_of later ends_later b (Some n) ≡ found → before_of later ends_later b (Some n) ≡ before
     → ((c : ℕ) (l : Option ℕ) → (l ≡ Some n → ⊥) → next_of later ends_later c l ≡ cond (is_slot b before c l) (Some n) (next_of links ends c l))
@@ -149,13 +149,13 @@ inserted links later ends ends_later n b before found chained lt at previous nex
 
 -- ---- links of other items
 
-pub next-other : (links : List Link) (ends : List Ends) (n : ℕ) (link : Link) (c : ℕ) (l : Option ℕ) → (l ≡ Some n → ⊥) → next_of (set links n link) ends c l ≡ next_of links ends c l
+pub next-other : (links : List BucketLink) (ends : List BucketEnds) (n : ℕ) (link : BucketLink) (c : ℕ) (l : Option ℕ) → (l ≡ Some n → ⊥) → next_of (set links n link) ends c l ≡ next_of links ends c l
 next-other links ends n link c None ne = refl
-next-other links ends n link c (Some m) ne = ap (λ (x : Link). x.next) (get_or-set_other links n m link no_link (λ e. ne (ap (λ x. Some x) e)))
+next-other links ends n link c (Some m) ne = ap (λ (x : BucketLink). x.next) (get_or-set_other links n m link no_link (λ e. ne (ap (λ x. Some x) e)))
 
-pub before-other : (links : List Link) (ends : List Ends) (n : ℕ) (link : Link) (c : ℕ) (l : Option ℕ) → (l ≡ Some n → ⊥) → before_of (set links n link) ends c l ≡ before_of links ends c l
+pub before-other : (links : List BucketLink) (ends : List BucketEnds) (n : ℕ) (link : BucketLink) (c : ℕ) (l : Option ℕ) → (l ≡ Some n → ⊥) → before_of (set links n link) ends c l ≡ before_of links ends c l
 before-other links ends n link c None ne = refl
-before-other links ends n link c (Some m) ne = ap (λ (x : Link). x.before) (get_or-set_other links n m link no_link (λ e. ne (ap (λ x. Some x) e)))
+before-other links ends n link c (Some m) ne = ap (λ (x : BucketLink). x.before) (get_or-set_other links n m link no_link (λ e. ne (ap (λ x. Some x) e)))
 
 -- the links before and behind n are not its own
 pub not-slot-before : (q : ℕ → Bool) (b n : ℕ) (before : Option ℕ) → IsPrevious q (Some n) before → is_slot b before b (Some n) ≡ false
@@ -176,29 +176,29 @@ not-slot-next q b n (Some p) h = by (n == p) refl
 
 -- ---- places
 
-pub ends-there : (links : List Link) (ends : List Ends) (n b : ℕ) → IsChained links ends → bucket_at (buckets links) n ≡ Some b → b < length ends
+pub ends-there : (links : List BucketLink) (ends : List BucketEnds) (n b : ℕ) → IsChained links ends → bucket_at (buckets links) n ≡ Some b → b < length ends
 ends-there links ends n b chained at = elim (cases_lt b (length ends)) [ inl less ↦ less | inr past ↦ absurd (out past) ]
   where
     out : length ends ≤ b → ⊥
     out past =
-        let none : next_of links ends b None ≡ None = ap (λ (x : Ends). x.first) (get_or_past ends b no_ends past) in
+        let none : next_of links ends b None ≡ None = ap (λ (x : BucketEnds). x.first) (get_or_past ends b no_ends past) in
         let h : IsNext (is_in (buckets links) b) None None = subst (IsNext (is_in (buckets links) b) None) none (chained.nexts b None tt) in
         let f : is_in (buckets links) b n ≡ false = h.1 n tt tt in
         let t : is_in (buckets links) b n ≡ true = ap (is_bucket b) at ∙ own-bucket b in
         let e : true ≡ false = sym t ∙ f in cc
 
-pub item-there : (links : List Link) (b : ℕ) (n : ℕ) → is_in (buckets links) b n ≡ true → n < length links
-item-there links b n h = let e : length (buckets links) ≡ length links = length-map links (λ (x : Link). x.bucket) in let less : n < length (buckets links) = in-below (buckets links) b n h in omega arith
+pub item-there : (links : List BucketLink) (b : ℕ) (n : ℕ) → is_in (buckets links) b n ≡ true → n < length links
+item-there links b n h = let e : length (buckets links) ≡ length links = length-map links (λ (x : BucketLink). x.bucket) in let less : n < length (buckets links) = in-below (buckets links) b n h in omega arith
 
-pub next-there : (links : List Link) (b : ℕ) (low found : Option ℕ) → IsNext (is_in (buckets links) b) low found → IfSome found (λ n. n < length links)
+pub next-there : (links : List BucketLink) (b : ℕ) (low found : Option ℕ) → IsNext (is_in (buckets links) b) low found → IfSome found (λ n. n < length links)
 next-there links b low None h = tt
 next-there links b low (Some n) h = item-there links b n h.0.1
 
-pub before-there : (links : List Link) (b : ℕ) (low found : Option ℕ) → IsPrevious (is_in (buckets links) b) low found → IfSome found (λ n. n < length links)
+pub before-there : (links : List BucketLink) (b : ℕ) (low found : Option ℕ) → IsPrevious (is_in (buckets links) b) low found → IfSome found (λ n. n < length links)
 before-there links b low None h = tt
 before-there links b low (Some n) h = item-there links b n h.0.1
 
-pub bucket-link : (links : List Link) (n : ℕ) → bucket_at (buckets links) n ≡ (get_or links n no_link).bucket
+pub bucket-link : (links : List BucketLink) (n : ℕ) → bucket_at (buckets links) n ≡ (get_or links n no_link).bucket
 bucket-link [] n = refl
 bucket-link (x ∷ xs) zero = refl
 bucket-link (x ∷ xs) (suc n) = bucket-link xs n
@@ -206,8 +206,8 @@ bucket-link (x ∷ xs) (suc n) = bucket-link xs n
 pub in-own : (all : List (Option ℕ)) (n b : ℕ) → bucket_at all n ≡ Some b → is_in all b n ≡ true
 in-own all n b at = ap (is_bucket b) at ∙ own-bucket b
 
-pub lengths-same : (links : List Link) → length (buckets links) ≡ length links
-lengths-same links = length-map links (λ (x : Link). x.bucket)
+pub lengths-same : (links : List BucketLink) → length (buckets links) ≡ length links
+lengths-same links = length-map links (λ (x : BucketLink). x.bucket)
 
 pub none_left : (o : Option ℕ) → ((n : ℕ) → o ≡ Some n → ⊥) → o ≡ None
 none_left None h = refl
@@ -228,9 +228,9 @@ filled (x ∷ xs) m (suc k) d = filled xs m k d
 pub resized : {A : Type 0} (xs : List A) (n m k : ℕ) (d : A) → length xs ≤ n → get_or (take n xs ++ replicate m d) k d ≡ get_or xs k d
 resized xs n m k d h = ap (λ ys. get_or (ys ++ replicate m d) k d) (take_all n xs h) ∙ filled xs m k d
 
-pub more-links : (links later : List Link) (ends : List Ends) → ((k : ℕ) → get_or later k no_link ≡ get_or links k no_link) → IsChained links ends → IsChained later ends
+pub more-links : (links later : List BucketLink) (ends : List BucketEnds) → ((k : ℕ) → get_or later k no_link ≡ get_or links k no_link) → IsChained links ends → IsChained later ends
 more-links links later ends same chained =
-    let q : (b m : ℕ) → is_in (buckets later) b m ≡ is_in (buckets links) b m = λ b m. ap (is_bucket b) (bucket-link later m ∙ ap (λ (x : Link). x.bucket) (same m) ∙ sym (bucket-link links m)) in
+    let q : (b m : ℕ) → is_in (buckets later) b m ≡ is_in (buckets links) b m = λ b m. ap (is_bucket b) (bucket-link later m ∙ ap (λ (x : BucketLink). x.bucket) (same m) ∙ sym (bucket-link links m)) in
     record {
       nexts = linked-alike (λ x y. x < y) (is_in (buckets links)) (is_in (buckets later)) (next_of links ends) (next_of later ends) q nexts chained.nexts;
       befores = linked-alike (λ x y. y < x) (is_in (buckets links)) (is_in (buckets later)) (before_of links ends) (before_of later ends) q befores chained.befores;
@@ -238,13 +238,13 @@ more-links links later ends same chained =
   where
     nexts : (b : ℕ) (l : Option ℕ) → next_of later ends b l ≡ next_of links ends b l
     nexts b None = refl
-    nexts b (Some n) = ap (λ (x : Link). x.next) (same n)
+    nexts b (Some n) = ap (λ (x : BucketLink). x.next) (same n)
 
     befores : (b : ℕ) (l : Option ℕ) → before_of later ends b l ≡ before_of links ends b l
     befores b None = refl
-    befores b (Some n) = ap (λ (x : Link). x.before) (same n)
+    befores b (Some n) = ap (λ (x : BucketLink). x.before) (same n)
 
-pub more-ends : (links : List Link) (ends later : List Ends) → ((k : ℕ) → get_or later k no_ends ≡ get_or ends k no_ends) → IsChained links ends → IsChained links later
+pub more-ends : (links : List BucketLink) (ends later : List BucketEnds) → ((k : ℕ) → get_or later k no_ends ≡ get_or ends k no_ends) → IsChained links ends → IsChained links later
 more-ends links ends later same chained =
     record {
       nexts = linked-alike (λ x y. x < y) (is_in (buckets links)) (is_in (buckets links)) (next_of links ends) (next_of links later) (λ b m. refl) nexts chained.nexts;
@@ -252,11 +252,11 @@ more-ends links ends later same chained =
     }
   where
     nexts : (b : ℕ) (l : Option ℕ) → next_of links later b l ≡ next_of links ends b l
-    nexts b None = ap (λ (x : Ends). x.first) (same b)
+    nexts b None = ap (λ (x : BucketEnds). x.first) (same b)
     nexts b (Some n) = refl
 
     befores : (b : ℕ) (l : Option ℕ) → before_of links later b l ≡ before_of links ends b l
-    befores b None = ap (λ (x : Ends). x.last) (same b)
+    befores b None = ap (λ (x : BucketEnds). x.last) (same b)
     befores b (Some n) = refl
 
 pub resized-if : {A : Type 0} (b : Bool) (xs : List A) (n m k : ℕ) (d : A) → length xs ≤ n → get_or (if b then take n xs ++ replicate m d else xs) k d ≡ get_or xs k d

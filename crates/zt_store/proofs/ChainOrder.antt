@@ -3,7 +3,7 @@
 use Rattle.std.proofs.Common.{◌≡◌, ◌<◌, arith, ℕ, ◌==◌, Bool, true, false, cond, Option, Some, None, refl, sym, ap, ◌∙◌, subst, ◌⊎◌, inl, inr}
 use Rattle.std.specs.Prelude.{IfSome}
 use Rattle.std.proofs.lemmas.Bool.{cases_lt, eqb-true, eq-eqb}
-use Rattle.zt_store.specs.Chains.{IsBehind, IsShortOf, IsNextBy, IsWithin, is_slot}
+use Rattle.zt_store.specs.Chains.{IsBehind, IsShortOf, IsNextBy, IsItemOf, is_slot}
 
 clash : {P : Type 0} (b : Bool) → b ≡ true → b ≡ false → P
 clash b t f = let e : true ≡ false = sym t ∙ f in cc
@@ -15,7 +15,7 @@ pub record IsOrder (lt : ℕ → ℕ → Type 0) : Type 0 where
   pub total : (a b : ℕ) → (lt a b) ⊎ ((a ≡ b) ⊎ lt b a)
 
 -- a low one before n is the one that is linked before n, or that one is between
-nearest : (lt : ℕ → ℕ → Type 0) → IsOrder lt → (q : ℕ → Bool) (low before : Option ℕ) (n : ℕ) → IsWithin q low → IsBehind lt low n → IsNextBy (λ a b. lt b a) q (Some n) before
+nearest : (lt : ℕ → ℕ → Type 0) → IsOrder lt → (q : ℕ → Bool) (low before : Option ℕ) (n : ℕ) → IsItemOf q low → IsBehind lt low n → IsNextBy (λ a b. lt b a) q (Some n) before
     → (low ≡ before) ⊎ ((p : ℕ) × (before ≡ Some p) × IsBehind lt low p × lt p n × (q p ≡ true))
 nearest lt o q None None n within behind h = inl refl
 nearest lt o q None (Some p) n within behind h = inr (p, refl, tt, h.0.0, h.0.1)
@@ -35,7 +35,7 @@ short-through lt o n (Some s) p h less = o.trans p n s less h
 
 -- n is not between another low one and what comes next behind it
 not-between : (lt : ℕ → ℕ → Type 0) → IsOrder lt → (q : ℕ → Bool) (n : ℕ) (before low next : Option ℕ)
-    → IsWithin q low → (low ≡ before → ⊥) → IsNextBy (λ a b. lt b a) q (Some n) before → IsNextBy lt q low next → IsBehind lt low n → IsShortOf lt next n → ⊥
+    → IsItemOf q low → (low ≡ before → ⊥) → IsNextBy (λ a b. lt b a) q (Some n) before → IsNextBy lt q low next → IsBehind lt low n → IsShortOf lt next n → ⊥
 not-between lt o q n before low next within other h g behind short =
     elim (nearest lt o q low before n within behind h) [
       | inl same ↦ other same
@@ -87,7 +87,7 @@ came-next lt o q r n before c h = (
 )
 
 pub came-other : (lt : ℕ → ℕ → Type 0) → IsOrder lt → (q r : ℕ → Bool) (n : ℕ) (before low next : Option ℕ) → ComesIn q r n → IsNextBy (λ a b. lt b a) q (Some n) before
-    → IsWithin q low → (low ≡ before → ⊥) → IsNextBy lt q low next → IsNextBy lt r low next
+    → IsItemOf q low → (low ≡ before → ⊥) → IsNextBy lt q low next → IsNextBy lt r low next
 came-other lt o q r n before low next c h within other g = (
   kept-next lt q r low next (came-true q r n c) g.0,
   λ m behind short.
@@ -122,7 +122,7 @@ went-next lt o q r n before next g h k = (
 )
 
 went-found : (lt : ℕ → ℕ → Type 0) → IsOrder lt → (q r : ℕ → Bool) (n : ℕ) (before low next : Option ℕ) → GoesOut q r n → IsNextBy (λ a b. lt b a) q (Some n) before
-    → IsWithin q low → (low ≡ before → ⊥) → IsNextBy lt q low next → IfSome next (λ m. IsBehind lt low m × (r m ≡ true))
+    → IsItemOf q low → (low ≡ before → ⊥) → IsNextBy lt q low next → IfSome next (λ m. IsBehind lt low m × (r m ≡ true))
 went-found lt o q r n before low None g h within other k = tt
 went-found lt o q r n before low (Some s) g h within other k =
     (k.0.0, g.others s (λ e. end (nearest lt o q low before n within (subst (IsBehind lt low) e k.0.0) h) e) ∙ k.0.1)
@@ -132,7 +132,7 @@ went-found lt o q r n before low (Some s) g h within other k =
     end (inr found) e = clash (q found.0) found.4 (k.1 found.0 found.2 (subst (λ x. lt found.0 x) (sym e) found.3))
 
 pub went-other : (lt : ℕ → ℕ → Type 0) → IsOrder lt → (q r : ℕ → Bool) (n : ℕ) (before low next : Option ℕ) → GoesOut q r n → IsNextBy (λ a b. lt b a) q (Some n) before
-    → IsWithin q low → (low ≡ before → ⊥) → IsNextBy lt q low next → IsNextBy lt r low next
+    → IsItemOf q low → (low ≡ before → ⊥) → IsNextBy lt q low next → IsNextBy lt r low next
 went-other lt o q r n before low next g h within other k = (
   went-found lt o q r n before low next g h within other k,
   λ m behind short. either-way lt o m n (r m ≡ false) (λ e. ap r e ∙ g.gone) (λ ne. g.others m ne ∙ k.1 m behind short),
@@ -160,7 +160,7 @@ abbrev pub IsSingle : (ℕ → ℕ → Bool) → Type 0
 IsSingle q = (b c n : ℕ) → q b n ≡ true → q c n ≡ true → c ≡ b
 
 -- the slot of another bucket is not the one that changes
-slot-other : (q : ℕ → ℕ → Bool) → IsSingle q → (b : ℕ) (before : Option ℕ) (c : ℕ) (low : Option ℕ) → (c ≡ b → ⊥) → IsWithin (q b) before → IsWithin (q c) low → is_slot b before c low ≡ false
+slot-other : (q : ℕ → ℕ → Bool) → IsSingle q → (b : ℕ) (before : Option ℕ) (c : ℕ) (low : Option ℕ) → (c ≡ b → ⊥) → IsItemOf (q b) before → IsItemOf (q c) low → is_slot b before c low ≡ false
 slot-other q one b None c None other h g = falls (c == b) refl
   where
     falls : (t : Bool) → (c == b) ≡ t → t ≡ false
@@ -174,15 +174,15 @@ slot-other q one b (Some a) c (Some n) other h g = falls (n == a) refl
     falls true e = absurd (other (one b c n (ap (q b) (eqb-true n a e) ∙ h) g))
     falls false e = refl
 
-within-found : (lt : ℕ → ℕ → Type 0) (q : ℕ → Bool) (low found : Option ℕ) → IsNextBy lt q low found → IsWithin q found
+within-found : (lt : ℕ → ℕ → Type 0) (q : ℕ → Bool) (low found : Option ℕ) → IsNextBy lt q low found → IsItemOf q found
 within-found lt q low None h = tt
 within-found lt q low (Some n) h = h.0.1
 
 -- each bucket is linked in this order
 abbrev pub IsLinked : (ℕ → ℕ → Type 0) → (ℕ → ℕ → Bool) → (ℕ → Option ℕ → Option ℕ) → Type 0
-IsLinked lt q next = (b : ℕ) (low : Option ℕ) → IsWithin (q b) low → IsNextBy lt (q b) low (next b low)
+IsLinked lt q next = (b : ℕ) (low : Option ℕ) → IsItemOf (q b) low → IsNextBy lt (q b) low (next b low)
 
-within-same : (q r : ℕ → Bool) (low : Option ℕ) → ((m : ℕ) → r m ≡ q m) → IsWithin r low → IsWithin q low
+within-same : (q r : ℕ → Bool) (low : Option ℕ) → ((m : ℕ) → r m ≡ q m) → IsItemOf r low → IsItemOf q low
 within-same q r None same h = tt
 within-same q r (Some n) same h = sym (same n) ∙ h
 
@@ -207,25 +207,25 @@ linked-out lt o q r next later b n before found one goes same h k links all c lo
   where
     other : (c ≡ b → ⊥) → IsNextBy lt (r c) low (later c low)
     other ne =
-        let kept : IsWithin (q c) low = within-same (q c) (r c) low (λ m. same c m ne) within in
-        let not_n : low ≡ Some n → ⊥ = λ e. ne (one b c n goes.there (subst (IsWithin (q c)) e kept)) in
+        let kept : IsItemOf (q c) low = within-same (q c) (r c) low (λ m. same c m ne) within in
+        let not_n : low ≡ Some n → ⊥ = λ e. ne (one b c n goes.there (subst (IsItemOf (q c)) e kept)) in
         subst (IsNextBy lt (r c) low)
         (sym (links c low not_n ∙ ap (λ t. cond t found (next c low)) (slot-other q one b before c low ne (within-found (λ x y. lt y x) (q b) (Some n) before h) kept)))
         (next-same lt (q c) (r c) low (next c low) (λ m. same c m ne) (all c low kept))
 
-    kept-out : (low : Option ℕ) → IsWithin (r b) low → IsWithin (q b) low
+    kept-out : (low : Option ℕ) → IsItemOf (r b) low → IsItemOf (q b) low
     kept-out None w = tt
     kept-out (Some m) w = either-way lt o m n (q b m ≡ true) (λ e. ap (q b) e ∙ goes.there) (λ ne. sym (goes.others m ne) ∙ w)
 
-    here : (t : Bool) → is_slot b before b low ≡ t → IsWithin (r b) low → IsNextBy lt (r b) low (cond t found (next b low))
+    here : (t : Bool) → is_slot b before b low ≡ t → IsItemOf (r b) low → IsNextBy lt (r b) low (cond t found (next b low))
     here true e w = subst (λ l. IsNextBy lt (r b) l found) (sym (slot-same b before b low e)) (went-next lt o (q b) (r b) n before found goes h k)
     here false e w = went-other lt o (q b) (r b) n before low (next b low) goes h (kept-out low w) (slot-own b before low e) (all b low (kept-out low w))
 
-    at : IsWithin (r b) low → IsNextBy lt (r b) low (later b low)
-    at w = subst (IsNextBy lt (r b) low) (sym (links b low (λ e. clash (r b n) (subst (IsWithin (r b)) e w) goes.gone))) (here (is_slot b before b low) refl w)
+    at : IsItemOf (r b) low → IsNextBy lt (r b) low (later b low)
+    at w = subst (IsNextBy lt (r b) low) (sym (links b low (λ e. clash (r b n) (subst (IsItemOf (r b)) e w) goes.gone))) (here (is_slot b before b low) refl w)
 
     own : c ≡ b → IsNextBy lt (r c) low (later c low)
-    own e = subst (λ x. IsNextBy lt (r x) low (later x low)) (sym e) (at (subst (λ x. IsWithin (r x) low) e within))
+    own e = subst (λ x. IsNextBy lt (r x) low (later x low)) (sym e) (at (subst (λ x. IsItemOf (r x) low) e within))
 
 -- n comes into the bucket b
 pub linked-in : (lt : ℕ → ℕ → Type 0) → IsOrder lt → (q r : ℕ → ℕ → Bool) (next later : ℕ → Option ℕ → Option ℕ) (b n : ℕ) (before found : Option ℕ)
@@ -239,17 +239,17 @@ linked-in lt o q r next later b n before found one free comes same h k itself li
   where
     other : (c ≡ b → ⊥) → IsNextBy lt (r c) low (later c low)
     other ne =
-        let kept : IsWithin (q c) low = within-same (q c) (r c) low (λ m. same c m ne) within in
-        let not_n : low ≡ Some n → ⊥ = λ e. clash (q c n) (subst (IsWithin (q c)) e kept) (free c) in
+        let kept : IsItemOf (q c) low = within-same (q c) (r c) low (λ m. same c m ne) within in
+        let not_n : low ≡ Some n → ⊥ = λ e. clash (q c n) (subst (IsItemOf (q c)) e kept) (free c) in
         subst (IsNextBy lt (r c) low)
         (sym (links c low not_n ∙ ap (λ t. cond t (Some n) (next c low)) (slot-other q one b before c low ne (within-found (λ x y. lt y x) (q b) (Some n) before h) kept)))
         (next-same lt (q c) (r c) low (next c low) (λ m. same c m ne) (all c low kept))
 
-    here : (t : Bool) → is_slot b before b low ≡ t → IsWithin (q b) low → IsNextBy lt (r b) low (cond t (Some n) (next b low))
+    here : (t : Bool) → is_slot b before b low ≡ t → IsItemOf (q b) low → IsNextBy lt (r b) low (cond t (Some n) (next b low))
     here true e w = subst (λ l. IsNextBy lt (r b) l (Some n)) (sym (slot-same b before b low e)) (came-next lt o (q b) (r b) n before comes h)
     here false e w = came-other lt o (q b) (r b) n before low (next b low) comes h w (slot-own b before low e) (all b low w)
 
-    at : (low : Option ℕ) → IsWithin (r b) low → ((w : IsWithin (q b) low) → (low ≡ Some n → ⊥) → IsNextBy lt (r b) low (later b low)) → IsNextBy lt (r b) low (later b low)
+    at : (low : Option ℕ) → IsItemOf (r b) low → ((w : IsItemOf (q b) low) → (low ≡ Some n → ⊥) → IsNextBy lt (r b) low (later b low)) → IsNextBy lt (r b) low (later b low)
     at None w f = f tt (λ e. cc)
     at (Some m) w f =
         either-way lt o m n (IsNextBy lt (r b) (Some m) (later b (Some m)))
@@ -262,7 +262,7 @@ linked-in lt o q r next later b n before found one free comes same h k itself li
     own : c ≡ b → IsNextBy lt (r c) low (later c low)
     own e =
         subst (λ x. IsNextBy lt (r x) low (later x low)) (sym e)
-        (at low (subst (λ x. IsWithin (r x) low) e within) (λ w not_n. subst (IsNextBy lt (r b) low) (sym (links b low not_n)) (here (is_slot b before b low) refl w)))
+        (at low (subst (λ x. IsItemOf (r x) low) e within) (λ w not_n. subst (IsNextBy lt (r b) low) (sym (links b low not_n)) (here (is_slot b before b low) refl w)))
 
 -- ---- both orders of numbers
 

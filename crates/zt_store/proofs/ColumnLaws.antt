@@ -15,8 +15,8 @@ use Rattle.zt_rows.specs.KeyOrder.{rowkey_cmp-equal}
 use Rattle.zt_rows.specs.State.{State, row}
 use Rattle.zt_rows.specs.Change.{keys}
 use Rattle.zt_rows.specs.Room.{is_above, next_key, SuitsKey}
-use Rattle.zt_store.specs.declared.walks.Column.{Column}
-use Rattle.zt_store.specs.declared.walks.Column.TheVariants as column
+use Rattle.zt_store.specs.declared.key_columns.KeyColumn.{KeyColumn}
+use Rattle.zt_store.specs.declared.key_columns.KeyColumn.TheVariants as column
 use Rattle.zt_store.specs.KeyColumns.{key_in, next_column, is_from}
 use Rattle.zt_store.proofs.NextKeys.{find-alike, find-none, find-least}
 
@@ -55,7 +55,7 @@ pair_within a x b y c e l = (grind (arith, nat_tests), grind (arith, nat_tests),
 -- ---- the keys of a column
 
 -- no row stands in the column from the number on
-abbrev pub IsBare : State → Column → ℕ → Type 0
+abbrev pub IsBare : State → KeyColumn → ℕ → Type 0
 IsBare S c from = (n : ℕ) → from ≤ n → row S (key_in c n) ≡ None
 
 -- a row that stands is not where none stands
@@ -63,7 +63,7 @@ apart : (S : State) (k q : RowKey) → is_some (row S k) ≡ true → k ≡ q �
 apart S k q stands same none =
     let no : true ≡ false = sym stands ∙ ap (λ x. is_some (row S x)) same ∙ ap is_some none in cc
 
-from_in : (c : Column) (from n : ℕ) → from ≤ n → is_from (key_in c from) (key_in c n) ≡ true
+from_in : (c : KeyColumn) (from n : ℕ) → from ≤ n → is_from (key_in c from) (key_in c n) ≡ true
 from_in column.Objects from n h = one_from from n h
 from_in (column.Entries p) from n h = pair_from p from n h
 from_in (column.Messages p) from n h = pair_from p from n h
@@ -71,7 +71,7 @@ from_in (column.Packets p) from n h = pair_from p from n h
 from_in column.Waits from n h = one_from from n h
 
 -- what stands between two keys of a column is one of its keys
-within : (c : Column) (from n : ℕ) (q : RowKey) → is_from (key_in c from) q ≡ true → rowkey_cmp q (key_in c n) ≡ Less → (m : ℕ) × (q ≡ key_in c m) × (from ≤ m) × (m < n)
+within : (c : KeyColumn) (from n : ℕ) (q : RowKey) → is_from (key_in c from) q ≡ true → rowkey_cmp q (key_in c n) ≡ Less → (m : ℕ) × (q ≡ key_in c m) × (from ≤ m) × (m < n)
 within column.Objects from n (key.Object y) e l = let w = one_within from y n e l in (y, refl, w.0, w.1)
 within (column.Entries p) from n (key.Entry x y) e l = let w = pair_within p x from y n e l in (y, ap (λ z. key.Entry z y) w.0, w.1, w.2)
 within (column.Messages p) from n (key.Msg x y) e l = let w = pair_within p x from y n e l in (y, ap (λ z. key.Msg z y) w.0, w.1, w.2)
@@ -80,7 +80,7 @@ within column.Waits from n (key.Wait y) e l = let w = one_within from y n e l in
 within _ from n _ e l = cc
 
 -- the first row of a column from a number on is the first of all from there on
-pub first-found : (S : State) (c : Column) (from n : ℕ) → from ≤ n → is_some (row S (key_in c n)) ≡ true → ((m : ℕ) → from ≤ m → m < n → row S (key_in c m) ≡ None) → Some (key_in c n) ≡ find (is_from (key_in c from)) (keys S)
+pub first-found : (S : State) (c : KeyColumn) (from n : ℕ) → from ≤ n → is_some (row S (key_in c n)) ≡ true → ((m : ℕ) → from ≤ m → m < n → row S (key_in c m) ≡ None) → Some (key_in c n) ≡ find (is_from (key_in c from)) (keys S)
 first-found S c from n h stands none =
     find-least S (is_from (key_in c from)) (key_in c n) (from_in c from n h) stands (λ q e l.
     let w = within c from n q e l in
@@ -88,7 +88,7 @@ first-found S c from n h stands none =
 
 -- ---- above a key
 
-above-from : (c : Column) (n : ℕ) (k : RowKey) → is_above (Some (key_in c n)) k ≡ is_from (key_in c (n + 1)) k
+above-from : (c : KeyColumn) (n : ℕ) (k : RowKey) → is_above (Some (key_in c n)) k ≡ is_from (key_in c (n + 1)) k
 above-from column.Objects n (key.Object y) = one_above n y
 above-from (column.Entries p) n (key.Entry x y) = pair_above p x n y
 above-from (column.Messages p) n (key.Msg x y) = pair_above p x n y
@@ -96,7 +96,7 @@ above-from (column.Packets p) n (key.Packet x y) = pair_above p x n y
 above-from column.Waits n (key.Wait y) = one_above n y
 above-from _ n _ = refl
 
-pub find-above : (S : State) (c : Column) (n : ℕ) → find (is_from (key_in c (n + 1))) (keys S) ≡ find (is_above (Some (key_in c n))) (keys S)
+pub find-above : (S : State) (c : KeyColumn) (n : ℕ) → find (is_from (key_in c (n + 1))) (keys S) ≡ find (is_above (Some (key_in c n))) (keys S)
 find-above S c n = find-alike S _ _ (λ k stands. sym (above-from c n k))
 
 untied : (o : Ordering) → (o ≡ Equal → ⊥) → is_le o ≡ is_lt o
@@ -104,7 +104,7 @@ untied Less h = refl
 untied Equal h = absurd (h refl)
 untied Greater h = refl
 
-pub find-above_none : (S : State) (c : Column) (n : ℕ) → row S (key_in c n) ≡ None → find (is_from (key_in c n)) (keys S) ≡ find (is_above (Some (key_in c n))) (keys S)
+pub find-above_none : (S : State) (c : KeyColumn) (n : ℕ) → row S (key_in c n) ≡ None → find (is_from (key_in c n)) (keys S) ≡ find (is_above (Some (key_in c n))) (keys S)
 find-above_none S c n none =
     find-alike S _ _ (λ k stands. untied (rowkey_cmp (key_in c n) k) (λ e. apart S k (key_in c n) stands (sym (rowkey_cmp-equal (key_in c n) k e)) none))
 
@@ -156,14 +156,14 @@ waits-last S from bare (key.Wait y) stands = one_none from y (λ h. apart S (key
 waits-last S from bare _ stands = refl
 
 -- one of two columns, by whether the owner is below the end
-chosen : (p owners : ℕ) (P : Column → Type 0) (a b : Column) → P a → (owners ≤ p → P b) → P (if nat_lt p owners then a else b)
+chosen : (p owners : ℕ) (P : KeyColumn → Type 0) (a b : KeyColumn) → P a → (owners ≤ p → P b) → P (if nat_lt p owners then a else b)
 chosen p owners P a b at_a at_b =
     elim (nat_lt p owners) as (λ t. nat_lt p owners ≡ t → P (if t then a else b)) [ true ↦ λ t. at_a | false ↦ λ t. at_b (ltb-false p owners t) ] refl
 
-abbrev GoesOn : State → Column → ℕ → Column → Type 0
+abbrev GoesOn : State → KeyColumn → ℕ → KeyColumn → Type 0
 GoesOn S c from d = (k : RowKey) → is_some (row S k) ≡ true → is_from (key_in c from) k ≡ is_from (key_in d 0) k
 
-goes_on : (S : State) (owners : ℕ) (c d : Column) (from : ℕ) → OwnersEnd S owners → IsBare S c from → next_column owners c ≡ Some d → GoesOn S c from d
+goes_on : (S : State) (owners : ℕ) (c d : KeyColumn) (from : ℕ) → OwnersEnd S owners → IsBare S c from → next_column owners c ≡ Some d → GoesOn S c from d
 goes_on S owners column.Objects d from ends bare is =
     let same : column.Entries 0 ≡ d = cc in subst (GoesOn S column.Objects from) same (objects-next S from bare)
 goes_on S owners (column.Entries p) d from ends bare is =
@@ -183,10 +183,10 @@ goes_on S owners (column.Packets p) d from ends bare is =
     (λ past. packets-last S p from (λ x n above. ends.packets x n (omega arith))))
 goes_on S owners column.Waits d from ends bare is = cc
 
-pub next-found : (S : State) (owners : ℕ) (c d : Column) (from : ℕ) → OwnersEnd S owners → IsBare S c from → next_column owners c ≡ Some d → find (is_from (key_in c from)) (keys S) ≡ find (is_from (key_in d 0)) (keys S)
+pub next-found : (S : State) (owners : ℕ) (c d : KeyColumn) (from : ℕ) → OwnersEnd S owners → IsBare S c from → next_column owners c ≡ Some d → find (is_from (key_in c from)) (keys S) ≡ find (is_from (key_in d 0)) (keys S)
 next-found S owners c d from ends bare is = find-alike S _ _ (goes_on S owners c d from ends bare is)
 
-pub last-found : (S : State) (owners : ℕ) (c : Column) (from : ℕ) → IsBare S c from → next_column owners c ≡ None → find (is_from (key_in c from)) (keys S) ≡ None
+pub last-found : (S : State) (owners : ℕ) (c : KeyColumn) (from : ℕ) → IsBare S c from → next_column owners c ≡ None → find (is_from (key_in c from)) (keys S) ≡ None
 last-found S owners column.Waits from bare is = find-none S _ (waits-last S from bare)
 last-found S owners column.Objects from bare is = cc
 last-found S owners (column.Entries p) from bare is = cc
@@ -195,14 +195,14 @@ last-found S owners (column.Packets p) from bare is = cc
 
 -- ---- how many columns are left at most
 
-abbrev pub columns_left : ℕ → Column → ℕ
+abbrev pub columns_left : ℕ → KeyColumn → ℕ
 columns_left owners column.Objects = 3 * owners + 4
 columns_left owners (column.Entries p) = 2 * owners + 3 + (owners - p)
 columns_left owners (column.Messages p) = owners + 2 + (owners - p)
 columns_left owners (column.Packets p) = 1 + (owners - p)
 columns_left owners column.Waits = 0
 
-pub columns_left-falls : (owners : ℕ) (c d : Column) → next_column owners c ≡ Some d → columns_left owners d < columns_left owners c
+pub columns_left-falls : (owners : ℕ) (c d : KeyColumn) → next_column owners c ≡ Some d → columns_left owners d < columns_left owners c
 columns_left-falls owners column.Objects d is =
     let same : column.Entries 0 ≡ d = cc in subst (λ e. columns_left owners e < columns_left owners column.Objects) same (omega arith)
 columns_left-falls owners (column.Entries p) d is =

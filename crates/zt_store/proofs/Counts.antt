@@ -17,10 +17,10 @@ use Rattle.zt_rows.specs.State.{State}
 use Rattle.zt_rows.specs.Reads.{object, is_live, is_job, is_process, is_live_job, is_live_process}
 use Rattle.zt_rows.specs.Settle.{is_child_job_of, is_child_process_of}
 use Rattle.zt_rows.specs.Support.{entry_support, places, message_supports, child_support, children, itself, supports, support_count, root_job}
-use Rattle.zt_store.specs.declared.tallies.Numbers.{Numbers}
+use Rattle.zt_store.specs.declared.support_counts.KoidCounts.{KoidCounts}
 use Rattle.zt_rows.specs.Tests.{count_row}
-use Rattle.zt_store.specs.Numbers.{named_by, job_by, process_by, sum_rows, total, numbers_of, numbers_at, keeps_tasks, keeps_itself}
-use Rattle.zt_store.specs.Seen.{IsTallied}
+use Rattle.zt_store.specs.KoidCounts.{named_by, job_by, process_by, sum_rows, total, numbers_of, numbers_at, keeps_tasks, keeps_itself}
+use Rattle.zt_store.specs.StoreView.{AreKoidCounts}
 use Rattle.zt_store.proofs.Totals.{count-total}
 
 abbrev many : {A : Type 0} → Option A → ℕ
@@ -133,20 +133,20 @@ bit-small true n e = omega (arith, e)
 bit-small false n e = omega (arith, e)
 
 -- what the numbers of the koid give together is the count
-pub counted : (S T : State) (list : List Numbers) (x : ℕ) (n : Numbers) (o : Option ObjectRow) (tasks own : ℕ) (kept : Bool) → S ≡ T → IsTallied S list → n ≡ numbers_at list x → o ≡ object T x
+pub counted : (S T : State) (list : List KoidCounts) (x : ℕ) (n : KoidCounts) (o : Option ObjectRow) (tasks own : ℕ) (kept : Bool) → S ≡ T → AreKoidCounts S list → n ≡ numbers_at list x → o ≡ object T x
     → tasks ≡ cond {A = ℕ} (keeps_tasks o) (n.jobs + n.processes) 0 → kept ≡ keeps_itself x o → own ≡ bool_byte kept → n.named + tasks + own ≡ support_count T x
-counted S T list x n o tasks own kept seen tallied at_n at_o is_tasks is_kept is_own =
-    let numbers : n ≡ numbers_of T x = at_n ∙ tallied x ∙ ap (λ U. numbers_of U x) seen in
+counted S T list x n o tasks own kept seen koid_counts at_n at_o is_tasks is_kept is_own =
+    let numbers : n ≡ numbers_of T x = at_n ∙ koid_counts x ∙ ap (λ U. numbers_of U x) seen in
     let t : tasks ≡ cond {A = ℕ} (keeps_tasks (object T x)) ((numbers_of T x).jobs + (numbers_of T x).processes) 0 =
     is_tasks ∙ (λ i. cond {A = ℕ} (keeps_tasks (at_o i)) ((numbers i).jobs + (numbers i).processes) 0) in
     let s : own ≡ cond {A = ℕ} (keeps_itself x (object T x)) 1 0 = is_own ∙ byte_of kept ∙ ap (λ b. cond {A = ℕ} b 1 0) (is_kept ∙ ap (keeps_itself x) at_o) in
-    let named : n.named ≡ (numbers_of T x).named = ap (λ (m : Numbers). m.named) numbers in
+    let named : n.named ≡ (numbers_of T x).named = ap (λ (m : KoidCounts). m.named) numbers in
     omega (arith, support_count-numbers T x)
 
-pub jobs-counted : (S T : State) (list : List Numbers) (x : ℕ) (n : Numbers) → S ≡ T → IsTallied S list → n ≡ numbers_at list x → n.jobs ≡ count_row (is_child_job_of x) T
-jobs-counted S T list x n seen tallied at_n =
-    ap (λ (m : Numbers). m.jobs) (at_n ∙ tallied x ∙ ap (λ U. numbers_of U x) seen) ∙ sym (count-total (is_child_job_of x) T)
+pub jobs-counted : (S T : State) (list : List KoidCounts) (x : ℕ) (n : KoidCounts) → S ≡ T → AreKoidCounts S list → n ≡ numbers_at list x → n.jobs ≡ count_row (is_child_job_of x) T
+jobs-counted S T list x n seen koid_counts at_n =
+    ap (λ (m : KoidCounts). m.jobs) (at_n ∙ koid_counts x ∙ ap (λ U. numbers_of U x) seen) ∙ sym (count-total (is_child_job_of x) T)
 
-pub processes-counted : (S T : State) (list : List Numbers) (x : ℕ) (n : Numbers) → S ≡ T → IsTallied S list → n ≡ numbers_at list x → n.processes ≡ count_row (is_child_process_of x) T
-processes-counted S T list x n seen tallied at_n =
-    ap (λ (m : Numbers). m.processes) (at_n ∙ tallied x ∙ ap (λ U. numbers_of U x) seen) ∙ sym (count-total (is_child_process_of x) T)
+pub processes-counted : (S T : State) (list : List KoidCounts) (x : ℕ) (n : KoidCounts) → S ≡ T → AreKoidCounts S list → n ≡ numbers_at list x → n.processes ≡ count_row (is_child_process_of x) T
+processes-counted S T list x n seen koid_counts at_n =
+    ap (λ (m : KoidCounts). m.processes) (at_n ∙ koid_counts x ∙ ap (λ U. numbers_of U x) seen) ∙ sym (count-total (is_child_process_of x) T)

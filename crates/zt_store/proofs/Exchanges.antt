@@ -16,8 +16,8 @@ use Rattle.zt_rows.specs.Room.{SuitsKey}
 use Rattle.zt_rows.proofs.StateLaws.{row-put, row-put-other, same_state}
 use Rattle.zt_rows.proofs.ChangeLaws.{row-with_rows}
 use Rattle.zt_store.specs.Places.{Places, fits, fits_row}
-use Rattle.zt_store.specs.Seen.{Stored, standing, AllSuit}
-use Rattle.zt_store.specs.Stepping.{listed}
+use Rattle.zt_store.specs.StoreView.{Stored, standing, AllSuit}
+use Rattle.zt_store.specs.StepView.{listed}
 use Rattle.zt_store.proofs.Fitting.{Rows, fits-set, fits-at, suits-set, suits-at}
 
 abbrev pub keys_of : Rows → List RowKey

@@ -15,11 +15,11 @@ use Rattle.zt_rows.specs.declared.rows.Row.TheVariants as rows
 use Rattle.zt_rows.specs.Reads.{is_live_job, is_live_process}
 use Rattle.zt_rows.specs.Room.{SuitsKey}
 use Rattle.zt_rows.proofs.RowLaws.{and_left, and_right, and_both}
-use Rattle.zt_store.specs.Shelves.{has_place}
-use Rattle.zt_store.specs.Numbers.{counts_within, counts_within_if}
+use Rattle.zt_store.specs.TableSizes.{has_place}
+use Rattle.zt_store.specs.KoidCounts.{counts_within, counts_within_if}
 use Rattle.zt_store.specs.Places.{Places, fits, fits_row, Keeps}
-use Rattle.zt_store.specs.Recorded.{all_fit}
-use Rattle.zt_store.specs.Seen.{AllSuit}
+use Rattle.zt_store.specs.RecordRows.{all_fit}
+use Rattle.zt_store.specs.StoreView.{AllSuit}
 
 abbrev pub Rows : Type 0
 Rows = List (RowKey × Option Row)
@@ -144,15 +144,15 @@ module _ (m n : ℕ) (le : m ≤ n) where
   within_if-more k None e = refl
 
 -- places and numbers that are there still
-pub keeps-by : (p q : Places) → ((k : RowKey) → has_place p.shelves k ≡ true → has_place q.shelves k ≡ true) → p.koids ≤ q.koids → Keeps p q
+pub keeps-by : (p q : Places) → ((k : RowKey) → has_place p.sizes k ≡ true → has_place q.sizes k ≡ true) → p.koids ≤ q.koids → Keeps p q
 keeps-by p q placed le R h =
     fits-each q R (All-weaker (FitsOne p) (FitsOne q) (λ e g.
-    and_both (has_place q.shelves e.0) (counts_within_if q.koids e.0 e.1)
-    (placed e.0 (and_left (has_place p.shelves e.0) (counts_within_if p.koids e.0 e.1) g))
-    (within_if-more p.koids q.koids le e.0 e.1 (and_right (has_place p.shelves e.0) (counts_within_if p.koids e.0 e.1) g))) R (each_fits p R h))
+    and_both (has_place q.sizes e.0) (counts_within_if q.koids e.0 e.1)
+    (placed e.0 (and_left (has_place p.sizes e.0) (counts_within_if p.koids e.0 e.1) g))
+    (within_if-more p.koids q.koids le e.0 e.1 (and_right (has_place p.sizes e.0) (counts_within_if p.koids e.0 e.1) g))) R (each_fits p R h))
 
 -- the same, as a store grows
-pub keeps-grown : (old new : Places) → ((k : RowKey) → has_place old.shelves k ≡ true → has_place new.shelves k ≡ true) → old.koids ≤ new.koids → Keeps old new
+pub keeps-grown : (old new : Places) → ((k : RowKey) → has_place old.sizes k ≡ true → has_place new.sizes k ≡ true) → old.koids ≤ new.koids → Keeps old new
 keeps-grown old new placed le = keeps-by old new placed le
 
 -- ---- the rows of a record, one after another

@@ -1,11 +1,11 @@
--- Tables of places and shelves of tables: what stands at a place after an exchange and after a growth.
+-- Tables of places and tables by owner: what stands at a place after an exchange and after a growth.
 use Rattle.std.proofs.Common.{zero, suc, ◌≡◌, ◌≢◌, ◌≤◌, ◌<◌, ℕ, ◌+◌, false, List, [], ◌∷◌, ◌++◌, length, get_or, set, Option, Some, None, is_some, refl, ap, ◌∙◌, subst, arith, ⊎_elim, get_or-set_same, get_or-set_other}
 use Rattle.std.proofs.lemmas.Bool.{cases_eq, cases_lt}
 use Rattle.std.proofs.lemmas.List.{get_or_past, map-append}
 use Rattle.std.proofs.lemmas.List.Sums.{sum_by-set, sum_by_push, sum-map, get_or-le-sum_by}
 use Rattle.std.specs.List.{sum}
 use Rattle.zt_rows.specs.declared.rows.Row.{Row}
-use Rattle.zt_store.specs.Grids.{table, lengths, IsEmptyBelow, shelf, entry_places}
+use Rattle.zt_store.specs.TablePlaces.{table, lengths, IsEmptyBelow, by_owner, entry_places}
 
 none_of : {A : Type 0} (o : Option A) → is_some o ≡ false → o ≡ None
 none_of None e = refl
@@ -16,7 +16,7 @@ pub empty_below-set : (places : List (Option Row)) (low later index : ℕ) (row 
 empty_below-set places low later index row empty within others itself n h =
     ⊎_elim (λ e. ap (λ k. get_or (set places index row) k None) e ∙ get_or-set_same places index row None within ∙ none_of row (itself (subst (λ k. k < later) e h))) (λ ne. get_or-set_other places index n row None ne ∙ empty n (others n h ne)) (cases_eq n index)
 
--- ---- a shelf
+-- ---- tables by owner
 
 -- one owner more with no place
 pub table_push : (tables : List (List (Option Row))) (added : List (Option Row)) (x : ℕ) → added ≡ [] → table (tables ++ added ∷ []) x ≡ table tables x
@@ -42,12 +42,12 @@ lengths_set tables x places h =
 
 -- ---- the entries
 
--- another shelf for the values of one remainder
-pub entry_places-set : (shelves : List (List (List (Option Row)))) (r : ℕ) (tables : List (List (Option Row))) → r < length shelves → entry_places (set shelves r tables) + sum (lengths (shelf shelves r)) ≡ entry_places shelves + sum (lengths tables)
-entry_places-set shelves r tables h =
-    let s = sum_by-set (λ ts. sum (lengths ts)) shelves r tables [] h in
-    let a = sum-map (λ ts. sum (lengths ts)) (set shelves r tables) in
-    let b = sum-map (λ ts. sum (lengths ts)) shelves in
+-- other tables for the values of one remainder
+pub entry_places-set : (sizes : List (List (List (Option Row)))) (r : ℕ) (tables : List (List (Option Row))) → r < length sizes → entry_places (set sizes r tables) + sum (lengths (by_owner sizes r)) ≡ entry_places sizes + sum (lengths tables)
+entry_places-set sizes r tables h =
+    let s = sum_by-set (λ ts. sum (lengths ts)) sizes r tables [] h in
+    let a = sum-map (λ ts. sum (lengths ts)) (set sizes r tables) in
+    let b = sum-map (λ ts. sum (lengths ts)) sizes in
     rw (a, b) s
 
 pub length_table : (tables : List (List (Option Row))) (x : ℕ) → length (table tables x) ≤ sum (lengths tables)
@@ -55,11 +55,11 @@ length_table tables x =
     ⊎_elim (λ h. let s = get_or-le-sum_by length tables x [] h in rw (sum-map length tables) s) (λ h. rw (get_or_past tables x [] h) (omega arith)) (cases_lt x (length tables))
 
 -- no table has more places than all
-pub length_entry_table : (shelves : List (List (List (Option Row)))) (r x : ℕ) → length (table (shelf shelves r) x) ≤ entry_places shelves
-length_entry_table shelves r x =
-    let t = length_table (shelf shelves r) x in
-    let l : sum (lengths (shelf shelves r)) ≤ entry_places shelves =
-    ⊎_elim (λ h. let s = get_or-le-sum_by (λ ts. sum (lengths ts)) shelves r [] h in rw (sum-map (λ ts. sum (lengths ts)) shelves) s) (λ h. rw (get_or_past shelves r [] h) (omega arith)) (cases_lt r (length shelves)) in
+pub length_entry_table : (sizes : List (List (List (Option Row)))) (r x : ℕ) → length (table (by_owner sizes r) x) ≤ entry_places sizes
+length_entry_table sizes r x =
+    let t = length_table (by_owner sizes r) x in
+    let l : sum (lengths (by_owner sizes r)) ≤ entry_places sizes =
+    ⊎_elim (λ h. let s = get_or-le-sum_by (λ ts. sum (lengths ts)) sizes r [] h in rw (sum-map (λ ts. sum (lengths ts)) sizes) s) (λ h. rw (get_or_past sizes r [] h) (omega arith)) (cases_lt r (length sizes)) in
     omega arith
 
 pub ruleset entry_laws = (entry_places-set, length_entry_table)

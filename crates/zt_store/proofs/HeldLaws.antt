@@ -15,8 +15,8 @@ use Rattle.zt_rows.specs.declared.keys.RowKey.{RowKey}
 use Rattle.zt_rows.specs.declared.rows.Row.{Row}
 use Rattle.zt_rows.specs.Keys.{rowkey_cmp}
 use Rattle.zt_rows.specs.KeyOrder.{rowkey_cmp_total, rowkey_cmp-equal, rowkey_eq-equal}
-use Rattle.zt_store.specs.Held.{held}
-use Rattle.zt_store.specs.Recorded.{IsRecord}
+use Rattle.zt_store.specs.RecordLook.{held}
+use Rattle.zt_store.specs.RecordRows.{IsRecord}
 use Rattle.zt_store.proofs.Fitting.{Rows}
 use Rattle.zt_store.proofs.Exchanges.{keys_of, key_equality, find-lookup}
 use Rattle.zt_store.proofs.RecordLaws.{distinct-sorted}

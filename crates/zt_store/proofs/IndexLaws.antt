@@ -17,16 +17,16 @@ use Rattle.zt_rows.specs.Opening.{hollow}
 use Rattle.zt_rows.specs.State.{State, row, put, nothing}
 use Rattle.zt_rows.proofs.RowLaws.{and_left, and_right}
 use Rattle.zt_rows.proofs.StateLaws.{row-put, row-nothing}
-use Rattle.zt_store.specs.Cabinets.{shelves_of, state_in}
-use Rattle.zt_store.specs.declared.cells.cabinet.Cabinet.{Cabinet}
-use Rattle.zt_store.specs.declared.indices.Index.{Index}
-use Rattle.zt_store.specs.Numbers.{counts_within_if}
+use Rattle.zt_store.specs.RowTables.{sizes_of, state_in}
+use Rattle.zt_store.specs.declared.cells.row_tables.RowTables.{RowTables}
+use Rattle.zt_store.specs.declared.index.Index.{Index}
+use Rattle.zt_store.specs.KoidCounts.{counts_within_if}
 use Rattle.zt_store.specs.Places.{fits_row}
-use Rattle.zt_store.specs.Seen.{Shelved, Stored}
-use Rattle.zt_store.specs.Shelves.{Shelves, has_place, no_shelves}
+use Rattle.zt_store.specs.StoreView.{CellsView, Stored}
+use Rattle.zt_store.specs.TableSizes.{TableSizes, has_place, no_sizes}
 use Rattle.zt_store.specs.Chains.{IsBehind, IsNext, bucket_at, is_bucket, is_in}
-use Rattle.zt_store.specs.Finding.{is_at, is_below, is_by, is_for, is_on, names, objects_where, waits_where}
-use Rattle.zt_store.specs.Indexed.{HasBuckets, IsIndexed, IsRoomy, bucket_below, bucket_by, bucket_for, bucket_of, bucket_on, handle_bucket, held_bucket, index_below, index_with, koid_bucket, objects_after, waits_after}
+use Rattle.zt_store.specs.Criteria.{is_at, is_below, is_by, is_for, is_on, names, objects_where, waits_where}
+use Rattle.zt_store.specs.IndexInvariant.{HasBuckets, IsIndexed, IsRoomy, bucket_below, bucket_by, bucket_for, bucket_of, bucket_on, handle_bucket, held_bucket, index_below, index_with, koid_bucket, objects_after, waits_after}
 
 -- ---- puts
 
@@ -59,10 +59,10 @@ same-bucket : (S T : State) → ((p h : ℕ) → entry T p h ≡ entry S p h) �
 same-bucket S T same None = refl
 same-bucket S T same (Some w) = ap (option_map held_bucket) (sym (same w.process w.handle))
 
-abbrev pub shelved_put : Shelved → RowKey → Option Row → Shelved
-shelved_put s k r = record { state = put s.state k r; shelves = s.shelves }
+abbrev pub shelved_put : CellsView → RowKey → Option Row → CellsView
+shelved_put s k r = record { state = put s.state k r; sizes = s.sizes }
 
-pub followed-other : (s : Shelved) (k : RowKey) (r : Option Row) (index : Index) → ((n : ℕ) → k ≡ key.Wait n → ⊥) → ((p h : ℕ) → k ≡ key.Entry p h → ⊥) → ((x : ℕ) → k ≡ key.Object x → ⊥) → IsIndexed s index → IsIndexed (shelved_put s k r) index
+pub followed-other : (s : CellsView) (k : RowKey) (r : Option Row) (index : Index) → ((n : ℕ) → k ≡ key.Wait n → ⊥) → ((p h : ℕ) → k ≡ key.Entry p h → ⊥) → ((x : ℕ) → k ≡ key.Object x → ⊥) → IsIndexed s index → IsIndexed (shelved_put s k r) index
 followed-other s k r index no_wait no_entry no_object h = record {
   on = λ m. h.on m ∙ ap (option_map bucket_on) (sym (wait-other s.state k r no_wait m));
   to = λ m. h.to m ∙ ap (option_map bucket_for) (sym (wait-other s.state k r no_wait m));
@@ -95,7 +95,7 @@ wait-put S n r g all lt h = bucket-put S (put S (key.Wait n) r) (λ m. key.Wait 
 length-put : {A : Type 0} (all : List A) (n : ℕ) (a : A) (waits : ℕ) → waits ≤ length all → waits ≤ length (set all n a)
 length-put all n a waits h = subst (λ m. waits ≤ m) (sym (length-set all n a)) h
 
-pub followed-wait : (s : Shelved) (n : ℕ) (r : Option Row) (index : Index) → IsRoomy (n + 1) index → IsIndexed s index → IsIndexed (shelved_put s (key.Wait n) r) (index_with s.state index n (as_wait r))
+pub followed-wait : (s : CellsView) (n : ℕ) (r : Option Row) (index : Index) → IsRoomy (n + 1) index → IsIndexed s index → IsIndexed (shelved_put s (key.Wait n) r) (index_with s.state index n (as_wait r))
 followed-wait s n r index room h = record {
   on = wait-put s.state n r (option_map bucket_on) index.handles (omega (arith, room.on)) h.on;
   to = wait-put s.state n r (option_map bucket_for) index.ports (omega (arith, room.to)) h.to;
@@ -105,15 +105,15 @@ followed-wait s n r index room h = record {
   by = wait-put s.state n r (option_map bucket_by) index.processes (omega (arith, room.by)) h.by;
   below = λ x. h.below x ∙ ap (option_and_then bucket_below) (sym (object-other s.state (key.Wait n) r (λ y e. cc) x));
   roomy = record {
-    on = length-put index.handles n (option_map bucket_on (as_wait r)) s.shelves.waits h.roomy.on;
-    to = length-put index.ports n (option_map bucket_for (as_wait r)) s.shelves.waits h.roomy.to;
-    at = length-put index.objects n (option_and_then (bucket_of s.state) (as_wait r)) s.shelves.waits h.roomy.at;
-    by = length-put index.processes n (option_map bucket_by (as_wait r)) s.shelves.waits h.roomy.by;
+    on = length-put index.handles n (option_map bucket_on (as_wait r)) s.sizes.waits h.roomy.on;
+    to = length-put index.ports n (option_map bucket_for (as_wait r)) s.sizes.waits h.roomy.to;
+    at = length-put index.objects n (option_and_then (bucket_of s.state) (as_wait r)) s.sizes.waits h.roomy.at;
+    by = length-put index.processes n (option_map bucket_by (as_wait r)) s.sizes.waits h.roomy.by;
   };
   tasks = h.tasks;
 }
 
-pub followed-object : (s : Shelved) (x : ℕ) (r : Option Row) (index : Index) → x < length index.parents → IsIndexed s index → IsIndexed (shelved_put s (key.Object x) r) (index_below index x (as_object r))
+pub followed-object : (s : CellsView) (x : ℕ) (r : Option Row) (index : Index) → x < length index.parents → IsIndexed s index → IsIndexed (shelved_put s (key.Object x) r) (index_below index x (as_object r))
 followed-object s x r index lt h = record {
   on = λ m. h.on m ∙ ap (option_map bucket_on) (sym (same m));
   to = λ m. h.to m ∙ ap (option_map bucket_for) (sym (same m));
@@ -123,7 +123,7 @@ followed-object s x r index lt h = record {
   by = λ m. h.by m ∙ ap (option_map bucket_by) (sym (same m));
   below = bucket-put s.state (put s.state (key.Object x) r) (λ y. key.Object y) x r (λ o. option_and_then bucket_below (as_object o)) index.parents (λ y. row-put s.state (key.Object x) r (key.Object y)) lt h.below;
   roomy = record { on = h.roomy.on; to = h.roomy.to; at = h.roomy.at; by = h.roomy.by };
-  tasks = length-put index.parents x (option_and_then bucket_below (as_object r)) s.shelves.objects h.tasks;
+  tasks = length-put index.parents x (option_and_then bucket_below (as_object r)) s.sizes.objects h.tasks;
 }
   where
     same : (m : ℕ) → wait (put s.state (key.Object x) r) m ≡ wait s.state m
@@ -146,7 +146,7 @@ wait-moved : (S : State) (p h : ℕ) (r : Option Row) (o : Option Wait) (old new
 wait-moved S p h r None old new is e = is ∙ e
 wait-moved S p h r (Some w) old new is e = is ∙ entry-moved S p h r w old e
 
-pub followed-entry : (s : Shelved) (p h : ℕ) (r : Option Row) (old new : Index) → IsIndexed s old → new.handles ≡ old.handles → new.ports ≡ old.ports → new.processes ≡ old.processes → new.parents ≡ old.parents → length new.objects ≡ length old.objects
+pub followed-entry : (s : CellsView) (p h : ℕ) (r : Option Row) (old new : Index) → IsIndexed s old → new.handles ≡ old.handles → new.ports ≡ old.ports → new.processes ≡ old.processes → new.parents ≡ old.parents → length new.objects ≡ length old.objects
     → ((n : ℕ) → bucket_at new.objects n ≡ (if waits_where s.state (is_on p h) n then option_map held_bucket (as_entry r) else bucket_at old.objects n)) → IsIndexed (shelved_put s (key.Entry p h) r) new
 followed-entry s p h r old new is handles ports processes parents len moved = record {
   on = λ m. ap (λ all. bucket_at all m) handles ∙ is.on m ∙ ap (option_map bucket_on) (sym (same m));
@@ -155,12 +155,12 @@ followed-entry s p h r old new is handles ports processes parents len moved = re
   by = λ m. ap (λ all. bucket_at all m) processes ∙ is.by m ∙ ap (option_map bucket_by) (sym (same m));
   below = λ x. ap (λ all. bucket_at all x) parents ∙ is.below x ∙ ap (option_and_then bucket_below) (sym (object-other s.state (key.Entry p h) r (λ y e. cc) x));
   roomy = record {
-    on = subst (λ all. s.shelves.waits ≤ length all) (sym handles) is.roomy.on;
-    to = subst (λ all. s.shelves.waits ≤ length all) (sym ports) is.roomy.to;
-    at = subst (λ n. s.shelves.waits ≤ n) (sym len) is.roomy.at;
-    by = subst (λ all. s.shelves.waits ≤ length all) (sym processes) is.roomy.by;
+    on = subst (λ all. s.sizes.waits ≤ length all) (sym handles) is.roomy.on;
+    to = subst (λ all. s.sizes.waits ≤ length all) (sym ports) is.roomy.to;
+    at = subst (λ n. s.sizes.waits ≤ n) (sym len) is.roomy.at;
+    by = subst (λ all. s.sizes.waits ≤ length all) (sym processes) is.roomy.by;
   };
-  tasks = subst (λ all. s.shelves.objects ≤ length all) (sym parents) is.tasks;
+  tasks = subst (λ all. s.sizes.objects ≤ length all) (sym parents) is.tasks;
 }
   where
     same : (m : ℕ) → wait (put s.state (key.Entry p h) r) m ≡ wait s.state m
@@ -305,7 +305,7 @@ in-map g o w all n b e h is = ap (is_bucket b) (h ∙ ap g e ∙ is) ∙ eq-eqb 
 
 -- ---- what is looked for is in its bucket
 
-pub on-bucket : (s : Shelved) (index : Index) → IsIndexed s index → (p h n : ℕ) → waits_where s.state (is_on p h) n ≡ true → is_in index.handles (handle_bucket p h) n ≡ true
+pub on-bucket : (s : CellsView) (index : Index) → IsIndexed s index → (p h n : ℕ) → waits_where s.state (is_on p h) n ≡ true → is_in index.handles (handle_bucket p h) n ≡ true
 on-bucket s index is p v n e = by (wait s.state n) refl e
   where
     same : (w : Wait) → is_on p v w ≡ true → bucket_on w ≡ handle_bucket p v
@@ -318,14 +318,14 @@ on-bucket s index is p v n e = by (wait s.state n) refl e
     by (Some w) there t = in-map (option_map bucket_on) (wait s.state n) w index.handles n (handle_bucket p v) there (is.on n) (ap Some (same w t))
     by None there t = cc
 
-pub for-bucket : (s : Shelved) (index : Index) → IsIndexed s index → (x n : ℕ) → waits_where s.state (is_for x) n ≡ true → is_in index.ports (koid_bucket x) n ≡ true
+pub for-bucket : (s : CellsView) (index : Index) → IsIndexed s index → (x n : ℕ) → waits_where s.state (is_for x) n ≡ true → is_in index.ports (koid_bucket x) n ≡ true
 for-bucket s index is x n e = by (wait s.state n) refl e
   where
     by : (o : Option Wait) → wait s.state n ≡ o → option_map_or (is_for x) o false ≡ true → is_in index.ports (koid_bucket x) n ≡ true
     by (Some w) there t = in-map (option_map bucket_for) (wait s.state n) w index.ports n (koid_bucket x) there (is.to n) (ap (λ y. Some (koid_bucket y)) (eqb-true w.port x t))
     by None there t = cc
 
-pub at-bucket : (s : Shelved) (index : Index) → IsIndexed s index → (x n : ℕ) → waits_where s.state (is_at s.state x) n ≡ true → is_in index.objects (koid_bucket x) n ≡ true
+pub at-bucket : (s : CellsView) (index : Index) → IsIndexed s index → (x n : ℕ) → waits_where s.state (is_at s.state x) n ≡ true → is_in index.objects (koid_bucket x) n ≡ true
 at-bucket s index is x n e = by (wait s.state n) refl e
   where
     same : (o : Option Held) → names x o ≡ true → option_map held_bucket o ≡ Some (koid_bucket x)
@@ -336,14 +336,14 @@ at-bucket s index is x n e = by (wait s.state n) refl e
     by (Some w) there t = in-map (option_and_then (bucket_of s.state)) (wait s.state n) w index.objects n (koid_bucket x) there (is.at n) (same (entry s.state w.process w.handle) t)
     by None there t = cc
 
-pub by-bucket : (s : Shelved) (index : Index) → IsIndexed s index → (p n : ℕ) → waits_where s.state (is_by p) n ≡ true → is_in index.processes (koid_bucket p) n ≡ true
+pub by-bucket : (s : CellsView) (index : Index) → IsIndexed s index → (p n : ℕ) → waits_where s.state (is_by p) n ≡ true → is_in index.processes (koid_bucket p) n ≡ true
 by-bucket s index is p n e = by (wait s.state n) refl e
   where
     by : (o : Option Wait) → wait s.state n ≡ o → option_map_or (is_by p) o false ≡ true → is_in index.processes (koid_bucket p) n ≡ true
     by (Some w) there t = in-map (option_map bucket_by) (wait s.state n) w index.processes n (koid_bucket p) there (is.by n) (ap (λ y. Some (koid_bucket y)) (eqb-true w.process p t))
     by None there t = cc
 
-pub below-bucket : (s : Shelved) (index : Index) → IsIndexed s index → (p x : ℕ) → objects_where s.state (is_below p) x ≡ true → is_in index.parents (koid_bucket p) x ≡ true
+pub below-bucket : (s : CellsView) (index : Index) → IsIndexed s index → (p x : ℕ) → objects_where s.state (is_below p) x ≡ true → is_in index.parents (koid_bucket p) x ≡ true
 below-bucket s index is p x e = by (object s.state x) refl e
   where
     same : (o : ObjectRow) → is_below p o ≡ true → bucket_below o ≡ Some (koid_bucket p)
@@ -357,7 +357,7 @@ below-bucket s index is p x e = by (object s.state x) refl e
     by None there t = cc
 
 -- each wait has its place among the objects'
-pub on-below : (s : Shelved) (index : Index) → IsIndexed s index → (end : ℕ) → end ≡ s.shelves.waits → ((n : ℕ) → end ≤ n → row s.state (key.Wait n) ≡ None) → (p h n : ℕ) → waits_where s.state (is_on p h) n ≡ true → n < length index.objects
+pub on-below : (s : CellsView) (index : Index) → IsIndexed s index → (end : ℕ) → end ≡ s.sizes.waits → ((n : ℕ) → end ≤ n → row s.state (key.Wait n) ≡ None) → (p h n : ℕ) → waits_where s.state (is_on p h) n ≡ true → n < length index.objects
 on-below s index is end places none p h n e = elim (cases_lt n end) [
   | inl less ↦ omega (arith, is.roomy.at)
   | inr past ↦ let f : false ≡ true = sym (ap (λ r. option_map_or (is_on p h) (as_wait r) false) (none n past)) ∙ e in cc
@@ -365,7 +365,7 @@ on-below s index is end places none p h n e = elim (cases_lt n end) [
 
 -- ---- places
 
-pub indexed-hollow : (index : Index) → length index.handles ≡ 0 → length index.ports ≡ 0 → length index.objects ≡ 0 → length index.processes ≡ 0 → length index.parents ≡ 0 → IsIndexed (record { state = hollow; shelves = no_shelves }) index
+pub indexed-hollow : (index : Index) → length index.handles ≡ 0 → length index.ports ≡ 0 → length index.objects ≡ 0 → length index.processes ≡ 0 → length index.parents ≡ 0 → IsIndexed (record { state = hollow; sizes = no_sizes }) index
 unfolding hollow
 indexed-hollow index a b d f g = record {
   on = λ n. get_or_past index.handles n None (omega arith) ∙ sym (ap (option_map bucket_on) (none n));
@@ -383,16 +383,16 @@ indexed-hollow index a b d f g = record {
     no_object : (x : ℕ) → object hollow x ≡ None
     no_object x = ap as_object (row-put nothing key.Counters _ (key.Object x) ∙ row-nothing (key.Object x))
 
-pub room-for : (s : Shelved) (n : ℕ) (index : Index) → has_place s.shelves (key.Wait n) ≡ true → IsIndexed s index → IsRoomy (n + 1) index
+pub room-for : (s : CellsView) (n : ℕ) (index : Index) → has_place s.sizes (key.Wait n) ≡ true → IsIndexed s index → IsRoomy (n + 1) index
 unfolding has_place
 room-for s n index h is =
-    let lt : n < s.shelves.waits = ltb-true n s.shelves.waits h in
+    let lt : n < s.sizes.waits = ltb-true n s.sizes.waits h in
     record { on = omega (arith, is.roomy.on); to = omega (arith, is.roomy.to); at = omega (arith, is.roomy.at); by = omega (arith, is.roomy.by) }
 
-pub room-below : (s : Shelved) (x : ℕ) (index : Index) → has_place s.shelves (key.Object x) ≡ true → IsIndexed s index → x < length index.parents
+pub room-below : (s : CellsView) (x : ℕ) (index : Index) → has_place s.sizes (key.Object x) ≡ true → IsIndexed s index → x < length index.parents
 unfolding has_place
 room-below s x index h is =
-    let lt : x < s.shelves.objects = ltb-true x s.shelves.objects h in
+    let lt : x < s.sizes.objects = ltb-true x s.sizes.objects h in
     omega (arith, is.tasks)
 
 roomy-after : (k : RowKey) (waits later : ℕ) (index : Index) → IsRoomy waits index → HasBuckets k index → later ≤ waits_after k waits → IsRoomy later index
@@ -412,24 +412,24 @@ tasks-after (key.Packet x y) objects later index room has le = omega arith
 tasks-after (key.Wait n) objects later index room has le = omega arith
 
 -- more places for waits and for objects, as many as there is room for
-pub indexed-made : (k : RowKey) (s t : Shelved) (index : Index) → IsIndexed s index → HasBuckets k index → t.state ≡ s.state → t.shelves.waits ≤ waits_after k s.shelves.waits → t.shelves.objects ≤ objects_after k s.shelves.objects → IsIndexed t index
+pub indexed-made : (k : RowKey) (s t : CellsView) (index : Index) → IsIndexed s index → HasBuckets k index → t.state ≡ s.state → t.sizes.waits ≤ waits_after k s.sizes.waits → t.sizes.objects ≤ objects_after k s.sizes.objects → IsIndexed t index
 indexed-made k s t index is has same le few = record {
   on = λ n. is.on n ∙ ap (λ (S : State). option_map bucket_on (wait S n)) (sym same);
   to = λ n. is.to n ∙ ap (λ (S : State). option_map bucket_for (wait S n)) (sym same);
   at = λ n. is.at n ∙ ap (λ (S : State). option_and_then (bucket_of S) (wait S n)) (sym same);
   by = λ n. is.by n ∙ ap (λ (S : State). option_map bucket_by (wait S n)) (sym same);
   below = λ x. is.below x ∙ ap (λ (S : State). option_and_then bucket_below (object S x)) (sym same);
-  roomy = roomy-after k s.shelves.waits t.shelves.waits index is.roomy has le;
-  tasks = tasks-after k s.shelves.objects t.shelves.objects index is.tasks has few;
+  roomy = roomy-after k s.sizes.waits t.sizes.waits index is.roomy has le;
+  tasks = tasks-after k s.sizes.objects t.sizes.objects index is.tasks has few;
 }
 
-pub waits-made : (old new : Cabinet) (s : Shelved) (k : RowKey) → record { state = state_in old; shelves = shelves_of old } ≡ s → length new.waits ≤ waits_after k (length old.waits) → (shelves_of new).waits ≤ waits_after k s.shelves.waits
-unfolding shelves_of
-waits-made old new s k seen h = subst (λ (t : Shelved). length new.waits ≤ waits_after k t.shelves.waits) seen h
+pub waits-made : (old new : RowTables) (s : CellsView) (k : RowKey) → record { state = state_in old; sizes = sizes_of old } ≡ s → length new.waits ≤ waits_after k (length old.waits) → (sizes_of new).waits ≤ waits_after k s.sizes.waits
+unfolding sizes_of
+waits-made old new s k seen h = subst (λ (t : CellsView). length new.waits ≤ waits_after k t.sizes.waits) seen h
 
-pub objects-made : (old new : Cabinet) (s : Shelved) (k : RowKey) → record { state = state_in old; shelves = shelves_of old } ≡ s → length new.objects ≤ objects_after k (length old.objects) → (shelves_of new).objects ≤ objects_after k s.shelves.objects
-unfolding shelves_of
-objects-made old new s k seen h = subst (λ (t : Shelved). length new.objects ≤ objects_after k t.shelves.objects) seen h
+pub objects-made : (old new : RowTables) (s : CellsView) (k : RowKey) → record { state = state_in old; sizes = sizes_of old } ≡ s → length new.objects ≤ objects_after k (length old.objects) → (sizes_of new).objects ≤ objects_after k s.sizes.objects
+unfolding sizes_of
+objects-made old new s k seen h = subst (λ (t : CellsView). length new.objects ≤ objects_after k t.sizes.objects) seen h
 
-pub place-there : (s : Stored) (S : State) (p : Shelves) (koids : ℕ) (k : RowKey) (r : Option Row) → record { state = S; places = record { shelves = p; koids = koids } } ≡ s → fits_row s.places k r ≡ true → has_place p k ≡ true
-place-there s S p koids k r seen fit = ap (λ (t : Stored). has_place t.places.shelves k) seen ∙ and_left (has_place s.places.shelves k) (counts_within_if s.places.koids k r) fit
+pub place-there : (s : Stored) (S : State) (p : TableSizes) (koids : ℕ) (k : RowKey) (r : Option Row) → record { state = S; places = record { sizes = p; koids = koids } } ≡ s → fits_row s.places k r ≡ true → has_place p k ≡ true
+place-there s S p koids k r seen fit = ap (λ (t : Stored). has_place t.places.sizes k) seen ∙ and_left (has_place s.places.sizes k) (counts_within_if s.places.koids k r) fit

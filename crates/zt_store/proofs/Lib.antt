@@ -3,7 +3,7 @@ pub mod ColumnLaws
 pub mod KeyWalks
 pub mod Totals
 pub mod Naming
-pub mod Tallied
+pub mod SupportCountLaws
 pub mod Counts
 pub mod ChainOrder
 pub mod ChainLaws
@@ -15,7 +15,7 @@ pub mod Touches
 pub mod RecordLaws
 pub mod Endings
 pub mod GridLaws
-pub mod CabinetLaws
+pub mod RowTableLaws
 pub mod HeldLaws
 pub mod LookLaws
 pub mod CellsLaws

@@ -11,9 +11,9 @@ use Rattle.zt_rows.specs.Keys.{rowkey_cmp, rowkey_eq}
 use Rattle.zt_rows.specs.KeyOrder.{rowkey_eq-equal}
 use Rattle.zt_rows.specs.State.{State, row, put, nothing}
 use Rattle.zt_rows.proofs.StateLaws.{row-put, row-put-same, row-nothing}
-use Rattle.zt_store.specs.Grids.{cell, cell_at, lengths, shelf}
-use Rattle.zt_store.specs.Cabinets.{look, places_in, put_cells, put_tables, put_entries, entry_key, state_in}
-use Rattle.zt_store.specs.declared.cells.cabinet.Cabinet.{Cabinet}
+use Rattle.zt_store.specs.TablePlaces.{cell, cell_at, lengths, by_owner}
+use Rattle.zt_store.specs.RowTables.{look, places_in, put_cells, put_tables, put_entries, entry_key, state_in}
+use Rattle.zt_store.specs.declared.cells.row_tables.RowTables.{RowTables}
 
 -- ---- putting what a look finds
 
@@ -61,7 +61,7 @@ module _ (looked : RowKey → Option Row) where
   cells-hit key_of (r ∷ rs) S is w (suc n) =
       put-keeps (put_cells (λ n. key_of (suc n)) rs S) (key_of 0) r (is 0) (key_of (suc n)) (cells-hit (λ n. key_of (suc n)) rs S (λ n. is (suc n)) w n)
 
-  -- ---- a shelf
+  -- ---- tables by owner
 
   tables-keep : (key_of : ℕ → ℕ → RowKey) (tables : List (List (Option Row))) (S : State) → ((x n : ℕ) → cell_at tables x n ≡ looked (key_of x n)) → (q : RowKey) → row S q ≡ looked q → row (put_tables key_of tables S) q ≡ looked q
   tables-keep key_of [] S is q e = e
@@ -82,12 +82,12 @@ module _ (looked : RowKey → Option Row) where
 
 -- ---- all tables
 
-look-entry : (c : Cabinet) (r : ℕ) → r < 4 → (p n : ℕ) → cell_at (shelf c.entries r) p n ≡ look c (entry_key r p n)
+look-entry : (c : RowTables) (r : ℕ) → r < 4 → (p n : ℕ) → cell_at (by_owner c.entries r) p n ≡ look c (entry_key r p n)
 unfolding look
 look-entry c r h p n =
     let m : r ≡ (4 * n + r) % 4 = omega arith in
     let d : n ≡ (4 * n + r) / 4 = omega arith in
-    ap (λ z. cell_at (shelf c.entries z) p n) m ∙ ap (cell_at (shelf c.entries ((4 * n + r) % 4)) p) d
+    ap (λ z. cell_at (by_owner c.entries z) p n) m ∙ ap (cell_at (by_owner c.entries ((4 * n + r) % 4)) p) d
 
 remainders : (m : ℕ) → m < 4 → (m ≡ 0) ⊎ ((m ≡ 1) ⊎ ((m ≡ 2) ⊎ (m ≡ 3)))
 remainders zero h = inl refl
@@ -96,27 +96,27 @@ remainders (suc (suc zero)) h = inr (inr (inl refl))
 remainders (suc (suc (suc zero))) h = inr (inr (inr refl))
 remainders (suc (suc (suc (suc m)))) h = absurd (omega arith)
 
-look-counters : (c : Cabinet) → c.counters ≡ look c key.Counters
+look-counters : (c : RowTables) → c.counters ≡ look c key.Counters
 unfolding look
 look-counters c = refl
 
-look-object : (c : Cabinet) (x : ℕ) → cell c.objects x ≡ look c (key.Object x)
+look-object : (c : RowTables) (x : ℕ) → cell c.objects x ≡ look c (key.Object x)
 unfolding look
 look-object c x = refl
 
-look-wait : (c : Cabinet) (n : ℕ) → cell c.waits n ≡ look c (key.Wait n)
+look-wait : (c : RowTables) (n : ℕ) → cell c.waits n ≡ look c (key.Wait n)
 unfolding look
 look-wait c n = refl
 
-look-message : (c : Cabinet) (e n : ℕ) → cell_at c.messages e n ≡ look c (key.Msg e n)
+look-message : (c : RowTables) (e n : ℕ) → cell_at c.messages e n ≡ look c (key.Msg e n)
 unfolding look
 look-message c e n = refl
 
-look-packet : (c : Cabinet) (p n : ℕ) → cell_at c.packets p n ≡ look c (key.Packet p n)
+look-packet : (c : RowTables) (p n : ℕ) → cell_at c.packets p n ≡ look c (key.Packet p n)
 unfolding look
 look-packet c p n = refl
 
-module _ (c : Cabinet) where
+module _ (c : RowTables) where
   abbrev seen : RowKey → Option Row
   seen = look c
 
@@ -149,16 +149,16 @@ module _ (c : Cabinet) where
   within-counters = put-within seen nothing key.Counters c.counters (look-counters c) (λ q. inr (row-nothing q))
 
   within-3 : Within seen with_3
-  within-3 = tables-within seen (entry_key 3) (shelf c.entries 3) with_counters (look-entry c 3 (omega arith)) within-counters
+  within-3 = tables-within seen (entry_key 3) (by_owner c.entries 3) with_counters (look-entry c 3 (omega arith)) within-counters
 
   within-2 : Within seen with_2
-  within-2 = tables-within seen (entry_key 2) (shelf c.entries 2) with_3 (look-entry c 2 (omega arith)) within-3
+  within-2 = tables-within seen (entry_key 2) (by_owner c.entries 2) with_3 (look-entry c 2 (omega arith)) within-3
 
   within-1 : Within seen with_1
-  within-1 = tables-within seen (entry_key 1) (shelf c.entries 1) with_2 (look-entry c 1 (omega arith)) within-2
+  within-1 = tables-within seen (entry_key 1) (by_owner c.entries 1) with_2 (look-entry c 1 (omega arith)) within-2
 
   within-0 : Within seen with_0
-  within-0 = tables-within seen (entry_key 0) (shelf c.entries 0) with_1 (look-entry c 0 (omega arith)) within-1
+  within-0 = tables-within seen (entry_key 0) (by_owner c.entries 0) with_1 (look-entry c 0 (omega arith)) within-1
 
   within-packets : Within seen with_packets
   within-packets = tables-within seen key.Packet c.packets with_0 (look-packet c) within-0
@@ -184,16 +184,16 @@ module _ (c : Cabinet) where
   from-0 q e = from-packets q (tables-keep seen key.Packet c.packets with_0 (look-packet c) q e)
 
   from-1 : (q : RowKey) → row with_1 q ≡ seen q → row (state_in c) q ≡ seen q
-  from-1 q e = from-0 q (tables-keep seen (entry_key 0) (shelf c.entries 0) with_1 (look-entry c 0 (omega arith)) q e)
+  from-1 q e = from-0 q (tables-keep seen (entry_key 0) (by_owner c.entries 0) with_1 (look-entry c 0 (omega arith)) q e)
 
   from-2 : (q : RowKey) → row with_2 q ≡ seen q → row (state_in c) q ≡ seen q
-  from-2 q e = from-1 q (tables-keep seen (entry_key 1) (shelf c.entries 1) with_2 (look-entry c 1 (omega arith)) q e)
+  from-2 q e = from-1 q (tables-keep seen (entry_key 1) (by_owner c.entries 1) with_2 (look-entry c 1 (omega arith)) q e)
 
   from-3 : (q : RowKey) → row with_3 q ≡ seen q → row (state_in c) q ≡ seen q
-  from-3 q e = from-2 q (tables-keep seen (entry_key 2) (shelf c.entries 2) with_3 (look-entry c 2 (omega arith)) q e)
+  from-3 q e = from-2 q (tables-keep seen (entry_key 2) (by_owner c.entries 2) with_3 (look-entry c 2 (omega arith)) q e)
 
   from-counters : (q : RowKey) → row with_counters q ≡ seen q → row (state_in c) q ≡ seen q
-  from-counters q e = from-3 q (tables-keep seen (entry_key 3) (shelf c.entries 3) with_counters (look-entry c 3 (omega arith)) q e)
+  from-counters q e = from-3 q (tables-keep seen (entry_key 3) (by_owner c.entries 3) with_counters (look-entry c 3 (omega arith)) q e)
 
   object-hit : (x : ℕ) → row (state_in c) (key.Object x) ≡ seen (key.Object x)
   unfolding state_in
@@ -207,14 +207,14 @@ module _ (c : Cabinet) where
   entry-hit : (p h : ℕ) → row (state_in c) (key.Entry p h) ≡ seen (key.Entry p h)
   entry-hit p h =
       let n = h / 4 in
-      ⊎_elim (λ m. at_value p h 0 m (from-0 (entry_key 0 p n) (tables-hit seen (entry_key 0) (shelf c.entries 0) with_1 (look-entry c 0 (omega arith)) within-1 p n)))
-      (⊎_elim (λ m. at_value p h 1 m (from-1 (entry_key 1 p n) (tables-hit seen (entry_key 1) (shelf c.entries 1) with_2 (look-entry c 1 (omega arith)) within-2 p n)))
-      (⊎_elim (λ m. at_value p h 2 m (from-2 (entry_key 2 p n) (tables-hit seen (entry_key 2) (shelf c.entries 2) with_3 (look-entry c 2 (omega arith)) within-3 p n)))
-      (λ m. at_value p h 3 m (from-3 (entry_key 3 p n) (tables-hit seen (entry_key 3) (shelf c.entries 3) with_counters (look-entry c 3 (omega arith)) within-counters p n)))))
+      ⊎_elim (λ m. at_value p h 0 m (from-0 (entry_key 0 p n) (tables-hit seen (entry_key 0) (by_owner c.entries 0) with_1 (look-entry c 0 (omega arith)) within-1 p n)))
+      (⊎_elim (λ m. at_value p h 1 m (from-1 (entry_key 1 p n) (tables-hit seen (entry_key 1) (by_owner c.entries 1) with_2 (look-entry c 1 (omega arith)) within-2 p n)))
+      (⊎_elim (λ m. at_value p h 2 m (from-2 (entry_key 2 p n) (tables-hit seen (entry_key 2) (by_owner c.entries 2) with_3 (look-entry c 2 (omega arith)) within-3 p n)))
+      (λ m. at_value p h 3 m (from-3 (entry_key 3 p n) (tables-hit seen (entry_key 3) (by_owner c.entries 3) with_counters (look-entry c 3 (omega arith)) within-counters p n)))))
       (remainders (h % 4) (omega arith))
 
 -- what stands under a key is what stands in its place
-pub row-state_in : (c : Cabinet) (k : RowKey) → row (state_in c) k ≡ look c k
+pub row-state_in : (c : RowTables) (k : RowKey) → row (state_in c) k ≡ look c k
 row-state_in c key.Counters =
     from-counters c key.Counters (row-put-same nothing key.Counters c.counters ∙ look-counters c)
 row-state_in c (key.Object x) = object-hit c x
@@ -285,20 +285,20 @@ four_first (k ∷ l ∷ m ∷ n ∷ ns) =
     let v = sum_by-cons (λ x. x) n ns in
     omega arith
 
-at_places : (shelves : List (List (List (Option Row)))) (r : ℕ) → get_or (map (λ tables. sum (lengths tables)) shelves) r 0 ≡ sum (lengths (shelf shelves r))
+at_places : (sizes : List (List (List (Option Row)))) (r : ℕ) → get_or (map (λ tables. sum (lengths tables)) sizes) r 0 ≡ sum (lengths (by_owner sizes r))
 at_places [] r = refl
 at_places (t ∷ ts) zero = refl
 at_places (t ∷ ts) (suc r) = at_places ts r
 
 -- there are no more rows than places
-pub length-state_in : (c : Cabinet) → length (state_in c).rows ≤ places_in c + 1
+pub length-state_in : (c : RowTables) → length (state_in c).rows ≤ places_in c + 1
 unfolding state_in places_in
 length-state_in c =
     let a = length-put nothing key.Counters c.counters in
-    let b = length-tables (entry_key 3) (shelf c.entries 3) (with_counters c) in
-    let d = length-tables (entry_key 2) (shelf c.entries 2) (with_3 c) in
-    let e = length-tables (entry_key 1) (shelf c.entries 1) (with_2 c) in
-    let f = length-tables (entry_key 0) (shelf c.entries 0) (with_1 c) in
+    let b = length-tables (entry_key 3) (by_owner c.entries 3) (with_counters c) in
+    let d = length-tables (entry_key 2) (by_owner c.entries 2) (with_3 c) in
+    let e = length-tables (entry_key 1) (by_owner c.entries 1) (with_2 c) in
+    let f = length-tables (entry_key 0) (by_owner c.entries 0) (with_1 c) in
     let g = length-tables key.Packet c.packets (with_0 c) in
     let h = length-tables key.Msg c.messages (with_packets c) in
     let i = length-cells key.Wait c.waits (with_messages c) in

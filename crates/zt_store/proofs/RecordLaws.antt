@@ -12,8 +12,8 @@ use Rattle.zt_rows.specs.KeyOrder.{rowkey_eq-cmp}
 use Rattle.zt_rows.specs.State.{State}
 use Rattle.zt_rows.specs.Change.{before, rows_at, exchange}
 use Rattle.zt_rows.proofs.ChangeLaws.{sorted-before}
-use Rattle.zt_store.specs.Recorded.{IsRecord}
-use Rattle.zt_store.specs.Seen.{AllSuit}
+use Rattle.zt_store.specs.RecordRows.{IsRecord}
+use Rattle.zt_store.specs.StoreView.{AllSuit}
 use Rattle.zt_store.proofs.Fitting.{Rows}
 use Rattle.zt_store.proofs.Exchanges.{keys_of, keys-rows_at}
 

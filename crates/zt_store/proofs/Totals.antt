@@ -12,7 +12,7 @@ use Rattle.zt_rows.specs.State.{State, row, put}
 use Rattle.zt_rows.specs.Tests.{count_row}
 use Rattle.zt_rows.proofs.StateLaws.{find_below}
 use Rattle.zt_rows.proofs.RowLaws.{In, row-in, in-row, count-cons}
-use Rattle.zt_store.specs.Numbers.{sum_rows, total}
+use Rattle.zt_store.specs.KoidCounts.{sum_rows, total}
 
 both : (a b : Bool) → T a → T b → T (a && b)
 both true b p q = q

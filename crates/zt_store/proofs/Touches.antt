@@ -20,9 +20,9 @@ use Rattle.zt_rows.specs.Change.{with_rows}
 use Rattle.zt_rows.specs.Room.{SuitsKey}
 use Rattle.zt_rows.proofs.ChangeLaws.{row-with_rows}
 use Rattle.zt_store.specs.Places.{Keeps, fits, fits_row}
-use Rattle.zt_store.specs.Seen.{Stored, standing, AllSuit}
-use Rattle.zt_store.specs.Stepping.{Stepping, listed, with_key, put_on, DiffersAtTouched}
-use Rattle.zt_store.specs.Touching.{IsTouching, IsPlaceOf}
+use Rattle.zt_store.specs.StoreView.{Stored, standing, AllSuit}
+use Rattle.zt_store.specs.StepView.{Stepping, listed, with_key, put_on, DiffersAtTouched}
+use Rattle.zt_store.specs.StepRows.{IsTouching, IsPlaceOf}
 use Rattle.zt_store.proofs.Fitting.{Rows, fits-nil, fits-push, suits-push}
 use Rattle.zt_store.proofs.Exchanges.{keys_of, key_equality, find-lookup, row-unlisted, with_rows-put_listed, with_rows-push}
 

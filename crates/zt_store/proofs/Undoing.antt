@@ -6,7 +6,7 @@ use Rattle.zt_rows.specs.Change.{exchange}
 use Rattle.zt_rows.specs.Path.{exchange_back, end_of, records_of}
 use Rattle.zt_rows.proofs.ChangeLaws.{restores}
 use Rattle.zt_store.specs.Places.{Places, fits}
-use Rattle.zt_store.specs.Recorded.{all_fit}
+use Rattle.zt_store.specs.RecordRows.{all_fit}
 use Rattle.zt_store.proofs.Fitting.{Rows, all_fit-set}
 
 -- all but the first `left` records are exchanged

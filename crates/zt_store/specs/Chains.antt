@@ -1,7 +1,7 @@
 -- Numbered items in buckets, each in one or in none, and what comes next in a bucket: the least item above a low one.
 use Rattle.std.specs.Prelude.{◌≡◌, ◌<◌, ◌≤◌, ◌^◌, ◌==◌, ℕ, Bool, true, false, ⊤, List, length, map, slice_index_or, Option, None, Some, IfSome}
-use Rattle.zt_store.specs.declared.chains.Link.{Link}
-use Rattle.zt_store.specs.declared.chains.Ends.{Ends}
+use Rattle.zt_store.specs.declared.chains.BucketLink.{BucketLink}
+use Rattle.zt_store.specs.declared.chains.BucketEnds.{BucketEnds}
 
 -- ---- what comes next, in an order
 
@@ -46,22 +46,22 @@ is_in all b n = is_bucket b (bucket_at all n)
 
 -- ---- links
 
-abbrev pub no_link : Link
+abbrev pub no_link : BucketLink
 no_link = record { bucket = None; before = None; next = None }
 
-abbrev pub no_ends : Ends
+abbrev pub no_ends : BucketEnds
 no_ends = record { first = None; last = None }
 
-abbrev pub buckets : List Link → List (Option ℕ)
+abbrev pub buckets : List BucketLink → List (Option ℕ)
 buckets links = map (λ link. link.bucket) links
 
 -- what is linked as the next behind the low one, or as the first of the bucket
-abbrev pub next_of : List Link → List Ends → ℕ → Option ℕ → Option ℕ
+abbrev pub next_of : List BucketLink → List BucketEnds → ℕ → Option ℕ → Option ℕ
 next_of links ends b None = (slice_index_or ends b no_ends).first
 next_of links ends b (Some n) = (slice_index_or links n no_link).next
 
 -- what is linked as the one before the high one, or as the last of the bucket
-abbrev pub before_of : List Link → List Ends → ℕ → Option ℕ → Option ℕ
+abbrev pub before_of : List BucketLink → List BucketEnds → ℕ → Option ℕ → Option ℕ
 before_of links ends b None = (slice_index_or ends b no_ends).last
 before_of links ends b (Some n) = (slice_index_or links n no_link).before
 
@@ -72,20 +72,20 @@ is_slot bucket (Some low) b (Some n) = n == low
 is_slot bucket _ b _ = false
 
 -- none, or an item that passes
-abbrev pub IsWithin : (ℕ → Bool) → Option ℕ → Type 0
-IsWithin passes low = IfSome low (λ n. passes n ≡ true)
+abbrev pub IsItemOf : (ℕ → Bool) → Option ℕ → Type 0
+IsItemOf passes low = IfSome low (λ n. passes n ≡ true)
 
 -- each item is linked to those beside it, and each bucket to its first and its last one
-pub record IsChained (links : List Link) (ends : List Ends) : Type 0 where
-  pub nexts : (b : ℕ) (low : Option ℕ) → IsWithin (is_in (buckets links) b) low → IsNext (is_in (buckets links) b) low (next_of links ends b low)
-  pub befores : (b : ℕ) (high : Option ℕ) → IsWithin (is_in (buckets links) b) high → IsPrevious (is_in (buckets links) b) high (before_of links ends b high)
+pub record IsChained (links : List BucketLink) (ends : List BucketEnds) : Type 0 where
+  pub nexts : (b : ℕ) (low : Option ℕ) → IsItemOf (is_in (buckets links) b) low → IsNext (is_in (buckets links) b) low (next_of links ends b low)
+  pub befores : (b : ℕ) (high : Option ℕ) → IsItemOf (is_in (buckets links) b) high → IsPrevious (is_in (buckets links) b) high (before_of links ends b high)
 
 -- the items are chained, and where there are items there are the ends of all buckets
-pub record AreChains (links : List Link) (ends : List Ends) : Type 0 where
+pub record AreChains (links : List BucketLink) (ends : List BucketEnds) : Type 0 where
   pub chained : IsChained links ends
   pub ended : 0 < length links → 2 ^ 14 ≤ length ends
 
 -- where a search begins: an item that passes or none, with nothing that passes between the low one and it
 abbrev pub IsBesides : (ℕ → Bool) → Option ℕ → Option ℕ → Type 0
 IsBesides passes low found =
-    IsWithin passes found × ((m : ℕ) → IsBehind (λ a b. a < b) low m → IsShortOf (λ a b. a < b) found m → passes m ≡ false)
+    IsItemOf passes found × ((m : ℕ) → IsBehind (λ a b. a < b) low m → IsShortOf (λ a b. a < b) found m → passes m ≡ false)

@@ -1,16 +1,18 @@
-pub mod Shelves
-pub mod Grids
-pub mod Cabinets
-pub mod Numbers
+-- Definitions to believe: public clauses are stated in them.
+pub mod TableSizes
+pub mod KoidCounts
 pub mod Places
-pub mod Seen
-pub mod Recorded
-pub mod Held
-pub mod Stepping
-pub mod Touching
-pub mod Walks
-pub mod KeyColumns
-pub mod Counting
+pub mod StoreView
+pub mod RecordRows
+pub mod RecordLook
+pub mod StepView
+pub mod FirstNumber
 pub mod Chains
-pub mod Finding
-pub mod Indexed
+pub mod Criteria
+-- Used by proofs only: no public clause depends on them.
+pub mod TablePlaces
+pub mod RowTables
+pub mod StepRows
+pub mod KeyColumns
+pub mod CountedRows
+pub mod IndexInvariant

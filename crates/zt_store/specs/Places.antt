@@ -2,20 +2,20 @@
 use Rattle.std.specs.Prelude.{◌≡◌, ℕ, Bool, true, ◌&&◌, List, [], ◌∷◌, Option}
 use Rattle.zt_rows.specs.declared.keys.RowKey.{RowKey}
 use Rattle.zt_rows.specs.declared.rows.Row.{Row}
-use Rattle.zt_store.specs.Shelves.{Shelves, has_place, no_shelves}
-use Rattle.zt_store.specs.Numbers.{counts_within_if}
+use Rattle.zt_store.specs.TableSizes.{TableSizes, has_place, no_sizes}
+use Rattle.zt_store.specs.KoidCounts.{counts_within_if}
 
 -- the places for rows, and for how many koids numbers are kept
 pub record Places : Type 0 where
-  pub shelves : Shelves
+  pub sizes : TableSizes
   pub koids : ℕ
 
 abbrev pub no_places : Places
-no_places = record { shelves = no_shelves; koids = 0 }
+no_places = record { sizes = no_sizes; koids = 0 }
 
 -- the key has its place, and so has each koid that the row counts for
 abbrev pub fits_row : Places → RowKey → Option Row → Bool
-fits_row p k r = has_place p.shelves k && counts_within_if p.koids k r
+fits_row p k r = has_place p.sizes k && counts_within_if p.koids k r
 
 -- each key of the record has its place, and so has each koid that its rows count for: the rows can be exchanged
 -- with the store's

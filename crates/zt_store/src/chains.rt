@@ -9,7 +9,7 @@ pub(crate) const BUCKETS: usize = 1 << 14;
 
 /// Where an item stands: its bucket, and the items of this bucket beside it.
 #[derive(Clone, Copy, Debug)]
-pub(crate) struct Link {
+pub(crate) struct BucketLink {
     pub bucket: Option<u64>,
     pub before: Option<u64>,
     pub next: Option<u64>,
@@ -17,20 +17,20 @@ pub(crate) struct Link {
 
 /// The least and the greatest item of a bucket.
 #[derive(Clone, Copy, Debug)]
-pub(crate) struct Ends {
+pub(crate) struct BucketEnds {
     pub first: Option<u64>,
     pub last: Option<u64>,
 }
 
 /// An item in no bucket.
-const NO_LINK: Link = Link {
+const NO_LINK: BucketLink = BucketLink {
     bucket: None,
     before: None,
     next: None,
 };
 
 /// A bucket with no item.
-const NO_ENDS: Ends = Ends {
+const NO_ENDS: BucketEnds = BucketEnds {
     first: None,
     last: None,
 };
@@ -39,8 +39,8 @@ const NO_ENDS: Ends = Ends {
 /// item is put into a bucket, and taken out, without memory.
 #[derive(Drop)]
 pub(crate) struct Chains {
-    links: Vec<Link>,
-    ends: Vec<Ends>,
+    links: Vec<BucketLink>,
+    ends: Vec<BucketEnds>,
 }
 
 impl Model for Chains {
@@ -113,7 +113,7 @@ impl Chains {
 }
 
 /// Makes the ends of all buckets.
-fn make_ends(ends: &mut Vec<Ends>) -> Result<(), AllocError>
+fn make_ends(ends: &mut Vec<BucketEnds>) -> Result<(), AllocError>
     ensures same { (k : ℕ) → slice_index_or ends.new.items k no_ends ≡ slice_index_or ends.old.items k no_ends }
     ensures longer { vec_len ends.old ≤ vec_len ends.new }
     ensures made { OnOk result (2 ^ 14 ≤ vec_len ends.new) }
@@ -125,7 +125,7 @@ fn make_ends(ends: &mut Vec<Ends>) -> Result<(), AllocError>
 }
 
 /// Makes items that are in no bucket, until there are so many.
-fn make_links(links: &mut Vec<Link>, len: usize) -> Result<(), AllocError>
+fn make_links(links: &mut Vec<BucketLink>, len: usize) -> Result<(), AllocError>
     requires { vec_len links.old ≤ len }
     ensures same { (k : ℕ) → slice_index_or links.new.items k no_link ≡ slice_index_or links.old.items k no_link }
     ensures longer { vec_len links.old ≤ vec_len links.new }
@@ -135,7 +135,7 @@ fn make_links(links: &mut Vec<Link>, len: usize) -> Result<(), AllocError>
 }
 
 /// Puts the item into the bucket, or into none.
-fn place(links: &mut [Link], ends: &mut [Ends], item: u64, bucket: Option<u64>)
+fn place(links: &mut [BucketLink], ends: &mut [BucketEnds], item: u64, bucket: Option<u64>)
     requires item { item < length links.old }
     requires bucket { IfSome bucket (λ b. b < length ends.old) }
     requires chained { IsChained links.old ends.old }
@@ -149,7 +149,7 @@ fn place(links: &mut [Link], ends: &mut [Ends], item: u64, bucket: Option<u64>)
 }
 
 /// The least item of the bucket above the low one, or the least of all.
-fn after(links: &[Link], ends: &[Ends], bucket: u64, low: Option<u64>) -> Option<u64>
+fn after(links: &[BucketLink], ends: &[BucketEnds], bucket: u64, low: Option<u64>) -> Option<u64>
     requires { IsChained links.now ends.now }
     ensures { IsNext (is_in (buckets links.now) bucket) low result }
 {
@@ -164,7 +164,7 @@ fn after(links: &[Link], ends: &[Ends], bucket: u64, low: Option<u64>) -> Option
 }
 
 /// Where a search for the least item above the low one begins: behind the low one, where it is in the bucket.
-fn beside(links: &[Link], ends: &[Ends], bucket: u64, low: Option<u64>) -> Option<u64>
+fn beside(links: &[BucketLink], ends: &[BucketEnds], bucket: u64, low: Option<u64>) -> Option<u64>
     requires { IsChained links.now ends.now }
     ensures { IsBesides (is_in (buckets links.now) bucket) low result }
 {
@@ -185,7 +185,7 @@ fn is_behind(low: Option<u64>, item: u64) -> bool
 }
 
 /// Whether the item is in the bucket.
-fn is_in(links: &[Link], bucket: u64, item: u64) -> bool
+fn is_in(links: &[BucketLink], bucket: u64, item: u64) -> bool
     ensures { result ≡ is_in (buckets links.now) bucket item }
 {
     match links.get(item as usize) {
@@ -195,7 +195,7 @@ fn is_in(links: &[Link], bucket: u64, item: u64) -> bool
 }
 
 /// The item behind this one, or the first of the bucket.
-fn next_of(links: &[Link], ends: &[Ends], bucket: u64, low: Option<u64>) -> Option<u64>
+fn next_of(links: &[BucketLink], ends: &[BucketEnds], bucket: u64, low: Option<u64>) -> Option<u64>
     ensures { result ≡ next_of links.now ends.now bucket low }
 {
     match low {
@@ -205,7 +205,12 @@ fn next_of(links: &[Link], ends: &[Ends], bucket: u64, low: Option<u64>) -> Opti
 }
 
 /// The item before this one, or the last of the bucket.
-fn before_of(links: &[Link], ends: &[Ends], bucket: u64, high: Option<u64>) -> Option<u64>
+fn before_of(
+    links: &[BucketLink],
+    ends: &[BucketEnds],
+    bucket: u64,
+    high: Option<u64>,
+) -> Option<u64>
     ensures { result ≡ before_of links.now ends.now bucket high }
 {
     match high {
@@ -215,7 +220,13 @@ fn before_of(links: &[Link], ends: &[Ends], bucket: u64, high: Option<u64>) -> O
 }
 
 /// Links the item as the next behind the low one, or as the first of the bucket.
-fn set_next(links: &mut [Link], ends: &mut [Ends], bucket: u64, low: Option<u64>, item: Option<u64>)
+fn set_next(
+    links: &mut [BucketLink],
+    ends: &mut [BucketEnds],
+    bucket: u64,
+    low: Option<u64>,
+    item: Option<u64>,
+)
     requires low { IfSome low (λ n. n < length links.old) }
     requires bucket { bucket < length ends.old }
     ensures nexts { (b : ℕ) (l : Option ℕ)
@@ -239,8 +250,8 @@ fn set_next(links: &mut [Link], ends: &mut [Ends], bucket: u64, low: Option<u64>
 
 /// Links the item as the one before the high one, or as the last of the bucket.
 fn set_before(
-    links: &mut [Link],
-    ends: &mut [Ends],
+    links: &mut [BucketLink],
+    ends: &mut [BucketEnds],
     bucket: u64,
     high: Option<u64>,
     item: Option<u64>,
@@ -267,7 +278,7 @@ fn set_before(
 }
 
 /// Takes the item out of its bucket.
-fn remove(links: &mut [Link], ends: &mut [Ends], item: u64)
+fn remove(links: &mut [BucketLink], ends: &mut [BucketEnds], item: u64)
     requires item { item < length links.old }
     requires chained { IsChained links.old ends.old }
     ensures chained { IsChained links.new ends.new }
@@ -284,7 +295,7 @@ fn remove(links: &mut [Link], ends: &mut [Ends], item: u64)
 }
 
 /// Puts the item, which is in no bucket, into the bucket.
-fn insert(links: &mut [Link], ends: &mut [Ends], item: u64, bucket: u64)
+fn insert(links: &mut [BucketLink], ends: &mut [BucketEnds], item: u64, bucket: u64)
     requires item { item < length links.old }
     requires bucket { bucket < length ends.old }
     requires free { bucket_at (buckets links.old) item ≡ None }
@@ -293,7 +304,7 @@ fn insert(links: &mut [Link], ends: &mut [Ends], item: u64, bucket: u64)
     ensures buckets { buckets links.new ≡ slice_set (buckets links.old) item (Some bucket) }
 {
     let (before, next) = around(links, ends, bucket, item);
-    links[item as usize] = Link {
+    links[item as usize] = BucketLink {
         bucket: Some(bucket),
         before,
         next,
@@ -303,7 +314,12 @@ fn insert(links: &mut [Link], ends: &mut [Ends], item: u64, bucket: u64)
 }
 
 /// The greatest item of the bucket below this one, and the least above it.
-fn around(links: &[Link], ends: &[Ends], bucket: u64, item: u64) -> (Option<u64>, Option<u64>)
+fn around(
+    links: &[BucketLink],
+    ends: &[BucketEnds],
+    bucket: u64,
+    item: u64,
+) -> (Option<u64>, Option<u64>)
     requires free { is_in (buckets links.now) bucket item ≡ false }
     requires chained { IsChained links.now ends.now }
     ensures before { IsPrevious (is_in (buckets links.now) bucket) (Some item) result.0 }

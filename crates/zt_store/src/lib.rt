@@ -4,15 +4,15 @@
 
 mod cells;
 mod chains;
-mod changes;
-mod indices;
-mod records;
-mod steps;
-mod stores;
-mod tallies;
-mod walks;
+mod exchanged_rows;
+mod index;
+mod key_columns;
+mod record;
+mod step;
+mod store;
+mod support_counts;
 
-pub use changes::{swap, undo};
-pub use records::Record;
-pub use steps::Step;
-pub use stores::Store;
+pub use exchanged_rows::{swap, undo};
+pub use record::Record;
+pub use step::Step;
+pub use store::Store;

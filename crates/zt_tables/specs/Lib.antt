@@ -1,1 +1,2 @@
+-- Definitions to believe: public clauses are stated in them.
 pub mod Entries

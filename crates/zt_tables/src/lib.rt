@@ -1,6 +1,6 @@
 //! The table of a process's handles, over a step of the store.
 #![tactic(auto)]
 
-mod tables;
+mod handle_table;
 
-pub use tables::{duplicate, find, install, remove};
+pub use handle_table::{duplicate, find, install, remove};

@@ -12,7 +12,7 @@ use Rattle.hex.proofs.Pairs.{decode_pairs-ok_pair, cons_byte}
 use Rattle.hex.proofs.HexLemmas.{decode_of-even, decode_sized-twice, decode_sized-ok}
 use Rattle.zt_text.specs.Numbers.{is_hex_digit}
 use Rattle.zt_text.specs.Bytes.{hex_digit, hex_text, hex_bytes, is_digits, packet_bytes_of}
-use Rattle.zt_text.specs.Shown.{shown_bytes}
+use Rattle.zt_text.specs.ShownNumbers.{shown_bytes}
 
 -- the kit's value of a digit
 digit : (b : ℕ) → is_hex_digit b ≡ true → hex_digit_value b ≡ Some (digit_value b)

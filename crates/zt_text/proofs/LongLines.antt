@@ -9,8 +9,8 @@ use Rattle.zt_rows.specs.declared.refusals.Refusal.TheVariants.{BadLine, LineToo
 use Rattle.zt_text.specs.Numbers.{decimal_of, is_hex_digit}
 use Rattle.zt_text.specs.Bytes.{hex_bytes, bytes_of}
 use Rattle.zt_text.specs.Fields.{placed, field, fields_of}
-use Rattle.zt_text.specs.ReadingCalls.{channel_write, any_call_named, call}
-use Rattle.zt_text.specs.Reading.{most_line_bytes, fields_in, asked_by, read_as}
+use Rattle.zt_text.specs.ReadCalls.{channel_write, any_call_named, call}
+use Rattle.zt_text.specs.ReadLines.{most_line_bytes, fields_in, asked_by, read_as}
 
 and_false : (b : Bool) → (b && false) ≡ false
 and_false true = refl

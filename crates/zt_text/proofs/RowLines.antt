@@ -29,7 +29,7 @@ use Rattle.zt_text.specs.Numbers.{is_hex_digit, decimal_of, koid_of, key_of, han
 use Rattle.zt_text.specs.Bytes.{hex_bytes, hex_text}
 use Rattle.zt_text.specs.Fields.{Unread, ◌>>=◌, next, field, placed, unread, parts_of, fields_of}
 use Rattle.zt_text.specs.Lines.{lines_of}
-use Rattle.zt_text.specs.Shown.{words, hexadecimal, shown_mask, shown_bytes, shown_list, shown_held}
+use Rattle.zt_text.specs.ShownNumbers.{words, hexadecimal, shown_mask, shown_bytes, shown_list, shown_held}
 use Rattle.zt_text.specs.Answers.{shown_life, row_line}
 use Rattle.zt_text.specs.Calls.{IsByte}
 use Rattle.zt_text.specs.Rows.{IsKeyWithin, IsHeldWithin, IsLifeWithin, IsPacketWithin, IsRowWithin}

@@ -16,7 +16,7 @@ use Rattle.zt_rows.specs.declared.rows.Packet.{Packet}
 use Rattle.zt_rows.specs.declared.rows.Packet.TheVariants as packet
 use Rattle.zt_rows.specs.declared.rows.Row.{Row}
 use Rattle.zt_rows.specs.declared.rows.Row.TheVariants as rows
-use Rattle.zt_text.specs.Shown.{words, shown_mask, shown_bytes, shown_list, shown_held}
+use Rattle.zt_text.specs.ShownNumbers.{words, shown_mask, shown_bytes, shown_list, shown_held}
 use Rattle.zt_text.specs.Answers.{shown_packet, shown_key, shown_life, shown_object, shown_wait, shown_queued, shown_row}
 use Rattle.zt_text.specs.Rows.{IsKeyWithin, IsHeldWithin, IsLifeWithin, IsPacketWithin, IsRowWithin}
 use Rattle.zt_text.proofs.ShownWords.{is_seen, AreSeen, seen_decimal, seen_code, seen_mask, seen_bytes, seen_joined}

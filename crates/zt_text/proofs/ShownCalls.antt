@@ -11,13 +11,13 @@ use Rattle.zt_rows.specs.declared.refusals.Refusal.{Refusal}
 use Rattle.zt_rows.specs.declared.calls.Call.{Call}
 use Rattle.zt_rows.specs.declared.calls.Call.TheVariants as calls
 use Rattle.zt_rows.specs.declared.calls.Command.TheVariants as commands
-use Rattle.zt_text.specs.declared.reading.Line.{Line}
-use Rattle.zt_text.specs.declared.reading.Line.TheVariants as line
+use Rattle.zt_text.specs.declared.read_lines.Line.{Line}
+use Rattle.zt_text.specs.declared.read_lines.Line.TheVariants as line
 use Rattle.zt_text.specs.Numbers.{decimal_of}
 use Rattle.zt_text.specs.Fields.{fields_of, unread, placed, field, flag, ended}
-use Rattle.zt_text.specs.ReadingCalls.{event_create, eventpair_create, handle_close, handle_duplicate, handle_replace, object_signal, object_signal_peer, channel_create, channel_write, channel_read, port_create, object_wait_async, port_queue, port_wait, port_cancel, job_create, spawn, task_kill, process_exit, task_call_named, port_call_named, channel_call_named, handle_call_named, call_named, any_call_named, call, process_call}
-use Rattle.zt_text.specs.Reading.{fields_in, asked_by, is_skipped, read_as}
-use Rattle.zt_text.specs.Shown.{words}
+use Rattle.zt_text.specs.ReadCalls.{event_create, eventpair_create, handle_close, handle_duplicate, handle_replace, object_signal, object_signal_peer, channel_create, channel_write, channel_read, port_create, object_wait_async, port_queue, port_wait, port_cancel, job_create, spawn, task_kill, process_exit, task_call_named, port_call_named, channel_call_named, handle_call_named, call_named, any_call_named, call, process_call}
+use Rattle.zt_text.specs.ReadLines.{fields_in, asked_by, is_skipped, read_as}
+use Rattle.zt_text.specs.ShownNumbers.{words}
 use Rattle.zt_text.specs.Calls.{IsWithin, call_name, call_arguments, shown_call}
 use Rattle.zt_text.proofs.ShownFields.{decimal_read, decimal_digits, mask_read, bytes_read, packet_bytes_read, code_read}
 use Rattle.zt_text.proofs.ShownWords.{is_free, is_seen, AreSeen, parts_joined, free_seen, all_free, line_free, seen_decimal, seen_code, seen_mask, seen_bytes, seen_handles, handles_read}

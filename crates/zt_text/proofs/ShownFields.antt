@@ -17,7 +17,7 @@ use Rattle.std.proofs.lemmas.Str.Parse.{digit_from_value}
 use Rattle.zt_text.specs.Numbers.{has_leading_zero, decimal_of, is_hex_digit, mask_of, code_of}
 use Rattle.zt_text.specs.Bytes.{hex_digit, hex_text, hex_bytes, bytes_of, packet_bytes_of}
 use Rattle.zt_text.specs.Calls.{IsByte, IsCode}
-use Rattle.zt_text.specs.Shown.{hexadecimal, shown_mask, shown_bytes}
+use Rattle.zt_text.specs.ShownNumbers.{hexadecimal, shown_mask, shown_bytes}
 use Rattle.zt_text.proofs.NumberLemmas.{unsigned_code}
 
 -- ---- decimals

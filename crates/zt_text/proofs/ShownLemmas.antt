@@ -5,7 +5,7 @@ use Rattle.std.specs.List.{flat_map, join_with_byte}
 use Rattle.std.specs.Fmt.{digits, padded_integral, format_spec, char_count}
 use Rattle.std.proofs.lemmas.List.{append-nil, take_all}
 use native.Mathlib.Numerals.{unary_clauses}
-use Rattle.zt_text.specs.Shown.{hexadecimal, shown_list}
+use Rattle.zt_text.specs.ShownNumbers.{hexadecimal, shown_list}
 
 -- what a hole `{:08x}` or `{:02x}` writes
 pub padded-hexadecimal : (wanted n : ℕ) → padded_integral (format_spec 32 0 4 wanted (2 ^ 64 - 1)) false [] (digits 16 false n) ≡ hexadecimal wanted n

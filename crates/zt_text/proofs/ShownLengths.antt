@@ -8,7 +8,7 @@ use Rattle.std.proofs.lemmas.Fmt.{length-decimal-le}
 use Rattle.std.proofs.lemmas.List.Elements.{All-head, All-tail}
 use Rattle.zt_rows.specs.declared.calls.Call.{Call}
 use Rattle.zt_rows.specs.declared.calls.Call.TheVariants as calls
-use Rattle.zt_text.specs.Shown.{words, shown_mask, shown_bytes, shown_list}
+use Rattle.zt_text.specs.ShownNumbers.{words, shown_mask, shown_bytes, shown_list}
 use Rattle.zt_text.specs.Calls.{IsByte, IsHandle, IsCode, IsWithin, call_name, call_arguments}
 use Rattle.zt_text.proofs.ShownFields.{mask_length, digits_of}
 

@@ -17,7 +17,7 @@ use Rattle.zt_rows.specs.declared.rows.Life.TheVariants as life
 use Rattle.zt_rows.specs.declared.rows.Packet.{Packet}
 use Rattle.zt_rows.specs.declared.rows.Packet.TheVariants as packet
 use Rattle.zt_text.specs.Bytes.{hex_text}
-use Rattle.zt_text.specs.Shown.{hexadecimal}
+use Rattle.zt_text.specs.ShownNumbers.{hexadecimal}
 use Rattle.zt_text.specs.Answers.{shown_packet, shown_reply, shown_key, shown_object, shown_wait, shown_queued, shown_row, shown_support, shown_answer, shown_refusal}
 use Rattle.zt_text.specs.Calls.{shown_call}
 

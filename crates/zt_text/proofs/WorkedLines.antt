@@ -15,17 +15,17 @@ use Rattle.zt_rows.specs.declared.calls.Answer.TheVariants as answer
 use Rattle.zt_rows.specs.declared.keys.RowKey.TheVariants as key
 use Rattle.zt_rows.specs.declared.rows.Row.TheVariants as rows
 use Rattle.zt_rows.specs.declared.rows.Life.TheVariants.{Live}
-use Rattle.zt_text.specs.declared.reading.Line.{Line}
-use Rattle.zt_text.specs.declared.reading.Line.TheVariants as line
+use Rattle.zt_text.specs.declared.read_lines.Line.{Line}
+use Rattle.zt_text.specs.declared.read_lines.Line.TheVariants as line
 use Rattle.zt_text.specs.Numbers.{decimal_of, code_of, mask_of}
 use Rattle.zt_text.specs.Bytes.{hex_bytes, bytes_of, packet_bytes_of}
 use Rattle.zt_text.specs.Lists.{listed, handles_of}
 use Rattle.zt_text.specs.Names.{name_of, happening_of}
 use Rattle.zt_text.specs.Fields.{placed, field, flag, ended}
-use Rattle.zt_text.specs.ReadingCalls.{event_create, eventpair_create, handle_close, handle_duplicate, handle_replace, object_signal, object_signal_peer, channel_create, channel_write, channel_read, port_create, object_wait_async, port_queue, port_wait, port_cancel, job_create, spawn, task_kill, process_exit, task_call_named, port_call_named, channel_call_named, handle_call_named, call_named, any_call_named, call, process_call}
-use Rattle.zt_text.specs.Reading.{fields_in, back, show, goto, only_name, branch, follow, holders, leaks, when, pin, question_named, plain_command_named, command_named, pinned_show, pinned_holders, pinned_leaks, pinned_named, pinned, word_named, asked_by, read_as}
+use Rattle.zt_text.specs.ReadCalls.{event_create, eventpair_create, handle_close, handle_duplicate, handle_replace, object_signal, object_signal_peer, channel_create, channel_write, channel_read, port_create, object_wait_async, port_queue, port_wait, port_cancel, job_create, spawn, task_kill, process_exit, task_call_named, port_call_named, channel_call_named, handle_call_named, call_named, any_call_named, call, process_call}
+use Rattle.zt_text.specs.ReadLines.{fields_in, back, show, goto, only_name, branch, follow, holders, leaks, when, pin, question_named, plain_command_named, command_named, pinned_show, pinned_holders, pinned_leaks, pinned_named, pinned, word_named, asked_by, read_as}
 use Rattle.zt_text.specs.Session.{call_in, calls_in, session_of}
-use Rattle.zt_text.specs.Shown.{hexadecimal}
+use Rattle.zt_text.specs.ShownNumbers.{hexadecimal}
 use Rattle.zt_text.specs.Answers.{shown_reply, shown_key, shown_object, shown_row, shown_answer, shown_refusal}
 use Rattle.zt_text.specs.Lines.{lines_of}
 

@@ -24,7 +24,7 @@ use Rattle.zt_rows.specs.declared.supports.Support.TheVariants as support
 use Rattle.zt_rows.specs.declared.refusals.Refusal.{Refusal}
 use Rattle.zt_rows.specs.declared.refusals.Refusal.TheVariants as refusal
 use Rattle.zt_rows.specs.Refusals.{refusal_number, refusal_name}
-use Rattle.zt_text.specs.Shown.{words, shown_mask, shown_bytes, shown_list, shown_held}
+use Rattle.zt_text.specs.ShownNumbers.{words, shown_mask, shown_bytes, shown_list, shown_held}
 use Rattle.zt_text.specs.Calls.{shown_call}
 
 -- a packet as the reader of its port gets it

@@ -4,7 +4,7 @@ use Rattle.std.specs.List.{All, flat_map}
 use Rattle.std.specs.Fmt.{decimal, signed_decimal}
 use Rattle.zt_rows.specs.declared.calls.Call.{Call}
 use Rattle.zt_rows.specs.declared.calls.Call.TheVariants as calls
-use Rattle.zt_text.specs.Shown.{words, shown_mask, shown_bytes, shown_list}
+use Rattle.zt_text.specs.ShownNumbers.{words, shown_mask, shown_bytes, shown_list}
 
 -- the name of a call
 abbrev pub call_name : Call → List ℕ

@@ -1,4 +1,4 @@
--- Cutting bytes at a separator, and what is left of a line as the fields that are to be read.
+-- Cutting bytes at a separator, and what is left of a line as the fields that are to be read. Used by proofs only.
 use Rattle.std.specs.Prelude.{◌≡◌, ℕ, ◌+◌, ◌-◌, ◌^◌, ◌<◌, ◌≤◌, List, [], ◌∷◌, length, Option, Some, None}
 use Rattle.std.specs.Option.{ForSome}
 use denote.Ref.{Bor}
@@ -11,8 +11,8 @@ unread_of (Some left) line =
     record { fields = placed (line - length left.now + 1) (fields_of left.now); behind = line + 1 }
 
 -- what is left is no longer than the line, and the column behind the line is a number
-abbrev pub IsBehind : Option (Bor (List ℕ)) → ℕ → Type 0
-IsBehind left line = ForSome left (λ bytes. length bytes.now ≤ line) × (line + 1 < 2 ^ 64)
+abbrev pub IsLeftOfLine : Option (Bor (List ℕ)) → ℕ → Type 0
+IsLeftOfLine left line = ForSome left (λ bytes. length bytes.now ≤ line) × (line + 1 < 2 ^ 64)
 
 -- the first part of some bytes, and what is left behind its separator
 abbrev pub IsCut : ℕ → List ℕ → List ℕ → Option (Bor (List ℕ)) → Type 0

@@ -1,14 +1,16 @@
+-- Definitions to believe: public clauses are stated in them.
 pub mod Numbers
 pub mod Fields
-pub mod Cut
 pub mod Bytes
 pub mod Lists
 pub mod Names
-pub mod ReadingCalls
-pub mod Reading
-pub mod Shown
+pub mod ReadCalls
+pub mod ReadLines
+pub mod ShownNumbers
 pub mod Calls
 pub mod Answers
 pub mod Lines
 pub mod Session
 pub mod Rows
+-- Used by proofs only: no public clause depends on them.
+pub mod Cut

@@ -6,8 +6,8 @@ use Rattle.zt_rows.specs.declared.refusals.Refusal.TheVariants.{BadLine, LineToo
 use Rattle.zt_rows.specs.declared.calls.Call.{Call}
 use Rattle.zt_text.specs.Fields.{◌>>=◌}
 use Rattle.zt_text.specs.Lines.{lines_of}
-use Rattle.zt_text.specs.ReadingCalls.{process_call}
-use Rattle.zt_text.specs.Reading.{most_line_bytes, is_skipped, fields_in, each_by}
+use Rattle.zt_text.specs.ReadCalls.{process_call}
+use Rattle.zt_text.specs.ReadLines.{most_line_bytes, is_skipped, fields_in, each_by}
 
 -- the call of a line behind the first; nothing, where the line is skipped
 unfoldable pub call_in : List ℕ → Result (Option (ℕ × Call)) Refusal

@@ -8,10 +8,7 @@ use crate::numbers::is_hex_digit;
 use hex::{FromHex, FromHexError};
 use std::alloc::Global;
 use std::marker::Model;
-use zt_rows::Refusal;
-
-/// The most bytes of a message.
-const MESSAGE_BYTES: usize = 65_536;
+use zt_rows::{MESSAGE_BYTES, Refusal};
 
 /// Bytes as the digits that write them, which take no memory.
 #[derive(Drop)]

@@ -7,10 +7,10 @@ ghost use Rattle.zt_text.specs.Fields.{unread, next, field, ended, flag};
 ghost use Rattle.std.specs.Str.{bytes_eq};
 
 use crate::bytes::{Digits, packet_bytes};
-use crate::cutting::cut;
 use crate::lists::HandleList;
 use crate::names::{Name, happening};
 use crate::numbers::{code, decimal, mask};
+use crate::separator::cut;
 use std::marker::Model;
 use zt_bits::Signals;
 use zt_rows::{HandleValue, Happening, Koid, Moment, Refusal};
@@ -64,13 +64,13 @@ pub struct Fields<'a> {
 
 impl<'a> Model for Fields<'a> {
     ghost use Rattle.zt_text.specs.Fields.{Unread};
-    ghost use Rattle.zt_text.specs.Cut.{unread_of, IsBehind};
+    ghost use Rattle.zt_text.specs.Cut.{unread_of, IsLeftOfLine};
 
     ghost Value = { Unread };
 
     ghost view = { λ f. unread_of f.left f.line_len };
 
-    ghost invariant = { λ f. IsBehind f.left f.line_len };
+    ghost invariant = { λ f. IsLeftOfLine f.left f.line_len };
 }
 
 impl<'a> Fields<'a> {

@@ -1,5 +1,5 @@
 //! What holds of every line that is shown. Each law is the contract of a function that does nothing.
-ghost use Rattle.std.specs.Prelude.{◌≡◌, ℕ, ℤ, true, ◌^◌, ◌-◌, ◌<◌, ◌≤◌, List, length, Some, Ok};
+ghost use Rattle.std.specs.Prelude.{◌≡◌, ℕ, ℤ, true, ◌^◌, ◌<◌, ◌≤◌, List, length, Some, Ok};
 ghost use Rattle.std.specs.Fmt.{decimal, signed_decimal};
 ghost use Rattle.std.specs.List.{All};
 ghost use Rattle.zt_rows.specs.declared.calls.Call.{Call};
@@ -7,15 +7,15 @@ ghost use Rattle.zt_rows.specs.declared.keys.RowKey.{RowKey};
 ghost use Rattle.zt_rows.specs.declared.rows.Row.{Row};
 ghost use Rattle.zt_rows.specs.Room.{suits};
 ghost use Rattle.zt_rows.specs.declared.calls.Command.TheVariants as commands;
-ghost use Rattle.zt_text.specs.declared.reading.Line.TheVariants as line;
+ghost use Rattle.zt_text.specs.declared.read_lines.Line.TheVariants as line;
 ghost use Rattle.zt_text.specs.Numbers.{decimal_of, mask_of, code_of};
 ghost use Rattle.zt_text.specs.Bytes.{bytes_of, packet_bytes_of};
 ghost use Rattle.zt_text.specs.Lists.{handles_of};
-ghost use Rattle.zt_text.specs.Reading.{read_as};
+ghost use Rattle.zt_text.specs.ReadLines.{read_as};
 ghost use Rattle.zt_text.specs.Session.{session_of};
 ghost use Rattle.zt_text.specs.Rows.{IsKeyWithin, IsRowWithin};
 ghost use Rattle.zt_text.specs.Answers.{row_line};
-ghost use Rattle.zt_text.specs.Shown.{shown_mask, shown_bytes, shown_list};
+ghost use Rattle.zt_text.specs.ShownNumbers.{shown_mask, shown_bytes, shown_list};
 ghost use Rattle.zt_text.specs.Calls.{IsByte, IsHandle, IsCode, IsWithin, IsCalled, shown_call, session_text};
 
 use crate::within::{

@@ -1,24 +1,24 @@
 //! Lines and answers: what a line of a client reads as, and how the debugger's answers and refusals are shown.
 #![tactic(auto)]
 
-mod answers;
 mod bytes;
-mod calls;
-mod cutting;
 mod fields;
 pub mod laws;
 mod lists;
 mod names;
 mod numbers;
-mod printing;
-mod reading;
-mod reading_calls;
-mod session;
+mod printed_answers;
+mod printed_calls;
+mod printed_rows;
+mod read_calls;
+mod read_lines;
+mod separator;
+mod session_text;
 mod within;
-mod writes;
+mod write_arguments;
 
-pub use answers::print_answer;
-pub use calls::{print_call, print_session};
-pub use printing::{print_refusal, print_reply, print_rows};
-pub use reading::{Line, read_line};
-pub use session::{line_of_call, read_session};
+pub use printed_answers::print_answer;
+pub use printed_calls::{print_call, print_session};
+pub use printed_rows::{RefusalLine, print_refusal, print_reply, print_rows};
+pub use read_lines::{Line, read_line};
+pub use session_text::{line_of_call, read_session};

@@ -1,16 +1,13 @@
-ghost use Rattle.std.specs.Prelude.{◌≡◌, ◌≤◌, length, IfOk, IfErr, OnOk, IsOk};
+ghost use Rattle.std.specs.Prelude.{◌≡◌, ◌≤◌, length, IfOk, IfErr};
 ghost use Rattle.zt_text.specs.Lists.{handles_of, listed};
 ghost use Rattle.zt_rows.specs.declared.refusals.Refusal.TheVariants.{OutOfMemory};
 
-use crate::cutting::cut;
 use crate::numbers::decimal;
+use crate::separator::cut;
 use arrayvec::ArrayVec;
 use std::alloc::Global;
 use std::marker::Model;
-use zt_rows::{HandleValue, Refusal};
-
-/// The most handles of a message.
-const MESSAGE_HANDLES: usize = 64;
+use zt_rows::{HandleValue, MESSAGE_HANDLES, Refusal};
 
 /// Values of handles that a line lists, no more than a message takes. They take no memory.
 #[derive(Drop)]
@@ -48,14 +45,11 @@ impl HandleList {
         ensures refused { IfErr result (λ refusal. refusal ≡ OutOfMemory) }
     {
         let values = self.values.as_slice();
-        match values
+        let handles = values
             .iter()
             .map(|value| HandleValue(*value))
-            .collect(alloc)
-        {
-            Ok(handles) => Ok(handles),
-            Err(_) => Err(Refusal::OutOfMemory),
-        }
+            .collect(alloc)?;
+        Ok(handles)
     }
 }
 

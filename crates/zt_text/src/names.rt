@@ -39,10 +39,8 @@ impl<'a> Name<'a> {
         ensures ok { IfOk result (λ name. name ≡ self.now) }
         ensures refused { IfErr result (λ refusal. refusal ≡ OutOfMemory) }
     {
-        match Vec::from_slice(alloc, self.bytes) {
-            Ok(bytes) => Ok(Items::new(bytes)),
-            Err(_) => Err(Refusal::OutOfMemory),
-        }
+        let bytes = Vec::from_slice(alloc, self.bytes)?;
+        Ok(Items::new(bytes))
     }
 }
 

@@ -1,3 +1,4 @@
+-- Definitions to believe: public clauses are stated in them.
 pub mod Statuses
 pub mod Traces
 pub mod Words

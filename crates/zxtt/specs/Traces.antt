@@ -3,14 +3,14 @@ use Rattle.std.specs.Prelude.{◌≡◌, ℕ, List, Option, Some, None, Ok, ⊤}
 use Rattle.std.specs.Borrow.{Bor}
 use Rattle.zt_rows.specs.declared.calls.Call.{Call}
 use Rattle.zt_history.specs.Tree.{Tree}
-use Rattle.zt_book.specs.Log.{Kept, book_over, first_book, loaded}
+use Rattle.zt_book.specs.Log.{BookView, book_over, first_book, loaded}
 use Rattle.zt_text.specs.Session.{session_of}
-use Rattle.zt_console.specs.Loading.{IsNotLoaded}
+use Rattle.zt_console.specs.LoadedText.{IsNotLoaded}
 use Rattle.zxtt.specs.declared.faults.Fault.{Fault}
 use Rattle.zxtt.specs.declared.faults.Fault.TheVariants as fault
 
 -- the book of so many clients over the calls of a session text
-abbrev pub IsLoadedFrom : ℕ → List ℕ → Kept → Type 0
+abbrev pub IsLoadedFrom : ℕ → List ℕ → BookView → Type 0
 IsLoadedFrom clients text book =
     (calls : List (ℕ × Call)) × (tree : Tree) × (session_of text ≡ Ok calls) × (loaded calls ≡ Ok tree) × (book ≡ book_over tree clients)
 
@@ -25,6 +25,6 @@ TellsOfSomeText clients (fault.Trace line reason) = (text : List ℕ) × IsNotLo
 TellsOfSomeText clients _ = ⊤
 
 -- a book begins at the opening where no session text is named, and else over the calls of one
-abbrev pub BeginsFrom : ℕ → Option (Bor (List ℕ)) → Kept → Type 0
+abbrev pub BeginsFrom : ℕ → Option (Bor (List ℕ)) → BookView → Type 0
 BeginsFrom clients None book = book ≡ first_book clients
 BeginsFrom clients (Some path) book = (text : List ℕ) × IsLoadedFrom clients text book

@@ -5,10 +5,10 @@ ghost use Rattle.zt_rows.specs.declared.refusals.Refusal.TheVariants as refusal;
 ghost use Rattle.zxtt.specs.declared.faults.Fault.TheVariants as fault;
 ghost use Rattle.zxtt.specs.Statuses.{fault_status, stopped_status};
 
-use std::fmt::{Display, Formatter, Write};
-use std::{fmt, io};
+use std::io;
 use thiserror::Error;
 use zt_rows::Refusal;
+use zt_text::RefusalLine;
 
 /// What ends the program before it is done.
 #[derive(Debug, Drop, Error)]
@@ -68,20 +68,5 @@ pub fn stopped_status(refusal: Refusal) -> u8
         Refusal::ReadFault => 4,
         Refusal::WriteFault => 5,
         _ => 6,
-    }
-}
-
-/// A refusal as a client reads it.
-#[derive(Clone, Copy, Debug)]
-struct RefusalLine(Refusal);
-
-impl Display for RefusalLine {
-    fn fmt<W: Write>(&self, f: &mut Formatter<W>) -> fmt::Result {
-        let refusal = self.0;
-        write!(f, "refused {} {}", refusal.number(), refusal.name())?;
-        match refusal {
-            Refusal::BadLine(column) => write!(f, " {column}"),
-            _ => Ok(()),
-        }
     }
 }

@@ -4,7 +4,7 @@
 ghost use Rattle.std.specs.Prelude.{◌≡◌, ◌≤◌, length, IfErr, IfOk};
 ghost use Rattle.std.specs.Process.{exit_status};
 ghost use Rattle.zt_rows.specs.declared.refusals.Refusal.{Refusal};
-ghost use Rattle.zt_console.specs.declared.running.End.TheVariants.{Finished, Stopped};
+ghost use Rattle.zt_console.specs.declared.run_loop.End.TheVariants.{Finished, Stopped};
 ghost use Rattle.zt_shared.specs.Sharing.{IsFresh};
 ghost use Rattle.zxtt.specs.declared.faults.Fault.TheVariants.{Refused};
 ghost use Rattle.zxtt.specs.Statuses.{end_status};
@@ -12,12 +12,12 @@ ghost use Rattle.zxtt.specs.Traces.{BeginsFrom};
 
 mod faults;
 mod files;
-mod serving;
+mod service;
 mod words;
 
 use faults::Fault;
 use files::{load, open, save};
-use serving::serve;
+use service::serve;
 use std::io::Read;
 use std::process::ExitCode;
 use words::{Asked, Words};

@@ -1,5 +1,5 @@
 //! A history of two branches.
-use super::asking::{FIX, MAIN, answers_often, head_of, refusal_on, values_of};
+use super::branch_calls::{FIX, MAIN, answers_often, head_of, refusal_on, values_of};
 use zt_history::History;
 use zt_rows::{Call, Moment};
 

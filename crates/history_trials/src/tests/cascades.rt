@@ -1,5 +1,7 @@
 //! Calls with much in their wake, with each request for memory refused in turn.
-use super::asking::{answers, answers_often, close, kill, make_job, send, sends, spawn, wait};
+use super::branch_calls::{
+    answers, answers_often, close, kill, make_job, send, sends, spawn, wait,
+};
 use super::same::keys_of;
 use super::twins::{call_both, mark};
 use std::alloc::Global;

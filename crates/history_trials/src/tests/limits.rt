@@ -1,5 +1,5 @@
 //! The last moment that a history can have.
-use super::asking::{MAIN, answers_often, close, head_of, refusal_on};
+use super::branch_calls::{MAIN, answers_often, close, head_of, refusal_on};
 use zt_history::{History, LAST_MOMENT};
 use zt_rows::{Moment, Refusal};
 

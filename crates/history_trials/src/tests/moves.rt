@@ -1,5 +1,5 @@
 //! Moves over a history with each request for memory refused in turn, and over a long one with the third refused.
-use super::asking::{answers_often, close, sends};
+use super::branch_calls::{answers_often, close, sends};
 use super::twins::{call_both, fork_both, go_both, mark};
 use std::alloc::Global;
 use zt_history::History;

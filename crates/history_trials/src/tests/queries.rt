@@ -1,5 +1,5 @@
 //! Queries of a history where memory is ample, from each position, and over a long path with the third request refused.
-use super::asking::{answers, answers_often, close, sends};
+use super::branch_calls::{answers, answers_often, close, sends};
 use super::branches::are_branches_made;
 use super::twins::mark;
 use std::alloc::Global;

@@ -1,5 +1,5 @@
 //! Whether anything tells two histories apart.
-use super::asking::{FIX, MAIN, head_of, values_of};
+use super::branch_calls::{FIX, MAIN, head_of, values_of};
 use zt_history::History;
 use zt_rows::{Koid, Moment, Row, RowKey};
 use zt_store::Store;

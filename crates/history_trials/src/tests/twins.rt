@@ -1,6 +1,6 @@
 //! Two histories that were made by the same calls. One is asked, and where memory is refused to it, it has to be as the
 //! other, and to answer when it is asked again.
-use super::asking::{FIX, MAIN, answers, head_of};
+use super::branch_calls::{FIX, MAIN, answers, head_of};
 use super::same::is_same;
 use std::alloc::Global;
 use zt_history::History;

@@ -1,9 +1,9 @@
 //! Trials over a shared book of two clients each.
 ghost use Rattle.std.specs.Prelude.{◌≡◌};
-ghost use Rattle.zt_shared.specs.Openings.{IsNamed};
+ghost use Rattle.zt_shared.specs.OpenedBook.{IsNamed};
 
-use super::comparing::{Told, is_same_log, tells};
-use super::opening::{Opened, at_opening, over_loaded};
+use super::opened_books::{Opened, at_opening, over_loaded};
+use super::same_logs::{Told, is_same_log, tells};
 use super::threads::{asks_on_threads, replays};
 use super::twins::{Twins, closed};
 use super::wholes::{is_ask_whole, is_pin_whole};

@@ -2,8 +2,8 @@
 //! one of them it is asked again.
 ghost use Rattle.std.specs.Prelude.{◌≡◌, ◌≤◌, [], IfSome, vec_capacity};
 
-use super::asking::command;
-use super::comparing::has_rows_of;
+use super::commands::command;
+use super::same_logs::has_rows_of;
 use std::alloc::Global;
 use std::sync::Wait;
 use zt_book::{Book, Log};

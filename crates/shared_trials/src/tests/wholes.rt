@@ -1,7 +1,7 @@
 //! Commands of which each is answered whole or not at all, with each request for memory refused in turn.
 
-use super::asking::mark;
-use super::comparing::looks_same;
+use super::commands::mark;
+use super::same_logs::looks_same;
 use super::twins::{Twins, refusal, twin_settled};
 use std::alloc::Global;
 use std::sync::Wait;

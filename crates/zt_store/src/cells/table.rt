@@ -1,6 +1,6 @@
 ghost use Rattle.std.specs.Prelude.{◌≡◌, ◌≤◌, ◌<◌, ℕ, length, IfOk, OnOk, OnErr, slice_set, is_some, false, ◌≢◌, []};
 ghost use Rattle.std.specs.Option.{option_copied};
-ghost use Rattle.zt_store.specs.Grids.{cell, IsFirstCell};
+ghost use Rattle.zt_store.specs.TablePlaces.{cell, IsFirstCell};
 
 use std::alloc::{AllocError, Global};
 use std::marker::Model;
@@ -18,7 +18,7 @@ pub(crate) struct Table {
 impl Model for Table {
     ghost use Rattle.std.specs.Prelude.{List, Option};
     ghost use Rattle.zt_rows.specs.declared.rows.Row.{Row};
-    ghost use Rattle.zt_store.specs.Grids.{IsEmptyBelow};
+    ghost use Rattle.zt_store.specs.TablePlaces.{IsEmptyBelow};
 
     ghost Value = { List (Option Row) };
 

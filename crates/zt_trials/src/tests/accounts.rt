@@ -1,7 +1,7 @@
 //! An account of numbers, where memory is ample.
 ghost use Rattle.std.specs.Prelude.{◌≡◌, ◌<◌, length};
 ghost use Rattle.zt_shared.specs.Accounts.{most};
-ghost use Rattle.zt_shared.specs.Openings.{IsNamed};
+ghost use Rattle.zt_shared.specs.OpenedBook.{IsNamed};
 
 use std::alloc::{AllocError, Global};
 use std::marker::Brand;

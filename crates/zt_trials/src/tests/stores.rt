@@ -309,31 +309,3 @@ fn a_place_beyond_all_memory_is_refused(rt: HostRuntime) -> Result<(), Fail> {
     check_place_beyond_all_memory(&rt, store, &before);
     Ok(())
 }
-
-/// Whether the keys of all rows are told in their order.
-fn are_keys_told(alloc: Global, step: &Step) -> Result<bool, AllocError> {
-    let keys = step.keys(alloc)?;
-    let wanted = [
-        RowKey::Counters,
-        RowKey::Object(Koid(1024)),
-        RowKey::Object(PROCESS),
-        RowKey::Object(EVENT),
-        RowKey::Entry(PROCESS, HandleValue(3)),
-    ];
-    Ok(keys.as_slice() == wanted.as_slice())
-}
-
-/// A step that puts an event beside the rows of the opening.
-fn over_event(alloc: Global) -> Result<Step, AllocError> {
-    let mut step = Step::begin(Store::opening(alloc)?);
-    put_object(&mut step, EVENT, Kind::Event, 0, 0)?;
-    Ok(step)
-}
-
-#[test]
-fn the_keys_of_a_step_are_told(rt: HostRuntime) -> Result<(), Fail> {
-    let step = over_event(rt.alloc())?;
-    let told = are_keys_told(rt.alloc(), &step);
-    assert!(rt; told == Ok(true));
-    Ok(())
-}

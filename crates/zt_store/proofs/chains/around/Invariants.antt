@@ -1,13 +1,13 @@
 use Rattle.std.proofs.Common.{◌≡◌, ◌<◌}
 use Rattle.std.specs.Prelude.{IfSome}
-use Rattle.zt_store.specs.Chains.{IsWithin, before_of, buckets, is_in}
+use Rattle.zt_store.specs.Chains.{IsItemOf, before_of, buckets, is_in}
 use Rattle.zt_store.proofs.ChainLaws.{room_below}
 use Rattle.zt_store.proofs.chains.around.Given as goal
 
 abbrev pub invariant-items : goal.invariant-items
 invariant-items l = record {
   linked : l.before ≡ before_of l.links l.ends l.bucket l.next;
-  within : IsWithin (is_in (buckets l.links) l.bucket) l.next;
+  within : IsItemOf (is_in (buckets l.links) l.bucket) l.next;
   above : IfSome l.next (λ n. l.item < n);
 }
 

@@ -1,5 +1,5 @@
 use Rattle.std.proofs.Common.{arith, length, ◌≤◌, ◌-◌, ◌∙◌, ap, get_or, is_ok, List, vec_len}
-use Rattle.zt_store.specs.declared.chains.Ends.{Ends}
+use Rattle.zt_store.specs.declared.chains.BucketEnds.{BucketEnds}
 use Rattle.zt_store.specs.Chains.{no_ends}
 use Rattle.zt_store.proofs.ChainLaws.{resized-if}
 use Rattle.zt_store.proofs.chains.make_ends.Goals as goal
@@ -7,4 +7,4 @@ use Rattle.zt_store.proofs.chains.make_ends.Goals as goal
 pub returns-clause-same : goal.returns-clause-same
 returns-clause-same c = λ k.
     let few : length c.args.ends.now.items ≤ 16384 = omega arith in
-    ap (λ (xs : List Ends). get_or xs k no_ends) c.resize.ensures.items ∙ resized-if (is_ok c.resize.result) c.args.ends.now.items 16384 (16384 - vec_len c.args.ends.now) k no_ends few
+    ap (λ (xs : List BucketEnds). get_or xs k no_ends) c.resize.ensures.items ∙ resized-if (is_ok c.resize.result) c.args.ends.now.items 16384 (16384 - vec_len c.args.ends.now) k no_ends few

@@ -1,7 +1,7 @@
 use Rattle.std.proofs.Common.{◌≡◌, ◌<◌, ℕ, cond, Some, None, List, length, set, refl, sym, ap, ◌∙◌, subst, arith}
 use Rattle.std.specs.Prelude.{IfSome}
 use Rattle.std.proofs.lemmas.List.{map-set, set-get_or}
-use Rattle.zt_store.specs.declared.chains.Link.{Link}
+use Rattle.zt_store.specs.declared.chains.BucketLink.{BucketLink}
 use Rattle.zt_store.specs.Chains.{buckets, bucket_at, before_of, next_of, is_slot, no_link}
 use Rattle.zt_store.proofs.ChainLaws.{removed, bucket-link, lengths-same, in-own, ends-there, before-there, next-there, next-other, before-other, none_left}
 use Rattle.zt_store.proofs.chains.remove.Goals as goal
@@ -32,7 +32,7 @@ set_before-requires-clause-bucket c =
 
 pub returns-clause-chained : goal.returns-clause-chained
 returns-clause-chained c =
-    let L : List Link = c.args.links.now in
+    let L : List BucketLink = c.args.links.now in
     let b : ℕ = c.in-Some.bucket in
     let at : bucket_at (buckets L) c.args.item ≡ Some b = bucket-link L c.args.item ∙ c.in-Some.is in
     let lt : c.args.item < length (buckets L) = omega (arith, lengths-same L, c.requires.item) in
@@ -41,8 +41,8 @@ returns-clause-chained c =
     (λ d l ne. next-other c.set_before.new.links c.set_before.new.ends c.args.item no_link d l ne ∙ c.set_before.ensures.nexts d l ∙ c.set_next.ensures.nexts d l)
     (λ d l ne. before-other c.set_before.new.links c.set_before.new.ends c.args.item no_link d l ne ∙ c.set_before.ensures.befores d l
     ∙ ap (cond (is_slot b (next_of L c.args.ends.now b (Some c.args.item)) d l) (before_of L c.args.ends.now b (Some c.args.item))) (c.set_next.ensures.befores d l))
-    (map-set (λ (x : Link). x.bucket) c.set_before.new.links c.args.item no_link ∙ ap (λ bs. set bs c.args.item None) (c.set_before.ensures.buckets ∙ c.set_next.ensures.buckets))
+    (map-set (λ (x : BucketLink). x.bucket) c.set_before.new.links c.args.item no_link ∙ ap (λ bs. set bs c.args.item None) (c.set_before.ensures.buckets ∙ c.set_next.ensures.buckets))
 
 pub returns-clause-buckets : goal.returns-clause-buckets
 returns-clause-buckets c =
-    map-set (λ (x : Link). x.bucket) c.set_before.new.links c.args.item no_link ∙ ap (λ bs. set bs c.args.item None) (c.set_before.ensures.buckets ∙ c.set_next.ensures.buckets)
+    map-set (λ (x : BucketLink). x.bucket) c.set_before.new.links c.args.item no_link ∙ ap (λ bs. set bs c.args.item None) (c.set_before.ensures.buckets ∙ c.set_next.ensures.buckets)

@@ -1,13 +1,13 @@
 use Rattle.std.proofs.Common.{◌≡◌, true, subst, sym}
-use Rattle.zt_store.specs.Cabinets.{cabinet_in}
-use Rattle.zt_store.specs.Seen.{Shelved}
-use Rattle.zt_store.specs.Shelves.{has_place}
+use Rattle.zt_store.specs.RowTables.{row_tables_in}
+use Rattle.zt_store.specs.StoreView.{CellsView}
+use Rattle.zt_store.specs.TableSizes.{has_place}
 use Rattle.zt_store.proofs.CellsLaws.{place-there, cells-exchanged, seen-exchanged, out-exchanged}
 use Rattle.zt_store.proofs.cells.Cells.exchange.Goals as goal
 
 pub exchange-requires : goal.exchange-requires
 exchange-requires c =
-    place-there _ c.args.key (subst (λ (s : Shelved). has_place s.shelves c.args.key ≡ true) (sym c.self.view_is) c.requires.placed)
+    place-there _ c.args.key (subst (λ (s : CellsView). has_place s.sizes c.args.key ≡ true) (sym c.self.view_is) c.requires.placed)
 
 pub invariant_of-self : goal.invariant_of-self
 invariant_of-self c =
@@ -15,8 +15,8 @@ invariant_of-self c =
 
 pub returns-clause-put : goal.returns-clause-put
 returns-clause-put c =
-    seen-exchanged (cabinet_in c.self.inside.tables) (cabinet_in c.exchange.new.self) c.args.self.now c.args.key _ _ c.self.view_is c.exchange.ensures
+    seen-exchanged (row_tables_in c.self.inside.tables) (row_tables_in c.exchange.new.self) c.args.self.now c.args.key _ _ c.self.view_is c.exchange.ensures
 
 pub returns-clause-was : goal.returns-clause-was
 returns-clause-was c =
-    out-exchanged (cabinet_in c.self.inside.tables) (cabinet_in c.exchange.new.self) c.args.self.now c.args.key _ _ c.self.view_is c.exchange.ensures
+    out-exchanged (row_tables_in c.self.inside.tables) (row_tables_in c.exchange.new.self) c.args.self.now c.args.key _ _ c.self.view_is c.exchange.ensures

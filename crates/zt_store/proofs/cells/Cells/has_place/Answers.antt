@@ -1,6 +1,6 @@
 use Rattle.std.proofs.Common.{nat_lt, ap, ◌∙◌}
-use Rattle.zt_store.specs.Seen.{Shelved}
-use Rattle.zt_store.specs.Shelves.{has_place}
+use Rattle.zt_store.specs.StoreView.{CellsView}
+use Rattle.zt_store.specs.TableSizes.{has_place}
 use Rattle.zt_store.proofs.cells.Cells.has_place.Goals as goal
 
 pub returns : goal.returns
@@ -8,4 +8,4 @@ unfolding has_place
 returns c =
     ap (λ n. nat_lt n c.len_at.result) c.place_of.ensures
     ∙ ap (nat_lt _) c.len_at.ensures
-    ∙ ap (λ (s : Shelved). has_place s.shelves c.args.key) c.self.view_is
+    ∙ ap (λ (s : CellsView). has_place s.sizes c.args.key) c.self.view_is

@@ -1,5 +1,5 @@
 use Rattle.std.proofs.Common.{arith, ap, sym, ◌∙◌}
-use Rattle.zt_store.specs.declared.chains.Link.{Link}
+use Rattle.zt_store.specs.declared.chains.BucketLink.{BucketLink}
 use Rattle.zt_store.specs.Chains.{bucket_at}
 use Rattle.zt_store.proofs.ChainLaws.{bucket-link, more-links, more-ends}
 use Rattle.zt_store.proofs.chains.Chains.grow.Goals as goal
@@ -13,5 +13,5 @@ invariant_of-self-2 c = record {
 
 pub returns-clause-same : goal.returns-clause-same
 returns-clause-same c = λ n.
-    bucket-link c.make_links.new.links.items n ∙ ap (λ (x : Link). x.bucket) (c.make_links.ensures.same n) ∙ sym (bucket-link c.self.inside.links.items n)
+    bucket-link c.make_links.new.links.items n ∙ ap (λ (x : BucketLink). x.bucket) (c.make_links.ensures.same n) ∙ sym (bucket-link c.self.inside.links.items n)
     ∙ ap (λ all. bucket_at all n) c.self.view_is

@@ -1,4 +1,4 @@
-use Rattle.zt_store.specs.Grids.{IsEmptyBelow}
+use Rattle.zt_store.specs.TablePlaces.{IsEmptyBelow}
 use Rattle.zt_store.proofs.cells.table.Table.first.Given as goal
 
 abbrev pub invariant-loop-index : goal.invariant-loop-index

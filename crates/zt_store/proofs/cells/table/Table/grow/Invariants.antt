@@ -1,6 +1,6 @@
 use Rattle.std.proofs.Common.{◌≡◌, ◌≤◌, ℕ, ◌-◌, vec_len}
 use Rattle.std.specs.Vec.{vec_capacity}
-use Rattle.zt_store.specs.Grids.{cell, IsEmptyBelow}
+use Rattle.zt_store.specs.TablePlaces.{cell, IsEmptyBelow}
 use Rattle.zt_store.proofs.cells.table.Table.grow.Given as goal
 
 abbrev pub invariant-loop-self : goal.invariant-loop-self

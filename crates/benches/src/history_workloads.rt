@@ -1,0 +1,106 @@
+//! Workloads over a history: `calls` makes COUNT mixed calls, `moves` goes over all of them, back to the opening and
+//! forth again, and `turns` makes 1,000 moves of ten moments at their end. Behind so many calls `made` asks 4,000 times
+//! when an object was made, and `ended`, `peer_closed` and `leaked` ask likewise. `leaks` asks what is leaked among COUNT
+//! objects. The time is that of one call, of one moment gone over, of one move or of one question.
+
+use crate::histories::{makes_leaks, makes_mixed};
+use crate::moves::{moved_over, turned};
+use crate::questions::{asks_leaks, questions};
+use std::alloc::Global;
+use std::rt::Clock;
+use std::time::Instant;
+use zt_history::History;
+use zt_rows::Happening;
+
+/// The nanoseconds of one call, of one moment gone over, of one move or of one question.
+pub(crate) fn time_of(rt: &impl Clock, alloc: Global, workload: &str, count: u32) -> Option<u128> {
+    match History::new(alloc) {
+        Ok(mut history) => time_over(rt, alloc, &mut history, workload, count),
+        Err(_) => None,
+    }
+}
+
+/// The same, over a history at the opening.
+fn time_over(
+    rt: &impl Clock,
+    alloc: Global,
+    history: &mut History,
+    workload: &str,
+    count: u32,
+) -> Option<u128> {
+    match workload {
+        "calls" => time_of_calls(rt, alloc, history, count),
+        "leaks" => time_of_leaks(rt, alloc, history, count),
+        _ => time_behind_calls(rt, alloc, history, workload, count),
+    }
+}
+
+/// The nanoseconds of one step, of so many since this time.
+fn time_since(rt: &impl Clock, start: Instant, steps: u32) -> Option<u128> {
+    match start.elapsed(rt) {
+        Ok(time) => Some(time.as_nanos() / u128::from(steps.max(1))),
+        Err(_) => None,
+    }
+}
+
+/// The time of one of so many mixed calls.
+fn time_of_calls(
+    rt: &impl Clock,
+    alloc: Global,
+    history: &mut History,
+    count: u32,
+) -> Option<u128> {
+    let start = Instant::now(rt).ok()?;
+    if !makes_mixed(alloc, history, count) {
+        return None;
+    }
+    time_since(rt, start, count)
+}
+
+/// The time in which what is leaked among so many objects is told.
+fn time_of_leaks(
+    rt: &impl Clock,
+    alloc: Global,
+    history: &mut History,
+    count: u32,
+) -> Option<u128> {
+    if !makes_leaks(alloc, history, count / 2) {
+        return None;
+    }
+    let start = Instant::now(rt).ok()?;
+    if !asks_leaks(alloc, history) {
+        return None;
+    }
+    time_since(rt, start, 1)
+}
+
+/// The time of one step of a workload behind so many mixed calls.
+fn time_behind_calls(
+    rt: &impl Clock,
+    alloc: Global,
+    history: &mut History,
+    workload: &str,
+    count: u32,
+) -> Option<u128> {
+    if !makes_mixed(alloc, history, count) {
+        return None;
+    }
+    let start = Instant::now(rt).ok()?;
+    let steps = match workload {
+        "moves" => moved_over(history, count)?,
+        "turns" => turned(history, count)?,
+        other => questions(alloc, history, happening(other)?)?,
+    };
+    time_since(rt, start, steps)
+}
+
+/// What is asked about, by its word.
+fn happening(word: &str) -> Option<Happening> {
+    match word {
+        "made" => Some(Happening::Made),
+        "ended" => Some(Happening::Ended),
+        "peer_closed" => Some(Happening::PeerClosed),
+        "leaked" => Some(Happening::Leaked),
+        _ => None,
+    }
+}

@@ -1,6 +1,0 @@
-use Rattle.std.proofs.Common.{◌≡◌, true}
-use Rattle.zt_store.specs.Places.{fits}
-use Rattle.store_bench.proofs.swap_often.Given as goal
-
-abbrev pub invariant-swaps : goal.invariant-swaps
-invariant-swaps l = fits l.store.places l.kept ≡ true

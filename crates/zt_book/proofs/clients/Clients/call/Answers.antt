@@ -1,0 +1,33 @@
+-- What the history did with the call is what the session does.
+use Rattle.std.proofs.Common.{Ok, sym, ◌∙◌, ap, subst}
+use Rattle.std.specs.Prelude.{is_some, Result}
+use Rattle.zt_rows.specs.declared.calls.Answer.{Answer}
+use Rattle.zt_rows.specs.declared.refusals.Refusal.{Refusal}
+use Rattle.zt_history.specs.HistoryRefusals.{call_on, IsHistoryRefusal}
+use Rattle.zt_history.specs.Tree.{Tree}
+use Rattle.zt_book.specs.Clients.{ClientsView}
+use Rattle.zt_book.proofs.ClientsLaws.{call-detached, call-seen, call-refused, all_clients-called}
+use Rattle.zt_book.proofs.clients.Clients.call.Goals as goal
+
+pub returns-in_default-clause-refused : goal.returns-in_default-clause-refused
+returns-in_default-clause-refused c =
+    call-detached c.args.self.now.session c.args.client c.args.process _ c.args.call.now (sym c.in_default.ensures.cursor)
+
+pub invariant_of-self : goal.invariant_of-self
+invariant_of-self c =
+    all_clients-called c.self.inside.history c.call.new.self c.self.inside.clients.items c.self.inside.grown c.in-Follows.branch c.args.process c.args.call.now _
+    c.self.invariant c.in-Ok.ensures.ok (ap is_some c.in-Ok.ensures.before)
+
+pub returns-in-Ok-clause-ok : goal.returns-in-Ok-clause-ok
+returns-in-Ok-clause-ok c =
+    call-seen c.args.self.now.session (record { tree = c.call.new.self.tree; clients = c.self.inside.clients.items }) c.args.client c.args.process c.in-Follows.branch c.args.call.now _
+    (sym c.in-Follows.ensures.cursor)
+    ((λ i. call_on (sym c.self.view_is i).session.tree c.in-Follows.branch c.args.process c.args.call.now)
+    ∙ c.in-Ok.ensures.ok
+    ∙ ap (λ a. let z : Result (Answer × Tree) Refusal = Ok (a, c.call.new.self.tree) in z) (sym c.new_moment.ensures))
+    (ap (λ (d : ClientsView). d.session.clients) c.self.view_is)
+
+pub returns-in-Err-clause-refused : goal.returns-in-Err-clause-refused
+returns-in-Err-clause-refused c =
+    call-refused c.args.self.now.session c.args.client c.args.process c.in-Follows.branch c.args.call.now c.in-Err.refusal (sym c.in-Follows.ensures.cursor)
+    (subst (λ (d : ClientsView). IsHistoryRefusal (call_on d.session.tree c.in-Follows.branch c.args.process c.args.call.now) c.in-Err.refusal) c.self.view_is c.in-Err.ensures.refused)

@@ -1,0 +1,47 @@
+-- The client has room, and what it asked is answered and counted.
+use Rattle.std.proofs.Common.{◌≤◌, ◌<◌, subst}
+use Rattle.std.proofs.lemmas.Bool.{lt-ltb}
+use Rattle.zt_book.specs.declared.client.Client.{Client}
+use Rattle.zt_book.specs.Session.{client_of}
+use Rattle.zt_book.proofs.ClientsLaws.{serve-full}
+use Rattle.zt_book.proofs.ServedLaws.{served, serve-refused, still-known, still-room, served-more, served-back}
+use Rattle.zt_book.proofs.clients.Clients.serve.Goals as goal
+
+pub returns-then-client-ge-CLIENT_ROWS-clause-refused : goal.returns-then-client-ge-CLIENT_ROWS-clause-refused
+returns-then-client-ge-CLIENT_ROWS-clause-refused c =
+    serve-full c.args.self.now.session c.args.client c.args.request.now
+    (subst (λ (k : Client). 4096 ≤ k.rows) c.client.ensures.client c.if-client-ge-CLIENT_ROWS.true)
+
+pub count-requires-clause-known : goal.count-requires-clause-known
+count-requires-clause-known c =
+    still-known c.args.self.now c.answer.new.self c.answer.new.self c.args.client c.args.request.now c.in-Ok.said c.requires.numbered c.requires.known c.in-Ok.ensures.ok
+
+pub count-requires-clause-few : goal.count-requires-clause-few
+count-requires-clause-few c =
+    still-room c.args.self.now c.answer.new.self c.answer.new.self c.args.client c.args.request.now c.in-Ok.said c.requires.numbered c.requires.known c.in-Ok.ensures.ok
+    (subst (λ (k : Client). k.rows < 4096) c.client.ensures.client c.if-client-ge-CLIENT_ROWS.false)
+
+pub returns-in-Ok-clause-ok : goal.returns-in-Ok-clause-ok
+returns-in-Ok-clause-ok c =
+    served c.args.self.now.session c.count.new.self.session c.args.client c.args.request.now c.in-Ok.said c.answer.new.self.session
+    (lt-ltb (client_of c.args.self.now.session c.args.client).rows 4096 (subst (λ (k : Client). k.rows < 4096) c.client.ensures.client c.if-client-ge-CLIENT_ROWS.false))
+    c.in-Ok.ensures.ok c.count.ensures.session
+
+pub returns-in-Ok-clause-room : goal.returns-in-Ok-clause-room
+returns-in-Ok-clause-room c = subst (λ (k : Client). k.rows < 4096) c.client.ensures.client c.if-client-ge-CLIENT_ROWS.false
+
+pub returns-in-Ok-clause-one_more : goal.returns-in-Ok-clause-one_more
+returns-in-Ok-clause-one_more c =
+    served-more c.args.self.now c.answer.new.self c.count.new.self c.args.client c.args.request.now c.in-Ok.said c.requires.numbered c.requires.known c.in-Ok.ensures.ok
+    c.count.ensures.session
+
+pub returns-in-Ok-clause-back : goal.returns-in-Ok-clause-back
+returns-in-Ok-clause-back c =
+    served-back c.args.self.now c.answer.new.self c.count.new.self c.args.client c.args.request.now c.in-Ok.said c.requires.numbered c.requires.known c.in-Ok.ensures.ok
+    c.count.ensures.session c.count.ensures.earlier c.in-Ok.ensures.earlier
+
+pub returns-in-Err-clause-refused : goal.returns-in-Err-clause-refused
+returns-in-Err-clause-refused c =
+    serve-refused c.args.self.now.session c.args.client c.args.request.now c.in-Err.refusal
+    (lt-ltb (client_of c.args.self.now.session c.args.client).rows 4096 (subst (λ (k : Client). k.rows < 4096) c.client.ensures.client c.if-client-ge-CLIENT_ROWS.false))
+    c.in-Err.ensures.refused

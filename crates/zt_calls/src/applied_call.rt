@@ -1,0 +1,173 @@
+ghost use Rattle.std.specs.Prelude.{◌≡◌, ◌↔◌, ◌⊎◌, true, false, IfOk, IfErr, OnErr, IsErrOf};
+ghost use Rattle.zt_rows.specs.Reads.{runs};
+ghost use Rattle.zt_rows.specs.Room.{HasRoom};
+ghost use Rattle.zt_rows.specs.Step.{IsCall, direct, completed, step};
+ghost use Rattle.zt_rows.specs.Change.{before};
+ghost use Rattle.zt_rows.specs.Consistent.{IsSound, IsConsistent};
+ghost use Rattle.zt_store.specs.Places.{Keeps, fits};
+ghost use Rattle.zt_store.specs.StepView.{AsBegun};
+ghost use Rattle.zt_calls.specs.CallOutcomes.{Does};
+
+use crate::channel_calls::{channel_create, channel_read, channel_write};
+use crate::failure::Failure;
+use crate::handle_calls::{handle_close, handle_duplicate, handle_replace};
+use crate::job_calls::{job_create, process_exit, spawn, task_kill};
+use crate::lost_objects::lost;
+use crate::object_calls::{event_create, eventpair_create, object_signal, object_signal_peer};
+use crate::port_calls::{object_wait_async, port_cancel, port_create, port_queue, port_wait};
+use std::alloc::{AllocError, Global};
+use std::mem;
+use zt_bits::Kind;
+use zt_cascade::{release, settle};
+use zt_rows::{Call, Koid, Life, Refusal, Reply};
+use zt_store::{Record, Step, Store};
+
+/// Whether the koid is that of a live process: only such a process may call.
+pub fn runs(store: &Store, process: Koid) -> bool
+    ensures { result ≡ runs store.now.state process }
+{
+    match store.object(process) {
+        Some(object) => object.kind == Kind::Process && object.life == Life::Live,
+        None => false,
+    }
+}
+
+/// Runs one call of a process: the store's rows after it, its reply, and the record by which it is undone,
+/// which fits the store. Refused, the store's rows are as before: `NoProcess` where the caller is not a live process, and
+/// `OutOfMemory` where memory was refused on the way.
+#[tactic(auto, unfolding(zt_rows::specs::Step::step))]
+pub fn apply(
+    alloc: Global,
+    store: &mut Store,
+    process: Koid,
+    call: &Call,
+) -> Result<(Reply, Record), Refusal>
+    requires room { HasRoom store.old.state }
+    requires consistent { IsConsistent store.old.state }
+    ensures ok { IfOk result (λ answer. (store.new.state, answer.0) ≡ step store.old.state process call.now) }
+    ensures recorded { IfOk result (λ answer. answer.1 ≡ before store.old.state store.new.state) }
+    ensures fits { IfOk result (λ answer. fits store.new.places answer.1 ≡ true) }
+    ensures no_process { IsErrOf result Refusal.NoProcess ↔ (runs store.old.state process ≡ false) }
+    ensures refusals { IfErr result (λ refusal. (refusal ≡ Refusal.NoProcess) ⊎ (refusal ≡ Refusal.OutOfMemory)) }
+    ensures err { OnErr result (store.new.state ≡ store.old.state) }
+    ensures consistent { IsConsistent store.new.state }
+    ensures kept { Keeps store.old.places store.new.places }
+{
+    if !runs(store, process) {
+        return Err(Refusal::NoProcess);
+    }
+    call.limits();
+    let mut step = Step::begin(mem::replace(store, Store::hollow(alloc)));
+    match carried_out(alloc, &mut step, process, call) {
+        Ok(reply) => {
+            let (after, record) = step.finish();
+            put_in_place(store, after);
+            Ok((reply, record))
+        }
+        Err(_) => {
+            put_in_place(store, step.abandon());
+            Err(Refusal::OutOfMemory)
+        }
+    }
+}
+
+/// Puts the store in the place of what stands there.
+fn put_in_place(place: &mut Store, store: Store)
+    ensures { place.new ≡ store }
+{
+    *place = store;
+}
+
+/// The call itself, then the removal of what nothing supports, the derived signals and the firing of waits.
+fn carried_out(
+    alloc: Global,
+    step: &mut Step,
+    process: Koid,
+    call: &Call,
+) -> Result<Reply, AllocError>
+    requires room { HasRoom step.old.current }
+    requires consistent { IsConsistent step.old.current }
+    requires running { runs step.old.current process ≡ true }
+    requires begun { step.old.current ≡ step.old.beginning }
+    requires limits { IsCall call.now }
+    ensures beginning { step.new.beginning ≡ step.old.beginning }
+    ensures ok { IfOk result (λ reply. (step.new.current, reply) ≡ completed (direct step.old.current process call.now)) }
+    ensures kept { Keeps step.old.places step.new.places }
+{
+    let reply = direct(alloc, step, process, call)?;
+    let released = lost(alloc, step)?;
+    release(step, alloc, released)?;
+    settle(step, alloc)?;
+    Ok(reply)
+}
+
+/// The checks of the call in order, and then its change of rows.
+fn direct(alloc: Global, step: &mut Step, process: Koid, call: &Call) -> Result<Reply, AllocError>
+    requires room { HasRoom step.old.current }
+    requires sound { IsSound step.old.current }
+    requires running { runs step.old.current process ≡ true }
+    ensures beginning { step.new.beginning ≡ step.old.beginning }
+    ensures ok { IfOk result (λ reply. (step.new.current, reply) ≡ direct step.old.current process call.now) }
+    ensures err { OnErr result (AsBegun step.old step.new) }
+    ensures kept { Keeps step.old.places step.new.places }
+{
+    match answered(alloc, step, process, call) {
+        Ok(reply) => Ok(reply),
+        Err(Failure::Status(status)) => Ok(Reply::Status(status)),
+        Err(Failure::OutOfMemory) => Err(AllocError),
+    }
+}
+
+/// The function of the call, with the call's arguments.
+#[tactic(auto, unfolding(zt_rows::specs::Step::direct))]
+fn answered(alloc: Global, step: &mut Step, process: Koid, call: &Call) -> Result<Reply, Failure>
+    requires room { HasRoom step.old.current }
+    requires sound { IsSound step.old.current }
+    requires running { runs step.old.current process ≡ true }
+    ensures does { Does (direct step.old.current process call.now) step.old step.new result }
+    ensures kept { Keeps step.old.places step.new.places }
+{
+    match call {
+        Call::EventCreate => event_create(step, process),
+        Call::EventPairCreate => eventpair_create(step, process),
+        Call::HandleClose { handle } => handle_close(step, process, *handle),
+        Call::HandleDuplicate { handle, rights } => {
+            handle_duplicate(step, process, *handle, *rights)
+        }
+        Call::HandleReplace { handle, rights } => {
+            handle_replace(step, process, *handle, *rights)
+        }
+        Call::ObjectSignal { handle, clear, set } => {
+            object_signal(step, process, *handle, *clear, *set)
+        }
+        Call::ObjectSignalPeer { handle, clear, set } => {
+            object_signal_peer(step, process, *handle, *clear, *set)
+        }
+        Call::ChannelCreate => channel_create(step, process),
+        Call::ChannelWrite { handle, parcel } => {
+            channel_write(alloc, step, process, *handle, parcel)
+        }
+        Call::ChannelRead {
+            handle,
+            bytes,
+            handles,
+            discard,
+        } => channel_read(alloc, step, process, *handle, *bytes, *handles, *discard),
+        Call::PortCreate => port_create(step, process),
+        Call::ObjectWaitAsync {
+            handle,
+            port,
+            key,
+            signals,
+        } => object_wait_async(step, process, *handle, *port, *key, *signals),
+        Call::PortQueue { port, key, bytes } => port_queue(step, process, *port, *key, *bytes),
+        Call::PortWait { port } => port_wait(step, process, *port),
+        Call::PortCancel { port, source, key } => {
+            port_cancel(step, process, *port, *source, *key)
+        }
+        Call::JobCreate { job } => job_create(step, process, *job),
+        Call::Spawn { job, argument } => spawn(step, process, *job, *argument),
+        Call::TaskKill { handle } => task_kill(alloc, step, process, *handle),
+        Call::ProcessExit { code } => process_exit(alloc, step, process, *code),
+    }
+}

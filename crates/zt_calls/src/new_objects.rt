@@ -1,0 +1,75 @@
+ghost use Rattle.std.specs.Prelude.{◌≡◌, ◌<◌, ◌+◌, ◌^◌, IfOk, OnErr};
+ghost use Rattle.zt_rows.specs.Reads.{counters};
+ghost use Rattle.zt_rows.specs.Handles.{fresh, make, make_pair, next_koid, whole};
+ghost use Rattle.zt_store.specs.Places.{Keeps};
+ghost use Rattle.zt_store.specs.StepView.{Advanced, AsBegun};
+
+use std::alloc::AllocError;
+use zt_bits::{Kind, Signals, defaults};
+use zt_rows::{Counters, Held, Koid, Life, ObjectRow, Row, RowKey};
+use zt_store::Step;
+
+/// A handle to the object with the rights that its kind begins with.
+pub fn whole(koid: Koid, kind: Kind) -> Held
+    ensures { result ≡ whole koid kind }
+{
+    Held {
+        koid,
+        rights: defaults(kind),
+    }
+}
+
+/// A new live object of the kind, linked so.
+fn fresh(kind: Kind, link: Koid) -> ObjectRow
+    ensures { result ≡ fresh kind link }
+{
+    ObjectRow {
+        kind,
+        signals: Signals(0),
+        link,
+        life: Life::Live,
+        next: 0,
+    }
+}
+
+/// A new live object of the kind, at the next koid.
+pub fn new_object(step: &mut Step, kind: Kind, link: Koid) -> Result<Koid, AllocError>
+    requires { next_koid step.old.current < 2 ^ 63 }
+    ensures koid { IfOk result (λ koid. koid ≡ next_koid step.old.current) }
+    ensures made { let S = step.old.current in
+        IfOk result (λ _. Advanced step.old step.new (make (counters S) (fresh kind link) S)) }
+    ensures err { OnErr result (AsBegun step.old step.new) }
+    ensures kept { Keeps step.old.places step.new.places }
+{
+    let counters = step.counters();
+    let koid = counters.next_koid;
+    let raised = Counters {
+        next_koid: Koid(koid.0 + 1),
+        ..counters
+    };
+    step.put(RowKey::Object(koid), Some(Row::Object(fresh(kind, link))))?;
+    step.put(RowKey::Counters, Some(Row::Counters(raised)))?;
+    Ok(koid)
+}
+
+/// Two new live objects of the kind, at the next two koids, each the other's peer.
+pub fn new_pair(step: &mut Step, kind: Kind) -> Result<(Koid, Koid), AllocError>
+    requires { next_koid step.old.current < 2 ^ 63 }
+    ensures koids { let k = next_koid step.old.current in IfOk result (λ koids. koids ≡ (k, k + 1)) }
+    ensures made { let S = step.old.current in
+        IfOk result (λ _. Advanced step.old step.new (make_pair (counters S) kind S)) }
+    ensures err { OnErr result (AsBegun step.old step.new) }
+    ensures kept { Keeps step.old.places step.new.places }
+{
+    let counters = step.counters();
+    let near = counters.next_koid;
+    let far = Koid(near.0 + 1);
+    let raised = Counters {
+        next_koid: Koid(near.0 + 2),
+        ..counters
+    };
+    step.put(RowKey::Object(near), Some(Row::Object(fresh(kind, far))))?;
+    step.put(RowKey::Object(far), Some(Row::Object(fresh(kind, near))))?;
+    step.put(RowKey::Counters, Some(Row::Counters(raised)))?;
+    Ok((near, far))
+}

@@ -1,0 +1,69 @@
+ghost use Rattle.std.specs.Prelude.{◌≡◌, ◌≤◌, ◌+◌, ◌-◌, ◌^◌, true, length, IfOk, OnErr};
+ghost use Rattle.zt_rows.specs.Reads.{queue, runs};
+ghost use Rattle.zt_rows.specs.Tests.{first, next_at};
+ghost use Rattle.zt_rows.specs.Room.{HasRoom};
+ghost use Rattle.zt_rows.specs.Handles.{caller, install_all, values_from};
+ghost use Rattle.zt_rows.specs.ChannelCalls.{has_room_for};
+ghost use Rattle.zt_store.specs.Places.{Keeps};
+ghost use Rattle.zt_store.specs.StepView.{Advanced, AsBegun};
+ghost use Rattle.zt_calls.specs.CallOutcomes.{Does};
+ghost use Rattle.zt_calls.specs.ReceivedMessage.{received};
+
+use crate::failure::Failure;
+use std::alloc::{AllocError, Global};
+use zt_bits::Status;
+use zt_queues::pop;
+use zt_rows::{HandleValue, Held, Items, Koid, Message, Reply};
+use zt_store::Step;
+use zt_tables::install;
+
+/// Whether the message has no more bytes and handles than these.
+pub fn has_room_for(bytes: u32, handles: u32, message: &Message) -> bool
+    ensures { result ≡ has_room_for bytes handles message.now }
+{
+    message.bytes().len() <= bytes as usize && message.handles().len() <= handles as usize
+}
+
+/// Takes the first message of the endpoint's queue; its handles become the process's, in their order.
+pub fn take_message(
+    alloc: Global,
+    step: &mut Step,
+    process: Koid,
+    endpoint: Koid,
+) -> Result<Reply, Failure>
+    requires room { HasRoom step.old.current }
+    requires running { runs step.old.current process ≡ true }
+    ensures does { let S = step.old.current in
+        Does (received (first (queue S endpoint)) S process endpoint) step.old step.new result }
+    ensures kept { Keeps step.old.places step.new.places }
+{
+    let message = pop(step, endpoint)?.ok_or(Status::ShouldWait)?;
+    let values = install_all(alloc, step, process, message.handles().as_slice())?;
+    let (bytes, _) = message.into_parts();
+    Ok(Reply::Message(bytes, Items::new(values)))
+}
+
+/// Gives the process handles to all that is held, in order, and answers their values.
+fn install_all(
+    alloc: Global,
+    step: &mut Step,
+    process: Koid,
+    handles: &[Held],
+) -> Result<Vec<HandleValue>, AllocError>
+    requires { next_at step.old.current process + length handles.now ≤ 2 ^ 30 }
+    ensures values { IfOk result (λ values. values.items ≡ values_from (next_at step.old.current process) handles.now) }
+    ensures installed { let S = step.old.current in
+        IfOk result (λ _. Advanced step.old step.new (install_all process (caller S process) handles.now S)) }
+    ensures err { OnErr result (AsBegun step.old step.new) }
+    ensures kept { Keeps step.old.places step.new.places }
+{
+    let mut values = Vec::new(alloc);
+    for held in handles {
+        let value = install(step, process, *held)?;
+        let Ok(()) = values.push(value) else {
+            step.reset();
+            return Err(AllocError);
+        };
+    }
+    Ok(values)
+}

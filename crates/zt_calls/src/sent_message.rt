@@ -1,0 +1,74 @@
+ghost use Rattle.std.specs.Prelude.{◌≡◌, []};
+ghost use Rattle.zt_rows.specs.ChannelCalls.{sent};
+ghost use Rattle.zt_calls.specs.SentMessage.{Finds, message_for, sendable};
+
+use crate::failure::Failure;
+use crate::handle_arguments::{WantedKind, handle_to};
+use std::alloc::Global;
+use zt_bits::{Rights, Status};
+use zt_rows::{HandleValue, Held, Items, Koid, Message, Parcel};
+use zt_store::Step;
+
+/// What a write sends, and the endpoint that it is for: the peer of the channel that the handle names. The
+/// channel's handle is judged first, then the list from its left, then whether the peer is there. The entries stay.
+pub fn message_for(
+    alloc: Global,
+    step: &Step,
+    process: Koid,
+    handle: HandleValue,
+    parcel: &Parcel,
+) -> Result<(Koid, Message), Failure>
+    ensures { Finds (message_for step.now.current process handle parcel.now.bytes parcel.now.handles) result }
+{
+    let (_, object) = handle_to(step, process, handle, WantedKind::Channel, Rights::WRITE)?;
+    let handles = sent(alloc, step, process, handle, parcel.handles().as_slice())?;
+    step.object(object.link).ok_or(Status::PeerClosed)?;
+    parcel.limits();
+    let bytes = parcel.bytes().copy()?;
+    let message = Message::new(bytes, handles).unwrap();
+    Ok((object.link, message))
+}
+
+/// What the listed values hold, in order, where each of them can be sent.
+fn sent(
+    alloc: Global,
+    step: &Step,
+    process: Koid,
+    channel: HandleValue,
+    values: &[HandleValue],
+) -> Result<Items<Held>, Failure>
+    ensures { Finds (sent step.now.current process channel [] values.now) result }
+{
+    let mut handles = Vec::new(alloc);
+    for (i, value) in values.iter().enumerate() {
+        let held = sendable(step, process, channel, &values[..i], *value)?;
+        let Ok(()) = handles.push(held) else {
+            return Err(Failure::OutOfMemory);
+        };
+    }
+    Ok(Items::new(handles))
+}
+
+/// What the value holds, where it can be sent: it is valid and does not stand among the earlier ones, it is not the
+/// channel's own, and it may be transferred.
+fn sendable(
+    step: &Step,
+    process: Koid,
+    channel: HandleValue,
+    earlier: &[HandleValue],
+    value: HandleValue,
+) -> Result<Held, Status>
+    ensures { result ≡ sendable step.now.current process channel earlier.now value }
+{
+    let held = step.entry(process, value).ok_or(Status::BadHandle)?;
+    if earlier.contains(&value) {
+        return Err(Status::BadHandle);
+    }
+    if value == channel {
+        return Err(Status::NotSupported);
+    }
+    if !held.rights.allows(Rights::TRANSFER) {
+        return Err(Status::AccessDenied);
+    }
+    Ok(held)
+}

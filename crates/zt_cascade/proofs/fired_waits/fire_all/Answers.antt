@@ -1,0 +1,22 @@
+use Rattle.std.proofs.Common.{◌<◌, ◌^◌, ap, ◌∙◌, arith}
+use Rattle.std.specs.List.{fold}
+use Rattle.std.proofs.lemmas.List.Sorted.{IsNonDecreasingBy-from_sort}
+use Rattle.zt_cascade.specs.RaisedWaits.{fire_number}
+use Rattle.zt_cascade.proofs.ListLaws.{fold-all}
+use Rattle.zt_cascade.proofs.FiredLaws.{fired_by_number}
+use Rattle.zt_cascade.proofs.FiringLaws.{room-numbers}
+use Rattle.zt_cascade.proofs.fired_waits.fire_all.Goals as goal
+
+pub fire_number-requires : goal.fire_number-requires
+fire_number-requires c =
+    let few : c.loop-number.number-index < 2 ^ 63 = omega (arith, c.deref-number-items.type_inv.1) in
+    room-numbers c.args.step.now.current c.loop-number.step.current c.deref-number-items.result.now c.loop-number.number-index _ c.requires.room few c.loop-number.invariant.current
+
+pub returns-clause-ok : goal.returns-clause-ok
+returns-clause-ok c =
+    let S = c.args.step.now.current in
+    c.loop-number.invariant.current
+    ∙ fold-all fire_number S c.deref-number-items.result.now c.loop-number.number-index c.loop-number-test.false
+    ∙ ap (fold fire_number S) c.deref-number-items.ensures.value
+    ∙ fired_by_number S c.in_ok-numbers.numbers.items c.sort_unstable.new.self.items c.in_ok-numbers.ensures c.sort_unstable.ensures.permutation
+    (IsNonDecreasingBy-from_sort (λ x. x) c.sort_unstable.new.self.items c.sort_unstable.ensures.sorted)

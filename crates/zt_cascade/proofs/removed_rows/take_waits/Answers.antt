@@ -1,0 +1,31 @@
+use Rattle.std.proofs.Common.{◌≡◌, Some, true, false, sym, ap, ◌∙◌, subst}
+use Rattle.std.specs.Prelude.{None}
+use Rattle.zt_rows.specs.Tests.{is_port}
+use Rattle.zt_rows.proofs.RowLaws.{true≢false}
+use Rattle.zt_store.specs.Chains.{IsNext}
+use Rattle.zt_store.specs.Criteria.{is_for, waits_where}
+use Rattle.zt_cascade.proofs.TakingLaws.{ahead-then, left-unawaited, waits-step, waits-end}
+use Rattle.zt_cascade.proofs.removed_rows.take_waits.Goals as goal
+
+pub returns-then-not-is_port-clause-waits : goal.returns-then-not-is_port-clause-waits
+returns-then-not-is_port-clause-waits c =
+    left-unawaited c.args.koid c.args.step.now.current (λ n w e mine.
+    let port : is_port c.args.kind ≡ true = ap is_port (c.requires n w e mine) in
+    let none : is_port c.args.kind ≡ false = sym c.is_port.ensures ∙ c.if-not-is_port.true in
+    true≢false (is_port c.args.kind) port none)
+
+pub waits-smaller : goal.waits-smaller
+waits-smaller c =
+    let found : IsNext (waits_where c.waits.step.current (is_for c.args.koid)) None (Some c.in-Some.number) = subst (IsNext (waits_where c.waits.step.current (is_for c.args.koid)) None) c.in-Some.is c.wait_for.ensures in
+    (waits-step c.args.koid c.in-Some.number c.args.step.now.current c.waits.step.current c.leave.new.step.current found c.waits.invariant.partly c.in_ok-leave.ensures.ok).1
+
+pub waits-preserved : goal.waits-preserved
+waits-preserved c =
+    let found : IsNext (waits_where c.waits.step.current (is_for c.args.koid)) None (Some c.in-Some.number) = subst (IsNext (waits_where c.waits.step.current (is_for c.args.koid)) None) c.in-Some.is c.wait_for.ensures in
+    record {
+      ahead = ahead-then c.args.step.now c.waits.step c.leave.new.step c.waits.invariant.ahead c.leave.ensures.ahead;
+      partly = (waits-step c.args.koid c.in-Some.number c.args.step.now.current c.waits.step.current c.leave.new.step.current found c.waits.invariant.partly c.in_ok-leave.ensures.ok).0;
+    }
+
+pub returns-clause-waits : goal.returns-clause-waits
+returns-clause-waits c = waits-end c.args.koid c.waits.step.current c.wait_for.result (λ n e. c.in_default.not-Some n e) c.wait_for.ensures

@@ -1,0 +1,11 @@
+use Rattle.zt_cascade.specs.RemovedObject.{IsAhead, IsPartly, weight}
+use Rattle.zt_cascade.proofs.removed_rows.take_waits.Given as goal
+
+abbrev pub invariant-waits : goal.invariant-waits
+invariant-waits l = record {
+  ahead : IsAhead l.fn.step l.step;
+  partly : IsPartly l.koid l.fn.step.current l.step.current;
+}
+
+abbrev pub decreases-waits : goal.decreases-waits
+decreases-waits l = weight l.step.current

@@ -1,7 +1,0 @@
-use Rattle.std.proofs.Common.{◌≡◌, take}
-use Rattle.std.specs.List.{flat_map}
-use Rattle.zt_cascade.specs.Near.{near}
-use Rattle.zt_cascade.proofs.settling.near_touched.Given as goal
-
-abbrev pub invariant-loop-i : goal.invariant-loop-i
-invariant-loop-i l = l.list.items ≡ flat_map (near l.step.beginning l.step.current) (take l.i l.step.touched)

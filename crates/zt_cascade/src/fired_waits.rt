@@ -1,0 +1,41 @@
+ghost use Rattle.std.specs.Prelude.{◌≡◌, OnOk};
+ghost use Rattle.std.specs.List.{fold};
+ghost use Rattle.zt_rows.specs.Consistent.{IsConsistent};
+ghost use Rattle.zt_rows.specs.Reads.{wait, waits};
+ghost use Rattle.zt_rows.specs.Settle.{fire};
+ghost use Rattle.zt_cascade.specs.PacketRoom.{HasRoomToFire};
+ghost use Rattle.zt_cascade.specs.RemovedObject.{IsAhead};
+ghost use Rattle.zt_cascade.specs.RaisedWaits.{HasRoomFor, fire_number};
+
+use crate::raised_waits::woken;
+use std::alloc::{AllocError, Global};
+use zt_ports::fire;
+use zt_store::Step;
+
+/// Fires the waits that are met, by rising number. The step began consistent, so that only those can be met that this
+/// step may have woken: no other wait is looked at. Refused, the step stands in the middle of it.
+pub(crate) fn fire_all(step: &mut Step, alloc: Global) -> Result<(), AllocError>
+    requires began { IsConsistent step.old.beginning }
+    requires room { HasRoomToFire step.old.current }
+    ensures ahead { IsAhead step.old step.new }
+    ensures ok { OnOk result (step.new.current ≡ fold fire step.old.current (waits step.old.current)) }
+{
+    let mut numbers = woken(step, alloc)?;
+    numbers.sort_unstable();
+    for number in &numbers {
+        fire_number(step, *number)?;
+    }
+    Ok(())
+}
+
+/// Where there is a wait of this number and it is met, takes it away and puts the news at the end of its port.
+fn fire_number(step: &mut Step, number: u64) -> Result<(), AllocError>
+    requires { HasRoomFor step.old.current number }
+    ensures ahead { IsAhead step.old step.new }
+    ensures ok { OnOk result (step.new.current ≡ fire_number step.old.current number) }
+{
+    match step.wait(number) {
+        Some(wait) => fire(step, number, &wait),
+        None => Ok(()),
+    }
+}

@@ -1,0 +1,132 @@
+ghost use Rattle.std.specs.Prelude.{◌≡◌, ◌≤◌, ◌<◌, ◌+◌, ◌++◌, ℕ, true, OnOk, Option, length};
+ghost use Rattle.zt_bits.specs.declared.kinds.Kind.{Kind};
+ghost use Rattle.zt_rows.specs.declared.keys.RowKey.{RowKey};
+ghost use Rattle.zt_rows.specs.declared.keys.RowKey.TheVariants as key;
+ghost use Rattle.zt_rows.specs.declared.rows.Wait.{Wait};
+ghost use Rattle.zt_rows.specs.Collect.{without};
+ghost use Rattle.zt_rows.specs.Reads.{message, object, wait};
+ghost use Rattle.zt_rows.specs.Room.{SuitsKey};
+ghost use Rattle.zt_rows.specs.State.{row};
+ghost use Rattle.zt_rows.specs.Tests.{among, is_port};
+ghost use Rattle.zt_cascade.specs.JoinedLinks.{IsJoined, WaitsForPorts};
+ghost use Rattle.zt_cascade.specs.RemovedObject.{IsAhead, IsLeft, AreHandlesListed, IsPartly, handles_in, koids, weight};
+ghost use Rattle.zt_cascade.specs.OneByOne.{IsLetGo, only};
+
+use crate::removed_object::leave;
+use std::alloc::AllocError;
+use zt_bits::Kind;
+use zt_rows::{Held, Koid, ObjectRow, RowKey};
+use zt_store::Step;
+
+/// Takes the object out with what it owns, and adds to the list what it may let go.
+pub(crate) fn take_out(
+    step: &mut Step,
+    koid: Koid,
+    found: &ObjectRow,
+    list: &mut Vec<Koid>,
+) -> Result<(), AllocError>
+    requires there { object step.old.current koid ≡ Option.Some found.now }
+    requires joined { IsJoined step.old.current }
+    requires waits { WaitsForPorts step.old.current }
+    ensures ahead { IsAhead step.old step.new }
+    ensures ok { OnOk result (step.new.current ≡ without step.old.current (only koid)) }
+    ensures noted { OnOk result ((y : ℕ) → IsLetGo step.old.current koid y → among list.new.items y ≡ true) }
+    ensures grown { OnOk result ((y : ℕ) → among list.old.items y ≡ true → among list.new.items y ≡ true) }
+    ensures lighter { OnOk result (weight step.new.current + length list.new.items ≤ weight step.old.current + length list.old.items) }
+{
+    take_row(step, koid, found)?;
+    take_messages(step, koid, list)?;
+    take_packets(step, koid)?;
+    take_waits(step, koid, found.kind)?;
+    list.push(found.link)?;
+    Ok(())
+}
+
+/// Takes the row of the object away, and cuts the link of its peer.
+fn take_row(step: &mut Step, koid: Koid, found: &ObjectRow) -> Result<(), AllocError>
+    requires there { object step.old.current koid ≡ Option.Some found.now }
+    requires joined { IsJoined step.old.current }
+    ensures ahead { IsAhead step.old step.new }
+    ensures partly { OnOk result (IsPartly koid step.old.current step.new.current) }
+    ensures objects { OnOk result ((y : ℕ) → IsLeft koid step.new.current (key.Object y)) }
+    ensures messages { OnOk result ((n : ℕ) → message step.new.current koid n ≡ message step.old.current koid n) }
+    ensures lighter { OnOk result (weight step.new.current + 1 ≤ weight step.old.current) }
+{
+    leave(step, koid, RowKey::Object(koid))?;
+    leave(step, koid, RowKey::Object(found.link))
+}
+
+/// Takes the queue of the endpoint away, and adds to the list what its messages name.
+fn take_messages(step: &mut Step, endpoint: Koid, list: &mut Vec<Koid>) -> Result<(), AllocError>
+    ensures ahead { IsAhead step.old step.new }
+    ensures partly { OnOk result (IsPartly endpoint step.old.current step.new.current) }
+    ensures noted { OnOk result (AreHandlesListed endpoint step.old.current list.old.items step.new.current list.new.items) }
+    ensures gone { OnOk result ((n : ℕ) → row step.new.current (key.Msg endpoint n) ≡ Option.None) }
+    ensures suited { OnOk result ((k : RowKey) → SuitsKey k (row step.new.current k)) }
+{
+    while let Some(number) = step.first_message(endpoint) {
+        note_handles(step, endpoint, number, list)?;
+        leave(step, endpoint, RowKey::Msg(endpoint, number))?;
+    }
+    Ok(())
+}
+
+/// Adds to the list what the handles of the message name.
+fn note_handles(
+    step: &Step,
+    endpoint: Koid,
+    number: u64,
+    list: &mut Vec<Koid>,
+) -> Result<(), AllocError>
+    ensures { OnOk result (list.new.items ≡ list.old.items ++ koids (handles_in (message step.now.current endpoint number))) }
+{
+    match step.message(endpoint, number) {
+        Some(message) => add_koids(list, message.handles().as_slice()),
+        None => Ok(()),
+    }
+}
+
+/// Adds to the list what the handles name.
+pub(crate) fn add_koids(list: &mut Vec<Koid>, handles: &[Held]) -> Result<(), AllocError>
+    ensures { OnOk result (list.new.items ≡ list.old.items ++ koids handles.now) }
+{
+    for held in handles {
+        list.push(held.koid)?;
+    }
+    Ok(())
+}
+
+/// Takes the packets of the port away.
+fn take_packets(step: &mut Step, port: Koid) -> Result<(), AllocError>
+    requires suited { (k : RowKey) → SuitsKey k (row step.old.current k) }
+    ensures ahead { IsAhead step.old step.new }
+    ensures partly { OnOk result (IsPartly port step.old.current step.new.current) }
+    ensures gone { OnOk result ((n : ℕ) → row step.new.current (key.Packet port n) ≡ Option.None) }
+{
+    while let Some(number) = step.first_packet(port) {
+        leave(step, port, RowKey::Packet(port, number))?;
+    }
+    Ok(())
+}
+
+/// Takes away the waits for the object, which only a port has. Other waits are not looked at.
+fn take_waits(step: &mut Step, koid: Koid, kind: Kind) -> Result<(), AllocError>
+    requires { (n : ℕ) (w : Wait) → wait step.old.current n ≡ Option.Some w → w.port ≡ koid → kind ≡ Kind.Port }
+    ensures ahead { IsAhead step.old step.new }
+    ensures partly { OnOk result (IsPartly koid step.old.current step.new.current) }
+    ensures waits { OnOk result ((n : ℕ) → IsLeft koid step.new.current (key.Wait n)) }
+{
+    if !is_port(kind) {
+        return Ok(());
+    }
+    'waits: while let Some(number) = step.wait_for(koid, None) {
+        leave(step, koid, RowKey::Wait(number))?;
+    }
+    Ok(())
+}
+
+fn is_port(kind: Kind) -> bool
+    ensures { result ≡ is_port kind }
+{
+    kind == Kind::Port
+}

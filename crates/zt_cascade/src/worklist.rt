@@ -1,0 +1,144 @@
+ghost use Rattle.std.specs.Prelude.{◌≡◌, ◌≤◌, ◌+◌, ◌∷◌, ℕ, true, IfOk, OnErr, OnOk, Option, if◌then◌else◌, length, not};
+ghost use Rattle.zt_rows.specs.declared.keys.RowKey.{RowKey};
+ghost use Rattle.zt_rows.specs.Collect.{collect, goes, without};
+ghost use Rattle.zt_rows.specs.Reads.{object};
+ghost use Rattle.zt_rows.specs.Support.{is_supported};
+ghost use Rattle.zt_rows.specs.Tests.{among, link_at};
+ghost use Rattle.zt_store.specs.Places.{Keeps};
+ghost use Rattle.zt_store.specs.StepView.{Advanced, AsBegun, listed};
+ghost use Rattle.zt_cascade.specs.ToldObjects.{IsCovered, IsListed};
+ghost use Rattle.zt_cascade.specs.JoinedLinks.{IsJoined, WaitsForPorts};
+ghost use Rattle.zt_cascade.specs.RemovedObject.{Covers, IsAhead, weight};
+ghost use Rattle.zt_cascade.specs.OneByOne.{only};
+
+use crate::removed_rows::{add_koids, take_out};
+use std::alloc::{AllocError, Global};
+use zt_rows::{Held, Koid, ObjectRow, RowKey};
+use zt_store::Step;
+
+/// Takes out all objects that nothing supports, with what they own, and what goes after them: "releasing is
+/// collecting". Each object that may go has to be told of, by a handle in the list or by a row put in this step. The
+/// work grows with what goes and with the keys that the step put, and not with the rows that there are; only a port
+/// that goes has all waits looked at. Refused for memory, the step is as it was begun.
+pub fn release(step: &mut Step, alloc: Global, released: Vec<Held>) -> Result<(), AllocError>
+    requires joined { IsJoined step.old.current }
+    requires waits { WaitsForPorts step.old.current }
+    requires covered { IsCovered step.old released.items }
+    ensures ok { OnOk result (Advanced step.old step.new (collect step.old.current)) }
+    ensures err { OnErr result (AsBegun step.old step.new) }
+    ensures kept { Keeps step.old.places step.new.places }
+{
+    let done = release_all(step, alloc, released.as_slice());
+    if done.is_err() {
+        step.reset();
+    }
+    done
+}
+
+/// Takes out what goes. Refused, the step stands in the middle of it.
+fn release_all(step: &mut Step, alloc: Global, released: &[Held]) -> Result<(), AllocError>
+    requires joined { IsJoined step.old.current }
+    requires waits { WaitsForPorts step.old.current }
+    requires covered { IsCovered step.old released.now }
+    ensures ahead { IsAhead step.old step.new }
+    ensures ok { OnOk result (step.new.current ≡ collect step.old.current) }
+{
+    let list = list_all(step, alloc, released)?;
+    follow(step, list)
+}
+
+/// The list of all that the step tells of.
+fn list_all(step: &Step, alloc: Global, released: &[Held]) -> Result<Vec<Koid>, AllocError>
+    requires { IsCovered step.now released.now }
+    ensures { IfOk result (λ list. Covers list.items step.now.current) }
+{
+    let mut list = Vec::new(alloc);
+    add_touched(step, &mut list)?;
+    add_koids(&mut list, released)?;
+    Ok(list)
+}
+
+/// Adds to the list the objects whose rows were put in this step, and their links at its beginning.
+fn add_touched(step: &Step, list: &mut Vec<Koid>) -> Result<(), AllocError>
+    ensures { OnOk result ((k : RowKey) → listed step.now.touched k ≡ true → IsListed step.now.beginning k list.new.items) }
+{
+    for i in 0..usize::MAX {
+        let Some(key) = step.touched(i) else {
+            return Ok(());
+        };
+        add_key(step, key, list)?;
+    }
+    Err(AllocError)
+}
+
+/// Adds to the list the object whose key it is, and its link at the beginning of the step.
+fn add_key(step: &Step, key: RowKey, list: &mut Vec<Koid>) -> Result<(), AllocError>
+    ensures listed { OnOk result (IsListed step.now.beginning key list.new.items) }
+    ensures grown { OnOk result ((y : ℕ) → among list.old.items y ≡ true → among list.new.items y ≡ true) }
+{
+    let RowKey::Object(koid) = key else {
+        return Ok(());
+    };
+    list.push(koid)?;
+    list.push(first_link(step, koid))?;
+    Ok(())
+}
+
+/// The link of the object at the beginning of the step, 0 for none.
+pub(crate) fn first_link(step: &Step, koid: Koid) -> Koid
+    ensures { result ≡ link_at step.now.beginning koid }
+{
+    match step.object_was(koid) {
+        Some(object) => object.link,
+        None => Koid(0),
+    }
+}
+
+/// Takes out the objects of the list that nothing supports, and what goes after them, until nothing goes.
+fn follow(step: &mut Step, list: Vec<Koid>) -> Result<(), AllocError>
+    requires joined { IsJoined step.old.current }
+    requires waits { WaitsForPorts step.old.current }
+    requires covered { Covers list.items step.old.current }
+    ensures ahead { IsAhead step.old step.new }
+    ensures ok { OnOk result (step.new.current ≡ collect step.old.current) }
+{
+    let mut list = list;
+    while let Some(koid) = list.pop() {
+        look_at(step, koid, &mut list)?;
+    }
+    Ok(())
+}
+
+/// Takes the object out if nothing supports it, and adds to the list what it may let go.
+fn look_at(step: &mut Step, koid: Koid, list: &mut Vec<Koid>) -> Result<(), AllocError>
+    requires joined { IsJoined step.old.current }
+    requires waits { WaitsForPorts step.old.current }
+    ensures ahead { IsAhead step.old step.new }
+    ensures ok { OnOk result (step.new.current ≡ (if goes step.old.current koid then without step.old.current (only koid) else step.old.current)) }
+    ensures covered { OnOk result (Covers (koid ∷ list.old.items) step.old.current → Covers list.new.items step.new.current) }
+    ensures lighter { OnOk result (weight step.new.current + length list.new.items ≤ weight step.old.current + length list.old.items) }
+{
+    match unsupported(step, koid) {
+        Some(object) => take_out(step, koid, &object, list),
+        None => Ok(()),
+    }
+}
+
+/// The object, if it is there and nothing supports it.
+fn unsupported(step: &Step, koid: Koid) -> Option<ObjectRow>
+    ensures { result ≡ (if goes step.now.current koid then object step.now.current koid else Option.None) }
+{
+    if is_free(step, koid) {
+        step.object(koid)
+    } else {
+        None
+    }
+}
+
+/// Whether nothing supports the object.
+#[tactic(auto, using(crate::proofs::ReleasingLaws::counted))]
+fn is_free(step: &Step, koid: Koid) -> bool
+    ensures { result ≡ not (is_supported step.now.current koid) }
+{
+    step.count(koid) == 0
+}

@@ -1,6 +1,0 @@
--- What is written is written, whether or not that is all.
-use Rattle.zt_console.proofs.TalkLaws.{written_short}
-use Rattle.zt_console.proofs.feeding.out_of_memory.Goals as goal
-
-pub returns-in-Ok-clause-written : goal.returns-in-Ok-clause-written
-returns-in-Ok-clause-written g c = written_short _ _ _ _ c.in-Ok.ensures.written

@@ -1,0 +1,70 @@
+ghost use Rattle.std.specs.Prelude.{◌≡◌, ◌<◌, ◌≤◌, ◌-◌, ◌^◌, length, is_ok, OnOk};
+ghost use Rattle.std.specs.Io.KnownBytes.{IsAtEnd};
+ghost use Rattle.zt_console.specs.BookRun.{is_pin, AsksBook};
+ghost use Rattle.zt_console.specs.Run.{HasTalked, IsCause, outcome};
+
+use crate::counted_faults::Counted;
+use crate::responder::Responder;
+use crate::run_loop::{End, answer_all};
+use std::alloc::Global;
+use std::io::{Read, Write};
+use zt_book::Book;
+use zt_queries::Frozen;
+use zt_rows::{Answer, Command, Refusal};
+
+/// The client of a book that a run is for.
+const CLIENT: u8 = 1;
+
+impl Responder for Book {
+    ghost use Rattle.std.specs.Prelude.{◌≤◌, length};
+    ghost use Rattle.zt_console.specs.BookRun.{AsksBook};
+
+    ghost asks = { AsksBook };
+
+    ghost ready = { λ b. 1 ≤ length b.session.clients };
+
+    fn ask(&mut self, request: &Command) -> Result<(Answer, Option<Frozen>), Refusal> {
+        if is_pin(request) {
+            match self.pin(CLIENT) {
+                Ok((answer, copy)) => Ok((answer, Some(copy))),
+                Err(refusal) => Err(refusal),
+            }
+        } else {
+            match self.serve(CLIENT, request) {
+                Ok(answer) => Ok((answer, None)),
+                Err(refusal) => Err(refusal),
+            }
+        }
+    }
+}
+
+/// Whether the command is a pin, with which a copy of the history is made.
+pub(crate) fn is_pin(request: &Command) -> bool
+    ensures { result ≡ is_pin request.now }
+{
+    matches!(request, Command::Pin)
+}
+
+/// Answers the lines of the reader, as client 1 of the book, until its end or the first failure. Where it is
+/// stopped, a command that was served before stands, whether or not its answer could be written.
+#[tactic(auto, using(crate::proofs::KeepLaws::talked_clients))]
+pub fn run<R: Read, W: Write>(
+    alloc: Global,
+    book: Book,
+    reader: &mut Counted<R>,
+    writer: &mut Counted<W>,
+) -> (Book, End)
+    requires client { 1 ≤ length book.session.clients }
+    requires reads { reader.old.1 < 2 ^ 64 - 1 }
+    requires writes { writer.old.1 < 2 ^ 64 - 1 }
+    ensures talk { HasTalked AsksBook book result.0 (R.remaining reader.old.0) (W.contents writer.old.0) (W.contents writer.new.0) (is_ok (outcome result.1)) }
+    ensures end { OnOk (outcome result.1) (IsAtEnd (R.remaining reader.new.0)) }
+    ensures cause { IsCause (reader.old.1, reader.new.1) (writer.old.1, writer.new.1) (R.remaining reader.old.0) (outcome result.1) }
+    ensures clients { length result.0.session.clients ≡ length book.session.clients }
+{
+    let (book, outcome) = answer_all(alloc, book, reader, writer);
+    match outcome {
+        Ok(()) => (book, End::Finished),
+        Err(refusal) => (book, End::Stopped(refusal)),
+    }
+}

@@ -1,0 +1,65 @@
+ghost use Rattle.std.specs.Prelude.{◌≡◌, ◌++◌, ◌≤◌, [], true, length, OnOk, OnErr};
+ghost use Rattle.zt_console.specs.LineFeed.{decisive, has_no_feed};
+
+use std::alloc::{AllocError, Global};
+use std::marker::Model;
+
+/// How many bytes decide how a line reads: one more than a line may have.
+const DECISIVE: usize = 140_001;
+
+/// What was read of a line so far, but no more of it than decides how the line reads.
+#[derive(Drop)]
+pub(crate) struct LineBuffer {
+    bytes: Vec<u8>,
+}
+
+impl Model for LineBuffer {
+    ghost use Rattle.std.specs.Prelude.{List, ℕ};
+    ghost use Rattle.zt_console.specs.LineFeed.{IsPart};
+
+    ghost Value = { List ℕ };
+
+    ghost view = { λ p. p.bytes.items };
+
+    ghost invariant = { λ p. IsPart p.bytes.items };
+}
+
+impl LineBuffer {
+    /// Nothing of a line.
+    pub(crate) fn new(alloc: Global) -> LineBuffer
+        ensures { result ≡ [] }
+    {
+        LineBuffer {
+            bytes: Vec::new(alloc),
+        }
+    }
+
+    /// Goes on with more bytes of the line.
+    pub(crate) fn add(&mut self, bytes: &[u8]) -> Result<(), AllocError>
+        requires { has_no_feed bytes.now ≡ true }
+        ensures ok { OnOk result (self.new ≡ decisive (self.old ++ bytes.now)) }
+        ensures err { OnErr result (self.new ≡ self.old) }
+        ensures one { has_no_feed self.old ≡ true }
+    {
+        let room = DECISIVE - self.bytes().len();
+        let (kept, _) = bytes.split_at(room.min(bytes.len()));
+        self.bytes.extend_from_slice(kept)?;
+        Ok(())
+    }
+
+    /// What is kept of the line.
+    pub(crate) fn bytes(&self) -> &[u8]
+        ensures value { result.now ≡ self.now }
+        ensures one { has_no_feed self.now ≡ true }
+        ensures short { length self.now ≤ 140001 }
+    {
+        self.bytes.as_slice()
+    }
+
+    /// Begins with another line.
+    pub(crate) fn clear(&mut self)
+        ensures { self.new ≡ [] }
+    {
+        self.bytes.clear();
+    }
+}

@@ -1,0 +1,10 @@
+-- One record back.
+use Rattle.std.proofs.Common.{◌-◌, ap, arith}
+use Rattle.zt_history.specs.Timeline.{Timeline}
+use Rattle.zt_history.proofs.KeptLaws.{kept-back}
+use Rattle.zt_history.proofs.history.History.back.Goals as goal
+
+pub invariant_of-self : goal.invariant_of-self
+invariant_of-self c =
+    kept-back c.self.inside.store c.turn.new.store c.self.inside.moments c.turn.new.self c.self.inside.branches c.self.inside.undo (c.self.inside.position - 1) c.self.inside.position
+    c.turn.ensures (omega (arith, c.requires, ap (λ (h : Timeline). h.position) c.self.view_is)) c.parent-self-inside.result c.parent-self-inside.ensures c.self.invariant

@@ -1,0 +1,285 @@
+ghost use Rattle.std.specs.Prelude.{◌≡◌, ◌<◌, ◌≤◌, ◌-◌, ◌↔◌, Option, Some, None, Ok, IsTrue, IfOk, IfErr, IfSome, OnOk, OnErr, length, take, slice_get, is_some};
+ghost use Rattle.std.specs.Option.{option_copied, option_map};
+ghost use Rattle.zt_rows.specs.declared.calls.Reply.{Reply};
+ghost use Rattle.zt_rows.specs.Opening.{opening};
+ghost use Rattle.zt_rows.specs.Step.{run};
+ghost use Rattle.zt_history.specs.Tree.{call_at, reply_at, parent_at, path, end_of, state_at, calls_to, replies_to, head_at, branch_named};
+ghost use Rattle.zt_history.specs.HistoryRefusals.{IsHistoryRefusal, moment_on};
+ghost use Rattle.zt_history.specs.TreeInvariant.{recorded_at, Falls, IsTree};
+ghost use Rattle.zt_history.specs.Timeline.{at_opening, moved_to, unmoved, IsPath};
+
+use crate::branches::{BranchId, Branches};
+use crate::moments::Moments;
+use std::alloc::{AllocError, Global};
+use std::marker::Model;
+use zt_rows::{Call, Koid, Moment, Refusal, Reply};
+use zt_store::{Record, Store};
+
+/// The last moment that a history can have.
+pub const LAST_MOMENT: u32 = 1_048_576;
+
+/// The last change, if it can be taken back.
+#[derive(Clone, Copy)]
+pub(crate) enum Undo {
+    Nothing,
+    /// A call on this branch, which made the last moment.
+    Call(BranchId),
+    /// A branch, which is the last.
+    Branch,
+}
+
+/// The tree of moments, with a store at one of them, the position. Each moment has the record by which the store goes
+/// over the call that made it: back where the moment is on the path to the position, and forth where it is not.
+pub struct History {
+    pub(crate) store: Store,
+    pub(crate) moments: Moments,
+    pub(crate) branches: Branches,
+    pub(crate) position: Moment,
+    pub(crate) undo: Undo,
+}
+
+/// Lets all parts go in one call, so that a function that owns a history is proved without going through them at each of
+/// its ways out.
+impl Drop for History {
+    fn drop(self) {
+        let History {
+            store: _store,
+            moments: _moments,
+            branches: _branches,
+            position: _position,
+            undo: _undo,
+        } = self;
+    }
+}
+
+impl Model for History {
+    ghost use Rattle.zt_history.specs.Timeline.{Timeline};
+    ghost use Rattle.zt_history.specs.KeptHistory.{timeline_of, IsKept};
+
+    ghost Value = { Timeline };
+
+    ghost view = { λ h. timeline_of (record { made = h.moments.made; branches = h.branches }) h.position h.undo };
+
+    ghost invariant = { λ h. IsKept h.store h.moments h.branches h.position h.undo };
+}
+
+impl History {
+    /// The history at the opening, with the branch `main`.
+    pub fn new(alloc: Global) -> Result<History, AllocError>
+        ensures { IfOk result (λ history. history ≡ at_opening) }
+    {
+        Ok(History {
+            store: Store::opening(alloc)?,
+            moments: Moments::new(alloc),
+            branches: Branches::new(alloc)?,
+            position: Moment(0),
+            undo: Undo::Nothing,
+        })
+    }
+
+    /// The branch of the name. It takes no memory.
+    pub fn find(&self, name: &[u8]) -> Option<BranchId>
+        ensures found { result ≡ branch_named self.now.tree.branches name.now }
+        ensures within { IfSome result (λ id. id < length self.now.tree.branches) }
+    {
+        self.branches.find(name)
+    }
+
+    /// The head of a branch. It takes no memory.
+    pub fn head(&self, id: BranchId) -> Moment
+        requires { id < length self.now.tree.branches }
+        ensures head { result ≡ head_at self.now.tree.branches id }
+        ensures within { result ≤ length self.now.tree.made }
+    {
+        self.branches.head(id)
+    }
+
+    /// The last moment. It takes no memory.
+    pub fn last(&self) -> Moment
+        ensures last { result ≡ length self.now.tree.made }
+        ensures few { result ≤ 1048576 }
+    {
+        self.moments.last()
+    }
+
+    /// The moment at which the store stands. It takes no memory.
+    pub fn position(&self) -> Moment
+        ensures position { result ≡ self.now.position }
+        ensures within { result ≤ length self.now.tree.made }
+        ensures tree { IsTree self.now.tree }
+    {
+        self.position
+    }
+
+    /// The store, which is at the position: its rows are those to which the calls on the path there lead from the
+    /// opening, with the replies of the moments on that path. It takes no memory.
+    pub fn store(&self) -> &Store
+        ensures state { result.now.state ≡ state_at self.now.tree.made self.now.position }
+        ensures run { (result.now.state, replies_to self.now.tree.made self.now.position) ≡ run opening (calls_to self.now.tree.made self.now.position) }
+    {
+        &self.store
+    }
+
+    /// What a moment's call answered; nothing for the opening, nor beyond the last moment. It takes no memory.
+    pub fn reply_of(&self, moment: Moment) -> Option<&Reply>
+        ensures { option_copied result ≡ reply_at self.now.tree.made moment }
+    {
+        match self.moments.node(moment) {
+            Some(node) => Some(&node.reply),
+            None => None,
+        }
+    }
+
+    /// The call that made a moment, with its process; nothing for the opening, nor beyond the last moment. It takes
+    /// no memory.
+    pub fn call_of(&self, moment: Moment) -> Option<(Koid, &Call)>
+        ensures { option_map (λ p. (p.0, p.1.now)) result ≡ call_at self.now.tree.made moment }
+    {
+        match self.moments.node(moment) {
+            Some(node) => Some((node.process, &node.call)),
+            None => None,
+        }
+    }
+
+    /// The record of a moment: the rows before its call where it is on the path to the position, else the rows after
+    /// it; nothing for the opening, nor beyond the last moment. It takes no memory.
+    pub fn record_of(&self, moment: Moment) -> Option<&Record>
+        ensures { option_copied result ≡ recorded_at self.now.tree.made self.now.position moment }
+    {
+        match self.moments.node(moment) {
+            Some(node) => Some(&node.change),
+            None => None,
+        }
+    }
+
+    /// Whether the last call by `&mut` was `call` or `branch` and was answered, so that `retract` can take it back. It
+    /// takes no memory.
+    pub fn can_retract(&self) -> bool
+        ensures { result ≡ is_some self.now.before }
+    {
+        match self.undo {
+            Undo::Nothing => false,
+            Undo::Call(_) => true,
+            Undo::Branch => true,
+        }
+    }
+
+    /// How many moments there are on the path to a moment. It takes no memory.
+    pub fn depth_of(&self, moment: Moment) -> u32
+        requires { moment ≤ length self.now.tree.made }
+        ensures { result ≡ length (path self.now.tree.made moment) }
+    {
+        self.moments.depth(moment)
+    }
+
+    /// The moments after the opening up to a moment: what `along` is to be given to go there. It takes memory for the
+    /// list alone, in one request.
+    pub fn path(&self, moment: Moment) -> Result<Vec<Moment>, Refusal>
+        ensures ok { IfOk result (λ way. way.items ≡ path self.now.tree.made moment) }
+        ensures end { IfOk result (λ way. end_of way.items ≡ moment) }
+        ensures within { OnOk result (moment_on self.now.tree moment ≡ Ok moment) }
+        ensures refused { IfErr result (IsHistoryRefusal (moment_on self.now.tree moment)) }
+    {
+        self.moments.limits();
+        let last = self.last();
+        if moment > last {
+            return Err(Refusal::NoMoment);
+        }
+        match self.moments.path(moment) {
+            Ok(way) => Ok(way),
+            Err(_) => Err(Refusal::OutOfMemory),
+        }
+    }
+
+    /// Moves the store along a list that `path` gives, to its last moment: back to the last moment that both paths
+    /// share, and forth from there. It takes no memory and cannot fail.
+    pub fn along(&mut self, way: &[Moment])
+        requires { IsPath self.old.tree.made way.now }
+        ensures { self.new ≡ moved_to self.old (end_of way.now) }
+    {
+        let shared = self.back_to(way);
+        for place in shared..way.len() {
+            self.forth(way[place]);
+        }
+    }
+
+    /// Moves the store to a moment, at the cost of the list of its path and of the records on the way. Refused, it
+    /// stays where it is.
+    pub fn goto(&mut self, moment: Moment) -> Result<(), Refusal>
+        ensures ok { OnOk result (self.new ≡ moved_to self.old moment) }
+        ensures within { OnOk result (moment_on self.old.tree moment ≡ Ok moment) }
+        ensures refused { IfErr result (IsHistoryRefusal (moment_on self.old.tree moment)) }
+        ensures err { OnErr result (self.new ≡ unmoved self.old) }
+    {
+        self.forget();
+        let way = self.path(moment)?;
+        self.along(way.as_slice());
+        Ok(())
+    }
+
+    /// From here on nothing can be taken back.
+    pub(crate) fn forget(&mut self)
+        ensures { self.new ≡ unmoved self.old }
+    {
+        self.undo = Undo::Nothing;
+    }
+
+    /// Moves the store back to the last moment that its path shares with this one, and tells how many they share.
+    fn back_to(&mut self, way: &[Moment]) -> usize
+        requires { IsPath self.old.tree.made way.now }
+        ensures moved { self.new ≡ moved_to self.old self.new.position }
+        ensures within { result ≤ length way.now }
+        ensures shared { path self.old.tree.made self.new.position ≡ take result way.now }
+        ensures falls { Falls self.old.tree.made }
+    {
+        self.forget();
+        let mut depth = self.depth() as usize;
+        while depth > 0 && !stands_at(way, depth - 1, self.position()) {
+            self.back();
+            depth -= 1;
+        }
+        depth
+    }
+
+    /// How many moments there are on the path to the position.
+    fn depth(&self) -> u32
+        ensures depth { result ≡ length (path self.now.tree.made self.now.position) }
+        ensures falls { Falls self.now.tree.made }
+    {
+        self.moments.limits();
+        self.moments.depth(self.position)
+    }
+
+    /// Moves the store to the parent of the position.
+    fn back(&mut self)
+        requires { 0 < self.old.position }
+        ensures { self.new ≡ moved_to self.old (parent_at self.old.tree.made self.old.position) }
+    {
+        let position = self.position;
+        self.moments.turn(&mut self.store, position);
+        self.position = self.moments.parent(position);
+        self.undo = Undo::Nothing;
+    }
+
+    /// Moves the store to a moment whose parent is the position.
+    fn forth(&mut self, moment: Moment)
+        requires some { 0 < moment }
+        requires there { moment ≤ length self.old.tree.made }
+        requires next { parent_at self.old.tree.made moment ≡ self.old.position }
+        ensures { self.new ≡ moved_to self.old moment }
+    {
+        self.moments.turn(&mut self.store, moment);
+        self.position = moment;
+        self.undo = Undo::Nothing;
+    }
+}
+
+/// Whether the moment stands at the place of the list.
+fn stands_at(way: &[Moment], place: usize, moment: Moment) -> bool
+    ensures { IsTrue result ↔ (slice_get way.now place ≡ Some moment) }
+{
+    match way.get(place) {
+        Some(there) => *there == moment,
+        None => false,
+    }
+}

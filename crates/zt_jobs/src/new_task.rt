@@ -1,0 +1,86 @@
+ghost use Rattle.std.specs.Prelude.{◌≡◌, ◌+◌, ◌<◌, ◌^◌, IfOk, OnErr, if◌then◌else◌};
+ghost use Rattle.zt_bits.specs.declared.kinds.Kind.TheVariants as kind_variant;
+ghost use Rattle.zt_rows.specs.Handles.{fresh, make, next_koid};
+ghost use Rattle.zt_rows.specs.JobCalls.{child, hand_over};
+ghost use Rattle.zt_rows.specs.Reads.{counters};
+ghost use Rattle.zt_store.specs.Places.{Keeps};
+ghost use Rattle.zt_store.specs.StepView.{Advanced, AsBegun};
+
+use std::alloc::AllocError;
+use zt_bits::{Kind, Signals};
+use zt_rows::{Counters, HandleValue, Held, Koid, Life, ObjectRow, Row, RowKey};
+use zt_store::Step;
+
+/// A new live job under the parent, at the next koid.
+pub fn make_job(step: &mut Step, parent: Koid) -> Result<Koid, AllocError>
+    requires { next_koid step.old.current + 1 < 2 ^ 64 }
+    ensures koid { IfOk result (λ koid. koid ≡ next_koid step.old.current) }
+    ensures made { let S = step.old.current in
+        IfOk result (λ _. Advanced step.old step.new (make (counters S) (fresh kind_variant.Job parent) S)) }
+    ensures err { OnErr result (AsBegun step.old step.new) }
+    ensures kept { Keeps step.old.places step.new.places }
+{
+    make(step, fresh(Kind::Job, parent))
+}
+
+/// A new live process under the job, at the next koid. What is handed over is its first handle.
+pub fn make_process(step: &mut Step, job: Koid, given: Option<Held>) -> Result<Koid, AllocError>
+    requires { next_koid step.old.current + 1 < 2 ^ 64 }
+    ensures koid { IfOk result (λ koid. koid ≡ next_koid step.old.current) }
+    ensures made { let S = step.old.current in IfOk result (λ _. Advanced step.old step.new
+        (hand_over given (next_koid S) (make (counters S) (child given job) S))) }
+    ensures err { OnErr result (AsBegun step.old step.new) }
+    ensures kept { Keeps step.old.places step.new.places }
+{
+    let process = make(step, child(given.is_some(), job))?;
+    if let Some(held) = given {
+        step.put(
+            RowKey::Entry(process, HandleValue(3)),
+            Some(Row::Entry(held)),
+        )?;
+    }
+    Ok(process)
+}
+
+/// The object at the next koid.
+fn make(step: &mut Step, object: ObjectRow) -> Result<Koid, AllocError>
+    requires { next_koid step.old.current + 1 < 2 ^ 64 }
+    ensures koid { IfOk result (λ koid. koid ≡ next_koid step.old.current) }
+    ensures made { let S = step.old.current in
+        IfOk result (λ _. Advanced step.old step.new (make (counters S) object S)) }
+    ensures err { OnErr result (AsBegun step.old step.new) }
+    ensures kept { Keeps step.old.places step.new.places }
+{
+    let counters = step.counters();
+    let koid = counters.next_koid;
+    let raised = Counters {
+        next_koid: Koid(koid.0 + 1),
+        ..counters
+    };
+    step.put(RowKey::Object(koid), Some(Row::Object(object)))?;
+    step.put(RowKey::Counters, Some(Row::Counters(raised)))?;
+    Ok(koid)
+}
+
+/// A new live object of the kind, linked so.
+fn fresh(kind: Kind, link: Koid) -> ObjectRow
+    ensures { result ≡ fresh kind link }
+{
+    ObjectRow {
+        kind,
+        signals: Signals(0),
+        link,
+        life: Life::Live,
+        next: 0,
+    }
+}
+
+/// A new live process under the job, which has received a handle or none.
+fn child(has_handle: bool, job: Koid) -> ObjectRow
+    ensures { result ≡ record (fresh kind_variant.Process job) { next = if has_handle then 1 else 0 } }
+{
+    ObjectRow {
+        next: u64::from(has_handle),
+        ..fresh(Kind::Process, job)
+    }
+}

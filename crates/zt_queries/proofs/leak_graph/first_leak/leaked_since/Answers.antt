@@ -1,0 +1,15 @@
+-- Found where the object is known at the end of the path, and refused where it is not.
+use Rattle.std.proofs.Common.{sym, ◌∙◌}
+use Rattle.zt_rows.specs.declared.calls.Happening.TheVariants as happening
+use Rattle.zt_queries.proofs.WhenLaws.{when-known, when-unknown}
+use Rattle.zt_queries.proofs.leak_graph.first_leak.leaked_since.Goals as goal
+
+pub returns-then-not-is_known-clause-refused : goal.returns-then-not-is_known-clause-refused
+returns-then-not-is_known-clause-refused c =
+    when-unknown c.args.history.now.tree.made c.in_ok-ways.ensures.ways.tree.moments.falls c.args.at c.args.koid happening.Leaked c.in_ok-ways.ways.way.items
+    c.in_ok-ways.ensures.way (sym c.is_known.ensures ∙ c.if-not-is_known.true)
+
+pub returns-in-Ok-clause-ok : goal.returns-in-Ok-clause-ok
+returns-in-Ok-clause-ok c =
+    when-known c.args.history.now.tree.made c.in_ok-ways.ensures.ways.tree.moments.falls c.args.at c.args.koid happening.Leaked c.in_ok-ways.ways.way.items
+    c.in_ok-ways.ensures.way c.in-Ok.found (sym c.is_known.ensures ∙ c.if-not-is_known.false) c.in-Ok.ensures

@@ -1,0 +1,16 @@
+-- What is left of all keys is what is leaked.
+use Rattle.std.proofs.Common.{◌∙◌, ap}
+use Rattle.std.specs.List.{filter_map}
+use Rattle.std.specs.Ordering.{nat_cmp}
+use Rattle.std.specs.BTreeSet.{contains}
+use Rattle.zt_queries.specs.LeakGraph.{left_at}
+use Rattle.zt_queries.proofs.ListLeaks.{left_leaks}
+use Rattle.zt_queries.proofs.leak_graph.leak_list.leaks_in.Goals as goal
+
+pub returns : goal.returns
+returns c =
+    let S = c.args.store.now.state in
+    let found = c.in_ok-found.ensures S c.in_ok-graph.ensures in
+    let left = left_at c.in_ok-graph.graph (contains nat_cmp c.in_ok-found.found.reached) (contains nat_cmp c.in_ok-found.found.above) in
+    c.new.ensures ∙ c.in_ok-list.ensures ∙ ap (filter_map left) (c.as_slice.ensures.value ∙ c.in_ok-keys.ensures)
+    ∙ left_leaks c.in_ok-graph.graph S c.in_ok-graph.ensures (contains nat_cmp c.in_ok-found.found.reached) (contains nat_cmp c.in_ok-found.found.above) found.of_reached found.of_above

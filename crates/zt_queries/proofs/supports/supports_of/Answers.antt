@@ -1,9 +1,0 @@
--- The four kinds of supports, one after another.
-use Rattle.zt_queries.proofs.HoldLaws.{all_parts}
-use Rattle.zt_queries.proofs.supports.supports_of.Goals as goal
-
-pub returns : goal.returns
-returns c =
-    all_parts c.args.koid c.args.store.now.state c.args.found.now c.new-list.result.items c.add_supports.new.list.items c.add_supports-2.new.list.items
-    c.add_children.new.list.items c.add_itself.new.list.items c.requires c.new-list.ensures.items
-    c.in_ok-add_supports.ensures c.in_ok-add_supports-2.ensures c.in_ok-add_children.ensures c.in_ok-add_itself.ensures

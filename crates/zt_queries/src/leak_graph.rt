@@ -1,0 +1,9 @@
+//! The graph in which leaks are looked for: drawn of a state, moved along a path by the records on the way, and searched
+//! for what can be reached.
+
+pub mod first_leak;
+pub(crate) mod graph;
+pub mod leak_list;
+pub(crate) mod moved_graph;
+pub(crate) mod reachability;
+pub(crate) mod unleaked_signs;

@@ -1,0 +1,306 @@
+ghost use Rattle.std.specs.Prelude.{◌≡◌, ◌==◌, ◌&&◌, ◌||◌, ◌≤◌, ◌<◌, ◌+◌, true, false, Some, IfOk, IfErr, Ok, None, filter, length};
+ghost use Rattle.std.specs.List.{last_or};
+ghost use Rattle.zt_rows.specs.declared.calls.Happening.TheVariants as happening;
+ghost use Rattle.zt_rows.specs.Reads.{is_process};
+ghost use Rattle.zt_rows.specs.State.{State};
+ghost use Rattle.zt_rows.specs.Support.{root_job};
+ghost use Rattle.zt_queries.specs.Happenings.{leaked};
+ghost use Rattle.zt_queries.specs.Leaks.{is_leaked};
+ghost use Rattle.zt_queries.specs.HappeningTimes.{IsRefusedWhen, at_moment, when_on};
+ghost use Rattle.zt_queries.specs.RowHappenings.{AreWays};
+ghost use Rattle.zt_queries.specs.LeakGraph.{IsGraph};
+ghost use Rattle.zt_queries.specs.FirstLeak.{state_after, IsLast, IsFirstLeak};
+
+use crate::happening_times::{PathPair, is_known, ways_to};
+use crate::leak_graph::graph::{Graph, GraphNode, copy_of, node_of};
+use crate::leak_graph::leak_list::{is_leaked, reachability_of};
+use crate::leak_graph::moved_graph::{go_back, go_forth, graph_at};
+use crate::leak_graph::reachability::entered;
+use crate::leak_graph::unleaked_signs::{is_unleaked_at, last_there, unleaked_before};
+use std::alloc::{AllocError, Global};
+use zt_bits::Kind;
+use zt_history::History;
+use zt_rows::{Koid, Moment, ROOT_JOB, Refusal};
+
+/// The moment on the path to `at` at which the object was leaked, if it was. Where the object's own row, the store or the
+/// records show that it was not leaked when it was there last, it never was, and this reads no more than `made`. Else it
+/// is found in a graph that the records of the path move, without a store: since what is leaked stays so, half of the
+/// moments that are left are passed over by each look at what is reached. It takes memory for two such graphs.
+pub fn leaked_since(
+    alloc: Global,
+    history: &History,
+    at: Moment,
+    koid: Koid,
+) -> Result<Option<Moment>, Refusal>
+    requires there { at ≤ length history.now.tree.made }
+    ensures ok { IfOk result (λ found. when_on happening.Leaked history.now.tree.made at koid ≡ Ok found) }
+    ensures refused { IfErr result (IsRefusedWhen (when_on happening.Leaked history.now.tree.made at koid)) }
+{
+    let ways = ways_to(history, at)?;
+    if !is_known(history, &ways, koid) {
+        return Err(Refusal::NoObject);
+    }
+    match last_leaked(alloc, history, &ways, koid) {
+        Ok(found) => Ok(found),
+        Err(_) => Err(Refusal::OutOfMemory),
+    }
+}
+
+/// The last moment of the way at which the object was leaked.
+fn last_leaked(
+    alloc: Global,
+    history: &History,
+    ways: &PathPair,
+    koid: Koid,
+) -> Result<Option<Moment>, AllocError>
+    requires { AreWays history.now ways.now.way.items ways.now.here.items ways.now.shared }
+    ensures { IfOk result (λ found. found ≡ last_or None (filter (at_moment (leaked koid) history.now.tree.made) ways.now.way.items)) }
+{
+    let last = last_there(history, ways, koid);
+    let sure = last.sure;
+    if sure {
+        return Ok(None);
+    }
+    if last.place > ways.shared {
+        leaked_beyond(alloc, history, ways, koid, last.place)
+    } else {
+        leaked_within(alloc, history, ways, koid, last.place)
+    }
+}
+
+/// The same where the object is there for the last time at a place that both paths share.
+fn leaked_within(
+    alloc: Global,
+    history: &History,
+    ways: &PathPair,
+    koid: Koid,
+    place: usize,
+) -> Result<Option<Moment>, AllocError>
+    requires ways { AreWays history.now ways.now.way.items ways.now.here.items ways.now.shared }
+    requires last { IsLast history.now.tree.made ways.now.way.items koid place }
+    requires shared { place ≤ ways.now.shared }
+    ensures { IfOk result (λ found. found ≡ last_or None (filter (at_moment (leaked koid) history.now.tree.made) ways.now.way.items)) }
+{
+    if is_unleaked_at(history, ways, koid, place) {
+        return Ok(None);
+    }
+    let graph = graph_at(alloc, history, ways, place)?;
+    let leaks = leaked_in(alloc, &graph, koid)?;
+    if !leaks {
+        return Ok(None);
+    }
+    let moment = first_leak_within(alloc, history, ways, koid, graph, place)?;
+    Ok(Some(moment))
+}
+
+/// The same where that place is beyond.
+fn leaked_beyond(
+    alloc: Global,
+    history: &History,
+    ways: &PathPair,
+    koid: Koid,
+    place: usize,
+) -> Result<Option<Moment>, AllocError>
+    requires ways { AreWays history.now ways.now.way.items ways.now.here.items ways.now.shared }
+    requires last { IsLast history.now.tree.made ways.now.way.items koid place }
+    requires beyond { ways.now.shared < place }
+    ensures { IfOk result (λ found. found ≡ last_or None (filter (at_moment (leaked koid) history.now.tree.made) ways.now.way.items)) }
+{
+    let fork = graph_at(alloc, history, ways, ways.shared)?;
+    let early = leaked_in(alloc, &fork, koid)?;
+    if early {
+        let moment = first_leak_within(alloc, history, ways, koid, fork, ways.shared)?;
+        return Ok(Some(moment));
+    }
+    let late = leaked_forth(alloc, history, ways, koid, &fork, ways.shared, place)?;
+    if !late {
+        return Ok(None);
+    }
+    let first_leak = first_leak_forth(alloc, history, ways, koid, fork, place)?;
+    Ok(Some(ways.way[first_leak]))
+}
+
+/// The moment at which the object was leaked, where it is leaked at a place that both paths share, of which this is the
+/// graph. Most are leaked by the call behind the last sign that they are not, so that is looked at first.
+fn first_leak_within(
+    alloc: Global,
+    history: &History,
+    ways: &PathPair,
+    koid: Koid,
+    graph: Graph,
+    place: usize,
+) -> Result<Moment, AllocError>
+    requires ways { AreWays history.now ways.now.way.items ways.now.here.items ways.now.shared }
+    requires shared { place ≤ ways.now.shared }
+    requires drawn { IsGraph graph (state_after history.now.tree.made ways.now.way.items place) }
+    requires leaked { is_leaked (state_after history.now.tree.made ways.now.way.items place) koid ≡ true }
+    ensures { IfOk result (λ moment. Some moment ≡ last_or None (filter (at_moment (leaked koid) history.now.tree.made) ways.now.way.items)) }
+{
+    let low = unleaked_before(history, ways, koid, place);
+    let soon = leaked_back(alloc, history, ways, koid, &graph, place, low + 1)?;
+    if soon {
+        return Ok(ways.way[low]);
+    }
+    let first_leak = first_leak_back(alloc, history, ways, koid, graph, low + 1, place)?;
+    Ok(ways.way[first_leak])
+}
+
+/// The place behind which the object is leaked: after the low one, where it is not leaked, and before the high one, where
+/// it is, of which this is the graph.
+fn first_leak_back(
+    alloc: Global,
+    history: &History,
+    ways: &PathPair,
+    koid: Koid,
+    graph: Graph,
+    low: usize,
+    high: usize,
+) -> Result<usize, AllocError>
+    requires ways { AreWays history.now ways.now.way.items ways.now.here.items ways.now.shared }
+    requires shared { high ≤ ways.now.shared }
+    requires order { low < high }
+    requires drawn { IsGraph graph (state_after history.now.tree.made ways.now.way.items high) }
+    requires before { is_leaked (state_after history.now.tree.made ways.now.way.items low) koid ≡ false }
+    requires after { is_leaked (state_after history.now.tree.made ways.now.way.items high) koid ≡ true }
+    ensures { IfOk result (λ first_leak. IsFirstLeak history.now.tree.made ways.now.way.items koid first_leak) }
+{
+    let mut graph = graph;
+    let (mut below, mut above) = (low, high);
+    while above - below > 1 {
+        let middle = between(below, above);
+        let mut other = copy_of(alloc, &graph)?;
+        go_back(alloc, &mut other, history, ways, above, middle)?;
+        let leaks = leaked_in(alloc, &other, koid)?;
+        if leaks {
+            graph = other;
+            above = middle;
+        } else {
+            below = middle;
+        }
+    }
+    Ok(below)
+}
+
+/// The same beyond the places that both paths share, of the last of which this is the graph.
+fn first_leak_forth(
+    alloc: Global,
+    history: &History,
+    ways: &PathPair,
+    koid: Koid,
+    graph: Graph,
+    high: usize,
+) -> Result<usize, AllocError>
+    requires ways { AreWays history.now ways.now.way.items ways.now.here.items ways.now.shared }
+    requires within { high ≤ length ways.now.way.items }
+    requires order { ways.now.shared < high }
+    requires drawn { IsGraph graph (state_after history.now.tree.made ways.now.way.items ways.now.shared) }
+    requires before { is_leaked (state_after history.now.tree.made ways.now.way.items ways.now.shared) koid ≡ false }
+    requires after { is_leaked (state_after history.now.tree.made ways.now.way.items high) koid ≡ true }
+    ensures { IfOk result (λ first_leak. IsFirstLeak history.now.tree.made ways.now.way.items koid first_leak) }
+{
+    let mut graph = graph;
+    let (mut below, mut above) = (ways.shared, high);
+    while above - below > 1 {
+        let middle = between(below, above);
+        let mut other = copy_of(alloc, &graph)?;
+        go_forth(alloc, &mut other, history, ways, below, middle)?;
+        let leaks = leaked_in(alloc, &other, koid)?;
+        if leaks {
+            above = middle;
+        } else {
+            graph = other;
+            below = middle;
+        }
+    }
+    Ok(below)
+}
+
+/// The place in the middle between two that are not next to each other.
+fn between(low: usize, high: usize) -> usize
+    requires apart { low + 1 < high }
+    ensures above { low < result }
+    ensures below { result < high }
+{
+    low + (high - low) / 2
+}
+
+/// Whether the object is leaked at an earlier place of those that both paths share, by the graph of a later one.
+fn leaked_back(
+    alloc: Global,
+    history: &History,
+    ways: &PathPair,
+    koid: Koid,
+    graph: &Graph,
+    from: usize,
+    to: usize,
+) -> Result<bool, AllocError>
+    requires ways { AreWays history.now ways.now.way.items ways.now.here.items ways.now.shared }
+    requires shared { from ≤ ways.now.shared }
+    requires down { to ≤ from }
+    requires drawn { IsGraph graph.now (state_after history.now.tree.made ways.now.way.items from) }
+    ensures { IfOk result (λ leaked. leaked ≡ is_leaked (state_after history.now.tree.made ways.now.way.items to) koid) }
+{
+    let mut other = copy_of(alloc, graph)?;
+    go_back(alloc, &mut other, history, ways, from, to)?;
+    let leaks = leaked_in(alloc, &other, koid)?;
+    Ok(leaks)
+}
+
+/// Whether the object is leaked at a later place beyond those that both paths share, by the graph of an earlier one.
+fn leaked_forth(
+    alloc: Global,
+    history: &History,
+    ways: &PathPair,
+    koid: Koid,
+    graph: &Graph,
+    from: usize,
+    to: usize,
+) -> Result<bool, AllocError>
+    requires ways { AreWays history.now ways.now.way.items ways.now.here.items ways.now.shared }
+    requires beyond { ways.now.shared ≤ from }
+    requires up { from ≤ to }
+    requires within { to ≤ length ways.now.way.items }
+    requires drawn { IsGraph graph.now (state_after history.now.tree.made ways.now.way.items from) }
+    ensures { IfOk result (λ leaked. leaked ≡ is_leaked (state_after history.now.tree.made ways.now.way.items to) koid) }
+{
+    let mut other = copy_of(alloc, graph)?;
+    go_forth(alloc, &mut other, history, ways, from, to)?;
+    let leaks = leaked_in(alloc, &other, koid)?;
+    Ok(leaks)
+}
+
+/// Whether the object is leaked in the graph. Where there is no such object, or it keeps itself, nothing is looked for.
+fn leaked_in(alloc: Global, graph: &Graph, koid: Koid) -> Result<bool, AllocError>
+    ensures { IfOk result (λ leaked. (S : State) → IsGraph graph.now S → leaked ≡ is_leaked S koid) }
+{
+    match node_of(graph, koid) {
+        Some(node) => {
+            if keeps_itself(koid, &node) {
+                Ok(false)
+            } else {
+                searched(alloc, graph, koid)
+            }
+        }
+        None => Ok(false),
+    }
+}
+
+/// Whether it is the root job, or a process that has not ended.
+fn keeps_itself(koid: Koid, node: &GraphNode) -> bool
+    ensures { result ≡ ((koid == root_job) || (is_process node.now.kind && node.now.live)) }
+{
+    koid == ROOT_JOB || (node.kind == Kind::Process && node.live)
+}
+
+/// Whether the object is leaked in the graph: not where an entry names it, and else by what is reached there.
+fn searched(alloc: Global, graph: &Graph, koid: Koid) -> Result<bool, AllocError>
+    ensures { IfOk result (λ leaked. (S : State) → IsGraph graph.now S → leaked ≡ is_leaked S koid) }
+{
+    let named = entered(alloc, graph)?;
+    if named.contains(&koid) {
+        return Ok(false);
+    }
+    let found = reachability_of(alloc, graph)?;
+    let leaked = is_leaked(graph, &found, koid);
+    Ok(leaked)
+}

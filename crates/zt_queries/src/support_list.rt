@@ -1,0 +1,285 @@
+ghost use Rattle.std.specs.Prelude.{◌≡◌, ◌==◌, ◌++◌, ◌∷◌, [], Some, Ok, IfOk, IfErr, OnOk, if◌then◌else◌};
+ghost use Rattle.std.specs.List.{cons_option};
+ghost use Rattle.zt_rows.specs.Change.{keys};
+ghost use Rattle.zt_rows.specs.Reads.{object, is_live_job, is_live_process};
+ghost use Rattle.zt_rows.specs.State.{row};
+ghost use Rattle.zt_rows.specs.Support.{entry_support, child_support, message_supports, places, children, itself, supports};
+ghost use Rattle.zt_history.specs.HistoryRefusals.{IsHistoryRefusal};
+ghost use Rattle.zt_history.specs.Tree.{state_at};
+ghost use Rattle.zt_queries.specs.FrozenCopy.{holders_on};
+ghost use Rattle.zt_queries.specs.Holders.{supports_by, supports_at, supports_in};
+
+use crate::frozen::Frozen;
+use std::alloc::{AllocError, Global};
+use zt_bits::Kind;
+use zt_history::History;
+use zt_rows::{Held, Items, Koid, Life, ObjectRow, ROOT_JOB, Refusal, Row, RowKey, Support};
+use zt_store::Store;
+
+/// Where supports come from.
+#[derive(Clone, Copy)]
+enum Source {
+    Entries,
+    Messages,
+    Children,
+}
+
+/// What keeps an object: entries, handles in messages, live children, itself, each kind by rising numbers. Refused
+/// where there is no such object.
+pub fn holders(alloc: Global, frozen: &Frozen, koid: Koid) -> Result<Items<Support>, Refusal>
+    ensures ok { IfOk result (λ found. holders_on frozen.now.state koid ≡ Ok found) }
+    ensures refused { IfErr result (IsHistoryRefusal (holders_on frozen.now.state koid)) }
+{
+    holders_in(alloc, frozen.store(), koid)
+}
+
+/// What keeps an object at a history's position, in the same order. Refused where there is no such object.
+pub fn holders_at(alloc: Global, history: &History, koid: Koid) -> Result<Items<Support>, Refusal>
+    ensures ok { IfOk result (λ found. holders_on (state_at history.now.tree.made history.now.position) koid ≡ Ok found) }
+    ensures refused { IfErr result (IsHistoryRefusal (holders_on (state_at history.now.tree.made history.now.position) koid)) }
+{
+    holders_in(alloc, history.store(), koid)
+}
+
+/// The same of a store.
+fn holders_in(alloc: Global, store: &Store, koid: Koid) -> Result<Items<Support>, Refusal>
+    ensures ok { IfOk result (λ found. holders_on store.now.state koid ≡ Ok found) }
+    ensures refused { IfErr result (IsHistoryRefusal (holders_on store.now.state koid)) }
+{
+    let Some(held) = store.object(koid) else {
+        return Err(Refusal::NoObject);
+    };
+    let found = supports_of(alloc, store, koid, &held)?;
+    Ok(Items::new(found))
+}
+
+/// What keeps the object of the koid, of which this is the row.
+fn supports_of(
+    alloc: Global,
+    store: &Store,
+    koid: Koid,
+    found: &ObjectRow,
+) -> Result<Vec<Support>, AllocError>
+    requires { object store.now.state koid ≡ Some found.now }
+    ensures { IfOk result (λ list. list.items ≡ supports store.now.state koid) }
+{
+    let keys = keys_of(alloc, store)?;
+    let mut list = Vec::new(alloc);
+    add_supports(&mut list, store, keys.as_slice(), Source::Entries, koid)?;
+    add_supports(&mut list, store, keys.as_slice(), Source::Messages, koid)?;
+    add_children(&mut list, store, keys.as_slice(), koid, found)?;
+    add_itself(&mut list, koid, found)?;
+    Ok(list)
+}
+
+/// The keys of the store, in their order.
+pub(crate) fn keys_of(alloc: Global, store: &Store) -> Result<Vec<RowKey>, AllocError>
+    ensures { IfOk result (λ list. list.items ≡ keys store.now.state) }
+{
+    let mut list = Vec::new(alloc);
+    let mut next = store.after(None);
+    while let Some(key) = next {
+        let listed = key;
+        list.push(listed)?;
+        next = store.after(Some(key));
+    }
+    Ok(list)
+}
+
+/// Puts the live children of a live job behind the others.
+#[tactic(auto, using(crate::proofs::HoldLaws::children_in))]
+fn add_children(
+    list: &mut Vec<Support>,
+    store: &Store,
+    all: &[RowKey],
+    koid: Koid,
+    found: &ObjectRow,
+) -> Result<(), AllocError>
+    requires { all.now ≡ keys store.now.state }
+    ensures { OnOk result (list.new.items ≡ list.old.items ++ children (Some found.now) koid store.now.state.rows) }
+{
+    if is_live_job(found) {
+        add_supports(list, store, all, Source::Children, koid)?;
+    }
+    Ok(())
+}
+
+/// Puts the object itself behind the others, where it keeps itself.
+fn add_itself(list: &mut Vec<Support>, koid: Koid, found: &ObjectRow) -> Result<(), AllocError>
+    ensures { OnOk result (list.new.items ≡ list.old.items ++ itself (Some found.now) koid) }
+{
+    if is_live_process(found) || koid == ROOT_JOB {
+        list.push(Support::Itself)?;
+    }
+    Ok(())
+}
+
+/// Puts the supports that come from one part of the rows behind the others, in the order of their rows.
+fn add_supports(
+    list: &mut Vec<Support>,
+    store: &Store,
+    all: &[RowKey],
+    part: Source,
+    koid: Koid,
+) -> Result<(), AllocError>
+    requires { all.now ≡ keys store.now.state }
+    ensures { OnOk result (list.new.items ≡ list.old.items ++ supports_in part koid store.now.state) }
+{
+    for key in all {
+        add_under(list, store, *key, part, koid)?;
+    }
+    Ok(())
+}
+
+/// Puts the supports behind the others that the row under a key gives.
+fn add_under(
+    list: &mut Vec<Support>,
+    store: &Store,
+    key: RowKey,
+    part: Source,
+    koid: Koid,
+) -> Result<(), AllocError>
+    ensures { OnOk result (list.new.items ≡ list.old.items ++ supports_at part koid key (row store.now.state key)) }
+{
+    let asked = key;
+    match store.row(asked) {
+        Some(found) => add_given(list, key, found, part, koid),
+        None => Ok(()),
+    }
+}
+
+/// Puts the supports behind the others that a row gives.
+fn add_given(
+    list: &mut Vec<Support>,
+    key: RowKey,
+    found: &Row,
+    part: Source,
+    koid: Koid,
+) -> Result<(), AllocError>
+    ensures { OnOk result (list.new.items ≡ list.old.items ++ supports_by part koid (key, found.now)) }
+{
+    match part {
+        Source::Entries => push_if(list, entry_support(koid, key, found)),
+        Source::Messages => add_places(list, koid, key, found),
+        Source::Children => push_if(list, child_support(koid, key, found)),
+    }
+}
+
+/// Puts the support, if there is one, behind the others.
+fn push_if(list: &mut Vec<Support>, support: Option<Support>) -> Result<(), AllocError>
+    ensures { OnOk result (list.new.items ≡ list.old.items ++ cons_option support []) }
+{
+    if let Some(support) = support {
+        list.push(support)?;
+    }
+    Ok(())
+}
+
+/// The support by an entry that names the object.
+fn entry_support(koid: Koid, key: RowKey, found: &Row) -> Option<Support>
+    ensures { result ≡ entry_support koid (key, found.now) }
+{
+    let RowKey::Entry(process, handle) = key else {
+        return None;
+    };
+    match found {
+        Row::Entry(held) => {
+            if held.koid == koid {
+                Some(Support::Entry(process, handle))
+            } else {
+                None
+            }
+        }
+        _ => None,
+    }
+}
+
+/// The support by a live job or process whose parent is the object.
+fn child_support(koid: Koid, key: RowKey, found: &Row) -> Option<Support>
+    ensures { result ≡ child_support koid (key, found.now) }
+{
+    let RowKey::Object(child) = key else {
+        return None;
+    };
+    match found {
+        Row::Object(task) => {
+            if (is_live_job(task) || is_live_process(task)) && task.link == koid {
+                Some(Support::Child(child))
+            } else {
+                None
+            }
+        }
+        _ => None,
+    }
+}
+
+/// Puts the places in a message behind the others whose handles name the object.
+fn add_places(
+    list: &mut Vec<Support>,
+    koid: Koid,
+    key: RowKey,
+    found: &Row,
+) -> Result<(), AllocError>
+    ensures { OnOk result (list.new.items ≡ list.old.items ++ message_supports koid (key, found.now)) }
+{
+    let RowKey::Msg(endpoint, number) = key else {
+        return Ok(());
+    };
+    match found {
+        Row::Msg(message) => {
+            let handles = message.handles().as_slice();
+            add_places_in(list, koid, endpoint, number, handles)
+        }
+        _ => Ok(()),
+    }
+}
+
+/// Puts the places of the handles behind the others that name the object.
+fn add_places_in(
+    list: &mut Vec<Support>,
+    koid: Koid,
+    endpoint: Koid,
+    number: u64,
+    handles: &[Held],
+) -> Result<(), AllocError>
+    ensures { OnOk result (list.new.items ≡ list.old.items ++ places koid endpoint number 0 handles.now) }
+{
+    for i in 0..handles.len() {
+        add_place(
+            list,
+            koid,
+            Support::Message(endpoint, number, i as u64),
+            handles[i],
+        )?;
+    }
+    Ok(())
+}
+
+/// Puts the place of a handle behind the others, where it names the object.
+fn add_place(
+    list: &mut Vec<Support>,
+    koid: Koid,
+    place: Support,
+    held: Held,
+) -> Result<(), AllocError>
+    ensures { OnOk result (list.new.items ≡ list.old.items ++ (if held.koid == koid then place ∷ [] else [])) }
+{
+    if held.koid == koid {
+        list.push(place)?;
+    }
+    Ok(())
+}
+
+/// Whether it is a job that has not ended.
+fn is_live_job(found: &ObjectRow) -> bool
+    ensures { result ≡ is_live_job found.now }
+{
+    found.kind == Kind::Job && found.life == Life::Live
+}
+
+/// Whether it is a process that has not ended.
+pub(crate) fn is_live_process(found: &ObjectRow) -> bool
+    ensures { result ≡ is_live_process found.now }
+{
+    found.kind == Kind::Process && found.life == Life::Live
+}

@@ -1,0 +1,16 @@
+use crate::numbers::Koid;
+
+/// The koid of the root job, which keeps itself and is never leaked.
+pub const ROOT_JOB: Koid = Koid(1024);
+
+/// The most bytes that a message carries.
+pub const MESSAGE_BYTES: usize = 65_536;
+
+/// The most handles that a message carries.
+pub const MESSAGE_HANDLES: usize = 64;
+
+/// The most clients of a book.
+pub const CLIENTS: u8 = 4;
+
+/// The most commands that are answered to a client.
+pub const CLIENT_ROWS: u32 = 4096;

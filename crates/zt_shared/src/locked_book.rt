@@ -1,0 +1,144 @@
+ghost use Rattle.std.specs.Prelude.{◌≡◌, ◌++◌, ◌∷◌, [], All, IfOk, IfErr, OnErr, IfSome};
+ghost use Rattle.std.specs.List.{AllByRecursion};
+ghost use Rattle.zt_rows.specs.declared.calls.Command.TheVariants as command;
+ghost use Rattle.zt_book.specs.Log.{IsOf};
+ghost use Rattle.once_cell.specs.Once.{Agrees};
+ghost use Rattle.zt_shared.specs.Sharing.{IsPartOf, IsAnsweredOnPass, IsRefusedTo, IsPinnedOnPass};
+
+use crate::account::{LockSide, Naming};
+use crate::answered_command::{pin_turn, turn};
+use crate::pass::{Beginning, Calls, Pass, Said, Slot};
+use once_cell::race::{Note, OnceBox};
+use std::alloc::Global;
+use std::marker::Model;
+use zt_book::{Book, Log};
+use zt_queries::Frozen;
+use zt_rows::{Answer, Command, Refusal};
+
+/// What lies under the lock: the book, and of each client's account the lock's side. Each row of the log is a row of
+/// its client's account, in the log's order.
+#[derive(Drop)]
+pub(crate) struct LockedBook<A: Naming + Beginning, B: Naming, C: Naming, D: Naming> {
+    pub(crate) book: Book,
+    pub(crate) base: OnceBox<Calls>,
+    pub(crate) told: Note<Calls>,
+    pub(crate) first: LockSide<A, Said>,
+    pub(crate) second: LockSide<B, Said>,
+    pub(crate) third: LockSide<C, Said>,
+    pub(crate) fourth: LockSide<D, Said>,
+    pub(crate) alloc: Global,
+}
+
+impl<A: Naming + Beginning, B: Naming, C: Naming, D: Naming> Model for LockedBook<A, B, C, D> {
+    ghost use Rattle.once_cell.specs.Once.{cell_name};
+    ghost use Rattle.zt_shared.specs.Sharing.{begun};
+    ghost use Rattle.zt_shared.specs.LockedBooks.{Shown, IsLockedBook};
+
+    ghost Value = { Shown };
+
+    ghost view = { λ d. record { base = begun A.clients d.told.known; session = d.book.session; log = d.book.log } };
+
+    ghost invariant = { λ d. IsLockedBook A.base A.clients (cell_name d.base) d.told d.book.session d.book.log (record { first = d.first; second = d.second; third = d.third; fourth = d.fourth }) };
+}
+
+impl<A: Naming + Beginning, B: Naming, C: Naming, D: Naming> LockedBook<A, B, C, D> {
+    /// The pass is a part of the log. It changes nothing and takes no memory.
+    pub(crate) fn agree(&mut self, pass: &mut Pass<A, B, C, D>)
+        ensures locked { self.new ≡ self.old }
+        ensures pass { pass.new ≡ pass.old }
+        ensures part { IsPartOf pass.old self.old.log self.old.session }
+    {
+        agree_on_base(&mut self.told, &mut pass.told);
+        match &mut pass.slot {
+            Slot::First(side) => self.first.agree(side),
+            Slot::Second(side) => self.second.agree(side),
+            Slot::Third(side) => self.third.agree(side),
+            Slot::Fourth(side) => self.fourth.agree(side),
+        }
+    }
+
+    /// Answers a command of the pass's client: one event of the history, or, refused, none.
+    pub(crate) fn ask(
+        &mut self,
+        pass: &mut Pass<A, B, C, D>,
+        asked: Command,
+    ) -> Result<Answer, Refusal>
+        ensures who { pass.new.client ≡ pass.old.client }
+        ensures base { pass.new.base ≡ pass.old.base }
+        ensures added { IfOk result (λ said. pass.new.rows ≡ pass.old.rows ++ (asked, said) ∷ []) }
+        ensures answered { IfOk result (IsAnsweredOnPass pass.new asked) }
+        ensures same { OnErr result (pass.new ≡ pass.old) }
+        ensures refused { IfErr result (IsRefusedTo pass.old asked) }
+    {
+        self.agree(pass);
+        match &mut pass.slot {
+            Slot::First(side) => turn(self.alloc, &mut self.book, &mut self.first, side, 1, asked),
+            Slot::Second(side) => turn(
+                self.alloc,
+                &mut self.book,
+                &mut self.second,
+                side,
+                2,
+                asked,
+            ),
+            Slot::Third(side) => turn(self.alloc, &mut self.book, &mut self.third, side, 3, asked),
+            Slot::Fourth(side) => turn(
+                self.alloc,
+                &mut self.book,
+                &mut self.fourth,
+                side,
+                4,
+                asked,
+            ),
+        }
+    }
+
+    /// As `ask` of the command that pins, with a copy of the history at the client's position.
+    pub(crate) fn pin(&mut self, pass: &mut Pass<A, B, C, D>) -> Result<(Answer, Frozen), Refusal>
+        ensures who { pass.new.client ≡ pass.old.client }
+        ensures base { pass.new.base ≡ pass.old.base }
+        ensures added { IfOk result (λ pinned. pass.new.rows ≡ pass.old.rows ++ (command.Pin, pinned.0) ∷ []) }
+        ensures answered { IfOk result (λ pinned. IsPinnedOnPass pass.new pinned.0 pinned.1) }
+        ensures same { OnErr result (pass.new ≡ pass.old) }
+        ensures refused { IfErr result (IsRefusedTo pass.old command.Pin) }
+    {
+        self.agree(pass);
+        match &mut pass.slot {
+            Slot::First(side) => pin_turn(self.alloc, &mut self.book, &mut self.first, side, 1),
+            Slot::Second(side) => pin_turn(self.alloc, &mut self.book, &mut self.second, side, 2),
+            Slot::Third(side) => pin_turn(self.alloc, &mut self.book, &mut self.third, side, 3),
+            Slot::Fourth(side) => pin_turn(self.alloc, &mut self.book, &mut self.fourth, side, 4),
+        }
+    }
+
+    /// Each of the passes is a part of the log. It changes nothing and takes no memory.
+    pub(crate) fn agree_with_all(&mut self, passes: &mut Vec<Pass<A, B, C, D>>)
+        ensures locked { self.new ≡ self.old }
+        ensures passes { passes.new.items ≡ passes.old.items }
+        ensures parts { All (λ pass. IsPartOf pass self.old.log self.old.session) passes.old.items }
+    {
+        for at in 0..passes.len() {
+            self.agree(&mut passes[at]);
+        }
+    }
+
+    /// The log, of which each row is of one of the clients. It takes no memory.
+    pub(crate) fn into_log(self) -> Log
+        ensures log { result ≡ self.log }
+        ensures others { AllByRecursion (IsOf A.clients) result }
+    {
+        self.book.rows_are_counted();
+        self.book.into_log()
+    }
+}
+
+/// Two notes of the base cell know one base.
+fn agree_on_base(ours: &mut Note<Calls>, theirs: &mut Note<Calls>)
+    requires { ours.old.cell ≡ theirs.old.cell }
+    ensures ours { ours.new ≡ ours.old }
+    ensures theirs { theirs.new ≡ theirs.old }
+    ensures one { IfSome theirs.old.known (Agrees ours.old.known) }
+{
+    let other = theirs.again();
+    ours.compare(other);
+}

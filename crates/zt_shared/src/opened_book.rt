@@ -1,0 +1,243 @@
+ghost use Rattle.std.specs.Prelude.{◌≡◌, ◌≢◌, ◌≤◌, ◌<◌, ◌+◌, ◌++◌, [], Some, IfOk, IfErr, IsErrOf, IsSome, OnOk, ◌↔◌, vec_len, vec_capacity};
+ghost use Rattle.once_cell.specs.Once.{cell_name};
+ghost use Rattle.zt_rows.specs.declared.refusals.Refusal.TheVariants as refusal;
+ghost use Rattle.zt_book.specs.Session.{opening_session};
+ghost use Rattle.zt_shared.specs.Sharing.{IsFresh, first_parts, begun};
+ghost use Rattle.zt_shared.specs.OpenedBook.{IsNamed, calls_in, part_of};
+ghost use Rattle.zt_shared.specs.ClientSlots.{slot_number, slot_rows};
+
+use crate::account::{Blank, Naming, Refused, claim};
+use crate::locked_book::LockedBook;
+use crate::pass::{Beginning, Calls, Pass, Said, Slot};
+use crate::shared::Shared;
+use once_cell::race::{Note, OnceBox};
+use std::alloc::{AllocError, Global};
+use std::marker::Model;
+use std::sync::Mutex;
+use zt_book::Book;
+use zt_history::{History, push_call};
+use zt_rows::{CLIENTS, Call, Items, Koid, Moment, Refusal};
+
+/// What a shared book is made of, before any type names it: an empty base cell, and an account without rows for each
+/// of the four clients, also those beyond the number of clients.
+#[derive(Drop)]
+pub struct Blanks {
+    clients: u8,
+    base: OnceBox<Calls>,
+    first: Blank<Said>,
+    second: Blank<Said>,
+    third: Blank<Said>,
+    fourth: Blank<Said>,
+}
+
+impl Model for Blanks {
+    ghost use Rattle.std.specs.Prelude.{◌≤◌};
+    ghost use Rattle.once_cell.specs.Once.{cell_name};
+    ghost use Rattle.zt_shared.specs.OpenedBook.{Unopened};
+
+    ghost Value = { Unopened };
+
+    ghost view = { λ b. record { clients = b.clients; base = cell_name b.base; first = b.first; second = b.second; third = b.third; fourth = b.fourth } };
+
+    ghost invariant = { λ b. b.clients ≤ 4 };
+}
+
+impl Blanks {
+    /// The blanks of a shared book of so many clients.
+    pub fn new(alloc: Global, clients: u8) -> Result<Blanks, Refusal>
+        ensures clients { IfOk result (λ blanks. blanks.clients ≡ clients) }
+        ensures few { OnOk result (clients ≤ 4) }
+        ensures too_many { IsErrOf result refusal.TooManyClients ↔ (4 < clients) }
+        ensures refusals { IfErr result (λ why. why ≢ refusal.TooManyClients → why ≡ refusal.OutOfMemory) }
+    {
+        if clients > CLIENTS {
+            return Err(Refusal::TooManyClients);
+        }
+        Ok(empty_accounts(alloc, clients)?)
+    }
+}
+
+/// A base cell and accounts, for so many clients, who are few.
+fn empty_accounts(alloc: Global, clients: u8) -> Result<Blanks, AllocError>
+    requires { clients ≤ 4 }
+    ensures { IfOk result (λ blanks. blanks.clients ≡ clients) }
+{
+    let first = Blank::new(alloc)?;
+    let second = Blank::new(alloc)?;
+    let third = Blank::new(alloc)?;
+    let fourth = Blank::new(alloc)?;
+    Ok(Blanks {
+        clients,
+        base: OnceBox::new(alloc),
+        first,
+        second,
+        third,
+        fourth,
+    })
+}
+
+/// A shared book at the opening, and a pass for each of its clients, in order.
+pub fn open<A: Naming + Beginning, B: Naming, C: Naming, D: Naming>(
+    alloc: Global,
+    blanks: Blanks,
+) -> Result<(Shared<A, B, C, D>, Vec<Pass<A, B, C, D>>), Refusal>
+    requires base { (blanks.base ≡ A.base) × (blanks.clients ≡ A.clients) }
+    requires first { IsNamed A.name A.parts A.cells blanks.first }
+    requires second { IsNamed B.name B.parts B.cells blanks.second }
+    requires third { IsNamed C.name C.parts C.cells blanks.third }
+    requires fourth { IsNamed D.name D.parts D.cells blanks.fourth }
+    ensures passes { IfOk result (λ opened. opened.1.items ≡ first_parts blanks.clients (opening_session blanks.clients)) }
+    ensures refused { IfErr result (λ why. why ≡ refusal.OutOfMemory) }
+{
+    let Ok(book) = Book::new(alloc, blanks.clients) else {
+        return Err(Refusal::OutOfMemory);
+    };
+    match open_book::<A, B, C, D>(alloc, blanks, book) {
+        Ok(opened) => Ok(opened),
+        Err((_, why)) => Err(why),
+    }
+}
+
+/// A shared book that goes on from a loaded book, and a pass for each of its clients, in order. Refused, the book comes
+/// back.
+pub fn open_book<A: Naming + Beginning, B: Naming, C: Naming, D: Naming>(
+    alloc: Global,
+    blanks: Blanks,
+    book: Book,
+) -> Result<(Shared<A, B, C, D>, Vec<Pass<A, B, C, D>>), (Book, Refusal)>
+    requires base { (blanks.base ≡ A.base) × (blanks.clients ≡ A.clients) }
+    requires first { IsNamed A.name A.parts A.cells blanks.first }
+    requires second { IsNamed B.name B.parts B.cells blanks.second }
+    requires third { IsNamed C.name C.parts C.cells blanks.third }
+    requires fourth { IsNamed D.name D.parts D.cells blanks.fourth }
+    requires fresh { IsFresh blanks.clients book }
+    ensures passes { IfOk result (λ opened. opened.1.items ≡ first_parts blanks.clients book.session) }
+    ensures refused { IfErr result (λ back. (back.0 ≡ book) × (back.1 ≡ refusal.OutOfMemory)) }
+{
+    match set_out(alloc, &blanks, book.history()) {
+        Ok((passes, told)) => Ok(hand_over(alloc, blanks, book, passes, told)),
+        Err(_) => Err((book, Refusal::OutOfMemory)),
+    }
+}
+
+/// Room for the passes, and a note of the base cell, in which the calls of the history stand from now on.
+fn set_out<A: Naming + Beginning, B: Naming, C: Naming, D: Naming>(
+    alloc: Global,
+    blanks: &Blanks,
+    history: &History,
+) -> Result<(Vec<Pass<A, B, C, D>>, Note<Calls>), Refused>
+    ensures passes { IfOk result (λ set. (set.0.items ≡ []) × (4 ≤ vec_capacity set.0)) }
+    ensures told { IfOk result (λ set. (set.1.cell ≡ blanks.now.base) × (set.1.known ≡ Some (calls_in history.now.tree))) }
+{
+    let Ok(passes) = Vec::with_capacity(alloc, CLIENTS as usize) else {
+        return Err(Refused);
+    };
+    match note_base(alloc, &blanks.base, history) {
+        Ok(told) => Ok((passes, told)),
+        Err(refused) => Err(refused),
+    }
+}
+
+/// The book with the lock's sides of the accounts under the lock, and a pass for each client. It takes no memory.
+fn hand_over<A: Naming + Beginning, B: Naming, C: Naming, D: Naming>(
+    alloc: Global,
+    blanks: Blanks,
+    book: Book,
+    mut passes: Vec<Pass<A, B, C, D>>,
+    mut told: Note<Calls>,
+) -> (Shared<A, B, C, D>, Vec<Pass<A, B, C, D>>)
+    requires base { (blanks.base ≡ A.base) × (blanks.clients ≡ A.clients) }
+    requires first { IsNamed A.name A.parts A.cells blanks.first }
+    requires second { IsNamed B.name B.parts B.cells blanks.second }
+    requires third { IsNamed C.name C.parts C.cells blanks.third }
+    requires fourth { IsNamed D.name D.parts D.cells blanks.fourth }
+    requires fresh { IsFresh blanks.clients book }
+    requires empty { (passes.items ≡ []) × (4 ≤ vec_capacity passes) }
+    requires told { (told.cell ≡ blanks.base) × (told.known ≡ Some (calls_in book.session.tree)) }
+    ensures { result.1.items ≡ first_parts blanks.clients book.session }
+{
+    let Blanks {
+        clients,
+        base,
+        first,
+        second,
+        third,
+        fourth,
+    } = blanks;
+    let (first, one) = first.open::<A>(alloc);
+    let (second, two) = second.open::<B>(alloc);
+    let (third, three) = third.open::<C>(alloc);
+    let (fourth, four) = fourth.open::<D>(alloc);
+    hand_out(&mut passes, &mut told, clients, Slot::First(one));
+    hand_out(&mut passes, &mut told, clients, Slot::Second(two));
+    hand_out(&mut passes, &mut told, clients, Slot::Third(three));
+    hand_out(&mut passes, &mut told, clients, Slot::Fourth(four));
+    let locked = LockedBook {
+        book,
+        base,
+        told,
+        first,
+        second,
+        third,
+        fourth,
+        alloc,
+    };
+    let lock = Mutex::new(locked);
+    (Shared { lock }, passes)
+}
+
+/// Puts the pass of a client behind the others, where there are so many clients.
+fn hand_out<A: Naming + Beginning, B: Naming, C: Naming, D: Naming>(
+    passes: &mut Vec<Pass<A, B, C, D>>,
+    told: &mut Note<Calls>,
+    clients: u8,
+    slot: Slot<A, B, C, D>,
+)
+    requires clients { clients ≡ A.clients }
+    requires cell { told.old.cell ≡ A.base }
+    requires known { IsSome told.old.known }
+    requires first { slot_rows slot ≡ [] }
+    requires room { vec_len passes.old < vec_capacity passes.old }
+    ensures passes { passes.new.items ≡ passes.old.items ++ part_of clients (begun clients told.old.known) (slot_number slot) }
+    ensures few { vec_len passes.new ≤ vec_len passes.old + 1 }
+    ensures room { vec_capacity passes.new ≡ vec_capacity passes.old }
+    ensures told { told.new ≡ told.old }
+{
+    if slot.number() <= clients {
+        let told = told.again();
+        passes.push_reserved(Pass { slot, told });
+    }
+}
+
+/// Sets the base cell to the calls of the history, and notes what stands in it.
+fn note_base(
+    alloc: Global,
+    cell: &OnceBox<Calls>,
+    history: &History,
+) -> Result<Note<Calls>, Refused>
+    ensures { IfOk result (λ note. (note.cell ≡ cell_name cell.now) × (note.known ≡ Some (calls_in history.now.tree))) }
+{
+    let Ok(calls) = calls_of(alloc, history) else {
+        return Err(Refused);
+    };
+    let Ok(shown) = Box::new(alloc, Items::new(calls)) else {
+        return Err(Refused);
+    };
+    match claim(cell, shown) {
+        Some(note) => Ok(note),
+        None => Err(Refused),
+    }
+}
+
+/// The calls of the history's moments, each with its process.
+#[tactic(auto, using(crate::proofs::OpeningLaws::next_call))]
+fn calls_of(alloc: Global, history: &History) -> Result<Vec<(Koid, Call)>, AllocError>
+    ensures { IfOk result (λ calls. calls.items ≡ calls_in history.now.tree) }
+{
+    let last = history.last();
+    let mut calls = Vec::with_capacity(alloc, last.0 as usize)?;
+    for at in 0..last.0 {
+        push_call(&mut calls, history, Moment(at + 1))?;
+    }
+    Ok(calls)
+}

@@ -1,0 +1,115 @@
+ghost use Rattle.std.specs.Prelude.{◌≡◌, length};
+ghost use Rattle.std.specs.Option.{option_map};
+ghost use Rattle.zt_shared.specs.Sharing.{row_at};
+ghost use Rattle.zt_shared.specs.ClientSlots.{slot_number, slot_rows};
+
+use crate::account::{Naming, PassSide};
+use once_cell::race::Note;
+use std::marker::{Brand, Model};
+use zt_rows::{Answer, Call, Command, Items, Koid};
+
+/// A command of a client with its answer.
+pub type Said = (Command, Answer);
+
+/// The calls of the tree over which a log begins, each with its process.
+pub type Calls = Items<(Koid, Call)>;
+
+/// Where a log begins: the name of the cell that tells it, and the number of clients.
+pub trait Beginning {
+    ghost use Rattle.std.specs.Prelude.{ℕ};
+
+    ghost base: { ℕ };
+
+    ghost clients: { ℕ };
+}
+
+impl Beginning for Brand {
+    ghost base = { 0 };
+
+    ghost clients = { 0 };
+}
+
+/// A client's side of its account. There is an account for each of the four clients, and each has a name of its own.
+#[derive(Drop)]
+pub(crate) enum Slot<A: Naming, B: Naming, C: Naming, D: Naming> {
+    First(PassSide<A, Said>),
+    Second(PassSide<B, Said>),
+    Third(PassSide<C, Said>),
+    Fourth(PassSide<D, Said>),
+}
+
+/// What one client of a shared book has of it: its number, what it was told, and where the log begins. Whoever has
+/// the pass speaks for the client.
+#[derive(Drop)]
+pub struct Pass<A: Naming + Beginning, B: Naming, C: Naming, D: Naming> {
+    pub(crate) slot: Slot<A, B, C, D>,
+    pub(crate) told: Note<Calls>,
+}
+
+impl<A: Naming + Beginning, B: Naming, C: Naming, D: Naming> Model for Pass<A, B, C, D> {
+    ghost use Rattle.std.specs.Prelude.{◌≡◌, ◌≤◌, IsSome};
+    ghost use Rattle.zt_shared.specs.Sharing.{PassView, begun};
+
+    ghost Value = { PassView };
+
+    ghost use Rattle.zt_shared.specs.ClientSlots.{slot_number, slot_rows};
+
+    ghost view = { λ p. record { client = slot_number p.slot; base = begun A.clients p.told.known; rows = slot_rows p.slot } };
+
+    ghost invariant = { λ p. (p.told.cell ≡ A.base) × IsSome p.told.known × (slot_number p.slot ≤ A.clients) };
+}
+
+impl<A: Naming + Beginning, B: Naming, C: Naming, D: Naming> Slot<A, B, C, D> {
+    /// The rows.
+    fn rows(&self) -> &[Said]
+        ensures { result.now ≡ slot_rows self.now }
+    {
+        match self {
+            Slot::First(side) => side.rows(),
+            Slot::Second(side) => side.rows(),
+            Slot::Third(side) => side.rows(),
+            Slot::Fourth(side) => side.rows(),
+        }
+    }
+
+    /// The client's number.
+    pub(crate) fn number(&self) -> u8
+        ensures { result ≡ slot_number self.now }
+    {
+        match self {
+            Slot::First(_) => 1,
+            Slot::Second(_) => 2,
+            Slot::Third(_) => 3,
+            Slot::Fourth(_) => 4,
+        }
+    }
+}
+
+impl<A: Naming + Beginning, B: Naming, C: Naming, D: Naming> Pass<A, B, C, D> {
+    /// The client's number. It takes no memory.
+    pub fn client(&self) -> u8
+        ensures { result ≡ self.now.client }
+    {
+        self.slot.number()
+    }
+
+    /// How many rows the client has. It takes no memory.
+    pub fn len(&self) -> usize
+        ensures { result ≡ length self.now.rows }
+    {
+        self.slot.rows().len()
+    }
+
+    /// The client's row of this number, from 1; nothing at 0, nor beyond the last. It takes no memory.
+    pub fn row(&self, n: usize) -> Option<(&Command, &Answer)>
+        ensures { option_map (λ r. (r.0.now, r.1.now)) result ≡ row_at self.now.rows n }
+    {
+        if n == 0 {
+            return None;
+        }
+        match self.slot.rows().get(n - 1) {
+            Some(row) => Some((&row.0, &row.1)),
+            None => None,
+        }
+    }
+}

@@ -1,0 +1,47 @@
+ghost use Rattle.std.specs.Prelude.{◌≡◌, OnOk, OnErr};
+ghost use Rattle.zt_rows.specs.Reads.{object};
+ghost use Rattle.zt_store.specs.Places.{Keeps};
+ghost use Rattle.zt_store.specs.StepView.{Advanced, AsBegun};
+ghost use Rattle.zt_signals.specs.ObjectSignals.{anew, refreshed_object, signals_set};
+
+use crate::derived_signals::renewed_signals;
+use bitflags::Flags;
+use std::alloc::AllocError;
+use zt_bits::Signals;
+use zt_rows::{Koid, ObjectRow, Row, RowKey};
+use zt_store::Step;
+
+/// Clears and then sets signals of the object. Where there is no such object, nothing changes.
+pub fn set_bits(step: &mut Step, koid: Koid, clear: Signals, set: Signals) -> Result<(), AllocError>
+    ensures ok { OnOk result (Advanced step.old step.new (signals_set step.old.current koid clear.0 set.0)) }
+    ensures err { OnErr result (AsBegun step.old step.new) }
+    ensures kept { Keeps step.old.places step.new.places }
+{
+    let Some(object) = step.object(koid) else {
+        return Ok(());
+    };
+    let signals = object.signals.difference(clear).union(set);
+    let object = ObjectRow { signals, ..object };
+    step.put(RowKey::Object(koid), Some(Row::Object(object)))
+}
+
+/// Writes the derived signals of the object anew. Where there is no such object, nothing changes.
+pub fn refresh(step: &mut Step, koid: Koid) -> Result<(), AllocError>
+    ensures ok { OnOk result (Advanced step.old step.new (refreshed_object step.old.current koid)) }
+    ensures err { OnErr result (AsBegun step.old step.new) }
+    ensures kept { Keeps step.old.places step.new.places }
+{
+    match anew(step, koid) {
+        Some(object) => step.put(RowKey::Object(koid), Some(Row::Object(object))),
+        None => Ok(()),
+    }
+}
+
+/// The object with its derived signals anew.
+fn anew(step: &Step, koid: Koid) -> Option<ObjectRow>
+    ensures { result ≡ anew step.now.current koid }
+{
+    let object = step.object(koid)?;
+    let signals = renewed_signals(step, koid, &object);
+    Some(ObjectRow { signals, ..object })
+}

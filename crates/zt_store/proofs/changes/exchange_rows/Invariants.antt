@@ -1,7 +1,0 @@
-use Rattle.std.proofs.Common.{◌≡◌}
-use Rattle.zt_store.proofs.Exchanges.{IsSwapping}
-use Rattle.zt_store.proofs.changes.exchange_rows.Given as goal
-
-abbrev pub invariant-loop-i : goal.invariant-loop-i
-invariant-loop-i l =
-    IsSwapping l.fn.store.state l.fn.rows l.fn.store.places l.i l.store.state l.rows × (l.store.places ≡ l.fn.store.places)

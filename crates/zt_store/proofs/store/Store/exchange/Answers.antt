@@ -1,0 +1,46 @@
+use Rattle.std.proofs.Common.{refl, arith, ap, sym, subst, length, ◌∙◌}
+use Rattle.zt_store.specs.IndexInvariant.{IsIndexed, index_in}
+use Rattle.zt_store.proofs.IndexLaws.{place-there}
+use Rattle.zt_store.specs.KoidCounts.{numbers_at}
+use Rattle.zt_store.specs.StoreView.{CellsView}
+use Rattle.zt_store.proofs.SupportCountLaws.{small-at, stands-within, went-there, koid_counts-exchanged, names_few-exchanged, went-fits}
+use Rattle.zt_store.proofs.store.Store.exchange.Goals as goal
+
+pub raise_if-requires-clause-small : goal.raise_if-requires-clause-small
+raise_if-requires-clause-small c = λ x. let small = (small-at c.self.inside.cells.state c.self.inside.support_counts x (numbers_at c.self.inside.support_counts x) refl c.self.invariant.koid_counts c.self.invariant.few c.limits.ensures.few) in omega (arith, small.named)
+
+pub raise_if-requires-clause-few_jobs : goal.raise_if-requires-clause-few_jobs
+raise_if-requires-clause-few_jobs c = λ x. let small = (small-at c.self.inside.cells.state c.self.inside.support_counts x (numbers_at c.self.inside.support_counts x) refl c.self.invariant.koid_counts c.self.invariant.few c.limits.ensures.few) in omega (arith, small.jobs)
+
+pub raise_if-requires-clause-few_processes : goal.raise_if-requires-clause-few_processes
+raise_if-requires-clause-few_processes c = λ x. let small = (small-at c.self.inside.cells.state c.self.inside.support_counts x (numbers_at c.self.inside.support_counts x) refl c.self.invariant.koid_counts c.self.invariant.few c.limits.ensures.few) in omega (arith, small.processes)
+
+pub lower_if-requires-clause-within : goal.lower_if-requires-clause-within
+lower_if-requires-clause-within c =
+    rw (c.raise_if.ensures.len, c.exchange.ensures.was) (stands-within c.self.inside.cells.state c.self.inside.support_counts c.args.key c.self.invariant.koid_counts)
+
+pub lower_if-requires-clause-there : goal.lower_if-requires-clause-there
+lower_if-requires-clause-there c = λ x. (went-there c.self.inside.cells.state c.args.key c.args.kept.now c.exchange.new.kept c.exchange.ensures.was c.self.inside.support_counts c.raise_if.new.self c.self.invariant.koid_counts c.raise_if.ensures.added x).named
+
+pub lower_if-requires-clause-jobs : goal.lower_if-requires-clause-jobs
+lower_if-requires-clause-jobs c = λ x. (went-there c.self.inside.cells.state c.args.key c.args.kept.now c.exchange.new.kept c.exchange.ensures.was c.self.inside.support_counts c.raise_if.new.self c.self.invariant.koid_counts c.raise_if.ensures.added x).jobs
+
+pub lower_if-requires-clause-processes : goal.lower_if-requires-clause-processes
+lower_if-requires-clause-processes c = λ x. (went-there c.self.inside.cells.state c.args.key c.args.kept.now c.exchange.new.kept c.exchange.ensures.was c.self.inside.support_counts c.raise_if.new.self c.self.invariant.koid_counts c.raise_if.ensures.added x).processes
+
+pub invariant_of-self : goal.invariant_of-self
+invariant_of-self c =
+    let is_put = ap (λ (s : CellsView). s.state) c.exchange.ensures.put in record {
+      koid_counts = koid_counts-exchanged c.self.inside.cells.state c.args.key c.args.kept.now c.exchange.new.kept c.exchange.ensures.was c.self.inside.support_counts c.raise_if.new.self c.self.invariant.koid_counts c.raise_if.ensures.added c.exchange.new.self.state c.lower_if.new.self is_put c.lower_if.ensures.taken;
+      few = names_few-exchanged c.self.inside.cells.state c.exchange.new.self.state c.args.key c.args.kept.now is_put c.self.invariant.few c.raise_if.ensures.few;
+      indexed = subst (λ (s : CellsView). IsIndexed s (index_in c.follow.new.self)) (sym c.exchange.ensures.put) c.follow.ensures;
+    }
+
+pub returns-clause-fit : goal.returns-clause-fit
+returns-clause-fit c =
+    went-fits c.args.self.now c.self.inside.cells.state c.self.inside.cells.sizes c.exchange.new.self.sizes c.self.inside.support_counts c.lower_if.new.self c.args.key c.args.kept.now c.exchange.new.kept c.self.view_is c.requires.placed
+    (ap (λ (s : CellsView). s.sizes) c.exchange.ensures.put) (c.lower_if.ensures.len ∙ c.raise_if.ensures.len) c.exchange.ensures.was c.self.invariant.koid_counts
+
+pub follow-requires-clause-placed : goal.follow-requires-clause-placed
+follow-requires-clause-placed c =
+    place-there c.args.self.now c.self.inside.cells.state c.self.inside.cells.sizes (length c.self.inside.support_counts) c.args.key c.args.kept.now c.self.view_is c.requires.placed

@@ -1,9 +1,0 @@
-use Rattle.zt_store.specs.Indexed.{index_in}
-use Rattle.zt_store.proofs.IndexLaws.{indexed-hollow}
-use Rattle.zt_store.proofs.Tallied.{tallied-hollow, names_few-hollow}
-use Rattle.zt_store.proofs.stores.Store.hollow.Goals as goal
-
-pub invariant_of-result : goal.invariant_of-result
-invariant_of-result c =
-    rw c.hollow.ensures
-    (record { tallied = tallied-hollow c.new.result c.new.ensures; few = names_few-hollow; indexed = indexed-hollow (index_in c.new-2.result) c.new-2.ensures.handles c.new-2.ensures.ports c.new-2.ensures.objects c.new-2.ensures.processes c.new-2.ensures.parents })

@@ -1,8 +1,0 @@
-use Rattle.std.proofs.Common.{◌≡◌, ℕ, ◌≤◌, ◌<◌, None}
-use Rattle.zt_rows.specs.State.{row}
-use Rattle.zt_store.specs.KeyColumns.{key_in}
-use Rattle.zt_store.proofs.walks.first_in.Given as goal
-
--- under the numbers so far there is no row
-abbrev pub invariant-loop-number : goal.invariant-loop-number
-invariant-loop-number l = (n : ℕ) → l.from ≤ n → n < l.number → row l.cells.state (key_in l.column n) ≡ None

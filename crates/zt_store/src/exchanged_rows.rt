@@ -1,0 +1,58 @@
+ghost use Rattle.std.specs.Prelude.{◌≡◌, true, List, map};
+ghost use Rattle.std.specs.List.{IsDistinct};
+ghost use Rattle.zt_rows.specs.Change.{exchange};
+ghost use Rattle.zt_rows.specs.Keys.{rowkey_eq};
+ghost use Rattle.zt_rows.specs.Path.{end_of, exchange_back, records_of};
+ghost use Rattle.zt_rows.specs.State.{State};
+ghost use Rattle.zt_store.specs.Places.{fits};
+ghost use Rattle.zt_store.specs.RecordRows.{all_fit};
+ghost use Rattle.zt_store.specs.StoreView.{AllSuit};
+
+use crate::record::Record;
+use crate::store::Store;
+use zt_rows::{Row, RowKey};
+
+/// Exchanges the record's rows with the store's: the store then has the record's, and the record what the
+/// store had under the same keys. It takes no memory.
+pub fn swap(store: &mut Store, kept: &mut Record)
+    requires { fits store.old.places kept.old ≡ true }
+    ensures exchanged { (store.new.state, kept.new) ≡ exchange store.old.state kept.old }
+    ensures places { store.new.places ≡ store.old.places }
+    ensures fits { fits store.new.places kept.new ≡ true }
+{
+    exchange_rows(store, kept.rows.as_mut_slice());
+}
+
+/// Exchanges the rows with the store's under their keys, of which each is listed once. It takes no memory.
+pub(crate) fn exchange_rows(store: &mut Store, rows: &mut [(RowKey, Option<Row>)])
+    requires distinct { IsDistinct rowkey_eq (map (λ e. e.0) rows.old) }
+    requires suited { AllSuit rows.old }
+    requires placed { fits store.old.places rows.old ≡ true }
+    ensures exchanged { (store.new.state, rows.new) ≡ exchange store.old.state rows.old }
+    ensures places { store.new.places ≡ store.old.places }
+    ensures suited { AllSuit rows.new }
+    ensures fits { fits store.new.places rows.new ≡ true }
+{
+    for i in 0..rows.len() {
+        let entry = &mut rows[i];
+        store.exchange(entry.0, &mut entry.1);
+    }
+}
+
+/// Exchanges the rows of the records with the store's, from the last record to the first. It takes no memory.
+pub fn undo(store: &mut Store, records: &mut [Record])
+    requires { all_fit store.old.places records.old ≡ true }
+    ensures exchanged { (store.new.state, records.new) ≡ exchange_back store.old.state records.old }
+    ensures restores { (s : State) (path : List State)
+        → store.old.state ≡ end_of s path
+        → records.old ≡ records_of s path
+        → store.new.state ≡ s }
+    ensures places { store.new.places ≡ store.old.places }
+    ensures fit { all_fit store.new.places records.new ≡ true }
+{
+    let mut left = records.len();
+    while left > 0 {
+        left -= 1;
+        swap(store, &mut records[left]);
+    }
+}

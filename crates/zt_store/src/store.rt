@@ -1,0 +1,433 @@
+ghost use Rattle.std.specs.Prelude.{◌≡◌, ◌<◌, ◌+◌, ◌^◌, ◌↔◌, true, IsTrue, IfOk, OnOk, Option, if◌then◌else◌};
+ghost use Rattle.std.specs.Option.{option_copied};
+ghost use Rattle.zt_rows.specs.declared.keys.RowKey.{RowKey};
+ghost use Rattle.zt_rows.specs.declared.keys.RowKey.TheVariants as key_variant;
+ghost use Rattle.zt_rows.specs.Opening.{opening, hollow};
+ghost use Rattle.zt_rows.specs.Reads.{counters, entry, message, object, packet, wait};
+ghost use Rattle.zt_rows.specs.Room.{SuitsKey, HasRoom, next_key};
+ghost use Rattle.zt_rows.specs.Settle.{is_child_job_of, is_child_process_of};
+ghost use Rattle.zt_rows.specs.State.{row, put};
+ghost use Rattle.zt_rows.specs.Support.{support_count};
+ghost use Rattle.zt_rows.specs.Tests.{count_row};
+ghost use Rattle.zt_store.specs.Chains.{IsNext};
+ghost use Rattle.zt_store.specs.Criteria.{has_entry, is_at, is_below, is_by, is_for, is_on, objects_where, waits_where};
+ghost use Rattle.zt_store.specs.KoidCounts.{keeps_itself, keeps_tasks};
+ghost use Rattle.zt_store.specs.Places.{Keeps, fits, fits_row, no_places};
+ghost use Rattle.zt_store.specs.StoreView.{Stored, standing};
+ghost use Rattle.zt_store.specs.FirstNumber.{IsFirst};
+
+use crate::cells::Cells;
+use crate::index::{Criterion, OwnedIndex, koid_bucket, next_by_criterion, next_on};
+use crate::key_columns::{handle_of, has_room, key_after};
+use crate::record::Record;
+use crate::support_counts::{KoidCounts, SupportCounts};
+use std::alloc::{AllocError, Global};
+use std::marker::Model;
+use zt_bits::{Kind, Rights, Signals};
+use zt_rows::{
+    Counters, HandleValue, Held, Koid, Life, Message, ObjectRow, Packet, ROOT_JOB, Row, RowKey,
+    Wait,
+};
+
+/// The koid of the first process.
+const FIRST_KOID: Koid = Koid(1025);
+
+/// The handle that the first process has.
+const FIRST_HANDLE: HandleValue = HandleValue(3);
+
+const FIRST_COUNTERS: Counters = Counters {
+    next_koid: Koid(1026),
+    next_wait: 0,
+};
+
+const FIRST_JOB: ObjectRow = ObjectRow {
+    kind: Kind::Job,
+    signals: Signals(0x10),
+    link: Koid(0),
+    life: Life::Live,
+    next: 0,
+};
+
+const FIRST_PROCESS: ObjectRow = ObjectRow {
+    kind: Kind::Process,
+    signals: Signals(0),
+    link: ROOT_JOB,
+    life: Life::Live,
+    next: 1,
+};
+
+const TO_ROOT_JOB: Held = Held {
+    koid: ROOT_JOB,
+    rights: Rights(0x3d203),
+};
+
+/// The rows of a system, each under its key, and how often they name each object.
+pub struct Store {
+    cells: Cells,
+    support_counts: SupportCounts,
+    index: OwnedIndex,
+}
+
+/// Lets all parts go in one call, so that a function that owns a store is proved without going through them at each of its
+/// ways out.
+impl Drop for Store {
+    fn drop(self) {
+        let Store {
+            cells: _cells,
+            support_counts: _support_counts,
+            index: _index,
+        } = self;
+    }
+}
+
+impl Model for Store {
+    ghost use Rattle.std.specs.Prelude.{length};
+    ghost use Rattle.zt_store.specs.IndexInvariant.{IsStore};
+    ghost use Rattle.zt_store.specs.StoreView.{Stored};
+
+    ghost Value = { Stored };
+
+    ghost view = { λ s. record {
+      state = s.cells.state;
+      places = record { sizes = s.cells.sizes; koids = length s.support_counts };
+    } };
+
+    ghost invariant = { λ s. IsStore s.cells s.support_counts s.index };
+}
+
+impl Store {
+    /// A store of counters that stand at 0. It takes no memory.
+    pub fn hollow(alloc: Global) -> Store
+        ensures { result ≡ record { state = hollow; places = no_places } }
+    {
+        Store {
+            cells: Cells::hollow(alloc),
+            support_counts: SupportCounts::new(alloc),
+            index: OwnedIndex::new(alloc),
+        }
+    }
+
+    /// The store that a history begins with: the root job with its first process.
+    pub fn opening(alloc: Global) -> Result<Store, AllocError>
+        ensures { IfOk result (λ store. store.state ≡ opening) }
+    {
+        let mut store = Store::hollow(alloc);
+        store.keep_opening()?;
+        Ok(store)
+    }
+
+    /// Puts the rows that a history begins with into a hollow store.
+    fn keep_opening(&mut self) -> Result<(), AllocError>
+        requires { self.old.state ≡ hollow }
+        ensures { OnOk result (self.new.state ≡ opening) }
+    {
+        self.keep(RowKey::Counters, Row::Counters(FIRST_COUNTERS))?;
+        self.keep(RowKey::Object(ROOT_JOB), Row::Object(FIRST_JOB))?;
+        self.keep(RowKey::Object(FIRST_KOID), Row::Object(FIRST_PROCESS))?;
+        self.keep(
+            RowKey::Entry(FIRST_KOID, FIRST_HANDLE),
+            Row::Entry(TO_ROOT_JOB),
+        )
+    }
+
+    /// The row under the key. It takes no memory.
+    pub fn row(&self, key: RowKey) -> Option<&Row>
+        ensures { option_copied result ≡ row self.now.state key }
+    {
+        self.cells.row(key)
+    }
+
+    /// The next numbers that the system gives out. It takes no memory.
+    pub fn counters(&self) -> Counters
+        ensures { result ≡ counters self.now.state }
+    {
+        self.cells.counters()
+    }
+
+    /// The object of this koid. It takes no memory.
+    pub fn object(&self, koid: Koid) -> Option<ObjectRow>
+        ensures { result ≡ object self.now.state koid }
+    {
+        self.cells.object(koid)
+    }
+
+    /// What the process holds by this handle value. It takes no memory.
+    pub fn entry(&self, process: Koid, handle: HandleValue) -> Option<Held>
+        ensures { result ≡ entry self.now.state process handle }
+    {
+        self.cells.entry(process, handle)
+    }
+
+    /// The message of this number in the endpoint's queue. It takes no memory.
+    pub fn message(&self, endpoint: Koid, number: u64) -> Option<&Message>
+        ensures { option_copied result ≡ message self.now.state endpoint number }
+    {
+        self.cells.message(endpoint, number)
+    }
+
+    /// The packet of this number in the port. It takes no memory.
+    pub fn packet(&self, port: Koid, number: u64) -> Option<Packet>
+        ensures { result ≡ packet self.now.state port number }
+    {
+        self.cells.packet(port, number)
+    }
+
+    /// The wait of this number. It takes no memory.
+    pub fn wait(&self, number: u64) -> Option<Wait>
+        ensures { result ≡ wait self.now.state number }
+    {
+        self.cells.wait(number)
+    }
+
+    /// The least key above the low one, or the least of all. It takes no memory.
+    pub fn after(&self, low: Option<RowKey>) -> Option<RowKey>
+        ensures { result ≡ next_key self.now.state low }
+    {
+        key_after(&self.cells, low)
+    }
+
+    /// How many supports the object has. It takes no memory.
+    pub fn count(&self, koid: Koid) -> u64
+        ensures { result ≡ support_count self.now.state koid }
+    {
+        self.cells.limits();
+        let object = self.object(koid);
+        let numbers = self.support_counts.at(koid);
+        let itself = u64::from(keeps_itself(koid, &object));
+        numbers.named + tasks_kept(&object, numbers) + itself
+    }
+
+    /// How many live jobs have the koid as their parent. It takes no memory.
+    pub fn child_jobs(&self, koid: Koid) -> u64
+        ensures { result ≡ count_row (is_child_job_of koid) self.now.state }
+    {
+        self.support_counts.at(koid).jobs
+    }
+
+    /// How many live processes have the koid as their parent. It takes no memory.
+    pub fn child_processes(&self, koid: Koid) -> u64
+        ensures { result ≡ count_row (is_child_process_of koid) self.now.state }
+    {
+        self.support_counts.at(koid).processes
+    }
+
+    /// The least number of a message in the endpoint's queue. It takes no memory.
+    pub fn first_message(&self, endpoint: Koid) -> Option<u64>
+        ensures first { IsFirst self.now.state (λ n. key_variant.Msg endpoint n) result }
+        ensures suited { (key : RowKey) → SuitsKey key (row self.now.state key) }
+    {
+        self.cells.limits();
+        self.cells.first_message(endpoint)
+    }
+
+    /// The least number of a packet in the port. It takes no memory.
+    pub fn first_packet(&self, port: Koid) -> Option<u64>
+        ensures first { IsFirst self.now.state (λ n. key_variant.Packet port n) result }
+        ensures suited { (key : RowKey) → SuitsKey key (row self.now.state key) }
+    {
+        self.cells.limits();
+        self.cells.first_packet(port)
+    }
+
+    /// The least number above the low one, or of all, of a wait that the process made on the handle. It takes no
+    /// memory, and looks at waits that share a bucket with the handle alone.
+    pub fn wait_on(&self, process: Koid, handle: HandleValue, low: Option<u64>) -> Option<u64>
+        ensures { IsNext (waits_where self.now.state (is_on process handle)) low result }
+    {
+        let index = self.index.index();
+        next_on(&self.cells, &index.handles, process, handle, low)
+    }
+
+    /// The least number above the low one, or of all, of a wait for the port. It takes no memory, and looks at waits
+    /// that share a bucket with the port alone.
+    pub fn wait_for(&self, port: Koid, low: Option<u64>) -> Option<u64>
+        ensures { IsNext (waits_where self.now.state (is_for port)) low result }
+    {
+        let bucket = koid_bucket(port);
+        let index = self.index.index();
+        next_by_criterion(&self.cells, &index.ports, bucket, Criterion::For(port), low)
+    }
+
+    /// The least number above the low one, or of all, of a wait on a handle that names the object. It takes no memory,
+    /// and looks at waits that share a bucket with the object alone.
+    pub fn wait_at(&self, koid: Koid, low: Option<u64>) -> Option<u64>
+        ensures { IsNext (waits_where self.now.state (is_at self.now.state koid)) low result }
+    {
+        let bucket = koid_bucket(koid);
+        let index = self.index.index();
+        next_by_criterion(
+            &self.cells,
+            &index.objects,
+            bucket,
+            Criterion::At(koid),
+            low,
+        )
+    }
+
+    /// The least number above the low one, or of all, of a wait that the process made. It takes no memory, and looks at
+    /// waits that share a bucket with the process alone.
+    pub fn wait_by(&self, process: Koid, low: Option<u64>) -> Option<u64>
+        ensures { IsNext (waits_where self.now.state (is_by process)) low result }
+    {
+        let bucket = koid_bucket(process);
+        let index = self.index.index();
+        next_by_criterion(
+            &self.cells,
+            &index.processes,
+            bucket,
+            Criterion::By(process),
+            low,
+        )
+    }
+
+    /// The least koid above the low one, or of all, of a live job or process whose parent is the koid. It takes no
+    /// memory, and looks at live jobs and processes whose parents share a bucket with the koid alone.
+    pub fn task_below(&self, parent: Koid, low: Option<Koid>) -> Option<Koid>
+        ensures { IsNext (objects_where self.now.state (is_below parent)) low result }
+    {
+        let bucket = koid_bucket(parent);
+        let chain = &self.index.index().parents;
+        let low = low.map(|koid| koid.0);
+        let found = next_by_criterion(&self.cells, chain, bucket, Criterion::Below(parent), low)?;
+        Some(Koid(found))
+    }
+
+    /// The least value above the low one, or of all, under which the process has an entry. It takes no memory, and looks
+    /// at the places of this process alone.
+    pub fn handle_of(&self, process: Koid, low: Option<HandleValue>) -> Option<HandleValue>
+        ensures { IsNext (has_entry self.now.state process) low result }
+    {
+        handle_of(&self.cells, process, low)
+    }
+
+    /// Whether every number that a call may raise leaves room for one more call. It takes no memory.
+    pub fn room(&self) -> bool
+        ensures { IsTrue result ↔ HasRoom self.now.state }
+    {
+        has_room(&self.cells)
+    }
+
+    /// Whether each key of the record, and each koid that its rows count for, has a place in the store, so that
+    /// they can exchange their rows. It takes no memory.
+    pub fn fits(&self, kept: &Record) -> bool
+        ensures { result ≡ fits self.now.places kept.now }
+    {
+        for (key, row) in kept.rows() {
+            if !self.fits_row(*key, row) {
+                return false;
+            }
+        }
+        true
+    }
+
+    /// Whether the key, and each koid that the row counts for, has a place in the store. It takes no memory.
+    fn fits_row(&self, key: RowKey, row: &Option<Row>) -> bool
+        ensures { result ≡ fits_row self.now.places key row.now }
+    {
+        let asked = key;
+        self.cells.has_place(key) && self.support_counts.covers_if(asked, row)
+    }
+
+    /// An equal store in memory of its own, with the same places.
+    pub fn copy(&self) -> Result<Store, AllocError>
+        ensures { IfOk result (λ copied. copied ≡ self.now) }
+    {
+        Ok(Store {
+            cells: self.cells.copy()?,
+            support_counts: self.support_counts.copy()?,
+            index: self.index.copy()?,
+        })
+    }
+
+    pub(crate) fn alloc(&self) -> Global {
+        self.cells.alloc()
+    }
+
+    /// What holds of the rows: each suits its key.
+    pub(crate) fn limits(&self)
+        ensures { (key : RowKey) → SuitsKey key (row self.now.state key) }
+    {
+        self.cells.limits();
+    }
+
+    /// Makes what the row needs under the key: the place of the key, and the numbers of the koids that it counts
+    /// for. The rows stay as they are, also where memory is refused. Koids from 2^48 on are refused.
+    pub(crate) fn make_room(&mut self, key: RowKey, row: Option<&Row>) -> Result<(), AllocError>
+        ensures state { self.new.state ≡ self.old.state }
+        ensures kept { Keeps self.old.places self.new.places }
+        ensures made { OnOk result (fits_row self.new.places key (option_copied row.entry) ≡ true) }
+    {
+        let (asked, indexed) = (key, key);
+        self.index.grow_for(indexed)?;
+        self.cells.make_place(key)?;
+        self.support_counts.grow_if(asked, row)
+    }
+
+    /// Exchanges the row, or none, with what stands under the key. It takes no memory.
+    pub(crate) fn exchange(&mut self, key: RowKey, kept: &mut Option<Row>)
+        requires placed { fits_row self.old.places key kept.old ≡ true }
+        requires suited { SuitsKey key kept.old }
+        ensures put { self.new ≡ standing self.old (put self.old.state key kept.old) }
+        ensures was { kept.new ≡ row self.old.state key }
+        ensures fit { fits_row self.new.places key kept.new ≡ true }
+        ensures suited { SuitsKey key kept.new }
+    {
+        let (came, went, indexed) = (key, key, key);
+        self.cells.limits();
+        self.index.follow(&self.cells, indexed, kept);
+        self.support_counts.raise_if(came, kept);
+        self.cells.exchange(key, kept);
+        self.support_counts.lower_if(went, kept);
+    }
+
+    /// Puts the row under the key.
+    fn keep(&mut self, key: RowKey, row: Row) -> Result<(), AllocError>
+        requires { SuitsKey key (Option.Some row) }
+        ensures { OnOk result (self.new.state ≡ put self.old.state key (Option.Some row)) }
+    {
+        let asked = key;
+        self.make_room(key, Some(&row))?;
+        let mut kept = Some(row);
+        self.exchange(asked, &mut kept);
+        discard(kept);
+        Ok(())
+    }
+}
+
+fn discard(_row: Option<Row>) {}
+
+/// Whether the live tasks below the object are its supports.
+fn keeps_tasks(object: &Option<ObjectRow>) -> bool
+    ensures { result ≡ keeps_tasks object.now }
+{
+    match object {
+        Some(object) => object.kind == Kind::Job && object.life == Life::Live,
+        None => false,
+    }
+}
+
+/// How many tasks support the object, by the numbers of its koid.
+fn tasks_kept(object: &Option<ObjectRow>, numbers: KoidCounts) -> u64
+    requires jobs { numbers.jobs < 2 ^ 62 }
+    requires processes { numbers.processes < 2 ^ 62 }
+    ensures count { result ≡ (if keeps_tasks object.now then numbers.jobs + numbers.processes else 0) }
+    ensures few { result < 2 ^ 63 }
+{
+    if keeps_tasks(object) {
+        numbers.jobs + numbers.processes
+    } else {
+        0
+    }
+}
+
+/// Whether the object supports itself.
+fn keeps_itself(koid: Koid, object: &Option<ObjectRow>) -> bool
+    ensures { result ≡ keeps_itself koid object.now }
+{
+    match object {
+        Some(object) => {
+            (object.kind == Kind::Process && object.life == Life::Live) || koid == ROOT_JOB
+        }
+        None => false,
+    }
+}

@@ -1,0 +1,136 @@
+ghost use Rattle.std.specs.Prelude.{◌≡◌, ◌++◌, ◌∷◌, [], codes, length, IfOk, OnOk, string_bytes};
+ghost use Rattle.std.specs.List.{flat_map};
+ghost use Rattle.std.specs.Fmt.{decimal};
+ghost use Rattle.zt_text.specs.ShownNumbers.{words};
+ghost use Rattle.zt_text.specs.Answers.{as_line, shown_reply, row_line, shown_support, support_line, leak_line, moment_line, name_line, heading, shown_event, shown_answer};
+
+use crate::printed_calls::put_call;
+use crate::printed_rows::{put_reply, put_rows};
+use std::alloc::{AllocError, Global};
+use zt_bits::Kind;
+use zt_rows::{Answer, Event, Koid, Moment, Reply, Row, RowKey, Support};
+
+/// The lines of an answer.
+#[tactic(auto, unfolding(crate::specs::Answers::shown_answer))]
+pub fn print_answer(alloc: Global, answer: &Answer) -> Result<Vec<u8>, AllocError>
+    ensures { IfOk result (λ text. text.items ≡ shown_answer answer.now) }
+{
+    match answer {
+        Answer::Called(moment, reply) => print_called(alloc, *moment, reply),
+        Answer::At(moment) => print_moment(alloc, "at", *moment),
+        Answer::Branched(name, moment) => print_name(alloc, "branch", name.as_slice(), *moment),
+        Answer::Followed(name, moment) => print_name(alloc, "follow", name.as_slice(), *moment),
+        Answer::Rows(moment, rows) => print_rows_at(alloc, *moment, rows.as_slice()),
+        Answer::Holders(koid, kept) => print_holders(alloc, *koid, kept.as_slice()),
+        Answer::Leaks(moment, leaked) => print_leaks(alloc, *moment, leaked.as_slice()),
+        Answer::When(event) => print_event(alloc, event),
+        Answer::Pinned(moment) => print_moment(alloc, "pinned", *moment),
+    }
+}
+
+/// The line of a call's answer.
+fn print_called(alloc: Global, moment: Moment, reply: &Reply) -> Result<Vec<u8>, AllocError>
+    ensures { IfOk result (λ text. text.items ≡ as_line (words (decimal moment ∷ shown_reply reply.now ∷ []))) }
+{
+    let mut text = String::new(alloc);
+    write!(text, "{} ", moment.0)?;
+    put_reply(&mut text, reply)?;
+    text.push_str("\n")?;
+    Ok(text.into_bytes())
+}
+
+/// The line of a word and a moment.
+fn print_moment(alloc: Global, word: &str, moment: Moment) -> Result<Vec<u8>, AllocError>
+    ensures { IfOk result (λ text. text.items ≡ moment_line word.now moment) }
+{
+    let mut text = String::new(alloc);
+    writeln!(text, "{word} {}", moment.0)?;
+    Ok(text.into_bytes())
+}
+
+/// The line of a word, a name and a moment. The name may be of any bytes.
+fn print_name(alloc: Global, word: &str, name: &[u8], moment: Moment) -> Result<Vec<u8>, AllocError>
+    ensures { IfOk result (λ text. text.items ≡ name_line word.now name.now moment) }
+{
+    let mut number = String::new(alloc);
+    writeln!(number, " {}", moment.0)?;
+    let mut text = Vec::from_slice(alloc, word.as_bytes())?;
+    text.push(b' ')?;
+    text.extend_from_slice(name)?;
+    text.extend_from_slice(number.as_bytes())?;
+    Ok(text)
+}
+
+/// The rows at a moment.
+fn print_rows_at(
+    alloc: Global,
+    moment: Moment,
+    rows: &[(RowKey, Row)],
+) -> Result<Vec<u8>, AllocError>
+    ensures { IfOk result (λ text. text.items ≡ heading (codes "rows") moment (length rows.now) ++ flat_map row_line rows.now) }
+{
+    let mut text = String::new(alloc);
+    writeln!(text, "rows {} {}", moment.0, rows.len())?;
+    put_rows(&mut text, rows)?;
+    Ok(text.into_bytes())
+}
+
+/// What keeps an object.
+fn print_holders(alloc: Global, koid: Koid, kept: &[Support]) -> Result<Vec<u8>, AllocError>
+    ensures { IfOk result (λ text. text.items ≡ heading (codes "holders") koid (length kept.now) ++ flat_map support_line kept.now) }
+{
+    let mut text = String::new(alloc);
+    writeln!(text, "holders {} {}", koid.0, kept.len())?;
+    for support in kept {
+        put_support(&mut text, *support)?;
+        text.push_str("\n")?;
+    }
+    Ok(text.into_bytes())
+}
+
+/// One thing that keeps an object.
+#[tactic(auto, unfolding(crate::specs::Answers::shown_support))]
+fn put_support(text: &mut String, support: Support) -> Result<(), AllocError>
+    ensures { OnOk result (string_bytes text.new ≡ string_bytes text.old ++ shown_support support) }
+{
+    match support {
+        Support::Entry(process, handle) => write!(text, "entry {} {}", process.0, handle.0),
+        Support::Message(endpoint, number, index) => {
+            write!(text, "message {} {number} {index}", endpoint.0)
+        }
+        Support::Child(koid) => write!(text, "child {}", koid.0),
+        Support::Itself => text.push_str("self"),
+    }
+}
+
+/// The leaked objects at a moment.
+fn print_leaks(
+    alloc: Global,
+    moment: Moment,
+    leaked: &[(Koid, Kind)],
+) -> Result<Vec<u8>, AllocError>
+    ensures { IfOk result (λ text. text.items ≡ heading (codes "leaks") moment (length leaked.now) ++ flat_map leak_line leaked.now) }
+{
+    let mut text = String::new(alloc);
+    writeln!(text, "leaks {} {}", moment.0, leaked.len())?;
+    for (koid, kind) in leaked {
+        writeln!(text, "{} {}", koid.0, kind.word())?;
+    }
+    Ok(text.into_bytes())
+}
+
+/// The line of a moment with its call, or of none.
+fn print_event(alloc: Global, event: &Option<Event>) -> Result<Vec<u8>, AllocError>
+    ensures { IfOk result (λ text. text.items ≡ as_line (shown_event event.now)) }
+{
+    let mut text = String::new(alloc);
+    match event {
+        None => text.push_str("never\n")?,
+        Some(event) => {
+            write!(text, "{} ", event.moment.0)?;
+            put_call(&mut text, event.process, &event.call)?;
+            text.push_str("\n")?;
+        }
+    }
+    Ok(text.into_bytes())
+}

@@ -1,0 +1,312 @@
+ghost use Rattle.std.specs.Prelude.{◌≡◌, IfOk, IfErr};
+ghost use Rattle.zt_text.specs.ReadLines.{IsUnread, has_parcel};
+ghost use Rattle.zt_text.specs.ReadCalls.{call, any_call_named, call_named, handle_call_named, channel_call_named, channel_create, channel_write, channel_read, port_call_named, port_create, object_wait_async, port_queue, port_wait, port_cancel, task_call_named, job_create, spawn, task_kill, process_exit, event_create, eventpair_create, handle_close, handle_duplicate, handle_replace, object_signal, object_signal_peer};
+
+use crate::fields::{Field, Fields};
+use crate::write_arguments::Write;
+use std::alloc::Global;
+use zt_rows::{Call, Refusal};
+
+/// The call that the fields behind the process write.
+#[tactic(auto, unfolding(crate::specs::ReadCalls::call))]
+pub fn call(alloc: Global, fields: Fields<'_>) -> Result<Call, Refusal>
+    ensures read { IfOk result (λ made. call fields.entry ≡ Ok made) }
+    ensures refused { IfErr result (λ refusal. IsUnread has_parcel (call fields.entry) refusal) }
+{
+    let (name, rest) = fields.next()?;
+    any_call_named(alloc, &name, rest)
+}
+
+/// The call of this name, with the arguments behind it.
+#[tactic(auto, unfolding(crate::specs::ReadCalls::any_call_named))]
+fn any_call_named(alloc: Global, name: &Field<'_>, rest: Fields<'_>) -> Result<Call, Refusal>
+    ensures read { IfOk result (λ made. any_call_named name.now rest.entry ≡ Ok made) }
+    ensures refused { IfErr result (λ refusal. IsUnread has_parcel (any_call_named name.now rest.entry) refusal) }
+{
+    if name.is("channel_write") {
+        channel_write(rest)?.to_call(alloc)
+    } else {
+        call_named(name, rest)
+    }
+}
+
+/// The call of this name, with the arguments behind it.
+#[tactic(auto, unfolding(crate::specs::ReadCalls::call_named))]
+fn call_named(name: &Field<'_>, rest: Fields<'_>) -> Result<Call, Refusal>
+    ensures { result ≡ call_named name.now rest.entry }
+{
+    if name.is("event_create") {
+        event_create(rest)
+    } else if name.is("eventpair_create") {
+        eventpair_create(rest)
+    } else if name.is("object_signal") {
+        object_signal(rest)
+    } else if name.is("object_signal_peer") {
+        object_signal_peer(rest)
+    } else {
+        handle_call_named(name, rest)
+    }
+}
+
+/// The call of this name, of those on handles, with the arguments behind it.
+#[tactic(auto, unfolding(crate::specs::ReadCalls::handle_call_named))]
+fn handle_call_named(name: &Field<'_>, rest: Fields<'_>) -> Result<Call, Refusal>
+    ensures { result ≡ handle_call_named name.now rest.entry }
+{
+    if name.is("handle_close") {
+        handle_close(rest)
+    } else if name.is("handle_duplicate") {
+        handle_duplicate(rest)
+    } else if name.is("handle_replace") {
+        handle_replace(rest)
+    } else {
+        channel_call_named(name, rest)
+    }
+}
+
+/// The call of this name, of those on channels that carry no parcel, with the arguments behind it.
+#[tactic(auto, unfolding(crate::specs::ReadCalls::channel_call_named))]
+fn channel_call_named(name: &Field<'_>, rest: Fields<'_>) -> Result<Call, Refusal>
+    ensures { result ≡ channel_call_named name.now rest.entry }
+{
+    if name.is("channel_create") {
+        channel_create(rest)
+    } else if name.is("channel_read") {
+        channel_read(rest)
+    } else {
+        port_call_named(name, rest)
+    }
+}
+
+/// The call of this name, of those on ports, with the arguments behind it.
+#[tactic(auto, unfolding(crate::specs::ReadCalls::port_call_named))]
+fn port_call_named(name: &Field<'_>, rest: Fields<'_>) -> Result<Call, Refusal>
+    ensures { result ≡ port_call_named name.now rest.entry }
+{
+    if name.is("port_create") {
+        port_create(rest)
+    } else if name.is("object_wait_async") {
+        object_wait_async(rest)
+    } else if name.is("port_queue") {
+        port_queue(rest)
+    } else if name.is("port_wait") {
+        port_wait(rest)
+    } else if name.is("port_cancel") {
+        port_cancel(rest)
+    } else {
+        task_call_named(name, rest)
+    }
+}
+
+/// The call of this name, of those on jobs and processes, with the arguments behind it.
+#[tactic(auto, unfolding(crate::specs::ReadCalls::task_call_named))]
+fn task_call_named(name: &Field<'_>, rest: Fields<'_>) -> Result<Call, Refusal>
+    ensures { result ≡ task_call_named name.now rest.entry }
+{
+    if name.is("job_create") {
+        job_create(rest)
+    } else if name.is("spawn") {
+        spawn(rest)
+    } else if name.is("task_kill") {
+        task_kill(rest)
+    } else if name.is("process_exit") {
+        process_exit(rest)
+    } else {
+        Err(name.fault())
+    }
+}
+
+#[tactic(auto, unfolding(crate::specs::ReadCalls::job_create))]
+fn job_create(fields: Fields<'_>) -> Result<Call, Refusal>
+    ensures { result ≡ job_create fields.entry }
+{
+    let (job, rest) = fields.handle()?;
+    rest.end()?;
+    Ok(Call::JobCreate { job })
+}
+
+#[tactic(auto, unfolding(crate::specs::ReadCalls::spawn))]
+fn spawn(fields: Fields<'_>) -> Result<Call, Refusal>
+    ensures { result ≡ spawn fields.entry }
+{
+    let (job, rest) = fields.handle()?;
+    let (argument, rest) = rest.handle()?;
+    rest.end()?;
+    Ok(Call::Spawn { job, argument })
+}
+
+#[tactic(auto, unfolding(crate::specs::ReadCalls::task_kill))]
+fn task_kill(fields: Fields<'_>) -> Result<Call, Refusal>
+    ensures { result ≡ task_kill fields.entry }
+{
+    let (handle, rest) = fields.handle()?;
+    rest.end()?;
+    Ok(Call::TaskKill { handle })
+}
+
+#[tactic(auto, unfolding(crate::specs::ReadCalls::process_exit))]
+fn process_exit(fields: Fields<'_>) -> Result<Call, Refusal>
+    ensures { result ≡ process_exit fields.entry }
+{
+    let (code, rest) = fields.code()?;
+    rest.end()?;
+    Ok(Call::ProcessExit { code })
+}
+
+#[tactic(auto, unfolding(crate::specs::ReadCalls::port_create))]
+fn port_create(fields: Fields<'_>) -> Result<Call, Refusal>
+    ensures { result ≡ port_create fields.entry }
+{
+    fields.end()?;
+    Ok(Call::PortCreate)
+}
+
+#[tactic(auto, unfolding(crate::specs::ReadCalls::object_wait_async))]
+fn object_wait_async(fields: Fields<'_>) -> Result<Call, Refusal>
+    ensures { result ≡ object_wait_async fields.entry }
+{
+    let (handle, rest) = fields.handle()?;
+    let (port, rest) = rest.handle()?;
+    let (key, rest) = rest.key()?;
+    let (signals, rest) = rest.signals()?;
+    rest.end()?;
+    Ok(Call::ObjectWaitAsync {
+        handle,
+        port,
+        key,
+        signals,
+    })
+}
+
+#[tactic(auto, unfolding(crate::specs::ReadCalls::port_queue))]
+fn port_queue(fields: Fields<'_>) -> Result<Call, Refusal>
+    ensures { result ≡ port_queue fields.entry }
+{
+    let (port, rest) = fields.handle()?;
+    let (key, rest) = rest.key()?;
+    let (bytes, rest) = rest.packet_bytes()?;
+    rest.end()?;
+    Ok(Call::PortQueue { port, key, bytes })
+}
+
+#[tactic(auto, unfolding(crate::specs::ReadCalls::port_wait))]
+fn port_wait(fields: Fields<'_>) -> Result<Call, Refusal>
+    ensures { result ≡ port_wait fields.entry }
+{
+    let (port, rest) = fields.handle()?;
+    rest.end()?;
+    Ok(Call::PortWait { port })
+}
+
+#[tactic(auto, unfolding(crate::specs::ReadCalls::port_cancel))]
+fn port_cancel(fields: Fields<'_>) -> Result<Call, Refusal>
+    ensures { result ≡ port_cancel fields.entry }
+{
+    let (port, rest) = fields.handle()?;
+    let (source, rest) = rest.handle()?;
+    let (key, rest) = rest.key()?;
+    rest.end()?;
+    Ok(Call::PortCancel { port, source, key })
+}
+
+#[tactic(auto, unfolding(crate::specs::ReadCalls::channel_create))]
+fn channel_create(fields: Fields<'_>) -> Result<Call, Refusal>
+    ensures { result ≡ channel_create fields.entry }
+{
+    fields.end()?;
+    Ok(Call::ChannelCreate)
+}
+
+#[tactic(auto, unfolding(crate::specs::ReadCalls::channel_write))]
+fn channel_write(fields: Fields<'_>) -> Result<Write<'_>, Refusal>
+    ensures { result ≡ channel_write fields.entry }
+{
+    let (handle, rest) = fields.handle()?;
+    let (bytes, rest) = rest.bytes()?;
+    let (handles, rest) = rest.handles()?;
+    rest.end()?;
+    Ok(Write::new(handle, bytes, handles))
+}
+
+#[tactic(auto, unfolding(crate::specs::ReadCalls::channel_read))]
+fn channel_read(fields: Fields<'_>) -> Result<Call, Refusal>
+    ensures { result ≡ channel_read fields.entry }
+{
+    let (handle, rest) = fields.handle()?;
+    let (bytes, rest) = rest.amount()?;
+    let (handles, rest) = rest.amount()?;
+    let discard = rest.flag("discard")?;
+    Ok(Call::ChannelRead {
+        handle,
+        bytes,
+        handles,
+        discard,
+    })
+}
+
+#[tactic(auto, unfolding(crate::specs::ReadCalls::event_create))]
+fn event_create(fields: Fields<'_>) -> Result<Call, Refusal>
+    ensures { result ≡ event_create fields.entry }
+{
+    fields.end()?;
+    Ok(Call::EventCreate)
+}
+
+#[tactic(auto, unfolding(crate::specs::ReadCalls::eventpair_create))]
+fn eventpair_create(fields: Fields<'_>) -> Result<Call, Refusal>
+    ensures { result ≡ eventpair_create fields.entry }
+{
+    fields.end()?;
+    Ok(Call::EventPairCreate)
+}
+
+#[tactic(auto, unfolding(crate::specs::ReadCalls::handle_close))]
+fn handle_close(fields: Fields<'_>) -> Result<Call, Refusal>
+    ensures { result ≡ handle_close fields.entry }
+{
+    let (handle, rest) = fields.handle()?;
+    rest.end()?;
+    Ok(Call::HandleClose { handle })
+}
+
+#[tactic(auto, unfolding(crate::specs::ReadCalls::handle_duplicate))]
+fn handle_duplicate(fields: Fields<'_>) -> Result<Call, Refusal>
+    ensures { result ≡ handle_duplicate fields.entry }
+{
+    let (handle, rest) = fields.handle()?;
+    let (rights, rest) = rest.mask()?;
+    rest.end()?;
+    Ok(Call::HandleDuplicate { handle, rights })
+}
+
+#[tactic(auto, unfolding(crate::specs::ReadCalls::handle_replace))]
+fn handle_replace(fields: Fields<'_>) -> Result<Call, Refusal>
+    ensures { result ≡ handle_replace fields.entry }
+{
+    let (handle, rest) = fields.handle()?;
+    let (rights, rest) = rest.mask()?;
+    rest.end()?;
+    Ok(Call::HandleReplace { handle, rights })
+}
+
+#[tactic(auto, unfolding(crate::specs::ReadCalls::object_signal))]
+fn object_signal(fields: Fields<'_>) -> Result<Call, Refusal>
+    ensures { result ≡ object_signal fields.entry }
+{
+    let (handle, rest) = fields.handle()?;
+    let (clear, rest) = rest.signals()?;
+    let (set, rest) = rest.signals()?;
+    rest.end()?;
+    Ok(Call::ObjectSignal { handle, clear, set })
+}
+
+#[tactic(auto, unfolding(crate::specs::ReadCalls::object_signal_peer))]
+fn object_signal_peer(fields: Fields<'_>) -> Result<Call, Refusal>
+    ensures { result ≡ object_signal_peer fields.entry }
+{
+    let (handle, rest) = fields.handle()?;
+    let (clear, rest) = rest.signals()?;
+    let (set, rest) = rest.signals()?;
+    rest.end()?;
+    Ok(Call::ObjectSignalPeer { handle, clear, set })
+}

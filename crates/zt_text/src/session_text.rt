@@ -1,0 +1,160 @@
+ghost use Rattle.std.specs.Prelude.{◌≡◌, ◌∷◌, ◌<◌, true, length, is_some, IfOk, IfErr, OnOk};
+ghost use Rattle.zt_text.specs.Lines.{lines_of};
+ghost use Rattle.zt_text.specs.ReadLines.{IsUnread};
+ghost use Rattle.zt_text.specs.ReadCalls.{process_call};
+ghost use Rattle.zt_text.specs.Session.{call_in, fault_at, first_line, calls_in, has_call, session_of, session_has_call, line_of_call, line_of_call_in, IsFaultOf, IsTaken, IsNotTaken};
+
+use crate::fields::Fields;
+use crate::read_calls::call;
+use crate::read_lines::{LINE_BYTES, fields_in, is_skipped};
+use crate::separator::cut;
+use std::alloc::Global;
+use zt_rows::{Call, Koid, Refusal};
+
+/// The calls of a session text in their order: behind its first line `zxtt 1` each line is a call, or empty, or begins
+/// with `#`. The number with a refusal is that of the line at fault, counted from 1, and 0 where memory was refused.
+#[tactic(auto, unfolding(crate::specs::Session::session_of))]
+pub fn read_session(alloc: Global, text: &[u8]) -> Result<Vec<(Koid, Call)>, (u64, Refusal)>
+    ensures read { IfOk result (λ calls. session_of text.now ≡ Ok calls.items) }
+    ensures refused { IfErr result (λ fault. IsFaultOf (session_has_call text.now) (session_of text.now) fault) }
+{
+    if text.is_empty() {
+        return Err((1, Refusal::BadLine(1)));
+    }
+    let (first, left) = next_line(text);
+    match first_line(first) {
+        Ok(()) => calls_in(alloc, left),
+        Err(fault) => Err(fault_at(1, fault)),
+    }
+}
+
+/// The first line of some bytes, and those behind its line feed.
+fn next_line(bytes: &[u8]) -> (&[u8], &[u8])
+    requires { 0 < length bytes.now }
+    ensures lines { lines_of bytes.now ≡ result.0.now ∷ lines_of result.1.now }
+    ensures shorter { length result.1.now < length bytes.now }
+{
+    let (line, left) = cut(bytes, b'\n');
+    match left {
+        Some(left) => (line, left),
+        None => (line, &[]),
+    }
+}
+
+/// Nothing, where this is the first line of a session text.
+fn first_line(line: &[u8]) -> Result<(), Refusal>
+    ensures { result ≡ first_line line.now }
+{
+    if line.len() > LINE_BYTES {
+        Err(Refusal::LineTooLong)
+    } else if line == b"zxtt 1".as_slice() {
+        Ok(())
+    } else {
+        Err(Refusal::BadLine(1))
+    }
+}
+
+/// The calls of the lines behind the first.
+fn calls_in(alloc: Global, text: &[u8]) -> Result<Vec<(Koid, Call)>, (u64, Refusal)>
+    ensures read { IfOk result (λ calls. calls_in 2 (lines_of text.now) ≡ Ok calls.items) }
+    ensures refused { IfErr result (λ fault. IsFaultOf (has_call (lines_of text.now)) (calls_in 2 (lines_of text.now)) fault) }
+{
+    let mut calls = Vec::new(alloc);
+    let mut left = text;
+    let mut number = 2;
+    while !left.is_empty() {
+        let (line, others) = next_line(left);
+        match take_line(alloc, &mut calls, line, number) {
+            Ok(()) => {}
+            Err(fault) => return Err(fault),
+        }
+        left = others;
+        number += 1;
+    }
+    Ok(calls)
+}
+
+/// Puts the call of the line of this number behind those before it, unless the line is skipped.
+fn take_line(
+    alloc: Global,
+    calls: &mut Vec<(Koid, Call)>,
+    line: &[u8],
+    number: u64,
+) -> Result<(), (u64, Refusal)>
+    ensures taken { OnOk result (IsTaken calls.old.items (call_in line.now) calls.new.items) }
+    ensures refused { IfErr result (λ fault. IsNotTaken number (call_in line.now) fault) }
+{
+    match call_in(alloc, line) {
+        Ok(None) => Ok(()),
+        Ok(Some(made)) => match calls.push(made) {
+            Ok(()) => Ok(()),
+            Err(_) => Err((0, Refusal::OutOfMemory)),
+        },
+        Err(fault) => Err(fault_at(number, fault)),
+    }
+}
+
+/// A fault with the number of its line; a want of memory has no line.
+fn fault_at(number: u64, fault: Refusal) -> (u64, Refusal)
+    ensures { result ≡ fault_at number fault }
+{
+    match fault {
+        Refusal::OutOfMemory => (0, fault),
+        _ => (number, fault),
+    }
+}
+
+/// The call of a line; none, where it is empty or begins with `#`.
+#[tactic(auto, unfolding(crate::specs::Session::call_in))]
+fn call_in(alloc: Global, line: &[u8]) -> Result<Option<(Koid, Call)>, Refusal>
+    ensures read { IfOk result (λ made. call_in line.now ≡ Ok made) }
+    ensures refused { IfErr result (λ refusal. IsUnread is_some (call_in line.now) refusal) }
+{
+    match fields_in(line)? {
+        None => Ok(None),
+        Some(fields) => Ok(Some(process_call(alloc, fields)?)),
+    }
+}
+
+/// A process and its call.
+#[tactic(auto, unfolding(crate::specs::ReadCalls::process_call))]
+fn process_call(alloc: Global, fields: Fields<'_>) -> Result<(Koid, Call), Refusal>
+    ensures read { IfOk result (λ made. process_call fields.entry ≡ Ok made) }
+    ensures refused { IfErr result (λ refusal. IsUnread (λ _. true) (process_call fields.entry) refusal) }
+{
+    let (process, rest) = fields.koid()?;
+    Ok((process, call(alloc, rest)?))
+}
+
+/// The line of the call with this number, counted from 0, in a session text that reads: lines are counted from 1, and
+/// skipped ones too. It is 0 where there are not so many calls. It takes no memory.
+pub fn line_of_call(text: &[u8], call: u64) -> u64
+    ensures { result ≡ line_of_call text.now call }
+{
+    if text.is_empty() {
+        return 0;
+    }
+    let (_, calls) = next_line(text);
+    line_of_call_in(calls, call)
+}
+
+/// As `line_of_call`, in the lines behind the first.
+fn line_of_call_in(text: &[u8], call: u64) -> u64
+    ensures { result ≡ line_of_call_in 2 call (lines_of text.now) }
+{
+    let mut left = text;
+    let mut line = 2;
+    let mut before = call;
+    while !left.is_empty() {
+        let (bytes, others) = next_line(left);
+        if !is_skipped(bytes) {
+            if before == 0 {
+                return line;
+            }
+            before -= 1;
+        }
+        left = others;
+        line += 1;
+    }
+    0
+}
