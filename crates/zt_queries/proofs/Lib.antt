@@ -16,3 +16,4 @@ pub mod WhenLaws
 pub mod ForkLaws
 pub mod SinceLaws
 pub mod FirstLeakLaws
+pub mod StayLaws

@@ -85,7 +85,7 @@ given-stays : (S T : State) (x : ℕ) → Follows S T → given x S → given x 
 given-stays S T x f g = let k : next_koid S ≤ next_koid T = f.koids in let l : x < next_koid S = g in omega arith
 
 -- an object that is there, of a koid that was given out before, was there
-was-old : (S T : State) (x : ℕ) → Follows S T → given x S → (q : ObjectRow) → object T x ≡ Some q → (o : ObjectRow) × (object S x ≡ Some o) × Aged o q
+pub was-old : (S T : State) (x : ℕ) → Follows S T → given x S → (q : ObjectRow) → object T x ≡ Some q → (o : ObjectRow) × (object S x ≡ Some o) × Aged o q
 was-old S T x f g q e = by_was (f.objects x q e)
   where
     by_was : Was S x q → (o : ObjectRow) × (object S x ≡ Some o) × Aged o q
@@ -260,7 +260,7 @@ reached-there S sound x e = reached-least S (exists S) (record {
   messages = λ e n m there owner. (sound.of_messages e n m there).names;
 }) x e
 
-unreached : (S : State) (x : ℕ) → IsConsistent S → has_leaked x S → among (reached S) x ≡ false
+pub unreached : (S : State) (x : ℕ) → IsConsistent S → has_leaked x S → among (reached S) x ≡ false
 unreached S x c p = not_true (among (reached S) x) (λ t. true≢false (among (reached S) x) t (leaked-lost S x (p.1 (reached-there S c.sound x t))).unreached)
 
 never-reached : (S : State) (path : List (ℕ × State)) (x : ℕ) → IsConsistent S → IsCallPath S path → has_leaked x S → AllByRecursion (λ m. among (reached m.1) x ≡ false) path

@@ -1,9 +1,9 @@
 -- The path to a moment of a tree, with the states of its moments, is a path of calls from the opening; so what happens
 -- once at most on the one does so on the other.
-use Rattle.std.proofs.Common.{◌≡◌, ◌≤◌, ℕ, suc, Bool, true, false, ◌||◌, List, [], ◌∷◌, ◌++◌, length, map, Option, Some, None, refl, sym, ap, ◌∙◌, subst}
+use Rattle.std.proofs.Common.{◌≡◌, ◌≤◌, ℕ, suc, Bool, true, false, cond, ◌||◌, List, [], ◌∷◌, ◌++◌, length, map, Option, Some, None, refl, sym, ap, ◌∙◌, subst}
 use Rattle.std.specs.Prelude.{if◌then◌else◌, filter, Result, Ok, Err, ◌==◌}
 use Rattle.std.specs.List.{last_or}
-use Rattle.std.proofs.lemmas.Bool.{eqb-true, true≢false}
+use Rattle.std.proofs.lemmas.Bool.{eqb-true, eq-eqb, true≢false}
 use Rattle.std.proofs.lemmas.List.{map-append}
 use Rattle.std.proofs.lemmas.List.Elements.{filter-append}
 use Rattle.zt_rows.specs.declared.calls.Happening.{Happening}
@@ -16,13 +16,14 @@ use Rattle.zt_rows.specs.State.{State}
 use Rattle.zt_rows.specs.Step.{step}
 use Rattle.zt_rows.specs.Tests.{among}
 use Rattle.zt_rows.proofs.OpeningLaws.{opening-consistent}
+use Rattle.zt_rows.proofs.RowLaws.{or_right}
 use Rattle.zt_history.specs.HistoryRefusals.{check, ◌>>=◌}
-use Rattle.zt_history.specs.TreeInvariant.{AreMoments}
-use Rattle.zt_history.specs.Tree.{Made, made_at, parent_of, parent_at, path, state_at}
+use Rattle.zt_history.specs.TreeInvariant.{AreMoments, IsTree}
+use Rattle.zt_history.specs.Tree.{Made, Tree, made_at, parent_of, parent_at, path, state_at}
 use Rattle.zt_history.proofs.PathLaws.{path-opening, path-step, by_parents}
 use Rattle.zt_history.proofs.RunLaws.{state-opening, state-step, made-there, parent-within}
 use Rattle.zt_queries.specs.Happenings.{IsCallStep, IsCallPath, moments}
-use Rattle.zt_queries.specs.HappeningTimes.{at_moment, happens, last_on, is_known, when_on}
+use Rattle.zt_queries.specs.HappeningTimes.{at_moment, happens, HappenOnce, last_on, is_known, when_on}
 use Rattle.zt_queries.proofs.OnceLaws.{made-once, ended-once, peer_closed-once, leaked-once, last-only}
 
 -- ---- one more state at the end of a path
@@ -112,6 +113,9 @@ module _ (made : List Made) (are : AreMoments made) (m : ℕ) (within : m ≤ le
   once happening.PeerClosed = let w = walked made are (happens happening.PeerClosed x) m within in subst (λ l. length l ≤ 1) w.same (peer_closed-once opening _ x opening-consistent w.is_path)
   once happening.Leaked = let w = walked made are (happens happening.Leaked x) m within in subst (λ l. length l ≤ 1) w.same (leaked-once opening _ x opening-consistent w.is_path)
 
+pub tree-once : (t : Tree) → IsTree t → HappenOnce t
+tree-once t is what m x within = once t.made is.moments m within x what
+
 -- what is among a list and passes is among what passes
 pub among-filter : (test : ℕ → Bool) (xs : List ℕ) (i : ℕ) → among xs i ≡ true → test i ≡ true → among (filter test xs) i ≡ true
 among-filter test [] i h t = h
@@ -122,6 +126,21 @@ among-filter test (y ∷ xs) i h t = by (y == i) refl (test y) refl (λ g. among
     by true e false f rest = absurd (true≢false (sym t ∙ ap test (sym (eqb-true y i e)) ∙ f))
     by false e true f rest = rw f (ap (λ c. c || among (filter test xs) i) e ∙ rest (sym (ap (λ c. c || among xs i) e) ∙ h))
     by false e false f rest = rw f (rest (sym (ap (λ c. c || among xs i) e) ∙ h))
+
+-- and the other way about
+filter-among : (test : ℕ → Bool) (xs : List ℕ) (i : ℕ) → among (filter test xs) i ≡ true → (among xs i ≡ true) × (test i ≡ true)
+filter-among test [] i h = absurd (true≢false (sym h))
+filter-among test (y ∷ xs) i h = by (test y) refl h (λ g. filter-among test xs i g)
+  where
+    first : (b : Bool) → (y == i) ≡ b → test y ≡ true → (b || among (filter test xs) i) ≡ true → (among (filter test xs) i ≡ true → (among xs i ≡ true) × (test i ≡ true))
+        → (among (y ∷ xs) i ≡ true) × (test i ≡ true)
+    first true e f g rest = (ap (λ c. c || among xs i) e, ap test (sym (eqb-true y i e)) ∙ f)
+    first false e f g rest = let r = rest g in (ap (λ c. c || among xs i) e ∙ r.0, r.1)
+
+    by : (b : Bool) → test y ≡ b → among (cond b (y ∷ filter test xs) (filter test xs)) i ≡ true → (among (filter test xs) i ≡ true → (among xs i ≡ true) × (test i ≡ true))
+        → (among (y ∷ xs) i ≡ true) × (test i ≡ true)
+    by true f g rest = first (y == i) refl f g rest
+    by false f g rest = let r = rest g in (or_right (y == i) (among xs i) r.0, r.1)
 
 one_among : (n i : ℕ) → among (n ∷ []) i ≡ true → i ≡ n
 one_among n i h = by (n == i) refl
@@ -139,14 +158,27 @@ found_on true o found h = ap (λ (r : Result (Option ℕ) Refusal). said r) h
     said (Err e) = None
 found_on false o found h = cc
 
-pub only-moment : (made : List Made) (m x n i : ℕ) (what : Happening) → AreMoments made → m ≤ length made → when_on what made m x ≡ Ok (Some n)
-    → among (path made m) i ≡ true → at_moment (happens what x) made i ≡ true → i ≡ n
+-- what was found is all that passes
+one-found : (made : List Made) (m x n : ℕ) (what : Happening) → AreMoments made → m ≤ length made → when_on what made m x ≡ Ok (Some n)
+    → filter (at_moment (happens what x) made) (path made m) ≡ n ∷ []
 unfolding last_on
-only-moment made m x n i what are within found on here =
+one-found made m x n what are within found =
     let test : ℕ → Bool = at_moment (happens what x) made in
     let last : last_or None (filter test (path made m)) ≡ Some n = found_on (is_known (state_at made m) x) (last_on (happens what x) made m) (Some n) found in
-    let only : filter test (path made m) ≡ n ∷ [] = last-only (filter test (path made m)) n (once made are m within x what) last in
-    one_among n i (ap (λ l. among l i) (sym only) ∙ among-filter test (path made m) i on here)
+    last-only (filter test (path made m)) n (once made are m within x what) last
+
+-- it is on the path, and there it happens
+pub found-there : (made : List Made) (m x n : ℕ) (what : Happening) → AreMoments made → m ≤ length made → when_on what made m x ≡ Ok (Some n)
+    → (among (path made m) n ≡ true) × (at_moment (happens what x) made n ≡ true)
+found-there made m x n what are within found =
+    filter-among (at_moment (happens what x) made) (path made m) n
+    (ap (λ l. among l n) (one-found made m x n what are within found) ∙ ap (λ b. b || false) (eq-eqb n n refl))
+
+pub only-moment : (made : List Made) (m x n i : ℕ) (what : Happening) → AreMoments made → m ≤ length made → when_on what made m x ≡ Ok (Some n)
+    → among (path made m) i ≡ true → at_moment (happens what x) made i ≡ true → i ≡ n
+only-moment made m x n i what are within found on here =
+    one_among n i
+    (ap (λ l. among l i) (sym (one-found made m x n what are within found)) ∙ among-filter (at_moment (happens what x) made) (path made m) i on here)
 
 pub no-moment : (made : List Made) (m x i : ℕ) (what : Happening) → when_on what made m x ≡ Ok None → among (path made m) i ≡ true → at_moment (happens what x) made i ≡ false
 unfolding last_on

@@ -1,6 +1,6 @@
 -- At which moment of a path something happened to an object, as a history is asked for it: checks first. This project's
 -- own.
-use Rattle.std.specs.Prelude.{◌≡◌, ◌⊎◌, ℕ, Bool, nat_le, nat_lt, ◌&&◌, List, filter, Option, None, Result, Ok, Err}
+use Rattle.std.specs.Prelude.{◌≡◌, ◌⊎◌, ℕ, ◌≤◌, Bool, nat_le, nat_lt, ◌&&◌, List, length, filter, Option, None, Result, Ok, Err}
 use Rattle.std.specs.List.{last_or}
 use Rattle.zt_rows.specs.declared.calls.Happening.{Happening}
 use Rattle.zt_rows.specs.declared.calls.Happening.TheVariants as happening
@@ -10,7 +10,7 @@ use Rattle.zt_rows.specs.State.{State}
 use Rattle.zt_rows.specs.Reads.{counters}
 use Rattle.zt_rows.specs.Support.{root_job}
 use Rattle.zt_history.specs.HistoryRefusals.{check, ◌>>=◌}
-use Rattle.zt_history.specs.Tree.{Made, parent_at, path, state_at}
+use Rattle.zt_history.specs.Tree.{Made, Tree, last_moment, parent_at, path, state_at}
 use Rattle.zt_queries.specs.Happenings.{made, ended, peer_closed, leaked}
 
 -- what is asked, as a test of two states
@@ -23,6 +23,10 @@ happens happening.Leaked x S T = leaked x S T
 -- it happens at this moment: between the state of its parent and its own
 abbrev pub at_moment : (State → State → Bool) → List Made → ℕ → Bool
 at_moment test made m = test (state_at made (parent_at made m)) (state_at made m)
+
+-- on the path to each moment of the tree each of the four happens to an object at one moment at most
+abbrev pub HappenOnce : Tree → Type 0
+HappenOnce t = (what : Happening) (m x : ℕ) → m ≤ last_moment t → length (filter (at_moment (happens what x) t.made) (path t.made m)) ≤ 1
 
 -- the last moment on the path to m at which it happens
 unfoldable pub last_on : (State → State → Bool) → List Made → ℕ → Option ℕ

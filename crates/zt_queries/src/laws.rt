@@ -10,9 +10,10 @@ ghost use Rattle.zt_rows.specs.Reads.{object, on_object, runs};
 ghost use Rattle.zt_rows.specs.Tests.{among, exists, is_endpoint};
 ghost use Rattle.zt_rows.specs.Step.{IsCall, step};
 ghost use Rattle.zt_rows.specs.Consistent.{IsConsistent};
-ghost use Rattle.zt_history.specs.TreeInvariant.{AreMoments};
-ghost use Rattle.zt_history.specs.Tree.{Made, path};
-ghost use Rattle.zt_queries.specs.HappeningTimes.{at_moment, happens, when_on};
+ghost use Rattle.zt_history.specs.TreeInvariant.{AreMoments, IsTree};
+ghost use Rattle.zt_history.specs.Tree.{Made, Tree, path};
+ghost use Rattle.zt_queries.specs.HappeningTimes.{at_moment, happens, when_on, HappenOnce};
+ghost use Rattle.zt_queries.specs.LaterMoments.{LeaksStay};
 ghost use Rattle.zt_queries.specs.Reachability.{reached, HoldsAllNamed};
 ghost use Rattle.zt_queries.specs.Leaks.{is_leaked, leaks};
 ghost use Rattle.zt_queries.specs.Happenings.{lacks_peer, made, ended, peer_closed, leaked, IsCallPath, moments, last_moment};
@@ -49,6 +50,12 @@ pub fn what_leaked_stays_leaked()
         → is_leaked S x ≡ true → AllByRecursion (λ m. among (reached m.1) x ≡ false) path }
 {}
 
+/// In every tree, what is leaked at a moment is out of reach at every moment to which that one leads: it is leaked there or
+/// gone, and a leaked endpoint is never gone.
+pub fn what_leaked_stays_out_of_reach()
+    ensures { (t : Tree) → IsTree t → LeaksStay t }
+{}
+
 /// On a path of calls an object is made at one moment at most, ends at one at most, loses its peer at one at most,
 /// and is leaked at one at most.
 pub fn once_each()
@@ -60,6 +67,11 @@ pub fn once_each()
         → length (moments (peer_closed x) S path) ≤ 1 }
     ensures leaked { (S : State) (path : List (ℕ × State)) (x : ℕ) → IsConsistent S → IsCallPath S path
         → length (moments (leaked x) S path) ≤ 1 }
+{}
+
+/// The same on the path to each moment of every tree.
+pub fn once_on_each_path()
+    ensures { (t : Tree) → IsTree t → HappenOnce t }
 {}
 
 /// Where something happens at one moment of a path at most, the last such moment is the only one.

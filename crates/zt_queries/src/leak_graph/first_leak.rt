@@ -7,6 +7,7 @@ ghost use Rattle.zt_rows.specs.Support.{root_job};
 ghost use Rattle.zt_queries.specs.Happenings.{leaked};
 ghost use Rattle.zt_queries.specs.Leaks.{is_leaked};
 ghost use Rattle.zt_queries.specs.HappeningTimes.{IsRefusedWhen, at_moment, when_on};
+ghost use Rattle.zt_queries.specs.LaterMoments.{TellsWhenLeaked};
 ghost use Rattle.zt_queries.specs.RowHappenings.{AreWays};
 ghost use Rattle.zt_queries.specs.LeakGraph.{IsGraph};
 ghost use Rattle.zt_queries.specs.FirstLeak.{state_after, IsLast, IsFirstLeak};
@@ -22,10 +23,14 @@ use zt_bits::Kind;
 use zt_history::History;
 use zt_rows::{Koid, Moment, ROOT_JOB, Refusal};
 
-/// The moment on the path to `at` at which the object was leaked, if it was. Where the object's own row, the store or the
-/// records show that it was not leaked when it was there last, it never was, and this reads no more than `made`. Else it
-/// is found in a graph that the records of the path move, without a store: since what is leaked stays so, half of the
-/// moments that are left are passed over by each look at what is reached. It takes memory for two such graphs.
+/// The moment on the path to `at` at which the object was leaked, if it was. Of the moments up to `at`, the object is leaked
+/// at none before it, and from it on no process reaches the object, which is leaked or gone; where none is answered, it is
+/// leaked at none of them.
+///
+/// Where the object's own row, the store or the records show that it was not leaked when it was there last, it never was,
+/// and this reads no more than `made`. Else it is found in a graph that the records of the path move, without a store: since
+/// what is leaked stays so, half of the moments that are left are passed over by each look at what is reached. It takes
+/// memory for two such graphs.
 pub fn leaked_since(
     alloc: Global,
     history: &History,
@@ -34,6 +39,7 @@ pub fn leaked_since(
 ) -> Result<Option<Moment>, Refusal>
     requires there { at ≤ length history.now.tree.made }
     ensures ok { IfOk result (λ found. when_on happening.Leaked history.now.tree.made at koid ≡ Ok found) }
+    ensures tells { IfOk result (TellsWhenLeaked history.now.tree.made at koid) }
     ensures refused { IfErr result (IsRefusedWhen (when_on happening.Leaked history.now.tree.made at koid)) }
 {
     let ways = ways_to(history, at)?;

@@ -1,6 +1,8 @@
--- Found where the object is known at the end of the path, and refused where it is not.
+-- Found where the object is known at the end of the path, and refused where it is not; what was found tells when the object
+-- is leaked.
 use Rattle.std.proofs.Common.{sym, ◌∙◌}
 use Rattle.zt_rows.specs.declared.calls.Happening.TheVariants as happening
+use Rattle.zt_queries.proofs.StayLaws.{found-tells}
 use Rattle.zt_queries.proofs.WhenLaws.{when-known, when-unknown}
 use Rattle.zt_queries.proofs.leak_graph.first_leak.leaked_since.Goals as goal
 
@@ -13,3 +15,7 @@ pub returns-in-Ok-clause-ok : goal.returns-in-Ok-clause-ok
 returns-in-Ok-clause-ok c =
     when-known c.args.history.now.tree.made c.in_ok-ways.ensures.ways.tree.moments.falls c.args.at c.args.koid happening.Leaked c.in_ok-ways.ways.way.items
     c.in_ok-ways.ensures.way c.in-Ok.found (sym c.is_known.ensures ∙ c.if-not-is_known.false) c.in-Ok.ensures
+
+pub returns-in-Ok-clause-tells : goal.returns-in-Ok-clause-tells
+returns-in-Ok-clause-tells c =
+    found-tells c.args.history.now.tree.made c.args.at c.args.koid c.in-Ok.found c.in_ok-ways.ensures.ways.tree.moments c.requires.there (returns-in-Ok-clause-ok c)
