@@ -11,6 +11,10 @@ pub mod ShownCalls
 pub mod LineLemmas
 pub mod SessionLemmas
 pub mod SessionTexts
+pub mod SpelledFields
+pub mod SpelledLines
+pub mod SpelledSessions
+pub mod FaultColumns
 pub mod RowWords
 pub mod RowLines
 mod WorkedLines

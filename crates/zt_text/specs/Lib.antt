@@ -12,5 +12,7 @@ pub mod Answers
 pub mod Lines
 pub mod Session
 pub mod Rows
+pub mod Spellings
+pub mod Columns
 -- Used by proofs only: no public clause depends on them.
 pub mod Cut

@@ -13,6 +13,8 @@ ghost use Rattle.zt_text.specs.Bytes.{bytes_of, packet_bytes_of};
 ghost use Rattle.zt_text.specs.Lists.{handles_of};
 ghost use Rattle.zt_text.specs.ReadLines.{read_as};
 ghost use Rattle.zt_text.specs.Session.{session_of};
+ghost use Rattle.zt_text.specs.Columns.{ColumnsTellFirstFaults};
+ghost use Rattle.zt_text.specs.Spellings.{IsSpelledAsShown, CallsAreSpelledAsShown, LinesHaveTheWordsOfWhatTheyAsk, LinesAskDifferentThings, SessionsAreSpelledAsShown};
 ghost use Rattle.zt_text.specs.Rows.{IsKeyWithin, IsRowWithin};
 ghost use Rattle.zt_text.specs.Answers.{row_line};
 ghost use Rattle.zt_text.specs.ShownNumbers.{shown_mask, shown_bytes, shown_list};
@@ -52,6 +54,28 @@ pub fn bytes_read_back()
 pub fn lists_read_back()
     ensures { (handles : List ℕ) → All IsHandle handles → length handles ≤ 64
         → handles_of (shown_list decimal handles) ≡ Some handles }
+{}
+
+/// A number has one spelling: in decimal digits without leading zeros; so has a code, which has no `+` and no `-0`.
+pub fn numbers_are_spelled_as_shown()
+    ensures decimals { (most : ℕ) → most < 2 ^ 64 → IsSpelledAsShown (decimal_of most) decimal }
+    ensures codes { IsSpelledAsShown code_of signed_decimal }
+{}
+
+/// A mask has one spelling: all eight digits, and no capitals.
+pub fn masks_are_spelled_as_shown()
+    ensures { IsSpelledAsShown mask_of shown_mask }
+{}
+
+/// Bytes have one spelling, in a message and in a packet: two digits for each, no capitals, and `-` for none.
+pub fn bytes_are_spelled_as_shown()
+    ensures message { IsSpelledAsShown bytes_of shown_bytes }
+    ensures packet { IsSpelledAsShown packet_bytes_of shown_bytes }
+{}
+
+/// A list of handles has one spelling, which is `-` for none.
+pub fn lists_are_spelled_as_shown()
+    ensures { IsSpelledAsShown handles_of (shown_list decimal) }
 {}
 
 /// Every call of every process has the numbers that the laws on its line speak of.
@@ -143,6 +167,21 @@ pub fn calls_read_back()
         → read_as (shown_call process call) ≡ Ok (Some (line.Command (commands.Call process call))) }
 {}
 
+/// A call has one line: a line that reads as a call is the line that shows it.
+pub fn calls_are_spelled_as_shown()
+    ensures { CallsAreSpelledAsShown }
+{}
+
+/// All else that a line can ask has one line too: the words of what is asked, with a space between.
+pub fn lines_have_the_words_of_what_they_ask()
+    ensures { LinesHaveTheWordsOfWhatTheyAsk }
+{}
+
+/// No two lines ask the same.
+pub fn lines_ask_different_things()
+    ensures { LinesAskDifferentThings }
+{}
+
 /// No two calls have one line.
 #[tactic(auto, using(crate::proofs::ShownCalls::call_lines_differ))]
 pub fn calls_have_lines_of_their_own()
@@ -154,6 +193,17 @@ pub fn calls_have_lines_of_their_own()
 #[tactic(auto, using(crate::proofs::SessionTexts::session_read))]
 pub fn sessions_read_back()
     ensures { (calls : List (ℕ × Call)) → All IsCalled calls → session_of (session_text calls) ≡ Ok calls }
+{}
+
+/// A session text that reads as calls is their session text, but for skipped lines and the line feed of its last line.
+pub fn sessions_are_spelled_as_shown()
+    ensures { SessionsAreSpelledAsShown }
+{}
+
+/// The column of a line's fault is that of the first field with which no line begins that asks something, or is behind
+/// the line, where each of its fields is one with which such a line begins.
+pub fn columns_tell_first_faults()
+    ensures { ColumnsTellFirstFaults }
 {}
 
 /// Every key and every row has the numbers that the law on their lines speaks of.
