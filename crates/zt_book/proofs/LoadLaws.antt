@@ -8,10 +8,10 @@ use Rattle.zt_rows.specs.declared.refusals.Refusal.{Refusal}
 use Rattle.zt_rows.specs.declared.refusals.Refusal.TheVariants as refusal
 use Rattle.zt_rows.specs.Reads.{runs}
 use Rattle.zt_history.specs.HistoryRefusals.{check, ◌>>=◌, call_on, most_moments, IsHistoryRefusal}
-use Rattle.zt_history.specs.Tree.{Tree, Branch, last_moment, state_at, head_at, headed, called, made_by}
+use Rattle.zt_history.specs.Tree.{Tree, Branch, opening_tree, last_moment, state_at, head_at, headed, called, made_by}
 use Rattle.zt_rows.specs.declared.calls.Answer.TheVariants as answer
 use Rattle.std.specs.Prelude.{nat_lt}
-use Rattle.zt_book.specs.Log.{loaded, loaded_behind, loaded_from, fault_at, IsUnloadedBy, IsUnloaded}
+use Rattle.zt_book.specs.Log.{loaded, loaded_behind, loaded_from, fault_at, IsUnloadedBy, IsUnloaded, IsLoaded}
 use Rattle.zt_book.proofs.ServedLaws.{behind, last}
 
 -- ---- a call that is answered
@@ -109,3 +109,11 @@ unloaded-few clients whole fault h told = rw (le-ltb 4 clients h) told
 
 pub loaded-whole : (calls : List (ℕ × Call)) (i : ℕ) (t : Tree) → length calls ≤ i → loaded_from i t (drop i calls) ≡ loaded calls → loaded calls ≡ Ok t
 loaded-whole calls i t whole so_far = sym so_far ∙ ap (loaded_from i t) (drop_all calls i whole)
+
+-- ---- trees that loading gives
+
+pub opening-loaded : (t : Tree) → t ≡ opening_tree → IsLoaded t
+opening-loaded t is = record { calls = []; gives = ap Ok (sym is) }
+
+pub calls-loaded : (calls : List (ℕ × Call)) (t u : Tree) → loaded calls ≡ Ok t → u ≡ t → IsLoaded u
+calls-loaded calls t u gives same = record { calls = calls; gives = gives ∙ ap Ok (sym same) }

@@ -9,7 +9,7 @@ use Rattle.zt_book.specs.declared.client.Cursor.{Cursor}
 use Rattle.zt_book.specs.declared.client.Cursor.TheVariants.{Follows, At}
 use Rattle.zt_book.specs.declared.log.Recorded.{Recorded}
 use Rattle.zt_book.specs.Session.{Session, first_client, most_rows}
-use Rattle.zt_book.specs.Log.{BookView, SessionLog, IsCounted}
+use Rattle.zt_book.specs.Log.{BookView, SessionLog, IsCounted, IsWholeLog, ReplaysOver}
 
 -- ---- where clients can stand
 
@@ -77,18 +77,20 @@ before_of d log None = None
 abbrev pub kept_of : ClientsView → List Recorded → Option LastServed → BookView
 kept_of d log last = record { session = d.session; log = log; before = before_of d log last }
 
--- the last command can be taken back
-pub record CanTakeBack (d : ClientsView) (log : List Recorded) (last : LastServed) : Type 0 where
+-- the last command can be taken back: what was answered before it replays over the same tree
+pub record CanTakeBack (t : Tree) (d : ClientsView) (log : List Recorded) (last : LastServed) : Type 0 where
   pub numbered : 1 ≤ last.client
   pub known : last.client ≤ length d.session.clients
   pub some : 0 < length log
   pub stand : Stand (session_before d last.client last.was)
   pub counted : IsCounted (session_before d last.client last.was) (without_last log)
+  pub replays : ReplaysOver t (session_before d last.client last.was) (without_last log)
 
-abbrev pub IsLastServed : ClientsView → List Recorded → Option LastServed → Type 0
-IsLastServed d log (Some last) = CanTakeBack d log last
-IsLastServed d log None = ⊤
+abbrev pub IsLastServed : Tree → ClientsView → List Recorded → Option LastServed → Type 0
+IsLastServed t d log (Some last) = CanTakeBack t d log last
+IsLastServed t d log None = ⊤
 
 pub record IsBook (d : ClientsView) (log : List Recorded) (last : Option LastServed) : Type 0 where
   pub counted : IsCounted d.session log
-  pub served : IsLastServed d log last
+  pub whole : IsWholeLog d.session log
+  pub served : IsLastServed whole.tree d log last

@@ -95,3 +95,20 @@ fault_at number reason = (number, reason)
 
 abbrev pub IsUnloaded : ℕ → Result Tree (ℕ × Refusal) → ℕ × Refusal → Type 0
 IsUnloaded clients whole fault = IsUnloadedBy (nat_lt 4 clients) whole fault
+
+-- ---- the log of a book
+
+-- loading some calls gives this tree
+pub record IsLoaded (t : Tree) : Type 0 where
+  pub calls : List (ℕ × Call)
+  pub gives : loaded calls ≡ Ok t
+
+-- the log replays from a session over this tree, of as many clients as M has, and ends in M
+abbrev pub ReplaysOver : Tree → Session → List Recorded → Type 0
+ReplaysOver t M log = Replays (session_over t (length M.clients)) log M
+
+-- the log has all that was answered to the clients of M: it replays from a tree that loading gives, and ends in M
+pub record IsWholeLog (M : Session) (log : List Recorded) : Type 0 where
+  pub tree : Tree
+  pub begun : IsLoaded tree
+  pub replays : ReplaysOver tree M log

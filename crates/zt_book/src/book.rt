@@ -2,7 +2,7 @@ ghost use Rattle.std.specs.Prelude.{◌≡◌, ◌≢◌, ◌≤◌, ◌<◌, �
 ghost use Rattle.zt_rows.specs.declared.calls.Command.TheVariants as command;
 ghost use Rattle.zt_history.specs.Tree.{Tree};
 ghost use Rattle.zt_book.specs.Session.{serve, session_over, position_of, IsCommandRefusal};
-ghost use Rattle.zt_book.specs.Log.{IsCounted, standing_of, first_book, book_over, loaded, snapshot_at, IsUnloaded};
+ghost use Rattle.zt_book.specs.Log.{IsCounted, IsLoaded, IsWholeLog, standing_of, first_book, book_over, loaded, snapshot_at, IsUnloaded};
 
 use crate::client::Client;
 use crate::clients::Clients;
@@ -201,6 +201,14 @@ impl Book {
         let _ = &self.log;
     }
 
+    /// What was answered replays: from the clients of the book over a tree that loading gives, the log ends in the book's
+    /// session. It takes no memory.
+    pub fn log_replays(&self)
+        ensures { IsWholeLog self.now.session self.now.log }
+    {
+        let _ = &self.log;
+    }
+
     /// A copy of the history at a client's position, where one more command can be answered to it. Session and log are
     /// as before.
     fn frozen(&mut self, client: u8) -> Result<Frozen, Refusal>
@@ -219,9 +227,10 @@ impl Book {
     }
 }
 
-/// The book of clients to whom nothing was answered yet.
+/// The book of clients to whom nothing was answered yet, over a tree that loading gives.
 fn begin(alloc: Global, all_clients: Clients) -> Book
-    requires { all_clients.session ≡ session_over all_clients.session.tree (length all_clients.session.clients) }
+    requires first { all_clients.session ≡ session_over all_clients.session.tree (length all_clients.session.clients) }
+    requires loaded { IsLoaded all_clients.session.tree }
     ensures { result ≡ book_over all_clients.session.tree (length all_clients.session.clients) }
 {
     let log = Log::new(alloc);

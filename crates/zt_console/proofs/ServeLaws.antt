@@ -2,6 +2,7 @@
 use Rattle.std.proofs.Common.{◌≡◌, ℕ, suc, ◌<◌, ◌≤◌, List, [], ◌∷◌, ◌++◌, length, map, take, drop, get_or, Option, Some, None, refl, sym, ◌∙◌, ap, subst, arith}
 use Rattle.std.specs.Prelude.{All}
 use Rattle.std.specs.List.{AllZip, filter_map, cons_option}
+use Rattle.std.specs.List.Sorted.{IsPermutation}
 use Rattle.std.proofs.lemmas.List.Elements.{filter_map-append, All-head, All-tail, All-map}
 use lib.Seq.{take-append_seam}
 use Rattle.zt_rows.specs.declared.calls.Answer.{Answer}
@@ -9,6 +10,7 @@ use Rattle.zt_rows.specs.declared.calls.Command.{Command}
 use Rattle.zt_book.specs.declared.log.Recorded.{Recorded}
 use Rattle.zt_book.specs.Session.{Session}
 use Rattle.zt_shared.specs.Sharing.{PassView, IsPartOf, IsOneLog, told_to, first_part, first_parts, numbers}
+use Rattle.zt_shared.proofs.SharingLaws.{in_order}
 use Rattle.zt_console.specs.declared.client_sessions.ClientSession.{ClientSession}
 use Rattle.zt_console.specs.declared.client_sessions.Served.{Served}
 use Rattle.zt_console.specs.ClientSessions.{place_of, served_at, pass_at, IsTaken, HasServed}
@@ -113,8 +115,8 @@ module _ {I O A B C D : Type 0} (remaining : I → Option (List ℕ)) (contents 
 
   -- all passes are back
   pub all_back : (cs : List (Caller I O)) (ps : List (ClientSession I O A B C D)) (passes : List PassView) (n : ℕ) → Zipped cs ps → passes ≡ filter_map pass_at ps
-      → map (λ (c : Caller I O). c.2.client) cs ≡ numbers n → map (λ (p : PassView). p.client) passes ≡ numbers n
-  all_back cs ps passes n z e h = ap (map (λ (p : PassView). p.client)) e ∙ clients_left cs ps z ∙ h
+      → IsPermutation (numbers n) (map (λ (c : Caller I O). c.2.client) cs) → IsPermutation (numbers n) (map (λ (p : PassView). p.client) passes)
+  all_back cs ps passes n z e h = subst (IsPermutation (numbers n)) (sym (ap (map (λ (p : PassView). p.client)) e ∙ clients_left cs ps z)) h
 
   -- what is known of the passes that sessions end with is told of those that they began with
   pub all_closed : (n : ℕ) (log : List Recorded) (cs : List (Caller I O)) (ps : List (ClientSession I O A B C D)) (passes : List PassView) → Zipped cs ps → passes ≡ filter_map pass_at ps
@@ -144,6 +146,7 @@ parts-clients base [] = refl
 parts-clients base (n ∷ ns) = ap (λ z. n ∷ z) (parts-clients base ns)
 
 -- clients with the passes of a book that is opened are all its clients
-pub first_callers : {I O : Type 0} (cs : List (Caller I O)) (ps : List PassView) (n : ℕ) (base : Session) → map (λ (c : Caller I O). c.2) cs ≡ ps → ps ≡ first_parts n base
-    → map (λ (c : Caller I O). c.2.client) cs ≡ numbers n
-first_callers cs ps n base e f = callers-clients cs ∙ ap (map (λ (p : PassView). p.client)) (e ∙ f) ∙ parts-clients base (numbers n)
+pub first_callers : {I O : Type 0} (cs : List (Caller I O)) (ps : List PassView) (n m : ℕ) (base : Session) → map (λ (c : Caller I O). c.2) cs ≡ ps → ps ≡ first_parts n base → n ≡ m
+    → IsPermutation (numbers m) (map (λ (c : Caller I O). c.2.client) cs)
+first_callers cs ps n m base e f many =
+    in_order (numbers m) _ (callers-clients cs ∙ ap (map (λ (p : PassView). p.client)) (e ∙ f) ∙ parts-clients base (numbers n) ∙ ap numbers many)

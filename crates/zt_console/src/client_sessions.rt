@@ -1,4 +1,4 @@
-ghost use Rattle.std.specs.Prelude.{◌≡◌, ℕ, ◌<◌, ◌≤◌, ◌+◌, [], ◌∷◌, ◌++◌, length, map, All, IfOk, IfErr, slice_index_or, vec_len, vec_capacity};
+ghost use Rattle.std.specs.Prelude.{◌≡◌, ℕ, ◌<◌, ◌≤◌, ◌+◌, [], ◌∷◌, ◌++◌, length, map, All, IfOk, IfErr, IsPermutation, slice_index_or, vec_len, vec_capacity};
 ghost use Rattle.std.specs.List.{AllZip, cons_option, filter_map};
 ghost use Rattle.zt_shared.specs.Sharing.{IsOneLog, numbers};
 ghost use Rattle.zt_console.specs.ClientSessions.{place_of, served_at, pass_at, IsTaken, HasServed};
@@ -45,7 +45,8 @@ struct SessionLists<I, O, A: Naming + Beginning, B: Naming, C: Naming, D: Naming
     passes: Vec<Pass<A, B, C, D>>,
 }
 
-/// Serves all clients of a shared book, each by a session on a thread of its own, and closes the book when all have ended.
+/// Serves all clients of a shared book, who come in any order, each by a session on a thread of its own, and closes the
+/// book when all have ended.
 /// All that serving takes of memory but each session's own is asked for first; where it is refused, the book and the
 /// clients come back. Where no thread can be started for a client, it is served on another's thread, ahead of that
 /// thread's client or behind it.
@@ -65,7 +66,7 @@ pub fn sessions<
     callers: Vec<Caller<I, O, A, B, C, D>>,
     gate: &G,
 ) -> Result<(Log, Vec<Served<I, O>>), (Shared<A, B, C, D>, Vec<Caller<I, O, A, B, C, D>>)>
-    requires all { map (λ caller. caller.2.client) callers.items ≡ numbers A.clients }
+    requires all { IsPermutation (numbers A.clients) (map (λ caller. caller.2.client) callers.items) }
     requires counts { All IsCountable callers.items }
     ensures log { IfOk result (λ done. IsOneLog A.clients (map (λ caller. told_in done.0 caller.2) callers.items) done.0) }
     ensures each { IfOk result (λ done. AllZip (λ caller served. IsServed I.remaining O.contents caller (told_in done.0 caller.2) served.reader served.writer served.end) callers.items done.1.items) }

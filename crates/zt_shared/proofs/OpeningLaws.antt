@@ -1,8 +1,8 @@
 -- The calls of a loaded tree, and the passes that are handed out.
-use Rattle.std.proofs.Common.{append_assoc, add-one, ◌+◌, ◌≡◌, ℕ, zero, suc, ◌≤◌, List, [], ◌∷◌, ◌++◌, length, map, take, refl, ap, sym, ◌∙◌, arith, Ok, Err, Some}
+use Rattle.std.proofs.Common.{append_assoc, add-one, ◌+◌, ◌≡◌, ℕ, zero, suc, ◌≤◌, List, [], ◌∷◌, ◌++◌, length, map, take, refl, ap, sym, ◌∙◌, subst, arith, Ok, Err, Some}
 use Rattle.std.specs.Prelude.{Result, Option, nat_lt}
 use Rattle.std.specs.List.{filter_map}
-use Rattle.std.proofs.lemmas.List.{append-nil, map-append, length-replicate}
+use Rattle.std.proofs.lemmas.List.{append-nil, map-append}
 use Rattle.zt_rows.specs.declared.calls.Answer.{Answer}
 use Rattle.zt_rows.specs.declared.calls.Answer.TheVariants as answer
 use Rattle.zt_rows.specs.declared.calls.Call.{Call}
@@ -11,8 +11,8 @@ use Rattle.zt_rows.specs.declared.refusals.Refusal.TheVariants as refusal
 use Rattle.zt_rows.specs.Reads.{runs}
 use Rattle.zt_history.specs.HistoryRefusals.{call_on, most_moments}
 use Rattle.zt_history.specs.Tree.{Tree, Made, last_moment, state_at, head_at, opening_tree, made_by, called, call_at}
-use Rattle.zt_book.specs.Session.{Session, session_over, first_client}
-use Rattle.zt_book.specs.Log.{BookView, loaded, loaded_behind, loaded_from}
+use Rattle.zt_book.specs.Session.{Session, session_over}
+use Rattle.zt_book.specs.Log.{BookView, Replays, IsWholeLog, loaded, loaded_behind, loaded_from}
 use Rattle.zt_shared.specs.Sharing.{PassView, IsFresh, first_parts, begun, begun_over}
 use Rattle.once_cell.specs.declared.race.note.Note.{Note}
 use Rattle.zt_rows.specs.declared.calls.Command.{Command}
@@ -59,13 +59,21 @@ next_call made i = rw add-one (next-call made i)
 
 -- ---- where a fresh book's log begins, and the passes that are handed out
 
-pub fresh-begun : (clients : ℕ) (book : BookView) → IsFresh clients book → begun clients (Some (calls_in book.session.tree)) ≡ book.session
-fresh-begun clients book fresh =
-    let calls = fresh.loaded.0 in
-    let tree = fresh.loaded.1 in
-    let there : book.session ≡ session_over tree clients = fresh.loaded.3 in
-    let same : calls_in book.session.tree ≡ calls = ap (λ M. calls_in M.tree) there ∙ loaded-calls calls tree fresh.loaded.2 in
-    let read : loaded (calls_in book.session.tree) ≡ Ok tree = ap loaded same ∙ fresh.loaded.2 in
+-- a log without rows ends where it begins
+stands-first : (clients : ℕ) (book : BookView) → IsFresh clients book → (whole : IsWholeLog book.session book.log) → book.session ≡ session_over whole.tree clients
+stands-first clients book fresh whole =
+    let first = session_over whole.tree (length book.session.clients) in
+    let ends : Replays first [] book.session = subst (λ l. Replays first l book.session) fresh.empty whole.replays in
+    ends ∙ ap (session_over whole.tree) fresh.many
+
+pub fresh-begun : (clients : ℕ) (book : BookView) → IsFresh clients book → IsWholeLog book.session book.log
+    → begun clients (Some (calls_in book.session.tree)) ≡ book.session
+fresh-begun clients book fresh whole =
+    let tree = whole.tree in
+    let calls = whole.begun.calls in
+    let there : book.session ≡ session_over tree clients = stands-first clients book fresh whole in
+    let same : calls_in book.session.tree ≡ calls = ap (λ M. calls_in M.tree) there ∙ loaded-calls calls tree whole.begun.gives in
+    let read : loaded (calls_in book.session.tree) ≡ Ok tree = ap loaded same ∙ whole.begun.gives in
     ap (begun_over clients) read ∙ sym there
 
 pub handed-out : (clients : ℕ) (base : Session) → clients ≤ 4
@@ -79,10 +87,11 @@ handed-out (suc (suc (suc (suc (suc n))))) base few = absurd (omega arith)
 
 -- what was noted of the base cell tells where the book's log begins
 pub noted-begun : (number clients : ℕ) (book : BookView) (t : Tree) (known : Option (List (ℕ × Call)))
-    → number ≡ clients → IsFresh number book → t ≡ book.session.tree → known ≡ Some (calls_in t) → begun clients known ≡ book.session
-noted-begun number clients book t known many fresh same noted =
+    → number ≡ clients → IsFresh number book → IsWholeLog book.session book.log → t ≡ book.session.tree → known ≡ Some (calls_in t)
+    → begun clients known ≡ book.session
+noted-begun number clients book t known many fresh whole same noted =
     let here : known ≡ Some (calls_in book.session.tree) = noted ∙ ap (λ u. Some (calls_in u)) same in
-    ap (λ n. begun n known) (sym many) ∙ (ap (begun number) here ∙ fresh-begun number book fresh)
+    ap (λ n. begun n known) (sym many) ∙ (ap (begun number) here ∙ fresh-begun number book fresh whole)
 
 -- the passes, one after another
 pub handed-all : (number clients : ℕ) (base b1 b2 b3 b4 : Session) (p0 p1 p2 p3 p4 : List PassView) → number ≡ clients → number ≤ 4
@@ -98,13 +107,13 @@ handed-all number clients base b1 b2 b3 b4 p0 p1 p2 p3 p4 many few e0 e1 e2 e3 e
 
 -- the lock is free for the first time
 pub opened-locked : (base clients cell number : ℕ) (told : Note (List (ℕ × Call))) (book : BookView) (t : Tree) (f s u v : List (Command × Answer))
-    → cell ≡ base → number ≡ clients → IsFresh number book → t ≡ book.session.tree → told.cell ≡ cell → told.known ≡ Some (calls_in t)
+    → cell ≡ base → number ≡ clients → IsFresh number book → IsWholeLog book.session book.log → t ≡ book.session.tree → told.cell ≡ cell → told.known ≡ Some (calls_in t)
     → f ≡ [] → s ≡ [] → u ≡ [] → v ≡ [] → IsLockedBook base clients cell told book.session book.log (sides f s u v)
-opened-locked base clients cell number told book t f s u v named many fresh same noted known first second third fourth = record {
+opened-locked base clients cell number told book t f s u v named many fresh whole same noted known first second third fourth = record {
   named = named;
   noted = noted ∙ named;
   known = rw known refl;
-  replays = rw fresh.empty (sym (noted-begun number clients book t told.known many fresh same known));
+  replays = rw fresh.empty (sym (noted-begun number clients book t told.known many fresh whole same known));
   rows = rw (fresh.empty, first, second, third, fourth) refl;
-  many = ap (λ M. length M.clients) fresh.loaded.3 ∙ (length-replicate number first_client ∙ many);
+  many = fresh.many ∙ many;
 }

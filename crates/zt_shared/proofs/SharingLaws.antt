@@ -1,9 +1,11 @@
 -- One row more in a log: whose row it is, and how the log goes on.
 use Rattle.std.proofs.Common.{◌≡◌, ℕ, ◌+◌, ◌≤◌, ◌<◌, ◌==◌, Bool, true, false, cond, List, [], ◌∷◌, ◌++◌, length, map, refl, ap, sym, ◌∙◌, subst, arith, Ok, Err, inl, inr}
-use Rattle.std.specs.Prelude.{◌≢◌, nat_lt, Result, IfOk, OnErr}
+use Rattle.std.specs.Prelude.{◌≢◌, nat_lt, Result, IfOk, IfErr, OnErr}
 use Rattle.std.proofs.lemmas.Bool.{eq-eqb}
 use Rattle.std.proofs.lemmas.List.{append-nil, map-append, length-map, length_push}
 use Rattle.std.proofs.lemmas.List.Elements.{filter-append}
+use Rattle.std.specs.List.Sorted.{IsPermutation}
+use Rattle.std.proofs.lemmas.List.Sorted.{IsPermutation-refl}
 use Rattle.zt_rows.specs.declared.calls.Answer.{Answer}
 use Rattle.zt_rows.specs.declared.calls.Command.{Command}
 use Rattle.zt_rows.specs.declared.refusals.Refusal.{Refusal}
@@ -70,6 +72,11 @@ room-left N client log c a counted one known =
     let grown : length (told_to client (logged log client c a)) ≡ length (told_to client log) + 1 = ap length (told-own client c a log) ∙ length_push (told_to client log) (c, a) in
     omega (arith, rows, told, grown, counted.within client one known)
 
+-- ---- the passes of all clients
+
+pub in_order : (clients back : List ℕ) → back ≡ clients → IsPermutation clients back
+in_order clients back same = subst (IsPermutation clients) (sym same) (IsPermutation-refl clients)
+
 -- ---- the four accounts
 
 -- another client's row tells a client nothing
@@ -104,14 +111,19 @@ part-here : (p q : PassView) (z : Shown) (base M : Session) (log : List Recorded
 part-here p q z base M log pass locked known =
     subst (λ y. IsPartOf p y.log y.session) (sym locked) (subst (λ x. IsPartOf x z.log z.session) (sym pass) known)
 
--- a turn's answer is one event of the history
-pub answered-turn : (client : ℕ) (base begin M N : Session) (old new : List (Command × Answer)) (q : PassView) (z : Shown) (log : List Recorded) (c : Command) (r : Result Answer Refusal)
-    → part client base old ≡ q → shown begin M log ≡ z → IsPartOf q z.log z.session
-    → IfOk r (λ a. serve M client c ≡ Ok (a, N)) → IfOk r (λ a. new ≡ old ++ (c, a) ∷ [])
-    → IfOk r (IsAnsweredOnPass (part client base new) c)
-answered-turn client base begin M N old new q z log c (Ok a) pass locked known served rows =
-    (log, N, answered-part (part client base old) (part client base new) log M N c a (part-here (part client base old) q z begin M log pass locked known) served refl refl rows)
-answered-turn client base begin M N old new q z log c (Err why) pass locked known served rows = served
+-- after a turn the pass is a part of the log that it left
+pub turned-part : (A X : Type 0) (said : A → Answer) (client : ℕ) (base begin M N : Session) (old new : List (Command × Answer)) (q : PassView) (z : Shown) (log more : List Recorded)
+    (c : Command) (r : Result A Refusal) → part client base old ≡ q → shown begin M log ≡ z → IsPartOf q z.log z.session
+    → IfOk r (λ a. serve M client c ≡ Ok (said a, N)) → IfOk r (λ a. more ≡ logged log client c (said a)) → IfOk r (λ a. new ≡ old ++ (c, said a) ∷ [])
+    → OnErr r ((standing N more ≡ standing M log) × X × (new ≡ old)) → IsPartOf (part client base new) more N
+turned-part A X said client base begin M N old new q z log more c (Ok a) pass locked known served grown rows still =
+    let before = part-here (part client base old) q z begin M log pass locked known in
+    subst (λ l. IsPartOf (part client base new) l N) (sym grown)
+    (answered-part (part client base old) (part client base new) log M N c (said a) before served refl refl rows)
+turned-part A X said client base begin M N old new q z log more c (Err why) pass locked known served grown rows still =
+    let before = part-here (part client base old) q z begin M log pass locked known in
+    let here : IsPartOf (part client base new) log M = subst (λ w. IsPartOf (part client base w) log M) (sym still.2) before in
+    subst (λ (s : SessionLog). IsPartOf (part client base new) s.log s.session) (sym still.0) here
 
 ok-same : {A : Type 0} (x y : A) → ◌≡◌ {A = Result A Refusal} (Ok x) (Ok y) → x ≡ y
 ok-same x y h = cc
@@ -126,22 +138,31 @@ pin-copies M N client a served =
     let tree : M.tree ≡ N.tree = ap (λ z. z.1.tree) both in
     record { moment = sym said; path = ap (λ t. calls_to t.made (position_of M client)) tree; state = refl }
 
-pub pinned-turn : (client : ℕ) (base begin M N : Session) (old new : List (Command × Answer)) (q : PassView) (z : Shown) (log : List Recorded) (r : Result (Answer × Snapshot) Refusal)
-    → part client base old ≡ q → shown begin M log ≡ z → IsPartOf q z.log z.session
-    → IfOk r (λ a. serve M client command.Pin ≡ Ok (a.0, N)) → IfOk r (λ a. a.1 ≡ snapshot_at M.tree (position_of M client)) → IfOk r (λ a. new ≡ old ++ (command.Pin, a.0) ∷ [])
-    → IfOk r (λ a. IsPinnedOnPass (part client base new) a.0 a.1)
-pinned-turn client base begin M N old new q z log (Ok a) pass locked known served frozen rows = (
+-- ---- what was done under the lock, where all that is known of the log is that there is one
+
+pub some-answered : (q : PassView) (client : ℕ) (log more : List Recorded) (N : Session) (c : Command) (r : Result Answer Refusal) → q.client ≡ client → IsPartOf q more N
+    → IfOk r (λ a. more ≡ logged log client c a) → IfOk r (IsAnsweredOnPass q c)
+some-answered q client log more N c (Ok a) who part grown =
+    (log, N, subst (λ l. IsPartOf q l N) (grown ∙ ap (λ n. logged log n c a) (sym who)) part)
+some-answered q client log more N c (Err why) who part grown = grown
+
+pub some-pinned : (q : PassView) (client : ℕ) (log more : List Recorded) (M N : Session) (r : Result (Answer × Snapshot) Refusal) → q.client ≡ client → IsPartOf q more N
+    → IfOk r (λ a. more ≡ logged log client command.Pin a.0) → IfOk r (λ a. serve M client command.Pin ≡ Ok (a.0, N))
+    → IfOk r (λ a. a.1 ≡ snapshot_at M.tree (position_of M client)) → IfOk r (λ a. IsPinnedOnPass q a.0 a.1)
+some-pinned q client log more M N (Ok a) who part grown served frozen = (
   log,
   N,
-  answered-part (part client base old) (part client base new) log M N command.Pin a.0 (part-here (part client base old) q z begin M log pass locked known) served refl refl rows,
+  subst (λ l. IsPartOf q l N) (grown ∙ ap (λ n. logged log n command.Pin a.0) (sym who)) part,
   rw frozen (pin-copies M N client a.0 served),
 )
-pinned-turn client base begin M N old new q z log (Err why) pass locked known served frozen rows = served
+some-pinned q client log more M N (Err why) who part grown served frozen = grown
 
--- what refuses a command refuses it where a log ends of which the client has its part
-pub refused-part : (p : PassView) (log : List Recorded) (M : Session) (c : Command) (why : Refusal)
-    → IsPartOf p log M → (why ≢ refusal.OutOfMemory → serve M p.client c ≡ Err why) → IsRefusedTo p c why
-refused-part p log M c why part because = λ other. (log, M, part, because other)
+pub some-refused : {A : Type 0} (p q : PassView) (y z : Shown) (c : Command) (r : Result A Refusal) → OnErr r (z ≡ y) → OnErr r (q ≡ p) → IsPartOf q z.log z.session
+    → IfErr r (λ why. why ≢ refusal.OutOfMemory → serve y.session p.client c ≡ Err why) → IfErr r (IsRefusedTo p c)
+some-refused p q y z c (Ok a) still same part because = because
+some-refused p q y z c (Err why) still same part because =
+    let here : IsPartOf p z.log z.session = subst (λ x. IsPartOf x z.log z.session) same part in
+    λ other. (y.log, y.session, subst (λ (x : Shown). IsPartOf p x.log x.session) still here, because other)
 
 -- ---- the four accounts, of which one has one row more
 

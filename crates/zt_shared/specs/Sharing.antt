@@ -1,5 +1,5 @@
 -- Several clients with one book: what each of them was told is its part of one log, which replays. This project's own.
-use Rattle.std.specs.Prelude.{◌≡◌, ◌≢◌, ℕ, zero, suc, List, [], ◌∷◌, ◌++◌, map, take, slice_get, Option, None, Some, Result, Ok, Err, All}
+use Rattle.std.specs.Prelude.{◌≡◌, ◌≢◌, ℕ, zero, suc, List, [], ◌∷◌, ◌++◌, length, map, take, slice_get, Option, None, Some, Result, Ok, Err, All}
 use Rattle.std.specs.List.{AllByRecursion}
 use Rattle.zt_rows.specs.declared.calls.Answer.{Answer}
 use Rattle.zt_rows.specs.declared.calls.Answer.TheVariants as answer
@@ -42,9 +42,9 @@ abbrev pub begun : ℕ → Option (List (ℕ × Call)) → Session
 begun clients None = opening_session clients
 begun clients (Some calls) = begun_over clients (loaded calls)
 
--- a book of so many clients over a loaded tree, to whom nothing was answered yet
+-- a book of so many clients, to whom nothing was answered yet
 pub record IsFresh (clients : ℕ) (book : BookView) : Type 0 where
-  pub loaded : (calls : List (ℕ × Call)) × (tree : Tree) × (loaded calls ≡ Ok tree) × (book.session ≡ session_over tree clients)
+  pub many : length book.session.clients ≡ clients
   pub empty : book.log ≡ []
 
 -- ---- passes

@@ -1,4 +1,4 @@
-ghost use Rattle.std.specs.Prelude.{◌≡◌, map};
+ghost use Rattle.std.specs.Prelude.{map, IsPermutation};
 ghost use Rattle.zt_shared.specs.Sharing.{IsOneLog, numbers};
 
 use crate::account::Naming;
@@ -6,13 +6,13 @@ use crate::pass::{Beginning, Pass};
 use crate::shared::Shared;
 use zt_book::Log;
 
-/// The one log of a shared book to which all its passes came back: each pass is its client's part of it. It takes no
-/// memory.
+/// The one log of a shared book to which all its passes came back, in any order: each pass is its client's part of it.
+/// It takes no memory.
 pub fn close<A: Naming + Beginning, B: Naming, C: Naming, D: Naming>(
     shared: Shared<A, B, C, D>,
     mut passes: Vec<Pass<A, B, C, D>>,
 ) -> Log
-    requires all { map (λ pass. pass.client) passes.items ≡ numbers A.clients }
+    requires all { IsPermutation (numbers A.clients) (map (λ pass. pass.client) passes.items) }
     ensures { IsOneLog A.clients passes.items result }
 {
     let Shared { lock } = shared;

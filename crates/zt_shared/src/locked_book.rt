@@ -1,9 +1,11 @@
-ghost use Rattle.std.specs.Prelude.{◌≡◌, ◌++◌, ◌∷◌, [], All, IfOk, IfErr, OnErr, IfSome};
+ghost use Rattle.std.specs.Prelude.{◌≡◌, ◌≢◌, ◌++◌, ◌∷◌, [], All, Ok, Err, IfOk, IfErr, OnErr, IfSome};
 ghost use Rattle.std.specs.List.{AllByRecursion};
 ghost use Rattle.zt_rows.specs.declared.calls.Command.TheVariants as command;
-ghost use Rattle.zt_book.specs.Log.{IsOf};
+ghost use Rattle.zt_rows.specs.declared.refusals.Refusal.TheVariants as refusal;
+ghost use Rattle.zt_book.specs.Session.{serve, position_of};
+ghost use Rattle.zt_book.specs.Log.{IsOf, snapshot_at};
 ghost use Rattle.once_cell.specs.Once.{Agrees};
-ghost use Rattle.zt_shared.specs.Sharing.{IsPartOf, IsAnsweredOnPass, IsRefusedTo, IsPinnedOnPass};
+ghost use Rattle.zt_shared.specs.Sharing.{IsPartOf, logged};
 
 use crate::account::{LockSide, Naming};
 use crate::answered_command::{pin_turn, turn};
@@ -57,18 +59,23 @@ impl<A: Naming + Beginning, B: Naming, C: Naming, D: Naming> LockedBook<A, B, C,
         }
     }
 
-    /// Answers a command of the pass's client: one event of the history, or, refused, none.
+    /// Answers a command of the pass's client: one event of the one history, which is one row more of the log and of the
+    /// pass, or, refused, none.
     pub(crate) fn ask(
         &mut self,
         pass: &mut Pass<A, B, C, D>,
         asked: Command,
     ) -> Result<Answer, Refusal>
+        ensures served { IfOk result (λ said. serve self.old.session pass.old.client asked ≡ Ok (said, self.new.session)) }
+        ensures logged { IfOk result (λ said. self.new.log ≡ logged self.old.log pass.old.client asked said) }
+        ensures added { IfOk result (λ said. pass.new.rows ≡ pass.old.rows ++ (asked, said) ∷ []) }
+        ensures part { IsPartOf pass.new self.new.log self.new.session }
+        ensures begins { self.new.base ≡ self.old.base }
         ensures who { pass.new.client ≡ pass.old.client }
         ensures base { pass.new.base ≡ pass.old.base }
-        ensures added { IfOk result (λ said. pass.new.rows ≡ pass.old.rows ++ (asked, said) ∷ []) }
-        ensures answered { IfOk result (IsAnsweredOnPass pass.new asked) }
+        ensures refused { IfErr result (λ why. why ≢ refusal.OutOfMemory → serve self.old.session pass.old.client asked ≡ Err why) }
+        ensures unchanged { OnErr result (self.new ≡ self.old) }
         ensures same { OnErr result (pass.new ≡ pass.old) }
-        ensures refused { IfErr result (IsRefusedTo pass.old asked) }
     {
         self.agree(pass);
         match &mut pass.slot {
@@ -95,12 +102,17 @@ impl<A: Naming + Beginning, B: Naming, C: Naming, D: Naming> LockedBook<A, B, C,
 
     /// As `ask` of the command that pins, with a copy of the history at the client's position.
     pub(crate) fn pin(&mut self, pass: &mut Pass<A, B, C, D>) -> Result<(Answer, Frozen), Refusal>
+        ensures served { IfOk result (λ pinned. serve self.old.session pass.old.client command.Pin ≡ Ok (pinned.0, self.new.session)) }
+        ensures frozen { IfOk result (λ pinned. pinned.1 ≡ snapshot_at self.old.session.tree (position_of self.old.session pass.old.client)) }
+        ensures logged { IfOk result (λ pinned. self.new.log ≡ logged self.old.log pass.old.client command.Pin pinned.0) }
+        ensures added { IfOk result (λ pinned. pass.new.rows ≡ pass.old.rows ++ (command.Pin, pinned.0) ∷ []) }
+        ensures part { IsPartOf pass.new self.new.log self.new.session }
+        ensures begins { self.new.base ≡ self.old.base }
         ensures who { pass.new.client ≡ pass.old.client }
         ensures base { pass.new.base ≡ pass.old.base }
-        ensures added { IfOk result (λ pinned. pass.new.rows ≡ pass.old.rows ++ (command.Pin, pinned.0) ∷ []) }
-        ensures answered { IfOk result (λ pinned. IsPinnedOnPass pass.new pinned.0 pinned.1) }
+        ensures refused { IfErr result (λ why. why ≢ refusal.OutOfMemory → serve self.old.session pass.old.client command.Pin ≡ Err why) }
+        ensures unchanged { OnErr result (self.new ≡ self.old) }
         ensures same { OnErr result (pass.new ≡ pass.old) }
-        ensures refused { IfErr result (IsRefusedTo pass.old command.Pin) }
     {
         self.agree(pass);
         match &mut pass.slot {

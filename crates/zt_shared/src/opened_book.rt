@@ -98,8 +98,8 @@ pub fn open<A: Naming + Beginning, B: Naming, C: Naming, D: Naming>(
     }
 }
 
-/// A shared book that goes on from a loaded book, and a pass for each of its clients, in order. Refused, the book comes
-/// back.
+/// A shared book that goes on from a book to whose clients nothing was answered yet, and a pass for each of them, in
+/// order. Refused, the book comes back.
 pub fn open_book<A: Naming + Beginning, B: Naming, C: Naming, D: Naming>(
     alloc: Global,
     blanks: Blanks,
@@ -156,6 +156,7 @@ fn hand_over<A: Naming + Beginning, B: Naming, C: Naming, D: Naming>(
     requires told { (told.cell ≡ blanks.base) × (told.known ≡ Some (calls_in book.session.tree)) }
     ensures { result.1.items ≡ first_parts blanks.clients book.session }
 {
+    book.log_replays();
     let Blanks {
         clients,
         base,

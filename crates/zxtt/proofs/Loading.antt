@@ -1,9 +1,8 @@
 -- A book over a loaded tree has as many clients as were asked for.
-use Rattle.std.proofs.Common.{◌≡◌, ℕ, List, [], length, Ok, refl, ap, ◌∙◌}
+use Rattle.std.proofs.Common.{◌≡◌, ℕ, length, ap, ◌∙◌}
 use Rattle.std.proofs.lemmas.List.{length-replicate}
-use Rattle.zt_rows.specs.declared.calls.Call.{Call}
-use Rattle.zt_history.specs.Tree.{Tree, opening_tree}
-use Rattle.zt_book.specs.Log.{BookView, book_over, first_book, loaded}
+use Rattle.zt_history.specs.Tree.{Tree}
+use Rattle.zt_book.specs.Log.{BookView, book_over, first_book}
 use Rattle.zt_book.specs.Session.{first_client}
 use Rattle.zt_shared.specs.Sharing.{IsFresh}
 
@@ -11,18 +10,12 @@ pub loaded_clients : (b : BookView) (t : Tree) (n : ℕ) → b ≡ book_over t n
 loaded_clients b t n h = ap (λ (c : BookView). length c.session.clients) h ∙ length-replicate n first_client
 
 -- It is a book to which nothing was answered.
-pub loaded_is_fresh : (b : BookView) (calls : List (ℕ × Call)) (t : Tree) (n : ℕ) → loaded calls ≡ Ok t → b ≡ book_over t n → IsFresh n b
-loaded_is_fresh b calls t n read h = record {
-  loaded = (calls, t, read, ap (λ (c : BookView). c.session) h);
-  empty = ap (λ (c : BookView). c.log) h;
-}
-
--- So is a book at the opening.
-pub first_is_fresh : (b : BookView) (n : ℕ) → b ≡ first_book n → IsFresh n b
-first_is_fresh b n h = record {
-  loaded = ([], opening_tree, refl, ap (λ (c : BookView). c.session) h);
-  empty = ap (λ (c : BookView). c.log) h;
-}
+pub loaded_is_fresh : (b : BookView) (t : Tree) (n : ℕ) → b ≡ book_over t n → IsFresh n b
+loaded_is_fresh b t n h = record { many = loaded_clients b t n h; empty = ap (λ (c : BookView). c.log) h }
 
 pub first_clients : (b : BookView) (n : ℕ) → b ≡ first_book n → length b.session.clients ≡ n
 first_clients b n h = ap (λ (c : BookView). length c.session.clients) h ∙ length-replicate n first_client
+
+-- So is a book at the opening.
+pub first_is_fresh : (b : BookView) (n : ℕ) → b ≡ first_book n → IsFresh n b
+first_is_fresh b n h = record { many = first_clients b n h; empty = ap (λ (c : BookView). c.log) h }

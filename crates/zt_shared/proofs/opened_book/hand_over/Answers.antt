@@ -12,7 +12,7 @@ invariant_of-locked g c =
     let told = c.hand_out-4.ensures.told ∙ (c.hand_out-3.ensures.told ∙ (c.hand_out-2.ensures.told ∙ c.hand_out.ensures.told)) in
     let note = c.requires.told in
     opened-locked g.A.Beginning.base g.A.Beginning.clients (cell_name c.blanks.inside.base) c.args.blanks.clients c.hand_out-4.new.told c.args.book c.args.book.session.tree
-    _ _ _ _ (ap (λ b. b.base) c.blanks.view_is ∙ c.requires.base.0) c.requires.base.1 c.requires.fresh refl
+    _ _ _ _ (ap (λ b. b.base) c.blanks.view_is ∙ c.requires.base.0) c.requires.base.1 c.requires.fresh c.log_replays.ensures refl
     (ap (λ n. n.cell) told ∙ (note.0 ∙ sym (ap (λ b. b.base) c.blanks.view_is))) (ap (λ n. n.known) told ∙ note.1)
     c.open-first.ensures.lock c.open-second.ensures.lock c.open-third.ensures.lock c.open-fourth.ensures.lock
 
@@ -26,7 +26,7 @@ returns g c =
     let clients = c.blanks.inside.clients in
     let many : clients ≡ c.args.blanks.clients = ap (λ b. b.clients) c.blanks.view_is in
     let base : begun clients told.known ≡ c.args.book.session =
-    noted-begun c.args.blanks.clients clients c.args.book c.args.book.session.tree told.known (sym many) c.requires.fresh refl known in
+    noted-begun c.args.blanks.clients clients c.args.book c.args.book.session.tree told.known (sym many) c.requires.fresh c.log_replays.ensures refl known in
     let at = λ (n : Note (List (ℕ × Call))). begun clients n.known in
     handed-all clients c.args.blanks.clients c.args.book.session _ _ _ _ _ _ _ _ _ many c.blanks.invariant
     c.requires.empty.0 c.hand_out.ensures.passes c.hand_out-2.ensures.passes c.hand_out-3.ensures.passes c.hand_out-4.ensures.passes

@@ -1,10 +1,10 @@
--- One client's account has one row more, or none; and the answer with its copy is one event of the history.
+-- One client's account has one row more, or none; and the pass is a part of the log.
 use Rattle.std.proofs.Common.{refl, ap, sym, ◌∙◌}
 use Rattle.once_cell.specs.Once.{cell_name}
 use Rattle.zt_rows.specs.declared.calls.Command.TheVariants as command
 use Rattle.zt_shared.specs.Sharing.{begun}
 use Rattle.zt_shared.specs.ClientSlots.{slot_number, slot_rows}
-use Rattle.zt_shared.proofs.SharingLaws.{sides, part, locked-turned, with_first, with_second, with_third, with_fourth, sides-first, sides-second, sides-third, sides-fourth, pinned-turn}
+use Rattle.zt_shared.proofs.SharingLaws.{sides, part, locked-turned, with_first, with_second, with_third, with_fourth, sides-first, sides-second, sides-third, sides-fourth, turned-part}
 use Rattle.zt_shared.proofs.locked_book.LockedBook.pin.Goals.{in-First, in-Second, in-Third, in-Fourth}
 use Rattle.zt_shared.proofs.locked_book.LockedBook.pin.Goals as goal
 
@@ -40,8 +40,8 @@ invariant_of-self-in-Fourth g c =
     d.book.session c.pin_turn-in-Fourth.new.book.session d.book.log c.pin_turn-in-Fourth.new.book.log (sides d.first d.second d.third d.fourth) c.pin_turn-in-Fourth.new.ours c.self.invariant
     _ _ (λ a. a.0) command.Pin c.pin_turn-in-Fourth.result e.served e.logged e.ours e.clients e.same
 
-pub returns-clause-answered : goal.returns-clause-answered
-returns-clause-answered g c =
+pub returns-clause-part : goal.returns-clause-part
+returns-clause-part g c =
     let d = c.self.inside in
     let base = begun g.A.Beginning.clients c.pass.inside.told.known in
     let begin = begun g.A.Beginning.clients d.told.known in
@@ -49,15 +49,23 @@ returns-clause-answered g c =
     let locked = c.self.view_is ∙ c.agree.ensures.locked in
     elim c.match-pass.branch [
       | in-First w ↦
-          rw (w.result-is, w.pass-inside-is) (pinned-turn 1 base begin d.book.session w.pin_turn.new.book.session w.in-First.side w.pin_turn.new.mine c.args.pass.now c.args.self.now d.book.log
-          w.pin_turn.result (ap (λ slot. part (slot_number slot) base (slot_rows slot)) (sym w.in-First.is) ∙ pass) locked c.agree.ensures.part w.pin_turn.ensures.served w.pin_turn.ensures.frozen w.pin_turn.ensures.mine)
+          rw (w.self-is, w.pass-inside-is)
+          (turned-part _ _ (λ a. a.0) 1 base begin d.book.session w.pin_turn.new.book.session w.in-First.side w.pin_turn.new.mine c.args.pass.now c.args.self.now d.book.log w.pin_turn.new.book.log
+          command.Pin w.pin_turn.result (ap (λ slot. part (slot_number slot) base (slot_rows slot)) (sym w.in-First.is) ∙ pass) locked c.agree.ensures.part
+          w.pin_turn.ensures.served w.pin_turn.ensures.logged w.pin_turn.ensures.mine w.pin_turn.ensures.same)
       | in-Second w ↦
-          rw (w.result-is, w.pass-inside-is) (pinned-turn 2 base begin d.book.session w.pin_turn-in-Second.new.book.session w.in-Second.side w.pin_turn-in-Second.new.mine c.args.pass.now c.args.self.now d.book.log
-          w.pin_turn-in-Second.result (ap (λ slot. part (slot_number slot) base (slot_rows slot)) (sym w.in-Second.is) ∙ pass) locked c.agree.ensures.part w.pin_turn-in-Second.ensures.served w.pin_turn-in-Second.ensures.frozen w.pin_turn-in-Second.ensures.mine)
+          rw (w.self-is, w.pass-inside-is)
+          (turned-part _ _ (λ a. a.0) 2 base begin d.book.session w.pin_turn-in-Second.new.book.session w.in-Second.side w.pin_turn-in-Second.new.mine c.args.pass.now c.args.self.now d.book.log w.pin_turn-in-Second.new.book.log
+          command.Pin w.pin_turn-in-Second.result (ap (λ slot. part (slot_number slot) base (slot_rows slot)) (sym w.in-Second.is) ∙ pass) locked c.agree.ensures.part
+          w.pin_turn-in-Second.ensures.served w.pin_turn-in-Second.ensures.logged w.pin_turn-in-Second.ensures.mine w.pin_turn-in-Second.ensures.same)
       | in-Third w ↦
-          rw (w.result-is, w.pass-inside-is) (pinned-turn 3 base begin d.book.session w.pin_turn-in-Third.new.book.session w.in-Third.side w.pin_turn-in-Third.new.mine c.args.pass.now c.args.self.now d.book.log
-          w.pin_turn-in-Third.result (ap (λ slot. part (slot_number slot) base (slot_rows slot)) (sym w.in-Third.is) ∙ pass) locked c.agree.ensures.part w.pin_turn-in-Third.ensures.served w.pin_turn-in-Third.ensures.frozen w.pin_turn-in-Third.ensures.mine)
+          rw (w.self-is, w.pass-inside-is)
+          (turned-part _ _ (λ a. a.0) 3 base begin d.book.session w.pin_turn-in-Third.new.book.session w.in-Third.side w.pin_turn-in-Third.new.mine c.args.pass.now c.args.self.now d.book.log w.pin_turn-in-Third.new.book.log
+          command.Pin w.pin_turn-in-Third.result (ap (λ slot. part (slot_number slot) base (slot_rows slot)) (sym w.in-Third.is) ∙ pass) locked c.agree.ensures.part
+          w.pin_turn-in-Third.ensures.served w.pin_turn-in-Third.ensures.logged w.pin_turn-in-Third.ensures.mine w.pin_turn-in-Third.ensures.same)
       | in-Fourth w ↦
-          rw (w.result-is, w.pass-inside-is) (pinned-turn 4 base begin d.book.session w.pin_turn-in-Fourth.new.book.session w.in-Fourth.side w.pin_turn-in-Fourth.new.mine c.args.pass.now c.args.self.now d.book.log
-          w.pin_turn-in-Fourth.result (ap (λ slot. part (slot_number slot) base (slot_rows slot)) (sym w.in-Fourth.is) ∙ pass) locked c.agree.ensures.part w.pin_turn-in-Fourth.ensures.served w.pin_turn-in-Fourth.ensures.frozen w.pin_turn-in-Fourth.ensures.mine)
+          rw (w.self-is, w.pass-inside-is)
+          (turned-part _ _ (λ a. a.0) 4 base begin d.book.session w.pin_turn-in-Fourth.new.book.session w.in-Fourth.side w.pin_turn-in-Fourth.new.mine c.args.pass.now c.args.self.now d.book.log w.pin_turn-in-Fourth.new.book.log
+          command.Pin w.pin_turn-in-Fourth.result (ap (λ slot. part (slot_number slot) base (slot_rows slot)) (sym w.in-Fourth.is) ∙ pass) locked c.agree.ensures.part
+          w.pin_turn-in-Fourth.ensures.served w.pin_turn-in-Fourth.ensures.logged w.pin_turn-in-Fourth.ensures.mine w.pin_turn-in-Fourth.ensures.same)
     ]
