@@ -1,24 +1,27 @@
--- Where a state has room, each port's next number still fits once a call changed the state and what nothing
--- supports was removed: there is room for the packets of the waits that are met.
+-- Where a state has room, a call and the removal of what nothing supports leave each port's next number low, and few waits:
+-- there is room for the packets of the waits that are met.
 use Rattle.std.proofs.Common.{◌≡◌, ℕ, ◌+◌, ◌^◌, ◌<◌, ◌≤◌, zero, suc, Bool, true, length, refl, sym, ap, ◌∙◌, subst, arith}
 use Rattle.std.specs.Prelude.{Option, None, Some}
 use Rattle.zt_bits.specs.declared.kinds.Kind.{Kind}
 use Rattle.zt_bits.specs.declared.kinds.Kind.TheVariants as kind
 use Rattle.zt_rows.specs.declared.calls.Call.{Call}
+use Rattle.zt_rows.specs.declared.rows.Counters.{Counters}
 use Rattle.zt_rows.specs.declared.rows.ObjectRow.{ObjectRow}
 use Rattle.zt_rows.specs.State.{State}
-use Rattle.zt_rows.specs.Reads.{object, objects, runs}
-use Rattle.zt_rows.specs.Tests.{object_next}
+use Rattle.zt_rows.specs.Reads.{counters, object, objects, runs}
+use Rattle.zt_rows.specs.Tests.{next_at, object_next}
 use Rattle.zt_rows.specs.Room.{HasRoom, NextFits}
 use Rattle.zt_rows.specs.Collect.{without, goes, rounds, collect}
+use Rattle.zt_rows.specs.Settle.{settle}
 use Rattle.zt_rows.specs.Step.{IsCall, direct}
-use Rattle.zt_rows.specs.Consistent.{IsSound, IsConsistent}
-use Rattle.zt_rows.proofs.ReadLaws.{kind_at-some, stayed}
+use Rattle.zt_rows.specs.Consistent.{SoundWait, IsSound, IsConsistent}
+use Rattle.zt_rows.proofs.ReadLaws.{counters-without, kind_at-some, stayed}
 use Rattle.zt_rows.proofs.CollectLaws.{sound-collect}
 use Rattle.zt_rows.proofs.GivenLaws.{growth, OfKind, Called}
 use Rattle.zt_rows.proofs.CallLaws.{sound-direct}
 use Rattle.zt_rows.proofs.SpentLaws.{called-direct}
 use Rattle.zt_cascade.specs.PacketRoom.{HasRoomToFire}
+use Rattle.zt_cascade.proofs.FiringLaws.{settled-within, wait-refreshed}
 
 -- the next number of a row, if it is a port's, leaves room for more packets than memory has place for
 abbrev pub PortFits : ObjectRow → Type 0
@@ -60,16 +63,34 @@ pub ports-collect : (S : State) → PortsFit S → PortsFit (collect S)
 unfolding collect
 ports-collect S fit = ports-rounds (length (objects S)) S fit
 
+counters-rounds : (n : ℕ) (S : State) → counters (rounds n S) ≡ counters S
+unfolding rounds
+counters-rounds zero S = refl
+counters-rounds (suc n) S = counters-rounds n (without S (goes S)) ∙ counters-without (goes S) S
+
+counters-collect : (S : State) → counters (collect S) ≡ counters S
+unfolding collect
+counters-collect S = counters-rounds (length (objects S)) S
+
 -- ---- the waits that are met
 
--- in a sound state a wait is for a port
-room_to_fire : (S : State) → IsSound S → PortsFit S → HasRoomToFire S
-room_to_fire S sound fit n w e =
-    let there = kind_at-some S w.port kind.Port (sound.of_waits n w e).port in
-    rw there.1 (fit w.port there.0 there.1 there.2)
+-- in a sound state a wait is for a port, and there are no more waits than numbers were given out
+room_to_fire : (S : State) → IsSound S → (counters S).next_wait ≤ 2 ^ 63 → PortsFit S → HasRoomToFire S
+room_to_fire S sound few fit n w e met =
+    let s : SoundWait S n w = sound.of_waits n w (wait-refreshed S n w e) in
+    let there = kind_at-some S w.port kind.Port s.port in
+    let is : next_at S w.port ≡ there.0.next = ap object_next there.1 in
+    let low : there.0.next < 2 ^ 63 = fit w.port there.0 there.1 there.2 in
+    let last : next_at (settle S) w.port ≤ next_at S w.port + 2 ^ 63 =
+    settled-within S (2 ^ 63) w.port (λ m v h. let t : SoundWait S m v = sound.of_waits m v h in let number : m < (counters S).next_wait = t.number in omega arith) in
+    omega arith
 
 -- after a call of a live process and the removal of what nothing supports there is room for packets
 pub room_after : (S : State) (p : ℕ) (c : Call) → IsConsistent S → HasRoom S → runs S p ≡ true → IsCall c → HasRoomToFire (collect (direct S p c).0)
 room_after S p c consistent room live is =
-    room_to_fire (collect (direct S p c).0) (sound-collect (direct S p c).0 (sound-direct S p c consistent.sound live is))
-    (ports-collect (direct S p c).0 (ports-called S (direct S p c).0 room (called-direct S p c consistent.sound live)))
+    let T : State = (direct S p c).0 in
+    let called : Called S T = called-direct S p c consistent.sound live in
+    let first : (counters S).next_wait ≤ 2 ^ 62 = room.waits in
+    let one : (counters T).next_wait ≤ (counters S).next_wait + 1 = called.waits in
+    let same : (counters (collect T)).next_wait ≡ (counters T).next_wait = ap (λ (k : Counters). k.next_wait) (counters-collect T) in
+    room_to_fire (collect T) (sound-collect T (sound-direct S p c consistent.sound live is)) (omega arith) (ports-collect T (ports-called S T room called))

@@ -83,9 +83,12 @@ kept-fired f alike S n w o x there = ap (λ r. f (as_object r)) (row-fired S n w
 kept-fire : {A : Type 0} (f : Option ObjectRow → A) → ((o : ObjectRow) → f (Some (raised o)) ≡ f (Some o)) → (S : State) (n : ℕ) (w : Wait) (x : ℕ) → f (object (fire S (n, w)) x) ≡ f (object S x)
 kept-fire f alike S n w x = fire-either (λ T. f (object T x) ≡ f (object S x)) S n w (λ _. refl) (λ o there _. kept-fired f alike S n w o x there)
 
+pub met-fire : (S : State) (n : ℕ) (w v : Wait) → is_met (fire S (n, w)) v ≡ is_met S v
+met-fire S n w v = met-same S (fire S (n, w)) (entry-fire S n w) (λ x. kept-fire object_signals (λ o. refl) S n w x) v
+
 fires-fire : (S : State) (n : ℕ) (w v : Wait) → fires (fire S (n, w)) v ≡ fires S v
 fires-fire S n w v =
-    let met : is_met (fire S (n, w)) v ≡ is_met S v = met-same S (fire S (n, w)) (entry-fire S n w) (λ x. kept-fire object_signals (λ o. refl) S n w x) v in
+    let met : is_met (fire S (n, w)) v ≡ is_met S v = met-fire S n w v in
     let there : is_some (object (fire S (n, w)) v.port) ≡ is_some (object S v.port) = kept-fire is_some (λ o. refl) S n w v.port in
     λ i. met i && there i
 

@@ -1,5 +1,6 @@
--- Firing by number: each raises the next number of a port by one at most.
-use Rattle.std.proofs.Common.{◌≡◌, ◌<◌, ◌≤◌, ◌^◌, ℕ, zero, suc, ◌+◌, Bool, true, false, cond, List, [], ◌∷◌, length, take, Option, Some, None, option_and_then, refl, sym, ap, ◌∙◌, subst, arith}
+-- Firing by number: a port's next number is raised by one where a wait for it fires, and never falls. So each wait that
+-- fires has room where the last number is within its type; and no more numbers are given out than there are waits.
+use Rattle.std.proofs.Common.{◌≡◌, ◌<◌, ◌≤◌, ◌^◌, ℕ, zero, suc, ◌+◌, Bool, true, false, cond, List, [], ◌∷◌, length, take, get_or, Option, Some, None, option_and_then, ◌⊎◌, inl, inr, refl, sym, ap, ◌∙◌, subst, arith}
 use Rattle.std.specs.Prelude.{if◌then◌else◌, ◌==◌}
 use Rattle.std.specs.List.{fold}
 use Rattle.std.proofs.lemmas.Bool.{eqb-true}
@@ -9,16 +10,19 @@ use Rattle.zt_rows.specs.declared.rows.Packet.{Packet}
 use Rattle.zt_rows.specs.declared.rows.Wait.{Wait}
 use Rattle.zt_rows.specs.declared.rows.Row.{Row}
 use Rattle.zt_rows.specs.declared.rows.Row.TheVariants as rows
-use Rattle.zt_rows.specs.State.{State, row, put, change}
+use Rattle.zt_rows.specs.State.{State, row, put}
 use Rattle.zt_rows.specs.Reads.{as_object, as_wait, object, wait, waits}
 use Rattle.zt_rows.specs.Tests.{next_at, object_next, raised}
 use Rattle.zt_rows.specs.Settle.{refreshed, refresh, fire, fire_into, push_packet, is_met, news, settle}
-use Rattle.zt_rows.proofs.StateLaws.{row-change, row-put}
-use Rattle.zt_cascade.specs.PacketRoom.{HasRoomToFire}
+use Rattle.zt_rows.proofs.RowLaws.{In}
+use Rattle.zt_rows.proofs.StateLaws.{row-change, row-put, row-put-same}
+use Rattle.zt_rows.proofs.SettleLaws.{in-waits}
+use Rattle.zt_cascade.specs.PacketRoom.{FiresWithin}
 use Rattle.zt_cascade.specs.RaisedWaits.{HasRoomFor, fire_if, fire_number}
-use Rattle.zt_cascade.proofs.FiredLaws.{wait-left}
+use Rattle.zt_cascade.proofs.FiredLaws.{met-fire, wait-left}
+use Rattle.zt_cascade.proofs.OrderLaws.{IsOrdered, ordered-waits}
 
--- ---- room to fire
+-- ---- renewed signals
 
 same_wait : (S : State) (n : ℕ) (r : Option Row) → option_and_then (refreshed S (key.Wait n)) r ≡ r
 same_wait S n (Some r) = refl
@@ -33,50 +37,86 @@ same_next S x (Some (rows.Packet _)) = refl
 same_next S x (Some (rows.Wait _)) = refl
 same_next S x None = refl
 
-pub room-refresh : (S : State) → HasRoomToFire S → HasRoomToFire (refresh S)
+pub wait-refreshed : (S : State) (n : ℕ) (w : Wait) → wait (refresh S) n ≡ Some w → wait S n ≡ Some w
 unfolding refresh
-room-refresh S room n w h =
-    let there : wait S n ≡ Some w = ap as_wait (sym (row-change (refreshed S) S (key.Wait n) ∙ same_wait S n (row S (key.Wait n)))) ∙ h in
-    let next : next_at (change (refreshed S) S) w.port ≡ next_at S w.port = ap (λ r. object_next (as_object r)) (row-change (refreshed S) S (key.Object w.port)) ∙ same_next S w.port (row S (key.Object w.port)) in
-    subst (λ m. m < 2 ^ 63) (sym next) (room n w there)
+wait-refreshed S n w h = ap as_wait (sym (row-change (refreshed S) S (key.Wait n) ∙ same_wait S n (row S (key.Wait n)))) ∙ h
 
--- ---- firing
+next-refreshed : (S : State) (x : ℕ) → next_at (refresh S) x ≡ next_at S x
+unfolding refresh
+next-refreshed S x = ap (λ r. object_next (as_object r)) (row-change (refreshed S) S (key.Object x)) ∙ same_next S x (row S (key.Object x))
 
-next-of : (p : ObjectRow) (x : ℕ) (b : Bool) (r : Option Row) → (b ≡ true → object_next (as_object r) ≡ p.next) → object_next (as_object (cond b (Some (rows.Object (raised p))) r)) ≤ object_next (as_object r) + 1
-next-of p x true r h = let e : object_next (as_object r) ≡ p.next = h refl in omega arith
-next-of p x false r h = omega arith
+-- ---- one wait
 
-next-push : (S : State) (n : ℕ) (w : Wait) (p : ObjectRow) (parcel : Packet) (x : ℕ) → object S w.port ≡ Some p → next_at (push_packet w.port p parcel (put S (key.Wait n) None)) x ≤ next_at S x + 1
+-- the same number, or one more
+abbrev IsOneMore : ℕ → ℕ → Type 0
+IsOneMore m n = (m ≤ n) × (n ≤ m + 1)
+
+next-of : (p : ObjectRow) (b : Bool) (r : Option Row) → (b ≡ true → object_next (as_object r) ≡ p.next) → IsOneMore (object_next (as_object r)) (object_next (as_object (cond b (Some (rows.Object (raised p))) r)))
+next-of p true r h = let e : object_next (as_object r) ≡ p.next = h refl in (omega arith, omega arith)
+next-of p false r h = (omega arith, omega arith)
+
+next-push : (S : State) (n : ℕ) (w : Wait) (p : ObjectRow) (parcel : Packet) (x : ℕ) → object S w.port ≡ Some p → IsOneMore (next_at S x) (next_at (push_packet w.port p parcel (put S (key.Wait n) None)) x)
 next-push S n w p parcel x h =
     let one : row (put S (key.Wait n) None) (key.Object x) ≡ row S (key.Object x) = row-put S (key.Wait n) None (key.Object x) in
     let two : row (put (put S (key.Wait n) None) (key.Packet w.port p.next) (Some (rows.Packet parcel))) (key.Object x) ≡ row S (key.Object x) = row-put (put S (key.Wait n) None) (key.Packet w.port p.next) (Some (rows.Packet parcel)) (key.Object x) ∙ one in
     let three : row (push_packet w.port p parcel (put S (key.Wait n) None)) (key.Object x) ≡ cond (x == w.port) (Some (rows.Object (raised p))) (row S (key.Object x)) =
     row-put (put (put S (key.Wait n) None) (key.Packet w.port p.next) (Some (rows.Packet parcel))) (key.Object w.port) (Some (rows.Object (raised p))) (key.Object x) ∙ ap (cond (x == w.port) (Some (rows.Object (raised p)))) two in
     let same : (x == w.port) ≡ true → object_next (as_object (row S (key.Object x))) ≡ p.next = λ t. ap (λ y. object_next (object S y)) (eqb-true x w.port t) ∙ ap object_next h in
-    subst (λ r. object_next (as_object r) ≤ next_at S x + 1) (sym three) (next-of p x (x == w.port) (row S (key.Object x)) same)
+    subst (λ r. IsOneMore (next_at S x) (object_next (as_object r))) (sym three) (next-of p (x == w.port) (row S (key.Object x)) same)
 
-next-into : (S : State) (n : ℕ) (w : Wait) (x : ℕ) (o : Option ObjectRow) → object S w.port ≡ o → next_at (fire_into o S (n, w)) x ≤ next_at S x + 1
+next-into : (S : State) (n : ℕ) (w : Wait) (x : ℕ) (o : Option ObjectRow) → object S w.port ≡ o → IsOneMore (next_at S x) (next_at (fire_into o S (n, w)) x)
 next-into S n w x (Some p) h = next-push S n w p (news S w) x h
-next-into S n w x None h = omega arith
+next-into S n w x None h = (omega arith, omega arith)
 
-next-fire : (S : State) (e : ℕ × Wait) (x : ℕ) → next_at (fire S e) x ≤ next_at S x + 1
+next-fire : (S : State) (e : ℕ × Wait) (x : ℕ) → IsOneMore (next_at S x) (next_at (fire S e) x)
 next-fire S (n, w) x =
-    elim (is_met S w) as (λ b. next_at (if b then fire_into (object S w.port) S (n, w) else S) x ≤ next_at S x + 1) [
+    elim (is_met S w) as (λ b. IsOneMore (next_at S x) (next_at (if b then fire_into (object S w.port) S (n, w) else S) x)) [
       | true ↦ next-into S n w x (object S w.port) refl
-      | false ↦ omega arith
+      | false ↦ (omega arith, omega arith)
     ]
 
-next-if : (S : State) (n : ℕ) (o : Option Wait) (x : ℕ) → next_at (fire_if S n o) x ≤ next_at S x + 1
+next-if : (S : State) (n : ℕ) (o : Option Wait) (x : ℕ) → IsOneMore (next_at S x) (next_at (fire_if S n o) x)
 next-if S n (Some w) x = next-fire S (n, w) x
-next-if S n None x = omega arith
+next-if S n None x = (omega arith, omega arith)
 
--- each number raises the next number of a port by one at most
-next-numbers : (ns : List ℕ) (S : State) (x : ℕ) → next_at (fold fire_number S ns) x ≤ next_at S x + length ns
-next-numbers [] S x = omega arith
-next-numbers (n ∷ ns) S x =
-    let later : next_at (fold fire_number (fire_number S n) ns) x ≤ next_at (fire_number S n) x + length ns = next-numbers ns (fire_number S n) x in
-    let here : next_at (fire_number S n) x ≤ next_at S x + 1 = next-if S n (wait S n) x in
+-- the port of a wait that fires is raised by one
+next-raised : (S : State) (n : ℕ) (w : Wait) (p : ObjectRow) → object S w.port ≡ Some p → next_at (push_packet w.port p (news S w) (put S (key.Wait n) None)) w.port ≡ next_at S w.port + 1
+next-raised S n w p h =
+    ap (λ r. object_next (as_object r))
+    (row-put-same (put (put S (key.Wait n) None) (key.Packet w.port p.next) (Some (rows.Packet (news S w)))) (key.Object w.port) (Some (rows.Object (raised p))))
+    ∙ ap (λ m. m + 1) (sym (ap object_next h))
+
+-- where a wait is met, its port is raised, or is not there
+next-met : (S : State) (n : ℕ) (w : Wait) → wait S n ≡ Some w → is_met S w ≡ true → (next_at S w.port ≡ 0) ⊎ (next_at (fire_number S n) w.port ≡ next_at S w.port + 1)
+next-met S n w there met = by (object S w.port) refl
+  where
+    fires : fire_number S n ≡ fire_into (object S w.port) S (n, w)
+    fires = ap (fire_if S n) there ∙ ap (λ b. if b then fire_into (object S w.port) S (n, w) else S) met
+
+    by : (r : Option ObjectRow) → object S w.port ≡ r → (next_at S w.port ≡ 0) ⊎ (next_at (fire_number S n) w.port ≡ next_at S w.port + 1)
+    by (Some p) e = inr (ap (λ (T : State). next_at T w.port) (fires ∙ ap (λ r. fire_into r S (n, w)) e) ∙ next-raised S n w p e)
+    by None e = inl (ap object_next e)
+
+-- a wait that is not met changes nothing
+pub unmet-number : (S : State) (n : ℕ) (w : Wait) → wait S n ≡ Some w → is_met S w ≡ false → S ≡ fire_number S n
+unmet-number S n w there unmet = sym (ap (fire_if S n) there ∙ ap (λ b. if b then fire_into (object S w.port) S (n, w) else S) unmet)
+
+-- ---- several numbers
+
+-- next numbers never fall
+next-grown : (ns : List ℕ) (S : State) (x : ℕ) → next_at S x ≤ next_at (fold fire_number S ns) x
+next-grown [] S x = omega arith
+next-grown (n ∷ ns) S x =
+    let here : IsOneMore (next_at S x) (next_at (fire_number S n) x) = next-if S n (wait S n) x in
+    let first : next_at S x ≤ next_at (fire_number S n) x = here.0 in
+    let later : next_at (fire_number S n) x ≤ next_at (fold fire_number (fire_number S n) ns) x = next-grown ns (fire_number S n) x in
     omega arith
+
+-- up to one of the numbers they are no greater than after the last
+next-part : (ns : List ℕ) (i d n : ℕ) (S : State) (x : ℕ) → i < length ns → n ≡ get_or ns i d → next_at (fire_number (fold fire_number S (take i ns)) n) x ≤ next_at (fold fire_number S ns) x
+next-part [] i d n S x less is = absurd (omega arith)
+next-part (m ∷ ns) zero d n S x less is = subst (λ k. next_at (fire_number S k) x ≤ next_at (fold fire_number (fire_number S m) ns) x) (sym is) (next-grown ns (fire_number S m) x)
+next-part (m ∷ ns) (suc i) d n S x less is = next-part ns i d n (fire_number S m) x (omega arith) is
 
 -- no wait comes
 wait-if : (S : State) (n : ℕ) (o : Option Wait) (m : ℕ) (w : Wait) → wait (fire_if S n o) m ≡ Some w → wait S m ≡ Some w
@@ -87,20 +127,59 @@ wait-numbers : (ns : List ℕ) (S : State) (m : ℕ) (w : Wait) → wait (fold f
 wait-numbers [] S m w e = e
 wait-numbers (n ∷ ns) S m w e = wait-if S n (wait S n) m w (wait-numbers ns (fire_number S n) m w e)
 
-length-taken : {A : Type 0} (i : ℕ) (xs : List A) → length (take i xs) ≤ i
-length-taken zero xs = omega arith
-length-taken (suc i) [] = omega arith
-length-taken (suc i) (x ∷ xs) = let h : length (take i xs) ≤ i = length-taken i xs in omega arith
+-- what is met stays met
+met-if : (S : State) (n : ℕ) (o : Option Wait) (v : Wait) → is_met (fire_if S n o) v ≡ is_met S v
+met-if S n (Some w) v = met-fire S n w v
+met-if S n None v = refl
 
--- the port of the next wait has room for its packet
-pub room-numbers : (S T : State) (ns : List ℕ) (i n : ℕ) → HasRoomToFire S → i < 2 ^ 63 → T ≡ fold fire_number S (take i ns) → HasRoomFor T n
-room-numbers S T ns i n room few is w e =
-    let stood : wait S n ≡ Some w = wait-numbers (take i ns) S n w (ap (λ (U : State). wait U n) (sym is) ∙ e) in
-    let first : next_at S w.port < 2 ^ 63 = room n w stood in
-    let raised : next_at (fold fire_number S (take i ns)) w.port ≤ next_at S w.port + length (take i ns) = next-numbers (take i ns) S w.port in
-    let taken : length (take i ns) ≤ i = length-taken i ns in
-    subst (λ (U : State). next_at U w.port + 1 < 2 ^ 64) (sym is) (omega arith)
+met-numbers : (ns : List ℕ) (S : State) (v : Wait) → is_met (fold fire_number S ns) v ≡ is_met S v
+met-numbers [] S v = refl
+met-numbers (n ∷ ns) S v = met-numbers ns (fire_number S n) v ∙ met-if S n (wait S n) v
+
+-- where the next wait is met, its port has room for its packet
+pub room-numbers : (S T : State) (ns : List ℕ) (i d n : ℕ) → FiresWithin S (fold fire_number S ns) → i < length ns → n ≡ get_or ns i d → T ≡ fold fire_number S (take i ns) → HasRoomFor T n
+room-numbers S T ns i d n room less here is w there met =
+    let U : State = fold fire_number S (take i ns) in
+    let there_now : wait U n ≡ Some w = ap (λ (V : State). wait V n) (sym is) ∙ there in
+    let met_now : is_met U w ≡ true = ap (λ (V : State). is_met V w) (sym is) ∙ met in
+    let stood : wait S n ≡ Some w = wait-numbers (take i ns) S n w there_now in
+    let met_first : is_met S w ≡ true = sym (met-numbers (take i ns) S w) ∙ met_now in
+    let most : next_at (fold fire_number S ns) w.port < 2 ^ 64 = room n w stood met_first in
+    let part : next_at (fire_number U n) w.port ≤ next_at (fold fire_number S ns) w.port = next-part ns i d n S w.port less here in
+    let fits : next_at U w.port + 1 < 2 ^ 64 = elim (next-met U n w there_now met_now) [ inl none ↦ omega arith | inr more ↦ omega arith ] in
+    subst (λ (V : State). next_at V w.port + 1 < 2 ^ 64) (sym is) fits
 
 pub settled : (S : State) → fold fire (refresh S) (waits (refresh S)) ≡ settle S
 unfolding settle
 settled S = refl
+
+-- ---- few numbers
+
+next-fold : (L : List (ℕ × Wait)) (S : State) (x : ℕ) → next_at (fold fire S L) x ≤ next_at S x + length L
+next-fold [] S x = omega arith
+next-fold (e ∷ L) S x =
+    let here : IsOneMore (next_at S x) (next_at (fire S e) x) = next-fire S e x in
+    let one : next_at (fire S e) x ≤ next_at S x + 1 = here.1 in
+    let later : next_at (fold fire (fire S e) L) x ≤ next_at (fire S e) x + length L = next-fold L (fire S e) x in
+    omega arith
+
+-- waits by rising number are no more than there are numbers
+few-rising : (L : List (ℕ × Wait)) (low high : ℕ) → low ≤ high → IsOrdered L → ((n : ℕ) (w : Wait) → In (n, w) L → (low ≤ n) × (n < high)) → low + length L ≤ high
+few-rising [] low high le order within = omega arith
+few-rising ((n, w) ∷ L) low high le order within =
+    let here : (low ≤ n) × (n < high) = within n w (inl refl) in
+    let above : low ≤ n = here.0 in
+    let below : n < high = here.1 in
+    let rest : (n + 1) + length L ≤ high = few-rising L (n + 1) high (omega arith) order.1 (λ m v l. let less : n < m = order.0 m v l in (omega arith, (within m v (inr l)).1)) in
+    omega arith
+
+-- settling raises a next number by no more than there are numbers of waits
+pub settled-within : (S : State) (most x : ℕ) → ((n : ℕ) (w : Wait) → wait S n ≡ Some w → n < most) → next_at (settle S) x ≤ next_at S x + most
+settled-within S most x below =
+    let R : State = refresh S in
+    let L : List (ℕ × Wait) = waits R in
+    let few : 0 + length L ≤ most = few-rising L 0 most (omega arith) (ordered-waits R) (λ n w l. (omega arith, below n w (wait-refreshed S n w (in-waits R n w l)))) in
+    let raised : next_at (fold fire R L) x ≤ next_at R x + length L = next-fold L R x in
+    let first : next_at R x ≡ next_at S x = next-refreshed S x in
+    let last : next_at (settle S) x ≡ next_at (fold fire R L) x = ap (λ (T : State). next_at T x) (sym (settled S)) in
+    omega arith

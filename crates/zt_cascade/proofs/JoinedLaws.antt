@@ -1,19 +1,16 @@
--- Links that join both ways and waits for ports: a sound state has them, and removal keeps them.
-use Rattle.std.proofs.Common.{◌≡◌, ◌<◌, ℕ, Bool, true, false, cond, ◌&&◌, ◌⊎◌, inl, inr, refl, sym, ap, ◌∙◌, subst}
+-- Links that join both ways: a sound state has them, and removal keeps them.
+use Rattle.std.proofs.Common.{◌≡◌, ℕ, Bool, true, false, cond, ◌&&◌, ◌⊎◌, inl, inr, refl, sym, ap, ◌∙◌, subst}
 use Rattle.std.specs.Prelude.{Option, None, Some, if◌then◌else◌}
 use Rattle.std.specs.Option.{option_map}
-use Rattle.zt_bits.specs.declared.kinds.Kind.{Kind}
-use Rattle.zt_bits.specs.declared.kinds.Kind.TheVariants as kind
-use Rattle.zt_rows.specs.declared.rows.Counters.{Counters}
 use Rattle.zt_rows.specs.declared.rows.ObjectRow.{ObjectRow}
 use Rattle.zt_rows.specs.State.{State}
 use Rattle.zt_rows.specs.Reads.{object}
-use Rattle.zt_rows.specs.Tests.{is_endpoint, kind_at, link_at, object_link}
+use Rattle.zt_rows.specs.Tests.{is_endpoint, link_at, object_link}
 use Rattle.zt_rows.specs.Collect.{unlinked, without}
-use Rattle.zt_rows.specs.Consistent.{IsPeer, SoundObject, SoundWait, IsSound}
-use Rattle.zt_rows.proofs.ReadLaws.{object-without, counters-without, stayed, stays, wait-stayed, kind_at-some}
+use Rattle.zt_rows.specs.Consistent.{IsPeer, SoundObject, IsSound}
+use Rattle.zt_rows.proofs.ReadLaws.{object-without, stayed}
 use Rattle.zt_rows.proofs.SoundLaws.{link-kept, and_no_right}
-use Rattle.zt_cascade.specs.JoinedLinks.{IsJoined, WaitsForPorts}
+use Rattle.zt_cascade.specs.JoinedLinks.{IsJoined}
 
 -- ---- links
 
@@ -55,27 +52,4 @@ joined-without S going joined = record {
       let was_end : is_endpoint w.0.kind ≡ true = ap (λ (z : ObjectRow). is_endpoint z.kind) (sym w.2) ∙ ends in
       subst (λ (z : ObjectRow). (z.link ≡ 0) ⊎ (link_at (without S going) z.link ≡ x)) (sym w.2)
       (left-joined going S x w.0 w.3 was_end (joined.back x w.0 w.1 was_end));
-}
-
--- ---- waits
-
-pub sound-waits : (S : State) → IsSound S → WaitsForPorts S
-sound-waits S sound = record {
-  number = λ n w there. let s : SoundWait S n w = sound.of_waits n w there in s.number;
-  port = λ n w there. let s : SoundWait S n w = sound.of_waits n w there in s.port;
-}
-
-kind-stays : (S : State) (going : ℕ → Bool) (x : ℕ) (made : Kind) → going x ≡ false → kind_at S x ≡ Some made → kind_at (without S going) x ≡ Some made
-kind-stays S going x made stay e =
-    let w = kind_at-some S x made e in
-    ap (option_map (λ (o : ObjectRow). o.kind)) (stays going S x w.0 w.1 stay) ∙ ap Some w.2
-
-pub waits-without : (S : State) (going : ℕ → Bool) → WaitsForPorts S → WaitsForPorts (without S going)
-waits-without S going waits = record {
-  number = λ n w there.
-      let p = wait-stayed going S n w there in
-      subst (λ (c : Counters). n < c.next_wait) (sym (counters-without going S)) (waits.number n w p.0);
-  port = λ n w there.
-      let p = wait-stayed going S n w there in
-      kind-stays S going w.port kind.Port p.1 (waits.port n w p.0);
 }

@@ -20,11 +20,11 @@ use Rattle.zt_rows.proofs.ReadLaws.{some-exists, stayed}
 use Rattle.zt_rows.proofs.CollectLaws.{goes-there, free-goes, supported-stays}
 use Rattle.zt_store.specs.StepView.{Stepping, listed}
 use Rattle.zt_cascade.specs.OneByOne.{only, IsOnTheWay, IsLetGo}
-use Rattle.zt_cascade.specs.JoinedLinks.{IsJoined, WaitsForPorts}
+use Rattle.zt_cascade.specs.JoinedLinks.{IsJoined}
 use Rattle.zt_cascade.specs.ToldObjects.{IsTold, by_list, by_put, by_child, IsListed, IsCovered}
 use Rattle.zt_cascade.specs.RemovedObject.{koids, Covers}
 use Rattle.zt_cascade.proofs.OnTheWayLaws.{on_the_way-more, on_the_way-end, goes-newly}
-use Rattle.zt_cascade.proofs.JoinedLaws.{joined-without, waits-without}
+use Rattle.zt_cascade.proofs.JoinedLaws.{joined-without}
 use Rattle.zt_cascade.proofs.TakingLaws.{among-koids, among-left, among-right}
 
 -- ---- what was put
@@ -209,13 +209,6 @@ joined-looked S T x e joined = subst IsJoined (sym e) (either_way (goes S x))
     either_way : (b : Bool) → IsJoined (if b then without S (only x) else S)
     either_way true = joined-without S (only x) joined
     either_way false = joined
-
-pub waits-looked : (S T : State) (x : ℕ) → T ≡ looked_at S x → WaitsForPorts S → WaitsForPorts T
-waits-looked S T x e waits = subst WaitsForPorts (sym e) (either_way (goes S x))
-  where
-    either_way : (b : Bool) → WaitsForPorts (if b then without S (only x) else S)
-    either_way true = waits-without S (only x) waits
-    either_way false = waits
 
 pub way-looked : (S0 S T : State) (x : ℕ) → T ≡ looked_at S x → IsOnTheWay S0 S → IsOnTheWay S0 T
 way-looked S0 S T x e way = subst (IsOnTheWay S0) (sym e) (either_way (goes S x) refl)

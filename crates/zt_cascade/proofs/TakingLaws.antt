@@ -1,11 +1,10 @@
 -- An object taken out stage by stage: its row, its queue, its packets and the waits for it.
 use Rattle.std.proofs.Common.{◌≡◌, ◌≤◌, ◌<◌, ℕ, ◌+◌, true, false, ◌||◌, List, [], ◌∷◌, ◌++◌, length, ◌⊎◌, inl, inr, refl, sym, ap, ◌∙◌, subst, arith}
 use Rattle.std.specs.Prelude.{Option, None, Some, if◌then◌else◌, ◌==◌, IsSome}
-use Rattle.std.specs.Option.{option_map, option_map_or}
+use Rattle.std.specs.Option.{option_map_or}
 use Rattle.std.proofs.lemmas.Bool.{eqb-true, eq-eqb}
 use Rattle.std.proofs.lemmas.List.{length-map, length-append}
 use Rattle.std.proofs.lemmas.List.Folds.{list_any-append}
-use Rattle.zt_bits.specs.declared.kinds.Kind.TheVariants as kind
 use Rattle.zt_rows.specs.declared.keys.RowKey.{RowKey}
 use Rattle.zt_rows.specs.declared.keys.RowKey.TheVariants as key
 use Rattle.zt_rows.specs.declared.rows.Held.{Held}
@@ -17,14 +16,14 @@ use Rattle.zt_rows.specs.Contents.{MessageContent}
 use Rattle.zt_rows.specs.State.{State, row}
 use Rattle.zt_rows.specs.Reads.{as_message, as_wait, object, message, wait}
 use Rattle.zt_rows.specs.Room.{SuitsKey}
-use Rattle.zt_rows.specs.Tests.{is_endpoint, among, link_at, object_link, kind_at}
+use Rattle.zt_rows.specs.Tests.{is_endpoint, among, link_at, object_link}
 use Rattle.zt_rows.specs.Collect.{left, without}
 use Rattle.zt_rows.proofs.StateLaws.{row-put-other}
 use Rattle.zt_rows.proofs.RowLaws.{and_left, and_right, or_left, or_right, not_true, true≢false}
-use Rattle.zt_rows.proofs.ReadLaws.{some_one, object-row, message-row, row-without, wait-stayed}
+use Rattle.zt_rows.proofs.ReadLaws.{some_one, object-row, message-row}
 use Rattle.zt_rows.proofs.SoundLaws.{and_no_right}
 use Rattle.zt_cascade.specs.OneByOne.{only, is_named, IsLetGo, by_message, by_link}
-use Rattle.zt_cascade.specs.JoinedLinks.{IsJoined, WaitsForPorts}
+use Rattle.zt_cascade.specs.JoinedLinks.{IsJoined}
 use Rattle.zt_store.specs.Chains.{IsNext}
 use Rattle.zt_store.specs.Criteria.{is_for, waits_where}
 use Rattle.zt_store.specs.StepView.{Stepping}
@@ -190,23 +189,8 @@ packets-step p n S T U some suited partly next =
 
 -- ---- the waits for it
 
-partly-row : (x : ℕ) (S T : State) (k : RowKey) → IsPartly x S T → (row T k ≡ row S k) ⊎ (row T k ≡ row (without S (only x)) k)
-partly-row x S T k h = elim (h.at k) [ inl d ↦ inl d | inr d ↦ inr (d ∙ sym (row-without (only x) S k)) ]
-
-pub partly-wait : (x : ℕ) (S T : State) (n : ℕ) (w : Wait) → IsPartly x S T → wait T n ≡ Some w → wait S n ≡ Some w
-partly-wait x S T n w h e = elim (partly-row x S T (key.Wait n) h) [
-  | inl d ↦ ap as_wait (sym d) ∙ e
-  | inr d ↦ (wait-stayed (only x) S n w (ap as_wait (sym d) ∙ e)).0
-]
-
-pub partly-port : (x : ℕ) (S T : State) (o : ObjectRow) → object S x ≡ Some o → IsPartly x S T → WaitsForPorts S → (n : ℕ) (w : Wait) → wait T n ≡ Some w → w.port ≡ x → o.kind ≡ kind.Port
-partly-port x S T o there h waits n w e mine =
-    let port : kind_at S w.port ≡ Some kind.Port = waits.port n w (partly-wait x S T n w h e) in
-    let here : kind_at S x ≡ Some o.kind = ap (option_map (λ (z : ObjectRow). z.kind)) there in
-    some_one o.kind kind.Port (sym here ∙ ap (kind_at S) (sym mine) ∙ port)
-
--- no wait is for what is not a port
-pub left-unawaited : (x : ℕ) (T : State) → ((n : ℕ) (w : Wait) → wait T n ≡ Some w → w.port ≡ x → ⊥) → (n : ℕ) → IsLeft x T (key.Wait n)
+-- where no wait is for it, waits are left
+left-unawaited : (x : ℕ) (T : State) → ((n : ℕ) (w : Wait) → wait T n ≡ Some w → w.port ≡ x → ⊥) → (n : ℕ) → IsLeft x T (key.Wait n)
 left-unawaited x T none n = left-wait x T n (λ w e. not_true (w.port == x) (λ t. none n w e (eqb-true w.port x t)))
 
 -- a wait that is for the object

@@ -1,10 +1,15 @@
--- Room for the packets that waits become.
-use Rattle.std.specs.Prelude.{◌≡◌, ℕ, ◌^◌, ◌<◌, Some}
+-- Room for the packets that waits become: the numbers that firing raises stay within their types.
+use Rattle.std.specs.Prelude.{◌≡◌, ℕ, ◌^◌, ◌<◌, true, Some}
 use Rattle.zt_rows.specs.declared.rows.Wait.{Wait}
 use Rattle.zt_rows.specs.State.{State}
 use Rattle.zt_rows.specs.Reads.{wait}
+use Rattle.zt_rows.specs.Settle.{is_met, refresh, settle}
 use Rattle.zt_rows.specs.Tests.{next_at}
 
--- the next number of each port that a wait is for leaves room for as many packets as memory has place for waits
+-- the port of each wait that is met in S has in T, to which they fired, a next number within its type
+abbrev pub FiresWithin : State → State → Type 0
+FiresWithin S T = (n : ℕ) (w : Wait) → wait S n ≡ Some w → is_met S w ≡ true → next_at T w.port < 2 ^ 64
+
+-- of the waits that are met once the derived signals are renewed, and settling; of no other wait
 abbrev pub HasRoomToFire : State → Type 0
-HasRoomToFire S = (n : ℕ) (w : Wait) → wait S n ≡ Some w → next_at S w.port < 2 ^ 63
+HasRoomToFire S = FiresWithin (refresh S) (settle S)

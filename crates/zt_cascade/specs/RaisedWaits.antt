@@ -38,6 +38,6 @@ fire_if S n None = S
 abbrev pub fire_number : State → ℕ → State
 fire_number S n = fire_if S n (wait S n)
 
--- the port of the wait has room for its packet
+-- where the wait is met, its port has room for its packet
 abbrev pub HasRoomFor : State → ℕ → Type 0
-HasRoomFor S n = (w : Wait) → wait S n ≡ Some w → next_at S w.port + 1 < 2 ^ 64
+HasRoomFor S n = (w : Wait) → wait S n ≡ Some w → is_met S w ≡ true → next_at S w.port + 1 < 2 ^ 64

@@ -1,15 +1,18 @@
-//! What holds of removal one object at a time. Each law is the contract of a function that does nothing.
-ghost use Rattle.std.specs.Prelude.{◌≡◌, ℕ, Bool, true, false, List};
+//! What holds of removal one object at a time, and of settling. Each law is the contract of a function that does nothing.
+ghost use Rattle.std.specs.Prelude.{◌≡◌, ◌≤◌, ◌<◌, ◌+◌, ℕ, Bool, true, false, List, Option};
 ghost use Rattle.zt_rows.specs.declared.rows.Held.{Held};
+ghost use Rattle.zt_rows.specs.declared.rows.Wait.{Wait};
 ghost use Rattle.zt_rows.specs.State.{State};
 ghost use Rattle.zt_rows.specs.Collect.{collect, goes, without};
 ghost use Rattle.zt_rows.specs.Consistent.{IsSound};
+ghost use Rattle.zt_rows.specs.Reads.{wait};
+ghost use Rattle.zt_rows.specs.Settle.{settle};
 ghost use Rattle.zt_rows.specs.Support.{is_supported};
-ghost use Rattle.zt_rows.specs.Tests.{exists};
+ghost use Rattle.zt_rows.specs.Tests.{exists, next_at};
 ghost use Rattle.zt_store.specs.StepView.{DiffersAtTouched, Stepping};
 ghost use Rattle.zt_cascade.specs.ToldObjects.{IsCovered, NamesLost};
 ghost use Rattle.zt_cascade.specs.OneByOne.{IsLetGo, IsOnTheWay, only};
-ghost use Rattle.zt_cascade.specs.JoinedLinks.{IsJoined, WaitsForPorts};
+ghost use Rattle.zt_cascade.specs.JoinedLinks.{IsJoined};
 
 /// A state is on the way from itself; one more object that goes leads further; and where nothing goes any more,
 /// the way has ended at what collecting gives.
@@ -31,16 +34,15 @@ pub fn removal_keeps_links_joined()
     ensures kept { (S : State) (going : ℕ → Bool) → IsJoined S → IsJoined (without S going) }
 {}
 
-/// Where objects go, waits are still for ports that are there.
-pub fn removal_keeps_ports_of_waits()
-    ensures sound { (S : State) → IsSound S → WaitsForPorts S }
-    ensures kept { (S : State) (going : ℕ → Bool) → WaitsForPorts S → WaitsForPorts (without S going) }
-{}
-
 /// Where every object was supported at the beginning of a step, and what the lost entries and messages named is in
 /// the list, the step and the list tell of every object that goes.
 pub fn what_a_step_loses_is_told()
     ensures { (s : Stepping) (released : List Held)
         → ((x : ℕ) → exists s.beginning x ≡ true → is_supported s.beginning x ≡ true)
         → DiffersAtTouched s → NamesLost s released → IsCovered s released }
+{}
+
+/// Settling raises a next number by no more than there are numbers of waits, so that few waits leave room to fire.
+pub fn settling_raises_few_numbers()
+    ensures { (S : State) (most x : ℕ) → ((n : ℕ) (w : Wait) → wait S n ≡ Option.Some w → n < most) → next_at (settle S) x ≤ next_at S x + most }
 {}

@@ -94,7 +94,7 @@ fn signals_then(step: &Step, koid: Koid) -> u32
 }
 
 /// The signals on the object.
-fn signals_now(step: &Step, koid: Koid) -> u32
+pub(crate) fn signals_now(step: &Step, koid: Koid) -> u32
     ensures { result ≡ signals_at step.now.current koid }
 {
     match step.object(koid) {

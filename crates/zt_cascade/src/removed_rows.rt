@@ -1,20 +1,17 @@
 ghost use Rattle.std.specs.Prelude.{◌≡◌, ◌≤◌, ◌<◌, ◌+◌, ◌++◌, ℕ, true, OnOk, Option, length};
-ghost use Rattle.zt_bits.specs.declared.kinds.Kind.{Kind};
 ghost use Rattle.zt_rows.specs.declared.keys.RowKey.{RowKey};
 ghost use Rattle.zt_rows.specs.declared.keys.RowKey.TheVariants as key;
-ghost use Rattle.zt_rows.specs.declared.rows.Wait.{Wait};
 ghost use Rattle.zt_rows.specs.Collect.{without};
-ghost use Rattle.zt_rows.specs.Reads.{message, object, wait};
+ghost use Rattle.zt_rows.specs.Reads.{message, object};
 ghost use Rattle.zt_rows.specs.Room.{SuitsKey};
 ghost use Rattle.zt_rows.specs.State.{row};
-ghost use Rattle.zt_rows.specs.Tests.{among, is_port};
-ghost use Rattle.zt_cascade.specs.JoinedLinks.{IsJoined, WaitsForPorts};
+ghost use Rattle.zt_rows.specs.Tests.{among};
+ghost use Rattle.zt_cascade.specs.JoinedLinks.{IsJoined};
 ghost use Rattle.zt_cascade.specs.RemovedObject.{IsAhead, IsLeft, AreHandlesListed, IsPartly, handles_in, koids, weight};
 ghost use Rattle.zt_cascade.specs.OneByOne.{IsLetGo, only};
 
 use crate::removed_object::leave;
 use std::alloc::AllocError;
-use zt_bits::Kind;
 use zt_rows::{Held, Koid, ObjectRow, RowKey};
 use zt_store::Step;
 
@@ -27,7 +24,6 @@ pub(crate) fn take_out(
 ) -> Result<(), AllocError>
     requires there { object step.old.current koid ≡ Option.Some found.now }
     requires joined { IsJoined step.old.current }
-    requires waits { WaitsForPorts step.old.current }
     ensures ahead { IsAhead step.old step.new }
     ensures ok { OnOk result (step.new.current ≡ without step.old.current (only koid)) }
     ensures noted { OnOk result ((y : ℕ) → IsLetGo step.old.current koid y → among list.new.items y ≡ true) }
@@ -37,7 +33,7 @@ pub(crate) fn take_out(
     take_row(step, koid, found)?;
     take_messages(step, koid, list)?;
     take_packets(step, koid)?;
-    take_waits(step, koid, found.kind)?;
+    take_waits(step, koid)?;
     list.push(found.link)?;
     Ok(())
 }
@@ -109,24 +105,15 @@ fn take_packets(step: &mut Step, port: Koid) -> Result<(), AllocError>
     Ok(())
 }
 
-/// Takes away the waits for the object, which only a port has. Other waits are not looked at.
-fn take_waits(step: &mut Step, koid: Koid, kind: Kind) -> Result<(), AllocError>
-    requires { (n : ℕ) (w : Wait) → wait step.old.current n ≡ Option.Some w → w.port ≡ koid → kind ≡ Kind.Port }
+/// Takes away the waits for the object, of whatever kind it is. They are found by it, so that other waits are not looked
+/// at.
+fn take_waits(step: &mut Step, koid: Koid) -> Result<(), AllocError>
     ensures ahead { IsAhead step.old step.new }
     ensures partly { OnOk result (IsPartly koid step.old.current step.new.current) }
     ensures waits { OnOk result ((n : ℕ) → IsLeft koid step.new.current (key.Wait n)) }
 {
-    if !is_port(kind) {
-        return Ok(());
-    }
     'waits: while let Some(number) = step.wait_for(koid, None) {
         leave(step, koid, RowKey::Wait(number))?;
     }
     Ok(())
-}
-
-fn is_port(kind: Kind) -> bool
-    ensures { result ≡ is_port kind }
-{
-    kind == Kind::Port
 }

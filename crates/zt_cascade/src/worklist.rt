@@ -7,7 +7,7 @@ ghost use Rattle.zt_rows.specs.Tests.{among, link_at};
 ghost use Rattle.zt_store.specs.Places.{Keeps};
 ghost use Rattle.zt_store.specs.StepView.{Advanced, AsBegun, listed};
 ghost use Rattle.zt_cascade.specs.ToldObjects.{IsCovered, IsListed};
-ghost use Rattle.zt_cascade.specs.JoinedLinks.{IsJoined, WaitsForPorts};
+ghost use Rattle.zt_cascade.specs.JoinedLinks.{IsJoined};
 ghost use Rattle.zt_cascade.specs.RemovedObject.{Covers, IsAhead, weight};
 ghost use Rattle.zt_cascade.specs.OneByOne.{only};
 
@@ -18,11 +18,10 @@ use zt_store::Step;
 
 /// Takes out all objects that nothing supports, with what they own, and what goes after them: "releasing is
 /// collecting". Each object that may go has to be told of, by a handle in the list or by a row put in this step. The
-/// work grows with what goes and with the keys that the step put, and not with the rows that there are; only a port
-/// that goes has all waits looked at. Refused for memory, the step is as it was begun.
+/// work grows with what goes and with the keys that the step put, and not with the rows that there are: the waits for an
+/// object that goes are found by it. Refused for memory, the step is as it was begun.
 pub fn release(step: &mut Step, alloc: Global, released: Vec<Held>) -> Result<(), AllocError>
     requires joined { IsJoined step.old.current }
-    requires waits { WaitsForPorts step.old.current }
     requires covered { IsCovered step.old released.items }
     ensures ok { OnOk result (Advanced step.old step.new (collect step.old.current)) }
     ensures err { OnErr result (AsBegun step.old step.new) }
@@ -38,7 +37,6 @@ pub fn release(step: &mut Step, alloc: Global, released: Vec<Held>) -> Result<()
 /// Takes out what goes. Refused, the step stands in the middle of it.
 fn release_all(step: &mut Step, alloc: Global, released: &[Held]) -> Result<(), AllocError>
     requires joined { IsJoined step.old.current }
-    requires waits { WaitsForPorts step.old.current }
     requires covered { IsCovered step.old released.now }
     ensures ahead { IsAhead step.old step.new }
     ensures ok { OnOk result (step.new.current ≡ collect step.old.current) }
@@ -97,7 +95,6 @@ pub(crate) fn first_link(step: &Step, koid: Koid) -> Koid
 /// Takes out the objects of the list that nothing supports, and what goes after them, until nothing goes.
 fn follow(step: &mut Step, list: Vec<Koid>) -> Result<(), AllocError>
     requires joined { IsJoined step.old.current }
-    requires waits { WaitsForPorts step.old.current }
     requires covered { Covers list.items step.old.current }
     ensures ahead { IsAhead step.old step.new }
     ensures ok { OnOk result (step.new.current ≡ collect step.old.current) }
@@ -112,7 +109,6 @@ fn follow(step: &mut Step, list: Vec<Koid>) -> Result<(), AllocError>
 /// Takes the object out if nothing supports it, and adds to the list what it may let go.
 fn look_at(step: &mut Step, koid: Koid, list: &mut Vec<Koid>) -> Result<(), AllocError>
     requires joined { IsJoined step.old.current }
-    requires waits { WaitsForPorts step.old.current }
     ensures ahead { IsAhead step.old step.new }
     ensures ok { OnOk result (step.new.current ≡ (if goes step.old.current koid then without step.old.current (only koid) else step.old.current)) }
     ensures covered { OnOk result (Covers (koid ∷ list.old.items) step.old.current → Covers list.new.items step.new.current) }

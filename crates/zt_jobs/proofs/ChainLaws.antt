@@ -1,5 +1,5 @@
 -- Chains of links: how many there are above, and that what is under a job is closed under children.
-use Rattle.std.proofs.Common.{◌≡◌, ◌≢◌, ◌≤◌, ◌<◌, ℕ, zero, suc, ◌+◌, ◌-◌, Bool, true, false, not, cond, ◌&&◌, ◌||◌, List, [], ◌∷◌, length, ◌⊎◌, inl, inr, refl, sym, ap, ◌∙◌, subst, arith, add-one}
+use Rattle.std.proofs.Common.{◌≡◌, ◌≤◌, ◌<◌, ℕ, zero, suc, ◌+◌, ◌-◌, Bool, true, false, not, cond, ◌&&◌, ◌||◌, List, [], ◌∷◌, length, ◌⊎◌, inl, inr, refl, sym, ap, ◌∙◌, subst, arith, add-one}
 use Rattle.std.specs.Prelude.{Option, None, Some, ◌==◌}
 use Rattle.std.proofs.lemmas.Bool.{eqb-true, eq-eqb}
 use Rattle.std.proofs.lemmas.Bool.Decides.{nat_tests}
@@ -9,9 +9,9 @@ use Rattle.zt_rows.specs.Reads.{object, is_live_job, is_live_process}
 use Rattle.zt_rows.specs.Tests.{among, link_at, object_link}
 use Rattle.zt_rows.specs.End.{upward, links, chain, depth, is_live_task, is_under}
 use Rattle.zt_rows.specs.Consistent.{IsChild, has_parent, SoundObject, IsSound}
-use Rattle.zt_rows.proofs.RowLaws.{and_left, and_right, or_left, true≢false, not_true}
+use Rattle.zt_rows.proofs.RowLaws.{or_left, not_true}
 use Rattle.zt_rows.proofs.SoundLaws.{task-not-endpoint}
-use Rattle.zt_jobs.specs.TaskTree.{HasParents, is_child_in}
+use Rattle.zt_jobs.specs.TaskTree.{HasParents, IsWalkable}
 
 -- ---- parents
 
@@ -103,7 +103,7 @@ module _ (S : State) (parents : HasParents S) (job : ℕ) where
             ∙ sym (ap (λ b. not (l == 0) && ((l == job) || (b && among (chain S l) job))) w.1)
       ]
 
-  pub under-step : (x : ℕ) → x ≢ job → is_under S job x ≡ is_child_in S (is_under S job) x
+  pub under-step : IsWalkable S job
   under-step x apart =
       let other : (x == job) ≡ false = not_true (x == job) (λ e. apart (eqb-true x job e)) in
       ap (λ b. b || (is_live_task (object S x) && among (chain S x) job)) other
@@ -112,30 +112,9 @@ module _ (S : State) (parents : HasParents S) (job : ℕ) where
         | false ↦ λ _. refl
       ] refl
 
-  pub under-itself : is_under S job job ≡ true
-  under-itself = or_left (job == job) _ (eq-eqb job job refl)
-
-  above-from : (n x : ℕ) → x < n → is_under S job x ≡ true → job ≤ x
-  above-from zero x a under = absurd (omega arith)
-  above-from (suc n) x a under =
-      elim (x == job) as (λ b. (x == job) ≡ b → job ≤ x) [
-        | true ↦ λ e. let same : x ≡ job = eqb-true x job e in omega arith
-        | false ↦ λ e.
-            let child : is_child_in S (is_under S job) x ≡ true = sym (under-step x (λ same. true≢false (x == job) (eq-eqb x job same) e)) ∙ under in
-            let live : is_live_task (object S x) ≡ true = and_left _ _ child in
-            let rest : (not (link_at S x == 0) && is_under S job (link_at S x)) ≡ true = and_right (is_live_task (object S x)) _ child in
-            elim (link-above S parents x live) [
-              | inl z ↦ absurd (true≢false (not (link_at S x == 0)) (and_left _ _ rest) (ap not (eq-eqb (link_at S x) 0 z)))
-              | inr w ↦
-                  let less : link_at S x < x = w.0 in
-                  let le : job ≤ link_at S x = above-from n (link_at S x) (omega arith) (and_right (not (link_at S x == 0)) _ rest) in
-                  omega arith
-            ]
-      ] refl
-
-  -- what is under a job has no smaller koid
-  pub under-above : (x : ℕ) → is_under S job x ≡ true → job ≤ x
-  under-above x under = above-from (x + 1) x (omega arith) under
+-- a job is under itself
+pub under-itself : (S : State) (job : ℕ) → is_under S job job ≡ true
+under-itself S job = or_left (job == job) _ (eq-eqb job job refl)
 
 -- ---- loops over links
 

@@ -5,7 +5,7 @@ ghost use Rattle.zt_rows.specs.State.{change};
 ghost use Rattle.zt_rows.specs.Tests.{among};
 ghost use Rattle.zt_store.specs.Places.{Keeps};
 ghost use Rattle.zt_store.specs.StepView.{Advanced, AsBegun};
-ghost use Rattle.zt_jobs.specs.TaskTree.{HasParents, IsRising};
+ghost use Rattle.zt_jobs.specs.TaskTree.{IsRising, IsWalkable};
 ghost use Rattle.zt_jobs.specs.EndedTasks.{IsAhead, handles_of, left_behind, only, with_end};
 
 use crate::ended_tables::take_tables;
@@ -42,7 +42,7 @@ pub fn end_subtree(
     job: Koid,
     how: Life,
 ) -> Result<Vec<Held>, AllocError>
-    requires { HasParents step.old.current }
+    requires { IsWalkable step.old.current job }
     ensures handles { let S = step.old.current in
         IfOk result (λ taken. taken.items ≡ handles_of S (is_under S job)) }
     ensures ended { let S = step.old.current in

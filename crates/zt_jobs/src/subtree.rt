@@ -1,9 +1,10 @@
-ghost use Rattle.std.specs.Prelude.{◌≡◌, ◌||◌, ℕ, IfOk, OnOk};
+ghost use Rattle.std.specs.Prelude.{◌≡◌, ◌==◌, ◌||◌, ℕ, IfOk, OnOk};
 ghost use Rattle.std.specs.BTreeSet.{contains};
 ghost use Rattle.std.specs.Ordering.{nat_cmp};
 ghost use Rattle.zt_rows.specs.End.{is_under};
 ghost use Rattle.zt_rows.specs.Tests.{among};
-ghost use Rattle.zt_jobs.specs.TaskTree.{HasParents, IsRising, is_child_in};
+ghost use Rattle.zt_jobs.specs.TaskTree.{IsRising, IsWalkable, is_child_in};
+ghost use Rattle.zt_jobs.specs.SubtreeWalk.{IsNoted};
 ghost use Rattle.zt_jobs.specs.EndedTasks.{only};
 
 use std::alloc::{AllocError, Global};
@@ -11,39 +12,81 @@ use std::collections::BTreeSet;
 use zt_rows::Koid;
 use zt_store::Step;
 
-/// The job and what is under it, by rising koids. What is below a member is found by its parent, so that no other
-/// object is looked at. A child has a greater koid than its parent, so that the least koid that was found is the next
-/// member.
+/// The job and what is under it, by rising koids.
 pub(crate) fn members_under(alloc: Global, step: &Step, job: Koid) -> Result<Vec<Koid>, AllocError>
-    requires { HasParents step.now.current }
+    requires { IsWalkable step.now.current job }
     ensures members { IfOk result (λ members. among members.items ≡ is_under step.now.current job) }
     ensures rising { IfOk result (λ members. IsRising members.items) }
 {
-    let mut members = Vec::new(alloc);
-    let mut found = BTreeSet::new(alloc);
-    let mut at = job;
-    'members: loop {
-        members.push(at)?;
-        add_below(&mut found, step, at)?;
-        match found.pop_first() {
-            Some(next) => at = Koid(next),
-            None => return Ok(members),
-        }
-    }
+    let known = known_under(alloc, step, job)?;
+    let members = by_koid(alloc, known)?;
+    Ok(members)
 }
 
-/// Adds the live processes and jobs whose parent is this one.
-fn add_below(found: &mut BTreeSet<u64>, step: &Step, parent: Koid) -> Result<(), AllocError>
-    ensures { OnOk result ((x : ℕ) → contains nat_cmp found.new x
-        ≡ (contains nat_cmp found.old x || is_child_in step.now.current (only parent) x)) }
+/// The job and what is under it. What is below one that is known is found by its parent, so that no other object is
+/// looked at, and each waits for this once.
+fn known_under(alloc: Global, step: &Step, job: Koid) -> Result<BTreeSet<u64>, AllocError>
+    requires { IsWalkable step.now.current job }
+    ensures { IfOk result (λ known. contains nat_cmp known ≡ is_under step.now.current job) }
+{
+    let mut known = BTreeSet::new(alloc);
+    let mut waiting = Vec::new(alloc);
+    note(job, &mut known, &mut waiting)?;
+    for _ in 0..u64::MAX {
+        let Some(at) = waiting.pop() else {
+            return Ok(known);
+        };
+        add_below(step, at, &mut known, &mut waiting)?;
+    }
+    Err(AllocError)
+}
+
+/// Adds the live processes and jobs whose parent is this one to what is known. Those that were not known wait.
+fn add_below(
+    step: &Step,
+    parent: Koid,
+    known: &mut BTreeSet<u64>,
+    waiting: &mut Vec<Koid>,
+) -> Result<(), AllocError>
+    ensures known { OnOk result ((x : ℕ) → contains nat_cmp known.new x
+        ≡ (contains nat_cmp known.old x || is_child_in step.now.current (only parent) x)) }
+    ensures noted { OnOk result (IsNoted (contains nat_cmp known.old) waiting.old.items (contains nat_cmp known.new) waiting.new.items) }
 {
     if parent == Koid(0) {
         return Ok(());
     }
     let mut low = None;
     'tasks: while let Some(task) = step.task_below(parent, low) {
-        found.insert(task.0)?;
+        note(task, known, waiting)?;
         low = Some(task);
     }
     Ok(())
+}
+
+/// Adds the koid to what is known. If it was not known, it waits.
+fn note(koid: Koid, known: &mut BTreeSet<u64>, waiting: &mut Vec<Koid>) -> Result<(), AllocError>
+    ensures known { OnOk result ((x : ℕ) → contains nat_cmp known.new x ≡ (contains nat_cmp known.old x || (koid == x))) }
+    ensures noted { OnOk result (IsNoted (contains nat_cmp known.old) waiting.old.items (contains nat_cmp known.new) waiting.new.items) }
+{
+    let is_new = known.insert(koid.0)?;
+    if !is_new {
+        return Ok(());
+    }
+    waiting.push(koid)?;
+    Ok(())
+}
+
+/// The koids of the set, by rising number.
+fn by_koid(alloc: Global, set: BTreeSet<u64>) -> Result<Vec<Koid>, AllocError>
+    ensures members { IfOk result (λ list. among list.items ≡ contains nat_cmp set) }
+    ensures rising { IfOk result (λ list. IsRising list.items) }
+{
+    let mut left = set;
+    let mut list = Vec::new(alloc);
+    'koids: loop {
+        match left.pop_first() {
+            Some(koid) => list.push(Koid(koid))?,
+            None => return Ok(list),
+        }
+    }
 }

@@ -6,7 +6,7 @@ use Rattle.zt_rows.specs.State.{State}
 use Rattle.zt_rows.specs.Collect.{collect}
 use Rattle.zt_rows.specs.Step.{direct}
 use Rattle.zt_rows.specs.Consistent.{IsConsistent}
-use Rattle.zt_cascade.proofs.JoinedLaws.{sound-joined, sound-waits}
+use Rattle.zt_cascade.proofs.JoinedLaws.{sound-joined}
 use Rattle.zt_cascade.proofs.CoveredLaws.{lost-covered}
 use Rattle.zt_cascade.specs.PacketRoom.{HasRoomToFire}
 use Rattle.zt_calls.proofs.CallerLaws.{sound_after}
@@ -16,11 +16,6 @@ use Rattle.zt_calls.proofs.applied_call.carried_out.Goals as goal
 pub release-requires-clause-joined : goal.release-requires-clause-joined
 release-requires-clause-joined c =
     sound-joined c.direct.new.step.current
-    (sound_after c.args.step.now.current c.direct.new.step.current c.args.process c.args.call.now c.in_ok-reply.reply c.in_ok-reply.ensures.ok c.requires.consistent.sound c.requires.running c.requires.limits)
-
-pub release-requires-clause-waits : goal.release-requires-clause-waits
-release-requires-clause-waits c =
-    sound-waits c.direct.new.step.current
     (sound_after c.args.step.now.current c.direct.new.step.current c.args.process c.args.call.now c.in_ok-reply.reply c.in_ok-reply.ensures.ok c.requires.consistent.sound c.requires.running c.requires.limits)
 
 pub release-requires-clause-covered : goal.release-requires-clause-covered

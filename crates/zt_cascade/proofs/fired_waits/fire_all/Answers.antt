@@ -1,6 +1,9 @@
-use Rattle.std.proofs.Common.{◌<◌, ◌^◌, ap, ◌∙◌, arith}
+use Rattle.std.proofs.Common.{◌≡◌, refl, sym, ap, ◌∙◌, subst}
 use Rattle.std.specs.List.{fold}
 use Rattle.std.proofs.lemmas.List.Sorted.{IsNonDecreasingBy-from_sort}
+use Rattle.zt_rows.specs.Reads.{waits}
+use Rattle.zt_rows.specs.Settle.{fire}
+use Rattle.zt_cascade.specs.PacketRoom.{FiresWithin}
 use Rattle.zt_cascade.specs.RaisedWaits.{fire_number}
 use Rattle.zt_cascade.proofs.ListLaws.{fold-all}
 use Rattle.zt_cascade.proofs.FiredLaws.{fired_by_number}
@@ -9,8 +12,13 @@ use Rattle.zt_cascade.proofs.fired_waits.fire_all.Goals as goal
 
 pub fire_number-requires : goal.fire_number-requires
 fire_number-requires c =
-    let few : c.loop-number.number-index < 2 ^ 63 = omega (arith, c.deref-number-items.type_inv.1) in
-    room-numbers c.args.step.now.current c.loop-number.step.current c.deref-number-items.result.now c.loop-number.number-index _ c.requires.room few c.loop-number.invariant.current
+    let S = c.args.step.now.current in
+    let all : fold fire_number S c.deref-number-items.result.now ≡ fold fire S (waits S) =
+    ap (fold fire_number S) c.deref-number-items.ensures.value
+    ∙ fired_by_number S c.in_ok-numbers.numbers.items c.sort_unstable.new.self.items c.in_ok-numbers.ensures c.sort_unstable.ensures.permutation
+    (IsNonDecreasingBy-from_sort (λ x. x) c.sort_unstable.new.self.items c.sort_unstable.ensures.sorted) in
+    room-numbers S c.loop-number.step.current c.deref-number-items.result.now c.loop-number.number-index _ _ (subst (FiresWithin S) (sym all) c.requires.room)
+    c.loop-number-test.true refl c.loop-number.invariant.current
 
 pub returns-clause-ok : goal.returns-clause-ok
 returns-clause-ok c =

@@ -1,19 +1,7 @@
 use Rattle.std.proofs.Common.{ap, ◌∙◌}
 use Rattle.zt_rows.specs.Tests.{among}
-use Rattle.zt_cascade.specs.RemovedObject.{IsPartly}
-use Rattle.zt_cascade.proofs.LeavingLaws.{partly-then}
-use Rattle.zt_cascade.proofs.TakingLaws.{partly-port, taken-out, taken-noted}
+use Rattle.zt_cascade.proofs.TakingLaws.{taken-out, taken-noted}
 use Rattle.zt_cascade.proofs.removed_rows.take_out.Goals as goal
-
-pub take_waits-requires : goal.take_waits-requires
-take_waits-requires c =
-    let x = c.args.koid in
-    let S = c.args.step.now.current in
-    let A = c.take_row.new.step.current in
-    let B = c.take_messages.new.step.current in
-    let C = c.take_packets.new.step.current in
-    let ac : IsPartly x A C = partly-then x A B C c.in_ok-take_messages.ensures.partly c.in_ok-take_packets.ensures.partly in
-    partly-port x S C c.args.found.now c.requires.there (partly-then x S A C c.in_ok-take_row.ensures.partly ac) c.requires.waits
 
 pub returns-clause-ok : goal.returns-clause-ok
 returns-clause-ok c =

@@ -1,18 +1,9 @@
-use Rattle.std.proofs.Common.{◌≡◌, Some, true, false, sym, ap, ◌∙◌, subst}
+use Rattle.std.proofs.Common.{Some, subst}
 use Rattle.std.specs.Prelude.{None}
-use Rattle.zt_rows.specs.Tests.{is_port}
-use Rattle.zt_rows.proofs.RowLaws.{true≢false}
 use Rattle.zt_store.specs.Chains.{IsNext}
 use Rattle.zt_store.specs.Criteria.{is_for, waits_where}
-use Rattle.zt_cascade.proofs.TakingLaws.{ahead-then, left-unawaited, waits-step, waits-end}
+use Rattle.zt_cascade.proofs.TakingLaws.{ahead-then, waits-step, waits-end}
 use Rattle.zt_cascade.proofs.removed_rows.take_waits.Goals as goal
-
-pub returns-then-not-is_port-clause-waits : goal.returns-then-not-is_port-clause-waits
-returns-then-not-is_port-clause-waits c =
-    left-unawaited c.args.koid c.args.step.now.current (λ n w e mine.
-    let port : is_port c.args.kind ≡ true = ap is_port (c.requires n w e mine) in
-    let none : is_port c.args.kind ≡ false = sym c.is_port.ensures ∙ c.if-not-is_port.true in
-    true≢false (is_port c.args.kind) port none)
 
 pub waits-smaller : goal.waits-smaller
 waits-smaller c =

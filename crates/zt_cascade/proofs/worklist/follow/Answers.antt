@@ -1,14 +1,13 @@
 use Rattle.std.proofs.Common.{sym, ◌∙◌}
 use Rattle.zt_cascade.proofs.OnTheWayLaws.{on_the_way-begun}
 use Rattle.zt_cascade.proofs.TakingLaws.{ahead-itself, ahead-then}
-use Rattle.zt_cascade.proofs.ReleasingLaws.{covers-last, joined-looked, waits-looked, way-looked, looks-end}
+use Rattle.zt_cascade.proofs.ReleasingLaws.{covers-last, joined-looked, way-looked, looks-end}
 use Rattle.zt_cascade.proofs.worklist.follow.Goals as goal
 
 pub loop-koid-init : goal.loop-koid-init
 loop-koid-init c = record {
   ahead = ahead-itself c.args.step.now;
   joined = c.requires.joined;
-  waits = c.requires.waits;
   covered = c.requires.covered;
   way = on_the_way-begun c.args.step.now.current;
 }
@@ -21,7 +20,6 @@ loop-koid-preserved c =
     record {
       ahead = ahead-then c.args.step.now c.loop-koid.step c.look_at.new.step c.loop-koid.invariant.ahead c.look_at.ensures.ahead;
       joined = joined-looked T U x c.in_ok-look_at.ensures.ok c.loop-koid.invariant.joined;
-      waits = waits-looked T U x c.in_ok-look_at.ensures.ok c.loop-koid.invariant.waits;
       covered = c.in_ok-look_at.ensures.covered (covers-last x T c.loop-koid.list.items c.pop.new.self.items c.in-Some.ensures.items c.loop-koid.invariant.covered);
       way = way-looked c.args.step.now.current T U x c.in_ok-look_at.ensures.ok c.loop-koid.invariant.way;
     }

@@ -1,5 +1,5 @@
 use Rattle.std.proofs.Common.{◌+◌, length}
-use Rattle.zt_cascade.specs.JoinedLinks.{IsJoined, WaitsForPorts}
+use Rattle.zt_cascade.specs.JoinedLinks.{IsJoined}
 use Rattle.zt_cascade.specs.RemovedObject.{Covers, IsAhead, weight}
 use Rattle.zt_cascade.specs.OneByOne.{IsOnTheWay}
 use Rattle.zt_cascade.proofs.worklist.follow.Given as goal
@@ -8,7 +8,6 @@ abbrev pub invariant-loop-koid : goal.invariant-loop-koid
 invariant-loop-koid l = record {
   ahead : IsAhead l.fn.step l.step;
   joined : IsJoined l.step.current;
-  waits : WaitsForPorts l.step.current;
   covered : Covers l.list.items l.step.current;
   way : IsOnTheWay l.fn.step.current l.step.current;
 }
