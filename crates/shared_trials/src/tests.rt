@@ -1,3 +1,4 @@
+mod branches;
 mod commands;
 mod opened_books;
 mod same_logs;

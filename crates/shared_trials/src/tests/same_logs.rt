@@ -89,6 +89,14 @@ fn tells_row(alloc: Global, row: &Recorded, told: Told) -> bool {
     }
 }
 
+/// Whether the last row of the log has this command and these lines.
+pub(super) fn tells_last(alloc: Global, log: &Log, told: Told) -> bool {
+    match log.rows().last() {
+        Some(row) => tells_row(alloc, row, told) || tells_row(alloc, row, told),
+        None => false,
+    }
+}
+
 /// Whether the log has just these rows.
 pub(super) fn tells(alloc: Global, log: &Log, told: &[Told]) -> bool {
     let mut number: usize = 0;

@@ -48,7 +48,12 @@ fn settled<A: Naming + Beginning, B: Naming, C: Naming, D: Naming, R: Wait>(
 }
 
 /// Why a client's line is refused by the other book, if it is.
-fn twin_refusal(alloc: Global, twin: &mut Book, client: u8, line: &str) -> Option<Refusal> {
+pub(super) fn twin_refusal(
+    alloc: Global,
+    twin: &mut Book,
+    client: u8,
+    line: &str,
+) -> Option<Refusal> {
     if client < 1 || twin.clients() < client {
         return Some(Refusal::TooManyClients);
     }

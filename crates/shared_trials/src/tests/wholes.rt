@@ -1,7 +1,7 @@
 //! Commands of which each is answered whole or not at all, with each request for memory refused in turn.
 
 use super::commands::mark;
-use super::same_logs::looks_same;
+use super::same_logs::{Told, looks_same, tells_last};
 use super::twins::{Twins, refusal, twin_settled};
 use std::alloc::Global;
 use std::sync::Wait;
@@ -13,45 +13,80 @@ use zt_shared::{Beginning, Shared};
 /// A client with its line.
 type Asked = (u8, &'static str);
 
-/// A channel and an event are made, and the clients stand apart.
-const BEFORE: [Asked; 4] = [
-    (1, "1025 channel_create"),
+/// A channel, of which client 2 closes an end.
+const CHANNEL: [Asked; 1] = [(1, "1025 channel_create")];
+
+/// A channel and an event of client 2, and the clients stand apart.
+const APART: [Asked; 4] = [
+    (2, "1025 channel_create"),
     (2, "1025 event_create"),
     (1, "branch fix"),
     (1, "goto 1"),
 ];
 
-/// What is looked at: where each client stands, each moment with its rows, that there is no further moment, and the heads
-/// of both branches. In the end both clients follow `main`.
-const LOOKS: [Asked; 11] = [
+/// What is looked at: where each client stands, each moment with its rows, that there is no further moment, what keeps an
+/// end of the first channel, and the heads of both branches. In the end both clients follow `main`.
+const LOOKS: [Asked; 18] = [
     (1, "show"),
     (2, "show"),
+    (1, "holders 1026"),
     (1, "goto 0"),
+    (1, "show"),
+    (1, "goto 1"),
     (1, "show"),
     (1, "goto 2"),
     (1, "show"),
     (1, "goto 3"),
+    (1, "show"),
     (1, "goto 4"),
+    (1, "show"),
+    (1, "goto 5"),
+    (1, "goto 6"),
     (2, "follow fix"),
     (1, "follow main"),
     (2, "follow main"),
 ];
 
-/// What client 2 asks: a message that takes the event along.
-const ASKED: &str = "1025 channel_write 7 6869 15";
+/// Client 2 closes an end of the channel.
+const CLOSED: Told = (2, "1025 handle_close 11", "2 ok\n");
+
+/// Client 2 sends a message that takes its event along.
+const SENT: Told = (2, "1025 channel_write 15 6869 23", "5 ok\n");
+
+/// Client 2 pins the moment of the channel.
+const PINNED: Told = (2, "pin", "pinned 1\n");
+
+/// Client 2 pins the moment of its event.
+const PINNED_APART: Told = (2, "pin", "pinned 3\n");
 
 // No clause tells what these give, so that who asks for them is proved without going over their bytes.
 
-fn before() -> &'static [Asked] {
-    BEFORE.as_slice()
+fn channel() -> &'static [Asked] {
+    CHANNEL.as_slice()
+}
+
+fn apart() -> &'static [Asked] {
+    APART.as_slice()
 }
 
 fn looks() -> &'static [Asked] {
     LOOKS.as_slice()
 }
 
-fn asked() -> &'static str {
-    ASKED
+fn closed() -> Told {
+    CLOSED
+}
+
+fn sent() -> Told {
+    SENT
+}
+
+fn pinned_first() -> Told {
+    PINNED
+}
+
+fn pinned_apart() -> Told {
+    PINNED_APART
 }
 
 fn asks_all<A: Naming + Beginning, B: Naming, C: Naming, D: Naming, R: Wait>(
@@ -87,8 +122,9 @@ fn is_answered<A: Naming + Beginning, B: Naming, C: Naming, D: Naming, R: Wait>(
     alloc: Global,
     shared: &Shared<A, B, C, D>,
     twins: &mut Twins<A, B, C, D>,
+    line: &str,
 ) -> bool {
-    refusal(rt, alloc, shared, &mut twins.two, asked()).is_none()
+    refusal(rt, alloc, shared, &mut twins.two, line).is_none()
 }
 
 /// Whether the line is answered, if not at once then after a refusal that nothing shows.
@@ -97,23 +133,40 @@ fn is_answered_whole<A: Naming + Beginning, B: Naming, C: Naming, D: Naming, R: 
     alloc: Global,
     shared: &Shared<A, B, C, D>,
     twins: &mut Twins<A, B, C, D>,
+    line: &str,
 ) -> bool {
-    is_answered(rt, alloc, shared, twins)
-        || (is_twin(rt, alloc, shared, twins) && is_answered(rt, alloc, shared, twins))
+    is_answered(rt, alloc, shared, twins, line)
+        || (is_twin(rt, alloc, shared, twins) && is_answered(rt, alloc, shared, twins, line))
 }
 
-/// Whether client 2's command is answered whole or not at all.
+/// Whether client 2's command is answered whole or not at all, and as told.
+fn is_told_whole<A: Naming + Beginning, B: Naming, C: Naming, D: Naming, R: Wait>(
+    rt: &R,
+    alloc: Global,
+    shared: &Shared<A, B, C, D>,
+    twins: &mut Twins<A, B, C, D>,
+    told: Told,
+) -> bool {
+    let (client, line, _) = told;
+    mark(alloc)
+        && is_answered_whole(rt, alloc, shared, twins, line)
+        && twin_settled(alloc, &mut twins.twin, client, line).is_none()
+        && tells_last(alloc, twins.twin.log(), told)
+        && is_twin(rt, alloc, shared, twins)
+}
+
+/// Whether two commands of client 2 are answered whole or not at all: one that closes an end of client 1's channel, and,
+/// where the clients stand apart, one that sends a message.
 pub(super) fn is_ask_whole<A: Naming + Beginning, B: Naming, C: Naming, D: Naming, R: Wait>(
     rt: &R,
     alloc: Global,
     shared: &Shared<A, B, C, D>,
     twins: &mut Twins<A, B, C, D>,
 ) -> bool {
-    asks_all(rt, alloc, shared, twins, before())
-        && mark(alloc)
-        && is_answered_whole(rt, alloc, shared, twins)
-        && twin_settled(alloc, &mut twins.twin, 2, asked()).is_none()
-        && is_twin(rt, alloc, shared, twins)
+    asks_all(rt, alloc, shared, twins, channel())
+        && is_told_whole(rt, alloc, shared, twins, closed())
+        && asks_all(rt, alloc, shared, twins, apart())
+        && is_told_whole(rt, alloc, shared, twins, sent())
 }
 
 /// What client 2 pins, if not at once then after a refusal that nothing shows.
@@ -178,16 +231,30 @@ fn twin_pinned(twin: &mut Book) -> Option<Frozen> {
     }
 }
 
-/// Whether client 2's pin is answered whole or not at all.
+/// Whether two pins of client 2 are answered whole or not at all: that of a channel, and one where the clients stand apart.
 pub(super) fn is_pin_whole<A: Naming + Beginning, B: Naming, C: Naming, D: Naming, R: Wait>(
     rt: &R,
     alloc: Global,
     shared: &Shared<A, B, C, D>,
     twins: &mut Twins<A, B, C, D>,
 ) -> bool {
-    asks_all(rt, alloc, shared, twins, before())
-        && mark(alloc)
+    asks_all(rt, alloc, shared, twins, channel())
+        && is_pinned_whole(rt, alloc, shared, twins, pinned_first())
+        && asks_all(rt, alloc, shared, twins, apart())
+        && is_pinned_whole(rt, alloc, shared, twins, pinned_apart())
+}
+
+/// Whether client 2's pin is answered whole or not at all, and as told.
+fn is_pinned_whole<A: Naming + Beginning, B: Naming, C: Naming, D: Naming, R: Wait>(
+    rt: &R,
+    alloc: Global,
+    shared: &Shared<A, B, C, D>,
+    twins: &mut Twins<A, B, C, D>,
+    told: Told,
+) -> bool {
+    mark(alloc)
         && pins_same(rt, alloc, shared, twins)
+        && tells_last(alloc, twins.twin.log(), told)
         && is_twin(rt, alloc, shared, twins)
 }
 

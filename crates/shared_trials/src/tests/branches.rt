@@ -1,0 +1,164 @@
+//! A run of two branches, served to a book of one thread beside its twin, in which a branch is made and rows are shown with
+//! each request for memory refused in turn.
+
+use super::commands::mark;
+use super::same_logs::{Told, is_same_log, tells_last};
+use super::twins::{twin_refusal, twin_settled};
+use std::alloc::Global;
+use zt_book::Book;
+
+/// A client with its line.
+type Asked = (u8, &'static str);
+
+/// Three events on `main`, and back to the opening.
+const EVENTS: [Asked; 4] = [
+    (1, "1025 event_create"),
+    (1, "1025 event_create"),
+    (1, "1025 event_create"),
+    (1, "back 3"),
+];
+
+/// A port and a channel on the new branch, and by way of `main` back to them.
+const FIX: [Asked; 4] = [
+    (1, "1025 port_create"),
+    (1, "1025 channel_create"),
+    (1, "follow main"),
+    (1, "goto 5"),
+];
+
+/// Back to the events.
+const BACK: [Asked; 1] = [(1, "goto 3")];
+
+/// What is looked at: where client 1 stands, and by client 2 each moment with its rows, that there is no further moment, the
+/// parent of the last, what keeps the root job, and the heads of both branches.
+const LOOKS: [Asked; 20] = [
+    (1, "show"),
+    (2, "goto 0"),
+    (2, "show"),
+    (2, "goto 1"),
+    (2, "show"),
+    (2, "goto 2"),
+    (2, "show"),
+    (2, "goto 3"),
+    (2, "show"),
+    (2, "holders 1024"),
+    (2, "goto 4"),
+    (2, "show"),
+    (2, "back 1"),
+    (2, "goto 5"),
+    (2, "show"),
+    (2, "back 1"),
+    (2, "goto 6"),
+    (2, "follow fix"),
+    (2, "show"),
+    (2, "follow main"),
+];
+
+const BRANCH: Told = (1, "branch fix", "branch fix 0\n");
+
+const SHOWN_FIX: Told = (
+    1,
+    "show",
+    "rows 5 10\ncounters 1029 0\nobject 1024 job 0x00000010 0 live 0\nobject 1025 process 0x00000000 1024 live 4\nobject 1026 port 0x00000000 0 live 0\nobject 1027 channel 0x00000002 1028 live 0\nobject 1028 channel 0x00000002 1027 live 0\nentry 1025 3 1024 0x0003d203\nentry 1025 7 1026 0x0000800f\nentry 1025 11 1027 0x0000f00e\nentry 1025 15 1028 0x0000f00e\n",
+);
+
+const SHOWN_MAIN: Told = (
+    1,
+    "show",
+    "rows 3 10\ncounters 1029 0\nobject 1024 job 0x00000010 0 live 0\nobject 1025 process 0x00000000 1024 live 4\nobject 1026 event 0x00000000 0 live 0\nobject 1027 event 0x00000000 0 live 0\nobject 1028 event 0x00000000 0 live 0\nentry 1025 3 1024 0x0003d203\nentry 1025 7 1026 0x0000d003\nentry 1025 11 1027 0x0000d003\nentry 1025 15 1028 0x0000d003\n",
+);
+
+// No clause tells what these give, so that who asks for them is proved without going over their bytes.
+
+fn events() -> &'static [Asked] {
+    EVENTS.as_slice()
+}
+
+fn fix() -> &'static [Asked] {
+    FIX.as_slice()
+}
+
+fn back() -> &'static [Asked] {
+    BACK.as_slice()
+}
+
+fn looks() -> &'static [Asked] {
+    LOOKS.as_slice()
+}
+
+fn branch() -> Told {
+    BRANCH
+}
+
+fn shown_fix() -> Told {
+    SHOWN_FIX
+}
+
+fn shown_main() -> Told {
+    SHOWN_MAIN
+}
+
+/// Whether both books answer each of the lines, or refuse it for one cause.
+fn serve_all(alloc: Global, tried: &mut Book, twin: &mut Book, lines: &[Asked]) -> bool {
+    for (client, line) in lines {
+        if twin_settled(alloc, tried, *client, line) != twin_settled(alloc, twin, *client, line) {
+            return false;
+        }
+    }
+    true
+}
+
+/// Whether nothing tells the books apart, neither what is looked at nor any row of the log.
+fn is_twin(alloc: Global, tried: &mut Book, twin: &mut Book) -> bool {
+    serve_all(alloc, tried, twin, looks()) && is_same_log(alloc, tried.log(), twin.log())
+}
+
+fn is_served(alloc: Global, tried: &mut Book, told: Told) -> bool {
+    let (client, line, _) = told;
+    twin_refusal(alloc, tried, client, line).is_none()
+}
+
+/// Whether the line is answered, if not at once then after a refusal that nothing shows.
+fn is_served_whole(alloc: Global, tried: &mut Book, twin: &mut Book, told: Told) -> bool {
+    is_served(alloc, tried, told) || (is_twin(alloc, tried, twin) && is_served(alloc, tried, told))
+}
+
+/// Whether the line is answered whole or not at all, and as told.
+fn is_told_whole(alloc: Global, tried: &mut Book, twin: &mut Book, told: Told) -> bool {
+    mark(alloc)
+        && is_served_whole(alloc, tried, twin, told)
+        && tells_last(alloc, tried.log(), told)
+        && (is_served(alloc, twin, told) || is_served(alloc, twin, told))
+        && is_twin(alloc, tried, twin)
+}
+
+/// Whether the run goes so.
+fn is_run_whole(alloc: Global, tried: &mut Book, twin: &mut Book) -> bool {
+    serve_all(alloc, tried, twin, events())
+        && is_told_whole(alloc, tried, twin, branch())
+        && serve_all(alloc, tried, twin, fix())
+        && is_told_whole(alloc, tried, twin, shown_fix())
+        && serve_all(alloc, tried, twin, back())
+        && is_told_whole(alloc, tried, twin, shown_main())
+}
+
+/// Whether it does so over this book and a new one.
+fn holds_beside(alloc: Global, tried: &mut Book) -> bool {
+    match Book::new(alloc, 2) {
+        Ok(mut twin) => is_run_whole(alloc, tried, &mut twin),
+        Err(_) => false,
+    }
+}
+
+/// Whether it does so over two new books.
+fn holds(alloc: Global) -> bool {
+    match Book::new(alloc, 2) {
+        Ok(mut tried) => holds_beside(alloc, &mut tried),
+        Err(_) => false,
+    }
+}
+
+#[test]
+fn refused_after_mark_no_branch_is_half_made(rt: HostRuntime) {
+    assert!(rt; holds(rt.alloc()));
+}
