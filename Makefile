@@ -3,19 +3,27 @@
 # make quick       runs the program on standard input before any proof
 # make try-cases   runs the worked runs before any proof, and says of each whether it went as told
 # make run         proves and builds the program, and runs it on standard input
-# make install     copies the program to $(PREFIX)/bin
+# make install     puts the program, its page, the completions of shells and the examples below $(PREFIX), with $(DESTDIR)
+#                  before it; PROGRAM=PATH installs that program, and builds nothing
+# make uninstall   takes them away
 # make edits       tries the edits of crates/NAME/edits, each of which the prover has to refuse
-# make try-program tries what users meet of bin/zxtt: exit statuses, tutorial, worked runs, sockets, large traces
+# make try-program tries what users meet of bin/zxtt: exit statuses, pages, what is installed, worked runs, sockets, large traces
 # make cases       proves and runs the worked runs alone, and says of each whether it went as told
 # make statuses    meets each exit status of the program once
-# make tutorial    replays the tutorial and the call pages, and says where the program prints something else
+# make tutorial    replays README, the tutorial, FORMATS, the call pages and the examples, and says where the program prints
+#                  something else
+# make installed   installs bin/zxtt in a folder of its own and tries what is there, completions and page too
 # make wrong-bodies  puts bodies that no contract refuses into a copy, and says whether a trial tells each
 # make refusals    refuses each request for memory in turn, in the tests that are to pass whichever it is
 # make times       what each crate costs the gate, in processor seconds
 # make bench       how the cost of a call grows with the calls before it
 PREFIX ?= /usr/local
+PROGRAM =
+SHARE = $(DESTDIR)$(PREFIX)/share
+EXAMPLES = $(notdir $(wildcard examples/*))
 
-.PHONY: all test quick try-cases run install edits try-program cases statuses tutorial wrong-bodies refusals times bench
+.PHONY: all test quick try-cases run install uninstall edits try-program cases statuses tutorial installed wrong-bodies refusals \
+	times bench
 
 all:
 	tools/build zxtt
@@ -33,8 +41,22 @@ try-cases:
 run: all
 	bin/zxtt
 
-install: all
-	mkdir -p $(DESTDIR)$(PREFIX)/bin && cp bin/zxtt $(DESTDIR)$(PREFIX)/bin/zxtt
+install: $(if $(PROGRAM),,all)
+	install -d "$(DESTDIR)$(PREFIX)/bin" "$(SHARE)/man/man1" "$(SHARE)/bash-completion/completions" \
+		"$(SHARE)/zsh/site-functions" "$(SHARE)/fish/vendor_completions.d" "$(SHARE)/doc/zxtt/examples"
+	install -m 755 "$(or $(PROGRAM),bin/zxtt)" "$(DESTDIR)$(PREFIX)/bin/zxtt"
+	install -m 644 docs/zxtt.1 "$(SHARE)/man/man1/zxtt.1"
+	tools/completions bash "$(DESTDIR)$(PREFIX)/bin/zxtt" >"$(SHARE)/bash-completion/completions/zxtt"
+	tools/completions zsh "$(DESTDIR)$(PREFIX)/bin/zxtt" >"$(SHARE)/zsh/site-functions/_zxtt"
+	tools/completions fish "$(DESTDIR)$(PREFIX)/bin/zxtt" >"$(SHARE)/fish/vendor_completions.d/zxtt.fish"
+	for each in $(EXAMPLES); do install -m 644 "examples/$$each" "$(SHARE)/doc/zxtt/examples/$$each" || exit 1; done
+
+uninstall:
+	rm -f "$(DESTDIR)$(PREFIX)/bin/zxtt" "$(SHARE)/man/man1/zxtt.1" "$(SHARE)/bash-completion/completions/zxtt" \
+		"$(SHARE)/zsh/site-functions/_zxtt" "$(SHARE)/fish/vendor_completions.d/zxtt.fish"
+	for each in $(EXAMPLES); do rm -f "$(SHARE)/doc/zxtt/examples/$$each"; done
+	for each in "$(SHARE)/doc/zxtt/examples" "$(SHARE)/doc/zxtt"; do \
+		if [ -d "$$each" ] && [ -z "$$(ls -A "$$each")" ]; then rmdir "$$each"; fi; done
 
 edits:
 	tools/edits
@@ -51,6 +73,9 @@ statuses: all
 
 tutorial: all
 	tools/tutorial
+
+installed: all
+	tools/installed
 
 wrong-bodies:
 	tools/wrong-bodies
