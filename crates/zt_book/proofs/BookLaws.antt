@@ -1,12 +1,12 @@
 -- What a book keeps while a command is answered and written, and while the last one is taken back.
 use Rattle.std.proofs.Common.{◌≡◌, ℕ, ◌≤◌, ◌<◌, List, [], ◌∷◌, ◌++◌, length, Option, Some, None, Ok, sym, ◌∙◌, ap, subst, arith, length-append}
-use Rattle.zt_history.specs.Branches.{without_last}
+use Rattle.zt_history.specs.ProofsOnly.Branches.{without_last}
 use Rattle.zt_book.specs.declared.book.LastServed.{LastServed}
 use Rattle.zt_book.specs.declared.client.Client.{Client}
 use Rattle.zt_book.specs.declared.log.Recorded.{Recorded}
 use Rattle.zt_book.specs.Session.{client_of, session_over, serve}
 use Rattle.zt_book.specs.Log.{SessionLog, IsCounted, IsLoaded, IsWholeLog, ReplaysOver}
-use Rattle.zt_book.specs.Clients.{ClientsView, Stand, IsOneMore, session_before, before_of, CanTakeBack, IsBook}
+use Rattle.zt_book.specs.ProofsOnly.Clients.{ClientsView, Stand, IsOneMore, session_before, before_of, CanTakeBack, IsBook}
 use Rattle.zt_book.proofs.ListLaws.{without_last-push}
 use Rattle.zt_book.proofs.ServedLaws.{one-more-length}
 use Rattle.zt_book.proofs.CountLaws.{counted-none, counted-row}

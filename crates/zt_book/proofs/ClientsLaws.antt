@@ -27,7 +27,7 @@ use Rattle.zt_queries.specs.HappeningTimes.{happens, last_on, is_known, when_on,
 use Rattle.zt_bits.specs.declared.kinds.Kind.{Kind}
 use Rattle.std.specs.Option.{option_map}
 use Rattle.zt_rows.specs.declared.calls.Event.{Event}
-use Rattle.zt_book.specs.Clients.{IsCursor, IsPinnedMoment, IsClient, AreClients}
+use Rattle.zt_book.specs.ProofsOnly.Clients.{IsCursor, IsPinnedMoment, IsClient, AreClients}
 use Rattle.zt_book.proofs.LoadLaws.{moments-called, branches-called}
 use Rattle.zt_book.specs.declared.client.Client.{Client}
 use Rattle.zt_book.specs.declared.client.Cursor.{Cursor}

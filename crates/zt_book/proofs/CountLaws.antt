@@ -11,7 +11,7 @@ use Rattle.zt_book.specs.declared.log.Recorded.{Recorded}
 use Rattle.zt_book.specs.Session.{Session, first_client, client_of, session_over, most_rows}
 use Rattle.zt_book.specs.Log.{rows_of, IsOf, IsCounted}
 use Rattle.zt_book.proofs.ListLaws.{all-append}
-use Rattle.zt_book.specs.Clients.{IsOneMore}
+use Rattle.zt_book.specs.ProofsOnly.Clients.{IsOneMore}
 use Rattle.zt_book.proofs.ServedLaws.{one-more-length}
 
 -- ---- no row yet

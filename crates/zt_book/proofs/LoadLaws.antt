@@ -11,7 +11,8 @@ use Rattle.zt_history.specs.HistoryRefusals.{check, ◌>>=◌, call_on, most_mom
 use Rattle.zt_history.specs.Tree.{Tree, Branch, opening_tree, last_moment, state_at, head_at, headed, called, made_by}
 use Rattle.zt_rows.specs.declared.calls.Answer.TheVariants as answer
 use Rattle.std.specs.Prelude.{nat_lt}
-use Rattle.zt_book.specs.Log.{loaded, loaded_behind, loaded_from, fault_at, IsUnloadedBy, IsUnloaded, IsLoaded}
+use Rattle.zt_book.specs.Log.{loaded, loaded_behind, loaded_from, IsUnloadedBy, IsUnloaded, IsLoaded}
+use Rattle.zt_book.specs.ProofsOnly.Log.{fault_at}
 use Rattle.zt_book.proofs.ServedLaws.{behind, last}
 
 -- ---- a call that is answered

@@ -18,7 +18,7 @@ use Rattle.zt_queries.specs.HappeningTimes.{when_on}
 use Rattle.zt_book.specs.declared.client.Client.{Client}
 use Rattle.zt_book.specs.declared.client.Cursor.TheVariants.{Follows, At}
 use Rattle.zt_book.specs.Session.{Session, first_client, most_rows, is_name, client_of, with_client, standing, position_of, state_of, followed, ancestor, branch_found, event_at, counted, asked, serve, call_by, goto_by, back_by, branch_by, follow_by, show_to, holders_to, leaks_to, when_to, pin_to, IsCommandRefusal}
-use Rattle.zt_book.specs.Clients.{ClientsView, IsOneMore, session_before}
+use Rattle.zt_book.specs.ProofsOnly.Clients.{ClientsView, IsOneMore, session_before}
 use Rattle.zt_book.proofs.ListLaws.{set-again}
 
 -- ---- checks in a row

@@ -1,4 +1,5 @@
 -- Definitions to believe: public clauses are stated in them.
 pub mod Session
 pub mod Log
-pub mod Clients
+-- Used by proofs only: no public clause depends on them.
+pub mod ProofsOnly

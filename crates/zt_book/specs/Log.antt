@@ -88,11 +88,6 @@ IsUnloadedBy true whole fault = fault ≡ (0, refusal.TooManyClients)
 IsUnloadedBy false (Err first) fault = (fault ≡ first) ⊎ (fault ≡ (0, refusal.OutOfMemory))
 IsUnloadedBy false (Ok t) fault = fault ≡ (0, refusal.OutOfMemory)
 
--- the call at which a refusal is told: want of memory at none
-abbrev pub fault_at : ℕ → Refusal → ℕ × Refusal
-fault_at number refusal.OutOfMemory = (0, refusal.OutOfMemory)
-fault_at number reason = (number, reason)
-
 abbrev pub IsUnloaded : ℕ → Result Tree (ℕ × Refusal) → ℕ × Refusal → Type 0
 IsUnloaded clients whole fault = IsUnloadedBy (nat_lt 4 clients) whole fault
 

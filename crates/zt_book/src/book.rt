@@ -43,7 +43,7 @@ impl Drop for Book {
 
 impl Model for Book {
     ghost use Rattle.zt_book.specs.Log.{BookView};
-    ghost use Rattle.zt_book.specs.Clients.{kept_of, IsBook};
+    ghost use Rattle.zt_book.specs.ProofsOnly.Clients.{kept_of, IsBook};
 
     ghost Value = { BookView };
 

@@ -2,7 +2,7 @@ ghost use Rattle.std.specs.Prelude.{◌≡◌, ◌≤◌, ◌<◌, ◌-◌, IfOk
 ghost use Rattle.zt_history.specs.TreeInvariant.{IsTree};
 ghost use Rattle.zt_book.specs.Session.{client_of, counted, position_of, session_over, with_client};
 ghost use Rattle.zt_book.specs.Log.{snapshot_at};
-ghost use Rattle.zt_book.specs.Clients.{IsClient, IsCursor, Stand, session_before};
+ghost use Rattle.zt_book.specs.ProofsOnly.Clients.{IsClient, IsCursor, Stand, session_before};
 
 use crate::client::{Client, Cursor};
 use std::alloc::{AllocError, Global};
@@ -21,7 +21,7 @@ pub(crate) struct Clients {
 }
 
 impl Model for Clients {
-    ghost use Rattle.zt_book.specs.Clients.{ClientsView, clients_view, AreClients};
+    ghost use Rattle.zt_book.specs.ProofsOnly.Clients.{ClientsView, clients_view, AreClients};
 
     ghost Value = { ClientsView };
 

@@ -1,7 +1,7 @@
 ghost use Rattle.std.specs.Prelude.{◌≡◌, ◌≤◌, ◌<◌, ◌∷◌, Ok, IfOk, IfErr, OnOk, OnErr, length, slice_index_or};
 ghost use Rattle.zt_queries.specs.HappeningTimes.{when_on, IsRefusedWhen};
 ghost use Rattle.zt_book.specs.Session.{asked, serve, event_at, client_of, standing, call_by, goto_by, back_by, branch_by, follow_by, show_to, holders_to, leaks_to, when_to, pin_to, IsCommandRefusal};
-ghost use Rattle.zt_book.specs.Clients.{IsCursor, IsOneMore, session_before};
+ghost use Rattle.zt_book.specs.ProofsOnly.Clients.{IsCursor, IsOneMore, session_before};
 
 use crate::branch_name::is_name;
 use crate::client::Cursor;

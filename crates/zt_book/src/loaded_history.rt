@@ -1,5 +1,6 @@
 ghost use Rattle.std.specs.Prelude.{◌≡◌, Ok, IfOk, IfErr};
-ghost use Rattle.zt_book.specs.Log.{fault_at, loaded, IsUnloaded};
+ghost use Rattle.zt_book.specs.Log.{loaded, IsUnloaded};
+ghost use Rattle.zt_book.specs.ProofsOnly.Log.{fault_at};
 
 use std::alloc::Global;
 use zt_history::{BranchId, History};

@@ -1,6 +1,6 @@
 ghost use Rattle.std.specs.Prelude.{◌≡◌, ◌<◌, ◌++◌, ◌∷◌, [], OnOk, OnErr, length, slice_get};
 ghost use Rattle.std.specs.Option.{option_copied};
-ghost use Rattle.zt_history.specs.Branches.{without_last};
+ghost use Rattle.zt_history.specs.ProofsOnly.Branches.{without_last};
 
 use std::alloc::{AllocError, Global};
 use std::marker::Model;

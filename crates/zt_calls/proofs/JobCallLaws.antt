@@ -25,9 +25,9 @@ use Rattle.zt_store.specs.StepView.{Stepping, Advanced, begun}
 use Rattle.zt_calls.specs.declared.handle_arguments.WantedKind.TheVariants as want
 use Rattle.zt_calls.specs.declared.failure.Failure.{Failure}
 use Rattle.zt_calls.specs.declared.failure.Failure.TheVariants as failure
-use Rattle.zt_calls.specs.CallOutcomes.{Does}
-use Rattle.zt_calls.specs.WantedKinds.{handle_to}
-use Rattle.zt_calls.specs.NewTasks.{job_made, process_made}
+use Rattle.zt_calls.specs.ProofsOnly.CallOutcomes.{Does}
+use Rattle.zt_calls.specs.ProofsOnly.WantedKinds.{handle_to}
+use Rattle.zt_calls.specs.ProofsOnly.NewTasks.{job_made, process_made}
 use Rattle.zt_calls.proofs.GoingOn.{reached}
 use Rattle.zt_calls.proofs.CallLaws.{installed_on}
 use Rattle.zt_calls.proofs.CallerLaws.{room-installs, next-same, object-of-made}

@@ -8,7 +8,7 @@ use Rattle.zt_rows.specs.declared.keys.RowKey.{RowKey}
 use Rattle.zt_rows.specs.declared.keys.RowKey.TheVariants as key
 use Rattle.zt_rows.specs.declared.rows.Held.{Held}
 use Rattle.zt_rows.specs.Keys.{rowkey_eq}
-use Rattle.zt_rows.specs.KeyOrder.{rowkey_eq-equal}
+use Rattle.zt_rows.specs.ProofsOnly.KeyOrder.{rowkey_eq-equal}
 use Rattle.zt_rows.specs.State.{State, row}
 use Rattle.zt_rows.specs.Reads.{as_entry, as_message}
 use Rattle.zt_rows.proofs.RowLaws.{or_true, or_left, or_right}
@@ -16,7 +16,7 @@ use Rattle.zt_rows.proofs.ReadLaws.{entry-row, message-row}
 use Rattle.zt_store.specs.StepView.{Stepping, listed, DiffersAtTouched}
 use Rattle.zt_cascade.specs.OneByOne.{is_named}
 use Rattle.zt_cascade.specs.ToldObjects.{NamesLost}
-use Rattle.zt_calls.specs.LostObjects.{named_by}
+use Rattle.zt_calls.specs.ProofsOnly.LostObjects.{named_by}
 
 -- what the rows of B under these keys name
 abbrev pub all_named : State → List RowKey → List Held

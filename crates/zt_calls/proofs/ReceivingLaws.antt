@@ -17,7 +17,7 @@ use Rattle.zt_rows.proofs.StateLaws.{row-put-other}
 use Rattle.zt_rows.proofs.ReceivedLaws.{first-message}
 use Rattle.zt_store.specs.StepView.{Stepping, Advanced}
 use Rattle.zt_queues.specs.QueueFront.{without_message, popped}
-use Rattle.zt_calls.specs.ReceivedMessage.{received}
+use Rattle.zt_calls.specs.ProofsOnly.ReceivedMessage.{received}
 use Rattle.zt_calls.proofs.GoingOn.{further, reached}
 use Rattle.zt_calls.proofs.ListLemmas.{drop-past}
 use Rattle.zt_calls.proofs.CallerLaws.{room-installs, caller-same, next-same, caller-next, caller-of-installed, next-of-installed}

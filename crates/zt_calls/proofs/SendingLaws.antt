@@ -23,7 +23,7 @@ use Rattle.zt_rows.proofs.StepLaws.{peer_kind}
 use Rattle.zt_rows.proofs.SentLaws.{bound, found, is_channel-is}
 use Rattle.zt_store.specs.StepView.{Stepping, Advanced}
 use Rattle.zt_queues.specs.QueueEnd.{pushed_to, pushed}
-use Rattle.zt_calls.specs.SentMessage.{sendable, message_for}
+use Rattle.zt_calls.specs.ProofsOnly.SentMessage.{sendable, message_for}
 use Rattle.zt_calls.proofs.ListLemmas.{drop-past}
 use Rattle.zt_calls.proofs.GoingOn.{further, reached}
 

@@ -6,7 +6,7 @@ ghost use Rattle.zt_rows.specs.Change.{before};
 ghost use Rattle.zt_rows.specs.Consistent.{IsSound, IsConsistent};
 ghost use Rattle.zt_store.specs.Places.{Keeps, fits};
 ghost use Rattle.zt_store.specs.StepView.{AsBegun};
-ghost use Rattle.zt_calls.specs.CallOutcomes.{Does};
+ghost use Rattle.zt_calls.specs.ProofsOnly.CallOutcomes.{Does};
 
 use crate::channel_calls::{channel_create, channel_read, channel_write};
 use crate::failure::Failure;

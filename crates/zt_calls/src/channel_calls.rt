@@ -4,7 +4,7 @@ ghost use Rattle.zt_rows.specs.Room.{HasRoom};
 ghost use Rattle.zt_rows.specs.ChannelCalls.{channel_create, channel_write, channel_read};
 ghost use Rattle.zt_rows.specs.Consistent.{IsSound};
 ghost use Rattle.zt_store.specs.Places.{Keeps};
-ghost use Rattle.zt_calls.specs.CallOutcomes.{Does};
+ghost use Rattle.zt_calls.specs.ProofsOnly.CallOutcomes.{Does};
 
 use crate::failure::Failure;
 use crate::handle_arguments::{WantedKind, handle_to};

@@ -1,6 +1,6 @@
 ghost use Rattle.std.specs.Prelude.{◌≡◌};
 ghost use Rattle.zt_rows.specs.ObjectCalls.{may_set};
-ghost use Rattle.zt_calls.specs.WantedKinds.{takes, wrong_kind, handle_to};
+ghost use Rattle.zt_calls.specs.ProofsOnly.WantedKinds.{takes, wrong_kind, handle_to};
 
 use bitflags::Flags;
 use zt_bits::{Kind, Rights, Signals, Status, settable};

@@ -3,7 +3,7 @@ ghost use Rattle.zt_rows.specs.Reads.{runs};
 ghost use Rattle.zt_rows.specs.Room.{HasRoom};
 ghost use Rattle.zt_rows.specs.ObjectCalls.{handle_close, handle_duplicate, handle_replace};
 ghost use Rattle.zt_store.specs.Places.{Keeps};
-ghost use Rattle.zt_calls.specs.CallOutcomes.{Does};
+ghost use Rattle.zt_calls.specs.ProofsOnly.CallOutcomes.{Does};
 
 use crate::failure::Failure;
 use crate::handle_arguments::{WantedKind, handle_to};

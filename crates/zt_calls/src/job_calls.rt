@@ -9,8 +9,8 @@ ghost use Rattle.zt_rows.specs.Room.{HasRoom};
 ghost use Rattle.zt_rows.specs.Tests.{next_at};
 ghost use Rattle.zt_store.specs.Places.{Keeps};
 ghost use Rattle.zt_store.specs.StepView.{Advanced, AsBegun};
-ghost use Rattle.zt_calls.specs.CallOutcomes.{Does};
-ghost use Rattle.zt_calls.specs.NewTasks.{job_made, process_made};
+ghost use Rattle.zt_calls.specs.ProofsOnly.CallOutcomes.{Does};
+ghost use Rattle.zt_calls.specs.ProofsOnly.NewTasks.{job_made, process_made};
 
 use crate::failure::Failure;
 use crate::handle_arguments::{WantedKind, handle_to};

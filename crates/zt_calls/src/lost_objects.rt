@@ -2,7 +2,7 @@ ghost use Rattle.std.specs.Prelude.{◌≡◌, ◌++◌, IfOk, OnOk};
 ghost use Rattle.zt_rows.specs.State.{row};
 ghost use Rattle.zt_store.specs.StepView.{DiffersAtTouched};
 ghost use Rattle.zt_cascade.specs.ToldObjects.{NamesLost};
-ghost use Rattle.zt_calls.specs.LostObjects.{named_by};
+ghost use Rattle.zt_calls.specs.ProofsOnly.LostObjects.{named_by};
 
 use std::alloc::{AllocError, Global};
 use zt_rows::{Held, Row, RowKey};

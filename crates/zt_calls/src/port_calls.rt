@@ -4,7 +4,7 @@ ghost use Rattle.zt_rows.specs.Room.{HasRoom};
 ghost use Rattle.zt_rows.specs.Consistent.{IsSound};
 ghost use Rattle.zt_rows.specs.PortCalls.{object_wait_async, port_cancel, port_create, port_queue, port_wait};
 ghost use Rattle.zt_store.specs.Places.{Keeps};
-ghost use Rattle.zt_calls.specs.CallOutcomes.{Does};
+ghost use Rattle.zt_calls.specs.ProofsOnly.CallOutcomes.{Does};
 
 use crate::failure::Failure;
 use crate::handle_arguments::{WantedKind, handle_to};

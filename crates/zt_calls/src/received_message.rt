@@ -6,8 +6,8 @@ ghost use Rattle.zt_rows.specs.Handles.{caller, install_all, values_from};
 ghost use Rattle.zt_rows.specs.ChannelCalls.{has_room_for};
 ghost use Rattle.zt_store.specs.Places.{Keeps};
 ghost use Rattle.zt_store.specs.StepView.{Advanced, AsBegun};
-ghost use Rattle.zt_calls.specs.CallOutcomes.{Does};
-ghost use Rattle.zt_calls.specs.ReceivedMessage.{received};
+ghost use Rattle.zt_calls.specs.ProofsOnly.CallOutcomes.{Does};
+ghost use Rattle.zt_calls.specs.ProofsOnly.ReceivedMessage.{received};
 
 use crate::failure::Failure;
 use std::alloc::{AllocError, Global};

@@ -1,6 +1,6 @@
 ghost use Rattle.std.specs.Prelude.{◌≡◌, []};
 ghost use Rattle.zt_rows.specs.ChannelCalls.{sent};
-ghost use Rattle.zt_calls.specs.SentMessage.{Finds, message_for, sendable};
+ghost use Rattle.zt_calls.specs.ProofsOnly.SentMessage.{Finds, message_for, sendable};
 
 use crate::failure::Failure;
 use crate::handle_arguments::{WantedKind, handle_to};

@@ -21,7 +21,7 @@ use Rattle.zt_rows.proofs.StateLaws.{row-put}
 use Rattle.zt_rows.proofs.RowLaws.{In, and_left, not_true, or_left, or_right, or_true, true≢false}
 use Rattle.zt_rows.proofs.ReadLaws.{some_one}
 use Rattle.zt_rows.proofs.SettleLaws.{in-waits, met-same, waits-in}
-use Rattle.zt_cascade.specs.RaisedWaits.{HasMet, fire_if, fire_number}
+use Rattle.zt_cascade.specs.ProofsOnly.RaisedWaits.{HasMet, fire_if, fire_number}
 use Rattle.zt_cascade.proofs.OrderLaws.{IsOrdered, ordered-waits}
 
 -- ---- one wait that fires

@@ -18,7 +18,7 @@ use Rattle.zt_rows.proofs.RowLaws.{In}
 use Rattle.zt_rows.proofs.StateLaws.{row-change, row-put, row-put-same}
 use Rattle.zt_rows.proofs.SettleLaws.{in-waits}
 use Rattle.zt_cascade.specs.PacketRoom.{FiresWithin}
-use Rattle.zt_cascade.specs.RaisedWaits.{HasRoomFor, fire_if, fire_number}
+use Rattle.zt_cascade.specs.ProofsOnly.RaisedWaits.{HasRoomFor, fire_if, fire_number}
 use Rattle.zt_cascade.proofs.FiredLaws.{met-fire, wait-left}
 use Rattle.zt_cascade.proofs.OrderLaws.{IsOrdered, ordered-waits}
 

@@ -9,7 +9,7 @@ use Rattle.zt_rows.specs.declared.rows.Wait.{Wait}
 use Rattle.zt_rows.specs.declared.rows.Row.{Row}
 use Rattle.zt_rows.specs.declared.rows.Row.TheVariants as rows
 use Rattle.zt_rows.specs.Keys.{rowkey_eq}
-use Rattle.zt_rows.specs.KeyOrder.{rowkey_eq-equal}
+use Rattle.zt_rows.specs.ProofsOnly.KeyOrder.{rowkey_eq-equal}
 use Rattle.zt_rows.specs.State.{State, row, put}
 use Rattle.zt_rows.specs.Reads.{as_object, as_wait, wait}
 use Rattle.zt_rows.specs.Room.{suits, SuitsKey}
@@ -18,10 +18,10 @@ use Rattle.zt_rows.specs.Collect.{unlinked, left, without}
 use Rattle.zt_rows.proofs.StateLaws.{row-put, row-put-same, same_state, put-row}
 use Rattle.zt_rows.proofs.ReadLaws.{then_none, row-without}
 use Rattle.zt_rows.proofs.WithoutLaws.{without-twice}
-use Rattle.zt_store.proofs.Totals.{share, total-put}
-use Rattle.zt_cascade.specs.OneByOne.{only}
-use Rattle.zt_cascade.specs.RemovedObject.{left_at, left_behind, IsLeft, weighs, weight, IsPartly}
-use Rattle.zt_cascade.specs.RowsUnderKeys.{object_under}
+use Rattle.zt_index.proofs.Totals.{share, total-put}
+use Rattle.zt_store.specs.KoidSets.{only}
+use Rattle.zt_cascade.specs.ProofsOnly.RemovedObject.{left_at, left_behind, IsLeft, weighs, weight, IsPartly}
+use Rattle.zt_cascade.specs.ProofsOnly.RowsUnderKeys.{object_under}
 
 -- ---- under one key
 

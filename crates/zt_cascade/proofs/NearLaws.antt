@@ -15,7 +15,7 @@ use Rattle.zt_rows.specs.declared.rows.Row.{Row}
 use Rattle.zt_rows.specs.declared.rows.Row.TheVariants as rows
 use Rattle.zt_rows.specs.Consistent.{IsConsistent}
 use Rattle.zt_rows.specs.Keys.{rowkey_eq}
-use Rattle.zt_rows.specs.KeyOrder.{rowkey_eq-equal}
+use Rattle.zt_rows.specs.ProofsOnly.KeyOrder.{rowkey_eq-equal}
 use Rattle.zt_rows.specs.State.{State, row, put}
 use Rattle.zt_rows.specs.Reads.{as_object, object, is_live_job, is_live_process}
 use Rattle.zt_rows.specs.Tests.{among, any_row, link_at, object_link, without_bits}
@@ -26,7 +26,7 @@ use Rattle.zt_rows.proofs.ReadLaws.{object-row, some_one}
 use Rattle.zt_rows.proofs.SettleLaws.{derived-out, renew, row-refresh}
 use Rattle.zt_store.specs.StepView.{Stepping, listed, DiffersAtTouched}
 use Rattle.zt_signals.specs.ObjectSignals.{refreshed_object, refreshed_object_of}
-use Rattle.zt_cascade.specs.NearObjects.{near, near_touched}
+use Rattle.zt_cascade.specs.ProofsOnly.NearObjects.{near, near_touched}
 use Rattle.zt_cascade.proofs.TakingLaws.{among-left, among-right}
 
 -- ---- derived signals of states whose rows near the object are the same

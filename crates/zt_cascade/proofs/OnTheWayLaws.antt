@@ -17,7 +17,8 @@ use Rattle.zt_rows.proofs.SupportLaws as support
 use Rattle.zt_rows.proofs.SoundLaws.{task-not-endpoint, and_no_left, link-kept}
 use Rattle.zt_rows.proofs.CollectLaws.{goes-there, goes-free, stays-supported, without-none}
 use Rattle.zt_rows.proofs.WithoutLaws.{without-twice, collect-justified}
-use Rattle.zt_cascade.specs.OneByOne.{only, IsOnTheWay, IsLetGo, by_message, by_link}
+use Rattle.zt_store.specs.KoidSets.{only}
+use Rattle.zt_cascade.specs.OneByOne.{IsOnTheWay, IsLetGo, by_message, by_link}
 
 -- ---- the way
 

@@ -8,7 +8,7 @@ use Rattle.zt_rows.specs.declared.keys.RowKey.TheVariants as key
 use Rattle.zt_rows.specs.declared.rows.Held.{Held}
 use Rattle.zt_rows.specs.declared.rows.ObjectRow.{ObjectRow}
 use Rattle.zt_rows.specs.Keys.{rowkey_eq}
-use Rattle.zt_rows.specs.KeyOrder.{rowkey_eq-equal}
+use Rattle.zt_rows.specs.ProofsOnly.KeyOrder.{rowkey_eq-equal}
 use Rattle.zt_rows.specs.State.{State}
 use Rattle.zt_rows.specs.Reads.{object}
 use Rattle.zt_rows.specs.Support.{support_count, is_supported}
@@ -19,10 +19,12 @@ use Rattle.zt_rows.proofs.RowLaws.{or_true, or_left, or_right, not_true, true≢
 use Rattle.zt_rows.proofs.ReadLaws.{some-exists, stayed}
 use Rattle.zt_rows.proofs.CollectLaws.{goes-there, free-goes, supported-stays}
 use Rattle.zt_store.specs.StepView.{Stepping, listed}
-use Rattle.zt_cascade.specs.OneByOne.{only, IsOnTheWay, IsLetGo}
+use Rattle.zt_store.specs.KoidSets.{only}
+use Rattle.zt_cascade.specs.OneByOne.{IsOnTheWay, IsLetGo}
 use Rattle.zt_cascade.specs.JoinedLinks.{IsJoined}
-use Rattle.zt_cascade.specs.ToldObjects.{IsTold, by_list, by_put, by_child, IsListed, IsCovered}
-use Rattle.zt_cascade.specs.RemovedObject.{koids, Covers}
+use Rattle.zt_cascade.specs.ToldObjects.{IsTold, by_list, by_put, by_child, IsCovered}
+use Rattle.zt_cascade.specs.ProofsOnly.ToldObjects.{IsListed}
+use Rattle.zt_cascade.specs.ProofsOnly.RemovedObject.{koids, Covers}
 use Rattle.zt_cascade.proofs.OnTheWayLaws.{on_the_way-more, on_the_way-end, goes-newly}
 use Rattle.zt_cascade.proofs.JoinedLaws.{joined-without}
 use Rattle.zt_cascade.proofs.TakingLaws.{among-koids, among-left, among-right}

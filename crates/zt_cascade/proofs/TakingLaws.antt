@@ -22,21 +22,15 @@ use Rattle.zt_rows.proofs.StateLaws.{row-put-other}
 use Rattle.zt_rows.proofs.RowLaws.{and_left, and_right, or_left, or_right, not_true, true≢false}
 use Rattle.zt_rows.proofs.ReadLaws.{some_one, object-row, message-row}
 use Rattle.zt_rows.proofs.SoundLaws.{and_no_right}
-use Rattle.zt_cascade.specs.OneByOne.{only, is_named, IsLetGo, by_message, by_link}
+use Rattle.zt_cascade.specs.OneByOne.{is_named, IsLetGo, by_message, by_link}
 use Rattle.zt_cascade.specs.JoinedLinks.{IsJoined}
-use Rattle.zt_store.specs.Chains.{IsNext}
-use Rattle.zt_store.specs.Criteria.{is_for, waits_where}
+use Rattle.zt_index.specs.Chains.{IsNext}
+use Rattle.zt_index.specs.Criteria.{is_for, waits_where}
 use Rattle.zt_store.specs.StepView.{Stepping}
-use Rattle.zt_cascade.specs.RemovedObject.{IsAhead, left_at, left_behind, IsLeft, weighs, weight, IsPartly, koids, handles_in, AreHandlesListed}
+use Rattle.zt_store.specs.ProofsOnly.StepView.{IsAhead}
+use Rattle.zt_store.specs.KoidSets.{only}
+use Rattle.zt_cascade.specs.ProofsOnly.RemovedObject.{left_at, left_behind, IsLeft, weighs, weight, IsPartly, koids, handles_in, AreHandlesListed}
 use Rattle.zt_cascade.proofs.LeavingLaws.{left-none, left-object, left-wait, left-stays, behind-left, behind-lighter, behind-gone, partly-behind, partly-more, partly-then, partly-end, all-left, suited-partly}
-
--- ---- later moments of the step
-
-pub ahead-itself : (s : Stepping) → IsAhead s s
-ahead-itself s = record { beginning = refl; kept = λ R f. f }
-
-pub ahead-then : (s t u : Stepping) → IsAhead s t → IsAhead t u → IsAhead s u
-ahead-then s t u first second = record { beginning = second.beginning ∙ first.beginning; kept = λ R f. second.kept R (first.kept R f) }
 
 -- ---- its row, and the link of its peer
 

@@ -12,17 +12,17 @@ use Rattle.zt_rows.specs.declared.rows.Held.{Held}
 use Rattle.zt_rows.specs.declared.rows.Wait.{Wait}
 use Rattle.zt_rows.specs.Consistent.{IsConsistent}
 use Rattle.zt_rows.specs.Keys.{rowkey_eq}
-use Rattle.zt_rows.specs.KeyOrder.{rowkey_eq-equal}
+use Rattle.zt_rows.specs.ProofsOnly.KeyOrder.{rowkey_eq-equal}
 use Rattle.zt_rows.specs.State.{State}
 use Rattle.zt_rows.specs.Reads.{as_entry, as_object, as_wait, entry, wait}
 use Rattle.zt_rows.specs.Settle.{is_met, observed, signals_by}
 use Rattle.zt_rows.specs.Tests.{among, object_signals}
 use Rattle.zt_rows.proofs.RowLaws.{and_both, or_left, or_true, true≢false}
 use Rattle.zt_rows.proofs.ReadLaws.{some_one}
-use Rattle.zt_store.specs.Chains.{IsBehind, IsNext}
-use Rattle.zt_store.specs.Criteria.{is_at, is_on, names}
+use Rattle.zt_index.specs.Chains.{IsBehind, IsNext}
+use Rattle.zt_index.specs.Criteria.{is_at, is_on, names}
 use Rattle.zt_store.specs.StepView.{DiffersAtTouched, Stepping, listed}
-use Rattle.zt_cascade.specs.RaisedWaits.{HasMet, HasWoken, IsLonger}
+use Rattle.zt_cascade.specs.ProofsOnly.RaisedWaits.{HasMet, HasWoken, IsLonger}
 use Rattle.zt_cascade.proofs.TakingLaws.{among-left, among-right}
 
 -- ---- a walk over waits

@@ -4,7 +4,4 @@ pub mod JoinedLinks
 pub mod ToldObjects
 pub mod PacketRoom
 -- Used by proofs only: no public clause depends on them.
-pub mod RemovedObject
-pub mod RowsUnderKeys
-pub mod NearObjects
-pub mod RaisedWaits
+pub mod ProofsOnly

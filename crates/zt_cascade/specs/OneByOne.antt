@@ -10,10 +10,6 @@ use Rattle.zt_rows.specs.Collect.{without}
 use Rattle.zt_rows.specs.Justified.{Justified}
 use Rattle.std.specs.Prelude.{List, Some}
 
--- this one object
-abbrev pub only : ℕ → ℕ → Bool
-only x y = y == x
-
 -- T is S without objects that went one at a time, each without support once those before it were gone
 abbrev pub IsOnTheWay : State → State → Type 0
 IsOnTheWay S T = (gone : ℕ → Bool) × (T ≡ without S gone) × Justified S gone

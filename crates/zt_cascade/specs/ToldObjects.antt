@@ -1,12 +1,10 @@
 -- Where a step's puts and a list of handles tell of every object that may go. This project's own form.
-use Rattle.std.specs.Prelude.{◌≡◌, ◌⊎◌, ℕ, true, List, ⊤, Some}
-use Rattle.zt_rows.specs.declared.keys.RowKey.{RowKey}
+use Rattle.std.specs.Prelude.{◌≡◌, ◌⊎◌, ℕ, true, List, Some}
 use Rattle.zt_rows.specs.declared.keys.RowKey.TheVariants as key
 use Rattle.zt_rows.specs.declared.rows.Held.{Held}
-use Rattle.zt_rows.specs.State.{State}
 use Rattle.zt_rows.specs.Contents.{MessageContent}
 use Rattle.zt_rows.specs.Reads.{entry, message}
-use Rattle.zt_rows.specs.Tests.{among, link_at}
+use Rattle.zt_rows.specs.Tests.{link_at}
 use Rattle.zt_rows.specs.Collect.{goes}
 use Rattle.zt_store.specs.StepView.{Stepping, listed}
 use Rattle.zt_cascade.specs.OneByOne.{is_named}
@@ -17,11 +15,6 @@ pub data IsTold (s : Stepping) (released : List Held) (x : ℕ) : Type 0 where
   by_list : is_named released x ≡ true → IsTold s released x
   by_put : listed s.touched (key.Object x) ≡ true → IsTold s released x
   by_child : (y : ℕ) → listed s.touched (key.Object y) ≡ true → link_at s.beginning y ≡ x → IsTold s released x
-
--- the object whose key this is, and its link at the beginning, are in the list
-abbrev pub IsListed : State → RowKey → List ℕ → Type 0
-IsListed B (key.Object x) list = (among list x ≡ true) × (among list (link_at B x) ≡ true)
-IsListed B _ list = ⊤
 
 -- each object that goes is told of
 pub record IsCovered (s : Stepping) (released : List Held) : Type 0 where

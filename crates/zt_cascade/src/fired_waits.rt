@@ -3,9 +3,9 @@ ghost use Rattle.std.specs.List.{fold};
 ghost use Rattle.zt_rows.specs.Consistent.{IsConsistent};
 ghost use Rattle.zt_rows.specs.Reads.{wait, waits};
 ghost use Rattle.zt_rows.specs.Settle.{fire, is_met, observed};
+ghost use Rattle.zt_store.specs.ProofsOnly.StepView.{IsAhead};
 ghost use Rattle.zt_cascade.specs.PacketRoom.{FiresWithin};
-ghost use Rattle.zt_cascade.specs.RemovedObject.{IsAhead};
-ghost use Rattle.zt_cascade.specs.RaisedWaits.{HasRoomFor, fire_number};
+ghost use Rattle.zt_cascade.specs.ProofsOnly.RaisedWaits.{HasRoomFor, fire_number};
 
 use crate::raised_waits::{signals_now, woken};
 use std::alloc::{AllocError, Global};

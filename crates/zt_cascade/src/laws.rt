@@ -10,8 +10,9 @@ ghost use Rattle.zt_rows.specs.Settle.{settle};
 ghost use Rattle.zt_rows.specs.Support.{is_supported};
 ghost use Rattle.zt_rows.specs.Tests.{exists, next_at};
 ghost use Rattle.zt_store.specs.StepView.{DiffersAtTouched, Stepping};
+ghost use Rattle.zt_store.specs.KoidSets.{only};
 ghost use Rattle.zt_cascade.specs.ToldObjects.{IsCovered, NamesLost};
-ghost use Rattle.zt_cascade.specs.OneByOne.{IsLetGo, IsOnTheWay, only};
+ghost use Rattle.zt_cascade.specs.OneByOne.{IsLetGo, IsOnTheWay};
 ghost use Rattle.zt_cascade.specs.JoinedLinks.{IsJoined};
 
 /// A state is on the way from itself; one more object that goes leads further; and where nothing goes any more,

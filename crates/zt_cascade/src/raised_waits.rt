@@ -1,8 +1,8 @@
 ghost use Rattle.std.specs.Prelude.{◌≡◌, ◌⊎◌, IfOk, OnOk};
 ghost use Rattle.zt_rows.specs.Consistent.{IsConsistent};
 ghost use Rattle.zt_rows.specs.Tests.{among, signals_at};
-ghost use Rattle.zt_store.specs.Criteria.{is_at, is_on};
-ghost use Rattle.zt_cascade.specs.RaisedWaits.{HasMet, HasWoken, IsLonger, Lists};
+ghost use Rattle.zt_index.specs.Criteria.{is_at, is_on};
+ghost use Rattle.zt_cascade.specs.ProofsOnly.RaisedWaits.{HasMet, HasWoken, IsLonger, Lists};
 
 use std::alloc::{AllocError, Global};
 use zt_rows::{HandleValue, Koid, RowKey};

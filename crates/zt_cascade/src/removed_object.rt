@@ -3,9 +3,10 @@ ghost use Rattle.zt_rows.specs.Collect.{left, unlinked};
 ghost use Rattle.zt_rows.specs.Reads.{object};
 ghost use Rattle.zt_rows.specs.Room.{SuitsKey};
 ghost use Rattle.zt_rows.specs.State.{put};
-ghost use Rattle.zt_cascade.specs.RemovedObject.{IsAhead, left_behind};
-ghost use Rattle.zt_cascade.specs.OneByOne.{only};
-ghost use Rattle.zt_cascade.specs.RowsUnderKeys.{object_under};
+ghost use Rattle.zt_store.specs.ProofsOnly.StepView.{IsAhead};
+ghost use Rattle.zt_store.specs.KoidSets.{only};
+ghost use Rattle.zt_cascade.specs.ProofsOnly.RemovedObject.{left_behind};
+ghost use Rattle.zt_cascade.specs.ProofsOnly.RowsUnderKeys.{object_under};
 
 use std::alloc::AllocError;
 use zt_bits::Kind;

@@ -6,9 +6,11 @@ ghost use Rattle.zt_rows.specs.Reads.{message, object};
 ghost use Rattle.zt_rows.specs.Room.{SuitsKey};
 ghost use Rattle.zt_rows.specs.State.{row};
 ghost use Rattle.zt_rows.specs.Tests.{among};
+ghost use Rattle.zt_store.specs.ProofsOnly.StepView.{IsAhead};
+ghost use Rattle.zt_store.specs.KoidSets.{only};
 ghost use Rattle.zt_cascade.specs.JoinedLinks.{IsJoined};
-ghost use Rattle.zt_cascade.specs.RemovedObject.{IsAhead, IsLeft, AreHandlesListed, IsPartly, handles_in, koids, weight};
-ghost use Rattle.zt_cascade.specs.OneByOne.{IsLetGo, only};
+ghost use Rattle.zt_cascade.specs.ProofsOnly.RemovedObject.{IsLeft, AreHandlesListed, IsPartly, handles_in, koids, weight};
+ghost use Rattle.zt_cascade.specs.OneByOne.{IsLetGo};
 
 use crate::removed_object::leave;
 use std::alloc::AllocError;

@@ -4,9 +4,9 @@ ghost use Rattle.zt_rows.specs.Settle.{refresh, settle};
 ghost use Rattle.zt_rows.specs.Tests.{link_at};
 ghost use Rattle.zt_store.specs.Places.{Keeps};
 ghost use Rattle.zt_store.specs.StepView.{Advanced, AsBegun, DiffersAtTouched};
+ghost use Rattle.zt_store.specs.ProofsOnly.StepView.{IsAhead};
 ghost use Rattle.zt_cascade.specs.PacketRoom.{HasRoomToFire};
-ghost use Rattle.zt_cascade.specs.RemovedObject.{IsAhead};
-ghost use Rattle.zt_cascade.specs.NearObjects.{near, near_touched};
+ghost use Rattle.zt_cascade.specs.ProofsOnly.NearObjects.{near, near_touched};
 
 use crate::fired_waits::fire_all;
 use crate::worklist::first_link;

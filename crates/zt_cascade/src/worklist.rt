@@ -6,10 +6,12 @@ ghost use Rattle.zt_rows.specs.Support.{is_supported};
 ghost use Rattle.zt_rows.specs.Tests.{among, link_at};
 ghost use Rattle.zt_store.specs.Places.{Keeps};
 ghost use Rattle.zt_store.specs.StepView.{Advanced, AsBegun, listed};
-ghost use Rattle.zt_cascade.specs.ToldObjects.{IsCovered, IsListed};
+ghost use Rattle.zt_store.specs.ProofsOnly.StepView.{IsAhead};
+ghost use Rattle.zt_store.specs.KoidSets.{only};
+ghost use Rattle.zt_cascade.specs.ToldObjects.{IsCovered};
+ghost use Rattle.zt_cascade.specs.ProofsOnly.ToldObjects.{IsListed};
 ghost use Rattle.zt_cascade.specs.JoinedLinks.{IsJoined};
-ghost use Rattle.zt_cascade.specs.RemovedObject.{Covers, IsAhead, weight};
-ghost use Rattle.zt_cascade.specs.OneByOne.{only};
+ghost use Rattle.zt_cascade.specs.ProofsOnly.RemovedObject.{Covers, weight};
 
 use crate::removed_rows::{add_koids, take_out};
 use std::alloc::{AllocError, Global};

@@ -17,8 +17,8 @@ use Rattle.zt_text.specs.declared.read_lines.Line.TheVariants as line
 use Rattle.zt_console.specs.declared.conversation.Conversation.{Conversation}
 use Rattle.zt_console.specs.CountedFaults.{faults_after}
 use Rattle.zt_console.specs.Conversations.{Given, Manner, IsRespondedTo, IsToldOfCopy, IsLooked, of_copy, rows_in, holders_in, leaks_in, shown, said_by, pinned_after, Answers, Talk}
-use Rattle.zt_console.specs.Run.{IsWritten, IsSent}
-use Rattle.zt_console.specs.LineFeed.{decisive, Passed, Put}
+use Rattle.zt_console.specs.ProofsOnly.Run.{IsWritten, IsSent}
+use Rattle.zt_console.specs.ProofsOnly.LineFeed.{decisive, Passed, Put}
 
 pub no_eq : (x y : ℕ) → (x ≡ y → ⊥) → (x == y) ≡ false
 no_eq x y f = elim (x == y) as (λ b. (x == y) ≡ b → b ≡ false) [ true ↦ λ e. absurd (f (eqb-true x y e)) | false ↦ λ e. refl ] refl

@@ -13,8 +13,9 @@ use Rattle.zt_text.specs.Lines.{lines_of}
 use Rattle.zt_queries.specs.FrozenCopy.{Snapshot}
 use Rattle.zt_console.specs.declared.conversation.Conversation.{Conversation}
 use Rattle.zt_console.specs.Conversations.{Manner, Answers, Talk}
-use Rattle.zt_console.specs.Run.{Spoken, IsWritten, IsSent, HasTalked, at_responder, most_reads, IsFailureCounted, IsCause}
-use Rattle.zt_console.specs.LineFeed.{decisive, decisive_lines, has_no_feed, IsFirstFeed, Put, Passed, Fed, HasRead}
+use Rattle.zt_console.specs.Run.{Spoken, HasTalked, at_responder, most_reads, IsCause}
+use Rattle.zt_console.specs.ProofsOnly.Run.{IsWritten, IsSent, IsFailureCounted}
+use Rattle.zt_console.specs.ProofsOnly.LineFeed.{decisive, decisive_lines, has_no_feed, IsFirstFeed, Put, Passed, Fed, HasRead}
 use Rattle.zt_console.proofs.ConversationLaws.{no_eq, decides, passed_more, passed_none, passed_nothing, passed_failed, passed_short, passed_sent, passed_unprinted, sent_written, talk_undecided}
 
 -- ---- lines

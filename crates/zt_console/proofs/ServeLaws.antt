@@ -13,7 +13,7 @@ use Rattle.zt_shared.specs.Sharing.{PassView, IsPartOf, IsOneLog, told_to, first
 use Rattle.zt_shared.proofs.SharingLaws.{in_order}
 use Rattle.zt_console.specs.declared.client_sessions.ClientSession.{ClientSession}
 use Rattle.zt_console.specs.declared.client_sessions.Served.{Served}
-use Rattle.zt_console.specs.ClientSessions.{place_of, served_at, pass_at, IsTaken, HasServed}
+use Rattle.zt_console.specs.ProofsOnly.ClientSessions.{place_of, served_at, pass_at, IsToBeServed, HasServed}
 use Rattle.zt_console.specs.Sessions.{Caller, IsCountable, IsServed, told_in}
 
 -- ---- lists
@@ -132,8 +132,8 @@ module _ {I O A B C D : Type 0} (remaining : I → Option (List ℕ)) (contents 
       (each_served log cs ps z (subst (All (IsIn log)) e closed.parts))
 
 -- clients whose failures can be counted take places
-pub all_taken : {I O A B C D : Type 0} (cs : List (Caller I O)) → All IsCountable cs → All (IsTaken {I = I} {O = O} {A = A} {B = B} {C = C} {D = D}) (map place_of cs)
-all_taken cs h = All-map IsTaken place_of cs (λ i d lt. record { pass = (get_or cs i d).2; held = refl; counts = h i d lt })
+pub all_taken : {I O A B C D : Type 0} (cs : List (Caller I O)) → All IsCountable cs → All (IsToBeServed {I = I} {O = O} {A = A} {B = B} {C = C} {D = D}) (map place_of cs)
+all_taken cs h = All-map IsToBeServed place_of cs (λ i d lt. record { pass = (get_or cs i d).2; held = refl; counts = h i d lt })
 
 -- ---- the passes of a book that is opened
 

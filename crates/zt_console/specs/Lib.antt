@@ -6,5 +6,4 @@ pub mod Run
 pub mod Sessions
 pub mod LoadedText
 -- Used by proofs only: no public clause depends on them.
-pub mod LineFeed
-pub mod ClientSessions
+pub mod ProofsOnly

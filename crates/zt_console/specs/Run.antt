@@ -1,6 +1,6 @@
 -- What a run reads and writes, and why it stops. This project's own.
-use Rattle.std.specs.Prelude.{◌≡◌, ◌⊎◌, ℕ, ◌<◌, ◌≤◌, ◌^◌, Bool, true, List, [], ◌++◌, length, take, Option, IfSome, Result, Ok, Err, None}
-use Rattle.std.specs.Io.KnownBytes.{Appends, Consumes, IsAtEnd}
+use Rattle.std.specs.Prelude.{◌≡◌, ◌⊎◌, ℕ, ◌<◌, ◌≤◌, ◌^◌, Bool, true, List, [], ◌++◌, length, Option, IfSome, Result, Ok, Err, None}
+use Rattle.std.specs.Io.KnownBytes.{Appends}
 use Rattle.zt_rows.specs.declared.refusals.Refusal.{Refusal}
 use Rattle.zt_rows.specs.declared.refusals.Refusal.TheVariants as refusal
 use Rattle.zt_console.specs.declared.run_loop.End.{End}
@@ -34,38 +34,7 @@ pub record HasTalked {D : Type 0} (Asks : Manner D) (from to : D) (known before 
   pub spoken : Spoken Asks (at_responder from None) lines (at_responder to pinned) before after done
   pub read : IfSome known (λ input. (others : List (List ℕ)) × (lines_of input ≡ lines ++ others) × (done ≡ true → others ≡ []))
 
--- a text is written, whole where it is done, and else a prefix of it
-pub record IsWritten (text : List ℕ) (before after : Option (List ℕ)) (done : Bool) : Type 0 where
-  pub written : List ℕ
-  pub unwritten : List ℕ
-  pub split : text ≡ written ++ unwritten
-  pub appended : Appends before after written
-  pub whole : done ≡ true → unwritten ≡ []
-
--- what waits is written, or waits on
-pub record IsSent (waited waits : List ℕ) (before after : Option (List ℕ)) (done : Bool) : Type 0 where
-  pub written : List ℕ
-  pub unwritten : List ℕ
-  pub split : waited ≡ written ++ unwritten
-  pub appended : Appends before after written
-  pub whole : done ≡ true → unwritten ≡ waits
-
--- ---- what is read
-
--- a read gave the first so many bytes of a buffer, and none at the end of the input alone
-pub record IsRead (left rest : Option (List ℕ)) (bytes : List ℕ) (count : ℕ) : Type 0 where
-  pub within : count ≤ length bytes
-  pub consumed : Consumes left rest (take count bytes)
-  pub ended : count ≡ 0 → 0 < length bytes → IsAtEnd rest
-
 -- ---- failures
-
--- a writer's number of failures rises where a write fails, and then alone
-abbrev pub IsFailureCounted : ℕ → ℕ → Result (Unit {0}) Refusal → Type 0
-IsFailureCounted old new (Ok _) = new ≡ old
-IsFailureCounted old new (Err refusal.WriteFault) = old < new
-IsFailureCounted old new (Err refusal.OutOfMemory) = new ≡ old
-IsFailureCounted old new (Err _) = ⊥
 
 -- the most reads of a run
 abbrev pub most_reads : ℕ

@@ -1,7 +1,7 @@
 ghost use Rattle.std.specs.Prelude.{◌≡◌, ℕ, ◌<◌, ◌≤◌, ◌+◌, [], ◌∷◌, ◌++◌, length, map, All, IfOk, IfErr, IsPermutation, slice_index_or, vec_len, vec_capacity};
 ghost use Rattle.std.specs.List.{AllZip, cons_option, filter_map};
 ghost use Rattle.zt_shared.specs.Sharing.{IsOneLog, numbers};
-ghost use Rattle.zt_console.specs.ClientSessions.{place_of, served_at, pass_at, IsTaken, HasServed};
+ghost use Rattle.zt_console.specs.ProofsOnly.ClientSessions.{place_of, served_at, pass_at, IsToBeServed, HasServed};
 ghost use Rattle.zt_console.specs.Sessions.{IsCountable, IsServed, told_in};
 
 use crate::counted_faults::Counted;
@@ -149,7 +149,7 @@ fn serve_all<
     gate: &G,
     places: &mut [ClientSession<I, O, A, B, C, D>],
 )
-    requires { All IsTaken places.old }
+    requires { All IsToBeServed places.old }
     ensures { AllZip (HasServed I.remaining O.contents) places.old places.new }
 {
     serve_each(rt, alloc, shared, gate, places);
@@ -172,7 +172,7 @@ fn serve_each<
     gate: &G,
     places: &mut [ClientSession<I, O, A, B, C, D>],
 )
-    ensures { (i : ℕ) (d : _) → i < length places.old → IsTaken (slice_index_or places.old i d) → HasServed I.remaining O.contents (slice_index_or places.old i d) (slice_index_or places.new i d) }
+    ensures { (i : ℕ) (d : _) → i < length places.old → IsToBeServed (slice_index_or places.old i d) → HasServed I.remaining O.contents (slice_index_or places.old i d) (slice_index_or places.new i d) }
 {
     thread::for_each_mut(
         rt,
@@ -199,7 +199,7 @@ fn serve_one<
     gate: &G,
     place: &mut ClientSession<I, O, A, B, C, D>,
 )
-    ensures { IsTaken place.old → HasServed I.remaining O.contents place.old place.new }
+    ensures { IsToBeServed place.old → HasServed I.remaining O.contents place.old place.new }
 {
     if place.reader.faults() == u64::MAX || place.writer.faults() == u64::MAX {
         return;

@@ -1,5 +1,5 @@
 ghost use Rattle.std.specs.Prelude.{◌≡◌, ◌++◌, ◌≤◌, [], true, length, OnOk, OnErr};
-ghost use Rattle.zt_console.specs.LineFeed.{decisive, has_no_feed};
+ghost use Rattle.zt_console.specs.ProofsOnly.LineFeed.{decisive, has_no_feed};
 
 use std::alloc::{AllocError, Global};
 use std::marker::Model;
@@ -15,7 +15,7 @@ pub(crate) struct LineBuffer {
 
 impl Model for LineBuffer {
     ghost use Rattle.std.specs.Prelude.{List, ℕ};
-    ghost use Rattle.zt_console.specs.LineFeed.{IsPart};
+    ghost use Rattle.zt_console.specs.ProofsOnly.LineFeed.{IsPart};
 
     ghost Value = { List ℕ };
 

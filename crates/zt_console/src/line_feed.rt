@@ -1,6 +1,6 @@
 ghost use Rattle.std.specs.Prelude.{◌≡◌, ◌<◌, ◌-◌, ◌^◌, ◌∷◌, [], ◌++◌, true, false, is_ok, Err, OnOk, IfSome, IfNone};
-ghost use Rattle.zt_console.specs.LineFeed.{decisive_lines, has_no_feed, IsFirstFeed, Passed, Put, Fed};
-ghost use Rattle.zt_console.specs.Run.{IsWritten, IsSent, IsFailureCounted};
+ghost use Rattle.zt_console.specs.ProofsOnly.LineFeed.{decisive_lines, has_no_feed, IsFirstFeed, Passed, Put, Fed};
+ghost use Rattle.zt_console.specs.ProofsOnly.Run.{IsWritten, IsSent, IsFailureCounted};
 
 use crate::conversation::{Conversation, text_for};
 use crate::counted_faults::Counted;

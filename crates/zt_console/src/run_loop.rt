@@ -1,6 +1,7 @@
 ghost use Rattle.std.specs.Prelude.{◌≡◌, ◌<◌, ◌-◌, ◌^◌, length, is_ok, None, IfOk, OnOk, OnErr};
 ghost use Rattle.std.specs.Io.KnownBytes.{IsAtEnd};
-ghost use Rattle.zt_console.specs.Run.{HasTalked, IsCause, IsRead};
+ghost use Rattle.zt_console.specs.Run.{HasTalked, IsCause};
+ghost use Rattle.zt_console.specs.ProofsOnly.Run.{IsRead};
 
 use crate::conversation::Conversation;
 use crate::counted_faults::Counted;

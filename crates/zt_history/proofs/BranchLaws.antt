@@ -11,7 +11,7 @@ use Rattle.std.proofs.lemmas.List.Quantifiers.{position-Some}
 use Rattle.indexmap.specs.Layout.{set_value_at}
 use Rattle.indexmap.proofs.MapLemmas.{some_index}
 use Rattle.zt_history.specs.Tree.{Branch, branch_named, head_at, headed}
-use Rattle.zt_history.specs.Branches.{branches_by}
+use Rattle.zt_history.specs.ProofsOnly.Branches.{branches_by}
 use Rattle.zt_history.proofs.ListLaws.{length-mapped}
 
 position_or_len-map : {A B : Type 0} (test : B → Bool) (f : A → B) (xs : List A) → position_or_len test (map f xs) ≡ position_or_len (λ x. test (f x)) xs

@@ -15,11 +15,12 @@ use Rattle.zt_history.specs.declared.history.Undo.{Undo}
 use Rattle.zt_history.specs.declared.history.Undo.TheVariants as undo
 use Rattle.zt_history.specs.Tree.{Made, Branch, parent_of, parent_at, made_by, state_at, head_at, headed, branch_named}
 use Rattle.zt_history.specs.HistoryRefusals.{most_moments}
-use Rattle.zt_history.specs.Branches.{without_last}
-use Rattle.zt_history.specs.Timeline.{after_call}
-use Rattle.zt_history.specs.TreeInvariant.{AreMoments, AreBranches, IsMade, IsHistory}
-use Rattle.zt_history.specs.MomentNodes.{Chronicle, IsTurned, run_at}
-use Rattle.zt_history.specs.KeptHistory.{IsKept, timeline_of}
+use Rattle.zt_history.specs.ProofsOnly.Branches.{without_last}
+use Rattle.zt_history.specs.ProofsOnly.Timeline.{after_call}
+use Rattle.zt_history.specs.TreeInvariant.{AreMoments, AreBranches, IsMade}
+use Rattle.zt_history.specs.ProofsOnly.TreeInvariant.{IsHistory}
+use Rattle.zt_history.specs.ProofsOnly.MomentNodes.{Chronicle, IsTurned, run_at}
+use Rattle.zt_history.specs.ProofsOnly.KeptHistory.{IsKept, timeline_of}
 use Rattle.zt_history.proofs.ListLaws.{get-last}
 use Rattle.zt_history.proofs.RunLaws.{moment-consistent, moment-room}
 use Rattle.zt_history.proofs.GrownLaws.{history-push, history-dropped, moments-push, moments-left}

@@ -13,7 +13,8 @@ use Rattle.zt_store.specs.StoreView.{Stored}
 use Rattle.zt_store.proofs.Fitting.{all_fit-push, all_fit-kept, all_fit-left}
 use Rattle.zt_history.specs.Tree.{Made, made_at, parent_of, parent_at, state_at}
 use Rattle.zt_history.specs.HistoryRefusals.{most_moments}
-use Rattle.zt_history.specs.TreeInvariant.{Falls, IsMade, AreMoments, record_of, recorded_at, IsHistory}
+use Rattle.zt_history.specs.TreeInvariant.{Falls, IsMade, AreMoments, record_of, recorded_at}
+use Rattle.zt_history.specs.ProofsOnly.TreeInvariant.{IsHistory}
 use Rattle.zt_history.proofs.ListLaws.{get-left, get-last, place}
 use Rattle.zt_history.proofs.MoreLaws.{falls-left, falls-push, state-more, record_of-more}
 use Rattle.zt_history.proofs.RecordLaws.{record_of-here, record_of-others}

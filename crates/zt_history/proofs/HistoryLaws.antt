@@ -15,7 +15,8 @@ use Rattle.zt_store.specs.RecordRows.{all_fit}
 use Rattle.zt_store.specs.StoreView.{Stored}
 use Rattle.zt_store.proofs.Fitting.{all_fit-set}
 use Rattle.zt_history.specs.Tree.{Made, parent_at, state_at}
-use Rattle.zt_history.specs.TreeInvariant.{Falls, record_of, recorded_at, IsHistory}
+use Rattle.zt_history.specs.TreeInvariant.{Falls, record_of, recorded_at}
+use Rattle.zt_history.specs.ProofsOnly.TreeInvariant.{IsHistory}
 use Rattle.zt_history.proofs.ListLaws.{get-within, get-set_same, get-set_other}
 use Rattle.zt_history.proofs.RecordLaws.{record_of-others, exchange-back, exchange-forth}
 use Rattle.zt_history.proofs.RunLaws.{state-opening}

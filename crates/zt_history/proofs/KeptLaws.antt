@@ -11,9 +11,10 @@ use Rattle.zt_history.specs.declared.history.Undo.{Undo}
 use Rattle.zt_history.specs.declared.history.Undo.TheVariants as undo
 use Rattle.zt_history.specs.Tree.{Made, Branch, opening_tree, parent_at, state_at, calls_to, replies_to}
 use Rattle.zt_history.specs.Timeline.{Timeline}
-use Rattle.zt_history.specs.TreeInvariant.{AreMoments, AreBranches, IsHistory}
-use Rattle.zt_history.specs.MomentNodes.{Chronicle, IsTurned}
-use Rattle.zt_history.specs.KeptHistory.{IsKept, timeline_of}
+use Rattle.zt_history.specs.TreeInvariant.{AreMoments, AreBranches}
+use Rattle.zt_history.specs.ProofsOnly.TreeInvariant.{IsHistory}
+use Rattle.zt_history.specs.ProofsOnly.MomentNodes.{Chronicle, IsTurned}
+use Rattle.zt_history.specs.ProofsOnly.KeptHistory.{IsKept, timeline_of}
 use Rattle.zt_history.proofs.HistoryLaws.{history-opening, history-back, history-forth}
 use Rattle.zt_history.proofs.RunLaws.{run-path}
 

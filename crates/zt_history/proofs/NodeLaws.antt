@@ -18,7 +18,7 @@ use Rattle.zt_history.specs.declared.moments.MomentNode.{MomentNode}
 use Rattle.zt_history.specs.Tree.{Made, made_at, parent_of, parent_at, path}
 use Rattle.zt_history.specs.HistoryRefusals.{most_moments}
 use Rattle.zt_history.specs.TreeInvariant.{Falls}
-use Rattle.zt_history.specs.MomentNodes.{Chronicle, AreNodes, AreListed, IsTurned, made_as, made_in, records_in, parents_in}
+use Rattle.zt_history.specs.ProofsOnly.MomentNodes.{Chronicle, AreNodes, AreListed, IsTurned, made_as, made_in, records_in, parents_in}
 use Rattle.zt_history.proofs.ListLaws.{length-mapped, get-within, get-left, get-last, get-set_same, get-set_other, place}
 use Rattle.zt_history.proofs.MoreLaws.{path-more, falls-push, falls-left}
 use Rattle.zt_history.proofs.PathLaws.{path-opening, path-step, length-path, opening-path}

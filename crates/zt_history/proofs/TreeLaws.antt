@@ -10,7 +10,7 @@ use Rattle.std.proofs.lemmas.Map.Keys.{IsDistinct-push}
 use Rattle.std.proofs.lemmas.Option.{none-some, slice_get_within}
 use Rattle.std.proofs.Math.Seq.{take-append_seam}
 use Rattle.zt_history.specs.Tree.{Branch, branch_named, head_at, headed}
-use Rattle.zt_history.specs.Branches.{without_last}
+use Rattle.zt_history.specs.ProofsOnly.Branches.{without_last}
 use Rattle.zt_history.specs.TreeInvariant.{AreBranches, names_of}
 use Rattle.zt_history.proofs.BranchLaws.{position-map}
 use Rattle.zt_history.proofs.ListLaws.{get-left, length-mapped}

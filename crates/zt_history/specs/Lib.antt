@@ -3,7 +3,5 @@ pub mod Tree
 pub mod HistoryRefusals
 pub mod Timeline
 pub mod TreeInvariant
-pub mod KeptHistory
 -- Used by proofs only: no public clause depends on them.
-pub mod Branches
-pub mod MomentNodes
+pub mod ProofsOnly

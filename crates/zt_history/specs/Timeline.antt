@@ -1,8 +1,7 @@
 -- How a history is seen: its tree, the moment at which its store stands, and where it stands again once its last change
 -- is taken back. The state of the store is no part of it, since it is that of the moment.
-use Rattle.std.specs.Prelude.{◌≡◌, ◌⊎◌, ℕ, suc, ◌≤◌, List, length, Option, None, Some}
-use Rattle.zt_rows.specs.declared.calls.Call.{Call}
-use Rattle.zt_history.specs.Tree.{Made, Tree, last_moment, opening_tree, path, head_at, called, branched}
+use Rattle.std.specs.Prelude.{◌≡◌, ◌⊎◌, ℕ, ◌≤◌, List, length, Option, None, Some}
+use Rattle.zt_history.specs.Tree.{Made, Tree, opening_tree, path, head_at, branched}
 
 -- a tree, and one of its moments
 pub record Point : Type 0 where
@@ -34,10 +33,6 @@ point_of h = record { tree = h.tree; position = h.position }
 -- where it stands again once a call on this branch is taken back
 abbrev pub at_head : Timeline → ℕ → Point
 at_head h b = record { tree = h.tree; position = head_at h.tree.branches b }
-
--- a call at the head of this branch, and where it stands again once that is taken back
-abbrev pub after_call : Timeline → ℕ → ℕ → Call → Timeline
-after_call h b process call = record { tree = called h.tree b process call; position = suc (last_moment h.tree); before = Some (at_head h b) }
 
 -- a branch at this moment, and where it stands again once that is taken back
 abbrev pub after_branch : Timeline → List ℕ → ℕ → Timeline

@@ -1,5 +1,5 @@
--- What holds of every tree, and what a history keeps: a store at one of the moments, and for each moment the record by
--- which the store goes over the call that made it, back or forth.
+-- What holds of every tree, and the record of each moment: the rows by which a store goes over the call that made it,
+-- back or forth.
 use Rattle.std.specs.Prelude.{◌≡◌, ℕ, suc, ◌≤◌, true, if◌then◌else◌, List, length, map, Option, Some, slice_get}
 use Rattle.std.specs.List.{AllByRecursion, IsDistinct}
 use Rattle.std.specs.Option.{option_map}
@@ -10,8 +10,6 @@ use Rattle.zt_rows.specs.Change.{before}
 use Rattle.zt_rows.specs.Reads.{runs}
 use Rattle.zt_rows.specs.Step.{IsCall, step}
 use Rattle.zt_rows.specs.Tests.{among}
-use Rattle.zt_store.specs.StoreView.{Stored}
-use Rattle.zt_store.specs.RecordRows.{all_fit}
 use Rattle.zt_history.specs.Tree.{Made, Branch, Tree, main_name, last_moment, made_at, parent_at, path, state_at}
 use Rattle.zt_history.specs.HistoryRefusals.{most_moments}
 
@@ -60,13 +58,3 @@ record_of made position m =
 -- the same where there is such a record: none at the opening, nor beyond the last moment
 abbrev pub recorded_at : List Made → ℕ → ℕ → Option (List (RowKey × Option Row))
 recorded_at made position m = option_map (λ _. record_of made position m) (made_at made m)
-
--- ---- a history
-
--- a store at the position, and records that fit it: moment i + 1 has the i-th
-pub record IsHistory (made : List Made) (position : ℕ) (store : Stored) (records : List (List (RowKey × Option Row))) : Type 0 where
-  pub within : position ≤ length made
-  pub here : store.state ≡ state_at made position
-  pub many : length records ≡ length made
-  pub each : (i : ℕ) → slice_get records i ≡ recorded_at made position (suc i)
-  pub fit : all_fit store.places records ≡ true

@@ -1,5 +1,5 @@
 ghost use Rattle.std.specs.Prelude.{◌≡◌, ◌<◌, ◌+◌, ◌++◌, ◌∷◌, [], None, IfOk, OnOk, OnErr, IfSome, length};
-ghost use Rattle.zt_history.specs.Branches.{without_last};
+ghost use Rattle.zt_history.specs.ProofsOnly.Branches.{without_last};
 ghost use Rattle.zt_history.specs.Tree.{Branch, branch_named, head_at, headed, opening_tree};
 
 use indexmap::IndexMap;
@@ -29,7 +29,7 @@ pub(crate) struct Branches {
 
 impl Model for Branches {
     ghost use Rattle.std.specs.Prelude.{List};
-    ghost use Rattle.zt_history.specs.Branches.{branches_by};
+    ghost use Rattle.zt_history.specs.ProofsOnly.Branches.{branches_by};
     ghost use Rattle.zt_history.specs.Tree.{Branch};
 
     ghost Value = { List Branch };

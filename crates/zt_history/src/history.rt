@@ -54,7 +54,7 @@ impl Drop for History {
 
 impl Model for History {
     ghost use Rattle.zt_history.specs.Timeline.{Timeline};
-    ghost use Rattle.zt_history.specs.KeptHistory.{timeline_of, IsKept};
+    ghost use Rattle.zt_history.specs.ProofsOnly.KeptHistory.{timeline_of, IsKept};
 
     ghost Value = { Timeline };
 

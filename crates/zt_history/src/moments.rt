@@ -7,8 +7,8 @@ ghost use Rattle.zt_rows.specs.Room.{HasRoom};
 ghost use Rattle.zt_rows.specs.Step.{step};
 ghost use Rattle.zt_store.specs.Places.{Keeps, fits};
 ghost use Rattle.zt_store.specs.RecordRows.{all_fit};
-ghost use Rattle.zt_history.specs.Branches.{without_last};
-ghost use Rattle.zt_history.specs.MomentNodes.{IsTurned, made_as, run_at};
+ghost use Rattle.zt_history.specs.ProofsOnly.Branches.{without_last};
+ghost use Rattle.zt_history.specs.ProofsOnly.MomentNodes.{IsTurned, made_as, run_at};
 ghost use Rattle.zt_history.specs.TreeInvariant.{Falls};
 ghost use Rattle.zt_history.specs.Tree.{made_at, parent_at, path};
 
@@ -38,7 +38,7 @@ pub(crate) struct Moments {
 }
 
 impl Model for Moments {
-    ghost use Rattle.zt_history.specs.MomentNodes.{AreListed, Chronicle, made_in, records_in};
+    ghost use Rattle.zt_history.specs.ProofsOnly.MomentNodes.{AreListed, Chronicle, made_in, records_in};
 
     ghost Value = { Chronicle };
 

@@ -1,6 +1,7 @@
 ghost use Rattle.std.specs.Prelude.{◌≡◌, ◌<◌, ◌≤◌, true, None, IfOk, OnOk, OnErr, length};
 ghost use Rattle.zt_rows.specs.Reads.{runs};
-ghost use Rattle.zt_history.specs.Timeline.{after_branch, after_call, moved_to, unmoved};
+ghost use Rattle.zt_history.specs.Timeline.{after_branch, moved_to, unmoved};
+ghost use Rattle.zt_history.specs.ProofsOnly.Timeline.{after_call};
 ghost use Rattle.zt_history.specs.Tree.{branch_named, head_at, made_by, state_at};
 
 use crate::branches::BranchId;

@@ -7,7 +7,7 @@ use Rattle.std.specs.Ordering.{is_eq, is_gt, nat_cmp}
 use Rattle.std.proofs.lemmas.Bool.{eqb-true, eq-eqb, cases_lt}
 use Rattle.std.proofs.lemmas.Bool.Decides.{nat_tests}
 use Rattle.zt_rows.proofs.RowLaws.{or_right, not_true}
-use Rattle.zt_store.specs.Chains.{IsNext}
+use Rattle.zt_index.specs.Chains.{IsNext}
 
 -- ---- a walk
 

@@ -14,14 +14,16 @@ use Rattle.zt_rows.specs.declared.rows.Life.{Life}
 use Rattle.zt_rows.specs.declared.rows.Row.{Row}
 use Rattle.zt_rows.specs.declared.rows.Row.TheVariants as rows
 use Rattle.zt_rows.specs.Keys.{rowkey_cmp, rowkey_eq}
-use Rattle.zt_rows.specs.KeyOrder.{rowkey_cmp_total, rowkey_eq-cmp, rowkey_eq-self, rowkey_eq-equal}
+use Rattle.zt_rows.specs.ProofsOnly.KeyOrder.{rowkey_cmp_total, rowkey_eq-cmp, rowkey_eq-self, rowkey_eq-equal}
 use Rattle.zt_rows.specs.RowOrder.{changed_rows, kept}
 use Rattle.zt_rows.specs.State.{State, row, put, change}
 use Rattle.zt_rows.specs.Reads.{as_entry, entry}
 use Rattle.zt_rows.proofs.ReadLaws.{entry-row}
 use Rattle.zt_rows.proofs.RowLaws.{In, in-row, true≢false, not_true}
 use Rattle.zt_rows.proofs.StateLaws.{row-change}
-use Rattle.zt_jobs.specs.EndedTasks.{left_behind, only, with_end, without_tables, held_at, handles_of}
+use Rattle.zt_store.specs.KoidSets.{only}
+use Rattle.zt_jobs.specs.EndedTasks.{held_at, handles_of}
+use Rattle.zt_jobs.specs.ProofsOnly.EndedTasks.{left_behind, with_end, without_tables}
 use Rattle.zt_jobs.proofs.PartLaws.{EntriesSeen, entry-none, entry-some}
 
 -- ---- lists of rows
@@ -156,17 +158,17 @@ handles-first S p v held there none =
     first-found (held_at (only p)) (key.Entry p v) (rows.Entry held) held (ap (λ b. if b then Some held else None) (eq-eqb p p refl))
     S.rows S.sorted (entry-row S p v held there) before
   where
-    gone : (q h : ℕ) (other : Held) (b : Bool) → (p == q) ≡ b → row S (key.Entry q h) ≡ Some (rows.Entry other) → is_lt (rowkey_cmp (key.Entry q h) (key.Entry p v)) ≡ true → (if b then Some other else None) ≡ None
+    gone : (q h : ℕ) (other : Held) (b : Bool) → (q == p) ≡ b → row S (key.Entry q h) ≡ Some (rows.Entry other) → is_lt (rowkey_cmp (key.Entry q h) (key.Entry p v)) ≡ true → (if b then Some other else None) ≡ None
     gone q h other false e at below = refl
     gone q h other true e at below =
-        let same : p ≡ q = eqb-true p q e in
+        let same : p ≡ q = sym (eqb-true q p e) in
         let lower : h < v = lower_value p h v (subst (λ z. is_lt (rowkey_cmp (key.Entry z h) (key.Entry p v)) ≡ true) (sym same) below) in
         let here : entry S p h ≡ Some other = ap (λ z. entry S z h) same ∙ ap as_entry at in
         let nothing : entry S p h ≡ None = none h lower in
         cc
 
     before : (e : RowKey × Row) → In e S.rows → is_lt (rowkey_cmp e.0 (key.Entry p v)) ≡ true → held_at (only p) e ≡ None
-    before (key.Entry q h, rows.Entry other) m below = gone q h other (p == q) refl (in-row S (key.Entry q h) (rows.Entry other) m) below
+    before (key.Entry q h, rows.Entry other) m below = gone q h other (q == p) refl (in-row S (key.Entry q h) (rows.Entry other) m) below
     before _ m below = refl
 
 -- a seen entry is gone
@@ -207,15 +209,15 @@ pub handles-none : (S : State) (p : ℕ) → handles_of (change (without_tables 
 unfolding handles_of
 handles-none S p = found-none (held_at (only p)) (change (without_tables (only p)) S).rows none
   where
-    gone : (q h : ℕ) (held : Held) (r : Option Row) (b : Bool) → (p == q) ≡ b → option_and_then (without_tables (only p) (key.Entry q h)) r ≡ Some (rows.Entry held) → (if b then Some held else None) ≡ None
+    gone : (q h : ℕ) (held : Held) (r : Option Row) (b : Bool) → (q == p) ≡ b → option_and_then (without_tables (only p) (key.Entry q h)) r ≡ Some (rows.Entry held) → (if b then Some held else None) ≡ None
     gone q h held r false e at = refl
-    gone q h held (Some (rows.Entry other)) true e at = let none : (if p == q then None else Some (rows.Entry other)) ≡ None = ap (λ b. if b then None else Some (rows.Entry other)) e in cc
+    gone q h held (Some (rows.Entry other)) true e at = let none : (if q == p then None else Some (rows.Entry other)) ≡ None = ap (λ b. if b then None else Some (rows.Entry other)) e in cc
     gone q h held (Some r) true e at = cc
     gone q h held None true e at = cc
 
     none : (e : RowKey × Row) → In e (change (without_tables (only p)) S).rows → held_at (only p) e ≡ None
     none (key.Entry q h, rows.Entry held) m =
-        gone q h held (row S (key.Entry q h)) (p == q) refl
+        gone q h held (row S (key.Entry q h)) (q == p) refl
         (sym (row-change (without_tables (only p)) S (key.Entry q h)) ∙ in-row (change (without_tables (only p)) S) (key.Entry q h) (rows.Entry held) m)
     none _ m = refl
 
@@ -235,13 +237,13 @@ pub handles-left : (S : State) (before : ℕ → Bool) (p : ℕ) → before p �
 unfolding handles_of change
 handles-left S before p stays = changed-found (without_tables before) (held_at (only p)) same S.rows
   where
-    of : (q h : ℕ) (held : Held) (b c : Bool) → before q ≡ b → (p == q) ≡ c → option_and_then (λ s. held_at (only p) (key.Entry q h, s)) (if b then None else Some (rows.Entry held)) ≡ (if c then Some held else None)
+    of : (q h : ℕ) (held : Held) (b c : Bool) → before q ≡ b → (q == p) ≡ c → option_and_then (λ s. held_at (only p) (key.Entry q h, s)) (if b then None else Some (rows.Entry held)) ≡ (if c then Some held else None)
     of q h held false c e d = ap (λ b. if b then Some held else None) d
     of q h held true false e d = refl
-    of q h held true true e d = let no : before q ≡ false = ap before (sym (eqb-true p q d)) ∙ stays in cc
+    of q h held true true e d = let no : before q ≡ false = ap before (eqb-true q p d) ∙ stays in cc
 
     same : (k : RowKey) (r : Row) → option_and_then (λ s. held_at (only p) (k, s)) (without_tables before k r) ≡ held_at (only p) (k, r)
-    same (key.Entry q h) (rows.Entry held) = of q h held (before q) (p == q) refl refl
+    same (key.Entry q h) (rows.Entry held) = of q h held (before q) (q == p) refl refl
     same _ r = refl
 
 -- what one more process held stands behind what those with smaller koids held
@@ -254,7 +256,7 @@ handles-more S before after p is lower = split-found (held_at after) (held_at be
     or-false false = refl
 
     -- a process that is not the one more
-    other : (q : ℕ) → (p == q) ≡ false → after q ≡ before q
+    other : (q : ℕ) → (q == p) ≡ false → after q ≡ before q
     other q e = is q ∙ ap (λ c. before q || c) e ∙ or-false (before q)
 
     -- a process that is not among those before
@@ -264,23 +266,23 @@ handles-more S before after p is lower = split-found (held_at after) (held_at be
     not-before : (q : ℕ) → p ≤ q → before q ≡ false
     not-before q le = not_true (before q) (λ t. let l : q < p = lower q t in absurd (omega arith))
 
-    none-of : (q : ℕ) (held : Held) (b : Bool) → (p == q) ≡ b → (if b then Some held else None) ≡ None → (if after q then Some held else None) ≡ (if before q then Some held else None)
+    none-of : (q : ℕ) (held : Held) (b : Bool) → (q == p) ≡ b → (if b then Some held else None) ≡ None → (if after q then Some held else None) ≡ (if before q then Some held else None)
     none-of q held true e t = cc
     none-of q held false e t = ap (λ b. if b then Some held else None) (other q e)
 
     none : (e : RowKey × Row) → held_at (only p) e ≡ None → held_at after e ≡ held_at before e
-    none (key.Entry q h, rows.Entry held) t = none-of q held (p == q) refl t
+    none (key.Entry q h, rows.Entry held) t = none-of q held (q == p) refl t
     none _ t = refl
 
-    some-of : (q : ℕ) (held v : Held) (b : Bool) → (p == q) ≡ b → (if b then Some held else None) ≡ Some v → ((if after q then Some held else None) ≡ Some v) × ((if before q then Some held else None) ≡ None)
+    some-of : (q : ℕ) (held v : Held) (b : Bool) → (q == p) ≡ b → (if b then Some held else None) ≡ Some v → ((if after q then Some held else None) ≡ Some v) × ((if before q then Some held else None) ≡ None)
     some-of q held v true e t =
-        let same : p ≡ q = eqb-true p q e in
+        let same : p ≡ q = sym (eqb-true q p e) in
         let no : before q ≡ false = not-before q (omega arith) in
         (ap (λ b. if b then Some held else None) (only-one q no ∙ e) ∙ t, ap (λ b. if b then Some held else None) no)
     some-of q held v false e t = cc
 
     some : (e : RowKey × Row) (v : Held) → held_at (only p) e ≡ Some v → (held_at after e ≡ Some v) × (held_at before e ≡ None)
-    some (key.Entry q h, rows.Entry held) v t = some-of q held v (p == q) refl t
+    some (key.Entry q h, rows.Entry held) v t = some-of q held v (q == p) refl t
     some _ v t = cc
 
     owners : (q x h g : ℕ) → is_lt (ordering_then (nat_cmp q x) (nat_cmp h g)) ≡ true → q ≤ x
@@ -293,12 +295,12 @@ handles-more S before after p is lower = split-found (held_at after) (held_at be
         (ap (λ b. if b then Some other else None) no, ap (λ b. if b then Some other else None) (only-one x no))
     behind q h same _ above = (refl, refl)
 
-    later-of : (q h : ℕ) (held v : Held) (b : Bool) → (p == q) ≡ b → (if b then Some held else None) ≡ Some v → (d : RowKey × Row) → is_lt (rowkey_cmp (key.Entry q h) d.0) ≡ true → (held_at before d ≡ None) × (held_at after d ≡ held_at (only p) d)
-    later-of q h held v true e t d above = behind q h (eqb-true p q e) d above
+    later-of : (q h : ℕ) (held v : Held) (b : Bool) → (q == p) ≡ b → (if b then Some held else None) ≡ Some v → (d : RowKey × Row) → is_lt (rowkey_cmp (key.Entry q h) d.0) ≡ true → (held_at before d ≡ None) × (held_at after d ≡ held_at (only p) d)
+    later-of q h held v true e t d above = behind q h (sym (eqb-true q p e)) d above
     later-of q h held v false e t d above = cc
 
     later : (e d : RowKey × Row) (v : Held) → held_at (only p) e ≡ Some v → is_lt (rowkey_cmp e.0 d.0) ≡ true → (held_at before d ≡ None) × (held_at after d ≡ held_at (only p) d)
-    later (key.Entry q h, rows.Entry held) d v t above = later-of q h held v (p == q) refl t d above
+    later (key.Entry q h, rows.Entry held) d v t above = later-of q h held v (q == p) refl t d above
     later _ d v t above = cc
 
 pub handles-nothing : (S : State) (before : ℕ → Bool) → ((y : ℕ) → before y ≡ false) → handles_of S before ≡ []

@@ -10,12 +10,17 @@ use Rattle.zt_rows.specs.Reads.{object}
 use Rattle.zt_rows.specs.Tests.{among, link_at}
 use Rattle.zt_rows.specs.End.{links, chain, is_live_task, is_under}
 use Rattle.zt_rows.proofs.RowLaws.{and_left, and_right, and_both, or_left, or_right, or_true, true≢false, same_test}
-use Rattle.zt_jobs.specs.TaskTree.{IsWalkable, IsRising, is_child_in}
-use Rattle.zt_jobs.specs.SubtreeWalk.{IsNoted}
-use Rattle.zt_jobs.specs.EndedTasks.{only}
+use Rattle.zt_store.specs.KoidSets.{only}
+use Rattle.zt_jobs.specs.TaskTree.{IsWalkable, is_child_in}
+use Rattle.zt_jobs.specs.ProofsOnly.TaskTree.{IsRising}
+use Rattle.zt_jobs.specs.ProofsOnly.SubtreeWalk.{IsNoted}
 use Rattle.zt_jobs.proofs.ChainLaws.{chain-links, links-among, links-none, under-itself}
 
 -- ---- members of a list
+
+-- a number is this one from either side
+pub this_one : (x y : ℕ) → (x == y) ≡ only x y
+this_one x y = same_test (x == y) (y == x) (λ t. eq-eqb y x (sym (eqb-true x y t))) (λ t. eq-eqb x y (sym (eqb-true y x t)))
 
 among-push : (xs : List ℕ) (x y : ℕ) → among (xs ++ x ∷ []) y ≡ (among xs y || (x == y))
 among-push xs x y = list_any-append (λ m. m == y) xs (x ∷ []) ∙ ap (λ b. among xs y || b) (or-none (x == y))
@@ -102,7 +107,7 @@ module _ (S : State) (job : ℕ) (walkable : IsWalkable S job) where
   -- what is below what is under the job is under it
   child-under : (y x : ℕ) → is_under S job y ≡ true → is_child_in S (only y) x ≡ true → is_under S job x ≡ true
   child-under y x under child =
-      let parent : y ≡ link_at S x = eqb-true y (link_at S x) (child-parent S (only y) x child) in
+      let parent : y ≡ link_at S x = sym (eqb-true (link_at S x) y (child-parent S (only y) x child)) in
       elim (x == job) as (λ b. (x == job) ≡ b → is_under S job x ≡ true) [
         | true ↦ λ e. subst (λ z. is_under S job z ≡ true) (sym (eqb-true x job e)) (under-itself S job)
         | false ↦ λ e. walkable x (apart x e) ∙ child-also S (only y) (is_under S job) x child (subst (λ z. is_under S job z ≡ true) parent under)

@@ -18,29 +18,22 @@ use Rattle.zt_rows.specs.Tests.{among}
 use Rattle.zt_rows.specs.End.{left_by, end}
 use Rattle.zt_rows.proofs.StateLaws.{row-change, row-put, same_state}
 use Rattle.zt_rows.proofs.ReadLaws.{object-row, entry-row}
-use Rattle.zt_rows.proofs.RowLaws.{or_true, true≢false, not_true}
-use Rattle.zt_store.specs.Chains as chains
-use Rattle.zt_store.specs.Chains.{IsBehind}
-use Rattle.zt_store.specs.Criteria.{is_by, waits_where}
-use Rattle.zt_store.specs.StepView.{Stepping}
-use Rattle.zt_jobs.specs.TaskTree.{IsRising}
-use Rattle.zt_jobs.specs.EndedTasks.{IsAhead, left_behind, only, with_end, without_tables, without_waits}
-use Rattle.zt_jobs.specs.NextRow.{IsNextRow}
+use Rattle.zt_rows.proofs.RowLaws.{or_true, not_true}
+use Rattle.zt_index.specs.Chains as chains
+use Rattle.zt_index.specs.Chains.{IsBehind}
+use Rattle.zt_index.specs.Criteria.{is_by, waits_where}
+use Rattle.zt_store.specs.KoidSets.{only}
+use Rattle.zt_jobs.specs.ProofsOnly.TaskTree.{IsRising}
+use Rattle.zt_jobs.specs.ProofsOnly.EndedTasks.{left_behind, with_end, without_tables, without_waits}
+use Rattle.zt_jobs.specs.ProofsOnly.NextRow.{IsNextRow}
+use Rattle.zt_jobs.proofs.MemberLaws.{this_one}
 use Rattle.zt_jobs.proofs.WalkLaws.{behind-same, behind-change, change-then, IsSeen, seen-none, seen-put, seen-past, seen-all, none-left, unseen-left, below_more, below_same, below_none, below_past, below_all, below_over, below_or}
-
--- ---- later moments of the step
-
-pub ahead-itself : (s : Stepping) → IsAhead s s
-ahead-itself s = record { beginning = refl; kept = λ R f. f }
-
-pub ahead-then : (s t u : Stepping) → IsAhead s t → IsAhead t u → IsAhead s u
-ahead-then s t u first second = record { beginning = second.beginning ∙ first.beginning; kept = λ R f. second.kept R (first.kept R f) }
 
 -- ---- sets of processes and jobs
 
 -- one more of a list
 pub among-more : (xs : List ℕ) (i d : ℕ) → i < length xs → (y : ℕ) → among (take (i + 1) xs) y ≡ (among (take i xs) y || only (get_or xs i d) y)
-among-more xs i d lt y = list_any_more (λ m. m == y) xs i d lt
+among-more xs i d lt y = list_any_more (λ m. m == y) xs i d lt ∙ ap (λ b. among (take i xs) y || b) (this_one (get_or xs i d) y)
 
 -- the same, where the element at i is known as m
 pub among-item : (xs : List ℕ) (i m : ℕ) → i < length xs → m ≡ get_or xs i m → (y : ℕ) → among (take (i + 1) xs) y ≡ (among (take i xs) y || only m y)
@@ -54,7 +47,7 @@ lower-from xs i m y (suc j) rising lt is le here =
     elim (or_true (among (take j xs) y) _ more) [
       | inl e ↦ lower-from xs i m y j rising lt is (omega arith) e
       | inr e ↦
-          let same : get_or xs j m ≡ y = eqb-true (get_or xs j m) y e in
+          let same : get_or xs j m ≡ y = sym (eqb-true y (get_or xs j m) e) in
           let less : get_or xs j m < get_or xs i m = rising j i m (omega arith) lt in
           omega arith
     ]
@@ -98,8 +91,7 @@ end-one S how x = behind-change (with_end (only x) how) S (key.Object x) (λ q a
   where
     other : (q : RowKey) → rowkey_eq q (key.Object x) ≡ false → (r : Option Row) → option_and_then (with_end (only x) how q) r ≡ r
     other (key.Object y) apart (Some (rows.Object o)) =
-        let no : only x y ≡ false = not_true (x == y) (λ t. true≢false (y == x) (eq-eqb y x (sym (eqb-true x y t))) apart) in
-        ap (λ b. Some (rows.Object (record o { link = if b then 0 else o.link; life = if b then how else o.life }))) no
+        ap (λ b. Some (rows.Object (record o { link = if b then 0 else o.link; life = if b then how else o.life }))) apart
     other _ apart (Some r) = refl
     other q apart None = refl
 
@@ -212,8 +204,7 @@ module _ (S : State) (p : ℕ) where
   entries-all T v seen is = seen-all (without_tables (only p)) S T (seen_entries p (v + 1)) seen at
     where
       other : (q h : ℕ) → (q == p) ≡ false → (r : Option Row) → option_and_then (without_tables (only p) (key.Entry q h)) r ≡ r
-      other q h apart (Some (rows.Entry held)) =
-          ap (λ b. if b then None else Some (rows.Entry held)) (not_true (p == q) (λ t. true≢false (q == p) (eq-eqb q p (sym (eqb-true p q t))) apart))
+      other q h apart (Some (rows.Entry held)) = ap (λ b. if b then None else Some (rows.Entry held)) apart
       other q h apart (Some r) = refl
       other q h apart None = refl
 
@@ -260,7 +251,7 @@ wait-gone : (T : State) (p n : ℕ) → waits_where T (is_by p) n ≡ true → p
 wait-gone T p n made = ap (put T (key.Wait n)) (sym (gone (row T (key.Wait n)) made))
   where
     gone : (r : Option Row) → option_map_or (is_by p) (as_wait r) false ≡ true → option_and_then (without_waits (only p) (key.Wait n)) r ≡ None
-    gone (Some (rows.Wait w)) e = ap (λ b. if b then None else Some (rows.Wait w)) (eq-eqb p w.process (sym (eqb-true w.process p e)))
+    gone (Some (rows.Wait w)) e = ap (λ b. if b then None else Some (rows.Wait w)) e
     gone (Some r) e = cc
     gone None e = cc
 
@@ -268,8 +259,7 @@ wait-stays : (T : State) (p n : ℕ) → waits_where T (is_by p) n ≡ false →
 wait-stays T p n other = stays (row T (key.Wait n)) other
   where
     stays : (r : Option Row) → option_map_or (is_by p) (as_wait r) false ≡ false → option_and_then (without_waits (only p) (key.Wait n)) r ≡ r
-    stays (Some (rows.Wait w)) e =
-        ap (λ b. if b then None else Some (rows.Wait w)) (not_true (p == w.process) (λ t. true≢false (w.process == p) (eq-eqb w.process p (sym (eqb-true p w.process t))) e))
+    stays (Some (rows.Wait w)) e = ap (λ b. if b then None else Some (rows.Wait w)) e
     stays (Some r) e = refl
     stays None e = refl
 

@@ -6,10 +6,10 @@ use Rattle.std.proofs.lemmas.Bool.Decides.{nat_tests}
 use Rattle.zt_rows.specs.declared.keys.RowKey.{RowKey}
 use Rattle.zt_rows.specs.declared.rows.Row.{Row}
 use Rattle.zt_rows.specs.Keys.{rowkey_eq}
-use Rattle.zt_rows.specs.KeyOrder.{rowkey_eq-equal}
+use Rattle.zt_rows.specs.ProofsOnly.KeyOrder.{rowkey_eq-equal}
 use Rattle.zt_rows.specs.State.{State, row, put, change}
 use Rattle.zt_rows.proofs.StateLaws.{row-put, row-change, same_state, put-row}
-use Rattle.zt_jobs.specs.EndedTasks.{left_behind}
+use Rattle.zt_jobs.specs.ProofsOnly.EndedTasks.{left_behind}
 
 -- ---- one key
 

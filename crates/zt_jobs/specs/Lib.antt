@@ -2,5 +2,4 @@
 pub mod TaskTree
 pub mod EndedTasks
 -- Used by proofs only: no public clause depends on them.
-pub mod NextRow
-pub mod SubtreeWalk
+pub mod ProofsOnly

@@ -1,6 +1,5 @@
 -- Where a live process or job stands in the tree of jobs. Parts of what a sound state keeps; this project's own form.
-use Rattle.std.specs.Prelude.{◌≡◌, ◌≢◌, ◌⊎◌, ◌<◌, ℕ, Bool, true, not, ◌==◌, ◌&&◌, List, Some}
-use Rattle.std.specs.List.{AllPairs}
+use Rattle.std.specs.Prelude.{◌≡◌, ◌≢◌, ◌⊎◌, ◌<◌, ℕ, Bool, true, not, ◌==◌, ◌&&◌, Some}
 use Rattle.zt_rows.specs.declared.rows.ObjectRow.{ObjectRow}
 use Rattle.zt_rows.specs.State.{State}
 use Rattle.zt_rows.specs.Reads.{object}
@@ -19,7 +18,3 @@ is_child_in S passes x = is_live_task (object S x) && (not (link_at S x == 0) &&
 -- this is exactly the live processes and jobs whose parent is under it
 abbrev pub IsWalkable : State → ℕ → Type 0
 IsWalkable S job = (x : ℕ) → x ≢ job → is_under S job x ≡ is_child_in S (is_under S job) x
-
--- each number of the list is below those behind it
-abbrev pub IsRising : List ℕ → Type 0
-IsRising xs = AllPairs (λ x y. x < y) xs

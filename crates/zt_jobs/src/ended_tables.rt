@@ -3,9 +3,12 @@ ghost use Rattle.zt_rows.specs.Reads.{entry};
 ghost use Rattle.zt_rows.specs.declared.keys.RowKey.TheVariants as key_variant;
 ghost use Rattle.zt_rows.specs.State.{change};
 ghost use Rattle.zt_rows.specs.Tests.{among};
-ghost use Rattle.zt_jobs.specs.TaskTree.{IsRising};
-ghost use Rattle.zt_jobs.specs.EndedTasks.{IsAhead, handles_of, left_behind, only, without_tables};
-ghost use Rattle.zt_jobs.specs.NextRow.{IsNextRow};
+ghost use Rattle.zt_store.specs.ProofsOnly.StepView.{IsAhead};
+ghost use Rattle.zt_store.specs.KoidSets.{only};
+ghost use Rattle.zt_jobs.specs.ProofsOnly.TaskTree.{IsRising};
+ghost use Rattle.zt_jobs.specs.EndedTasks.{handles_of};
+ghost use Rattle.zt_jobs.specs.ProofsOnly.EndedTasks.{left_behind, without_tables};
+ghost use Rattle.zt_jobs.specs.ProofsOnly.NextRow.{IsNextRow};
 
 use std::alloc::{AllocError, Global};
 use zt_rows::{HandleValue, Held, Koid, RowKey};

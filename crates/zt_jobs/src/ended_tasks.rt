@@ -5,8 +5,12 @@ ghost use Rattle.zt_rows.specs.State.{change};
 ghost use Rattle.zt_rows.specs.Tests.{among};
 ghost use Rattle.zt_store.specs.Places.{Keeps};
 ghost use Rattle.zt_store.specs.StepView.{Advanced, AsBegun};
-ghost use Rattle.zt_jobs.specs.TaskTree.{IsRising, IsWalkable};
-ghost use Rattle.zt_jobs.specs.EndedTasks.{IsAhead, handles_of, left_behind, only, with_end};
+ghost use Rattle.zt_store.specs.ProofsOnly.StepView.{IsAhead};
+ghost use Rattle.zt_store.specs.KoidSets.{only};
+ghost use Rattle.zt_jobs.specs.TaskTree.{IsWalkable};
+ghost use Rattle.zt_jobs.specs.ProofsOnly.TaskTree.{IsRising};
+ghost use Rattle.zt_jobs.specs.EndedTasks.{handles_of};
+ghost use Rattle.zt_jobs.specs.ProofsOnly.EndedTasks.{left_behind, with_end};
 
 use crate::ended_tables::take_tables;
 use crate::ended_waits::drop_waits;

@@ -1,7 +1,9 @@
 ghost use Rattle.std.specs.Prelude.{◌≡◌, OnOk};
 ghost use Rattle.zt_rows.specs.State.{change};
 ghost use Rattle.zt_rows.specs.Tests.{among};
-ghost use Rattle.zt_jobs.specs.EndedTasks.{IsAhead, only, without_waits};
+ghost use Rattle.zt_store.specs.ProofsOnly.StepView.{IsAhead};
+ghost use Rattle.zt_store.specs.KoidSets.{only};
+ghost use Rattle.zt_jobs.specs.ProofsOnly.EndedTasks.{without_waits};
 
 use std::alloc::AllocError;
 use zt_rows::{Koid, RowKey};

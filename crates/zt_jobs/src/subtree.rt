@@ -3,9 +3,10 @@ ghost use Rattle.std.specs.BTreeSet.{contains};
 ghost use Rattle.std.specs.Ordering.{nat_cmp};
 ghost use Rattle.zt_rows.specs.End.{is_under};
 ghost use Rattle.zt_rows.specs.Tests.{among};
-ghost use Rattle.zt_jobs.specs.TaskTree.{IsRising, IsWalkable, is_child_in};
-ghost use Rattle.zt_jobs.specs.SubtreeWalk.{IsNoted};
-ghost use Rattle.zt_jobs.specs.EndedTasks.{only};
+ghost use Rattle.zt_store.specs.KoidSets.{only};
+ghost use Rattle.zt_jobs.specs.TaskTree.{IsWalkable, is_child_in};
+ghost use Rattle.zt_jobs.specs.ProofsOnly.TaskTree.{IsRising};
+ghost use Rattle.zt_jobs.specs.ProofsOnly.SubtreeWalk.{IsNoted};
 
 use std::alloc::{AllocError, Global};
 use std::collections::BTreeSet;

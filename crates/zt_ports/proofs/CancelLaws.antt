@@ -14,7 +14,7 @@ use Rattle.zt_rows.proofs.RowLaws.{any_row-at, at-any_row, or_true, or_left, or_
 use Rattle.zt_store.specs.StepView.{Stepping, Advanced}
 use Rattle.zt_signals.specs.DroppedWaits.{is_cancelled_wait, without_cancelled_waits}
 use Rattle.zt_signals.proofs.ColumnLaws.{without_those}
-use Rattle.zt_ports.specs.CancelledWaits.{is_cancelled_packet}
+use Rattle.zt_ports.specs.ProofsOnly.CancelledWaits.{is_cancelled_packet}
 
 -- ---- two tests, one after the other
 

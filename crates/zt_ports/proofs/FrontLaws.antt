@@ -12,13 +12,13 @@ use Rattle.zt_rows.specs.declared.rows.Packet.{Packet}
 use Rattle.zt_rows.specs.declared.rows.Row.{Row}
 use Rattle.zt_rows.specs.declared.rows.Row.TheVariants as rows
 use Rattle.zt_rows.specs.Keys.{rowkey_cmp}
-use Rattle.zt_rows.specs.KeyOrder.{rowkey_eq-cmp, rowkey_eq-self, rowkey_eq-equal}
+use Rattle.zt_rows.specs.ProofsOnly.KeyOrder.{rowkey_eq-cmp, rowkey_eq-self, rowkey_eq-equal}
 use Rattle.zt_rows.specs.State.{State, row, put}
 use Rattle.zt_rows.specs.Reads.{as_packet, packet, packet_of, packets}
 use Rattle.zt_rows.specs.Room.{SuitsKey}
 use Rattle.zt_rows.specs.Tests.{first}
 use Rattle.zt_rows.proofs.ReadLaws.{some_one}
-use Rattle.zt_store.specs.FirstNumber.{IsFirst}
+use Rattle.zt_cells.specs.FirstNumber.{IsFirst}
 use Rattle.zt_ports.specs.PortFront.{without_packet, without_front}
 
 -- ---- tests

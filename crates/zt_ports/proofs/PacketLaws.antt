@@ -9,17 +9,17 @@ use Rattle.zt_rows.specs.declared.keys.RowKey.TheVariants as key
 use Rattle.zt_rows.specs.declared.rows.Row.{Row}
 use Rattle.zt_rows.specs.declared.rows.Row.TheVariants as rows
 use Rattle.zt_rows.specs.Keys.{rowkey_cmp}
-use Rattle.zt_rows.specs.KeyOrder.{rowkey_cmp-equal}
+use Rattle.zt_rows.specs.ProofsOnly.KeyOrder.{rowkey_cmp-equal}
 use Rattle.zt_rows.specs.State.{State, row}
 use Rattle.zt_rows.specs.Room.{is_above, next_key}
 use Rattle.zt_rows.specs.PortCalls.{is_user_packet_of}
 use Rattle.zt_rows.proofs.ReadLaws.{some_one}
-use Rattle.zt_store.specs.FirstNumber.{IsFirst}
-use Rattle.zt_signals.specs.KeyWalk.{IsNextUnder}
+use Rattle.zt_cells.specs.FirstNumber.{IsFirst}
+use Rattle.zt_signals.specs.ProofsOnly.KeyWalk.{IsNextUnder}
 use Rattle.zt_signals.proofs.NextKeyLaws.{next-none, next-above, next-there, next-least}
 use Rattle.zt_signals.proofs.ColumnLaws.{IsColumn, numbers_after, numbers-fewer}
-use Rattle.zt_ports.specs.PacketWalk.{packet_key, packet_index}
-use Rattle.zt_ports.specs.CancelledWaits.{is_cancelled_packet}
+use Rattle.zt_ports.specs.ProofsOnly.PacketWalk.{packet_key, packet_index}
+use Rattle.zt_ports.specs.ProofsOnly.CancelledWaits.{is_cancelled_packet}
 
 -- ---- keys of one port
 

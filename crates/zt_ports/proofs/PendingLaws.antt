@@ -9,9 +9,9 @@ use Rattle.zt_rows.specs.State.{State, row, put, change}
 use Rattle.zt_rows.specs.Tests.{any_row, count_row}
 use Rattle.zt_rows.proofs.StateLaws.{row-change}
 use Rattle.zt_rows.proofs.RowLaws.{at-any_row, not_true}
-use Rattle.zt_store.proofs.Totals.{total-put, count-total, share}
-use Rattle.zt_store.specs.KoidCounts.{total}
-use Rattle.zt_signals.specs.KeyWalk.{IsAfter, IsNextUnder, passes_under}
+use Rattle.zt_index.proofs.Totals.{total-put, count-total, share}
+use Rattle.zt_index.specs.ProofsOnly.KoidCounts.{total}
+use Rattle.zt_signals.specs.ProofsOnly.KeyWalk.{IsAfter, IsNextUnder, passes_under}
 use Rattle.zt_signals.proofs.ColumnLaws.{IsColumn, left_by, without_those, next-that, drop-start, drop-next, drop-end, ahead}
 use Rattle.zt_signals.proofs.DerivedLaws.{count-none}
 

@@ -2,5 +2,4 @@
 pub mod PortEnd
 pub mod PortFront
 -- Used by proofs only: no public clause depends on them.
-pub mod PacketWalk
-pub mod CancelledWaits
+pub mod ProofsOnly

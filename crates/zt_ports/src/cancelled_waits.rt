@@ -6,8 +6,8 @@ ghost use Rattle.zt_rows.specs.State.{row, put};
 ghost use Rattle.zt_rows.specs.Tests.{any_row};
 ghost use Rattle.zt_store.specs.Places.{Keeps};
 ghost use Rattle.zt_store.specs.StepView.{Advanced, AsBegun};
-ghost use Rattle.zt_signals.specs.KeyWalk.{passes_under};
-ghost use Rattle.zt_ports.specs.CancelledWaits.{is_cancelled_packet, is_news_of, without_cancelled};
+ghost use Rattle.zt_signals.specs.ProofsOnly.KeyWalk.{passes_under};
+ghost use Rattle.zt_ports.specs.ProofsOnly.CancelledWaits.{is_cancelled_packet, is_news_of, without_cancelled};
 
 use crate::packet_walk::packet_after;
 use std::alloc::AllocError;

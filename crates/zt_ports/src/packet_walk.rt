@@ -1,6 +1,6 @@
 ghost use Rattle.std.specs.Prelude.{◌≡◌, Some};
-ghost use Rattle.zt_signals.specs.KeyWalk.{IsNextUnder};
-ghost use Rattle.zt_ports.specs.PacketWalk.{packet_index, packet_key};
+ghost use Rattle.zt_signals.specs.ProofsOnly.KeyWalk.{IsNextUnder};
+ghost use Rattle.zt_ports.specs.ProofsOnly.PacketWalk.{packet_index, packet_key};
 
 use zt_rows::{Koid, RowKey};
 use zt_store::Step;

@@ -1,7 +1,7 @@
 ghost use Rattle.std.specs.Prelude.{◌≡◌, ◌<◌, ◌^◌};
 ghost use Rattle.zt_rows.specs.declared.keys.RowKey.TheVariants as key_variant;
 ghost use Rattle.zt_rows.specs.PortCalls.{is_user_packet_of, pending};
-ghost use Rattle.zt_signals.specs.KeyWalk.{passes_under};
+ghost use Rattle.zt_signals.specs.ProofsOnly.KeyWalk.{passes_under};
 
 use crate::packet_walk::packet_after;
 use zt_rows::{Koid, Packet};

@@ -4,7 +4,7 @@ use Rattle.std.specs.Prelude.{slice_get}
 use Rattle.std.proofs.lemmas.Bool.{cases_lt, eq-eqb, true≢false}
 use Rattle.std.proofs.lemmas.Option.{slice_get_read, slice_get_past, none-some, same_Some}
 use Rattle.zt_history.proofs.ListLaws.{get-within}
-use Rattle.zt_queries.specs.RowHappenings.{IsFork}
+use Rattle.zt_queries.specs.ProofsOnly.RowHappenings.{IsFork}
 
 module _ (way here : List ℕ) (n : ℕ) (in_way : n ≤ length way) (in_here : n ≤ length here) (same : take n way ≡ take n here) where
   -- the next moments differ

@@ -9,12 +9,12 @@ use Rattle.std.proofs.lemmas.List.Folds.{list_any-append}
 use Rattle.zt_rows.specs.declared.keys.RowKey.{RowKey}
 use Rattle.zt_rows.specs.declared.rows.Row.{Row}
 use Rattle.zt_rows.specs.Keys.{rowkey_cmp, rowkey_eq}
-use Rattle.zt_rows.specs.KeyOrder.{rowkey_eq-equal, rowkey_eq-self, rowkey_eq-cmp, rowkey_eq-laws}
+use Rattle.zt_rows.specs.ProofsOnly.KeyOrder.{rowkey_eq-equal, rowkey_eq-self, rowkey_eq-cmp, rowkey_eq-laws}
 use Rattle.zt_rows.specs.Change.{keys}
 use Rattle.zt_rows.specs.State.{State, row}
 use Rattle.zt_rows.proofs.RowLaws.{In, row-in, list_any-in}
 use Rattle.zt_queries.specs.declared.leak_graph.graph.GraphRow.{GraphRow}
-use Rattle.zt_queries.specs.LeakGraph.{first_of, graph_row_if}
+use Rattle.zt_queries.specs.ProofsOnly.LeakGraph.{first_of, graph_row_if}
 
 -- ---- drawn so far
 

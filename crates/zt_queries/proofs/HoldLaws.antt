@@ -13,7 +13,7 @@ use Rattle.zt_rows.specs.State.{State, row}
 use Rattle.zt_rows.specs.Support.{entry_support, child_support, message_supports, children, itself, supports}
 use Rattle.zt_queries.specs.declared.support_list.Source.{Source}
 use Rattle.zt_queries.specs.declared.support_list.Source.TheVariants as part
-use Rattle.zt_queries.specs.Holders.{supports_at, supports_in}
+use Rattle.zt_queries.specs.ProofsOnly.Holders.{supports_at, supports_in}
 use Rattle.zt_queries.proofs.KeyLaws.{row-at}
 
 -- ---- the rows under the keys are the rows

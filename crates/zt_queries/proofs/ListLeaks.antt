@@ -18,7 +18,7 @@ use Rattle.zt_rows.proofs.RowLaws.{In, in-row}
 use Rattle.zt_queries.specs.declared.leak_graph.graph.GraphRow.{GraphRow}
 use Rattle.zt_queries.specs.Reachability.{reached}
 use Rattle.zt_queries.specs.Leaks.{is_above, is_lost, is_leaked, lost_at, leaks}
-use Rattle.zt_queries.specs.LeakGraph.{graph_row_if, IsGraph, node_at, node, is_left, left_node, left_at}
+use Rattle.zt_queries.specs.ProofsOnly.LeakGraph.{graph_row_if, IsGraph, node_at, node, is_left, left_node, left_at}
 
 -- ---- one object
 

@@ -17,7 +17,7 @@ use Rattle.zt_rows.specs.declared.rows.Row.{Row}
 use Rattle.zt_rows.specs.declared.rows.Row.TheVariants as rows
 use Rattle.zt_rows.specs.Contents.{MessageContent}
 use Rattle.zt_rows.specs.Keys.{rowkey_cmp}
-use Rattle.zt_rows.specs.KeyOrder.{rowkey_cmp_total, rowkey_eq-equal, rowkey_eq-cmp}
+use Rattle.zt_rows.specs.ProofsOnly.KeyOrder.{rowkey_cmp_total, rowkey_eq-equal, rowkey_eq-cmp}
 use Rattle.zt_rows.specs.State.{State, row}
 use Rattle.zt_rows.specs.Reads.{as_object, as_entry, as_message, object_at, objects, entry, message, is_live, is_job, is_live_process}
 use Rattle.zt_rows.specs.Tests.{among, link_at, object_link}
@@ -29,7 +29,7 @@ use Rattle.zt_queries.specs.declared.leak_graph.graph.GraphRow.{GraphRow}
 use Rattle.zt_queries.specs.declared.leak_graph.graph.GraphRow.TheVariants as graph_rows
 use Rattle.zt_queries.specs.Reachability.{reached, HoldsAllNamed}
 use Rattle.zt_queries.specs.Leaks.{keeps_above, is_above}
-use Rattle.zt_queries.specs.LeakGraph.{graph_row_if, IsGraph, root_at, names_at, roots, names, waiting, weight, node_at, link_of, node, climb, climbed, keeps, keeper_at, is_over}
+use Rattle.zt_queries.specs.ProofsOnly.LeakGraph.{graph_row_if, IsGraph, root_at, names_at, roots, names, waiting, weight, node_at, link_of, node, climb, climbed, keeps, keeper_at, is_over}
 use Rattle.zt_queries.proofs.ReachLaws.{in-append, append-left, append-right, in-flat_map, flat_map-in, in-map, map-in, all-in, in-all, reached-closed, reached-least}
 
 -- ---- a search

@@ -11,7 +11,7 @@ use Rattle.std.proofs.lemmas.Option.{slice_get_read}
 use Rattle.zt_rows.specs.declared.keys.RowKey.{RowKey}
 use Rattle.zt_rows.specs.declared.rows.Row.{Row}
 use Rattle.zt_rows.specs.Keys.{rowkey_cmp, rowkey_eq}
-use Rattle.zt_rows.specs.KeyOrder.{rowkey_eq-equal, rowkey_eq-cmp, rowkey_eq-laws}
+use Rattle.zt_rows.specs.ProofsOnly.KeyOrder.{rowkey_eq-equal, rowkey_eq-cmp, rowkey_eq-laws}
 use Rattle.zt_rows.specs.State.{State, row}
 use Rattle.zt_rows.specs.Reads.{is_process}
 use Rattle.zt_rows.specs.Support.{root_job}
@@ -22,11 +22,11 @@ use Rattle.zt_history.specs.Timeline.{Timeline}
 use Rattle.zt_history.specs.Tree.{end_of, state_at}
 use Rattle.zt_queries.specs.declared.leak_graph.graph.GraphNode.{GraphNode}
 use Rattle.zt_queries.specs.declared.leak_graph.graph.GraphRow.{GraphRow}
-use Rattle.zt_queries.specs.LeakGraph.{graph_row_if, held_over, IsGraph, is_left, node, roots}
+use Rattle.zt_queries.specs.ProofsOnly.LeakGraph.{graph_row_if, held_over, IsGraph, is_left, node, roots}
 use Rattle.zt_queries.specs.Leaks.{is_above, is_leaked}
 use Rattle.zt_queries.specs.Reachability.{reached}
 use Rattle.zt_rows.specs.Tests.{among}
-use Rattle.zt_queries.specs.RowHappenings.{row_over, AreWays}
+use Rattle.zt_queries.specs.ProofsOnly.RowHappenings.{row_over, AreWays}
 use Rattle.zt_queries.proofs.GraphLaws.{listed}
 use Rattle.zt_queries.proofs.LeakLaws.{leaked-lost}
 use Rattle.zt_queries.proofs.ReachLaws.{among-in, reached-closed}

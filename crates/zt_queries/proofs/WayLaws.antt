@@ -28,7 +28,7 @@ use Rattle.zt_history.proofs.WayLaws as ways
 use Rattle.zt_queries.specs.declared.happening_times.RowHappening.{RowHappening}
 use Rattle.zt_queries.specs.declared.happening_times.RowHappening.TheVariants as turn
 use Rattle.zt_queries.specs.HappeningTimes.{at_moment, happens}
-use Rattle.zt_queries.specs.RowHappenings.{shows, happening_of, row_over, AreWays}
+use Rattle.zt_queries.specs.ProofsOnly.RowHappenings.{shows, happening_of, row_over, AreWays}
 
 -- ---- the row on the other side of a call
 

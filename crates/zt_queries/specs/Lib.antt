@@ -6,8 +6,4 @@ pub mod HappeningTimes
 pub mod LaterMoments
 pub mod FrozenCopy
 -- Used by proofs only: no public clause depends on them.
-pub mod Holders
-pub mod LeakGraph
-pub mod ReachabilitySearch
-pub mod RowHappenings
-pub mod FirstLeak
+pub mod ProofsOnly

@@ -8,7 +8,7 @@ ghost use Rattle.zt_rows.specs.Tests.{is_endpoint};
 ghost use Rattle.zt_history.specs.TreeInvariant.{recorded_at};
 ghost use Rattle.zt_history.specs.Tree.{path, end_of, state_at};
 ghost use Rattle.zt_queries.specs.HappeningTimes.{at_moment, happens, is_known, when_on, IsRefusedWhen};
-ghost use Rattle.zt_queries.specs.RowHappenings.{shows, is_there, is_living, is_alone, happening_of, row_over, IsFork, AreWays};
+ghost use Rattle.zt_queries.specs.ProofsOnly.RowHappenings.{shows, is_there, is_living, is_alone, happening_of, row_over, IsFork, AreWays};
 
 use bitflags::Flags;
 use std::alloc::Global;

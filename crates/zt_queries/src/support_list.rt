@@ -7,7 +7,7 @@ ghost use Rattle.zt_rows.specs.Support.{entry_support, child_support, message_su
 ghost use Rattle.zt_history.specs.HistoryRefusals.{IsHistoryRefusal};
 ghost use Rattle.zt_history.specs.Tree.{state_at};
 ghost use Rattle.zt_queries.specs.FrozenCopy.{holders_on};
-ghost use Rattle.zt_queries.specs.Holders.{supports_by, supports_at, supports_in};
+ghost use Rattle.zt_queries.specs.ProofsOnly.Holders.{supports_by, supports_at, supports_in};
 
 use crate::frozen::Frozen;
 use std::alloc::{AllocError, Global};

@@ -13,14 +13,14 @@ use Rattle.zt_rows.specs.declared.rows.Row.{Row}
 use Rattle.zt_rows.specs.declared.rows.Row.TheVariants as rows
 use Rattle.zt_rows.specs.Contents.{MessageContent}
 use Rattle.zt_rows.specs.Keys.{rowkey_cmp, rowkey_eq}
-use Rattle.zt_rows.specs.KeyOrder.{rowkey_cmp_total, rowkey_eq-cmp, rowkey_eq-self, rowkey_eq-equal}
+use Rattle.zt_rows.specs.ProofsOnly.KeyOrder.{rowkey_cmp_total, rowkey_eq-cmp, rowkey_eq-self, rowkey_eq-equal}
 use Rattle.zt_rows.specs.State.{State, row, put}
 use Rattle.zt_rows.specs.Reads.{as_message, message, queued, queue}
 use Rattle.zt_rows.specs.Room.{SuitsKey}
 use Rattle.zt_rows.specs.Tests.{first}
 use Rattle.zt_rows.proofs.ReadLaws.{some_one}
 use Rattle.zt_rows.proofs.RowLaws.{In, in-filter_map, in-row}
-use Rattle.zt_store.specs.FirstNumber.{IsFirst}
+use Rattle.zt_cells.specs.FirstNumber.{IsFirst}
 
 -- ---- tests
 

@@ -6,9 +6,9 @@ use Rattle.std.specs.List.{list_any, AllByRecursion, IsDistinct}
 use Rattle.zt_rows.specs.declared.keys.RowKey.{RowKey}
 use Rattle.zt_rows.specs.declared.rows.Row.{Row}
 use Rattle.zt_rows.specs.Keys.{rowkey_cmp, rowkey_eq}
-use Rattle.zt_rows.specs.KeyOrder.{rowkey_cmp_total, rowkey_cmp-equal, rowkey_eq-cmp, rowkey_eq-self, rowkey_eq-equal, rowkey_eq-laws}
+use Rattle.zt_rows.specs.ProofsOnly.KeyOrder.{rowkey_cmp_total, rowkey_cmp-equal, rowkey_eq-cmp, rowkey_eq-self, rowkey_eq-equal, rowkey_eq-laws}
 use Rattle.zt_rows.specs.Same.{row_eq}
-use Rattle.zt_rows.specs.SameRows.{row_eq-decides}
+use Rattle.zt_rows.specs.ProofsOnly.SameRows.{row_eq-decides}
 use Rattle.zt_rows.specs.State.{State, row}
 use Rattle.zt_rows.specs.Change.{keys, over, keys_of_both, option_row_eq, differ_at, changed, rows_under, before, with_rows, rows_at, exchange}
 use Rattle.zt_rows.specs.Path.{records_of, forth_of, end_of, exchange_back, exchange_forth}

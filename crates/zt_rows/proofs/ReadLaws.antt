@@ -14,7 +14,7 @@ use Rattle.zt_rows.specs.declared.rows.Row.{Row}
 use Rattle.zt_rows.specs.declared.rows.Row.TheVariants as rows
 use Rattle.zt_rows.specs.Contents.{MessageContent}
 use Rattle.zt_rows.specs.Keys.{rowkey_eq}
-use Rattle.zt_rows.specs.KeyOrder.{rowkey_eq-equal}
+use Rattle.zt_rows.specs.ProofsOnly.KeyOrder.{rowkey_eq-equal}
 use Rattle.zt_rows.specs.State.{State, row, put}
 use Rattle.zt_rows.specs.Reads.{as_counters, as_object, as_entry, as_message, as_packet, as_wait, counters, object, entry, message, packet, wait}
 use Rattle.zt_rows.specs.Tests.{exists, kind_at}

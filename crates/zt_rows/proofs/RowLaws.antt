@@ -9,7 +9,7 @@ use Rattle.std.specs.declared.cmp.Ordering.TheVariants.{Less, Equal, Greater}
 use Rattle.zt_rows.specs.declared.keys.RowKey.{RowKey}
 use Rattle.zt_rows.specs.declared.rows.Row.{Row}
 use Rattle.zt_rows.specs.Keys.{rowkey_cmp, rowkey_eq}
-use Rattle.zt_rows.specs.KeyOrder.{rowkey_cmp-equal, rowkey_eq-equal, rowkey_eq-decides, rowkey_eq-cmp}
+use Rattle.zt_rows.specs.ProofsOnly.KeyOrder.{rowkey_cmp-equal, rowkey_eq-equal, rowkey_eq-decides, rowkey_eq-cmp}
 use Rattle.zt_rows.specs.RowOrder.{changed_rows, kept}
 use Rattle.zt_rows.specs.State.{State, row, put, change}
 use Rattle.zt_rows.specs.Tests.{any_row, count_row}

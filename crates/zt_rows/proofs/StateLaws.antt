@@ -9,7 +9,7 @@ use lib.Dec.{T_prop}
 use Rattle.zt_rows.specs.declared.keys.RowKey.{RowKey}
 use Rattle.zt_rows.specs.declared.rows.Row.{Row}
 use Rattle.zt_rows.specs.Keys.{rowkey_cmp, rowkey_eq}
-use Rattle.zt_rows.specs.KeyOrder.{rowkey_cmp_total, rowkey_cmp-equal, rowkey_eq-cmp, rowkey_eq-self, rowkey_eq-equal}
+use Rattle.zt_rows.specs.ProofsOnly.KeyOrder.{rowkey_cmp_total, rowkey_cmp-equal, rowkey_eq-cmp, rowkey_eq-self, rowkey_eq-equal}
 use Rattle.zt_rows.specs.RowOrder.{changed_rows, kept}
 use Rattle.zt_rows.specs.State.{State, row, put, change, nothing, state_of}
 

@@ -24,5 +24,4 @@ pub mod Path
 pub mod Room
 pub mod Consistent
 -- Used by proofs only: no public clause depends on them.
-pub mod KeyOrder
-pub mod SameRows
+pub mod ProofsOnly

@@ -1,6 +1,6 @@
 -- The state in which every history begins: the root job, and the root process with one handle to it. This
 -- project's own profile; rights and signals as in Fuchsia's reference of handle rights and of the job object.
-use Rattle.std.specs.Prelude.{ℕ, List, [], ◌∷◌}
+use Rattle.std.specs.Prelude.{List, [], ◌∷◌}
 use Rattle.zt_bits.specs.declared.kinds.Kind.TheVariants as kind
 use Rattle.zt_rows.specs.declared.keys.RowKey.{RowKey}
 use Rattle.zt_rows.specs.declared.keys.RowKey.TheVariants as key
@@ -8,10 +8,6 @@ use Rattle.zt_rows.specs.declared.rows.Life.TheVariants as life
 use Rattle.zt_rows.specs.declared.rows.Row.{Row}
 use Rattle.zt_rows.specs.declared.rows.Row.TheVariants as rows
 use Rattle.zt_rows.specs.State.{State, state_of}
-
--- the koid of the first process
-abbrev pub root_process : ℕ
-root_process = 1025
 
 -- the root job, 1024, with a live process under it and no live job (0x10); the root process, 1025, which holds
 -- the root job by handle 3 with all rights to a job (0x3d203); 1026 and 0 are the next koid and wait

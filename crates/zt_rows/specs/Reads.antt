@@ -80,14 +80,6 @@ object_at _ = None
 unfoldable pub objects : State → List (ℕ × ObjectRow)
 objects S = filter_map object_at S.rows
 
-abbrev pub entry_at : RowKey × Row → Option (ℕ × ℕ × Held)
-entry_at (key.Entry p h, rows.Entry held) = Some (p, h, held)
-entry_at _ = None
-
--- all entries with their process and handle value
-unfoldable pub entries : State → List (ℕ × ℕ × Held)
-entries S = filter_map entry_at S.rows
-
 abbrev pub message_at : RowKey × Row → Option (ℕ × ℕ × MessageContent)
 message_at (key.Msg e n, rows.Msg m) = Some (e, n, m)
 message_at _ = None

@@ -5,7 +5,8 @@ use Rattle.std.specs.FinMap.Entries as entries
 use Rattle.zt_rows.specs.declared.keys.RowKey.{RowKey}
 use Rattle.zt_rows.specs.declared.rows.Row.{Row}
 use Rattle.zt_rows.specs.Keys.{rowkey_cmp, rowkey_eq}
-use Rattle.zt_rows.specs.RowOrder.{is_sorted-put, is_sorted-without, is_sorted-changed, changed_rows}
+use Rattle.zt_rows.specs.RowOrder.{changed_rows}
+use Rattle.zt_rows.specs.ProofsOnly.RowOrder.{is_sorted-put, is_sorted-without, is_sorted-changed}
 
 pub record State : Type 0 where
   pub rows : List (RowKey × Row)

@@ -20,13 +20,13 @@ pub enum RowKey {
 
 impl PartialEq for RowKey {
     ghost use Rattle.zt_rows.specs.Keys.{rowkey_eq};
-    ghost use Rattle.zt_rows.specs.KeyOrder.{rowkey_eq-laws};
+    ghost use Rattle.zt_rows.specs.ProofsOnly.KeyOrder.{rowkey_eq-laws};
 
     ghost eq = { rowkey_eq };
 
     ghost laws = { rowkey_eq-laws };
 
-    #[tactic(auto, using(crate::specs::KeyOrder::key_ties))]
+    #[tactic(auto, using(crate::specs::ProofsOnly::KeyOrder::key_ties))]
     fn eq(&self, other: &RowKey) -> bool {
         self.cmp(other).is_eq()
     }
@@ -34,14 +34,14 @@ impl PartialEq for RowKey {
 
 impl Eq for RowKey {
     ghost use Rattle.std.specs.Cmp.{partial_equiv_from_equiv, equiv};
-    ghost use Rattle.zt_rows.specs.KeyOrder.{rowkey_eq-laws, rowkey_eq-self};
+    ghost use Rattle.zt_rows.specs.ProofsOnly.KeyOrder.{rowkey_eq-laws, rowkey_eq-self};
 
     ghost laws = { equiv rowkey_eq-laws rowkey_eq-self };
 }
 
 impl PartialOrd for RowKey {
     ghost use Rattle.zt_rows.specs.Keys.{rowkey_cmp};
-    ghost use Rattle.zt_rows.specs.KeyOrder.{rowkey_cmp_partial};
+    ghost use Rattle.zt_rows.specs.ProofsOnly.KeyOrder.{rowkey_cmp_partial};
 
     ghost partial_cmp = { as_partial_cmp rowkey_cmp };
 
@@ -54,7 +54,7 @@ impl PartialOrd for RowKey {
 
 impl Ord for RowKey {
     ghost use Rattle.zt_rows.specs.Keys.{rowkey_cmp};
-    ghost use Rattle.zt_rows.specs.KeyOrder.{rowkey_cmp_total, rowkey_eq-matches};
+    ghost use Rattle.zt_rows.specs.ProofsOnly.KeyOrder.{rowkey_cmp_total, rowkey_eq-matches};
     ghost use Rattle.std.specs.Prelude.{refl};
 
     ghost cmp = { rowkey_cmp };

@@ -109,7 +109,7 @@ impl Message {
 
 impl PartialEq for Message {
     ghost use Rattle.zt_rows.specs.Same.{content_eq};
-    ghost use Rattle.zt_rows.specs.SameRows.{content_eq-laws};
+    ghost use Rattle.zt_rows.specs.ProofsOnly.SameRows.{content_eq-laws};
 
     ghost eq = { content_eq };
 
@@ -176,7 +176,7 @@ impl Row {
 
 impl PartialEq for Row {
     ghost use Rattle.zt_rows.specs.Same.{row_eq};
-    ghost use Rattle.zt_rows.specs.SameRows.{row_eq-laws};
+    ghost use Rattle.zt_rows.specs.ProofsOnly.SameRows.{row_eq-laws};
 
     ghost eq = { row_eq };
 

@@ -5,7 +5,8 @@ use Rattle.std.proofs.lemmas.List.{take_more, length-map, length_push, map_push,
 use Rattle.std.specs.declared.alloc.Global.{Global}
 use Rattle.once_cell.specs.Once.{Agrees, cell_name}
 use Rattle.zt_shared.specs.declared.account.NoteSlot.{NoteSlot}
-use Rattle.zt_shared.specs.Accounts.{somes, cells_of, known_of, KnowsItsRows, most}
+use Rattle.zt_shared.specs.Accounts.{most}
+use Rattle.zt_shared.specs.ProofsOnly.Accounts.{somes, cells_of, known_of, KnowsItsRows}
 
 module _ {T : Type 0} where
   pub somes-all : (xs : List T) → somes (map Some xs) ≡ xs

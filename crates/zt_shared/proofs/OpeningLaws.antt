@@ -13,12 +13,13 @@ use Rattle.zt_history.specs.HistoryRefusals.{call_on, most_moments}
 use Rattle.zt_history.specs.Tree.{Tree, Made, last_moment, state_at, head_at, opening_tree, made_by, called, call_at}
 use Rattle.zt_book.specs.Session.{Session, session_over}
 use Rattle.zt_book.specs.Log.{BookView, Replays, IsWholeLog, loaded, loaded_behind, loaded_from}
-use Rattle.zt_shared.specs.Sharing.{PassView, IsFresh, first_parts, begun, begun_over}
+use Rattle.zt_shared.specs.Sharing.{PassView, IsFresh, first_parts}
+use Rattle.zt_shared.specs.ProofsOnly.Sharing.{begun, begun_over}
 use Rattle.once_cell.specs.declared.race.note.Note.{Note}
 use Rattle.zt_rows.specs.declared.calls.Command.{Command}
-use Rattle.zt_shared.specs.LockedBooks.{IsLockedBook}
+use Rattle.zt_shared.specs.ProofsOnly.LockedBooks.{IsLockedBook}
 use Rattle.zt_shared.proofs.SharingLaws.{past, sides}
-use Rattle.zt_shared.specs.OpenedBook.{call_of, calls_in, part_of}
+use Rattle.zt_shared.specs.ProofsOnly.OpenedBook.{call_of, calls_in, part_of}
 
 -- a call adds itself to the calls of a tree
 calls-called : (t : Tree) (b process : ℕ) (call : Call) (y : Answer × Tree) → call_on t b process call ≡ Ok y

@@ -2,6 +2,5 @@
 pub mod Accounts
 pub mod Sharing
 pub mod OpenedBook
-pub mod ClientSlots
 -- Used by proofs only: no public clause depends on them.
-pub mod LockedBooks
+pub mod ProofsOnly

@@ -1,9 +1,8 @@
 -- Several clients with one book: what each of them was told is its part of one log, which replays. This project's own.
-use Rattle.std.specs.Prelude.{◌≡◌, ◌≢◌, ℕ, zero, suc, List, [], ◌∷◌, ◌++◌, length, map, take, slice_get, Option, None, Some, Result, Ok, Err, All}
+use Rattle.std.specs.Prelude.{◌≡◌, ◌≢◌, ℕ, zero, suc, List, [], ◌∷◌, ◌++◌, length, map, take, slice_get, Option, None, Err, All}
 use Rattle.std.specs.List.{AllByRecursion}
 use Rattle.zt_rows.specs.declared.calls.Answer.{Answer}
 use Rattle.zt_rows.specs.declared.calls.Answer.TheVariants as answer
-use Rattle.zt_rows.specs.declared.calls.Call.{Call}
 use Rattle.zt_rows.specs.declared.calls.Command.{Command}
 use Rattle.zt_rows.specs.declared.calls.Command.TheVariants as command
 use Rattle.zt_rows.specs.declared.refusals.Refusal.{Refusal}
@@ -13,8 +12,8 @@ use Rattle.zt_rows.specs.Step.{run}
 use Rattle.zt_history.specs.Tree.{Tree, calls_to}
 use Rattle.zt_queries.specs.FrozenCopy.{Snapshot}
 use Rattle.zt_book.specs.declared.log.Recorded.{Recorded}
-use Rattle.zt_book.specs.Session.{Session, opening_session, session_over, serve}
-use Rattle.zt_book.specs.Log.{BookView, Replays, IsOf, rows_of, loaded}
+use Rattle.zt_book.specs.Session.{Session, serve}
+use Rattle.zt_book.specs.Log.{BookView, Replays, IsOf, rows_of}
 
 -- ---- the rows of one client
 
@@ -31,16 +30,6 @@ abbrev pub logged : List Recorded → ℕ → Command → Answer → List Record
 logged log client asked answered = log ++ record { client = client; asked = asked; answered = answered } ∷ []
 
 -- ---- where a log begins
-
--- the session of so many clients over a loaded tree
-abbrev pub begun_over : ℕ → Result Tree (ℕ × Refusal) → Session
-begun_over clients (Ok tree) = session_over tree clients
-begun_over clients (Err fault) = opening_session clients
-
--- the session of so many clients at which a log begins, as the base cell tells it: over the tree of these calls
-abbrev pub begun : ℕ → Option (List (ℕ × Call)) → Session
-begun clients None = opening_session clients
-begun clients (Some calls) = begun_over clients (loaded calls)
 
 -- a book of so many clients, to whom nothing was answered yet
 pub record IsFresh (clients : ℕ) (book : BookView) : Type 0 where

@@ -2,7 +2,8 @@
 //! nothing of what the rows say.
 ghost use Rattle.std.specs.Prelude.{◌≡◌, ℕ, ◌<◌, ◌++◌, ◌∷◌, [], length, slice_index, slice_index_or, vec_len, vec_capacity, OnOk, OnErr, IfSome, None, Some};
 ghost use Rattle.once_cell.specs.Once.{cell_name, Agrees};
-ghost use Rattle.zt_shared.specs.Accounts.{most, cells_of, known_of};
+ghost use Rattle.zt_shared.specs.Accounts.{most};
+ghost use Rattle.zt_shared.specs.ProofsOnly.Accounts.{cells_of, known_of};
 
 use once_cell::race::{Note, OnceBox};
 use std::alloc::{AllocError, Global};
@@ -61,7 +62,7 @@ pub struct LockSide<N: Naming, T> {
 impl<N: Naming, T> Model for LockSide<N, T> {
     ghost use Rattle.std.specs.Prelude.{◌≡◌, List, map, length};
     ghost use Rattle.once_cell.specs.Once.{cell_name};
-    ghost use Rattle.zt_shared.specs.Accounts.{KnowsItsRows, known_of, somes};
+    ghost use Rattle.zt_shared.specs.ProofsOnly.Accounts.{KnowsItsRows, known_of, somes};
 
     ghost Value = { List T };
 
@@ -80,7 +81,7 @@ pub struct PassSide<N: Naming, T> {
 
 impl<N: Naming, T> Model for PassSide<N, T> {
     ghost use Rattle.std.specs.Prelude.{◌≡◌, List, map, length};
-    ghost use Rattle.zt_shared.specs.Accounts.{KnowsItsRows};
+    ghost use Rattle.zt_shared.specs.ProofsOnly.Accounts.{KnowsItsRows};
 
     ghost Value = { List T };
 

@@ -33,8 +33,8 @@ pub(crate) struct LockedBook<A: Naming + Beginning, B: Naming, C: Naming, D: Nam
 
 impl<A: Naming + Beginning, B: Naming, C: Naming, D: Naming> Model for LockedBook<A, B, C, D> {
     ghost use Rattle.once_cell.specs.Once.{cell_name};
-    ghost use Rattle.zt_shared.specs.Sharing.{begun};
-    ghost use Rattle.zt_shared.specs.LockedBooks.{Shown, IsLockedBook};
+    ghost use Rattle.zt_shared.specs.ProofsOnly.Sharing.{begun};
+    ghost use Rattle.zt_shared.specs.ProofsOnly.LockedBooks.{Shown, IsLockedBook};
 
     ghost Value = { Shown };
 

@@ -2,9 +2,11 @@ ghost use Rattle.std.specs.Prelude.{◌≡◌, ◌≢◌, ◌≤◌, ◌<◌, �
 ghost use Rattle.once_cell.specs.Once.{cell_name};
 ghost use Rattle.zt_rows.specs.declared.refusals.Refusal.TheVariants as refusal;
 ghost use Rattle.zt_book.specs.Session.{opening_session};
-ghost use Rattle.zt_shared.specs.Sharing.{IsFresh, first_parts, begun};
-ghost use Rattle.zt_shared.specs.OpenedBook.{IsNamed, calls_in, part_of};
-ghost use Rattle.zt_shared.specs.ClientSlots.{slot_number, slot_rows};
+ghost use Rattle.zt_shared.specs.Sharing.{IsFresh, first_parts};
+ghost use Rattle.zt_shared.specs.ProofsOnly.Sharing.{begun};
+ghost use Rattle.zt_shared.specs.OpenedBook.{IsNamed};
+ghost use Rattle.zt_shared.specs.ProofsOnly.OpenedBook.{calls_in, part_of};
+ghost use Rattle.zt_shared.specs.ProofsOnly.ClientSlots.{slot_number, slot_rows};
 
 use crate::account::{Blank, Naming, Refused, claim};
 use crate::locked_book::LockedBook;

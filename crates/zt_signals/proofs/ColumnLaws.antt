@@ -7,12 +7,12 @@ use Rattle.std.proofs.lemmas.Bool.Decides.{nat_tests}
 use Rattle.zt_rows.specs.declared.keys.RowKey.{RowKey}
 use Rattle.zt_rows.specs.declared.rows.Row.{Row}
 use Rattle.zt_rows.specs.Keys.{rowkey_eq}
-use Rattle.zt_rows.specs.KeyOrder.{rowkey_eq-self, rowkey_eq-equal}
+use Rattle.zt_rows.specs.ProofsOnly.KeyOrder.{rowkey_eq-self, rowkey_eq-equal}
 use Rattle.zt_rows.specs.State.{State, row, put, change}
 use Rattle.zt_rows.specs.Tests.{any_row}
 use Rattle.zt_rows.proofs.StateLaws.{row-put, row-change, same_state, put-row}
 use Rattle.zt_rows.proofs.RowLaws.{any_row-at, at-any_row, and_left, and_right, and_both, or_true, or_left, or_right, same_test, true≢false}
-use Rattle.zt_signals.specs.KeyWalk.{IsAfter, IsNextUnder, IsNextThat, passes_under}
+use Rattle.zt_signals.specs.ProofsOnly.KeyWalk.{IsAfter, IsNextUnder, IsNextThat, passes_under}
 
 -- ---- numbers
 

@@ -13,7 +13,7 @@ use Rattle.zt_rows.specs.Room.{SuitsKey}
 use Rattle.zt_rows.specs.Settle.{is_message_of}
 use Rattle.zt_rows.specs.Tests.{any_row, count_row}
 use Rattle.zt_rows.proofs.RowLaws.{any_row-at, at-any_row, not_true, count-cons}
-use Rattle.zt_store.specs.FirstNumber.{IsFirst}
+use Rattle.zt_cells.specs.FirstNumber.{IsFirst}
 
 -- ---- a first message
 

@@ -10,10 +10,10 @@ use Rattle.zt_rows.specs.declared.rows.Wait.{Wait}
 use Rattle.zt_rows.specs.Reads.{as_wait}
 use Rattle.zt_rows.specs.State.{State, row}
 use Rattle.zt_rows.proofs.ReadLaws.{some_one}
-use Rattle.zt_store.specs.Chains.{IsBehind, IsNext}
-use Rattle.zt_store.specs.Criteria.{waits_where}
-use Rattle.zt_signals.specs.KeyWalk.{IsAfter}
-use Rattle.zt_signals.specs.WaitGroups.{IsNextPicked}
+use Rattle.zt_index.specs.Chains.{IsBehind, IsNext}
+use Rattle.zt_index.specs.Criteria.{waits_where}
+use Rattle.zt_signals.specs.ProofsOnly.KeyWalk.{IsAfter}
+use Rattle.zt_signals.specs.ProofsOnly.WaitGroups.{IsNextPicked}
 use Rattle.zt_signals.specs.DroppedWaits.{is_wait_where, made_on, made_under}
 use Rattle.zt_signals.proofs.ColumnLaws.{IsColumn, numbers_after, numbers-fewer}
 

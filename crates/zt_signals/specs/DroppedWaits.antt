@@ -22,10 +22,6 @@ without_waits test k r = if is_wait_where test k r then None else Some r
 abbrev pub made_on : ℕ → ℕ → Wait → Bool
 made_on p h w = (w.process == p) && (w.handle == h)
 
--- a wait that process p made on its handle h
-abbrev pub is_wait_on : ℕ → ℕ → RowKey → Row → Bool
-is_wait_on p h = is_wait_where (made_on p h)
-
 -- what is left of a row when those waits go
 abbrev pub without_waits_on : ℕ → ℕ → RowKey → Row → Option Row
 without_waits_on p h = without_waits (made_on p h)

@@ -2,5 +2,4 @@
 pub mod ObjectSignals
 pub mod DroppedWaits
 -- Used by proofs only: no public clause depends on them.
-pub mod KeyWalk
-pub mod WaitGroups
+pub mod ProofsOnly

@@ -2,7 +2,8 @@ ghost use Rattle.std.specs.Prelude.{◌≡◌, OnOk, OnErr};
 ghost use Rattle.zt_rows.specs.Reads.{object};
 ghost use Rattle.zt_store.specs.Places.{Keeps};
 ghost use Rattle.zt_store.specs.StepView.{Advanced, AsBegun};
-ghost use Rattle.zt_signals.specs.ObjectSignals.{anew, refreshed_object, signals_set};
+ghost use Rattle.zt_signals.specs.ObjectSignals.{refreshed_object, signals_set};
+ghost use Rattle.zt_signals.specs.ProofsOnly.ObjectSignals.{anew};
 
 use crate::derived_signals::renewed_signals;
 use bitflags::Flags;

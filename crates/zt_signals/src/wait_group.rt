@@ -5,7 +5,7 @@ ghost use Rattle.zt_rows.specs.State.{row, put, change};
 ghost use Rattle.zt_rows.specs.Tests.{any_row};
 ghost use Rattle.zt_store.specs.Places.{Keeps};
 ghost use Rattle.zt_store.specs.StepView.{Advanced, AsBegun};
-ghost use Rattle.zt_signals.specs.WaitGroups.{IsNextPicked, is_picked, picks};
+ghost use Rattle.zt_signals.specs.ProofsOnly.WaitGroups.{IsNextPicked, is_picked, picks};
 ghost use Rattle.zt_signals.specs.DroppedWaits.{is_wait_where, without_waits};
 
 use std::alloc::AllocError;

@@ -11,13 +11,13 @@ use Rattle.zt_rows.specs.declared.keys.RowKey.{RowKey}
 use Rattle.zt_rows.specs.declared.keys.RowKey.TheVariants as key
 use Rattle.zt_rows.specs.declared.rows.Row.{Row}
 use Rattle.zt_rows.specs.Keys.{rowkey_cmp}
-use Rattle.zt_rows.specs.KeyOrder.{rowkey_cmp-equal}
+use Rattle.zt_rows.specs.ProofsOnly.KeyOrder.{rowkey_cmp-equal}
 use Rattle.zt_rows.specs.State.{State, row}
 use Rattle.zt_rows.specs.Change.{keys}
 use Rattle.zt_rows.specs.Room.{is_above, next_key, SuitsKey}
 use Rattle.zt_store.specs.declared.key_columns.KeyColumn.{KeyColumn}
 use Rattle.zt_store.specs.declared.key_columns.KeyColumn.TheVariants as column
-use Rattle.zt_store.specs.KeyColumns.{key_in, next_column, is_from}
+use Rattle.zt_store.specs.ProofsOnly.KeyColumns.{key_in, next_column, is_from}
 use Rattle.zt_store.proofs.NextKeys.{find-alike, find-none, find-least}
 
 -- ---- one number, and pairs of them

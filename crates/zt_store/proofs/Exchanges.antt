@@ -9,14 +9,15 @@ use Rattle.std.proofs.lemmas.Map.Keys.{IsDistinct-head, IsDistinct-tail}
 use Rattle.zt_rows.specs.declared.keys.RowKey.{RowKey}
 use Rattle.zt_rows.specs.declared.rows.Row.{Row}
 use Rattle.zt_rows.specs.Keys.{rowkey_cmp, rowkey_eq}
-use Rattle.zt_rows.specs.KeyOrder.{rowkey_cmp_total, rowkey_eq-cmp, rowkey_eq-equal, rowkey_eq-self, rowkey_eq-laws}
+use Rattle.zt_rows.specs.ProofsOnly.KeyOrder.{rowkey_cmp_total, rowkey_eq-cmp, rowkey_eq-equal, rowkey_eq-self, rowkey_eq-laws}
 use Rattle.zt_rows.specs.State.{State, row, put}
 use Rattle.zt_rows.specs.Change.{with_rows, rows_at, exchange}
 use Rattle.zt_rows.specs.Room.{SuitsKey}
 use Rattle.zt_rows.proofs.StateLaws.{row-put, row-put-other, same_state}
 use Rattle.zt_rows.proofs.ChangeLaws.{row-with_rows}
 use Rattle.zt_store.specs.Places.{Places, fits, fits_row}
-use Rattle.zt_store.specs.StoreView.{Stored, standing, AllSuit}
+use Rattle.zt_store.specs.StoreView.{Stored}
+use Rattle.zt_store.specs.ProofsOnly.StoreView.{standing, AllSuit}
 use Rattle.zt_store.specs.StepView.{listed}
 use Rattle.zt_store.proofs.Fitting.{Rows, fits-set, fits-at, suits-set, suits-at}
 

@@ -15,11 +15,11 @@ use Rattle.zt_rows.specs.declared.rows.Row.TheVariants as rows
 use Rattle.zt_rows.specs.Reads.{is_live_job, is_live_process}
 use Rattle.zt_rows.specs.Room.{SuitsKey}
 use Rattle.zt_rows.proofs.RowLaws.{and_left, and_right, and_both}
-use Rattle.zt_store.specs.TableSizes.{has_place}
-use Rattle.zt_store.specs.KoidCounts.{counts_within, counts_within_if}
+use Rattle.zt_cells.specs.TableSizes.{has_place}
+use Rattle.zt_index.specs.KoidCounts.{counts_within, counts_within_if}
 use Rattle.zt_store.specs.Places.{Places, fits, fits_row, Keeps}
 use Rattle.zt_store.specs.RecordRows.{all_fit}
-use Rattle.zt_store.specs.StoreView.{AllSuit}
+use Rattle.zt_store.specs.ProofsOnly.StoreView.{AllSuit}
 
 abbrev pub Rows : Type 0
 Rows = List (RowKey × Option Row)

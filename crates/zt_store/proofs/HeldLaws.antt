@@ -14,9 +14,9 @@ use Rattle.std.proofs.lemmas.Map.Views.{Contains-from_lookup, lookup-from_Contai
 use Rattle.zt_rows.specs.declared.keys.RowKey.{RowKey}
 use Rattle.zt_rows.specs.declared.rows.Row.{Row}
 use Rattle.zt_rows.specs.Keys.{rowkey_cmp}
-use Rattle.zt_rows.specs.KeyOrder.{rowkey_cmp_total, rowkey_cmp-equal, rowkey_eq-equal}
+use Rattle.zt_rows.specs.ProofsOnly.KeyOrder.{rowkey_cmp_total, rowkey_cmp-equal, rowkey_eq-equal}
 use Rattle.zt_store.specs.RecordLook.{held}
-use Rattle.zt_store.specs.RecordRows.{IsRecord}
+use Rattle.zt_store.specs.ProofsOnly.RecordRows.{IsRecord}
 use Rattle.zt_store.proofs.Fitting.{Rows}
 use Rattle.zt_store.proofs.Exchanges.{keys_of, key_equality, find-lookup}
 use Rattle.zt_store.proofs.RecordLaws.{distinct-sorted}

@@ -8,7 +8,7 @@ use Rattle.std.specs.Ordering.{is_lt}
 use Rattle.zt_rows.specs.declared.keys.RowKey.{RowKey}
 use Rattle.zt_rows.specs.declared.rows.Row.{Row}
 use Rattle.zt_rows.specs.Keys.{rowkey_cmp, rowkey_eq}
-use Rattle.zt_rows.specs.KeyOrder.{rowkey_eq-self, rowkey_eq-equal}
+use Rattle.zt_rows.specs.ProofsOnly.KeyOrder.{rowkey_eq-self, rowkey_eq-equal}
 use Rattle.zt_rows.specs.State.{State, row}
 use Rattle.zt_rows.specs.Change.{keys}
 use Rattle.zt_rows.proofs.ChangeLaws.{among, among-keys}

@@ -8,12 +8,12 @@ use Rattle.std.specs.List.{AllByRecursion, IsDistinct}
 use Rattle.std.proofs.lemmas.List.{drop_all, take_all, append-nil}
 use Rattle.zt_rows.specs.declared.keys.RowKey.{RowKey}
 use Rattle.zt_rows.specs.Keys.{rowkey_cmp, rowkey_eq}
-use Rattle.zt_rows.specs.KeyOrder.{rowkey_eq-cmp}
+use Rattle.zt_rows.specs.ProofsOnly.KeyOrder.{rowkey_eq-cmp}
 use Rattle.zt_rows.specs.State.{State}
 use Rattle.zt_rows.specs.Change.{before, rows_at, exchange}
 use Rattle.zt_rows.proofs.ChangeLaws.{sorted-before}
-use Rattle.zt_store.specs.RecordRows.{IsRecord}
-use Rattle.zt_store.specs.StoreView.{AllSuit}
+use Rattle.zt_store.specs.ProofsOnly.RecordRows.{IsRecord}
+use Rattle.zt_store.specs.ProofsOnly.StoreView.{AllSuit}
 use Rattle.zt_store.proofs.Fitting.{Rows}
 use Rattle.zt_store.proofs.Exchanges.{keys_of, keys-rows_at}
 

@@ -14,15 +14,16 @@ use Rattle.std.proofs.lemmas.Option.{slice_get-get_or, slice_get_within, slice_g
 use Rattle.zt_rows.specs.declared.keys.RowKey.{RowKey}
 use Rattle.zt_rows.specs.declared.rows.Row.{Row}
 use Rattle.zt_rows.specs.Keys.{rowkey_cmp, rowkey_eq}
-use Rattle.zt_rows.specs.KeyOrder.{rowkey_eq-cmp, rowkey_eq-equal, rowkey_eq-self, rowkey_eq-laws}
+use Rattle.zt_rows.specs.ProofsOnly.KeyOrder.{rowkey_eq-cmp, rowkey_eq-equal, rowkey_eq-self, rowkey_eq-laws}
 use Rattle.zt_rows.specs.State.{State, row, put}
 use Rattle.zt_rows.specs.Change.{with_rows}
 use Rattle.zt_rows.specs.Room.{SuitsKey}
 use Rattle.zt_rows.proofs.ChangeLaws.{row-with_rows}
 use Rattle.zt_store.specs.Places.{Keeps, fits, fits_row}
-use Rattle.zt_store.specs.StoreView.{Stored, standing, AllSuit}
+use Rattle.zt_store.specs.StoreView.{Stored}
+use Rattle.zt_store.specs.ProofsOnly.StoreView.{standing, AllSuit}
 use Rattle.zt_store.specs.StepView.{Stepping, listed, with_key, put_on, DiffersAtTouched}
-use Rattle.zt_store.specs.StepRows.{IsTouching, IsPlaceOf}
+use Rattle.zt_store.specs.ProofsOnly.StepRows.{IsTouching, IsPlaceOf}
 use Rattle.zt_store.proofs.Fitting.{Rows, fits-nil, fits-push, suits-push}
 use Rattle.zt_store.proofs.Exchanges.{keys_of, key_equality, find-lookup, row-unlisted, with_rows-put_listed, with_rows-push}
 

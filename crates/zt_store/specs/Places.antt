@@ -2,8 +2,8 @@
 use Rattle.std.specs.Prelude.{◌≡◌, ℕ, Bool, true, ◌&&◌, List, [], ◌∷◌, Option}
 use Rattle.zt_rows.specs.declared.keys.RowKey.{RowKey}
 use Rattle.zt_rows.specs.declared.rows.Row.{Row}
-use Rattle.zt_store.specs.TableSizes.{TableSizes, has_place, no_sizes}
-use Rattle.zt_store.specs.KoidCounts.{counts_within_if}
+use Rattle.zt_cells.specs.TableSizes.{TableSizes, has_place, no_sizes}
+use Rattle.zt_index.specs.KoidCounts.{counts_within_if}
 
 -- the places for rows, and for how many koids numbers are kept
 pub record Places : Type 0 where

@@ -1,16 +1,8 @@
--- What holds of a record: its keys in their order, each once, and rows that suit them.
-use Rattle.std.specs.Prelude.{◌≡◌, T, Bool, true, ◌&&◌, List, [], ◌∷◌, map, Option}
-use Rattle.std.specs.FinMap.Entries as entries
+-- What fits a store: each of some records.
+use Rattle.std.specs.Prelude.{Bool, true, ◌&&◌, List, [], ◌∷◌, Option}
 use Rattle.zt_rows.specs.declared.keys.RowKey.{RowKey}
 use Rattle.zt_rows.specs.declared.rows.Row.{Row}
-use Rattle.zt_rows.specs.Keys.{rowkey_cmp}
 use Rattle.zt_store.specs.Places.{Places, fits}
-use Rattle.zt_store.specs.StoreView.{AllSuit}
-
-pub record IsRecord (ks : List RowKey) (R : List (RowKey × Option Row)) : Type 0 where
-  pub listed : ks ≡ map (λ e. e.0) R
-  pub suited : AllSuit R
-  pub ordered : T (entries.is_sorted rowkey_cmp R)
 
 -- each of the records fits
 abbrev pub all_fit : Places → List (List (RowKey × Option Row)) → Bool

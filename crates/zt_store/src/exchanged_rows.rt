@@ -6,7 +6,7 @@ ghost use Rattle.zt_rows.specs.Path.{end_of, exchange_back, records_of};
 ghost use Rattle.zt_rows.specs.State.{State};
 ghost use Rattle.zt_store.specs.Places.{fits};
 ghost use Rattle.zt_store.specs.RecordRows.{all_fit};
-ghost use Rattle.zt_store.specs.StoreView.{AllSuit};
+ghost use Rattle.zt_store.specs.ProofsOnly.StoreView.{AllSuit};
 
 use crate::record::Record;
 use crate::store::Store;

@@ -6,12 +6,12 @@ ghost use Rattle.zt_rows.specs.Change.{keys};
 ghost use Rattle.zt_rows.specs.Reads.{object};
 ghost use Rattle.zt_rows.specs.Room.{HasRoom, NextFits, is_above, next_key};
 ghost use Rattle.zt_rows.specs.State.{row};
-ghost use Rattle.zt_store.specs.Chains.{IsBehind, IsNext};
-ghost use Rattle.zt_store.specs.Criteria.{has_entry};
-ghost use Rattle.zt_store.specs.KeyColumns.{is_from, key_in, next_column, numbers_end};
+ghost use Rattle.zt_index.specs.Chains.{IsBehind, IsNext};
+ghost use Rattle.zt_index.specs.Criteria.{has_entry};
+ghost use Rattle.zt_store.specs.ProofsOnly.KeyColumns.{is_from, key_in, next_column, numbers_end};
 
-use crate::cells::Cells;
 use zt_bits::Kind;
+use zt_cells::Cells;
 use zt_rows::{Counters, HandleValue, Koid, RowKey};
 
 /// The keys that differ in their last number alone. In the order of all keys a column stands in one piece.

@@ -2,15 +2,11 @@
 //! undone and made again.
 #![tactic(auto)]
 
-mod cells;
-mod chains;
 mod exchanged_rows;
-mod index;
 mod key_columns;
 mod record;
 mod step;
 mod store;
-mod support_counts;
 
 pub use exchanged_rows::{swap, undo};
 pub use record::Record;

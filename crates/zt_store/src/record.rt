@@ -16,7 +16,7 @@ impl Model for Record {
     ghost use Rattle.std.specs.Prelude.{List, Option};
     ghost use Rattle.zt_rows.specs.declared.keys.RowKey.{RowKey};
     ghost use Rattle.zt_rows.specs.declared.rows.Row.{Row};
-    ghost use Rattle.zt_store.specs.RecordRows.{IsRecord};
+    ghost use Rattle.zt_store.specs.ProofsOnly.RecordRows.{IsRecord};
 
     ghost Value = { List (RowKey × Option Row) };
 

@@ -9,21 +9,21 @@ ghost use Rattle.zt_rows.specs.Settle.{is_child_job_of, is_child_process_of};
 ghost use Rattle.zt_rows.specs.State.{row, put};
 ghost use Rattle.zt_rows.specs.Support.{support_count};
 ghost use Rattle.zt_rows.specs.Tests.{count_row};
-ghost use Rattle.zt_store.specs.Chains.{IsNext};
-ghost use Rattle.zt_store.specs.Criteria.{has_entry, is_at, is_below, is_by, is_for, is_on, objects_where, waits_where};
-ghost use Rattle.zt_store.specs.KoidCounts.{keeps_itself, keeps_tasks};
+ghost use Rattle.zt_cells.specs.FirstNumber.{IsFirst};
+ghost use Rattle.zt_index.specs.Chains.{IsNext};
+ghost use Rattle.zt_index.specs.Criteria.{has_entry, is_at, is_below, is_by, is_for, is_on, objects_where, waits_where};
+ghost use Rattle.zt_index.specs.ProofsOnly.KoidCounts.{keeps_itself, keeps_tasks};
 ghost use Rattle.zt_store.specs.Places.{Keeps, fits, fits_row, no_places};
-ghost use Rattle.zt_store.specs.StoreView.{Stored, standing};
-ghost use Rattle.zt_store.specs.FirstNumber.{IsFirst};
+ghost use Rattle.zt_store.specs.StoreView.{Stored};
+ghost use Rattle.zt_store.specs.ProofsOnly.StoreView.{standing};
 
-use crate::cells::Cells;
-use crate::index::{Criterion, OwnedIndex, koid_bucket, next_by_criterion, next_on};
 use crate::key_columns::{handle_of, has_room, key_after};
 use crate::record::Record;
-use crate::support_counts::{KoidCounts, SupportCounts};
 use std::alloc::{AllocError, Global};
 use std::marker::Model;
 use zt_bits::{Kind, Rights, Signals};
+use zt_cells::Cells;
+use zt_index::{Index, KoidCounts, SupportCounts};
 use zt_rows::{
     Counters, HandleValue, Held, Koid, Life, Message, ObjectRow, Packet, ROOT_JOB, Row, RowKey,
     Wait,
@@ -65,7 +65,7 @@ const TO_ROOT_JOB: Held = Held {
 pub struct Store {
     cells: Cells,
     support_counts: SupportCounts,
-    index: OwnedIndex,
+    index: Index,
 }
 
 /// Lets all parts go in one call, so that a function that owns a store is proved without going through them at each of its
@@ -82,7 +82,7 @@ impl Drop for Store {
 
 impl Model for Store {
     ghost use Rattle.std.specs.Prelude.{length};
-    ghost use Rattle.zt_store.specs.IndexInvariant.{IsStore};
+    ghost use Rattle.zt_store.specs.ProofsOnly.StoreInvariant.{IsStore};
     ghost use Rattle.zt_store.specs.StoreView.{Stored};
 
     ghost Value = { Stored };
@@ -103,7 +103,7 @@ impl Store {
         Store {
             cells: Cells::hollow(alloc),
             support_counts: SupportCounts::new(alloc),
-            index: OwnedIndex::new(alloc),
+            index: Index::new(alloc),
         }
     }
 
@@ -234,8 +234,7 @@ impl Store {
     pub fn wait_on(&self, process: Koid, handle: HandleValue, low: Option<u64>) -> Option<u64>
         ensures { IsNext (waits_where self.now.state (is_on process handle)) low result }
     {
-        let index = self.index.index();
-        next_on(&self.cells, &index.handles, process, handle, low)
+        self.index.wait_on(&self.cells, process, handle, low)
     }
 
     /// The least number above the low one, or of all, of a wait for the port. It takes no memory, and looks at waits
@@ -243,9 +242,7 @@ impl Store {
     pub fn wait_for(&self, port: Koid, low: Option<u64>) -> Option<u64>
         ensures { IsNext (waits_where self.now.state (is_for port)) low result }
     {
-        let bucket = koid_bucket(port);
-        let index = self.index.index();
-        next_by_criterion(&self.cells, &index.ports, bucket, Criterion::For(port), low)
+        self.index.wait_for(&self.cells, port, low)
     }
 
     /// The least number above the low one, or of all, of a wait on a handle that names the object. It takes no memory,
@@ -253,15 +250,7 @@ impl Store {
     pub fn wait_at(&self, koid: Koid, low: Option<u64>) -> Option<u64>
         ensures { IsNext (waits_where self.now.state (is_at self.now.state koid)) low result }
     {
-        let bucket = koid_bucket(koid);
-        let index = self.index.index();
-        next_by_criterion(
-            &self.cells,
-            &index.objects,
-            bucket,
-            Criterion::At(koid),
-            low,
-        )
+        self.index.wait_at(&self.cells, koid, low)
     }
 
     /// The least number above the low one, or of all, of a wait that the process made. It takes no memory, and looks at
@@ -269,15 +258,7 @@ impl Store {
     pub fn wait_by(&self, process: Koid, low: Option<u64>) -> Option<u64>
         ensures { IsNext (waits_where self.now.state (is_by process)) low result }
     {
-        let bucket = koid_bucket(process);
-        let index = self.index.index();
-        next_by_criterion(
-            &self.cells,
-            &index.processes,
-            bucket,
-            Criterion::By(process),
-            low,
-        )
+        self.index.wait_by(&self.cells, process, low)
     }
 
     /// The least koid above the low one, or of all, of a live job or process whose parent is the koid. It takes no
@@ -285,11 +266,7 @@ impl Store {
     pub fn task_below(&self, parent: Koid, low: Option<Koid>) -> Option<Koid>
         ensures { IsNext (objects_where self.now.state (is_below parent)) low result }
     {
-        let bucket = koid_bucket(parent);
-        let chain = &self.index.index().parents;
-        let low = low.map(|koid| koid.0);
-        let found = next_by_criterion(&self.cells, chain, bucket, Criterion::Below(parent), low)?;
-        Some(Koid(found))
+        self.index.task_below(&self.cells, parent, low)
     }
 
     /// The least value above the low one, or of all, under which the process has an entry. It takes no memory, and looks

@@ -4,7 +4,7 @@ use Rattle.zt_rows.specs.declared.refusals.Refusal.{Refusal}
 use Rattle.zt_rows.specs.declared.refusals.Refusal.TheVariants.{BadLine}
 use denote.Ref.{Bor}
 use Rattle.zt_text.specs.Fields.{Placed, Unread, placed, next, first_of, none_of, ended}
-use Rattle.zt_text.specs.Cut.{unread_of, IsCut}
+use Rattle.zt_text.specs.ProofsOnly.Cut.{unread_of, IsCut}
 
 surplus : (fields : List Placed) (behind : ℕ) (x : Placed × Unread) → Ok x ≡ first_of fields behind → Err (BadLine x.0.column) ≡ none_of fields
 surplus [] behind x h = cc

@@ -6,7 +6,7 @@ use Rattle.std.proofs.lemmas.Bool.{and_parts}
 use Rattle.std.proofs.lemmas.List.Splits.{slice_split-cons_yes, slice_split-cons_no}
 use denote.Ref.{Bor}
 use Rattle.zt_text.specs.Fields.{parts_of}
-use Rattle.zt_text.specs.Cut.{IsCut}
+use Rattle.zt_text.specs.ProofsOnly.Cut.{IsCut}
 use Rattle.zt_text.specs.Lines.{lines_of}
 use Rattle.zt_text.proofs.ShownWords.{is_free, other_byte}
 

@@ -6,7 +6,7 @@ use Rattle.std.proofs.lemmas.Bool.Decides.{nat_tests}
 use denote.Ref.{Bor}
 use Rattle.zt_text.specs.Numbers.{handle_of}
 use Rattle.zt_text.specs.Fields.{parts_of}
-use Rattle.zt_text.specs.Cut.{IsCut, parts_left, length_left}
+use Rattle.zt_text.specs.ProofsOnly.Cut.{IsCut, parts_left, length_left}
 use Rattle.zt_text.specs.Lists.{in_front, each_handle, at_most_64, listed}
 
 -- handles in front of those that are still to be read

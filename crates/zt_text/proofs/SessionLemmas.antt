@@ -5,7 +5,8 @@ use Rattle.zt_rows.specs.declared.refusals.Refusal.{Refusal}
 use Rattle.zt_rows.specs.declared.calls.Call.{Call}
 use Rattle.zt_text.specs.Fields.{◌>>=◌}
 use Rattle.zt_text.specs.Lines.{lines_of}
-use Rattle.zt_text.specs.Session.{call_in, at_line, in_front, calls_in, comes_first, has_call, IsWantOfMemory, IsFaultOf, IsTaken, IsNotTaken}
+use Rattle.zt_text.specs.Session.{call_in, at_line, in_front, calls_in, comes_first, has_call, IsWantOfMemory, IsFaultOf}
+use Rattle.zt_text.specs.ProofsOnly.Session.{IsTaken, IsNotTaken}
 
 -- calls in front of those that are still to be read
 abbrev pub behind : List (ℕ × Call) → Result (List (ℕ × Call)) (ℕ × Refusal) → Result (List (ℕ × Call)) (ℕ × Refusal)

@@ -17,7 +17,8 @@ use Rattle.std.proofs.lemmas.Fmt.{decimal_is_IsNumeral}
 use Rattle.zt_rows.specs.declared.calls.Call.{Call}
 use Rattle.zt_text.specs.ShownNumbers.{words, hexadecimal, shown_mask, shown_bytes, shown_list}
 use Rattle.zt_text.specs.Bytes.{hex_text}
-use Rattle.zt_text.specs.Calls.{IsByte, IsHandle, IsCode, call_name, call_arguments, spaced, shown_call}
+use Rattle.zt_text.specs.Calls.{IsByte, IsHandle, IsCode, call_name, call_arguments, shown_call}
+use Rattle.zt_text.specs.ProofsOnly.Calls.{spaced}
 use Rattle.zt_text.proofs.ShownFields.{decimal_read, decimal_digits, mask_digits_shown, digits_of}
 
 -- no byte of a word is the separator

@@ -58,12 +58,6 @@ call_arguments (calls.Spawn job argument) = decimal job ∷ decimal argument ∷
 call_arguments (calls.TaskKill handle) = decimal handle ∷ []
 call_arguments (calls.ProcessExit code) = signed_decimal code ∷ []
 
--- words with a space in front of each
-abbrev pub spaced : List (List ℕ) → List ℕ
-spaced [] = []
-spaced (word ∷ []) = 32 ∷ word
-spaced (word ∷ next ∷ others) = 32 ∷ (word ++ spaced (next ∷ others))
-
 -- a call of a process, as the line that reads as it
 unfoldable pub shown_call : ℕ → Call → List ℕ
 shown_call process made = words (decimal process ∷ call_name made ∷ call_arguments made)

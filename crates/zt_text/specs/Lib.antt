@@ -15,4 +15,4 @@ pub mod Rows
 pub mod Spellings
 pub mod Columns
 -- Used by proofs only: no public clause depends on them.
-pub mod Cut
+pub mod ProofsOnly

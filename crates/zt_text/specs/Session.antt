@@ -1,5 +1,5 @@
 -- What a session text reads as: its first line, then the line of each call.
-use Rattle.std.specs.Prelude.{◌≡◌, ◌⊎◌, ◌==◌, ℕ, ◌+◌, ◌-◌, Bool, true, false, ◌&&◌, nat_lt, List, [], ◌∷◌, ◌++◌, length, Option, is_some, Some, None, Result, Ok, Err, is_ok, if◌then◌else◌, codes}
+use Rattle.std.specs.Prelude.{◌≡◌, ◌⊎◌, ◌==◌, ℕ, ◌+◌, ◌-◌, Bool, true, false, ◌&&◌, nat_lt, List, [], ◌∷◌, length, Option, Some, None, Result, Ok, Err, is_ok, if◌then◌else◌, codes}
 use Rattle.std.specs.Str.{bytes_eq}
 use Rattle.zt_rows.specs.declared.refusals.Refusal.{Refusal}
 use Rattle.zt_rows.specs.declared.refusals.Refusal.TheVariants.{BadLine, LineTooLong, OutOfMemory}
@@ -101,15 +101,3 @@ IsWantOfMemory some fault = (some ≡ true) × (fault ≡ (0, OutOfMemory))
 abbrev pub IsFaultOf : Bool → Result (List (ℕ × Call)) (ℕ × Refusal) → ℕ × Refusal → Type 0
 IsFaultOf some (Ok _) fault = IsWantOfMemory some fault
 IsFaultOf some (Err first) fault = (fault ≡ first) ⊎ IsWantOfMemory some fault
-
--- ---- one line at a time
-
--- the call of a line, if it has one, behind those so far
-abbrev pub IsTaken : List (ℕ × Call) → Result (Option (ℕ × Call)) Refusal → List (ℕ × Call) → Type 0
-IsTaken calls (Ok made) taken = taken ≡ calls ++ in_front made []
-IsTaken calls (Err _) taken = ⊥
-
--- why a line is not taken: its fault, or that memory was refused to its call
-abbrev pub IsNotTaken : ℕ → Result (Option (ℕ × Call)) Refusal → ℕ × Refusal → Type 0
-IsNotTaken number (Ok made) fault = IsWantOfMemory (is_some made) fault
-IsNotTaken number (Err reason) fault = fault ≡ fault_at number reason

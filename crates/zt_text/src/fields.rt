@@ -64,7 +64,7 @@ pub struct Fields<'a> {
 
 impl<'a> Model for Fields<'a> {
     ghost use Rattle.zt_text.specs.Fields.{Unread};
-    ghost use Rattle.zt_text.specs.Cut.{unread_of, IsLeftOfLine};
+    ghost use Rattle.zt_text.specs.ProofsOnly.Cut.{unread_of, IsLeftOfLine};
 
     ghost Value = { Unread };
 

@@ -2,7 +2,8 @@ ghost use Rattle.std.specs.Prelude.{◌≡◌, ◌++◌, [], ◌∷◌, IfOk, On
 ghost use Rattle.std.specs.Fmt.{decimal};
 ghost use Rattle.std.specs.List.{flat_map};
 ghost use Rattle.zt_text.specs.ShownNumbers.{shown_mask, shown_bytes, shown_list};
-ghost use Rattle.zt_text.specs.Calls.{call_name, discard_words, call_arguments, spaced, shown_call, call_line, session_text};
+ghost use Rattle.zt_text.specs.Calls.{call_name, discard_words, call_arguments, shown_call, call_line, session_text};
+ghost use Rattle.zt_text.specs.ProofsOnly.Calls.{spaced};
 
 use crate::printed_rows::{put_bytes, put_handles, put_mask};
 use std::alloc::{AllocError, Global};

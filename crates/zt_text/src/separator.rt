@@ -1,5 +1,5 @@
 ghost use Rattle.std.specs.Prelude.{◌≡◌, ◌<◌, ◌==◌, length, position, IfSome};
-ghost use Rattle.zt_text.specs.Cut.{IsCut};
+ghost use Rattle.zt_text.specs.ProofsOnly.Cut.{IsCut};
 
 /// The bytes before the first separator, and those behind it.
 pub fn cut(bytes: &[u8], separator: u8) -> (&[u8], Option<&[u8]>)

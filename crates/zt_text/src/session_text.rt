@@ -2,7 +2,8 @@ ghost use Rattle.std.specs.Prelude.{◌≡◌, ◌∷◌, ◌<◌, true, length,
 ghost use Rattle.zt_text.specs.Lines.{lines_of};
 ghost use Rattle.zt_text.specs.ReadLines.{IsUnread};
 ghost use Rattle.zt_text.specs.ReadCalls.{process_call};
-ghost use Rattle.zt_text.specs.Session.{call_in, fault_at, first_line, calls_in, has_call, session_of, session_has_call, line_of_call, line_of_call_in, IsFaultOf, IsTaken, IsNotTaken};
+ghost use Rattle.zt_text.specs.Session.{call_in, fault_at, first_line, calls_in, has_call, session_of, session_has_call, line_of_call, line_of_call_in, IsFaultOf};
+ghost use Rattle.zt_text.specs.ProofsOnly.Session.{IsTaken, IsNotTaken};
 
 use crate::fields::Fields;
 use crate::read_calls::call;

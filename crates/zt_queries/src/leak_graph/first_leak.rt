@@ -8,9 +8,9 @@ ghost use Rattle.zt_queries.specs.Happenings.{leaked};
 ghost use Rattle.zt_queries.specs.Leaks.{is_leaked};
 ghost use Rattle.zt_queries.specs.HappeningTimes.{IsRefusedWhen, at_moment, when_on};
 ghost use Rattle.zt_queries.specs.LaterMoments.{TellsWhenLeaked};
-ghost use Rattle.zt_queries.specs.RowHappenings.{AreWays};
-ghost use Rattle.zt_queries.specs.LeakGraph.{IsGraph};
-ghost use Rattle.zt_queries.specs.FirstLeak.{state_after, IsLast, IsFirstLeak};
+ghost use Rattle.zt_queries.specs.ProofsOnly.RowHappenings.{AreWays};
+ghost use Rattle.zt_queries.specs.ProofsOnly.LeakGraph.{IsGraph};
+ghost use Rattle.zt_queries.specs.ProofsOnly.FirstLeak.{state_after, IsLast, IsFirstLeak};
 
 use crate::happening_times::{PathPair, is_known, ways_to};
 use crate::leak_graph::graph::{Graph, GraphNode, copy_of, node_of};

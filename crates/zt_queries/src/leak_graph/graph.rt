@@ -5,7 +5,7 @@ ghost use Rattle.std.specs.BTreeMap.{get};
 ghost use Rattle.zt_rows.specs.Keys.{rowkey_cmp, rowkey_eq};
 ghost use Rattle.zt_rows.specs.State.{row};
 ghost use Rattle.zt_rows.specs.declared.keys.RowKey.{RowKey};
-ghost use Rattle.zt_queries.specs.LeakGraph.{IsGraph, first_of, graph_row, graph_row_if, node, link_of};
+ghost use Rattle.zt_queries.specs.ProofsOnly.LeakGraph.{IsGraph, first_of, graph_row, graph_row_if, node, link_of};
 
 use crate::support_list::keys_of;
 use std::alloc::{AllocError, Global};

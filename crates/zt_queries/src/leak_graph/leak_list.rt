@@ -5,8 +5,8 @@ ghost use Rattle.std.specs.BTreeSet.{contains};
 ghost use Rattle.zt_rows.specs.State.{State};
 ghost use Rattle.zt_history.specs.Tree.{state_at};
 ghost use Rattle.zt_queries.specs.Leaks.{leaks, is_leaked};
-ghost use Rattle.zt_queries.specs.LeakGraph.{IsGraph, is_left, left_at};
-ghost use Rattle.zt_queries.specs.ReachabilitySearch.{IsSurvey};
+ghost use Rattle.zt_queries.specs.ProofsOnly.LeakGraph.{IsGraph, is_left, left_at};
+ghost use Rattle.zt_queries.specs.ProofsOnly.ReachabilitySearch.{IsSurvey};
 
 use crate::frozen::Frozen;
 use crate::leak_graph::graph::{Graph, GraphNode, graph_of, node_of};

@@ -6,9 +6,9 @@ ghost use Rattle.zt_rows.specs.Keys.{rowkey_cmp, rowkey_eq};
 ghost use Rattle.zt_rows.specs.State.{State, row};
 ghost use Rattle.zt_store.specs.RecordLook.{held};
 ghost use Rattle.zt_history.specs.TreeInvariant.{recorded_at};
-ghost use Rattle.zt_queries.specs.LeakGraph.{IsGraph, held_over, graph_row_if};
-ghost use Rattle.zt_queries.specs.FirstLeak.{state_after};
-ghost use Rattle.zt_queries.specs.RowHappenings.{AreWays, row_over};
+ghost use Rattle.zt_queries.specs.ProofsOnly.LeakGraph.{IsGraph, held_over, graph_row_if};
+ghost use Rattle.zt_queries.specs.ProofsOnly.FirstLeak.{state_after};
+ghost use Rattle.zt_queries.specs.ProofsOnly.RowHappenings.{AreWays, row_over};
 
 use crate::happening_times::PathPair;
 use crate::leak_graph::graph::{Graph, graph_of, graph_row_of, place};

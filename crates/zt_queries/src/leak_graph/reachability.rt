@@ -8,7 +8,7 @@ ghost use Rattle.zt_rows.specs.State.{State};
 ghost use Rattle.zt_rows.specs.Tests.{among};
 ghost use Rattle.zt_queries.specs.Reachability.{reached};
 ghost use Rattle.zt_queries.specs.Leaks.{is_above};
-ghost use Rattle.zt_queries.specs.LeakGraph.{IsGraph, roots, root_at, names, names_at, waiting, weight, climbed, keeps, keeper_at, is_over};
+ghost use Rattle.zt_queries.specs.ProofsOnly.LeakGraph.{IsGraph, roots, root_at, names, names_at, waiting, weight, climbed, keeps, keeper_at, is_over};
 
 use crate::leak_graph::graph::{Graph, GraphNode, GraphRow, link};
 use std::alloc::{AllocError, Global};

@@ -8,8 +8,8 @@ ghost use Rattle.zt_rows.specs.Tests.{exists};
 ghost use Rattle.zt_store.specs.RecordLook.{held};
 ghost use Rattle.zt_history.specs.TreeInvariant.{recorded_at};
 ghost use Rattle.zt_queries.specs.Leaks.{is_leaked};
-ghost use Rattle.zt_queries.specs.FirstLeak.{state_after, IsLast, is_sure, names_object, names_in, has_none, HoldsRowsOf};
-ghost use Rattle.zt_queries.specs.RowHappenings.{AreWays};
+ghost use Rattle.zt_queries.specs.ProofsOnly.FirstLeak.{state_after, IsLast, is_sure, names_object, names_in, has_none, HoldsRowsOf};
+ghost use Rattle.zt_queries.specs.ProofsOnly.RowHappenings.{AreWays};
 
 use crate::happening_times::{PathPair, is_there, object_in, row_at_fork, row_over};
 use crate::support_list::is_live_process;

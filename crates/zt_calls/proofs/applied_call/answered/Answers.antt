@@ -1,7 +1,7 @@
 use Rattle.std.proofs.Common.{sym, subst}
 use Rattle.zt_rows.specs.declared.calls.Call.{Call}
 use Rattle.zt_rows.specs.Step.{direct}
-use Rattle.zt_calls.specs.CallOutcomes.{Does}
+use Rattle.zt_calls.specs.ProofsOnly.CallOutcomes.{Does}
 use Rattle.zt_calls.proofs.applied_call.answered.Goals as goal
 
 pub returns-in-ChannelWrite-clause-does : goal.returns-in-ChannelWrite-clause-does

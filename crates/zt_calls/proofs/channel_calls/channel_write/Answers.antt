@@ -1,6 +1,6 @@
 -- The message goes to the peer, which has room for one more, as it did before the entries were taken out.
 use Rattle.std.proofs.Common.{Err, subst, ◌∙◌}
-use Rattle.zt_calls.specs.SentMessage.{Finds, message_for}
+use Rattle.zt_calls.specs.ProofsOnly.SentMessage.{Finds, message_for}
 use Rattle.zt_calls.proofs.SendingLaws.{push-fits, write-sends, write-fails}
 use Rattle.zt_calls.proofs.channel_calls.channel_write.Goals as goal
 

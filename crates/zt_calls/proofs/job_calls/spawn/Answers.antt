@@ -1,7 +1,7 @@
 use Rattle.std.proofs.Common.{◌≡◌, true, rules, sym, ap, ◌∙◌}
 use Rattle.zt_rows.specs.State.{State}
 use Rattle.zt_rows.specs.Reads.{is_live}
-use Rattle.zt_calls.specs.NewTasks.{process_made}
+use Rattle.zt_calls.specs.ProofsOnly.NewTasks.{process_made}
 use Rattle.zt_calls.proofs.JobCallLaws.{gave-koids, gave-values, gave-still_sound, gave-runs, spawned, does-from}
 use Rattle.zt_calls.proofs.job_calls.spawn.Goals as goal
 

@@ -2,7 +2,7 @@ use Rattle.std.proofs.Common.{◌≡◌, ◌++◌, List, ap, sym, ◌∙◌, sub
 use Rattle.zt_rows.specs.declared.rows.Held.{Held}
 use Rattle.zt_rows.specs.State.{row}
 use Rattle.zt_cascade.specs.ToldObjects.{NamesLost}
-use Rattle.zt_calls.specs.LostObjects.{named_by}
+use Rattle.zt_calls.specs.ProofsOnly.LostObjects.{named_by}
 use Rattle.zt_cascade.proofs.ListLaws.{adds-next, adds-all}
 use Rattle.zt_calls.proofs.LosingLaws.{all_named, names-lost}
 use Rattle.zt_calls.proofs.lost_objects.lost.Goals as goal

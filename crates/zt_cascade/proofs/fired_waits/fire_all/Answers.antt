@@ -4,7 +4,7 @@ use Rattle.std.proofs.lemmas.List.Sorted.{IsNonDecreasingBy-from_sort}
 use Rattle.zt_rows.specs.Reads.{waits}
 use Rattle.zt_rows.specs.Settle.{fire}
 use Rattle.zt_cascade.specs.PacketRoom.{FiresWithin}
-use Rattle.zt_cascade.specs.RaisedWaits.{fire_number}
+use Rattle.zt_cascade.specs.ProofsOnly.RaisedWaits.{fire_number}
 use Rattle.zt_cascade.proofs.ListLaws.{fold-all}
 use Rattle.zt_cascade.proofs.FiredLaws.{fired_by_number}
 use Rattle.zt_cascade.proofs.FiringLaws.{room-numbers}

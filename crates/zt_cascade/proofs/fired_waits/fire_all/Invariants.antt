@@ -1,7 +1,7 @@
 use Rattle.std.proofs.Common.{◌≡◌, take}
 use Rattle.std.specs.List.{fold}
-use Rattle.zt_cascade.specs.RemovedObject.{IsAhead}
-use Rattle.zt_cascade.specs.RaisedWaits.{fire_number}
+use Rattle.zt_store.specs.ProofsOnly.StepView.{IsAhead}
+use Rattle.zt_cascade.specs.ProofsOnly.RaisedWaits.{fire_number}
 use Rattle.zt_cascade.proofs.fired_waits.fire_all.Given as goal
 
 abbrev pub invariant-loop-number : goal.invariant-loop-number

@@ -1,6 +1,6 @@
 use Rattle.std.proofs.Common.{◌<◌, ◌^◌, ℕ, Bool, Some, subst, arith}
-use Rattle.zt_store.specs.Chains.{IsNext}
-use Rattle.zt_store.specs.Criteria.{is_at, waits_where}
+use Rattle.zt_index.specs.Chains.{IsNext}
+use Rattle.zt_index.specs.Criteria.{is_at, waits_where}
 use Rattle.zt_cascade.proofs.WakingLaws.{fewer-left, longer-pushed, passed-end, passed-next}
 use Rattle.zt_cascade.proofs.raised_waits.add_waits_at.Goals as goal
 

@@ -1,5 +1,5 @@
-use Rattle.zt_store.specs.Criteria.{is_on, waits_where}
-use Rattle.zt_cascade.specs.RaisedWaits.{IsLonger}
+use Rattle.zt_index.specs.Criteria.{is_on, waits_where}
+use Rattle.zt_cascade.specs.ProofsOnly.RaisedWaits.{IsLonger}
 use Rattle.zt_cascade.proofs.WakingLaws.{ListsPassed, numbers_left}
 use Rattle.zt_cascade.proofs.raised_waits.add_waits_on.Given as goal
 

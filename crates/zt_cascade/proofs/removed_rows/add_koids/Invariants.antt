@@ -1,5 +1,5 @@
 use Rattle.std.proofs.Common.{◌≡◌, ◌++◌, take}
-use Rattle.zt_cascade.specs.RemovedObject.{koids}
+use Rattle.zt_cascade.specs.ProofsOnly.RemovedObject.{koids}
 use Rattle.zt_cascade.proofs.removed_rows.add_koids.Given as goal
 
 abbrev pub invariant-loop-held : goal.invariant-loop-held

@@ -1,5 +1,6 @@
 use Rattle.zt_rows.specs.declared.keys.RowKey.TheVariants as key
-use Rattle.zt_cascade.proofs.TakingLaws.{ahead-then, messages-step}
+use Rattle.zt_store.proofs.AheadLaws.{ahead-then}
+use Rattle.zt_cascade.proofs.TakingLaws.{messages-step}
 use Rattle.zt_cascade.proofs.removed_rows.take_messages.Goals as goal
 
 pub loop-number-smaller : goal.loop-number-smaller

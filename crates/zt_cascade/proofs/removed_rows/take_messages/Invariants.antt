@@ -1,4 +1,5 @@
-use Rattle.zt_cascade.specs.RemovedObject.{IsAhead, AreHandlesListed, IsPartly, weight}
+use Rattle.zt_store.specs.ProofsOnly.StepView.{IsAhead}
+use Rattle.zt_cascade.specs.ProofsOnly.RemovedObject.{AreHandlesListed, IsPartly, weight}
 use Rattle.zt_cascade.proofs.removed_rows.take_messages.Given as goal
 
 abbrev pub invariant-loop-number : goal.invariant-loop-number

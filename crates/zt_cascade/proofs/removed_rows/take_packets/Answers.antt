@@ -1,7 +1,8 @@
 use Rattle.std.specs.Prelude.{IsSome}
 use Rattle.zt_rows.specs.declared.keys.RowKey.TheVariants as key
 use Rattle.zt_rows.specs.State.{row}
-use Rattle.zt_cascade.proofs.TakingLaws.{ahead-then, packets-step}
+use Rattle.zt_store.proofs.AheadLaws.{ahead-then}
+use Rattle.zt_cascade.proofs.TakingLaws.{packets-step}
 use Rattle.zt_cascade.proofs.removed_rows.take_packets.Goals as goal
 
 pub loop-number-smaller : goal.loop-number-smaller

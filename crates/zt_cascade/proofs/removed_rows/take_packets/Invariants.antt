@@ -1,7 +1,8 @@
 use Rattle.zt_rows.specs.declared.keys.RowKey.{RowKey}
 use Rattle.zt_rows.specs.Room.{SuitsKey}
 use Rattle.zt_rows.specs.State.{row}
-use Rattle.zt_cascade.specs.RemovedObject.{IsAhead, IsPartly, weight}
+use Rattle.zt_store.specs.ProofsOnly.StepView.{IsAhead}
+use Rattle.zt_cascade.specs.ProofsOnly.RemovedObject.{IsPartly, weight}
 use Rattle.zt_cascade.proofs.removed_rows.take_packets.Given as goal
 
 abbrev pub invariant-loop-number : goal.invariant-loop-number

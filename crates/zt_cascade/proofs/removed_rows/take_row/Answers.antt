@@ -2,7 +2,7 @@ use Rattle.std.proofs.Common.{◌≡◌, ℕ, ◌+◌, ◌≤◌, sym, ap, ◌�
 use Rattle.std.proofs.lemmas.Result.{on_ok_weaker}
 use Rattle.zt_rows.specs.declared.keys.RowKey.TheVariants as key
 use Rattle.zt_rows.specs.Reads.{message}
-use Rattle.zt_cascade.specs.RemovedObject.{left_behind, IsLeft, IsPartly, weight}
+use Rattle.zt_cascade.specs.ProofsOnly.RemovedObject.{left_behind, IsLeft, IsPartly, weight}
 use Rattle.zt_cascade.proofs.TakingLaws.{row-partly, row-objects, row-messages, row-lighter}
 use Rattle.zt_cascade.proofs.removed_rows.take_row.Goals as goal
 

@@ -1,8 +1,9 @@
 use Rattle.std.proofs.Common.{Some, subst}
 use Rattle.std.specs.Prelude.{None}
-use Rattle.zt_store.specs.Chains.{IsNext}
-use Rattle.zt_store.specs.Criteria.{is_for, waits_where}
-use Rattle.zt_cascade.proofs.TakingLaws.{ahead-then, waits-step, waits-end}
+use Rattle.zt_index.specs.Chains.{IsNext}
+use Rattle.zt_index.specs.Criteria.{is_for, waits_where}
+use Rattle.zt_store.proofs.AheadLaws.{ahead-then}
+use Rattle.zt_cascade.proofs.TakingLaws.{waits-step, waits-end}
 use Rattle.zt_cascade.proofs.removed_rows.take_waits.Goals as goal
 
 pub waits-smaller : goal.waits-smaller

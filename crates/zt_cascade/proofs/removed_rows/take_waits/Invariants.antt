@@ -1,4 +1,5 @@
-use Rattle.zt_cascade.specs.RemovedObject.{IsAhead, IsPartly, weight}
+use Rattle.zt_store.specs.ProofsOnly.StepView.{IsAhead}
+use Rattle.zt_cascade.specs.ProofsOnly.RemovedObject.{IsPartly, weight}
 use Rattle.zt_cascade.proofs.removed_rows.take_waits.Given as goal
 
 abbrev pub invariant-waits : goal.invariant-waits

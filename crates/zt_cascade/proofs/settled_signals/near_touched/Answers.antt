@@ -1,5 +1,5 @@
 use Rattle.std.proofs.Common.{◌++◌, ℕ, List, ap, sym, ◌∙◌}
-use Rattle.zt_cascade.specs.NearObjects.{near}
+use Rattle.zt_cascade.specs.ProofsOnly.NearObjects.{near}
 use Rattle.zt_cascade.proofs.ListLaws.{adds-next, adds-all}
 use Rattle.zt_cascade.proofs.settled_signals.near_touched.Goals as goal
 

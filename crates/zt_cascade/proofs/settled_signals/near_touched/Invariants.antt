@@ -1,6 +1,6 @@
 use Rattle.std.proofs.Common.{◌≡◌, take}
 use Rattle.std.specs.List.{flat_map}
-use Rattle.zt_cascade.specs.NearObjects.{near}
+use Rattle.zt_cascade.specs.ProofsOnly.NearObjects.{near}
 use Rattle.zt_cascade.proofs.settled_signals.near_touched.Given as goal
 
 abbrev pub invariant-loop-i : goal.invariant-loop-i

@@ -1,7 +1,7 @@
 use Rattle.std.proofs.Common.{◌≡◌, take}
 use Rattle.std.specs.List.{fold}
 use Rattle.zt_signals.specs.ObjectSignals.{refreshed_object}
-use Rattle.zt_cascade.specs.RemovedObject.{IsAhead}
+use Rattle.zt_store.specs.ProofsOnly.StepView.{IsAhead}
 use Rattle.zt_cascade.proofs.settled_signals.renew_near.Given as goal
 
 abbrev pub invariant-loop-koid : goal.invariant-loop-koid

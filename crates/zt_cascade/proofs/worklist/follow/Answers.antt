@@ -1,6 +1,6 @@
 use Rattle.std.proofs.Common.{sym, ◌∙◌}
+use Rattle.zt_store.proofs.AheadLaws.{ahead-itself, ahead-then}
 use Rattle.zt_cascade.proofs.OnTheWayLaws.{on_the_way-begun}
-use Rattle.zt_cascade.proofs.TakingLaws.{ahead-itself, ahead-then}
 use Rattle.zt_cascade.proofs.ReleasingLaws.{covers-last, joined-looked, way-looked, looks-end}
 use Rattle.zt_cascade.proofs.worklist.follow.Goals as goal
 

@@ -1,6 +1,7 @@
 use Rattle.std.proofs.Common.{◌+◌, length}
+use Rattle.zt_store.specs.ProofsOnly.StepView.{IsAhead}
 use Rattle.zt_cascade.specs.JoinedLinks.{IsJoined}
-use Rattle.zt_cascade.specs.RemovedObject.{Covers, IsAhead, weight}
+use Rattle.zt_cascade.specs.ProofsOnly.RemovedObject.{Covers, weight}
 use Rattle.zt_cascade.specs.OneByOne.{IsOnTheWay}
 use Rattle.zt_cascade.proofs.worklist.follow.Given as goal
 

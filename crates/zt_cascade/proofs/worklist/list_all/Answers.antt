@@ -1,5 +1,5 @@
 use Rattle.std.proofs.Common.{sym, subst}
-use Rattle.zt_cascade.specs.RemovedObject.{Covers}
+use Rattle.zt_cascade.specs.ProofsOnly.RemovedObject.{Covers}
 use Rattle.zt_cascade.proofs.ReleasingLaws.{told-covers}
 use Rattle.zt_cascade.proofs.worklist.list_all.Goals as goal
 

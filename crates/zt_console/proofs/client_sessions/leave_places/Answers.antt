@@ -2,7 +2,7 @@
 use Rattle.std.proofs.Common.{[], ◌∷◌, ◌++◌, sym, ◌∙◌, ap, arith}
 use Rattle.std.specs.List.{cons_option}
 use Rattle.std.proofs.lemmas.List.{length_push}
-use Rattle.zt_console.specs.ClientSessions.{served_at, pass_at}
+use Rattle.zt_console.specs.ProofsOnly.ClientSessions.{served_at, pass_at}
 use Rattle.zt_console.proofs.ServeLaws.{left_more, map_more}
 use Rattle.zt_console.proofs.client_sessions.leave_places.Goals as goal
 

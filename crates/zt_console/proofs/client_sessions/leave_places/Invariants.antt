@@ -2,7 +2,7 @@
 use Rattle.std.proofs.Common.{◌≡◌, ◌≤◌, length, map}
 use Rattle.std.specs.Prelude.{vec_len, vec_capacity}
 use Rattle.std.specs.List.{filter_map}
-use Rattle.zt_console.specs.ClientSessions.{served_at, pass_at}
+use Rattle.zt_console.specs.ProofsOnly.ClientSessions.{served_at, pass_at}
 use Rattle.zt_console.proofs.client_sessions.leave_places.Given as goal
 
 abbrev pub invariant-loop-place : goal.invariant-loop-place

@@ -1,5 +1,5 @@
 -- Each client is served at its place.
-use Rattle.zt_console.specs.ClientSessions.{HasServed}
+use Rattle.zt_console.specs.ProofsOnly.ClientSessions.{HasServed}
 use Rattle.zt_console.proofs.ServeLaws.{zip_each}
 use Rattle.zt_console.proofs.client_sessions.serve_all.Goals as goal
 

@@ -1,7 +1,7 @@
 -- The clients so far have their places, and there is room for the others.
 use Rattle.std.proofs.Common.{◌≡◌, ◌≤◌, length, map}
 use Rattle.std.specs.Prelude.{vec_capacity}
-use Rattle.zt_console.specs.ClientSessions.{place_of}
+use Rattle.zt_console.specs.ProofsOnly.ClientSessions.{place_of}
 use Rattle.zt_console.proofs.client_sessions.take_places.Given as goal
 
 abbrev pub invariant-loop-caller : goal.invariant-loop-caller

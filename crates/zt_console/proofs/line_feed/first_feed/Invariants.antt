@@ -1,6 +1,6 @@
 -- No byte so far is a line feed.
 use Rattle.std.proofs.Common.{◌≡◌, take, true}
-use Rattle.zt_console.specs.LineFeed.{has_no_feed}
+use Rattle.zt_console.specs.ProofsOnly.LineFeed.{has_no_feed}
 use Rattle.zt_console.proofs.line_feed.first_feed.Given as goal
 
 abbrev pub invariant-loop-place : goal.invariant-loop-place

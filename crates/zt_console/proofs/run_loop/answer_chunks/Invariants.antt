@@ -1,6 +1,6 @@
 -- What was read so far is answered, nothing waits, and nothing failed.
 use Rattle.std.proofs.Common.{◌≡◌, [], length}
-use Rattle.zt_console.specs.LineFeed.{HasRead}
+use Rattle.zt_console.specs.ProofsOnly.LineFeed.{HasRead}
 use Rattle.zt_console.proofs.run_loop.answer_chunks.Given as goal
 
 abbrev pub invariant-loop : goal.invariant-loop

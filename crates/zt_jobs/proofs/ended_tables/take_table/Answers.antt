@@ -1,8 +1,10 @@
 use Rattle.std.proofs.Common.{◌+◌, ◌++◌, ℕ, List, refl, sym, ap, ◌∙◌, subst}
 use Rattle.zt_rows.specs.declared.rows.Held.{Held}
 use Rattle.zt_rows.specs.State.{State}
-use Rattle.zt_jobs.specs.EndedTasks.{handles_of, only}
-use Rattle.zt_jobs.proofs.PartLaws.{ahead-itself, ahead-then, EntriesSeen, entries-start, entries-put, entries-past, entries-all}
+use Rattle.zt_store.specs.KoidSets.{only}
+use Rattle.zt_store.proofs.AheadLaws.{ahead-itself, ahead-then}
+use Rattle.zt_jobs.specs.EndedTasks.{handles_of}
+use Rattle.zt_jobs.proofs.PartLaws.{EntriesSeen, entries-start, entries-put, entries-past, entries-all}
 use Rattle.zt_jobs.proofs.HandleLaws.{handles-step, handles-end}
 use Rattle.zt_jobs.proofs.ended_tables.take_table.Goals as goal
 

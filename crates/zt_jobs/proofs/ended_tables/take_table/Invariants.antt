@@ -1,5 +1,7 @@
 use Rattle.std.proofs.Common.{◌≡◌, ◌++◌, ◌-◌, ◌^◌}
-use Rattle.zt_jobs.specs.EndedTasks.{IsAhead, handles_of, only}
+use Rattle.zt_store.specs.ProofsOnly.StepView.{IsAhead}
+use Rattle.zt_store.specs.KoidSets.{only}
+use Rattle.zt_jobs.specs.EndedTasks.{handles_of}
 use Rattle.zt_jobs.proofs.PartLaws.{EntriesSeen}
 use Rattle.zt_jobs.proofs.ended_tables.take_table.Given as goal
 

@@ -2,8 +2,11 @@ use Rattle.std.proofs.Common.{◌≡◌, ◌+◌, ◌++◌, ℕ, Bool, List, tak
 use Rattle.zt_rows.specs.declared.rows.Held.{Held}
 use Rattle.zt_rows.specs.State.{State, change}
 use Rattle.zt_rows.specs.Tests.{among}
-use Rattle.zt_jobs.specs.EndedTasks.{handles_of, only, without_tables}
-use Rattle.zt_jobs.proofs.PartLaws.{ahead-itself, ahead-then, among-item, among-lower, among-new, tables-nothing, tables-more}
+use Rattle.zt_store.specs.KoidSets.{only}
+use Rattle.zt_store.proofs.AheadLaws.{ahead-itself, ahead-then}
+use Rattle.zt_jobs.specs.EndedTasks.{handles_of}
+use Rattle.zt_jobs.specs.ProofsOnly.EndedTasks.{without_tables}
+use Rattle.zt_jobs.proofs.PartLaws.{among-item, among-lower, among-new, tables-nothing, tables-more}
 use Rattle.zt_jobs.proofs.HandleLaws.{handles-nothing, handles-left, handles-more}
 use Rattle.zt_jobs.proofs.ended_tables.take_tables.Goals as goal
 

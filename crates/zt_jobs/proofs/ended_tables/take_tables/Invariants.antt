@@ -1,7 +1,9 @@
 use Rattle.std.proofs.Common.{◌≡◌, take}
 use Rattle.zt_rows.specs.State.{change}
 use Rattle.zt_rows.specs.Tests.{among}
-use Rattle.zt_jobs.specs.EndedTasks.{IsAhead, handles_of, without_tables}
+use Rattle.zt_store.specs.ProofsOnly.StepView.{IsAhead}
+use Rattle.zt_jobs.specs.EndedTasks.{handles_of}
+use Rattle.zt_jobs.specs.ProofsOnly.EndedTasks.{without_tables}
 use Rattle.zt_jobs.proofs.ended_tables.take_tables.Given as goal
 
 abbrev pub invariant-loop-koid : goal.invariant-loop-koid

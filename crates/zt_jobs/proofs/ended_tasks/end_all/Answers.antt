@@ -1,7 +1,8 @@
 use Rattle.std.proofs.Common.{ℕ, Bool, ap, ◌∙◌}
 use Rattle.zt_rows.specs.State.{State, change}
 use Rattle.zt_rows.specs.Tests.{among}
-use Rattle.zt_jobs.specs.EndedTasks.{handles_of, without_tables, without_waits}
+use Rattle.zt_jobs.specs.EndedTasks.{handles_of}
+use Rattle.zt_jobs.specs.ProofsOnly.EndedTasks.{without_tables, without_waits}
 use Rattle.zt_jobs.proofs.PartLaws.{parts}
 use Rattle.zt_jobs.proofs.HandleLaws.{handles-ended}
 use Rattle.zt_jobs.proofs.ended_tasks.end_all.Goals as goal

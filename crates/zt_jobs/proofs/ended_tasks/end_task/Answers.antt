@@ -1,6 +1,6 @@
 use Rattle.std.proofs.Common.{sym, ◌∙◌}
+use Rattle.zt_store.specs.KoidSets.{only}
 use Rattle.zt_jobs.proofs.PartLaws.{end-none}
-use Rattle.zt_jobs.specs.EndedTasks.{only}
 use Rattle.zt_jobs.proofs.ended_tasks.end_task.Goals as goal
 
 pub returns-in_default-clause-ok : goal.returns-in_default-clause-ok

@@ -1,8 +1,10 @@
 use Rattle.std.proofs.Common.{◌+◌, ℕ, take, refl, ap, ◌∙◌}
 use Rattle.zt_rows.specs.State.{State, change}
 use Rattle.zt_rows.specs.Tests.{among}
-use Rattle.zt_jobs.specs.EndedTasks.{only, with_end}
-use Rattle.zt_jobs.proofs.PartLaws.{ahead-itself, ahead-then, among-item, end-nothing, end-one, end-more}
+use Rattle.zt_store.specs.KoidSets.{only}
+use Rattle.zt_store.proofs.AheadLaws.{ahead-itself, ahead-then}
+use Rattle.zt_jobs.specs.ProofsOnly.EndedTasks.{with_end}
+use Rattle.zt_jobs.proofs.PartLaws.{among-item, end-nothing, end-one, end-more}
 use Rattle.zt_jobs.proofs.ended_tasks.end_tasks.Goals as goal
 
 pub loop-koid-init : goal.loop-koid-init

@@ -1,8 +1,10 @@
 use Rattle.std.proofs.Common.{◌+◌, ℕ, take, ap, ◌∙◌, refl}
 use Rattle.zt_rows.specs.State.{State, change}
 use Rattle.zt_rows.specs.Tests.{among}
-use Rattle.zt_jobs.specs.EndedTasks.{only, without_waits}
-use Rattle.zt_jobs.proofs.PartLaws.{ahead-itself, ahead-then, among-item, waits-more, waits-nothing}
+use Rattle.zt_store.specs.KoidSets.{only}
+use Rattle.zt_store.proofs.AheadLaws.{ahead-itself, ahead-then}
+use Rattle.zt_jobs.specs.ProofsOnly.EndedTasks.{without_waits}
+use Rattle.zt_jobs.proofs.PartLaws.{among-item, waits-more, waits-nothing}
 use Rattle.zt_jobs.proofs.ended_waits.drop_waits.Goals as goal
 
 pub loop-koid-init : goal.loop-koid-init

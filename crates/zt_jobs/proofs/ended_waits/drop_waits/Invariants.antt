@@ -1,7 +1,8 @@
 use Rattle.std.proofs.Common.{◌≡◌, take}
 use Rattle.zt_rows.specs.State.{change}
 use Rattle.zt_rows.specs.Tests.{among}
-use Rattle.zt_jobs.specs.EndedTasks.{IsAhead, without_waits}
+use Rattle.zt_store.specs.ProofsOnly.StepView.{IsAhead}
+use Rattle.zt_jobs.specs.ProofsOnly.EndedTasks.{without_waits}
 use Rattle.zt_jobs.proofs.ended_waits.drop_waits.Given as goal
 
 abbrev pub invariant-loop-koid : goal.invariant-loop-koid

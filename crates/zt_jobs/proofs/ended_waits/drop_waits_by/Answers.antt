@@ -1,7 +1,8 @@
 use Rattle.std.proofs.Common.{ℕ, sym, ap, subst}
 use Rattle.zt_rows.specs.State.{State}
 use Rattle.zt_store.specs.StepView.{Stepping}
-use Rattle.zt_jobs.proofs.PartLaws.{ahead-itself, ahead-then, WaitsLeft, left-start, left-next, left-end}
+use Rattle.zt_store.proofs.AheadLaws.{ahead-itself, ahead-then}
+use Rattle.zt_jobs.proofs.PartLaws.{WaitsLeft, left-start, left-next, left-end}
 use Rattle.zt_jobs.proofs.ended_waits.drop_waits_by.Goals as goal
 
 pub waits-init : goal.waits-init

@@ -1,4 +1,4 @@
-use Rattle.zt_jobs.specs.EndedTasks.{IsAhead}
+use Rattle.zt_store.specs.ProofsOnly.StepView.{IsAhead}
 use Rattle.zt_jobs.proofs.BelowLaws.{left_from}
 use Rattle.zt_jobs.proofs.PartLaws.{WaitsLeft}
 use Rattle.zt_jobs.proofs.ended_waits.drop_waits_by.Given as goal

@@ -3,8 +3,8 @@ use Rattle.std.specs.Prelude.{Some}
 use Rattle.std.specs.BTreeSet.{contains}
 use Rattle.std.specs.Ordering.{nat_cmp}
 use Rattle.zt_rows.proofs.RowLaws.{or_left}
-use Rattle.zt_store.specs.Chains.{IsNext}
-use Rattle.zt_store.specs.Criteria.{is_below, objects_where}
+use Rattle.zt_index.specs.Chains.{IsNext}
+use Rattle.zt_index.specs.Criteria.{is_below, objects_where}
 use Rattle.zt_jobs.proofs.BelowLaws.{passed_known, passed_none}
 use Rattle.zt_jobs.proofs.MemberLaws.{noted_itself, noted_then}
 use Rattle.zt_jobs.proofs.subtree.add_below.Goals as goal

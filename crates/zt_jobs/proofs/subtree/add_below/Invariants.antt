@@ -1,8 +1,8 @@
 use Rattle.std.proofs.Common.{◌≡◌, ◌&&◌, ◌||◌, ℕ}
 use Rattle.std.specs.BTreeSet.{contains}
 use Rattle.std.specs.Ordering.{nat_cmp}
-use Rattle.zt_store.specs.Criteria.{is_below, objects_where}
-use Rattle.zt_jobs.specs.SubtreeWalk.{IsNoted}
+use Rattle.zt_index.specs.Criteria.{is_below, objects_where}
+use Rattle.zt_jobs.specs.ProofsOnly.SubtreeWalk.{IsNoted}
 use Rattle.zt_jobs.proofs.BelowLaws.{is_passed, left_above}
 use Rattle.zt_jobs.proofs.subtree.add_below.Given as goal
 

@@ -1,7 +1,7 @@
 use Rattle.std.proofs.Common.{refl, sym, ◌∙◌}
 use Rattle.zt_rows.specs.declared.keys.RowKey.TheVariants as key
 use Rattle.zt_signals.proofs.ColumnLaws.{row-stays}
-use Rattle.zt_ports.specs.CancelledWaits.{is_cancelled_packet}
+use Rattle.zt_ports.specs.ProofsOnly.CancelledWaits.{is_cancelled_packet}
 use Rattle.zt_ports.proofs.cancelled_waits.cancel_packet.Goals as goal
 
 pub returns-else-is_cancelled-clause-ok : goal.returns-else-is_cancelled-clause-ok

@@ -1,8 +1,8 @@
 use Rattle.std.proofs.Common.{◌||◌, None, Some, refl, sym, ap, ◌∙◌}
 use Rattle.zt_rows.specs.Tests.{any_row}
 use Rattle.zt_signals.proofs.ColumnLaws.{IsColumn, is_dropped, drop-start, any-start, next-that, drop-next, any-next, drop-end, any-end}
-use Rattle.zt_ports.specs.CancelledWaits.{is_cancelled_packet}
-use Rattle.zt_ports.specs.PacketWalk.{packet_key, packet_index}
+use Rattle.zt_ports.specs.ProofsOnly.CancelledWaits.{is_cancelled_packet}
+use Rattle.zt_ports.specs.ProofsOnly.PacketWalk.{packet_key, packet_index}
 use Rattle.zt_ports.proofs.PacketLaws.{cancelled-column}
 use Rattle.zt_ports.proofs.cancelled_waits.cancel_packets.Goals as goal
 

@@ -4,8 +4,8 @@ use Rattle.zt_rows.specs.Tests.{any_row}
 use Rattle.zt_store.specs.Places.{Keeps}
 use Rattle.zt_store.specs.StepView.{Advanced}
 use Rattle.zt_signals.proofs.ColumnLaws.{is_dropped, left_by, numbers_after}
-use Rattle.zt_ports.specs.CancelledWaits.{is_cancelled_packet}
-use Rattle.zt_ports.specs.PacketWalk.{packet_index}
+use Rattle.zt_ports.specs.ProofsOnly.CancelledWaits.{is_cancelled_packet}
+use Rattle.zt_ports.specs.ProofsOnly.PacketWalk.{packet_index}
 use Rattle.zt_ports.proofs.cancelled_waits.cancel_packets.Given as goal
 
 abbrev pub invariant-loop-number : goal.invariant-loop-number

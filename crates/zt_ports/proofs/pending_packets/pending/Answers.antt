@@ -1,7 +1,7 @@
 use Rattle.std.proofs.Common.{◌≡◌, ◌+◌, None, Some, arith, sym, ◌∙◌}
 use Rattle.zt_rows.specs.PortCalls.{is_user_packet_of, pending}
 use Rattle.zt_signals.proofs.ColumnLaws.{IsColumn}
-use Rattle.zt_ports.specs.PacketWalk.{packet_key, packet_index}
+use Rattle.zt_ports.specs.ProofsOnly.PacketWalk.{packet_key, packet_index}
 use Rattle.zt_ports.proofs.PacketLaws.{user-column}
 use Rattle.zt_ports.proofs.PendingLaws.{count_left, count-start, count-yes, count-no, count-end}
 use Rattle.zt_ports.proofs.pending_packets.pending.Goals as goal

@@ -3,7 +3,7 @@ use Rattle.zt_rows.specs.State.{change}
 use Rattle.zt_rows.specs.Tests.{count_row}
 use Rattle.zt_rows.specs.PortCalls.{is_user_packet_of, pending}
 use Rattle.zt_signals.proofs.ColumnLaws.{left_by, numbers_after}
-use Rattle.zt_ports.specs.PacketWalk.{packet_index}
+use Rattle.zt_ports.specs.ProofsOnly.PacketWalk.{packet_index}
 use Rattle.zt_ports.proofs.pending_packets.pending.Given as goal
 
 abbrev pub invariant-loop-number : goal.invariant-loop-number

@@ -5,7 +5,7 @@ use Rattle.std.specs.Option.{option_copied}
 use Rattle.std.proofs.Math.Seq.{take-length}
 use Rattle.zt_rows.specs.declared.keys.RowKey.TheVariants as key
 use Rattle.zt_queries.specs.HappeningTimes.{at_moment, happens}
-use Rattle.zt_queries.specs.RowHappenings.{happening_of}
+use Rattle.zt_queries.specs.ProofsOnly.RowHappenings.{happening_of}
 use Rattle.zt_queries.proofs.WayLaws.{forth-up, shows-up, up-here, up-before}
 use Rattle.zt_queries.proofs.happening_times.last.Goals as goal
 use Rattle.zt_queries.proofs.happening_times.last.Goals.{then-shows, else-shows}

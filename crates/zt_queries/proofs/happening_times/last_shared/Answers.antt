@@ -4,7 +4,7 @@ use Rattle.std.specs.List.{last_or}
 use Rattle.std.specs.Option.{option_copied}
 use Rattle.zt_rows.specs.declared.keys.RowKey.TheVariants as key
 use Rattle.zt_queries.specs.HappeningTimes.{at_moment, happens}
-use Rattle.zt_queries.specs.RowHappenings.{happening_of}
+use Rattle.zt_queries.specs.ProofsOnly.RowHappenings.{happening_of}
 use Rattle.zt_queries.proofs.WayLaws.{from-fork, back-down, shows-down, down-here, down-before}
 use Rattle.zt_queries.proofs.happening_times.last_shared.Goals as goal
 

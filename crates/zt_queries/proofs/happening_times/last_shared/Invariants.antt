@@ -6,7 +6,7 @@ use Rattle.zt_rows.specs.declared.keys.RowKey.TheVariants as key
 use Rattle.zt_rows.specs.State.{row}
 use Rattle.zt_history.specs.Tree.{end_of, state_at}
 use Rattle.zt_queries.specs.HappeningTimes.{at_moment, happens}
-use Rattle.zt_queries.specs.RowHappenings.{happening_of}
+use Rattle.zt_queries.specs.ProofsOnly.RowHappenings.{happening_of}
 use Rattle.zt_queries.proofs.happening_times.last_shared.Given as goal
 
 abbrev pub invariant-loop-i : goal.invariant-loop-i

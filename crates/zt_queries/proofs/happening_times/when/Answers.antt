@@ -1,6 +1,6 @@
 -- Found where the object is known at the end of the path, and refused where it is not.
 use Rattle.std.proofs.Common.{sym, ◌∙◌}
-use Rattle.zt_queries.specs.RowHappenings.{happening_of}
+use Rattle.zt_queries.specs.ProofsOnly.RowHappenings.{happening_of}
 use Rattle.zt_queries.proofs.WhenLaws.{when-known, when-unknown}
 use Rattle.zt_queries.proofs.happening_times.when.Goals as goal
 

@@ -2,7 +2,7 @@
 use Rattle.std.proofs.Common.{◌≡◌, ◌++◌, take}
 use Rattle.std.specs.List.{flat_map}
 use Rattle.zt_rows.specs.State.{row}
-use Rattle.zt_queries.specs.Holders.{supports_at}
+use Rattle.zt_queries.specs.ProofsOnly.Holders.{supports_at}
 use Rattle.zt_queries.proofs.support_list.add_supports.Given as goal
 
 abbrev pub invariant-loop-key : goal.invariant-loop-key

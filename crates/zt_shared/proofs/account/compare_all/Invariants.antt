@@ -1,7 +1,7 @@
 use Rattle.std.proofs.Common.{◌≡◌, ℕ, ◌<◌, get_or, None}
 use Rattle.std.specs.Prelude.{IfSome}
 use Rattle.once_cell.specs.Once.{Agrees}
-use Rattle.zt_shared.specs.Accounts.{known_of}
+use Rattle.zt_shared.specs.ProofsOnly.Accounts.{known_of}
 use Rattle.zt_shared.proofs.account.compare_all.Given as goal
 
 abbrev pub invariant-loop-at : goal.invariant-loop-at

@@ -3,7 +3,7 @@ use Rattle.once_cell.specs.declared.race.note.Note.{Note}
 use Rattle.zt_rows.specs.declared.calls.Call.{Call}
 use Rattle.std.proofs.Common.{◌≡◌, ℕ, List, ap, refl, ◌∙◌, sym}
 use Rattle.once_cell.specs.Once.{cell_name}
-use Rattle.zt_shared.specs.Sharing.{begun}
+use Rattle.zt_shared.specs.ProofsOnly.Sharing.{begun}
 use Rattle.zt_shared.proofs.OpeningLaws.{noted-begun, handed-all, opened-locked}
 use Rattle.zt_shared.proofs.opened_book.hand_over.Goals as goal
 

@@ -1,6 +1,6 @@
 use Rattle.std.proofs.Common.{refl, sym, ◌∙◌}
 use Rattle.zt_rows.specs.declared.keys.RowKey.TheVariants as key
-use Rattle.zt_signals.specs.WaitGroups.{picks}
+use Rattle.zt_signals.specs.ProofsOnly.WaitGroups.{picks}
 use Rattle.zt_signals.specs.DroppedWaits.{is_wait_where}
 use Rattle.zt_signals.proofs.ColumnLaws.{row-stays}
 use Rattle.zt_signals.proofs.wait_group.drop_if.Goals as goal

@@ -1,6 +1,6 @@
 use Rattle.std.proofs.Common.{◌||◌, refl, sym, ap, ◌∙◌}
 use Rattle.zt_rows.specs.Tests.{any_row}
-use Rattle.zt_signals.specs.WaitGroups.{picks}
+use Rattle.zt_signals.specs.ProofsOnly.WaitGroups.{picks}
 use Rattle.zt_signals.specs.DroppedWaits.{is_wait_where}
 use Rattle.zt_signals.proofs.ColumnLaws.{IsColumn, is_dropped, drop-start, any-start, drop-next, any-next, drop-end, any-end}
 use Rattle.zt_signals.proofs.DroppingLaws.{wait_key, wait_index, wait-column}

@@ -3,7 +3,7 @@ use Rattle.zt_rows.specs.State.{change}
 use Rattle.zt_rows.specs.Tests.{any_row}
 use Rattle.zt_store.specs.Places.{Keeps}
 use Rattle.zt_store.specs.StepView.{Advanced}
-use Rattle.zt_signals.specs.WaitGroups.{picks}
+use Rattle.zt_signals.specs.ProofsOnly.WaitGroups.{picks}
 use Rattle.zt_signals.specs.DroppedWaits.{is_wait_where}
 use Rattle.zt_signals.proofs.ColumnLaws.{is_dropped, left_by, numbers_after}
 use Rattle.zt_signals.proofs.DroppingLaws.{wait_index}

@@ -1,7 +1,7 @@
 use Rattle.std.proofs.Common.{sym, subst}
-use Rattle.zt_store.specs.Criteria.{is_for, is_on}
+use Rattle.zt_index.specs.Criteria.{is_for, is_on}
 use Rattle.zt_signals.specs.declared.wait_group.WaitGroup.{WaitGroup}
-use Rattle.zt_signals.specs.WaitGroups.{IsNextPicked, picks}
+use Rattle.zt_signals.specs.ProofsOnly.WaitGroups.{IsNextPicked, picks}
 use Rattle.zt_signals.specs.DroppedWaits.{made_for, made_on, made_under}
 use Rattle.zt_signals.proofs.DroppingLaws.{next-narrow, same-kind, under-on}
 use Rattle.zt_signals.proofs.wait_group.next_picked.Goals as goal

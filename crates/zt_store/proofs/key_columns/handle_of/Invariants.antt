@@ -1,5 +1,5 @@
 use Rattle.std.proofs.Common.{◌≡◌, ◌≤◌, ◌<◌, ℕ, false}
-use Rattle.zt_store.specs.Criteria.{has_entry}
+use Rattle.zt_index.specs.Criteria.{has_entry}
 use Rattle.zt_store.proofs.key_columns.handle_of.Given as goal
 
 -- there is no entry under the values that were passed

@@ -1,5 +1,5 @@
 use Rattle.std.proofs.Common.{◌≡◌, Some, sym, ◌∙◌}
-use Rattle.zt_store.specs.KeyColumns.{next_column}
+use Rattle.zt_store.specs.ProofsOnly.KeyColumns.{next_column}
 use Rattle.zt_store.proofs.ColumnLaws.{OwnersEnd, next-found, last-found}
 use Rattle.zt_store.proofs.key_columns.key_from.Goals as goal
 

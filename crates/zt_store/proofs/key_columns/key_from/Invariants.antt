@@ -1,7 +1,7 @@
 use Rattle.std.proofs.Common.{◌≡◌}
 use Rattle.std.specs.List.{find}
 use Rattle.zt_rows.specs.Change.{keys}
-use Rattle.zt_store.specs.KeyColumns.{key_in, is_from}
+use Rattle.zt_store.specs.ProofsOnly.KeyColumns.{key_in, is_from}
 use Rattle.zt_store.proofs.ColumnLaws.{columns_left}
 use Rattle.zt_store.proofs.key_columns.key_from.Given as goal
 

@@ -1,6 +1,6 @@
 use Rattle.std.proofs.Common.{◌≡◌, ◌≤◌, length}
 use Rattle.zt_text.specs.Fields.{parts_of}
-use Rattle.zt_text.specs.Cut.{parts_left, length_left}
+use Rattle.zt_text.specs.ProofsOnly.Cut.{parts_left, length_left}
 use Rattle.zt_text.specs.Lists.{each_handle}
 use Rattle.zt_text.proofs.ListLemmas.{behind}
 use Rattle.zt_text.proofs.lists.listed.Given as goal

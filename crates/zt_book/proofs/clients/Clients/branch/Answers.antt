@@ -4,7 +4,7 @@ use Rattle.std.specs.Prelude.{is_some}
 use Rattle.zt_history.specs.Tree.{branch_named, last_moment}
 use Rattle.zt_book.specs.Session.{is_name}
 use Rattle.zt_history.specs.HistoryRefusals.{branch_on, IsHistoryRefusal}
-use Rattle.zt_book.specs.Clients.{ClientsView}
+use Rattle.zt_book.specs.ProofsOnly.Clients.{ClientsView}
 use Rattle.zt_book.proofs.ClientsLaws.{branch-unnamed, branch-taken, branch-memory, branch-refused, branch-seen}
 use Rattle.zt_book.proofs.clients.Clients.branch.Goals as goal
 

@@ -5,7 +5,7 @@ use Rattle.zt_rows.specs.declared.calls.Answer.{Answer}
 use Rattle.zt_rows.specs.declared.refusals.Refusal.{Refusal}
 use Rattle.zt_history.specs.HistoryRefusals.{call_on, IsHistoryRefusal}
 use Rattle.zt_history.specs.Tree.{Tree}
-use Rattle.zt_book.specs.Clients.{ClientsView}
+use Rattle.zt_book.specs.ProofsOnly.Clients.{ClientsView}
 use Rattle.zt_book.proofs.ClientsLaws.{call-detached, call-seen, call-refused, all_clients-called}
 use Rattle.zt_book.proofs.clients.Clients.call.Goals as goal
 

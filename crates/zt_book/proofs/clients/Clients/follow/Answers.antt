@@ -1,7 +1,7 @@
 -- The name is looked for, and the client stands at the branch's head.
 use Rattle.std.proofs.Common.{sym, ◌∙◌, ap}
 use Rattle.zt_history.specs.Tree.{branch_named, head_at}
-use Rattle.zt_book.specs.Clients.{ClientsView}
+use Rattle.zt_book.specs.ProofsOnly.Clients.{ClientsView}
 use Rattle.zt_book.proofs.ClientsLaws.{follow-none, follow-memory, follow-seen}
 use Rattle.zt_book.proofs.clients.Clients.follow.Goals as goal
 

@@ -4,7 +4,7 @@ use Rattle.zt_history.specs.HistoryRefusals.{IsHistoryRefusal}
 use Rattle.zt_history.specs.Tree.{state_at}
 use Rattle.zt_queries.specs.FrozenCopy.{holders_on}
 use Rattle.zt_book.specs.Session.{Session}
-use Rattle.zt_book.specs.Clients.{ClientsView}
+use Rattle.zt_book.specs.ProofsOnly.Clients.{ClientsView}
 use Rattle.zt_book.proofs.ClientsLaws.{holders-memory, holders-refused, holders-seen}
 use Rattle.zt_book.proofs.clients.Clients.holders.Goals as goal
 use Rattle.zt_book.proofs.clients.Clients.holders.Goals.{in-Ok-holders_at, in-Err}

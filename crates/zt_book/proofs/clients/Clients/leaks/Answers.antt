@@ -3,7 +3,7 @@ use Rattle.std.proofs.Common.{◌∙◌, ap}
 use Rattle.zt_history.specs.Tree.{state_at}
 use Rattle.zt_queries.specs.Leaks.{leaks}
 use Rattle.zt_book.specs.Session.{Session}
-use Rattle.zt_book.specs.Clients.{ClientsView}
+use Rattle.zt_book.specs.ProofsOnly.Clients.{ClientsView}
 use Rattle.zt_book.proofs.ClientsLaws.{leaks-memory, leaks-seen}
 use Rattle.zt_book.proofs.clients.Clients.leaks.Goals as goal
 

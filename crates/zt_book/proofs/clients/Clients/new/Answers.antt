@@ -3,7 +3,7 @@ use Rattle.std.proofs.Common.{rules, ◌≡◌, List, false, subst, sym}
 use Rattle.std.specs.Prelude.{replicate}
 use Rattle.zt_book.specs.declared.client.Client.{Client}
 use Rattle.zt_book.specs.Session.{first_client}
-use Rattle.zt_book.specs.Clients.{AreClients}
+use Rattle.zt_book.specs.ProofsOnly.Clients.{AreClients}
 use Rattle.zt_book.proofs.ClientsLaws.{first_all_clients}
 use Rattle.zt_book.proofs.clients.Clients.new.Goals as goal
 

@@ -2,7 +2,7 @@
 use Rattle.std.proofs.Common.{◌∙◌, ap}
 use Rattle.std.specs.Prelude.{Some}
 use Rattle.zt_book.specs.declared.client.Client.{Client}
-use Rattle.zt_book.specs.Clients.{ClientsView}
+use Rattle.zt_book.specs.ProofsOnly.Clients.{ClientsView}
 use Rattle.zt_book.specs.Session.{with_client}
 use Rattle.zt_book.proofs.ClientsLaws.{pin-seen}
 use Rattle.zt_book.proofs.clients.Clients.pin.Goals as goal

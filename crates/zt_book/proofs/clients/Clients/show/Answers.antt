@@ -2,7 +2,7 @@
 use Rattle.std.proofs.Common.{◌∙◌, ap}
 use Rattle.zt_history.specs.Tree.{state_at}
 use Rattle.zt_book.specs.Session.{Session}
-use Rattle.zt_book.specs.Clients.{ClientsView}
+use Rattle.zt_book.specs.ProofsOnly.Clients.{ClientsView}
 use Rattle.zt_book.proofs.ClientsLaws.{show-memory, show-seen}
 use Rattle.zt_book.proofs.clients.Clients.show.Goals as goal
 

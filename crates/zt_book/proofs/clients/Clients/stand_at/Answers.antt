@@ -1,6 +1,6 @@
 -- The moment is there or not; it is, and the client stands at it.
 use Rattle.std.proofs.Common.{length, ap, arith}
-use Rattle.zt_book.specs.Clients.{ClientsView}
+use Rattle.zt_book.specs.ProofsOnly.Clients.{ClientsView}
 use Rattle.zt_book.proofs.ClientsLaws.{goto-far, goto-seen}
 use Rattle.zt_book.proofs.clients.Clients.stand_at.Goals as goal
 

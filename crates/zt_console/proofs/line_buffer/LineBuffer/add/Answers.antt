@@ -2,7 +2,7 @@
 use Rattle.std.proofs.Common.{◌≡◌, ◌++◌, ◌+◌, ◌-◌, ◌≤◌, ℕ, List, length, take, min, ap, sym, ◌∙◌, arith}
 use Rattle.std.proofs.lemmas.List.{take_min}
 use Rattle.std.proofs.Math.Seq.{take-append-add}
-use Rattle.zt_console.specs.LineFeed.{decisive}
+use Rattle.zt_console.specs.ProofsOnly.LineFeed.{decisive}
 use Rattle.zt_console.proofs.line_buffer.LineBuffer.add.Goals as goal
 
 taken : (old bytes kept : List ℕ) (n : ℕ) → length old ≤ 140001 → n ≡ min (140001 - length old) (length bytes) → kept ≡ take n bytes → old ++ kept ≡ decisive (old ++ bytes)

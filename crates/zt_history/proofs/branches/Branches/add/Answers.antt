@@ -2,7 +2,7 @@
 use Rattle.std.proofs.Common.{◌∙◌, ap, ◌++◌, ◌∷◌, []}
 use Rattle.indexmap.proofs.CallerLemmas.{insert_entry-new}
 use Rattle.zt_history.specs.Tree.{branch_named}
-use Rattle.zt_history.specs.Branches.{branches_by}
+use Rattle.zt_history.specs.ProofsOnly.Branches.{branches_by}
 use Rattle.zt_history.proofs.BranchLaws.{lookup-unnamed, branches_by-push}
 use Rattle.zt_history.proofs.branches.Branches.add.Goals as goal
 

@@ -1,6 +1,6 @@
 -- The store goes back over the last moment, which is dropped.
 use Rattle.std.proofs.Common.{◌-◌, subst, arith}
-use Rattle.zt_history.specs.KeptHistory.{IsKept}
+use Rattle.zt_history.specs.ProofsOnly.KeptHistory.{IsKept}
 use Rattle.zt_history.specs.declared.history.Undo.TheVariants as undo
 use Rattle.zt_history.proofs.ChangedLaws.{kept-uncalled}
 use Rattle.zt_history.proofs.history.History.retract.Goals as goal

@@ -2,7 +2,8 @@
 use Rattle.std.proofs.Common.{◌∙◌, length, sym, ap, arith}
 use Rattle.zt_rows.specs.Reads.{runs}
 use Rattle.zt_history.specs.Tree.{head_at, state_at}
-use Rattle.zt_history.specs.Timeline.{Timeline, after_call}
+use Rattle.zt_history.specs.Timeline.{Timeline}
+use Rattle.zt_history.specs.ProofsOnly.Timeline.{after_call}
 use Rattle.zt_history.proofs.ChangedLaws.{kept-consistent, kept-room, kept-refused, kept-called, called-seen}
 use Rattle.zt_history.proofs.history.History.run.Goals as goal
 

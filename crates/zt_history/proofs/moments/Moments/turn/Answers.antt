@@ -1,7 +1,7 @@
 -- One node has another record, which is what the store had.
 use Rattle.std.proofs.Common.{◌<◌, ◌-◌, length, refl, ◌∙◌, ap, arith}
 use Rattle.zt_store.specs.RecordRows.{all_fit}
-use Rattle.zt_history.specs.MomentNodes.{Chronicle}
+use Rattle.zt_history.specs.ProofsOnly.MomentNodes.{Chronicle}
 use Rattle.zt_history.proofs.NodeLaws.{length-made_in, listed-set, record_fits, turned_at}
 use Rattle.zt_history.proofs.moments.Moments.turn.Goals as goal
 

@@ -1,6 +1,6 @@
 -- Half of the places are passed over.
 use Rattle.std.proofs.Common.{◌≤◌, sym, ◌∙◌, subst, arith}
-use Rattle.zt_queries.specs.LeakGraph.{IsGraph}
+use Rattle.zt_queries.specs.ProofsOnly.LeakGraph.{IsGraph}
 use Rattle.zt_queries.proofs.FirstLeakLaws.{shared-state}
 use Rattle.zt_queries.proofs.SinceLaws.{same_graph}
 use Rattle.zt_queries.proofs.leak_graph.first_leak.first_leak_back.Goals as goal

@@ -1,8 +1,8 @@
 -- Not leaked at the lower place, leaked at the upper one, of which the graph is.
 use Rattle.std.proofs.Common.{◌≡◌, ◌≤◌, ◌<◌, ◌-◌, true, false}
-use Rattle.zt_queries.specs.LeakGraph.{IsGraph}
+use Rattle.zt_queries.specs.ProofsOnly.LeakGraph.{IsGraph}
 use Rattle.zt_queries.specs.Leaks.{is_leaked}
-use Rattle.zt_queries.specs.FirstLeak.{state_after}
+use Rattle.zt_queries.specs.ProofsOnly.FirstLeak.{state_after}
 use Rattle.zt_queries.proofs.leak_graph.first_leak.first_leak_back.Given as goal
 
 abbrev pub invariant-loop-above : goal.invariant-loop-above

@@ -1,6 +1,6 @@
 -- The copy is moved to the place.
 use Rattle.std.proofs.Common.{◌≤◌, sym, subst, arith}
-use Rattle.zt_queries.specs.LeakGraph.{IsGraph}
+use Rattle.zt_queries.specs.ProofsOnly.LeakGraph.{IsGraph}
 use Rattle.zt_queries.proofs.FirstLeakLaws.{shared-state}
 use Rattle.zt_queries.proofs.SinceLaws.{same_graph}
 use Rattle.zt_queries.proofs.leak_graph.first_leak.leaked_back.Goals as goal

@@ -3,7 +3,7 @@ use Rattle.std.proofs.Common.{◌≡◌}
 use Rattle.std.specs.BTreeMap.{get}
 use Rattle.zt_rows.specs.declared.keys.RowKey.{RowKey}
 use Rattle.zt_rows.specs.Keys.{rowkey_cmp}
-use Rattle.zt_queries.specs.LeakGraph.{first_of}
+use Rattle.zt_queries.specs.ProofsOnly.LeakGraph.{first_of}
 use Rattle.zt_queries.proofs.GraphLaws.{from_rest}
 use Rattle.zt_queries.proofs.leak_graph.graph.copy_of.Given as goal
 

@@ -2,7 +2,7 @@
 use Rattle.std.proofs.Common.{◌∙◌, ap}
 use Rattle.std.specs.Ordering.{nat_cmp}
 use Rattle.std.specs.BTreeSet.{contains}
-use Rattle.zt_queries.specs.LeakGraph.{is_left}
+use Rattle.zt_queries.specs.ProofsOnly.LeakGraph.{is_left}
 use Rattle.zt_queries.proofs.ListLeaks.{left_leaked}
 use Rattle.zt_queries.proofs.leak_graph.leak_list.is_leaked.Goals as goal
 

@@ -3,7 +3,7 @@ use Rattle.std.proofs.Common.{◌∙◌, ap}
 use Rattle.std.specs.List.{filter_map}
 use Rattle.std.specs.Ordering.{nat_cmp}
 use Rattle.std.specs.BTreeSet.{contains}
-use Rattle.zt_queries.specs.LeakGraph.{left_at}
+use Rattle.zt_queries.specs.ProofsOnly.LeakGraph.{left_at}
 use Rattle.zt_queries.proofs.ListLeaks.{left_leaks}
 use Rattle.zt_queries.proofs.leak_graph.leak_list.leaks_in.Goals as goal
 

@@ -2,7 +2,7 @@
 use Rattle.std.proofs.Common.{length, ◌<◌, arith}
 use Rattle.std.specs.Ordering.{nat_cmp}
 use Rattle.std.specs.BTreeSet.{contains}
-use Rattle.zt_queries.specs.LeakGraph.{left_at}
+use Rattle.zt_queries.specs.ProofsOnly.LeakGraph.{left_at}
 use Rattle.zt_queries.proofs.CopyLaws.{given_more}
 use Rattle.zt_queries.proofs.leak_graph.leak_list.listed.Goals as goal
 

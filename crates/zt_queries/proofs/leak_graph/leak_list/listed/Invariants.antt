@@ -3,7 +3,7 @@ use Rattle.std.proofs.Common.{◌≡◌, take}
 use Rattle.std.specs.List.{filter_map}
 use Rattle.std.specs.Ordering.{nat_cmp}
 use Rattle.std.specs.BTreeSet.{contains}
-use Rattle.zt_queries.specs.LeakGraph.{left_at}
+use Rattle.zt_queries.specs.ProofsOnly.LeakGraph.{left_at}
 use Rattle.zt_queries.proofs.leak_graph.leak_list.listed.Given as goal
 
 abbrev pub invariant-loop-key : goal.invariant-loop-key

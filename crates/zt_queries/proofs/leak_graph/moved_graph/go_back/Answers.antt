@@ -1,7 +1,7 @@
 -- Back, record by record.
 use Rattle.std.proofs.Common.{◌≡◌, subst, arith}
-use Rattle.zt_queries.specs.LeakGraph.{IsGraph}
-use Rattle.zt_queries.specs.FirstLeak.{state_after}
+use Rattle.zt_queries.specs.ProofsOnly.LeakGraph.{IsGraph}
+use Rattle.zt_queries.specs.ProofsOnly.FirstLeak.{state_after}
 use Rattle.zt_queries.proofs.SinceLaws.{back_step}
 use Rattle.zt_queries.proofs.leak_graph.moved_graph.go_back.Goals as goal
 

@@ -1,7 +1,7 @@
 -- The graph is that of the place up to which the path is still to be gone back.
 use Rattle.std.proofs.Common.{◌≤◌}
-use Rattle.zt_queries.specs.LeakGraph.{IsGraph}
-use Rattle.zt_queries.specs.FirstLeak.{state_after}
+use Rattle.zt_queries.specs.ProofsOnly.LeakGraph.{IsGraph}
+use Rattle.zt_queries.specs.ProofsOnly.FirstLeak.{state_after}
 use Rattle.zt_queries.proofs.leak_graph.moved_graph.go_back.Given as goal
 
 abbrev pub invariant-loop-i : goal.invariant-loop-i

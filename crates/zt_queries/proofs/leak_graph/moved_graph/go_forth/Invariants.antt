@@ -1,7 +1,7 @@
 -- The graph is that of the place so far.
 use Rattle.std.proofs.Common.{◌≤◌, ◌-◌}
-use Rattle.zt_queries.specs.LeakGraph.{IsGraph}
-use Rattle.zt_queries.specs.FirstLeak.{state_after}
+use Rattle.zt_queries.specs.ProofsOnly.LeakGraph.{IsGraph}
+use Rattle.zt_queries.specs.ProofsOnly.FirstLeak.{state_after}
 use Rattle.zt_queries.proofs.leak_graph.moved_graph.go_forth.Given as goal
 
 abbrev pub invariant-loop-i : goal.invariant-loop-i

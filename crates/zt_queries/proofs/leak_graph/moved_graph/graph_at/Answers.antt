@@ -1,6 +1,6 @@
 -- Back from the position to the place, where both paths have one state.
 use Rattle.std.proofs.Common.{◌≡◌, length, ◌∙◌, subst}
-use Rattle.zt_queries.specs.LeakGraph.{IsGraph}
+use Rattle.zt_queries.specs.ProofsOnly.LeakGraph.{IsGraph}
 use Rattle.zt_queries.proofs.SinceLaws.{graph_starts}
 use Rattle.zt_queries.proofs.FirstLeakLaws.{shared-state}
 use Rattle.zt_queries.proofs.leak_graph.moved_graph.graph_at.Goals as goal

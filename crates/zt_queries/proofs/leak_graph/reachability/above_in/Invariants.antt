@@ -3,7 +3,7 @@ use Rattle.std.proofs.Common.{◌≡◌, ℕ, ◌||◌}
 use Rattle.std.specs.List.{list_any}
 use Rattle.std.specs.Ordering.{nat_cmp}
 use Rattle.std.specs.BTreeSet.{contains}
-use Rattle.zt_queries.specs.LeakGraph.{keeper_at, is_over}
+use Rattle.zt_queries.specs.ProofsOnly.LeakGraph.{keeper_at, is_over}
 use Rattle.zt_queries.proofs.leak_graph.reachability.above_in.Given as goal
 
 abbrev pub invariant-loop-key : goal.invariant-loop-key

@@ -3,7 +3,7 @@ use Rattle.std.proofs.Common.{◌≡◌, suc, ◌+◌, ◌-◌, ◌||◌, sym, �
 use Rattle.std.specs.Ordering.{nat_cmp}
 use Rattle.std.specs.BTreeSet.{contains}
 use Rattle.zt_rows.specs.Tests.{among}
-use Rattle.zt_queries.specs.LeakGraph.{climbed, link_of, node}
+use Rattle.zt_queries.specs.ProofsOnly.LeakGraph.{climbed, link_of, node}
 use Rattle.zt_queries.proofs.ReachabilityLaws.{climb_starts, climb_goes, climb_ends, climb_last, apart_by, apart_when, none_by, none_unless}
 use Rattle.zt_queries.proofs.leak_graph.reachability.climb_from.Goals as goal
 

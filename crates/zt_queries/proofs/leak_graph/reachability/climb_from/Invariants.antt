@@ -4,7 +4,7 @@ use Rattle.std.specs.Ordering.{nat_cmp}
 use Rattle.std.specs.BTreeSet.{contains}
 use Rattle.zt_rows.specs.End.{upward}
 use Rattle.zt_rows.specs.Tests.{among}
-use Rattle.zt_queries.specs.LeakGraph.{climb, climbed, link_of, node}
+use Rattle.zt_queries.specs.ProofsOnly.LeakGraph.{climb, climbed, link_of, node}
 use Rattle.zt_queries.proofs.leak_graph.reachability.climb_from.Given as goal
 
 abbrev pub invariant-loop : goal.invariant-loop

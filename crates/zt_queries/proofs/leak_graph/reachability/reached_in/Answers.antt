@@ -2,7 +2,7 @@
 use Rattle.std.proofs.Common.{sym, ◌∙◌}
 use Rattle.std.specs.Ordering.{nat_cmp}
 use Rattle.std.specs.BTreeSet.{contains}
-use Rattle.zt_queries.specs.LeakGraph.{roots, names, waiting}
+use Rattle.zt_queries.specs.ProofsOnly.LeakGraph.{roots, names, waiting}
 use Rattle.zt_queries.proofs.ReachabilityLaws.{search_goes_on, search_ended, found_reached}
 use Rattle.zt_queries.proofs.leak_graph.reachability.reached_in.Goals as goal
 

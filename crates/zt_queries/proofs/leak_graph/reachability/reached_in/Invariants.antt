@@ -2,7 +2,7 @@
 use Rattle.std.proofs.Common.{◌+◌, length}
 use Rattle.std.specs.Ordering.{nat_cmp}
 use Rattle.std.specs.BTreeSet.{contains}
-use Rattle.zt_queries.specs.LeakGraph.{roots, names, waiting, weight}
+use Rattle.zt_queries.specs.ProofsOnly.LeakGraph.{roots, names, waiting, weight}
 use Rattle.zt_queries.proofs.ReachabilityLaws.{IsSearch}
 use Rattle.zt_queries.proofs.leak_graph.reachability.reached_in.Given as goal
 

@@ -1,6 +1,6 @@
 -- What an entry names is not leaked.
 use Rattle.std.proofs.Common.{sym, ◌∙◌, ap}
-use Rattle.zt_queries.specs.FirstLeak.{names_object}
+use Rattle.zt_queries.specs.ProofsOnly.FirstLeak.{names_object}
 use Rattle.zt_queries.proofs.FirstLeakLaws.{named-unleaked}
 use Rattle.zt_queries.proofs.leak_graph.unleaked_signs.is_entered.Goals as goal
 

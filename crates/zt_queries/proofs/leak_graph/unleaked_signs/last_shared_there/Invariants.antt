@@ -4,7 +4,7 @@ use Rattle.std.specs.Option.{option_copied}
 use Rattle.zt_rows.specs.declared.keys.RowKey.TheVariants as key
 use Rattle.zt_rows.specs.State.{row}
 use Rattle.zt_rows.specs.Tests.{exists}
-use Rattle.zt_queries.specs.FirstLeak.{state_after}
+use Rattle.zt_queries.specs.ProofsOnly.FirstLeak.{state_after}
 use Rattle.zt_queries.proofs.leak_graph.unleaked_signs.last_shared_there.Given as goal
 
 abbrev pub invariant-loop-place : goal.invariant-loop-place

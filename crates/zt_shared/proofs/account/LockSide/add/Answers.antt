@@ -1,7 +1,8 @@
 use Rattle.std.proofs.Common.{◌≡◌, ◌<◌, ◌∷◌, ◌++◌, [], length, get_or, Some, refl, sym, ◌∙◌, ap, arith}
 use Rattle.std.proofs.lemmas.List.{length_push}
 use Rattle.zt_shared.specs.declared.account.NoteSlot.{NoteSlot}
-use Rattle.zt_shared.specs.Accounts.{known_of, somes, most}
+use Rattle.zt_shared.specs.Accounts.{most}
+use Rattle.zt_shared.specs.ProofsOnly.Accounts.{known_of, somes}
 use Rattle.zt_shared.proofs.AccountLaws.{noted-length, noted-more, lock-more, somes-more, name-at}
 use Rattle.zt_shared.proofs.account.LockSide.add.Goals as goal
 

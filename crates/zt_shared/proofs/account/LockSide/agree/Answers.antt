@@ -1,5 +1,5 @@
 use Rattle.std.proofs.Common.{◌≡◌, length, sym, ◌∙◌, arith}
-use Rattle.zt_shared.specs.Accounts.{known_of, somes}
+use Rattle.zt_shared.specs.ProofsOnly.Accounts.{known_of, somes}
 use Rattle.zt_shared.proofs.AccountLaws.{noted-cells, sides-same}
 use Rattle.zt_shared.proofs.account.LockSide.agree.Goals as goal
 

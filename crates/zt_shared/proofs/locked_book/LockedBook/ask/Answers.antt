@@ -1,8 +1,8 @@
 -- One client's account has one row more, or none; and the pass is a part of the log.
 use Rattle.std.proofs.Common.{refl, ap, sym, ◌∙◌}
 use Rattle.once_cell.specs.Once.{cell_name}
-use Rattle.zt_shared.specs.Sharing.{begun}
-use Rattle.zt_shared.specs.ClientSlots.{slot_number, slot_rows}
+use Rattle.zt_shared.specs.ProofsOnly.Sharing.{begun}
+use Rattle.zt_shared.specs.ProofsOnly.ClientSlots.{slot_number, slot_rows}
 use Rattle.zt_shared.proofs.SharingLaws.{sides, part, locked-turned, with_first, with_second, with_third, with_fourth, sides-first, sides-second, sides-third, sides-fourth, turned-part}
 use Rattle.zt_shared.proofs.locked_book.LockedBook.ask.Goals.{in-First, in-Second, in-Third, in-Fourth}
 use Rattle.zt_shared.proofs.locked_book.LockedBook.ask.Goals as goal

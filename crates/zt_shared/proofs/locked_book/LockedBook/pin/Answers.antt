@@ -2,8 +2,8 @@
 use Rattle.std.proofs.Common.{refl, ap, sym, ◌∙◌}
 use Rattle.once_cell.specs.Once.{cell_name}
 use Rattle.zt_rows.specs.declared.calls.Command.TheVariants as command
-use Rattle.zt_shared.specs.Sharing.{begun}
-use Rattle.zt_shared.specs.ClientSlots.{slot_number, slot_rows}
+use Rattle.zt_shared.specs.ProofsOnly.Sharing.{begun}
+use Rattle.zt_shared.specs.ProofsOnly.ClientSlots.{slot_number, slot_rows}
 use Rattle.zt_shared.proofs.SharingLaws.{sides, part, locked-turned, with_first, with_second, with_third, with_fourth, sides-first, sides-second, sides-third, sides-fourth, turned-part}
 use Rattle.zt_shared.proofs.locked_book.LockedBook.pin.Goals.{in-First, in-Second, in-Third, in-Fourth}
 use Rattle.zt_shared.proofs.locked_book.LockedBook.pin.Goals as goal

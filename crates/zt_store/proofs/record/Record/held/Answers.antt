@@ -2,7 +2,7 @@
 use Rattle.std.proofs.Common.{ap, ◌∙◌, subst, sym, List, Some}
 use Rattle.zt_rows.specs.declared.keys.RowKey.{RowKey}
 use Rattle.zt_store.specs.RecordLook.{held}
-use Rattle.zt_store.specs.RecordRows.{IsRecord}
+use Rattle.zt_store.specs.ProofsOnly.RecordRows.{IsRecord}
 use Rattle.zt_store.proofs.HeldLaws.{held-found, held-missing}
 use Rattle.zt_store.proofs.record.Record.held.Goals as goal
 

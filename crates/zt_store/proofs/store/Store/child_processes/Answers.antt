@@ -1,6 +1,6 @@
 use Rattle.std.proofs.Common.{ap}
+use Rattle.zt_index.proofs.Counts.{processes-counted}
 use Rattle.zt_store.specs.StoreView.{Stored}
-use Rattle.zt_store.proofs.Counts.{processes-counted}
 use Rattle.zt_store.proofs.store.Store.child_processes.Goals as goal
 
 pub returns : goal.returns

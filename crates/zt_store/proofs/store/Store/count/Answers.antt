@@ -1,7 +1,7 @@
 use Rattle.std.proofs.Common.{ap, arith}
+use Rattle.zt_index.proofs.SupportCountLaws.{small-at}
+use Rattle.zt_index.proofs.Counts.{counted, bit-small}
 use Rattle.zt_store.specs.StoreView.{Stored}
-use Rattle.zt_store.proofs.SupportCountLaws.{small-at}
-use Rattle.zt_store.proofs.Counts.{counted, bit-small}
 use Rattle.zt_store.proofs.store.Store.count.Goals as goal
 
 pub tasks_kept-requires-clause-jobs : goal.tasks_kept-requires-clause-jobs

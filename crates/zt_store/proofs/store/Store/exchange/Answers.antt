@@ -1,9 +1,9 @@
 use Rattle.std.proofs.Common.{refl, arith, ap, sym, subst, length, ◌∙◌}
-use Rattle.zt_store.specs.IndexInvariant.{IsIndexed, index_in}
-use Rattle.zt_store.proofs.IndexLaws.{place-there}
-use Rattle.zt_store.specs.KoidCounts.{numbers_at}
-use Rattle.zt_store.specs.StoreView.{CellsView}
-use Rattle.zt_store.proofs.SupportCountLaws.{small-at, stands-within, went-there, koid_counts-exchanged, names_few-exchanged, went-fits}
+use Rattle.zt_cells.specs.CellsView.{CellsView}
+use Rattle.zt_index.specs.IndexInvariant.{IsIndexed}
+use Rattle.zt_index.specs.KoidCounts.{numbers_at}
+use Rattle.zt_index.proofs.SupportCountLaws.{small-at, stands-within, went-there, koid_counts-exchanged, names_few-exchanged}
+use Rattle.zt_store.proofs.StoreLaws.{place-there, went-fits}
 use Rattle.zt_store.proofs.store.Store.exchange.Goals as goal
 
 pub raise_if-requires-clause-small : goal.raise_if-requires-clause-small
@@ -33,7 +33,7 @@ invariant_of-self c =
     let is_put = ap (λ (s : CellsView). s.state) c.exchange.ensures.put in record {
       koid_counts = koid_counts-exchanged c.self.inside.cells.state c.args.key c.args.kept.now c.exchange.new.kept c.exchange.ensures.was c.self.inside.support_counts c.raise_if.new.self c.self.invariant.koid_counts c.raise_if.ensures.added c.exchange.new.self.state c.lower_if.new.self is_put c.lower_if.ensures.taken;
       few = names_few-exchanged c.self.inside.cells.state c.exchange.new.self.state c.args.key c.args.kept.now is_put c.self.invariant.few c.raise_if.ensures.few;
-      indexed = subst (λ (s : CellsView). IsIndexed s (index_in c.follow.new.self)) (sym c.exchange.ensures.put) c.follow.ensures;
+      indexed = subst (λ (s : CellsView). IsIndexed s c.follow.new.self) (sym c.exchange.ensures.put) c.follow.ensures;
     }
 
 pub returns-clause-fit : goal.returns-clause-fit

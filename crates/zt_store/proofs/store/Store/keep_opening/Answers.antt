@@ -1,7 +1,7 @@
 -- Four rows put over a hollow store are the opening's.
 use Rattle.std.proofs.Common.{◌∙◌}
 use Rattle.std.proofs.lemmas.Result.{on_ok_weaker}
-use Rattle.zt_store.proofs.SupportCountLaws.{opened}
+use Rattle.zt_store.proofs.StoreLaws.{opened}
 use Rattle.zt_store.proofs.store.Store.keep_opening.Goals as goal
 
 pub returns : goal.returns

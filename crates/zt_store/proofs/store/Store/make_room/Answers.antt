@@ -1,10 +1,8 @@
 use Rattle.std.proofs.Common.{ap, arith, sym, ◌∙◌, subst}
 use Rattle.zt_rows.specs.State.{State}
-use Rattle.zt_store.specs.IndexInvariant.{index_in}
-use Rattle.zt_store.specs.KoidCounts.{numbers_of}
-use Rattle.zt_store.specs.StoreView.{AreKoidCounts, NamesFew}
+use Rattle.zt_index.specs.ProofsOnly.KoidCounts.{numbers_of, AreKoidCounts, NamesFew}
+use Rattle.zt_index.proofs.IndexLaws.{indexed-made}
 use Rattle.zt_store.proofs.Fitting.{keeps-grown}
-use Rattle.zt_store.proofs.IndexLaws.{indexed-made}
 use Rattle.zt_store.proofs.store.Store.make_room.Goals as goal
 
 pub returns-in_err-make_place-clause-kept : goal.returns-in_err-make_place-clause-kept
@@ -17,12 +15,12 @@ pub invariant_of-self-in_err-make_place : goal.invariant_of-self-in_err-make_pla
 invariant_of-self-in_err-make_place c = record {
   koid_counts = subst (λ (S : State). AreKoidCounts S c.self.inside.support_counts) (sym c.make_place.ensures.state) c.self.invariant.koid_counts;
   few = subst (λ (S : State). NamesFew S) (sym c.make_place.ensures.state) c.self.invariant.few;
-  indexed = indexed-made c.args.key c.self.inside.cells c.make_place.new.self (index_in c.grow_for.new.self) (c.grow_for.ensures.same c.self.inside.cells c.self.invariant.indexed) c.in_ok-grow_for.ensures.made c.make_place.ensures.state c.make_place.ensures.waits c.make_place.ensures.objects;
+  indexed = indexed-made c.args.key c.self.inside.cells c.make_place.new.self c.grow_for.new.self (c.grow_for.ensures.same c.self.inside.cells c.self.invariant.indexed) c.in_ok-grow_for.ensures.made c.make_place.ensures.state c.make_place.ensures.waits c.make_place.ensures.objects;
 }
 
 pub invariant_of-self-2 : goal.invariant_of-self-2
 invariant_of-self-2 c = record {
   koid_counts = λ x. c.grow_if.ensures.same x ∙ c.self.invariant.koid_counts x ∙ ap (λ (S : State). numbers_of S x) (sym c.make_place.ensures.state);
   few = subst (λ (S : State). NamesFew S) (sym c.make_place.ensures.state) c.self.invariant.few;
-  indexed = indexed-made c.args.key c.self.inside.cells c.make_place.new.self (index_in c.grow_for.new.self) (c.grow_for.ensures.same c.self.inside.cells c.self.invariant.indexed) c.in_ok-grow_for.ensures.made c.make_place.ensures.state c.make_place.ensures.waits c.make_place.ensures.objects;
+  indexed = indexed-made c.args.key c.self.inside.cells c.make_place.new.self c.grow_for.new.self (c.grow_for.ensures.same c.self.inside.cells c.self.invariant.indexed) c.in_ok-grow_for.ensures.made c.make_place.ensures.state c.make_place.ensures.waits c.make_place.ensures.objects;
 }

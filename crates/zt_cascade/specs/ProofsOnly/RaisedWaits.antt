@@ -1,0 +1,43 @@
+-- Waits that can have come to be met in a step: those made in it, those on entries that it changed, and those at
+-- objects whose signals changed; and firing them by number. This project's own form. Used by proofs only.
+use Rattle.std.specs.Prelude.{◌≡◌, ◌⊎◌, ⊤, ◌<◌, ◌+◌, ◌^◌, ℕ, Bool, true, List, Option, None, Some}
+use Rattle.zt_rows.specs.declared.keys.RowKey.{RowKey}
+use Rattle.zt_rows.specs.declared.keys.RowKey.TheVariants as key
+use Rattle.zt_rows.specs.declared.rows.Wait.{Wait}
+use Rattle.zt_rows.specs.State.{State}
+use Rattle.zt_rows.specs.Reads.{wait}
+use Rattle.zt_rows.specs.Settle.{fire, is_met}
+use Rattle.zt_rows.specs.Tests.{among, next_at, signals_at}
+use Rattle.zt_index.specs.Criteria.{is_at, is_on, waits_where}
+
+-- each wait that passes is in the list
+abbrev pub Lists : State → (Wait → Bool) → List ℕ → Type 0
+Lists S test list = (n : ℕ) → waits_where S test n ≡ true → among list n ≡ true
+
+-- for a row that was in B and is in T as it may be, the waits that it can have woken are in the list: the wait itself,
+-- those on an entry, and those at an object with other signals than before
+abbrev pub HasWoken : State → State → RowKey → List ℕ → Type 0
+HasWoken B T (key.Wait n) list = among list n ≡ true
+HasWoken B T (key.Entry p h) list = Lists T (is_on p h) list
+HasWoken B T (key.Object x) list = (signals_at T x ≡ signals_at B x) ⊎ Lists T (is_at T x) list
+HasWoken B T _ list = ⊤
+
+-- each wait that is met is in the list
+pub record HasMet (T : State) (list : List ℕ) : Type 0 where
+  pub each : (n : ℕ) (w : Wait) → wait T n ≡ Some w → is_met T w ≡ true → among list n ≡ true
+
+-- the later list has what the first one has
+abbrev pub IsLonger : List ℕ → List ℕ → Type 0
+IsLonger list later = (n : ℕ) → among list n ≡ true → among later n ≡ true
+
+abbrev pub fire_if : State → ℕ → Option Wait → State
+fire_if S n (Some w) = fire S (n, w)
+fire_if S n None = S
+
+-- the wait of this number, if there is one, fires where it is met
+abbrev pub fire_number : State → ℕ → State
+fire_number S n = fire_if S n (wait S n)
+
+-- where the wait is met, its port has room for its packet
+abbrev pub HasRoomFor : State → ℕ → Type 0
+HasRoomFor S n = (w : Wait) → wait S n ≡ Some w → is_met S w ≡ true → next_at S w.port + 1 < 2 ^ 64

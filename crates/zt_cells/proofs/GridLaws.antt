@@ -1,0 +1,74 @@
+-- Tables of places and tables by owner: what stands at a place after an exchange and after a growth.
+use Rattle.std.proofs.Common.{zero, suc, ◌≡◌, ◌≢◌, ◌≤◌, ◌<◌, ℕ, ◌+◌, false, List, [], ◌∷◌, ◌++◌, length, get_or, set, Option, Some, None, is_some, refl, ap, ◌∙◌, subst, arith, ⊎_elim, get_or-set_same, get_or-set_other}
+use Rattle.std.proofs.lemmas.Bool.{cases_eq, cases_lt}
+use Rattle.std.proofs.lemmas.List.{get_or_past, map-append}
+use Rattle.std.proofs.lemmas.List.Sums.{sum_by-set, sum_by_push, sum-map, get_or-le-sum_by}
+use Rattle.std.specs.List.{sum}
+use Rattle.zt_rows.specs.declared.rows.Row.{Row}
+use Rattle.zt_cells.specs.ProofsOnly.TablePlaces.{table, lengths, IsEmptyBelow, by_owner, entry_places}
+
+none_of : {A : Type 0} (o : Option A) → is_some o ≡ false → o ≡ None
+none_of None e = refl
+none_of (Some x) e = cc
+
+-- what is put does not stand below the first place that can have a row
+pub empty_below-set : (places : List (Option Row)) (low later index : ℕ) (row : Option Row) → IsEmptyBelow places low → index < length places → ((n : ℕ) → n < later → n ≢ index → n < low) → (index < later → is_some row ≡ false) → IsEmptyBelow (set places index row) later
+empty_below-set places low later index row empty within others itself n h =
+    ⊎_elim (λ e. ap (λ k. get_or (set places index row) k None) e ∙ get_or-set_same places index row None within ∙ none_of row (itself (subst (λ k. k < later) e h))) (λ ne. get_or-set_other places index n row None ne ∙ empty n (others n h ne)) (cases_eq n index)
+
+-- ---- tables by owner
+
+-- one owner more with no place
+pub table_push : (tables : List (List (Option Row))) (added : List (Option Row)) (x : ℕ) → added ≡ [] → table (tables ++ added ∷ []) x ≡ table tables x
+table_push [] added zero e = e
+table_push [] added (suc x) e = refl
+table_push (t ∷ ts) added zero e = refl
+table_push (t ∷ ts) added (suc x) e = table_push ts added x e
+
+pub lengths_push : (tables : List (List (Option Row))) (added : List (Option Row)) → added ≡ [] → sum (lengths (tables ++ added ∷ [])) ≡ sum (lengths tables)
+lengths_push tables added e =
+    let m : lengths (tables ++ added ∷ []) ≡ lengths tables ++ (length added ∷ []) = map-append length tables (added ∷ []) in
+    let s : sum (lengths tables ++ (length added ∷ [])) ≡ sum (lengths tables) + length added = sum_by_push (λ x. x) (lengths tables) (length added) in
+    let z : length added ≡ 0 = ap length e in
+    ap sum m ∙ s ∙ omega arith
+
+-- another table for one owner
+pub lengths_set : (tables : List (List (Option Row))) (x : ℕ) (places : List (Option Row)) → x < length tables → sum (lengths (set tables x places)) + length (table tables x) ≡ sum (lengths tables) + length places
+lengths_set tables x places h =
+    let s = sum_by-set length tables x places [] h in
+    let a = sum-map length (set tables x places) in
+    let b = sum-map length tables in
+    rw (a, b) s
+
+-- ---- the entries
+
+-- other tables for the values of one remainder
+pub entry_places-set : (sizes : List (List (List (Option Row)))) (r : ℕ) (tables : List (List (Option Row))) → r < length sizes → entry_places (set sizes r tables) + sum (lengths (by_owner sizes r)) ≡ entry_places sizes + sum (lengths tables)
+entry_places-set sizes r tables h =
+    let s = sum_by-set (λ ts. sum (lengths ts)) sizes r tables [] h in
+    let a = sum-map (λ ts. sum (lengths ts)) (set sizes r tables) in
+    let b = sum-map (λ ts. sum (lengths ts)) sizes in
+    rw (a, b) s
+
+pub length_table : (tables : List (List (Option Row))) (x : ℕ) → length (table tables x) ≤ sum (lengths tables)
+length_table tables x =
+    ⊎_elim (λ h. let s = get_or-le-sum_by length tables x [] h in rw (sum-map length tables) s) (λ h. rw (get_or_past tables x [] h) (omega arith)) (cases_lt x (length tables))
+
+-- no table has more places than all
+pub length_entry_table : (sizes : List (List (List (Option Row)))) (r x : ℕ) → length (table (by_owner sizes r) x) ≤ entry_places sizes
+length_entry_table sizes r x =
+    let t = length_table (by_owner sizes r) x in
+    let l : sum (lengths (by_owner sizes r)) ≤ entry_places sizes =
+    ⊎_elim (λ h. let s = get_or-le-sum_by (λ ts. sum (lengths ts)) sizes r [] h in rw (sum-map (λ ts. sum (lengths ts)) sizes) s) (λ h. rw (get_or_past sizes r [] h) (omega arith)) (cases_lt r (length sizes)) in
+    omega arith
+
+pub ruleset entry_laws = (entry_places-set, length_entry_table)
+
+-- a list of four is made of what stands in it
+pub of_four : {A : Type 0} (xs : List A) (a b c d p q r s : A) → length xs ≡ 4 → a ≡ get_or xs 0 p → b ≡ get_or xs 1 q → c ≡ get_or xs 2 r → d ≡ get_or xs 3 s → (a ∷ b ∷ c ∷ d ∷ []) ≡ xs
+of_four [] a b c d p q r s n i j k l = absurd (omega arith)
+of_four (x ∷ []) a b c d p q r s n i j k l = absurd (omega arith)
+of_four (x ∷ y ∷ []) a b c d p q r s n i j k l = absurd (omega arith)
+of_four (x ∷ y ∷ z ∷ []) a b c d p q r s n i j k l = absurd (omega arith)
+of_four (x ∷ y ∷ z ∷ w ∷ []) a b c d p q r s n i j k l = λ t. i t ∷ j t ∷ k t ∷ l t ∷ []
+of_four (x ∷ y ∷ z ∷ w ∷ v ∷ xs) a b c d p q r s n i j k l = absurd (omega arith)

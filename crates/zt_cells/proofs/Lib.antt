@@ -1,0 +1,4 @@
+pub mod GridLaws
+pub mod RowTableLaws
+pub mod LookLaws
+pub mod CellsLaws

@@ -1,0 +1,6 @@
+-- Definitions to believe: public clauses are stated in them.
+pub mod TableSizes
+pub mod CellsView
+pub mod FirstNumber
+-- Used by proofs only: no public clause depends on them.
+pub mod ProofsOnly

@@ -1,0 +1,278 @@
+ghost use Rattle.std.specs.Prelude.{◌≡◌, ◌≤◌, ◌+◌, ◌^◌, ℕ, true, length, IfOk, OnOk, Option, None};
+ghost use Rattle.std.specs.Option.{option_copied};
+ghost use Rattle.zt_rows.specs.declared.keys.RowKey.{RowKey};
+ghost use Rattle.zt_rows.specs.declared.keys.RowKey.TheVariants as key_variant;
+ghost use Rattle.zt_rows.specs.Opening.{hollow};
+ghost use Rattle.zt_rows.specs.Reads.{counters, entry, message, object, packet, wait};
+ghost use Rattle.zt_rows.specs.Room.{SuitsKey};
+ghost use Rattle.zt_rows.specs.State.{row, put};
+ghost use Rattle.zt_cells.specs.TableSizes.{objects_after, waits_after, has_place, no_sizes};
+ghost use Rattle.zt_cells.specs.CellsView.{CellsView};
+ghost use Rattle.zt_cells.specs.FirstNumber.{IsFirst};
+
+mod handle_tables;
+mod row_tables;
+mod table;
+mod tables_by_owner;
+
+use crate::cells::row_tables::{OwnedTables, place_of};
+use crate::limits::MOST_PLACES;
+use std::alloc::{AllocError, Global};
+use std::marker::Model;
+use zt_rows::{Counters, HandleValue, Held, Koid, Message, ObjectRow, Packet, Row, RowKey, Wait};
+
+/// The rows, each in the place of its key.
+#[derive(Drop)]
+pub struct Cells {
+    alloc: Global,
+    tables: OwnedTables,
+    /// How many places there are, but for that of the counters.
+    places: usize,
+}
+
+impl Model for Cells {
+    ghost use Rattle.zt_cells.specs.ProofsOnly.RowTables.{row_tables_in, sizes_of, state_in, IsCells};
+    ghost use Rattle.zt_cells.specs.CellsView.{CellsView};
+
+    ghost Value = { CellsView };
+
+    ghost view = { λ c. record {
+      state = state_in (row_tables_in c.tables);
+      sizes = sizes_of (row_tables_in c.tables);
+    } };
+
+    ghost invariant = { λ c. IsCells (row_tables_in c.tables) c.places };
+}
+
+impl Cells {
+    /// Cells with counters that stand at 0 and no other row. It takes no memory.
+    #[tactic(auto, unfolding(crate::specs::ProofsOnly::RowTables::state_in, crate::specs::ProofsOnly::RowTables::sizes_of, zt_rows::specs::Opening::hollow))]
+    pub fn hollow(alloc: Global) -> Cells
+        ensures { result ≡ record { state = hollow; sizes = no_sizes } }
+    {
+        Cells {
+            alloc,
+            tables: OwnedTables::new(
+                alloc,
+                Row::Counters(Counters {
+                    next_koid: Koid(0),
+                    next_wait: 0,
+                }),
+            ),
+            places: 0,
+        }
+    }
+
+    pub fn alloc(&self) -> Global {
+        self.alloc
+    }
+
+    /// The row under the key. It takes no memory.
+    pub fn row(&self, key: RowKey) -> Option<&Row>
+        ensures { option_copied result ≡ row self.now.state key }
+    {
+        self.tables.row(key)
+    }
+
+    /// The next numbers that the system gives out. It takes no memory.
+    pub fn counters(&self) -> Counters
+        ensures { result ≡ counters self.now.state }
+    {
+        match self.row(RowKey::Counters) {
+            Some(Row::Counters(counters)) => *counters,
+            _ => Counters {
+                next_koid: Koid(0),
+                next_wait: 0,
+            },
+        }
+    }
+
+    /// The object of this koid. It takes no memory.
+    pub fn object(&self, koid: Koid) -> Option<ObjectRow>
+        ensures { result ≡ object self.now.state koid }
+    {
+        match self.row(RowKey::Object(koid)) {
+            Some(Row::Object(object)) => Some(*object),
+            _ => None,
+        }
+    }
+
+    /// What the process holds by this handle value. It takes no memory.
+    pub fn entry(&self, process: Koid, handle: HandleValue) -> Option<Held>
+        ensures { result ≡ entry self.now.state process handle }
+    {
+        match self.row(RowKey::Entry(process, handle)) {
+            Some(Row::Entry(held)) => Some(*held),
+            _ => None,
+        }
+    }
+
+    /// The message of this number in the endpoint's queue. It takes no memory.
+    pub fn message(&self, endpoint: Koid, number: u64) -> Option<&Message>
+        ensures { option_copied result ≡ message self.now.state endpoint number }
+    {
+        match self.row(RowKey::Msg(endpoint, number)) {
+            Some(Row::Msg(message)) => Some(message),
+            _ => None,
+        }
+    }
+
+    /// The packet of this number in the port. It takes no memory.
+    pub fn packet(&self, port: Koid, number: u64) -> Option<Packet>
+        ensures { result ≡ packet self.now.state port number }
+    {
+        match self.row(RowKey::Packet(port, number)) {
+            Some(Row::Packet(packet)) => Some(*packet),
+            _ => None,
+        }
+    }
+
+    /// The wait of this number. It takes no memory.
+    pub fn wait(&self, number: u64) -> Option<Wait>
+        ensures { result ≡ wait self.now.state number }
+    {
+        match self.row(RowKey::Wait(number)) {
+            Some(Row::Wait(wait)) => Some(*wait),
+            _ => None,
+        }
+    }
+
+    /// What holds of the rows: each suits its key, there are not too many, and no entry stands under a number that
+    /// is no handle value.
+    pub fn limits(&self)
+        ensures suited { (key : RowKey) → SuitsKey key (row self.now.state key) }
+        ensures few { length self.now.state.rows ≤ 2 ^ 48 + 1 }
+        ensures bounded { (x h : ℕ) → 2 ^ 32 ≤ h → row self.now.state (key_variant.Entry x h) ≡ None }
+    {
+        let row_tables = self.tables.row_tables();
+        row_tables.entries.limits();
+    }
+
+    /// Whether the key has its place. It takes no memory.
+    pub fn has_place(&self, key: RowKey) -> bool
+        ensures { result ≡ has_place self.now.sizes key }
+    {
+        let asked = key;
+        place_of(asked) < self.tables.len_at(key)
+    }
+
+    /// Makes the place of the key, and those below it in its table. Each table that grows asks once for all that it
+    /// needs; beyond 2^48 places, and for owners from 2^48 on, it is refused.
+    pub fn make_place(&mut self, key: RowKey) -> Result<(), AllocError>
+        ensures state { self.new.state ≡ self.old.state }
+        ensures kept { (k : RowKey) → has_place self.old.sizes k ≡ true → has_place self.new.sizes k ≡ true }
+        ensures made { OnOk result (has_place self.new.sizes key ≡ true) }
+        ensures waits { self.new.sizes.waits ≤ waits_after key self.old.sizes.waits }
+        ensures objects { self.new.sizes.objects ≤ objects_after key self.old.sizes.objects }
+    {
+        let (asked, counted) = (key, key);
+        let place = place_of(asked);
+        let len = self.tables.len_at(counted);
+        if place < len {
+            return Ok(());
+        }
+        if place - len >= MOST_PLACES as usize - self.places {
+            return Err(AllocError);
+        }
+        self.tables.grow(key)?;
+        self.places += place - len + 1;
+        Ok(())
+    }
+
+    /// Exchanges the row with the one in the place of the key. It takes no memory.
+    pub fn exchange(&mut self, key: RowKey, kept: &mut Option<Row>)
+        requires placed { has_place self.old.sizes key ≡ true }
+        requires suited { SuitsKey key kept.old }
+        ensures put { self.new ≡ record { state = put self.old.state key kept.old; sizes = self.old.sizes } }
+        ensures was { kept.new ≡ row self.old.state key }
+    {
+        self.tables.exchange(key, kept);
+    }
+
+    /// Equal cells in memory of their own, with the same places.
+    pub fn copy(&self) -> Result<Cells, AllocError>
+        ensures { IfOk result (λ copied. copied ≡ self.now) }
+    {
+        Ok(Cells {
+            alloc: self.alloc,
+            tables: self.tables.copy()?,
+            places: self.places,
+        })
+    }
+
+    /// The least number of a message in the endpoint's queue. It takes no memory, and walks over no message that
+    /// was taken from the front.
+    pub fn first_message(&self, endpoint: Koid) -> Option<u64>
+        ensures { IsFirst self.now.state (λ n. key_variant.Msg endpoint n) result }
+    {
+        let row_tables = self.tables.row_tables();
+        row_tables.messages.first(endpoint.0 as usize)
+    }
+
+    /// The least number of a packet in the port. It takes no memory, and walks over no packet that was taken from
+    /// the front.
+    pub fn first_packet(&self, port: Koid) -> Option<u64>
+        ensures { IsFirst self.now.state (λ n. key_variant.Packet port n) result }
+    {
+        let row_tables = self.tables.row_tables();
+        row_tables.packets.first(port.0 as usize)
+    }
+
+    // ---- where walks over all rows end
+
+    /// From this koid on there is no object.
+    pub fn objects_end(&self) -> u64
+        ensures { (x : ℕ) → result ≤ x → row self.now.state (key_variant.Object x) ≡ None }
+    {
+        let row_tables = self.tables.row_tables();
+        row_tables.objects.len() as u64
+    }
+
+    /// From this koid on no owner has entries, messages or packets.
+    pub fn owners_end(&self) -> u64
+        ensures entries { (x h : ℕ) → result ≤ x → row self.now.state (key_variant.Entry x h) ≡ None }
+        ensures messages { (x n : ℕ) → result ≤ x → row self.now.state (key_variant.Msg x n) ≡ None }
+        ensures packets { (x n : ℕ) → result ≤ x → row self.now.state (key_variant.Packet x n) ≡ None }
+    {
+        let row_tables = self.tables.row_tables();
+        let owners = row_tables
+            .messages
+            .owners()
+            .max(row_tables.packets.owners());
+        row_tables.entries.owners().max(owners) as u64
+    }
+
+    /// From this value on the process has no entry.
+    pub fn entries_end(&self, process: Koid) -> u64
+        ensures end { (h : ℕ) → result ≤ h → row self.now.state (key_variant.Entry process h) ≡ None }
+        ensures few { result ≤ 2 ^ 51 }
+    {
+        let row_tables = self.tables.row_tables();
+        row_tables.entries.end_of(process) as u64
+    }
+
+    /// From this number on the endpoint has no message.
+    pub fn messages_end(&self, endpoint: Koid) -> u64
+        ensures { (n : ℕ) → result ≤ n → row self.now.state (key_variant.Msg endpoint n) ≡ None }
+    {
+        let row_tables = self.tables.row_tables();
+        row_tables.messages.len_of(endpoint.0 as usize) as u64
+    }
+
+    /// From this number on the port has no packet.
+    pub fn packets_end(&self, port: Koid) -> u64
+        ensures { (n : ℕ) → result ≤ n → row self.now.state (key_variant.Packet port n) ≡ None }
+    {
+        let row_tables = self.tables.row_tables();
+        row_tables.packets.len_of(port.0 as usize) as u64
+    }
+
+    /// From this number on there is no wait.
+    pub fn waits_end(&self) -> u64
+        ensures end { (n : ℕ) → result ≤ n → row self.now.state (key_variant.Wait n) ≡ None }
+        ensures places { result ≡ self.now.sizes.waits }
+    {
+        let row_tables = self.tables.row_tables();
+        row_tables.waits.len() as u64
+    }
+}

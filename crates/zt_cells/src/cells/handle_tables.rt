@@ -1,0 +1,140 @@
+ghost use Rattle.std.specs.Prelude.{◌≡◌, ◌≤◌, ◌<◌, ◌+◌, ◌-◌, ◌/◌, ◌%◌, ◌*◌, ◌^◌, ℕ, List, [], ◌∷◌, length, IfOk, OnOk, OnErr, None};
+ghost use Rattle.std.specs.Option.{option_copied};
+ghost use Rattle.zt_cells.specs.ProofsOnly.TablePlaces.{entry, entry_places, entry_table, set_entry, by_owner, table};
+
+use crate::cells::tables_by_owner::TablesByOwner;
+use std::alloc::{AllocError, Global};
+use std::marker::Model;
+use zt_rows::{HandleValue, Koid, Row};
+
+/// Places for the entries of processes. A kernel gives out the values 4n + 3 from 3 on, so values stand in four
+/// lists of tables by what they leave when they are divided by four: a table spends one place on each such value, and
+/// entries under other values have places too.
+#[derive(Drop)]
+pub(crate) struct Entries {
+    sizes: [TablesByOwner; 4],
+}
+
+impl Model for Entries {
+    ghost use Rattle.std.specs.Prelude.{List, Option};
+    ghost use Rattle.zt_rows.specs.declared.rows.Row.{Row};
+    ghost use Rattle.zt_cells.specs.ProofsOnly.TablePlaces.{IsNarrow};
+
+    ghost Value = { List (List (List (Option Row))) };
+
+    ghost view = { λ e. e.sizes };
+
+    ghost invariant = { λ e. IsNarrow e.sizes };
+}
+
+impl Entries {
+    /// No entries, and no places for them. It takes no memory.
+    pub fn new(alloc: Global) -> Entries
+        ensures { result ≡ [] ∷ [] ∷ [] ∷ [] ∷ [] }
+    {
+        Entries {
+            sizes: [
+                TablesByOwner::new(alloc),
+                TablesByOwner::new(alloc),
+                TablesByOwner::new(alloc),
+                TablesByOwner::new(alloc),
+            ],
+        }
+    }
+
+    /// The row under the value. It takes no memory.
+    pub fn row(&self, process: Koid, value: HandleValue) -> Option<&Row>
+        ensures { option_copied result ≡ entry self.now process value }
+    {
+        let by_owner = &self.sizes[remainder(value)];
+        by_owner.row(process.0 as usize, quotient(value))
+    }
+
+    /// Exchanges the row, or none, with what stands under the value. It takes no memory.
+    pub fn exchange(&mut self, process: Koid, value: HandleValue, kept: &mut Option<Row>)
+        requires { value / 4 < length (entry_table self.old process value) }
+        ensures put { self.new ≡ set_entry self.old process value kept.old }
+        ensures was { kept.new ≡ entry self.old process value }
+    {
+        let by_owner = &mut self.sizes[remainder(value)];
+        by_owner.exchange(process.0 as usize, quotient(value), kept);
+    }
+
+    /// How many places the process has for values that leave the remainder of this one.
+    pub fn len_of(&self, process: Koid, value: HandleValue) -> usize
+        ensures { result ≡ length (entry_table self.now process value) }
+    {
+        let by_owner = &self.sizes[remainder(value)];
+        by_owner.len_of(process.0 as usize)
+    }
+
+    /// Makes empty places for the process, up to that of the value.
+    #[tactic(auto, using(crate::proofs::GridLaws::entry_laws))]
+    pub fn grow(&mut self, process: Koid, value: HandleValue) -> Result<(), AllocError>
+        requires { length (entry_table self.old process value) ≤ value / 4 }
+        ensures entries { (x h : ℕ) → entry self.new x h ≡ entry self.old x h }
+        ensures longer { (x h : ℕ) → length (entry_table self.old x h) ≤ length (entry_table self.new x h) }
+        ensures ok { OnOk result (length (entry_table self.new process value) ≡ value / 4 + 1) }
+        ensures counted { OnOk result (entry_places self.new + length (entry_table self.old process value) ≡ entry_places self.old + (value / 4 + 1)) }
+        ensures err { OnErr result (entry_places self.new ≡ entry_places self.old) }
+    {
+        let len = quotient(value) + 1;
+        let by_owner = &mut self.sizes[remainder(value)];
+        by_owner.grow(process.0 as usize, len)
+    }
+
+    /// What holds of the entries: none stands under a number that is no handle value.
+    pub fn limits(&self)
+        ensures { (x h : ℕ) → 2 ^ 32 ≤ h → entry self.now x h ≡ None }
+    {
+        let _ = &self.sizes;
+    }
+
+    /// From this koid on no process has entries.
+    pub fn owners(&self) -> usize
+        ensures { (x h : ℕ) → result ≤ x → entry self.now x h ≡ None }
+    {
+        let mut most = 0;
+        for by_owner in &self.sizes {
+            most = most.max(by_owner.owners());
+        }
+        most
+    }
+
+    /// From this value on the process has no entry.
+    #[tactic(auto, using(crate::proofs::GridLaws::entry_laws))]
+    pub fn end_of(&self, process: Koid) -> usize
+        requires { entry_places self.now ≤ 2 ^ 48 }
+        ensures end { (h : ℕ) → result ≤ h → entry self.now process h ≡ None }
+        ensures few { result ≤ 2 ^ 50 }
+    {
+        let mut most = 0;
+        for by_owner in &self.sizes {
+            most = most.max(by_owner.len_of(process.0 as usize));
+        }
+        4 * most
+    }
+
+    /// Equal entries in memory of their own.
+    pub fn copy(&self) -> Result<Entries, AllocError>
+        ensures { IfOk result (λ copied. copied ≡ self.now) }
+    {
+        let [zero, one, two, three] = &self.sizes;
+        Ok(Entries {
+            sizes: [zero.copy()?, one.copy()?, two.copy()?, three.copy()?],
+        })
+    }
+}
+
+fn remainder(value: HandleValue) -> usize
+    ensures { result ≡ value % 4 }
+{
+    (value.0 % 4) as usize
+}
+
+fn quotient(value: HandleValue) -> usize
+    ensures place { result ≡ value / 4 }
+    ensures few { result < 2 ^ 30 }
+{
+    (value.0 / 4) as usize
+}

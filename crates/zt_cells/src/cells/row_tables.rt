@@ -1,0 +1,218 @@
+ghost use Rattle.std.specs.Prelude.{◌≡◌, ◌≤◌, ◌<◌, ◌+◌, ◌^◌, length, IfOk, OnOk, OnErr};
+ghost use Rattle.std.specs.Option.{option_copied};
+ghost use Rattle.zt_cells.specs.ProofsOnly.RowTables.{row_tables_in, row_tables_of, look, places_in, sizes_of, Exchanged, MadeFor, Widened};
+ghost use Rattle.zt_cells.specs.TableSizes.{objects_after, waits_after, length_at, place_of};
+
+use crate::cells::handle_tables::Entries;
+use crate::cells::table::{Table, copy_place};
+use crate::cells::tables_by_owner::TablesByOwner;
+use std::alloc::{AllocError, Global};
+use std::mem;
+use zt_rows::{Row, RowKey};
+
+/// All tables of a store. Each key has one place in one of them.
+#[derive(Drop)]
+pub(crate) struct RowTables {
+    pub counters: Option<Row>,
+    pub objects: Table,
+    pub entries: Entries,
+    pub messages: TablesByOwner,
+    pub packets: TablesByOwner,
+    pub waits: Table,
+}
+
+impl RowTables {
+    /// No row but the counters, and no other place. It takes no memory.
+    pub fn new(alloc: Global, counters: Row) -> RowTables
+        ensures { result ≡ row_tables_of counters }
+    {
+        RowTables {
+            counters: Some(counters),
+            objects: Table::new(alloc),
+            entries: Entries::new(alloc),
+            messages: TablesByOwner::new(alloc),
+            packets: TablesByOwner::new(alloc),
+            waits: Table::new(alloc),
+        }
+    }
+
+    /// Equal tables in memory of their own.
+    pub fn copy(&self) -> Result<RowTables, AllocError>
+        ensures { IfOk result (λ copied. copied ≡ self.now) }
+    {
+        Ok(RowTables {
+            counters: copy_place(&self.counters)?,
+            objects: self.objects.copy()?,
+            entries: self.entries.copy()?,
+            messages: self.messages.copy()?,
+            packets: self.packets.copy()?,
+            waits: self.waits.copy()?,
+        })
+    }
+
+    /// The row in the place of the key. It takes no memory.
+    #[tactic(auto, unfolding(crate::specs::ProofsOnly::RowTables::look))]
+    pub fn row(&self, key: RowKey) -> Option<&Row>
+        ensures { option_copied result ≡ look self.now key }
+    {
+        match key {
+            RowKey::Counters => self.counters.as_ref(),
+            RowKey::Object(koid) => self.objects.row(koid.0 as usize),
+            RowKey::Entry(process, value) => self.entries.row(process, value),
+            RowKey::Msg(owner, number) => self.messages.row(owner.0 as usize, number as usize),
+            RowKey::Packet(owner, number) => self.packets.row(owner.0 as usize, number as usize),
+            RowKey::Wait(number) => self.waits.row(number as usize),
+        }
+    }
+
+    /// How many places the table of the key has.
+    #[tactic(auto, using(crate::proofs::RowTableLaws::length_laws), unfolding(crate::specs::ProofsOnly::RowTables::sizes_of))]
+    pub fn len_at(&self, key: RowKey) -> usize
+        ensures { result ≡ length_at (sizes_of self.now) key }
+    {
+        match key {
+            RowKey::Counters => 1,
+            RowKey::Object(_) => self.objects.len(),
+            RowKey::Entry(process, value) => self.entries.len_of(process, value),
+            RowKey::Msg(owner, _) => self.messages.len_of(owner.0 as usize),
+            RowKey::Packet(owner, _) => self.packets.len_of(owner.0 as usize),
+            RowKey::Wait(_) => self.waits.len(),
+        }
+    }
+
+    /// Exchanges the row, or none, with what stands in the place of the key. It takes no memory.
+    #[tactic(auto, using(crate::proofs::RowTableLaws::length_laws), unfolding(crate::specs::ProofsOnly::RowTables::sizes_of))]
+    pub fn exchange(&mut self, key: RowKey, kept: &mut Option<Row>)
+        requires { place_of key < length_at (sizes_of self.old) key }
+        ensures { Exchanged self.old self.new key kept.old kept.new }
+    {
+        match key {
+            RowKey::Counters => mem::swap(&mut self.counters, kept),
+            RowKey::Object(koid) => self.objects.exchange(koid.0 as usize, kept),
+            RowKey::Entry(process, value) => self.entries.exchange(process, value, kept),
+            RowKey::Msg(owner, number) => {
+                self.messages
+                    .exchange(owner.0 as usize, number as usize, kept);
+            }
+            RowKey::Packet(owner, number) => {
+                self.packets
+                    .exchange(owner.0 as usize, number as usize, kept);
+            }
+            RowKey::Wait(number) => self.waits.exchange(number as usize, kept),
+        }
+    }
+
+    /// Makes the places in the table of the key, up to its own.
+    #[tactic(auto, using(crate::proofs::RowTableLaws::length_laws), unfolding(crate::specs::ProofsOnly::RowTables::sizes_of))]
+    pub fn grow(&mut self, key: RowKey) -> Result<(), AllocError>
+        requires absent { length_at (sizes_of self.old) key ≤ place_of key }
+        requires near { place_of key < 2 ^ 62 }
+        ensures widened { Widened self.old self.new }
+        ensures waits { length self.new.waits ≤ waits_after key (length self.old.waits) }
+        ensures objects { length self.new.objects ≤ objects_after key (length self.old.objects) }
+        ensures ok { OnOk result (MadeFor key self.old self.new) }
+        ensures err { OnErr result (places_in self.new ≡ places_in self.old) }
+    {
+        let asked = key;
+        let len = place_of(asked) + 1;
+        match key {
+            RowKey::Counters => Ok(()),
+            RowKey::Object(_) => self.objects.grow(len),
+            RowKey::Entry(process, value) => self.entries.grow(process, value),
+            RowKey::Msg(owner, _) => self.messages.grow(owner.0 as usize, len),
+            RowKey::Packet(owner, _) => self.packets.grow(owner.0 as usize, len),
+            RowKey::Wait(_) => self.waits.grow(len),
+        }
+    }
+}
+
+/// The tables of a store, which a caller drops by one call: who owns a store drops its fields one after another, but an
+/// enum's at once.
+#[derive(Drop)]
+pub(crate) enum OwnedTables {
+    All(RowTables),
+}
+
+impl OwnedTables {
+    /// No row but the counters, and no other place. It takes no memory.
+    pub fn new(alloc: Global, counters: Row) -> OwnedTables
+        ensures { row_tables_in result ≡ row_tables_of counters }
+    {
+        OwnedTables::All(RowTables::new(alloc, counters))
+    }
+
+    /// The tables.
+    pub fn row_tables(&self) -> &RowTables
+        ensures { result.now ≡ row_tables_in self.now }
+    {
+        match self {
+            OwnedTables::All(row_tables) => row_tables,
+        }
+    }
+
+    /// The row in the place of the key. It takes no memory.
+    pub fn row(&self, key: RowKey) -> Option<&Row>
+        ensures { option_copied result ≡ look (row_tables_in self.now) key }
+    {
+        match self {
+            OwnedTables::All(row_tables) => row_tables.row(key),
+        }
+    }
+
+    /// How many places the table of the key has.
+    pub fn len_at(&self, key: RowKey) -> usize
+        ensures { result ≡ length_at (sizes_of (row_tables_in self.now)) key }
+    {
+        match self {
+            OwnedTables::All(row_tables) => row_tables.len_at(key),
+        }
+    }
+
+    /// Exchanges the row, or none, with what stands in the place of the key. It takes no memory.
+    pub fn exchange(&mut self, key: RowKey, kept: &mut Option<Row>)
+        requires { place_of key < length_at (sizes_of (row_tables_in self.old)) key }
+        ensures { Exchanged (row_tables_in self.old) (row_tables_in self.new) key kept.old kept.new }
+    {
+        match self {
+            OwnedTables::All(row_tables) => row_tables.exchange(key, kept),
+        }
+    }
+
+    /// Makes the places in the table of the key, up to its own.
+    pub fn grow(&mut self, key: RowKey) -> Result<(), AllocError>
+        requires absent { length_at (sizes_of (row_tables_in self.old)) key ≤ place_of key }
+        requires near { place_of key < 2 ^ 62 }
+        ensures widened { Widened (row_tables_in self.old) (row_tables_in self.new) }
+        ensures waits { length (row_tables_in self.new).waits ≤ waits_after key (length (row_tables_in self.old).waits) }
+        ensures objects { length (row_tables_in self.new).objects ≤ objects_after key (length (row_tables_in self.old).objects) }
+        ensures ok { OnOk result (MadeFor key (row_tables_in self.old) (row_tables_in self.new)) }
+        ensures err { OnErr result (places_in (row_tables_in self.new) ≡ places_in (row_tables_in self.old)) }
+    {
+        match self {
+            OwnedTables::All(row_tables) => row_tables.grow(key),
+        }
+    }
+
+    /// Equal tables in memory of their own.
+    pub fn copy(&self) -> Result<OwnedTables, AllocError>
+        ensures { IfOk result (λ copied. copied ≡ self.now) }
+    {
+        match self {
+            OwnedTables::All(row_tables) => Ok(OwnedTables::All(row_tables.copy()?)),
+        }
+    }
+}
+
+/// The place of the key in its table.
+pub(crate) fn place_of(key: RowKey) -> usize
+    ensures { result ≡ place_of key }
+{
+    match key {
+        RowKey::Counters => 0,
+        RowKey::Object(koid) => koid.0 as usize,
+        RowKey::Entry(_, value) => (value.0 / 4) as usize,
+        RowKey::Msg(_, number) | RowKey::Packet(_, number) | RowKey::Wait(number) => {
+            number as usize
+        }
+    }
+}

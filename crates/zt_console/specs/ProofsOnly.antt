@@ -1,0 +1,4 @@
+-- Used by proofs only: no public clause depends on them.
+pub mod Run
+pub mod LineFeed
+pub mod ClientSessions

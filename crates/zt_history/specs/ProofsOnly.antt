@@ -1,0 +1,6 @@
+-- Used by proofs only: no public clause depends on them.
+pub mod Timeline
+pub mod TreeInvariant
+pub mod KeptHistory
+pub mod Branches
+pub mod MomentNodes

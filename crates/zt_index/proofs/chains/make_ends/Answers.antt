@@ -1,0 +1,10 @@
+use Rattle.std.proofs.Common.{arith, length, ◌≤◌, ◌-◌, ◌∙◌, ap, get_or, is_ok, List, vec_len}
+use Rattle.zt_index.specs.declared.chains.BucketEnds.{BucketEnds}
+use Rattle.zt_index.specs.ProofsOnly.Chains.{no_ends}
+use Rattle.zt_index.proofs.ChainLaws.{resized-if}
+use Rattle.zt_index.proofs.chains.make_ends.Goals as goal
+
+pub returns-clause-same : goal.returns-clause-same
+returns-clause-same c = λ k.
+    let few : length c.args.ends.now.items ≤ 16384 = omega arith in
+    ap (λ (xs : List BucketEnds). get_or xs k no_ends) c.resize.ensures.items ∙ resized-if (is_ok c.resize.result) c.args.ends.now.items 16384 (16384 - vec_len c.args.ends.now) k no_ends few

@@ -1,0 +1,5 @@
+-- Used by proofs only: no public clause depends on them.
+pub mod KoidCounts
+pub mod Chains
+pub mod IndexInvariant
+pub mod CountedRows

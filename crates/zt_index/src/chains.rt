@@ -1,0 +1,339 @@
+ghost use Rattle.std.specs.Prelude.{◌≡◌, ◌≤◌, ◌<◌, ◌^◌, ◌↔◌, ℕ, true, false, length, slice_index_or, slice_set, vec_len, IfOk, OnOk, IfSome, IsTrue, Option, Some, None, if◌then◌else◌};
+ghost use Rattle.zt_index.specs.Chains.{IsBehind, IsNext, bucket_at};
+ghost use Rattle.zt_index.specs.ProofsOnly.Chains.{IsBesides, IsChained, IsPrevious, before_of, buckets, is_in, is_slot, next_of, no_ends, no_link};
+
+use std::alloc::{AllocError, Global};
+use std::marker::Model;
+
+/// How many buckets there are. A history has at most 2^20 moments, so that few items share a bucket by chance.
+pub(crate) const BUCKETS: usize = 1 << 14;
+
+/// Where an item stands: its bucket, and the items of this bucket beside it.
+#[derive(Clone, Copy, Debug)]
+pub(crate) struct BucketLink {
+    pub bucket: Option<u64>,
+    pub before: Option<u64>,
+    pub next: Option<u64>,
+}
+
+/// The least and the greatest item of a bucket.
+#[derive(Clone, Copy, Debug)]
+pub(crate) struct BucketEnds {
+    pub first: Option<u64>,
+    pub last: Option<u64>,
+}
+
+/// An item in no bucket.
+const NO_LINK: BucketLink = BucketLink {
+    bucket: None,
+    before: None,
+    next: None,
+};
+
+/// A bucket with no item.
+const NO_ENDS: BucketEnds = BucketEnds {
+    first: None,
+    last: None,
+};
+
+/// The items from 0 on, each in one bucket or in none. The items of a bucket are linked by rising number, so that an
+/// item is put into a bucket, and taken out, without memory.
+#[derive(Drop)]
+pub(crate) struct Chains {
+    links: Vec<BucketLink>,
+    ends: Vec<BucketEnds>,
+}
+
+impl Model for Chains {
+    ghost use Rattle.std.specs.Prelude.{List, Option, ℕ};
+    ghost use Rattle.zt_index.specs.ProofsOnly.Chains.{AreChains, buckets};
+
+    ghost Value = { List (Option ℕ) };
+
+    ghost view = { λ c. buckets c.links.items };
+
+    ghost invariant = { λ c. AreChains c.links.items c.ends.items };
+}
+
+impl Chains {
+    /// No items. It takes no memory.
+    pub fn new(alloc: Global) -> Chains
+        ensures { length result ≡ 0 }
+    {
+        Chains {
+            links: Vec::new(alloc),
+            ends: Vec::new(alloc),
+        }
+    }
+
+    /// How many items there are.
+    pub fn len(&self) -> usize
+        ensures { result ≡ length self.now }
+    {
+        self.links.len()
+    }
+
+    /// Makes items that are in no bucket, until there are so many.
+    pub fn grow(&mut self, len: usize) -> Result<(), AllocError>
+        ensures same { (n : ℕ) → bucket_at self.new n ≡ bucket_at self.old n }
+        ensures longer { length self.old ≤ length self.new }
+        ensures made { OnOk result (len ≤ length self.new) }
+    {
+        if len <= self.links.len() {
+            return Ok(());
+        }
+        make_ends(&mut self.ends)?;
+        make_links(&mut self.links, len)
+    }
+
+    /// Puts the item into the bucket, or into none. It takes no memory.
+    pub fn set(&mut self, item: u64, bucket: Option<u64>)
+        requires item { item < length self.old }
+        requires bucket { IfSome bucket (λ b. b < 2 ^ 14) }
+        ensures { self.new ≡ slice_set self.old item bucket }
+    {
+        place(&mut self.links, &mut self.ends, item, bucket);
+    }
+
+    /// The least item of the bucket above the low one, or the least of all. It takes no memory. Where the low one is in
+    /// the bucket, this is one look.
+    pub fn after(&self, bucket: u64, low: Option<u64>) -> Option<u64>
+        ensures { IsNext (is_in self.now bucket) low result }
+    {
+        after(&self.links, &self.ends, bucket, low)
+    }
+
+    /// Equal items in memory of their own.
+    pub fn copy(&self) -> Result<Chains, AllocError>
+        ensures { IfOk result (λ copied. copied ≡ self.now) }
+    {
+        let links = Vec::from_slice(*self.links.allocator(), self.links.as_slice())?;
+        let ends = Vec::from_slice(*self.ends.allocator(), self.ends.as_slice())?;
+        Ok(Chains { links, ends })
+    }
+}
+
+/// Makes the ends of all buckets.
+fn make_ends(ends: &mut Vec<BucketEnds>) -> Result<(), AllocError>
+    ensures same { (k : ℕ) → slice_index_or ends.new.items k no_ends ≡ slice_index_or ends.old.items k no_ends }
+    ensures longer { vec_len ends.old ≤ vec_len ends.new }
+    ensures made { OnOk result (2 ^ 14 ≤ vec_len ends.new) }
+{
+    if ends.len() >= BUCKETS {
+        return Ok(());
+    }
+    ends.resize(BUCKETS, NO_ENDS)
+}
+
+/// Makes items that are in no bucket, until there are so many.
+fn make_links(links: &mut Vec<BucketLink>, len: usize) -> Result<(), AllocError>
+    requires { vec_len links.old ≤ len }
+    ensures same { (k : ℕ) → slice_index_or links.new.items k no_link ≡ slice_index_or links.old.items k no_link }
+    ensures longer { vec_len links.old ≤ vec_len links.new }
+    ensures made { OnOk result (vec_len links.new ≡ len) }
+{
+    links.resize(len, NO_LINK)
+}
+
+/// Puts the item into the bucket, or into none.
+fn place(links: &mut [BucketLink], ends: &mut [BucketEnds], item: u64, bucket: Option<u64>)
+    requires item { item < length links.old }
+    requires bucket { IfSome bucket (λ b. b < length ends.old) }
+    requires chained { IsChained links.old ends.old }
+    ensures chained { IsChained links.new ends.new }
+    ensures buckets { buckets links.new ≡ slice_set (buckets links.old) item bucket }
+{
+    remove(links, ends, item);
+    if let Some(bucket) = bucket {
+        insert(links, ends, item, bucket);
+    }
+}
+
+/// The least item of the bucket above the low one, or the least of all.
+fn after(links: &[BucketLink], ends: &[BucketEnds], bucket: u64, low: Option<u64>) -> Option<u64>
+    requires { IsChained links.now ends.now }
+    ensures { IsNext (is_in (buckets links.now) bucket) low result }
+{
+    let mut found = beside(links, ends, bucket, low);
+    'items: while let Some(item) = found {
+        if is_behind(low, item) {
+            return found;
+        }
+        found = next_of(links, ends, bucket, found);
+    }
+    None
+}
+
+/// Where a search for the least item above the low one begins: behind the low one, where it is in the bucket.
+fn beside(links: &[BucketLink], ends: &[BucketEnds], bucket: u64, low: Option<u64>) -> Option<u64>
+    requires { IsChained links.now ends.now }
+    ensures { IsBesides (is_in (buckets links.now) bucket) low result }
+{
+    match low {
+        Some(item) if is_in(links, bucket, item) => next_of(links, ends, bucket, low),
+        _ => next_of(links, ends, bucket, None),
+    }
+}
+
+/// Whether the item is above the low one, if there is a low one.
+fn is_behind(low: Option<u64>, item: u64) -> bool
+    ensures { IsTrue result ↔ IsBehind (λ a b. a < b) low item }
+{
+    match low {
+        Some(low) => low < item,
+        None => true,
+    }
+}
+
+/// Whether the item is in the bucket.
+fn is_in(links: &[BucketLink], bucket: u64, item: u64) -> bool
+    ensures { result ≡ is_in (buckets links.now) bucket item }
+{
+    match links.get(item as usize) {
+        Some(link) => link.bucket == Some(bucket),
+        None => false,
+    }
+}
+
+/// The item behind this one, or the first of the bucket.
+fn next_of(links: &[BucketLink], ends: &[BucketEnds], bucket: u64, low: Option<u64>) -> Option<u64>
+    ensures { result ≡ next_of links.now ends.now bucket low }
+{
+    match low {
+        Some(item) => links.get(item as usize)?.next,
+        None => ends.get(bucket as usize)?.first,
+    }
+}
+
+/// The item before this one, or the last of the bucket.
+fn before_of(
+    links: &[BucketLink],
+    ends: &[BucketEnds],
+    bucket: u64,
+    high: Option<u64>,
+) -> Option<u64>
+    ensures { result ≡ before_of links.now ends.now bucket high }
+{
+    match high {
+        Some(item) => links.get(item as usize)?.before,
+        None => ends.get(bucket as usize)?.last,
+    }
+}
+
+/// Links the item as the next behind the low one, or as the first of the bucket.
+fn set_next(
+    links: &mut [BucketLink],
+    ends: &mut [BucketEnds],
+    bucket: u64,
+    low: Option<u64>,
+    item: Option<u64>,
+)
+    requires low { IfSome low (λ n. n < length links.old) }
+    requires bucket { bucket < length ends.old }
+    ensures nexts { (b : ℕ) (l : Option ℕ)
+        → next_of links.new ends.new b l ≡ (if is_slot bucket low b l then item else next_of links.old ends.old b l) }
+    ensures befores { (b : ℕ) (h : Option ℕ) → before_of links.new ends.new b h ≡ before_of links.old ends.old b h }
+    ensures buckets { buckets links.new ≡ buckets links.old }
+    ensures links { length links.new ≡ length links.old }
+    ensures ends { length ends.new ≡ length ends.old }
+{
+    match low {
+        Some(low) => {
+            let link = &mut links[low as usize];
+            link.next = item;
+        }
+        None => {
+            let end = &mut ends[bucket as usize];
+            end.first = item;
+        }
+    }
+}
+
+/// Links the item as the one before the high one, or as the last of the bucket.
+fn set_before(
+    links: &mut [BucketLink],
+    ends: &mut [BucketEnds],
+    bucket: u64,
+    high: Option<u64>,
+    item: Option<u64>,
+)
+    requires high { IfSome high (λ n. n < length links.old) }
+    requires bucket { bucket < length ends.old }
+    ensures nexts { (b : ℕ) (l : Option ℕ) → next_of links.new ends.new b l ≡ next_of links.old ends.old b l }
+    ensures befores { (b : ℕ) (h : Option ℕ)
+        → before_of links.new ends.new b h ≡ (if is_slot bucket high b h then item else before_of links.old ends.old b h) }
+    ensures buckets { buckets links.new ≡ buckets links.old }
+    ensures links { length links.new ≡ length links.old }
+    ensures ends { length ends.new ≡ length ends.old }
+{
+    match high {
+        Some(high) => {
+            let link = &mut links[high as usize];
+            link.before = item;
+        }
+        None => {
+            let end = &mut ends[bucket as usize];
+            end.last = item;
+        }
+    }
+}
+
+/// Takes the item out of its bucket.
+fn remove(links: &mut [BucketLink], ends: &mut [BucketEnds], item: u64)
+    requires item { item < length links.old }
+    requires chained { IsChained links.old ends.old }
+    ensures chained { IsChained links.new ends.new }
+    ensures buckets { buckets links.new ≡ slice_set (buckets links.old) item None }
+    ensures ends { length ends.new ≡ length ends.old }
+{
+    let link = links[item as usize];
+    let Some(bucket) = link.bucket else {
+        return;
+    };
+    set_next(links, ends, bucket, link.before, link.next);
+    set_before(links, ends, bucket, link.next, link.before);
+    links[item as usize] = NO_LINK;
+}
+
+/// Puts the item, which is in no bucket, into the bucket.
+fn insert(links: &mut [BucketLink], ends: &mut [BucketEnds], item: u64, bucket: u64)
+    requires item { item < length links.old }
+    requires bucket { bucket < length ends.old }
+    requires free { bucket_at (buckets links.old) item ≡ None }
+    requires chained { IsChained links.old ends.old }
+    ensures chained { IsChained links.new ends.new }
+    ensures buckets { buckets links.new ≡ slice_set (buckets links.old) item (Some bucket) }
+{
+    let (before, next) = around(links, ends, bucket, item);
+    links[item as usize] = BucketLink {
+        bucket: Some(bucket),
+        before,
+        next,
+    };
+    set_next(links, ends, bucket, before, Some(item));
+    set_before(links, ends, bucket, next, Some(item));
+}
+
+/// The greatest item of the bucket below this one, and the least above it.
+fn around(
+    links: &[BucketLink],
+    ends: &[BucketEnds],
+    bucket: u64,
+    item: u64,
+) -> (Option<u64>, Option<u64>)
+    requires free { is_in (buckets links.now) bucket item ≡ false }
+    requires chained { IsChained links.now ends.now }
+    ensures before { IsPrevious (is_in (buckets links.now) bucket) (Some item) result.0 }
+    ensures next { IsNext (is_in (buckets links.now) bucket) (Some item) result.1 }
+{
+    let mut next = None;
+    let mut before = before_of(links, ends, bucket, None);
+    'items: while let Some(found) = before {
+        if found < item {
+            break;
+        }
+        next = before;
+        before = before_of(links, ends, bucket, before);
+    }
+    (before, next)
+}

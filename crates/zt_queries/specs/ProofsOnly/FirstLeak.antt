@@ -1,0 +1,70 @@
+-- The states along a path, the place from which on an object is leaked, and signs by which a row or a record tells that it
+-- is not. This project's own. Used by proofs only.
+use Rattle.std.specs.Prelude.{◌≡◌, ℕ, ◌≤◌, ◌<◌, ◌+◌, Bool, true, false, ◌==◌, ◌||◌, List, length, take, Option, None, Some}
+use Rattle.zt_rows.specs.declared.keys.RowKey.{RowKey}
+use Rattle.zt_rows.specs.declared.keys.RowKey.TheVariants as key
+use Rattle.zt_rows.specs.declared.rows.Held.{Held}
+use Rattle.zt_rows.specs.declared.rows.ObjectRow.{ObjectRow}
+use Rattle.zt_rows.specs.declared.rows.Row.{Row}
+use Rattle.zt_rows.specs.State.{State, row}
+use Rattle.zt_rows.specs.Reads.{as_object, as_entry, is_live_process}
+use Rattle.zt_rows.specs.Support.{root_job}
+use Rattle.zt_rows.specs.Tests.{exists}
+use Rattle.zt_history.specs.Tree.{Made, end_of, state_at}
+use Rattle.zt_queries.specs.Leaks.{is_leaked}
+use Rattle.zt_queries.specs.ProofsOnly.RowHappenings.{row_over}
+
+-- ---- places of a path
+
+-- the state after so many moments of the path
+abbrev pub state_after : List Made → List ℕ → ℕ → State
+state_after made way i = state_at made (end_of (take i way))
+
+-- the last place at which there is the object, or else the first
+pub record IsLast (made : List Made) (way : List ℕ) (x place : ℕ) : Type 0 where
+  pub within : place ≤ length way
+  pub bottom : exists (state_after made way place) x ≡ false → place ≡ 0
+  pub gone : (j : ℕ) → place < j → j ≤ length way → exists (state_after made way j) x ≡ false
+
+-- by the call behind this place the object is leaked
+pub record IsFirstLeak (made : List Made) (way : List ℕ) (x i : ℕ) : Type 0 where
+  pub within : i < length way
+  pub before : is_leaked (state_after made way i) x ≡ false
+  pub after : is_leaked (state_after made way (i + 1)) x ≡ true
+
+-- ---- signs that an object is not leaked
+
+-- the object is not there, or it keeps itself: it is the root job, or a process that has not ended
+abbrev pub keeps_itself : Option ObjectRow → ℕ → Bool
+keeps_itself (Some o) x = (x == root_job) || is_live_process o
+keeps_itself None x = true
+
+abbrev pub is_sure : Option Row → ℕ → Bool
+is_sure r x = keeps_itself (as_object r) x
+
+-- the row is an entry that names x
+abbrev pub entry_names : Option Held → ℕ → Bool
+entry_names (Some held) x = held.koid == x
+entry_names None x = false
+
+abbrev pub names_object : RowKey → Option Row → ℕ → Bool
+names_object (key.Entry p h) r x = entry_names (as_entry r) x
+names_object key.Counters r x = false
+names_object (key.Object y) r x = false
+names_object (key.Msg e n) r x = false
+names_object (key.Packet p n) r x = false
+names_object (key.Wait n) r x = false
+
+-- by what a record has under a key
+abbrev pub names_in : RowKey → Option (Option Row) → ℕ → Bool
+names_in k (Some r) x = names_object k r x
+names_in k None x = false
+
+-- the record has that there is no row
+abbrev pub has_none : Option (Option Row) → Bool
+has_none (Some None) = true
+has_none _ = false
+
+-- the record, if there is one, has rows of this state
+pub record HoldsRowsOf (R : Option (List (RowKey × Option Row))) (S : State) : Type 0 where
+  pub same : (k : RowKey) → row_over R k (row S k) ≡ row S k

@@ -1,0 +1,4 @@
+-- Used by proofs only: no public clause depends on them.
+pub mod ObjectSignals
+pub mod KeyWalk
+pub mod WaitGroups

@@ -1,8 +1,0 @@
-use Rattle.std.proofs.Common.{sym, ◌∙◌}
-use Rattle.zt_store.specs.RowTables.{row_tables_in}
-use Rattle.zt_store.proofs.CellsLaws.{row-seen}
-use Rattle.zt_store.proofs.cells.Cells.row.Goals as goal
-
-pub returns : goal.returns
-returns c =
-    c.row.ensures ∙ sym (row-seen (row_tables_in c.self.inside.tables) c.args.self.now c.self.view_is c.args.key)

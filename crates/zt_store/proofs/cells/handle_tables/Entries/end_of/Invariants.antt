@@ -1,7 +1,0 @@
-use Rattle.std.proofs.Common.{◌≤◌, ◌<◌, ℕ, length, ◌^◌}
-use Rattle.zt_store.specs.TablePlaces.{by_owner, table}
-use Rattle.zt_store.proofs.cells.handle_tables.Entries.end_of.Given as goal
-
-abbrev pub invariant-loop-by_owner : goal.invariant-loop-by_owner
-invariant-loop-by_owner l =
-    ((r : ℕ) → r < l.by_owner-index → length (table (by_owner l.self r) l.fn.process) ≤ l.most) × (l.most ≤ 2 ^ 48)

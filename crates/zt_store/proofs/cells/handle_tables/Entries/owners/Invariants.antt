@@ -1,6 +1,0 @@
-use Rattle.std.proofs.Common.{◌≤◌, ◌<◌, ℕ, length}
-use Rattle.zt_store.specs.TablePlaces.{by_owner}
-use Rattle.zt_store.proofs.cells.handle_tables.Entries.owners.Given as goal
-
-abbrev pub invariant-loop-by_owner : goal.invariant-loop-by_owner
-invariant-loop-by_owner l = (r : ℕ) → r < l.by_owner-index → length (by_owner l.self r) ≤ l.most

@@ -1,0 +1,4 @@
+-- Used by proofs only: no public clause depends on them.
+pub mod Calls
+pub mod Session
+pub mod Cut
