@@ -7,7 +7,7 @@ use zt_rows::Refusal;
 
 /// Why a trial did not go as it should.
 #[derive(Debug, Drop, Error)]
-pub enum Fault {
+pub enum TrialFault {
     /// Something was refused.
     #[error("refused: {}", .0.name())]
     Refused(Refusal),
@@ -31,8 +31,8 @@ pub enum Fault {
     RowsMissing,
 }
 
-impl From<Refusal> for Fault {
-    fn from(refusal: Refusal) -> Fault {
-        Fault::Refused(refusal)
+impl From<Refusal> for TrialFault {
+    fn from(refusal: Refusal) -> TrialFault {
+        TrialFault::Refused(refusal)
     }
 }

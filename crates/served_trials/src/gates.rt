@@ -1,6 +1,6 @@
 //! Gates that hold clients, and gates that count.
 
-use crate::faults::Fault;
+use crate::faults::TrialFault;
 use crate::served_clients::serve;
 use std::sync::Wait;
 use std::sync::atomic::{AtomicBool, AtomicU64, AtomicUsize, Ordering};
@@ -159,7 +159,7 @@ impl Gate for Counting {
 /// Two clients, of whom the first is held until the second has its first answer.
 pub fn second_before_first<R: Threads + Wait + AllocGlobal + Clock + Sync>(
     rt: &R,
-) -> Result<usize, Fault> {
+) -> Result<usize, TrialFault> {
     let gate = SecondFirst {
         clock: rt,
         answered: Flag::new(),
@@ -173,7 +173,7 @@ pub fn second_before_first<R: Threads + Wait + AllocGlobal + Clock + Sync>(
 pub fn each_for_the_others<R: Threads + Wait + AllocGlobal + Clock + Sync>(
     rt: &R,
     clients: usize,
-) -> Result<usize, Fault> {
+) -> Result<usize, TrialFault> {
     let gate = Meeting {
         clock: rt,
         missing: AtomicUsize::new(clients),
@@ -186,9 +186,9 @@ pub fn each_for_the_others<R: Threads + Wait + AllocGlobal + Clock + Sync>(
 }
 
 /// So many rows, where no client was held in vain.
-fn in_time(rows: usize, in_vain: &Flag) -> Result<usize, Fault> {
+fn in_time(rows: usize, in_vain: &Flag) -> Result<usize, TrialFault> {
     if in_vain.stands() {
-        Err(Fault::HeldInVain)
+        Err(TrialFault::HeldInVain)
     } else {
         Ok(rows)
     }
@@ -196,7 +196,9 @@ fn in_time(rows: usize, in_vain: &Flag) -> Result<usize, Fault> {
 
 /// One client, whose gate is called around its four commands and no other line. Their numbers are 1, 2, 2 and 3, since a
 /// refused command takes none.
-pub fn around_commands<R: Threads + Wait + AllocGlobal + Sync>(rt: &R) -> Result<usize, Fault> {
+pub fn around_commands<R: Threads + Wait + AllocGlobal + Sync>(
+    rt: &R,
+) -> Result<usize, TrialFault> {
     let gate = Counting {
         before: Tally::new(),
         after: Tally::new(),
@@ -205,7 +207,7 @@ pub fn around_commands<R: Threads + Wait + AllocGlobal + Sync>(rt: &R) -> Result
     if gate.before.is(4, 8) && gate.after.is(4, 8) {
         Ok(rows)
     } else {
-        Err(Fault::GateElsewhere)
+        Err(TrialFault::GateElsewhere)
     }
 }
 
@@ -214,7 +216,7 @@ fn rows_of_all<R: Threads + Wait + AllocGlobal + Sync, G: Gate + Sync>(
     rt: &R,
     texts: &[&'static [u8]],
     gate: &G,
-) -> Result<usize, Fault> {
+) -> Result<usize, TrialFault> {
     let mut ends = Vec::new(rt.alloc());
     for text in texts {
         ends.push((*text, Vec::new(rt.alloc())))?;

@@ -1,6 +1,6 @@
 //! Clients of whom one is lost, beside one who goes on.
 
-use crate::faults::Fault;
+use crate::faults::TrialFault;
 use crate::gates::NoGate;
 use crate::served_clients::{rows_of, serve};
 use crate::typed::{ANSWERS, OTHER_ROWS, line_ends, lines, other_lines, other_told, told};
@@ -108,7 +108,7 @@ fn serve_beside<R: Threads + Wait + AllocGlobal + Sync>(
     rt: &R,
     lost: (Reader, Writer),
     left: &Left<'_>,
-) -> Result<usize, Fault> {
+) -> Result<usize, TrialFault> {
     let other = ends(rt.alloc(), other_lines(), usize::MAX, usize::MAX);
     let mut all = Vec::new(rt.alloc());
     all.push(lost)?;
@@ -117,7 +117,7 @@ fn serve_beside<R: Threads + Wait + AllocGlobal + Sync>(
     if are_left(&log, served, left) {
         Ok(log.len())
     } else {
-        Err(Fault::LeftOtherwise)
+        Err(TrialFault::LeftOtherwise)
     }
 }
 
@@ -138,7 +138,10 @@ fn are_left(log: &Log, served: Vec<Served<Reader, Writer>>, left: &Left<'_>) -> 
 }
 
 /// A client whose reader fails after so many reads. The lines that were read whole are answered, and stand in the log.
-fn read_fails<R: Threads + Wait + AllocGlobal + Sync>(rt: &R, good: usize) -> Result<usize, Fault> {
+fn read_fails<R: Threads + Wait + AllocGlobal + Sync>(
+    rt: &R,
+    good: usize,
+) -> Result<usize, TrialFault> {
     let typed = lines();
     let whole = line_ends(typed.split_at(good.min(typed.len())).0);
     let told = told(rt.alloc(), whole)?;
@@ -156,7 +159,7 @@ fn write_fails<R: Threads + Wait + AllocGlobal + Sync>(
     rt: &R,
     told: &[u8],
     good: usize,
-) -> Result<usize, Fault> {
+) -> Result<usize, TrialFault> {
     let told = told.split_at(good.min(told.len())).0;
     let left = Left {
         end: End::Stopped(Refusal::WriteFault),
@@ -167,7 +170,7 @@ fn write_fails<R: Threads + Wait + AllocGlobal + Sync>(
 }
 
 /// Clients of whom each is lost at another read, up to the one that would find the end.
-pub fn reads_fail<R: Threads + Wait + AllocGlobal + Sync>(rt: &R) -> Result<usize, Fault> {
+pub fn reads_fail<R: Threads + Wait + AllocGlobal + Sync>(rt: &R) -> Result<usize, TrialFault> {
     let mut rows = 0usize;
     for good in 0..=lines().len() {
         rows = rows.saturating_add(read_fails(rt, good)?);
@@ -176,7 +179,7 @@ pub fn reads_fail<R: Threads + Wait + AllocGlobal + Sync>(rt: &R) -> Result<usiz
 }
 
 /// Clients of whom each is lost at another write.
-pub fn writes_fail<R: Threads + Wait + AllocGlobal + Sync>(rt: &R) -> Result<usize, Fault> {
+pub fn writes_fail<R: Threads + Wait + AllocGlobal + Sync>(rt: &R) -> Result<usize, TrialFault> {
     let told = told(rt.alloc(), ANSWERS.len())?;
     let mut rows = 0usize;
     for good in 0..told.len() {
@@ -186,7 +189,7 @@ pub fn writes_fail<R: Threads + Wait + AllocGlobal + Sync>(rt: &R) -> Result<usi
 }
 
 /// A client who goes away in the middle of a line.
-pub fn half_a_line<R: Threads + Wait + AllocGlobal + Sync>(rt: &R) -> Result<usize, Fault> {
+pub fn half_a_line<R: Threads + Wait + AllocGlobal + Sync>(rt: &R) -> Result<usize, TrialFault> {
     let left = Left {
         end: End::Finished,
         told: cut_told(),

@@ -8,7 +8,7 @@ mod served_clients;
 mod sockets;
 mod typed;
 
-use faults::Fault;
+use faults::TrialFault;
 use gates::{around_commands, each_for_the_others, second_before_first};
 use lost_clients::{half_a_line, reads_fail, writes_fail};
 use sockets::{four_clients, two_clients};
@@ -64,7 +64,7 @@ fn report_held<R: Threads + Wait + AllocGlobal + Clock + Print + Sync>(rt: &R) -
 }
 
 /// Says how a trial went.
-fn report(rt: &impl Print, trial: &str, went: Result<usize, Fault>) -> io::Result<()> {
+fn report(rt: &impl Print, trial: &str, went: Result<usize, TrialFault>) -> io::Result<()> {
     match went {
         Ok(rows) => println!(rt; "{trial}: {rows} rows"),
         Err(fault) => println!(rt; "{trial}: {fault}"),

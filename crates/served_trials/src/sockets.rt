@@ -1,6 +1,6 @@
 //! Clients that connect over loopback.
 
-use crate::faults::Fault;
+use crate::faults::TrialFault;
 use crate::gates::NoGate;
 use crate::served_clients::serve;
 use crate::typed::{ANSWERS, lines, other_lines, other_told, told};
@@ -63,7 +63,7 @@ fn is_told(alloc: Global, mut near: TcpStream, told: &[u8]) -> io::Result<bool> 
 /// Two clients who type all their lines and then read what they are told.
 pub fn two_clients<
     R: Net<Listener = TcpListener, Stream = TcpStream> + Threads + Wait + AllocGlobal + Sync,
->(rt: &R) -> Result<usize, Fault> {
+>(rt: &R) -> Result<usize, TrialFault> {
     let alloc = rt.alloc();
     let listener = listen(rt)?;
     let (near, far) = connect_typed(rt, &listener, lines())?;
@@ -77,7 +77,7 @@ pub fn two_clients<
     if is_told(alloc, near, told.as_bytes())? && is_told(alloc, other_near, other_told())? {
         Ok(log.len())
     } else {
-        Err(Fault::LeftOtherwise)
+        Err(TrialFault::LeftOtherwise)
     }
 }
 
@@ -107,7 +107,7 @@ fn start(
 /// Four clients, each of whom types a line when the one before is answered. The log has as many rows as answers came.
 pub fn four_clients<
     R: Net<Listener = TcpListener, Stream = TcpStream> + Threads + Wait + AllocGlobal + Sync,
->(rt: &R) -> Result<usize, Fault> {
+>(rt: &R) -> Result<usize, TrialFault> {
     let alloc = rt.alloc();
     let listener = listen(rt)?;
     let mut ends = Vec::new(alloc);
@@ -121,7 +121,7 @@ pub fn four_clients<
     if log.len() == answers_of(rt, clients) {
         Ok(log.len())
     } else {
-        Err(Fault::RowsMissing)
+        Err(TrialFault::RowsMissing)
     }
 }
 

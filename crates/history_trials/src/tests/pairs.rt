@@ -6,24 +6,24 @@ use zt_history::History;
 
 /// What is tried over two histories that begin at the opening.
 #[derive(Clone, Copy)]
-enum Trial {
+enum PairTrial {
     Cascade,
     Write,
     Kill,
     Moves,
 }
 
-fn try_over(alloc: Global, tried: &mut History, other: &mut History, trial: Trial) -> bool {
+fn try_over(alloc: Global, tried: &mut History, other: &mut History, trial: PairTrial) -> bool {
     match trial {
-        Trial::Cascade => is_cascade_whole(alloc, tried, other),
-        Trial::Write => is_write_whole(alloc, tried, other),
-        Trial::Kill => is_kill_whole(alloc, tried, other),
-        Trial::Moves => are_moves_whole(alloc, tried, other),
+        PairTrial::Cascade => is_cascade_whole(alloc, tried, other),
+        PairTrial::Write => is_write_whole(alloc, tried, other),
+        PairTrial::Kill => is_kill_whole(alloc, tried, other),
+        PairTrial::Moves => are_moves_whole(alloc, tried, other),
     }
 }
 
 /// Whether it holds over this history and a new one.
-fn holds_beside(alloc: Global, tried: &mut History, trial: Trial) -> bool {
+fn holds_beside(alloc: Global, tried: &mut History, trial: PairTrial) -> bool {
     match History::new(alloc) {
         Ok(mut other) => try_over(alloc, tried, &mut other, trial),
         Err(_) => false,
@@ -31,7 +31,7 @@ fn holds_beside(alloc: Global, tried: &mut History, trial: Trial) -> bool {
 }
 
 /// Whether it holds over two new histories.
-fn holds(alloc: Global, trial: Trial) -> bool {
+fn holds(alloc: Global, trial: PairTrial) -> bool {
     match History::new(alloc) {
         Ok(mut tried) => holds_beside(alloc, &mut tried, trial),
         Err(_) => false,
@@ -40,20 +40,20 @@ fn holds(alloc: Global, trial: Trial) -> bool {
 
 #[test]
 fn refused_after_mark_no_cascade_is_half_made(rt: HostRuntime) {
-    assert!(rt; holds(rt.alloc(), Trial::Cascade));
+    assert!(rt; holds(rt.alloc(), PairTrial::Cascade));
 }
 
 #[test]
 fn refused_after_mark_a_failed_write_closes_nothing(rt: HostRuntime) {
-    assert!(rt; holds(rt.alloc(), Trial::Write));
+    assert!(rt; holds(rt.alloc(), PairTrial::Write));
 }
 
 #[test]
 fn refused_after_mark_each_key_is_recorded_once(rt: HostRuntime) {
-    assert!(rt; holds(rt.alloc(), Trial::Kill));
+    assert!(rt; holds(rt.alloc(), PairTrial::Kill));
 }
 
 #[test]
 fn refused_after_mark_no_move_is_half_made(rt: HostRuntime) {
-    assert!(rt; holds(rt.alloc(), Trial::Moves));
+    assert!(rt; holds(rt.alloc(), PairTrial::Moves));
 }

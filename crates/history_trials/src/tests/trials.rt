@@ -8,7 +8,7 @@ use zt_history::History;
 
 /// What is tried over a history that begins at the opening.
 #[derive(Clone, Copy)]
-enum Trial {
+enum HistoryTrial {
     Branches,
     Limits,
     LongMove,
@@ -17,19 +17,19 @@ enum Trial {
     Leak,
 }
 
-fn try_over(alloc: Global, history: &mut History, trial: Trial) -> bool {
+fn try_over(alloc: Global, history: &mut History, trial: HistoryTrial) -> bool {
     match trial {
-        Trial::Branches => are_branches_told(history),
-        Trial::Limits => is_last_moment_reached(history),
-        Trial::LongMove => is_long_move_made(alloc, history),
-        Trial::LongPath => is_long_path_read(alloc, history),
-        Trial::Positions => do_positions_agree(alloc, history),
-        Trial::Leak => is_leak_told(alloc, history),
+        HistoryTrial::Branches => are_branches_told(history),
+        HistoryTrial::Limits => is_last_moment_reached(history),
+        HistoryTrial::LongMove => is_long_move_made(alloc, history),
+        HistoryTrial::LongPath => is_long_path_read(alloc, history),
+        HistoryTrial::Positions => do_positions_agree(alloc, history),
+        HistoryTrial::Leak => is_leak_told(alloc, history),
     }
 }
 
 /// Whether it holds over a new history.
-fn holds(alloc: Global, trial: Trial) -> bool {
+fn holds(alloc: Global, trial: HistoryTrial) -> bool {
     match History::new(alloc) {
         Ok(mut history) => try_over(alloc, &mut history, trial),
         Err(_) => false,
@@ -38,30 +38,30 @@ fn holds(alloc: Global, trial: Trial) -> bool {
 
 #[test]
 fn both_branches_are_told(rt: HostRuntime) {
-    assert!(rt; holds(rt.alloc(), Trial::Branches));
+    assert!(rt; holds(rt.alloc(), HistoryTrial::Branches));
 }
 
 #[test]
 fn the_last_moment_is_reached(rt: HostRuntime) {
-    assert!(rt; holds(rt.alloc(), Trial::Limits));
+    assert!(rt; holds(rt.alloc(), HistoryTrial::Limits));
 }
 
 #[test]
 fn third_refused_a_long_move_is_made(rt: HostRuntime) {
-    assert!(rt; holds(rt.alloc(), Trial::LongMove));
+    assert!(rt; holds(rt.alloc(), HistoryTrial::LongMove));
 }
 
 #[test]
 fn third_refused_a_long_path_is_read(rt: HostRuntime) {
-    assert!(rt; holds(rt.alloc(), Trial::LongPath));
+    assert!(rt; holds(rt.alloc(), HistoryTrial::LongPath));
 }
 
 #[test]
 fn each_position_tells_the_same(rt: HostRuntime) {
-    assert!(rt; holds(rt.alloc(), Trial::Positions));
+    assert!(rt; holds(rt.alloc(), HistoryTrial::Positions));
 }
 
 #[test]
 fn a_leak_is_told(rt: HostRuntime) {
-    assert!(rt; holds(rt.alloc(), Trial::Leak));
+    assert!(rt; holds(rt.alloc(), HistoryTrial::Leak));
 }

@@ -8,10 +8,10 @@ use std::alloc::Global;
 use zt_book::Book;
 
 /// A client with its line.
-type Asked = (u8, &'static str);
+type ClientLine = (u8, &'static str);
 
 /// Three events on `main`, and back to the opening.
-const EVENTS: [Asked; 4] = [
+const EVENTS: [ClientLine; 4] = [
     (1, "1025 event_create"),
     (1, "1025 event_create"),
     (1, "1025 event_create"),
@@ -19,7 +19,7 @@ const EVENTS: [Asked; 4] = [
 ];
 
 /// A port and a channel on the new branch, and by way of `main` back to them.
-const FIX: [Asked; 4] = [
+const FIX: [ClientLine; 4] = [
     (1, "1025 port_create"),
     (1, "1025 channel_create"),
     (1, "follow main"),
@@ -27,11 +27,11 @@ const FIX: [Asked; 4] = [
 ];
 
 /// Back to the events.
-const BACK: [Asked; 1] = [(1, "goto 3")];
+const BACK: [ClientLine; 1] = [(1, "goto 3")];
 
 /// What is looked at: where client 1 stands, and by client 2 each moment with its rows, that there is no further moment, the
 /// parent of the last, what keeps the root job, and the heads of both branches.
-const LOOKS: [Asked; 20] = [
+const LOOKS: [ClientLine; 20] = [
     (1, "show"),
     (2, "goto 0"),
     (2, "show"),
@@ -70,19 +70,19 @@ const SHOWN_MAIN: Told = (
 
 // No clause tells what these give, so that who asks for them is proved without going over their bytes.
 
-fn events() -> &'static [Asked] {
+fn events() -> &'static [ClientLine] {
     EVENTS.as_slice()
 }
 
-fn fix() -> &'static [Asked] {
+fn fix() -> &'static [ClientLine] {
     FIX.as_slice()
 }
 
-fn back() -> &'static [Asked] {
+fn back() -> &'static [ClientLine] {
     BACK.as_slice()
 }
 
-fn looks() -> &'static [Asked] {
+fn looks() -> &'static [ClientLine] {
     LOOKS.as_slice()
 }
 
@@ -99,7 +99,7 @@ fn shown_main() -> Told {
 }
 
 /// Whether both books answer each of the lines, or refuse it for one cause.
-fn serve_all(alloc: Global, tried: &mut Book, twin: &mut Book, lines: &[Asked]) -> bool {
+fn serve_all(alloc: Global, tried: &mut Book, twin: &mut Book, lines: &[ClientLine]) -> bool {
     for (client, line) in lines {
         if twin_settled(alloc, tried, *client, line) != twin_settled(alloc, twin, *client, line) {
             return false;

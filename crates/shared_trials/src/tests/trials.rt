@@ -33,7 +33,7 @@ const LOADED: [Told; 1] = [(
 
 /// What is tried over a shared book.
 #[derive(Clone, Copy)]
-enum Trial {
+enum SharedTrial {
     ClosedEnd,
     Loaded,
     Threads,
@@ -42,10 +42,10 @@ enum Trial {
 }
 
 /// What is asked and told, where both is known beforehand.
-fn told_in(trial: Trial) -> &'static [Told] {
+fn told_in(trial: SharedTrial) -> &'static [Told] {
     match trial {
-        Trial::ClosedEnd => CLOSED_END.as_slice(),
-        Trial::Loaded => LOADED.as_slice(),
+        SharedTrial::ClosedEnd => CLOSED_END.as_slice(),
+        SharedTrial::Loaded => LOADED.as_slice(),
         _ => &[],
     }
 }
@@ -77,22 +77,28 @@ fn try_over<
     alloc: Global,
     shared: &Shared<A, B, C, D>,
     twins: &mut Twins<A, B, C, D>,
-    trial: Trial,
+    trial: SharedTrial,
 ) -> bool {
     match trial {
-        Trial::ClosedEnd | Trial::Loaded => asks_each(rt, alloc, shared, twins, told_in(trial)),
-        Trial::Threads => asks_on_threads(rt, shared, twins),
-        Trial::Ask => is_ask_whole(rt, alloc, shared, twins),
-        Trial::Pin => is_pin_whole(rt, alloc, shared, twins),
+        SharedTrial::ClosedEnd | SharedTrial::Loaded => asks_each(
+            rt,
+            alloc,
+            shared,
+            twins,
+            told_in(trial),
+        ),
+        SharedTrial::Threads => asks_on_threads(rt, shared, twins),
+        SharedTrial::Ask => is_ask_whole(rt, alloc, shared, twins),
+        SharedTrial::Pin => is_pin_whole(rt, alloc, shared, twins),
     }
 }
 
 /// Whether the log has what was to be told.
-fn is_told(alloc: Global, log: &Log, twin: &mut Book, trial: Trial) -> bool {
+fn is_told(alloc: Global, log: &Log, twin: &mut Book, trial: SharedTrial) -> bool {
     match trial {
-        Trial::ClosedEnd | Trial::Loaded => tells(alloc, log, told_in(trial)),
-        Trial::Threads => replays(twin, log),
-        Trial::Ask | Trial::Pin => true,
+        SharedTrial::ClosedEnd | SharedTrial::Loaded => tells(alloc, log, told_in(trial)),
+        SharedTrial::Threads => replays(twin, log),
+        SharedTrial::Ask | SharedTrial::Pin => true,
     }
 }
 
@@ -101,7 +107,7 @@ fn closes<A: Naming + Beginning, B: Naming, C: Naming, D: Naming>(
     alloc: Global,
     shared: Shared<A, B, C, D>,
     twins: Twins<A, B, C, D>,
-    trial: Trial,
+    trial: SharedTrial,
 ) -> bool
     requires { A.clients ≡ 2 }
 {
@@ -117,7 +123,7 @@ fn closes<A: Naming + Beginning, B: Naming, C: Naming, D: Naming>(
 fn opened<A: Naming + Beginning, B: Naming, C: Naming, D: Naming>(
     alloc: Global,
     blanks: Blanks,
-    trial: Trial,
+    trial: SharedTrial,
 ) -> Option<Opened<A, B, C, D>>
     requires base { (blanks.base ≡ A.base) × (blanks.clients ≡ A.clients) }
     requires first { IsNamed A.name A.parts A.cells blanks.first }
@@ -127,7 +133,7 @@ fn opened<A: Naming + Beginning, B: Naming, C: Naming, D: Naming>(
     requires two { blanks.clients ≡ 2 }
 {
     match trial {
-        Trial::Loaded => over_loaded(alloc, blanks),
+        SharedTrial::Loaded => over_loaded(alloc, blanks),
         _ => at_opening(alloc, blanks),
     }
 }
@@ -138,7 +144,7 @@ fn holds_over<
     C: Naming + Send + Sync,
     D: Naming + Send + Sync,
     R: Threads + Wait + Sync,
->(rt: &R, alloc: Global, blanks: Blanks, trial: Trial) -> bool
+>(rt: &R, alloc: Global, blanks: Blanks, trial: SharedTrial) -> bool
     requires base { (blanks.base ≡ A.base) × (blanks.clients ≡ A.clients) }
     requires first { IsNamed A.name A.parts A.cells blanks.first }
     requires second { IsNamed B.name B.parts B.cells blanks.second }
@@ -155,7 +161,7 @@ fn holds_over<
 }
 
 /// Whether it holds over a new shared book of two clients.
-fn holds<R: Threads + Wait + Sync>(rt: &R, alloc: Global, trial: Trial) -> bool {
+fn holds<R: Threads + Wait + Sync>(rt: &R, alloc: Global, trial: SharedTrial) -> bool {
     match Blanks::new(alloc, 2) {
         Ok(blanks) => holds_over::<Brand, Brand, Brand, Brand, R>(rt, alloc, blanks, trial),
         Err(_) => false,
@@ -164,27 +170,27 @@ fn holds<R: Threads + Wait + Sync>(rt: &R, alloc: Global, trial: Trial) -> bool 
 
 #[test]
 fn two_clients_share_one_log(rt: HostRuntime) {
-    assert!(rt; holds(&rt, rt.alloc(), Trial::ClosedEnd));
+    assert!(rt; holds(&rt, rt.alloc(), SharedTrial::ClosedEnd));
 }
 
 #[test]
 fn a_loaded_book_goes_on(rt: HostRuntime) {
-    assert!(rt; holds(&rt, rt.alloc(), Trial::Loaded));
+    assert!(rt; holds(&rt, rt.alloc(), SharedTrial::Loaded));
 }
 
 #[test]
 fn threads_share_one_log(rt: HostRuntime) {
-    assert!(rt; holds(&rt, rt.alloc(), Trial::Threads));
+    assert!(rt; holds(&rt, rt.alloc(), SharedTrial::Threads));
 }
 
 #[test]
 fn refused_after_mark_no_command_is_half_answered(rt: HostRuntime) {
-    assert!(rt; holds(&rt, rt.alloc(), Trial::Ask));
+    assert!(rt; holds(&rt, rt.alloc(), SharedTrial::Ask));
 }
 
 #[test]
 fn refused_after_mark_no_pin_is_half_made(rt: HostRuntime) {
-    assert!(rt; holds(&rt, rt.alloc(), Trial::Pin));
+    assert!(rt; holds(&rt, rt.alloc(), SharedTrial::Pin));
 }
 
 #[test]

@@ -11,13 +11,13 @@ use zt_shared::account::Naming;
 use zt_shared::{Beginning, Shared};
 
 /// A client with its line.
-type Asked = (u8, &'static str);
+type ClientLine = (u8, &'static str);
 
 /// A channel, of which client 2 closes an end.
-const CHANNEL: [Asked; 1] = [(1, "1025 channel_create")];
+const CHANNEL: [ClientLine; 1] = [(1, "1025 channel_create")];
 
 /// A channel and an event of client 2, and the clients stand apart.
-const APART: [Asked; 4] = [
+const APART: [ClientLine; 4] = [
     (2, "1025 channel_create"),
     (2, "1025 event_create"),
     (1, "branch fix"),
@@ -26,7 +26,7 @@ const APART: [Asked; 4] = [
 
 /// What is looked at: where each client stands, each moment with its rows, that there is no further moment, what keeps an
 /// end of the first channel, and the heads of both branches. In the end both clients follow `main`.
-const LOOKS: [Asked; 18] = [
+const LOOKS: [ClientLine; 18] = [
     (1, "show"),
     (2, "show"),
     (1, "holders 1026"),
@@ -61,15 +61,15 @@ const PINNED_APART: Told = (2, "pin", "pinned 3\n");
 
 // No clause tells what these give, so that who asks for them is proved without going over their bytes.
 
-fn channel() -> &'static [Asked] {
+fn channel() -> &'static [ClientLine] {
     CHANNEL.as_slice()
 }
 
-fn apart() -> &'static [Asked] {
+fn apart() -> &'static [ClientLine] {
     APART.as_slice()
 }
 
-fn looks() -> &'static [Asked] {
+fn looks() -> &'static [ClientLine] {
     LOOKS.as_slice()
 }
 
@@ -94,7 +94,7 @@ fn asks_all<A: Naming + Beginning, B: Naming, C: Naming, D: Naming, R: Wait>(
     alloc: Global,
     shared: &Shared<A, B, C, D>,
     twins: &mut Twins<A, B, C, D>,
-    lines: &[Asked],
+    lines: &[ClientLine],
 ) -> bool {
     for (client, line) in lines {
         if !twins.asks_both(rt, alloc, shared, *client, line) {

@@ -1,5 +1,5 @@
 -- The places at which the clients of a shared book are served. This project's own. Used by proofs only.
-use Rattle.std.specs.Prelude.{◌≡◌, ℕ, List, [], ◌∷◌, Option, Some}
+use Rattle.std.specs.Prelude.{◌≡◌, ℕ, List, Option, Some}
 use Rattle.zt_shared.specs.Sharing.{PassView}
 use Rattle.zt_console.specs.declared.run_loop.End.TheVariants.{Finished}
 use Rattle.zt_console.specs.declared.client_sessions.ClientSession.{ClientSession}
