@@ -36,23 +36,23 @@ impl Gate for NoGate {
 
 /// A flag that a thread raises, and others wait for.
 #[derive(Drop)]
-struct Flag(AtomicBool);
+pub struct Flag(AtomicBool);
 
 impl Flag {
-    fn new() -> Flag {
+    pub fn new() -> Flag {
         Flag(AtomicBool::new(false))
     }
 
-    fn raise(&self) {
+    pub fn raise(&self) {
         self.0.store(true, Ordering::SeqCst);
     }
 
-    fn stands(&self) -> bool {
+    pub fn stands(&self) -> bool {
         self.0.load(Ordering::SeqCst)
     }
 
     /// Whether the flag stands at one of so many looks.
-    fn stands_in_time(&self, clock: &impl Clock) -> bool {
+    pub fn stands_in_time(&self, clock: &impl Clock) -> bool {
         for _ in 0..TURNS {
             if self.stands() {
                 return true;

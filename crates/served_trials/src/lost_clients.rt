@@ -3,7 +3,9 @@
 use crate::faults::TrialFault;
 use crate::gates::NoGate;
 use crate::served_clients::{rows_of, serve};
-use crate::typed::{ANSWERS, OTHER_ROWS, line_ends, lines, other_lines, other_told, told};
+use crate::typed::{
+    ANSWERS, OTHER_ROWS, line_ends, lines, other_lines, other_told, told, whole_answers,
+};
 use std::alloc::Global;
 use std::io;
 use std::io::{ErrorKind, Read, Write};
@@ -25,9 +27,9 @@ fn cut_told() -> &'static [u8] {
 
 /// Moves one byte at a use, and fails once, after so many uses that did not.
 #[derive(Drop)]
-struct Turns<T> {
-    inner: T,
-    good: usize,
+pub struct Turns<T> {
+    pub inner: T,
+    pub good: usize,
 }
 
 impl<T> Turns<T> {
@@ -83,22 +85,26 @@ fn ends(alloc: Global, lines: &'static [u8], reads: usize, writes: usize) -> (Re
 
 /// How a client is left: how its session ended, what it was told, and how many rows the log has of it.
 #[derive(Drop)]
-struct Left<'a> {
-    end: End,
-    told: &'a [u8],
-    rows: usize,
+pub struct Left<'a> {
+    pub end: End,
+    pub told: &'a [u8],
+    pub rows: usize,
 }
 
 impl<'a> Left<'a> {
-    /// Whether this is what is left of the client.
-    fn is_left(&self, log: &Log, client: u8, served: Served<Reader, Writer>) -> bool {
+    /// Whether this is what is left of the client, whose session ended so and to whom this was written.
+    pub fn is_left(&self, log: &Log, client: u8, end: End, written: &[u8]) -> bool {
+        end == self.end && written == self.told && rows_of(log, client) == self.rows
+    }
+
+    /// Whether this is what is left of the client that was served.
+    fn is_served(&self, log: &Log, client: u8, served: Served<Reader, Writer>) -> bool {
         let Served {
             reader: _,
             writer,
             end,
         } = served;
-        let written = writer.into_inner().inner;
-        end == self.end && written.as_slice() == self.told && rows_of(log, client) == self.rows
+        self.is_left(log, client, end, writer.into_inner().inner.as_slice())
     }
 }
 
@@ -132,8 +138,8 @@ fn are_left(log: &Log, served: Vec<Served<Reader, Writer>>, left: &Left<'_>) -> 
     let (Some(first), Some(second)) = (served.next(), served.next()) else {
         return false;
     };
-    left.is_left(log, 1, first)
-        && other.is_left(log, 2, second)
+    left.is_served(log, 1, first)
+        && other.is_served(log, 2, second)
         && log.len() == left.rows.saturating_add(other.rows)
 }
 
@@ -164,7 +170,7 @@ fn write_fails<R: Threads + Wait + AllocGlobal + Sync>(
     let left = Left {
         end: End::Stopped(Refusal::WriteFault),
         told,
-        rows: line_ends(told).saturating_add(1),
+        rows: whole_answers(told.len()).saturating_add(1),
     };
     serve_beside(rt, ends(rt.alloc(), lines(), usize::MAX, good), &left)
 }

@@ -3,6 +3,7 @@
 
 mod faults;
 mod gates;
+mod lost_between;
 mod lost_clients;
 mod served_clients;
 mod sockets;
@@ -10,6 +11,7 @@ mod typed;
 
 use faults::TrialFault;
 use gates::{around_commands, each_for_the_others, second_before_first};
+use lost_between::{second_reads_fail, second_writes_fail};
 use lost_clients::{half_a_line, reads_fail, writes_fail};
 use sockets::{four_clients, two_clients};
 use std::io;
@@ -31,6 +33,7 @@ fn main(rt: HostRuntime) -> io::Result<()> {
         "a client goes away in the middle of a line",
         half_a_line(&rt),
     )?;
+    report_second_lost(&rt)?;
     report(&rt, "two clients over loopback", two_clients(&rt))?;
     report(
         &rt,
@@ -60,6 +63,22 @@ fn report_held<R: Threads + Wait + AllocGlobal + Clock + Print + Sync>(rt: &R) -
         rt,
         "each of four clients waits for the others",
         each_for_the_others(rt, 4),
+    )
+}
+
+/// Says how the trials went in which a second client is lost between two lines of the first.
+fn report_second_lost<R: Threads + Wait + AllocGlobal + Clock + Print + Sync>(
+    rt: &R,
+) -> io::Result<()> {
+    report(
+        rt,
+        "a second client is lost at each read, between two lines of the first",
+        second_reads_fail(rt),
+    )?;
+    report(
+        rt,
+        "a second client is lost at each write, between two lines of the first",
+        second_writes_fail(rt),
     )
 }
 

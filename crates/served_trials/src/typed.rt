@@ -5,13 +5,19 @@ use std::alloc::{AllocError, Global};
 
 // No clause tells the texts that these functions give, so that who asks for one is proved without going over its bytes.
 
-/// What the first client types.
+/// What the first client types: two calls, a way back, the rows there, and a branch from there.
 pub fn lines() -> &'static [u8] {
-    b"1025 event_create\n1025 object_signal 7 0x00000000 0x00000008\nback 1\nbranch fix\n"
+    b"1025 event_create\n1025 object_signal 7 0x00000000 0x00000008\nback 1\nshow\nbranch fix\n"
 }
 
 /// What it is told, command by command.
-pub const ANSWERS: [&str; 4] = ["1 ok 7\n", "2 ok\n", "at 1\n", "branch fix 1\n"];
+pub const ANSWERS: [&str; 5] = [
+    "1 ok 7\n",
+    "2 ok\n",
+    "at 1\n",
+    "rows 1 6\ncounters 1027 0\nobject 1024 job 0x00000010 0 live 0\nobject 1025 process 0x00000000 1024 live 2\nobject 1026 event 0x00000000 0 live 0\nentry 1025 3 1024 0x0003d203\nentry 1025 7 1026 0x0000d003\n",
+    "branch fix 1\n",
+];
 
 /// What the second client types.
 pub fn other_lines() -> &'static [u8] {
@@ -33,6 +39,19 @@ pub fn told(alloc: Global, commands: usize) -> Result<String, AllocError> {
         text.push_str(answer)?;
     }
     Ok(text)
+}
+
+/// How many answers to the first client are whole in so many bytes of what it is told.
+pub fn whole_answers(bytes: usize) -> usize {
+    let mut whole = 0usize;
+    let mut end = 0usize;
+    for answer in ANSWERS.iter() {
+        end = end.saturating_add(answer.len());
+        if end <= bytes {
+            whole = whole.saturating_add(1);
+        }
+    }
+    whole
 }
 
 /// How many lines of the text end.

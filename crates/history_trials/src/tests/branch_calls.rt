@@ -2,7 +2,7 @@
 ghost use Rattle.std.specs.Prelude.{◌<◌, length, IfSome};
 
 use std::alloc::{AllocError, Global};
-use zt_bits::Signals;
+use zt_bits::{Signals, Status};
 use zt_history::{BranchId, History};
 use zt_rows::{Call, HandleValue, Koid, Moment, Parcel, Refusal, Reply};
 
@@ -65,6 +65,15 @@ pub(super) fn values_of(reply: Option<&Reply>) -> Option<(u32, u64)> {
         Some(Reply::Handles(first, second)) => Some((first.0, u64::from(second.0))),
         Some(Reply::Spawned(handle, koid)) => Some((handle.0, koid.0)),
         _ => None,
+    }
+}
+
+/// Whether this is the last moment, and its call was told this status alone.
+pub(super) fn is_last_told(history: &History, moment: u32, told: Status) -> bool {
+    let last = Moment(moment);
+    match history.reply_of(last) {
+        Some(Reply::Status(status)) => history.last() == last && *status == told,
+        _ => false,
     }
 }
 

@@ -1,10 +1,11 @@
 //! Calls with much in their wake, with each request for memory refused in turn.
 use super::branch_calls::{
-    answers, answers_often, close, kill, make_job, send, sends, spawn, wait,
+    answers, answers_often, close, is_last_told, kill, make_job, send, sends, spawn, wait,
 };
 use super::same::keys_of;
 use super::twins::{call_both, mark};
 use std::alloc::Global;
+use zt_bits::Status;
 use zt_history::History;
 use zt_rows::{Call, Koid, Moment, RowKey};
 
@@ -21,6 +22,7 @@ pub(super) fn is_cascade_whole(alloc: Global, tried: &mut History, other: &mut H
         && nests_three(alloc, other)
         && mark(alloc)
         && call_both(tried, other, &close(27))
+        && is_last_told(tried, 6, Status::Ok)
 }
 
 /// Makes a channel whose far end is closed, and an event.
@@ -34,7 +36,11 @@ fn loses_peer(history: &mut History) -> bool {
 pub(super) fn is_write_whole(alloc: Global, tried: &mut History, other: &mut History) -> bool {
     match send(alloc, 7, 15) {
         Ok(write) => {
-            loses_peer(tried) && loses_peer(other) && mark(alloc) && call_both(tried, other, &write)
+            loses_peer(tried)
+                && loses_peer(other)
+                && mark(alloc)
+                && call_both(tried, other, &write)
+                && is_last_told(tried, 4, Status::PeerClosed)
         }
         Err(_) => false,
     }
@@ -77,5 +83,6 @@ pub(super) fn is_kill_whole(alloc: Global, tried: &mut History, other: &mut Hist
         && spawns_forty(other)
         && mark(alloc)
         && call_both(tried, other, &kill(7))
+        && is_last_told(tried, 44, Status::Ok)
         && are_killed(keys_of(tried, Moment(44)))
 }

@@ -1,7 +1,8 @@
 //! Moves over a history with each request for memory refused in turn, and over a long one with the third refused.
-use super::branch_calls::{answers_often, close, sends};
+use super::branch_calls::{answers_often, close, is_last_told, sends};
 use super::twins::{call_both, fork_both, go_both, mark};
 use std::alloc::Global;
+use zt_bits::Status;
 use zt_history::History;
 use zt_rows::{Call, Moment};
 
@@ -23,6 +24,7 @@ fn nests(alloc: Global, history: &mut History) -> bool {
 /// The close that brings all of them down, a branch, and the moves to the opening and back.
 fn asks_both(tried: &mut History, other: &mut History) -> bool {
     call_both(tried, other, &close(515))
+        && is_last_told(tried, 128, Status::Ok)
         && fork_both(tried, other)
         && go_both(tried, other, Moment(0))
         && go_both(tried, other, Moment(128))

@@ -3,7 +3,7 @@
 use std::alloc::Global;
 use std::test::Fail;
 use zt_console::{Book, load_text, main_text};
-use zt_rows::Refusal;
+use zt_rows::{Moment, Refusal};
 
 /// The calls of a session text.
 const CALLS: usize = 1_000_000;
@@ -67,5 +67,28 @@ fn more_than_four_clients_are_too_many(rt: HostRuntime) -> Result<(), Fail> {
     assert!(rt; !loads_for(alloc, 5, heading())?);
     assert!(rt; has_place_for(alloc, 4)?);
     assert!(rt; loads_for(alloc, 4, heading())?);
+    Ok(())
+}
+
+/// A session text of two calls.
+fn two_calls() -> &'static [u8] {
+    b"zxtt 1\n1025 event_create\n1025 handle_close 7\n"
+}
+
+/// Whether the two calls of a session text are loaded. Want of memory is told at line 0.
+fn are_two_loaded(alloc: Global) -> Result<bool, Fail> {
+    match load_text(alloc, 1, two_calls()) {
+        Ok(book) => Ok(book.history().last() == Moment(2)),
+        Err((0, Refusal::OutOfMemory)) => Ok(false),
+        Err((_, refusal)) => Err(refusal.into()),
+    }
+}
+
+#[test]
+fn refused_memory_loads_no_text(rt: HostRuntime) -> Result<(), Fail> {
+    let alloc = rt.alloc();
+    if !are_two_loaded(alloc)? {
+        assert!(rt; are_two_loaded(alloc)?, "loaded again");
+    }
     Ok(())
 }

@@ -9,14 +9,30 @@ use std::test::Fail;
 use zt_console::{Book, Counted, End, run};
 use zt_rows::Refusal;
 
-/// Two calls and two commands. No clause tells them, so that who asks for them is proved without going over their bytes.
-fn asked() -> &'static [u8] {
-    b"1025 event_create\n1025 object_signal 7 0x00000000 0x00000008\nback 1\nshow\n"
+/// Lines, and what they are told.
+#[derive(Clone, Copy)]
+struct Script {
+    asked: &'static [u8],
+    answers: &'static [u8],
 }
 
-/// What they are told.
-fn answers() -> &'static [u8] {
-    b"1 ok 7\n2 ok\nat 1\nrows 1 6\ncounters 1027 0\nobject 1024 job 0x00000010 0 live 0\nobject 1025 process 0x00000000 1024 live 2\nobject 1026 event 0x00000000 0 live 0\nentry 1025 3 1024 0x0003d203\nentry 1025 7 1026 0x0000d003\n"
+// No clause tells the lines, so that who asks for them is proved without going over their bytes.
+
+/// Two calls and two commands, of which the last is told many rows.
+fn stored_run() -> Script {
+    Script {
+        asked: b"1025 event_create\n1025 object_signal 7 0x00000000 0x00000008\nback 1\nshow\n",
+        answers: b"1 ok 7\n2 ok\nat 1\nrows 1 6\ncounters 1027 0\nobject 1024 job 0x00000010 0 live 0\nobject 1025 process 0x00000000 1024 live 2\nobject 1026 event 0x00000000 0 live 0\nentry 1025 3 1024 0x0003d203\nentry 1025 7 1026 0x0000d003\n",
+    }
+}
+
+/// Three calls that two clients make elsewhere, of which the second closes the peer of the first one's channel, and what a
+/// query says of it.
+fn peer_closed() -> Script {
+    Script {
+        asked: b"1025 channel_create\n1025 handle_close 11\n1025 channel_write 7 - -\nwhen peer_closed 1026\n",
+        answers: b"1 ok 7 11\n2 ok\n3 peer_closed\n2 1025 handle_close 11\n",
+    }
 }
 
 /// Moves one byte in a turn, and fails once, after so many turns that did not.
@@ -108,8 +124,11 @@ fn behind(text: &[u8], feeds: usize) -> &[u8] {
 
 /// The ends of a run in which a read fails after so many, and of a run over the lines that it did not read whole, with
 /// what both wrote.
-fn read_again(alloc: Global, good: usize) -> Result<(End, End, Vec<u8>), Refusal> {
-    let lines = asked();
+fn read_again(
+    alloc: Global,
+    lines: &'static [u8],
+    good: usize,
+) -> Result<(End, End, Vec<u8>), Refusal> {
     let whole = feeds(lines.split_at(good.min(lines.len())).0);
     let reader = Turns {
         inner: lines,
@@ -122,30 +141,44 @@ fn read_again(alloc: Global, good: usize) -> Result<(End, End, Vec<u8>), Refusal
 }
 
 /// The lines that were read whole are answered, and a run over the others goes on from there.
-fn check_failed_read(rt: &(impl Abort + AllocGlobal), good: usize) -> Result<(), Fail> {
-    let (first, second, told) = read_again(rt.alloc(), good)?;
+fn check_failed_read(
+    rt: &(impl Abort + AllocGlobal),
+    talked: Script,
+    good: usize,
+) -> Result<(), Fail> {
+    let (first, second, told) = read_again(rt.alloc(), talked.asked, good)?;
     assert!(rt; first == End::Stopped(Refusal::ReadFault));
     assert!(rt; second == End::Finished);
-    assert!(rt; told.as_slice() == answers());
+    assert!(rt; told.as_slice() == talked.answers);
     Ok(())
+}
+
+/// Each read of these lines fails, that of the end too.
+fn check_each_read(rt: &(impl Abort + AllocGlobal), talked: Script) -> Result<(), Fail> {
+    let len = talked.asked.len();
+    for good in 0..len {
+        check_failed_read(rt, talked, good)?;
+    }
+    check_failed_read(rt, talked, len)
 }
 
 #[test]
 fn each_read_fails_once(rt: HostRuntime) -> Result<(), Fail> {
-    let len = asked().len();
-    for good in 0..len {
-        check_failed_read(&rt, good)?;
-    }
-    check_failed_read(&rt, len)
+    check_each_read(&rt, stored_run())?;
+    check_each_read(&rt, peer_closed())
 }
 
 /// A run whose lines come byte by byte, so that each is answered before the next is read, in which a write fails after so
 /// many; with what it wrote.
-fn write_some(alloc: Global, good: usize) -> Result<(Book, End, Vec<u8>), Refusal>
+fn write_some(
+    alloc: Global,
+    lines: &'static [u8],
+    good: usize,
+) -> Result<(Book, End, Vec<u8>), Refusal>
     ensures { IfOk result (λ ran. 1 ≤ length ran.0.session.clients) }
 {
     let reader = Turns {
-        inner: asked(),
+        inner: lines,
         good: u64::MAX,
     };
     let writer = Turns {
@@ -160,21 +193,26 @@ fn write_some(alloc: Global, good: usize) -> Result<(Book, End, Vec<u8>), Refusa
 /// The ends of such a run, and of a run over the lines that it did not serve, each with what it wrote.
 fn write_again(
     alloc: Global,
+    lines: &'static [u8],
     good: usize,
     left: &[u8],
 ) -> Result<(End, Vec<u8>, End, Vec<u8>), Refusal> {
-    let (book, first, written) = write_some(alloc, good)?;
+    let (book, first, written) = write_some(alloc, lines, good)?;
     let (_, second, told) = talk(alloc, book, left, Vec::new(alloc));
     Ok((first, written, second, told))
 }
 
 /// What was written is a prefix, and a run over the lines that were not served goes on behind them.
-fn check_failed_write(rt: &(impl Abort + AllocGlobal), good: usize) -> Result<(), Fail> {
-    let answers = answers();
+fn check_failed_write(
+    rt: &(impl Abort + AllocGlobal),
+    talked: Script,
+    good: usize,
+) -> Result<(), Fail> {
+    let answers = talked.answers;
     let wanted = answers.split_at(good.min(answers.len())).0;
     let served = feeds(wanted) + 1;
-    let left = behind(asked(), served);
-    let (first, written, second, told) = write_again(rt.alloc(), good, left)?;
+    let left = behind(talked.asked, served);
+    let (first, written, second, told) = write_again(rt.alloc(), talked.asked, good, left)?;
     assert!(rt; first == End::Stopped(Refusal::WriteFault));
     assert!(rt; written.as_slice() == wanted);
     assert!(rt; second == End::Finished);
@@ -187,12 +225,18 @@ fn check_failed_write(rt: &(impl Abort + AllocGlobal), good: usize) -> Result<()
     Ok(())
 }
 
-#[test]
-fn each_write_fails_once(rt: HostRuntime) -> Result<(), Fail> {
-    for good in 0..answers().len() {
-        check_failed_write(&rt, good)?;
+/// Each write of what these lines are told fails.
+fn check_each_write(rt: &(impl Abort + AllocGlobal), talked: Script) -> Result<(), Fail> {
+    for good in 0..talked.answers.len() {
+        check_failed_write(rt, talked, good)?;
     }
     Ok(())
+}
+
+#[test]
+fn each_write_fails_once(rt: HostRuntime) -> Result<(), Fail> {
+    check_each_write(&rt, stored_run())?;
+    check_each_write(&rt, peer_closed())
 }
 
 #[test]
