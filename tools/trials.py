@@ -141,8 +141,9 @@ def free_port():
 class Server:
     """The program that serves so many clients on a port of its own. It is ended at the end of `with`."""
 
-    def __init__(self, program, clients=1, words=(), stdout=subprocess.PIPE, limit=LIMIT):
+    def __init__(self, program, clients=1, words=(), stdout=subprocess.PIPE, limit=LIMIT, settings=None):
         self.program, self.clients, self.words, self.stdout = program, clients, words, stdout
+        self.environment = os.environ | (settings or {})
         self.deadline = time.monotonic() + limit
         self.limit = limit
         self.ends = []
@@ -152,7 +153,8 @@ class Server:
         self.port = free_port()
         words = ['serve', str(self.port), '--clients', str(self.clients), *self.words]
         self.process = subprocess.Popen(
-            [self.program, *words], stdin=subprocess.DEVNULL, stdout=self.stdout, stderr=subprocess.PIPE, cwd=TOP
+            [self.program, *words], stdin=subprocess.DEVNULL, stdout=self.stdout, stderr=subprocess.PIPE, cwd=TOP,
+            env=self.environment,
         )
 
     def __enter__(self):

@@ -1,5 +1,5 @@
 -- What every answer of a responder keeps, a talk keeps.
-use Rattle.std.proofs.Common.{◌≡◌, ℕ, Bool, List, [], ◌∷◌, length, Option, Some, None, Result, Ok, Err, refl, ◌∙◌, ap, inl, inr}
+use Rattle.std.proofs.Common.{◌≡◌, ℕ, Bool, List, [], ◌∷◌, length, Option, Some, None, Result, Ok, Err, ◌∙◌, ap, inl, inr}
 use Rattle.zt_rows.specs.declared.calls.Command.{Command}
 use Rattle.zt_rows.specs.declared.refusals.Refusal.{Refusal}
 use Rattle.zt_book.specs.Log.{BookView, SessionLog as Stood}

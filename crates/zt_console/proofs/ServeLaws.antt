@@ -1,10 +1,9 @@
 -- The clients of a shared book at their places, and what is left of them there.
-use Rattle.std.proofs.Common.{◌≡◌, ℕ, suc, ◌<◌, ◌≤◌, List, [], ◌∷◌, ◌++◌, length, map, take, drop, get_or, Option, Some, None, refl, sym, ◌∙◌, ap, subst, arith}
+use Rattle.std.proofs.Common.{◌≡◌, ℕ, suc, ◌≤◌, List, [], ◌∷◌, ◌++◌, length, map, get_or, Option, Some, None, refl, sym, ◌∙◌, ap, subst, arith}
 use Rattle.std.specs.Prelude.{All}
 use Rattle.std.specs.List.{AllZip, filter_map, cons_option}
 use Rattle.std.specs.List.Sorted.{IsPermutation}
 use Rattle.std.proofs.lemmas.List.Elements.{filter_map-append, All-head, All-tail, All-map}
-use lib.Seq.{take-append_seam}
 use Rattle.zt_rows.specs.declared.calls.Answer.{Answer}
 use Rattle.zt_rows.specs.declared.calls.Command.{Command}
 use Rattle.zt_book.specs.declared.log.Recorded.{Recorded}
@@ -13,20 +12,28 @@ use Rattle.zt_shared.specs.Sharing.{PassView, IsPartOf, IsOneLog, told_to, first
 use Rattle.zt_shared.proofs.SharingLaws.{in_order}
 use Rattle.zt_console.specs.declared.client_sessions.ClientSession.{ClientSession}
 use Rattle.zt_console.specs.declared.client_sessions.Served.{Served}
-use Rattle.zt_console.specs.ProofsOnly.ClientSessions.{place_of, served_at, pass_at, IsToBeServed, HasServed}
-use Rattle.zt_console.specs.Sessions.{Caller, IsCountable, IsServed, told_in}
+use Rattle.zt_console.specs.declared.client_threads.ClientThread.{ClientThread}
+use Rattle.zt_console.specs.declared.client_threads.ClientThread.TheVariants.{Running, Unserved}
+use Rattle.zt_console.specs.declared.run_loop.End.TheVariants.{Stopped}
+use Rattle.zt_console.specs.ProofsOnly.ClientSessions.{place_of, served_at, pass_at, IsToBeServed, HasServed, IsGivenBack, IsStartedFor, IsJoined}
+use Rattle.zt_console.specs.Run.{at_responder}
+use Rattle.zt_console.specs.Sessions.{AsksPass, Caller, IsCountable, IsServed, told_in}
+use Rattle.zt_console.proofs.LineFeedLaws.{talked_nothing}
+use Rattle.zt_rows.specs.declared.refusals.Refusal.TheVariants.{OutOfMemory}
 
 -- ---- lists
 
-pub zip_each : {T : Type 0} (R : T → T → Type 0) (xs ys : List T) → length ys ≡ length xs → ((i : ℕ) (d : T) → i < length xs → R (get_or xs i d) (get_or ys i d)) → AllZip R xs ys
-zip_each R [] [] e h = tt
-zip_each R [] (y ∷ ys) e h = let no : ⊥ = omega arith in absurd no
-zip_each R (x ∷ xs) [] e h = let no : ⊥ = omega arith in absurd no
-zip_each R (x ∷ xs) (y ∷ ys) e h = (h 0 x (omega arith), zip_each R xs ys (omega arith) (λ i d lt. h (suc i) d (omega arith)))
+pub zip_more : {S T : Type 0} (R : S → T → Type 0) (xs : List S) (ys : List T) (x : S) (y : T) → AllZip R xs ys → R x y → AllZip R (xs ++ x ∷ []) (ys ++ y ∷ [])
+zip_more R [] [] x y h r = (r, tt)
+zip_more R [] (z ∷ ys) x y h r = absurd h
+zip_more R (z ∷ xs) [] x y h r = absurd h
+zip_more R (z ∷ xs) (w ∷ ys) x y (h, hs) r = (h, zip_more R xs ys x y hs r)
 
--- what is written through a slice of a whole list stands in it
-pub written_back : {T : Type 0} (n : ℕ) (xs ys : List T) → n ≡ length ys → take n (ys ++ drop (length ys) xs) ≡ ys
-written_back n xs ys e = ap (λ k. take k (ys ++ drop (length ys) xs)) e ∙ take-append_seam ys (drop (length ys) xs)
+pub zip_length : {S T : Type 0} (R : S → T → Type 0) (xs : List S) (ys : List T) → AllZip R xs ys → length ys ≡ length xs
+zip_length R [] [] h = refl
+zip_length R [] (z ∷ ys) h = absurd h
+zip_length R (z ∷ xs) [] h = absurd h
+zip_length R (z ∷ xs) (w ∷ ys) (h, hs) = ap suc (zip_length R xs ys hs)
 
 pub map_more : {A B : Type 0} (f : A → B) (xs : List A) (x : A) → map f (xs ++ x ∷ []) ≡ map f xs ++ f x ∷ []
 map_more f [] x = refl
@@ -130,6 +137,34 @@ module _ {I O A B C D : Type 0} (remaining : I → Option (List ℕ)) (contents 
   all_served n log cs ps passes served z e f closed =
       subst (λ l. AllZip (λ (c : Caller I O) (s : Served I O). IsServed remaining contents c (told_in log c.2) s.reader s.writer s.end) cs l) (sym f)
       (each_served log cs ps z (subst (All (IsIn log)) e closed.parts))
+
+module _ {I O A B C D : Type 0} (remaining : I → Option (List ℕ)) (contents : O → Option (List ℕ)) where
+  -- a client that is turned away was told nothing
+  pub turned_away : (old new : ClientSession I O A B C D) → new ≡ record old { end = Stopped OutOfMemory } → IsGivenBack remaining contents old new
+  turned_away old new e to_serve = rw e (record {
+    before = to_serve.pass;
+    after = to_serve.pass;
+    held = to_serve.held;
+    holds = to_serve.held;
+    who = refl;
+    base = refl;
+    served = record { talk = talked_nothing AsksPass (at_responder to_serve.pass None) (remaining old.reader.0) (contents old.writer.0) refl; ended = tt; cause = (refl, refl) };
+  })
+
+  -- all whose threads were started and joined were served
+  pub all_joined : (olds : List (ClientSession I O A B C D)) (threads : List (ClientThread I O A B C D)) (news : List (ClientSession I O A B C D)) → AllZip (IsStartedFor remaining contents) olds threads
+      → AllZip (IsJoined remaining contents) threads news → All IsToBeServed olds → AllZip (HasServed remaining contents) olds news
+  all_joined [] [] [] s j h = tt
+  all_joined [] [] (new ∷ news) s j h = absurd j
+  all_joined [] (thread ∷ threads) news s j h = absurd s
+  all_joined (old ∷ olds) [] news s j h = absurd s
+  all_joined (old ∷ olds) (thread ∷ threads) [] s j h = absurd j
+  all_joined (old ∷ olds) (thread ∷ threads) (new ∷ news) (s, ss) (j, js) h =
+      (one thread s j (All-head IsToBeServed old olds h), all_joined olds threads news ss js (All-tail IsToBeServed old olds h))
+    where
+      one : (t : ClientThread I O A B C D) → IsStartedFor remaining contents old t → IsJoined remaining contents t new → IsToBeServed old → HasServed remaining contents old new
+      one (Running t) started joined to_serve = subst (λ p. IsGivenBack remaining contents p new) started joined to_serve
+      one (Unserved place) started joined to_serve = subst (HasServed remaining contents old) (sym joined) (started to_serve)
 
 -- clients whose failures can be counted take places
 pub all_taken : {I O A B C D : Type 0} (cs : List (Caller I O)) → All IsCountable cs → All (IsToBeServed {I = I} {O = O} {A = A} {B = B} {C = C} {D = D}) (map place_of cs)

@@ -1,19 +1,17 @@
-ghost use Rattle.std.specs.Prelude.{◌≡◌, ℕ, ◌<◌, ◌≤◌, ◌+◌, [], ◌∷◌, ◌++◌, length, map, All, IfOk, IfErr, IsPermutation, slice_index_or, vec_len, vec_capacity};
+ghost use Rattle.std.specs.Prelude.{◌≡◌, ◌<◌, ◌≤◌, ◌+◌, [], ◌∷◌, ◌++◌, length, map, All, IfOk, IfErr, IsPermutation, vec_len, vec_capacity};
 ghost use Rattle.std.specs.List.{AllZip, cons_option, filter_map};
 ghost use Rattle.zt_shared.specs.Sharing.{IsOneLog, numbers};
-ghost use Rattle.zt_console.specs.ProofsOnly.ClientSessions.{place_of, served_at, pass_at, IsToBeServed, HasServed};
+ghost use Rattle.zt_console.specs.ProofsOnly.ClientSessions.{place_of, served_at, pass_at};
 ghost use Rattle.zt_console.specs.Sessions.{IsCountable, IsServed, told_in};
 
+use crate::client_threads::{ClientThread, serve_all};
 use crate::counted_faults::Counted;
-use crate::pass_session::session;
 use crate::run_loop::End;
 use std::alloc::{AllocError, Global};
 use std::io::{Read, Write};
 use std::sync::Wait;
-use std::thread;
 use std::thread::Threads;
 use zt_book::Log;
-use zt_rows::CLIENTS;
 use zt_shared::account::Naming;
 use zt_shared::{Beginning, Gate, Pass, Shared, close};
 
@@ -30,16 +28,18 @@ pub struct Served<I, O> {
 
 /// A client whose session is to come, or was.
 #[derive(Drop)]
-struct ClientSession<I, O, A: Naming + Beginning, B: Naming, C: Naming, D: Naming> {
-    reader: Counted<I>,
-    writer: Counted<O>,
-    pass: Option<Pass<A, B, C, D>>,
-    end: End,
+pub(crate) struct ClientSession<I, O, A: Naming + Beginning, B: Naming, C: Naming, D: Naming> {
+    pub(crate) reader: Counted<I>,
+    pub(crate) writer: Counted<O>,
+    pub(crate) pass: Option<Pass<A, B, C, D>>,
+    pub(crate) end: End,
 }
 
 /// The lists that serving clients takes.
 #[derive(Drop)]
-struct SessionLists<I, O, A: Naming + Beginning, B: Naming, C: Naming, D: Naming> {
+struct SessionLists<I: Read, O: Write, A: Naming + Beginning, B: Naming, C: Naming, D: Naming> {
+    waiting: Vec<ClientSession<I, O, A, B, C, D>>,
+    threads: Vec<ClientThread<I, O, A, B, C, D>>,
     places: Vec<ClientSession<I, O, A, B, C, D>>,
     served: Vec<Served<I, O>>,
     passes: Vec<Pass<A, B, C, D>>,
@@ -48,8 +48,8 @@ struct SessionLists<I, O, A: Naming + Beginning, B: Naming, C: Naming, D: Naming
 /// Serves all clients of a shared book, who come in any order, each by a session on a thread of its own, and closes the
 /// book when all have ended.
 /// All that serving takes of memory but each session's own is asked for first; where it is refused, the book and the
-/// clients come back. Where no thread can be started for a client, it is served on another's thread, ahead of that
-/// thread's client or behind it.
+/// clients come back. A client for whom no thread can be started is not served: it has no rows, and its session ends as
+/// one that found no memory.
 pub fn sessions<
     R: Threads + Wait + Sync,
     I: Read + Send + Drop,
@@ -76,147 +76,43 @@ pub fn sessions<
         return Err((shared, callers));
     };
     let SessionLists {
+        mut waiting,
+        threads,
         places,
         mut served,
         mut passes,
     } = lists;
-    let places = serve_callers(rt, alloc, &shared, gate, callers, places);
+    take_places(&mut waiting, callers);
+    let places = serve_all(rt, alloc, &shared, gate, waiting, threads, places);
     leave_places(places, &mut served, &mut passes);
     let log = close(shared, passes);
     Ok((log, served))
 }
 
-/// Serves all clients at places, of which there are none yet.
-fn serve_callers<
-    R: Threads + Wait + Sync,
-    I: Read + Send + Drop,
-    O: Write + Send + Drop,
-    A: Naming + Beginning + Send + Sync,
-    B: Naming + Send + Sync,
-    C: Naming + Send + Sync,
-    D: Naming + Send + Sync,
-    G: Gate + Sync,
->(
-    rt: &R,
-    alloc: Global,
-    shared: &Shared<A, B, C, D>,
-    gate: &G,
-    callers: Vec<Caller<I, O, A, B, C, D>>,
-    mut places: Vec<ClientSession<I, O, A, B, C, D>>,
-) -> Vec<ClientSession<I, O, A, B, C, D>>
-    requires empty { places.items ≡ [] }
-    requires room { length callers.items ≤ vec_capacity places }
-    requires counts { All IsCountable callers.items }
-    ensures { AllZip (HasServed I.remaining O.contents) (map place_of callers.items) result.items }
-{
-    take_places(&mut places, callers);
-    serve_all(rt, alloc, shared, gate, places.as_mut_slice());
-    places
-}
-
 /// Empty lists with room for so many clients.
-fn room_for<I: Drop, O: Drop, A: Naming + Beginning, B: Naming, C: Naming, D: Naming>(
-    alloc: Global,
-    clients: usize,
-) -> Result<SessionLists<I, O, A, B, C, D>, AllocError>
-    ensures empty { IfOk result (λ lists. (lists.places.items ≡ []) × (lists.served.items ≡ []) × (lists.passes.items ≡ [])) }
-    ensures room { IfOk result (λ lists. (clients ≤ vec_capacity lists.places) × (clients ≤ vec_capacity lists.served) × (clients ≤ vec_capacity lists.passes)) }
+fn room_for<
+    I: Read + Drop,
+    O: Write + Drop,
+    A: Naming + Beginning,
+    B: Naming,
+    C: Naming,
+    D: Naming,
+>(alloc: Global, clients: usize) -> Result<SessionLists<I, O, A, B, C, D>, AllocError>
+    ensures empty { IfOk result (λ lists. (lists.waiting.items ≡ []) × (lists.threads.items ≡ []) × (lists.places.items ≡ []) × (lists.served.items ≡ []) × (lists.passes.items ≡ [])) }
+    ensures room { IfOk result (λ lists. (clients ≤ vec_capacity lists.waiting) × (clients ≤ vec_capacity lists.threads) × (clients ≤ vec_capacity lists.places) × (clients ≤ vec_capacity lists.served) × (clients ≤ vec_capacity lists.passes)) }
 {
+    let waiting = Vec::with_capacity(alloc, clients)?;
+    let threads = Vec::with_capacity(alloc, clients)?;
     let places = Vec::with_capacity(alloc, clients)?;
     let served = Vec::with_capacity(alloc, clients)?;
     let passes = Vec::with_capacity(alloc, clients)?;
     Ok(SessionLists {
+        waiting,
+        threads,
         places,
         served,
         passes,
     })
-}
-
-/// Serves all clients.
-fn serve_all<
-    R: Threads + Wait + Sync,
-    I: Read + Send + Drop,
-    O: Write + Send + Drop,
-    A: Naming + Beginning + Send + Sync,
-    B: Naming + Send + Sync,
-    C: Naming + Send + Sync,
-    D: Naming + Send + Sync,
-    G: Gate + Sync,
->(
-    rt: &R,
-    alloc: Global,
-    shared: &Shared<A, B, C, D>,
-    gate: &G,
-    places: &mut [ClientSession<I, O, A, B, C, D>],
-)
-    requires { All IsToBeServed places.old }
-    ensures { AllZip (HasServed I.remaining O.contents) places.old places.new }
-{
-    serve_each(rt, alloc, shared, gate, places);
-}
-
-/// Serves each client, on a thread of its own.
-fn serve_each<
-    R: Threads + Wait + Sync,
-    I: Read + Send + Drop,
-    O: Write + Send + Drop,
-    A: Naming + Beginning + Send + Sync,
-    B: Naming + Send + Sync,
-    C: Naming + Send + Sync,
-    D: Naming + Send + Sync,
-    G: Gate + Sync,
->(
-    rt: &R,
-    alloc: Global,
-    shared: &Shared<A, B, C, D>,
-    gate: &G,
-    places: &mut [ClientSession<I, O, A, B, C, D>],
-)
-    ensures { (i : ℕ) (d : _) → i < length places.old → IsToBeServed (slice_index_or places.old i d) → HasServed I.remaining O.contents (slice_index_or places.old i d) (slice_index_or places.new i d) }
-{
-    thread::for_each_mut(
-        rt,
-        places,
-        usize::from(CLIENTS),
-        &|_, place| { serve_one(rt, alloc, shared, gate, place) },
-    );
-}
-
-/// Serves one client, where its pass is there and its failures can be counted.
-fn serve_one<
-    R: Wait,
-    I: Read,
-    O: Write,
-    A: Naming + Beginning + Send + Sync,
-    B: Naming + Send + Sync,
-    C: Naming + Send + Sync,
-    D: Naming + Send + Sync,
-    G: Gate,
->(
-    rt: &R,
-    alloc: Global,
-    shared: &Shared<A, B, C, D>,
-    gate: &G,
-    place: &mut ClientSession<I, O, A, B, C, D>,
-)
-    ensures { IsToBeServed place.old → HasServed I.remaining O.contents place.old place.new }
-{
-    if place.reader.faults() == u64::MAX || place.writer.faults() == u64::MAX {
-        return;
-    }
-    if let Some(pass) = place.pass.take() {
-        let (pass, end) = session(
-            rt,
-            alloc,
-            &mut place.reader,
-            &mut place.writer,
-            shared,
-            pass,
-            gate,
-        );
-        place.pass = Some(pass);
-        place.end = end;
-    }
 }
 
 /// Puts each client into a place of its own.

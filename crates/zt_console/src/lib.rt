@@ -3,6 +3,7 @@
 
 mod book_run;
 mod client_sessions;
+mod client_threads;
 mod conversation;
 mod counted_faults;
 mod line_buffer;
