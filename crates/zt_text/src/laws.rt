@@ -85,32 +85,21 @@ pub fn every_call_is_within(process: Koid, call: &Call)
 {
     key_is_within(process.0);
     match *call {
-        Call::EventCreate => {}
-        Call::EventPairCreate => {}
-        Call::ChannelCreate => {}
-        Call::PortCreate => {}
-        Call::HandleClose { handle } => handle_is_within(handle),
-        Call::TaskKill { handle } => handle_is_within(handle),
-        Call::PortWait { port } => handle_is_within(port),
-        Call::JobCreate { job } => handle_is_within(job),
-        Call::HandleDuplicate { handle, rights } => {
+        Call::EventCreate | Call::EventPairCreate | Call::ChannelCreate | Call::PortCreate => {}
+        Call::HandleClose { handle }
+        | Call::TaskKill { handle }
+        | Call::PortWait { port: handle }
+        | Call::JobCreate { job: handle } => handle_is_within(handle),
+        Call::HandleDuplicate { handle, rights } | Call::HandleReplace { handle, rights } => {
             handle_is_within(handle);
             mask_is_within(rights);
         }
-        Call::HandleReplace { handle, rights } => {
-            handle_is_within(handle);
-            mask_is_within(rights);
-        }
-        Call::ObjectSignal { handle, clear, set } => {
-            handle_is_within(handle);
-            mask_is_within(clear.0);
-            mask_is_within(set.0);
-        }
-        Call::ObjectSignalPeer { handle, clear, set } => {
-            handle_is_within(handle);
-            mask_is_within(clear.0);
-            mask_is_within(set.0);
-        }
+        Call::ObjectSignal { handle, clear, set } | Call::ObjectSignalPeer { handle, clear, set } =>
+            {
+                handle_is_within(handle);
+                mask_is_within(clear.0);
+                mask_is_within(set.0);
+            }
         Call::ChannelWrite { handle, ref parcel } => {
             handle_is_within(handle);
             parcel.limits();

@@ -10,6 +10,7 @@ mod numbers;
 mod printed_answers;
 mod printed_calls;
 mod printed_rows;
+mod printed_words;
 mod read_calls;
 mod read_lines;
 mod separator;

@@ -6,6 +6,7 @@ ghost use Rattle.zt_text.specs.Answers.{as_line, shown_reply, row_line, shown_su
 
 use crate::printed_calls::put_call;
 use crate::printed_rows::{put_reply, put_rows};
+use crate::printed_words::{put_one, put_three, put_two};
 use std::alloc::{AllocError, Global};
 use zt_bits::Kind;
 use zt_rows::{Answer, Event, Koid, Moment, Reply, Row, RowKey, Support};
@@ -61,6 +62,15 @@ fn print_name(alloc: Global, word: &str, name: &[u8], moment: Moment) -> Result<
     Ok(text)
 }
 
+/// A word with a number, in front of so many lines.
+fn heading(alloc: Global, word: &str, number: u64, lines: usize) -> Result<String, AllocError>
+    ensures { IfOk result (λ text. string_bytes text ≡ heading word.now number lines) }
+{
+    let mut text = String::new(alloc);
+    writeln!(text, "{word} {number} {lines}")?;
+    Ok(text)
+}
+
 /// The rows at a moment.
 fn print_rows_at(
     alloc: Global,
@@ -69,8 +79,7 @@ fn print_rows_at(
 ) -> Result<Vec<u8>, AllocError>
     ensures { IfOk result (λ text. text.items ≡ heading (codes "rows") moment (length rows.now) ++ flat_map row_line rows.now) }
 {
-    let mut text = String::new(alloc);
-    writeln!(text, "rows {} {}", moment.0, rows.len())?;
+    let mut text = heading(alloc, "rows", u64::from(moment.0), rows.len())?;
     put_rows(&mut text, rows)?;
     Ok(text.into_bytes())
 }
@@ -79,13 +88,20 @@ fn print_rows_at(
 fn print_holders(alloc: Global, koid: Koid, kept: &[Support]) -> Result<Vec<u8>, AllocError>
     ensures { IfOk result (λ text. text.items ≡ heading (codes "holders") koid (length kept.now) ++ flat_map support_line kept.now) }
 {
-    let mut text = String::new(alloc);
-    writeln!(text, "holders {} {}", koid.0, kept.len())?;
+    let mut text = heading(alloc, "holders", koid.0, kept.len())?;
+    put_supports(&mut text, kept)?;
+    Ok(text.into_bytes())
+}
+
+/// A line for each thing that keeps an object.
+fn put_supports(text: &mut String, kept: &[Support]) -> Result<(), AllocError>
+    ensures { OnOk result (string_bytes text.new ≡ string_bytes text.old ++ flat_map support_line kept.now) }
+{
     for support in kept {
-        put_support(&mut text, *support)?;
+        put_support(text, *support)?;
         text.push_str("\n")?;
     }
-    Ok(text.into_bytes())
+    Ok(())
 }
 
 /// One thing that keeps an object.
@@ -94,11 +110,11 @@ fn put_support(text: &mut String, support: Support) -> Result<(), AllocError>
     ensures { OnOk result (string_bytes text.new ≡ string_bytes text.old ++ shown_support support) }
 {
     match support {
-        Support::Entry(process, handle) => write!(text, "entry {} {}", process.0, handle.0),
+        Support::Entry(process, handle) => put_two(text, "entry", process.0, u64::from(handle.0)),
         Support::Message(endpoint, number, index) => {
-            write!(text, "message {} {number} {index}", endpoint.0)
+            put_three(text, "message", endpoint.0, number, index)
         }
-        Support::Child(koid) => write!(text, "child {}", koid.0),
+        Support::Child(koid) => put_one(text, "child", koid.0),
         Support::Itself => text.push_str("self"),
     }
 }
@@ -111,12 +127,19 @@ fn print_leaks(
 ) -> Result<Vec<u8>, AllocError>
     ensures { IfOk result (λ text. text.items ≡ heading (codes "leaks") moment (length leaked.now) ++ flat_map leak_line leaked.now) }
 {
-    let mut text = String::new(alloc);
-    writeln!(text, "leaks {} {}", moment.0, leaked.len())?;
+    let mut text = heading(alloc, "leaks", u64::from(moment.0), leaked.len())?;
+    put_leaks(&mut text, leaked)?;
+    Ok(text.into_bytes())
+}
+
+/// A line for each leaked object.
+fn put_leaks(text: &mut String, leaked: &[(Koid, Kind)]) -> Result<(), AllocError>
+    ensures { OnOk result (string_bytes text.new ≡ string_bytes text.old ++ flat_map leak_line leaked.now) }
+{
     for (koid, kind) in leaked {
         writeln!(text, "{} {}", koid.0, kind.word())?;
     }
-    Ok(text.into_bytes())
+    Ok(())
 }
 
 /// The line of a moment with its call, or of none.
@@ -124,13 +147,20 @@ fn print_event(alloc: Global, event: &Option<Event>) -> Result<Vec<u8>, AllocErr
     ensures { IfOk result (λ text. text.items ≡ as_line (shown_event event.now)) }
 {
     let mut text = String::new(alloc);
+    put_event(&mut text, event)?;
+    text.push_str("\n")?;
+    Ok(text.into_bytes())
+}
+
+/// A moment with its call, or that there is none.
+fn put_event(text: &mut String, event: &Option<Event>) -> Result<(), AllocError>
+    ensures { OnOk result (string_bytes text.new ≡ string_bytes text.old ++ shown_event event.now) }
+{
     match event {
-        None => text.push_str("never\n")?,
+        None => text.push_str("never"),
         Some(event) => {
             write!(text, "{} ", event.moment.0)?;
-            put_call(&mut text, event.process, &event.call)?;
-            text.push_str("\n")?;
+            put_call(text, event.process, &event.call)
         }
     }
-    Ok(text.into_bytes())
 }

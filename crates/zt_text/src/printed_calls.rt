@@ -6,6 +6,7 @@ ghost use Rattle.zt_text.specs.Calls.{call_name, discard_words, call_arguments, 
 ghost use Rattle.zt_text.specs.ProofsOnly.Calls.{spaced};
 
 use crate::printed_rows::{put_bytes, put_handles, put_mask};
+use crate::printed_words::{put_one, put_three, put_two};
 use std::alloc::{AllocError, Global};
 use zt_bits::Signals;
 use zt_rows::{Call, HandleValue, Koid, Parcel};
@@ -85,7 +86,10 @@ fn put_arguments(text: &mut String, call: &Call) -> Result<(), AllocError>
         Call::EventCreate | Call::EventPairCreate | Call::ChannelCreate | Call::PortCreate => Ok(
             (),
         ),
-        Call::HandleClose { handle } | Call::TaskKill { handle } => write!(text, " {}", handle.0),
+        Call::HandleClose { handle }
+        | Call::TaskKill { handle }
+        | Call::PortWait { port: handle }
+        | Call::JobCreate { job: handle } => put_one(text, "", u64::from(handle.0)),
         Call::HandleDuplicate { handle, rights } | Call::HandleReplace { handle, rights } => {
             put_rights(text, handle, rights)
         }
@@ -103,22 +107,18 @@ fn put_arguments(text: &mut String, call: &Call) -> Result<(), AllocError>
             port,
             key,
             signals,
-        } => {
-            write!(text, " {} {} {key} ", handle.0, port.0)?;
-            put_mask(text, signals.0)
-        }
+        } => put_wait_async(text, handle, port, key, signals),
         Call::PortQueue {
             port,
             key,
             ref bytes,
-        } => {
-            write!(text, " {} {key} ", port.0)?;
-            put_bytes(text, bytes)
+        } => put_queue(text, port, key, bytes),
+        Call::PortCancel { port, source, key } => {
+            put_three(text, "", u64::from(port.0), u64::from(source.0), key)
         }
-        Call::PortWait { port } => write!(text, " {}", port.0),
-        Call::PortCancel { port, source, key } => write!(text, " {} {} {key}", port.0, source.0),
-        Call::JobCreate { job } => write!(text, " {}", job.0),
-        Call::Spawn { job, argument } => write!(text, " {} {}", job.0, argument.0),
+        Call::Spawn { job, argument } => {
+            put_two(text, "", u64::from(job.0), u64::from(argument.0))
+        }
         Call::ProcessExit { code } => write!(text, " {code}"),
     }
 }
@@ -158,6 +158,35 @@ fn put_write(text: &mut String, handle: HandleValue, parcel: &Parcel) -> Result<
     put_handles(text, parcel.handles().as_slice())
 }
 
+/// A handle, the port of a wait, its key and its signals.
+fn put_wait_async(
+    text: &mut String,
+    handle: HandleValue,
+    port: HandleValue,
+    key: u64,
+    signals: Signals,
+) -> Result<(), AllocError>
+    ensures { OnOk result (string_bytes text.new ≡ string_bytes text.old
+        ++ spaced (decimal handle ∷ decimal port ∷ decimal key ∷ shown_mask signals.0 ∷ [])) }
+{
+    write!(text, " {} {} {key} ", handle.0, port.0)?;
+    put_mask(text, signals.0)
+}
+
+/// A port, and the key and the bytes of a packet.
+fn put_queue(
+    text: &mut String,
+    port: HandleValue,
+    key: u64,
+    bytes: &[u8; 32],
+) -> Result<(), AllocError>
+    ensures { OnOk result (string_bytes text.new ≡ string_bytes text.old
+        ++ spaced (decimal port ∷ decimal key ∷ shown_bytes bytes.now ∷ [])) }
+{
+    write!(text, " {} {key} ", port.0)?;
+    put_bytes(text, bytes)
+}
+
 /// A handle, what there is room for, and the word of a read that discards.
 fn put_read(
     text: &mut String,
@@ -169,7 +198,13 @@ fn put_read(
     ensures { OnOk result (string_bytes text.new ≡ string_bytes text.old
         ++ spaced (decimal handle ∷ decimal bytes ∷ decimal handles ∷ discard_words discard)) }
 {
-    write!(text, " {} {bytes} {handles}", handle.0)?;
+    put_three(
+        text,
+        "",
+        u64::from(handle.0),
+        u64::from(bytes),
+        u64::from(handles),
+    )?;
     if discard {
         text.push_str(" discard")
     } else {

@@ -4,6 +4,7 @@ ghost use Rattle.std.specs.List.{flat_map};
 ghost use Rattle.zt_text.specs.ShownNumbers.{shown_mask, shown_bytes, shown_list, shown_held};
 ghost use Rattle.zt_text.specs.Answers.{shown_packet, shown_reply, shown_key, shown_life, shown_object, shown_wait, shown_queued, shown_row, row_line, shown_column, shown_refusal};
 
+use crate::printed_words::{put_one, put_two};
 use std::alloc::{AllocError, Global};
 use std::fmt;
 use std::fmt::{Display, Formatter, Write};
@@ -71,16 +72,25 @@ pub fn put_reply(text: &mut String, reply: &Reply) -> Result<(), AllocError>
 {
     match reply {
         Reply::Status(status) => text.push_str(status.word()),
-        Reply::Handle(handle) => write!(text, "ok {}", handle.0),
-        Reply::Handles(first, second) => write!(text, "ok {} {}", first.0, second.0),
-        Reply::Spawned(handle, koid) => write!(text, "ok {} {}", handle.0, koid.0),
+        Reply::Handle(handle) => put_one(text, "ok", u64::from(handle.0)),
+        Reply::Handles(first, second) => {
+            put_two(text, "ok", u64::from(first.0), u64::from(second.0))
+        }
+        Reply::Spawned(handle, koid) => put_two(text, "ok", u64::from(handle.0), koid.0),
         Reply::Message(bytes, handles) => {
             text.push_str("ok ")?;
             put_bytes(text, bytes.as_slice())?;
             text.push_str(" ")?;
             put_handles(text, handles.as_slice())
         }
-        Reply::TooSmall(bytes, handles) => write!(text, "buffer_too_small {bytes} {handles}"),
+        Reply::TooSmall(bytes, handles) => {
+            put_two(
+                text,
+                "buffer_too_small",
+                u64::from(*bytes),
+                u64::from(*handles),
+            )
+        }
         Reply::Packet(packet) => {
             text.push_str("ok ")?;
             put_packet(text, packet)
@@ -188,11 +198,11 @@ fn put_key(text: &mut String, key: RowKey) -> Result<(), AllocError>
 {
     match key {
         RowKey::Counters => text.push_str("counters"),
-        RowKey::Object(koid) => write!(text, "object {}", koid.0),
-        RowKey::Entry(process, handle) => write!(text, "entry {} {}", process.0, handle.0),
-        RowKey::Msg(endpoint, number) => write!(text, "msg {} {number}", endpoint.0),
-        RowKey::Packet(port, number) => write!(text, "packet {} {number}", port.0),
-        RowKey::Wait(number) => write!(text, "wait {number}"),
+        RowKey::Object(koid) => put_one(text, "object", koid.0),
+        RowKey::Entry(process, handle) => put_two(text, "entry", process.0, u64::from(handle.0)),
+        RowKey::Msg(endpoint, number) => put_two(text, "msg", endpoint.0, number),
+        RowKey::Packet(port, number) => put_two(text, "packet", port.0, number),
+        RowKey::Wait(number) => put_one(text, "wait", number),
     }
 }
 
@@ -253,7 +263,7 @@ fn put_queued(text: &mut String, packet: &Packet) -> Result<(), AllocError>
             observed: _,
             process,
             handle,
-        } => write!(text, " {} {}", process.0, handle.0),
+        } => put_two(text, "", process.0, u64::from(handle.0)),
     }
 }
 
