@@ -1,6 +1,7 @@
 mod accounts;
 mod books;
 mod cascades;
+mod checks;
 mod copies;
 mod loaded_texts;
 mod queues;

@@ -3,6 +3,7 @@ ghost use Rattle.std.specs.Prelude.{◌≡◌, ◌<◌, length};
 ghost use Rattle.zt_shared.specs.Accounts.{most};
 ghost use Rattle.zt_shared.specs.OpenedBook.{IsNamed};
 
+use super::checks::check;
 use std::alloc::{AllocError, Global};
 use std::marker::Brand;
 use zt_shared::account::{Blank, LockSide, Naming, PassSide};
@@ -38,5 +39,5 @@ fn is_added_to_new(alloc: Global) -> bool {
 
 #[test]
 fn a_row_is_added_to_an_account(rt: HostRuntime) {
-    assert!(rt; is_added_to_new(rt.alloc()));
+    check(&rt, is_added_to_new(rt.alloc()));
 }

@@ -1,6 +1,7 @@
 //! A client's commands where memory is ample, and with each request for memory refused in turn.
 ghost use Rattle.std.specs.Prelude.{◌≡◌, ◌≤◌, length};
 
+use super::checks::check;
 use std::alloc::{AllocError, Global};
 use std::process::Abort;
 use std::test::Fail;
@@ -43,7 +44,7 @@ fn made_first(alloc: Global) -> Option<HandleValue> {
 
 #[test]
 fn always_out_of_memory(rt: HostRuntime) {
-    assert_eq!(rt; made_first(rt.alloc()), Some(NEAR));
+    check(&rt, made_first(rt.alloc()) == Some(NEAR));
 }
 
 /// All rows at the position of the client.
@@ -105,9 +106,9 @@ fn ask_over(rt: &impl Abort, book: &mut Book, command: &Command, before: &Items<
 {
     let had = sizes(book);
     if !is_served(book, command) {
-        assert!(rt; sizes(book) == had);
-        assert!(rt; has_rows(book, before));
-        assert!(rt; is_served(book, command), "asked again");
+        check(rt, sizes(book) == had);
+        check(rt, has_rows(book, before));
+        check(rt, is_served(book, command));
     }
 }
 
@@ -205,6 +206,6 @@ fn are_loaded(alloc: Global) -> bool {
 #[test]
 fn refused_memory_loads_nothing(rt: HostRuntime) {
     if !are_loaded(rt.alloc()) {
-        assert!(rt; are_loaded(rt.alloc()), "loaded again");
+        check(&rt, are_loaded(rt.alloc()));
     }
 }

@@ -3,6 +3,7 @@
 ghost use Rattle.std.specs.Prelude.{◌≡◌, ◌≤◌, IfOk, length};
 
 use super::books::{has_rows, is_served, rows_of};
+use super::checks::check;
 use super::runs::talk;
 use std::alloc::Global;
 use std::io;
@@ -47,8 +48,8 @@ fn check_served(rt: &impl Abort, book: &mut Book, command: &Command, before: &It
     ensures { length book.new.session.clients ≡ length book.old.session.clients }
 {
     if !is_served(book, command) {
-        assert!(rt; has_rows(book, before), "refused");
-        assert!(rt; is_served(book, command), "asked again");
+        check(rt, has_rows(book, before));
+        check(rt, is_served(book, command));
     }
 }
 
@@ -58,9 +59,9 @@ fn check_gone_back(rt: &impl Abort, book: &mut Book, before: &Items<(RowKey, Row
 {
     let back = Command::Back(1);
     let moved = is_served(book, &back) || is_served(book, &back);
-    assert!(rt; moved, "gone back");
+    check(rt, moved);
     let same = has_rows(book, before) || has_rows(book, before);
-    assert!(rt; same, "taken back");
+    check(rt, same);
 }
 
 /// Three channels, of which the far end of each lies in the queue of the next one's. No clause tells the lines, so that

@@ -1,8 +1,13 @@
 //! Copies made where memory is ample.
+use super::checks::check;
 use std::alloc::{AllocError, Global};
-use std::test::Fail;
 use zt_bits::Signals;
 use zt_rows::{Call, Event, HandleValue, Items, Koid, Message, Moment, Parcel, Reply, Row, Wait};
+
+/// The bytes of what is copied. No clause tells them, so that who asks for them is proved without going over them.
+fn hi() -> &'static [u8] {
+    b"hi"
+}
 
 const HANDLES: [HandleValue; 1] = [HandleValue(7)];
 
@@ -13,10 +18,7 @@ fn is_list_copied(list: &Items<u8>) -> Result<bool, AllocError> {
 
 fn is_parcel_copied(parcel: &Parcel) -> Result<bool, AllocError> {
     let copied = parcel.copy()?;
-    Ok(
-        copied.bytes().as_slice() == b"hi".as_slice()
-            && copied.handles().as_slice() == HANDLES.as_slice(),
-    )
+    Ok(copied.bytes().as_slice() == hi() && copied.handles().as_slice() == HANDLES.as_slice())
 }
 
 fn is_message_copied(message: &Message) -> Result<bool, AllocError> {
@@ -38,33 +40,44 @@ fn bytes_of(reply: &Reply) -> &[u8] {
 
 fn is_reply_copied(reply: &Reply) -> Result<bool, AllocError> {
     let copied = reply.copy()?;
-    Ok(bytes_of(&copied) == b"hi".as_slice())
+    Ok(bytes_of(&copied) == hi())
 }
 
 fn bytes(alloc: Global) -> Result<Items<u8>, AllocError> {
-    Ok(Items::new(b"hi".to_vec(alloc)?))
+    Ok(Items::new(hi().to_vec(alloc)?))
+}
+
+/// A parcel that is copied.
+fn parcel(alloc: Global) -> Result<Parcel, AllocError> {
+    let parcel = Parcel::new(hi().to_vec(alloc)?, HANDLES.to_vec(alloc)?);
+    parcel.ok_or(AllocError)
 }
 
 #[test]
-fn parcels_are_copied(rt: HostRuntime) -> Result<(), Fail> {
-    let alloc = rt.alloc();
-    let parcel = Parcel::new(b"hi".to_vec(alloc)?, HANDLES.to_vec(alloc)?);
-    let parcel = parcel.ok_or("a parcel")?;
-    assert!(rt; is_parcel_copied(&parcel)?);
-    Ok(())
+fn parcels_are_copied(rt: HostRuntime) {
+    let copied = match parcel(rt.alloc()) {
+        Ok(parcel) => is_parcel_copied(&parcel),
+        Err(error) => Err(error),
+    };
+    check(&rt, copied == Ok(true));
 }
 
-#[test]
-fn messages_are_copied(rt: HostRuntime) -> Result<(), Fail> {
-    let alloc = rt.alloc();
+fn message(alloc: Global) -> Result<Message, AllocError> {
     let message = Message::new(bytes(alloc)?, Items::new(Vec::new(alloc)));
-    let message = message.ok_or("a message")?;
-    assert!(rt; is_message_copied(&message)?);
-    Ok(())
+    message.ok_or(AllocError)
 }
 
 #[test]
-fn rows_are_copied(rt: HostRuntime) -> Result<(), Fail> {
+fn messages_are_copied(rt: HostRuntime) {
+    let copied = match message(rt.alloc()) {
+        Ok(message) => is_message_copied(&message),
+        Err(error) => Err(error),
+    };
+    check(&rt, copied == Ok(true));
+}
+
+#[test]
+fn rows_are_copied(rt: HostRuntime) {
     let wait = Wait {
         process: Koid(1025),
         handle: HandleValue(7),
@@ -72,18 +85,21 @@ fn rows_are_copied(rt: HostRuntime) -> Result<(), Fail> {
         key: 9,
         signals: Signals(8),
     };
-    assert!(rt; is_row_copied(&Row::Wait(wait))?);
-    Ok(())
+    check(&rt, is_row_copied(&Row::Wait(wait)) == Ok(true));
+}
+
+/// Whether the list is copied, and a reply that has it.
+fn are_both_copied(list: Items<u8>, handles: Items<HandleValue>) -> bool {
+    is_list_copied(&list) == Ok(true) && is_reply_copied(&Reply::Message(list, handles)) == Ok(true)
 }
 
 #[test]
-fn lists_and_replies_are_copied(rt: HostRuntime) -> Result<(), Fail> {
-    let alloc = rt.alloc();
-    let list = bytes(alloc)?;
-    assert!(rt; is_list_copied(&list)?);
-    let reply = Reply::Message(list, Items::new(Vec::new(alloc)));
-    assert!(rt; is_reply_copied(&reply)?);
-    Ok(())
+fn lists_and_replies_are_copied(rt: HostRuntime) {
+    let copied = match bytes(rt.alloc()) {
+        Ok(list) => are_both_copied(list, Items::new(Vec::new(rt.alloc()))),
+        Err(_) => false,
+    };
+    check(&rt, copied);
 }
 
 /// The handle that the call closes.
@@ -104,7 +120,7 @@ fn is_event_copied(event: &Event) -> Result<bool, AllocError> {
 }
 
 #[test]
-fn events_are_copied(rt: HostRuntime) -> Result<(), Fail> {
+fn events_are_copied(rt: HostRuntime) {
     let event = Event {
         moment: Moment(2),
         process: Koid(1025),
@@ -112,6 +128,5 @@ fn events_are_copied(rt: HostRuntime) -> Result<(), Fail> {
             handle: HandleValue(7),
         },
     };
-    assert!(rt; is_event_copied(&event)?);
-    Ok(())
+    check(&rt, is_event_copied(&event) == Ok(true));
 }

@@ -1,5 +1,6 @@
 //! Session texts of a million calls, and books of too many clients.
 
+use super::checks::check;
 use std::alloc::Global;
 use std::test::Fail;
 use zt_console::{Book, load_text, main_text};
@@ -35,7 +36,7 @@ fn a_million_calls_are_loaded_and_saved(rt: HostRuntime) -> Result<(), Fail> {
     match load_text(alloc, 1, text.as_slice()) {
         Ok(book) => {
             let saved = main_text(alloc, &book)?;
-            assert!(rt; saved.as_slice() == text.as_slice());
+            check(&rt, saved.as_slice() == text.as_slice());
             Ok(())
         }
         Err((_, refusal)) => Err(refusal.into()),
@@ -63,10 +64,10 @@ fn loads_for(alloc: Global, clients: u8, text: &[u8]) -> Result<bool, Fail> {
 #[test]
 fn more_than_four_clients_are_too_many(rt: HostRuntime) -> Result<(), Fail> {
     let alloc = rt.alloc();
-    assert!(rt; !has_place_for(alloc, 5)?);
-    assert!(rt; !loads_for(alloc, 5, heading())?);
-    assert!(rt; has_place_for(alloc, 4)?);
-    assert!(rt; loads_for(alloc, 4, heading())?);
+    check(&rt, !has_place_for(alloc, 5)?);
+    check(&rt, !loads_for(alloc, 5, heading())?);
+    check(&rt, has_place_for(alloc, 4)?);
+    check(&rt, loads_for(alloc, 4, heading())?);
     Ok(())
 }
 
@@ -88,7 +89,7 @@ fn are_two_loaded(alloc: Global) -> Result<bool, Fail> {
 fn refused_memory_loads_no_text(rt: HostRuntime) -> Result<(), Fail> {
     let alloc = rt.alloc();
     if !are_two_loaded(alloc)? {
-        assert!(rt; are_two_loaded(alloc)?, "loaded again");
+        check(&rt, are_two_loaded(alloc)?);
     }
     Ok(())
 }

@@ -1,6 +1,7 @@
 //! Runs in which one read or one write fails.
 ghost use Rattle.std.specs.Prelude.{◌≡◌, ◌≤◌, IfOk, length};
 
+use super::checks::check;
 use std::alloc::Global;
 use std::io;
 use std::io::{ErrorKind, Read, Write};
@@ -147,9 +148,9 @@ fn check_failed_read(
     good: usize,
 ) -> Result<(), Fail> {
     let (first, second, told) = read_again(rt.alloc(), talked.asked, good)?;
-    assert!(rt; first == End::Stopped(Refusal::ReadFault));
-    assert!(rt; second == End::Finished);
-    assert!(rt; told.as_slice() == talked.answers);
+    check(rt, first == End::Stopped(Refusal::ReadFault));
+    check(rt, second == End::Finished);
+    check(rt, told.as_slice() == talked.answers);
     Ok(())
 }
 
@@ -213,15 +214,15 @@ fn check_failed_write(
     let served = feeds(wanted) + 1;
     let left = behind(talked.asked, served);
     let (first, written, second, told) = write_again(rt.alloc(), talked.asked, good, left)?;
-    assert!(rt; first == End::Stopped(Refusal::WriteFault));
-    assert!(rt; written.as_slice() == wanted);
-    assert!(rt; second == End::Finished);
+    check(rt, first == End::Stopped(Refusal::WriteFault));
+    check(rt, written.as_slice() == wanted);
+    check(rt, second == End::Finished);
     let rest = if left.is_empty() {
         &[]
     } else {
         behind(answers, served)
     };
-    assert!(rt; told.as_slice() == rest);
+    check(rt, told.as_slice() == rest);
     Ok(())
 }
 
@@ -242,5 +243,5 @@ fn each_write_fails_once(rt: HostRuntime) -> Result<(), Fail> {
 #[test]
 fn a_failed_flush_is_told(rt: HostRuntime) {
     let mut writer = Counted::new(Stuck);
-    assert!(rt; writer.flush().is_err());
+    check(&rt, writer.flush().is_err());
 }

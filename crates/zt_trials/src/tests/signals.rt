@@ -1,4 +1,5 @@
 //! Signals of a channel, with each request for memory refused in turn, and waits for a port that are dropped.
+use super::checks::check;
 use std::alloc::{AllocError, Global};
 use std::process::Abort;
 use std::test::Fail;
@@ -42,10 +43,10 @@ fn set(step: &mut Step) -> Result<(), AllocError> {
 
 fn check_set(rt: &impl Abort, step: &mut Step) {
     if set(step).is_err() {
-        assert!(rt; has_channel(step, 0x1000000));
-        assert!(rt; set(step).is_ok(), "set later");
+        check(rt, has_channel(step, 0x1000000));
+        check(rt, set(step).is_ok());
     }
-    assert!(rt; has_channel(step, 0x3000000));
+    check(rt, has_channel(step, 0x3000000));
 }
 
 #[test]
@@ -62,11 +63,11 @@ fn check_refresh(rt: &impl Abort, step: &mut Step) {
     }
     let mut signals = 0x3000004;
     if refresh(step, MADE).is_err() {
-        assert!(rt; has_channel(step, 0x1000000));
-        assert!(rt; refresh(step, MADE).is_ok(), "refreshed later");
+        check(rt, has_channel(step, 0x1000000));
+        check(rt, refresh(step, MADE).is_ok());
         signals = 0x1000004;
     }
-    assert!(rt; has_channel(step, signals));
+    check(rt, has_channel(step, signals));
 }
 
 #[test]
@@ -107,6 +108,6 @@ fn are_dropped(step: &mut Step) -> bool {
 #[test]
 fn waits_of_a_port_are_dropped(rt: HostRuntime) -> Result<(), Fail> {
     let mut step = over_waits(rt.alloc())?;
-    assert!(rt; are_dropped(&mut step));
+    check(&rt, are_dropped(&mut step));
     Ok(())
 }

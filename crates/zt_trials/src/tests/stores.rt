@@ -3,6 +3,7 @@
 ghost use Rattle.std.specs.Prelude.{◌≡◌, true, IfOk};
 ghost use Rattle.zt_store.specs.Places.{fits};
 
+use super::checks::check;
 use std::alloc::{AllocError, Global};
 use std::process::Abort;
 use std::test::Fail;
@@ -185,18 +186,18 @@ pub(super) fn is_same(first: &Store, second: &Store) -> bool {
 /// Gives up a step to which memory was refused: its store has the rows and numbers of before. The puts then succeed.
 fn put_again(rt: &impl Abort, alloc: Global, step: Step, before: &Store) -> Step {
     let store = step.abandon();
-    assert!(rt; is_same(&store, before), "refused");
+    check(rt, is_same(&store, before));
     let mut step = Step::begin(store);
-    assert!(rt; put_over_all_variants(alloc, &mut step).is_ok(), "again");
+    check(rt, put_over_all_variants(alloc, &mut step).is_ok());
     step
 }
 
 /// The numbers of a step over whose rows of all variants others were put, and what comes of it given up.
 fn check_put(rt: &impl Abort, step: Step, before: &Store) {
-    assert_eq!(rt; step.count(EVENT), 0);
-    assert_eq!(rt; step.count(PORT), 3);
-    assert_eq!(rt; step.first_message(NEAR_END), Some(1));
-    assert!(rt; is_same(&step.abandon(), before), "abandoned");
+    check(rt, step.count(EVENT) == 0);
+    check(rt, step.count(PORT) == 3);
+    check(rt, step.first_message(NEAR_END) == Some(1));
+    check(rt, is_same(&step.abandon(), before));
 }
 
 /// Puts over rows of all variants, in a store that has the rows of before. It is `Ok` only where no memory was refused.
@@ -268,14 +269,14 @@ fn a_step_is_taken_back(rt: &impl Abort, alloc: Global) -> Result<(), AllocError
 fn exchange_twice(rt: &impl Abort, before: &Store, store: &mut Store, kept: &mut Record)
     requires { fits store.old.places kept.old ≡ true }
 {
-    assert_eq!(rt; kept.keys().len(), 11);
-    assert_eq!(rt; store.count(PORT), 3);
+    check(rt, kept.keys().len() == 11);
+    check(rt, store.count(PORT) == 3);
     swap(store, kept);
-    assert!(rt; is_same(store, before), "taken back");
+    check(rt, is_same(store, before));
     swap(store, kept);
-    assert_eq!(rt; store.first_packet(PORT), Some(70));
+    check(rt, store.first_packet(PORT) == Some(70));
     swap(store, kept);
-    assert!(rt; is_same(store, before), "taken back again");
+    check(rt, is_same(store, before));
 }
 
 #[test]
@@ -299,8 +300,8 @@ fn opened_twice(alloc: Global) -> Result<(Store, Store), AllocError> {
 fn check_place_beyond_all_memory(rt: &impl Abort, store: Store, before: &Store) {
     let mut step = Step::begin(store);
     let put = put_object(&mut step, Koid(u64::MAX), Kind::Event, 0, 0);
-    assert!(rt; put.is_err());
-    assert!(rt; is_same(&step.abandon(), before));
+    check(rt, put.is_err());
+    check(rt, is_same(&step.abandon(), before));
 }
 
 #[test]

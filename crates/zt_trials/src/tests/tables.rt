@@ -4,6 +4,7 @@ ghost use Rattle.std.specs.Option.{option_copied};
 ghost use Rattle.zt_rows.specs.Reads.{as_object};
 ghost use Rattle.zt_rows.specs.Tests.{next_at, object_next};
 
+use super::checks::check;
 use std::alloc::{AllocError, Global};
 use std::process::Abort;
 use zt_bits::Rights;
@@ -75,27 +76,27 @@ fn second_of(step: Step) -> Option<Held> {
 fn check_install(rt: &impl Abort, step: &mut Step) {
     let mut made = installed(rt, step);
     if made.is_err() {
-        assert!(rt; is_as_begun(step));
+        check(rt, is_as_begun(step));
         made = installed(rt, step);
     }
-    assert!(rt; made == Ok(SECOND));
+    check(rt, made == Ok(SECOND));
 }
 
 #[test]
 fn refused_memory_installs_nothing(rt: HostRuntime) {
     if let Ok(mut step) = opened(rt.alloc()) {
         check_install(&rt, &mut step);
-        assert!(rt; second_of(step) == Some(TO_EVENT));
+        check(&rt, second_of(step) == Some(TO_EVENT));
     }
 }
 
 fn check_duplicate(rt: &impl Abort, step: &mut Step) {
     let mut made = duplicated(rt, step);
     if made.is_err() {
-        assert!(rt; is_as_begun(step));
+        check(rt, is_as_begun(step));
         made = duplicated(rt, step);
     }
-    assert!(rt; made == Ok(SECOND));
+    check(rt, made == Ok(SECOND));
 }
 
 #[test]
@@ -103,18 +104,18 @@ fn refused_memory_duplicates_nothing(rt: HostRuntime) {
     if let Ok(mut step) = opened(rt.alloc()) {
         check_duplicate(&rt, &mut step);
         let held = second_of(step);
-        assert!(rt; held == Some(DUPLICATE));
+        check(&rt, held == Some(DUPLICATE));
     }
 }
 
 fn check_remove(rt: &impl Abort, step: &mut Step) {
     let mut taken = remove(step, ROOT, FIRST);
     if taken.is_err() {
-        assert!(rt; is_as_begun(step));
+        check(rt, is_as_begun(step));
         taken = remove(step, ROOT, FIRST);
     }
-    assert!(rt; matches!(&taken, Ok(Some(_))));
-    assert!(rt; step.row(RowKey::Entry(ROOT, FIRST)).is_none());
+    check(rt, matches!(&taken, Ok(Some(_))));
+    check(rt, step.row(RowKey::Entry(ROOT, FIRST)).is_none());
 }
 
 #[test]

@@ -1,4 +1,5 @@
 //! Calls, replies and rows printed where memory is ample.
+use super::checks::check;
 use std::alloc::{AllocError, Global};
 use std::test::Fail;
 use zt_bits::{Kind, Rights, Signals};
@@ -25,7 +26,7 @@ fn is_call_printed(alloc: Global) -> Result<bool, AllocError> {
 
 #[test]
 fn a_call_is_printed(rt: HostRuntime) -> Result<(), Fail> {
-    assert!(rt; is_call_printed(rt.alloc())?);
+    check(&rt, is_call_printed(rt.alloc())?);
     Ok(())
 }
 
@@ -48,7 +49,7 @@ fn is_reply_printed(alloc: Global) -> Result<bool, AllocError> {
 
 #[test]
 fn a_reply_is_printed(rt: HostRuntime) -> Result<(), Fail> {
-    assert!(rt; is_reply_printed(rt.alloc())?);
+    check(&rt, is_reply_printed(rt.alloc())?);
     Ok(())
 }
 
@@ -86,5 +87,8 @@ fn rows_are_printed(rt: HostRuntime) {
         (RowKey::Object(ROOT), Row::Object(EXITED)),
         (RowKey::Entry(ROOT, HandleValue(3)), Row::Entry(TO_ROOT_JOB)),
     ];
-    assert!(rt; are_rows_printed(rt.alloc(), rows.as_slice()) == Ok(true));
+    check(
+        &rt,
+        are_rows_printed(rt.alloc(), rows.as_slice()) == Ok(true),
+    );
 }
