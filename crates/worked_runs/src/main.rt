@@ -13,7 +13,7 @@ mod served;
 
 use differences::{Difference, first_difference};
 use served::serve_lines;
-use std::alloc::Global;
+use std::alloc::{AllocError, Global};
 use std::fmt::{Display, Formatter, Write};
 use std::rt::Files;
 use std::sync::Wait;
@@ -23,8 +23,14 @@ use zt_rows::Refusal;
 use zt_text::RefusalLine;
 
 fn main(rt: HostRuntime) -> io::Result<()> {
-    for name in cases(&rt)? {
-        report(&rt, name.as_str())?;
+    let names = cases(&rt)?;
+    report_all(&rt, names.as_slice())
+}
+
+/// Says of each of these cases whether it goes as told, or where it does not.
+fn report_all(rt: &(impl Files + AllocGlobal + Print + Wait), names: &[String]) -> io::Result<()> {
+    for name in names {
+        report(rt, name.as_str())?;
     }
     Ok(())
 }
@@ -32,30 +38,117 @@ fn main(rt: HostRuntime) -> io::Result<()> {
 /// The names of the cases of this folder, in order.
 fn cases<R: Files + AllocGlobal + Clone + Drop>(rt: &R) -> io::Result<Vec<String>> {
     let mut names = Vec::new(rt.alloc());
+    match add_names(rt, &mut names) {
+        Ok(()) => Ok(names),
+        Err(error) => Err(error),
+    }
+}
+
+/// Adds the names of the cases of this folder, and puts all in order.
+fn add_names<R: Files + AllocGlobal + Clone + Drop>(
+    rt: &R,
+    names: &mut Vec<String>,
+) -> io::Result<()> {
     for entry in fs::read_dir(rt, ".")? {
         let entry = entry?;
-        if let Some(name) = entry.file_name().strip_suffix(".in") {
-            names.push(String::from_str(rt.alloc(), name)?)?;
-        }
+        add_name(rt.alloc(), names, entry.file_name())?;
     }
     names.sort()?;
-    Ok(names)
+    Ok(())
+}
+
+/// Adds the name of the case whose lines the file has, if it has such.
+fn add_name(alloc: Global, names: &mut Vec<String>, file: &str) -> Result<(), AllocError> {
+    if let Some(name) = file.strip_suffix(".in") {
+        names.push(String::from_str(alloc, name)?)?;
+    }
+    Ok(())
+}
+
+/// The texts of a case: the lines, what they are told, and, if there are such, the session text that it begins with and the
+/// one that is saved.
+struct Case {
+    asked: Vec<u8>,
+    told: Vec<u8>,
+    from: Option<Vec<u8>>,
+    saved: Option<Vec<u8>>,
+}
+
+/// Lets all texts go in one call, so that who has them is proved without going through them at each way out.
+impl Drop for Case {
+    fn drop(self) {
+        let Case {
+            asked: _asked,
+            told: _told,
+            from: _from,
+            saved: _saved,
+        } = self;
+    }
+}
+
+/// What the file of this name and ending has.
+fn read(rt: &(impl Files + AllocGlobal), name: &str, ending: &str) -> io::Result<Vec<u8>> {
+    fs::read(rt, format!(in rt.alloc(); "{name}.{ending}")?)
+}
+
+/// As `read`, where there may be no such file.
+fn read_some(
+    rt: &(impl Files + AllocGlobal),
+    name: &str,
+    ending: &str,
+) -> io::Result<Option<Vec<u8>>> {
+    let path = format!(in rt.alloc(); "{name}.{ending}")?;
+    Ok(fs::read(rt, path).ok())
+}
+
+/// The texts of the case of this name.
+fn read_case(rt: &(impl Files + AllocGlobal), name: &str) -> io::Result<Case> {
+    let mut case = Case {
+        asked: read(rt, name, "in")?,
+        told: Vec::new(rt.alloc()),
+        from: None,
+        saved: None,
+    };
+    match read_others(rt, name, &mut case) {
+        Ok(()) => Ok(case),
+        Err(error) => Err(error),
+    }
+}
+
+/// Reads the texts of the case beside its lines.
+fn read_others(rt: &(impl Files + AllocGlobal), name: &str, case: &mut Case) -> io::Result<()> {
+    case.told = read(rt, name, "out")?;
+    case.from = read_some(rt, name, "from")?;
+    case.saved = read_some(rt, name, "save")?;
+    Ok(())
 }
 
 /// Says whether the case goes as told, or where it does not.
 fn report(rt: &(impl Files + AllocGlobal + Print + Wait), name: &str) -> io::Result<()> {
-    let alloc = rt.alloc();
-    let asked = fs::read(rt, format!(in alloc; "{name}.in")?)?;
-    let told = fs::read(rt, format!(in alloc; "{name}.out")?)?;
-    let from = fs::read(rt, format!(in alloc; "{name}.from")?).ok();
-    let saved = fs::read(rt, format!(in alloc; "{name}.save")?).ok();
-    match outcome(rt, &from, asked.as_slice()) {
-        Ok(came) => println!(rt; "{name} {}", how_it_went(told.as_slice(), &saved, &came)),
-        Err(refusal) => {
-            let cause = refusal.name();
-            println!(rt; "{name} stopped: {cause}")
-        }
+    match read_case(rt, name) {
+        Ok(case) => report_case(rt, name, &case),
+        Err(error) => Err(error),
     }
+}
+
+/// As `report`, of a case with these texts.
+fn report_case(rt: &(impl AllocGlobal + Print + Wait), name: &str, case: &Case) -> io::Result<()> {
+    match outcome(rt, &case.from, case.asked.as_slice()) {
+        Ok(came) => say(
+            rt,
+            name,
+            &how_it_went(case.told.as_slice(), &case.saved, &came),
+        ),
+        Err(refusal) => say_stopped(rt, name, refusal.name()),
+    }
+}
+
+fn say(rt: &impl Print, name: &str, verdict: &Verdict<'_>) -> io::Result<()> {
+    println!(rt; "{name} {verdict}")
+}
+
+fn say_stopped(rt: &impl Print, name: &str, cause: &str) -> io::Result<()> {
+    println!(rt; "{name} stopped: {cause}")
 }
 
 /// What a run wrote, the session text of `main` behind it, and what a session wrote.
@@ -73,20 +166,39 @@ fn outcome(
     from: &Option<Vec<u8>>,
     asked: &[u8],
 ) -> Result<Came, Refusal> {
-    let alloc = rt.alloc();
-    let (answers, saved) = match begin(alloc, from) {
-        Ok(book) => run_lines(alloc, book, asked)?,
-        Err((line, refusal)) => (fault(alloc, line, refusal)?, Vec::new(alloc)),
-    };
-    let session = match begin(alloc, from) {
-        Ok(book) => serve_lines(rt, book, asked)?,
-        Err((line, refusal)) => fault(alloc, line, refusal)?,
-    };
-    Ok(Came {
-        answers,
-        saved,
-        session,
-    })
+    let (answers, saved) = run_from(rt.alloc(), from, asked)?;
+    match session_from(rt, from, asked) {
+        Ok(session) => Ok(Came {
+            answers,
+            saved,
+            session,
+        }),
+        Err(refusal) => Err(refusal),
+    }
+}
+
+/// What a run over these lines writes, or the fault of the session text, and what would be saved.
+fn run_from(
+    alloc: Global,
+    from: &Option<Vec<u8>>,
+    asked: &[u8],
+) -> Result<(Vec<u8>, Vec<u8>), Refusal> {
+    match begin(alloc, from) {
+        Ok(book) => run_lines(alloc, book, asked),
+        Err((line, refusal)) => Ok((fault(alloc, line, refusal)?, Vec::new(alloc))),
+    }
+}
+
+/// What a session over these lines writes, or the fault of the session text.
+fn session_from(
+    rt: &(impl AllocGlobal + Wait),
+    from: &Option<Vec<u8>>,
+    asked: &[u8],
+) -> Result<Vec<u8>, Refusal> {
+    match begin(rt.alloc(), from) {
+        Ok(book) => serve_lines(rt, book, asked),
+        Err((line, refusal)) => fault(rt.alloc(), line, refusal),
+    }
 }
 
 /// The book of one client in which a case begins; or why there is none, with the number of the session text's line at
@@ -122,8 +234,16 @@ fn run_lines(alloc: Global, book: Book, asked: &[u8]) -> Result<(Vec<u8>, Vec<u8
     let mut writer = Counted::new(Vec::new(alloc));
     let (book, end) = run(alloc, book, &mut reader, &mut writer);
     match end {
-        End::Finished => Ok((writer.into_inner(), main_text(alloc, &book)?)),
+        End::Finished => with_saved(alloc, &book, writer.into_inner()),
         End::Stopped(refusal) => Err(refusal),
+    }
+}
+
+/// These answers, and what is saved of the book.
+fn with_saved(alloc: Global, book: &Book, answers: Vec<u8>) -> Result<(Vec<u8>, Vec<u8>), Refusal> {
+    match main_text(alloc, book) {
+        Ok(saved) => Ok((answers, saved)),
+        Err(refusal) => Err(refusal),
     }
 }
 

@@ -9,7 +9,7 @@ use std::sync::Wait;
 use zt_console::{Book, Counted, End, session};
 use zt_rows::Refusal;
 use zt_shared::account::Naming;
-use zt_shared::{Beginning, Blanks, Gate, open_book};
+use zt_shared::{Beginning, Blanks, Gate, Pass, Shared, open_book};
 
 /// Nothing is called around commands.
 struct NoGate;
@@ -47,24 +47,26 @@ fn serve_named<A: Naming + Beginning, B: Naming, C: Naming, D: Naming, R: Wait +
     requires one { blanks.clients ≡ 1 }
     requires fresh { IsFresh 1 book }
 {
-    let (shared, mut passes) = match open_book::<A, B, C, D>(rt.alloc(), blanks, book) {
-        Ok(opened) => opened,
-        Err((_, refusal)) => return Err(refusal),
-    };
-    let Some(pass) = passes.pop() else {
-        unreachable!()
-    };
+    match open_book::<A, B, C, D>(rt.alloc(), blanks, book) {
+        Ok((shared, mut passes)) => match passes.pop() {
+            Some(pass) => serve_pass(rt, &shared, pass, asked),
+            None => unreachable!(),
+        },
+        Err((_, refusal)) => Err(refusal),
+    }
+}
+
+/// What a session over these lines writes to the client of the pass.
+fn serve_pass<A: Naming + Beginning, B: Naming, C: Naming, D: Naming, R: Wait + AllocGlobal>(
+    rt: &R,
+    shared: &Shared<A, B, C, D>,
+    pass: Pass<A, B, C, D>,
+    asked: &[u8],
+) -> Result<Vec<u8>, Refusal> {
+    let alloc = rt.alloc();
     let mut reader = Counted::new(asked);
-    let mut writer = Counted::new(Vec::new(rt.alloc()));
-    let (_, end) = session(
-        rt,
-        rt.alloc(),
-        &mut reader,
-        &mut writer,
-        &shared,
-        pass,
-        &NoGate,
-    );
+    let mut writer = Counted::new(Vec::new(alloc));
+    let (_, end) = session(rt, alloc, &mut reader, &mut writer, shared, pass, &NoGate);
     match end {
         End::Finished => Ok(writer.into_inner()),
         End::Stopped(refusal) => Err(refusal),
