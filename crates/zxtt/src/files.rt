@@ -23,7 +23,6 @@ pub fn open(rt: &HostRuntime, path: &str) -> Result<File, Fault>
 }
 
 /// The book of so many clients over the calls of a session text that is read from a file.
-#[tactic(auto, using(crate::proofs::Loading::loaded_clients, crate::proofs::Loading::loaded_is_fresh))]
 pub fn load(rt: &HostRuntime, clients: u8, path: &str) -> Result<Book, Fault>
     ensures loaded { IfOk result (λ book. (text : List ℕ) × IsLoadedFrom clients text book) }
     ensures refused { IfErr result (TellsOfSomeText clients) }

@@ -74,7 +74,6 @@ fn run_asked(
 }
 
 /// A book of so many clients at the opening, or over a trace if one is named.
-#[tactic(auto, using(crate::proofs::Loading::first_is_fresh, crate::proofs::Loading::first_clients))]
 fn begin(rt: &HostRuntime, clients: u8, from: Option<&str>) -> Result<Book, Fault>
     ensures begins { IfOk result (BeginsFrom clients from.entry) }
     ensures clients { IfOk result (λ book. length book.session.clients ≡ clients) }

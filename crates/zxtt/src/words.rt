@@ -1,7 +1,7 @@
 //! The words of the command line.
 
 ghost use Rattle.std.specs.Prelude.{◌≡◌, IfOk, codes, false, map, string_bytes};
-ghost use Rattle.clap.specs.Words.{app_of, found_of, rows_of, rule_of, subcommand_of, subcommand_rows_of};
+ghost use Rattle.clap.specs.Words.{app_of, found_of, new_app, rows_of, rule_of, subcommand_of, subcommand_rows_of};
 ghost use Rattle.clap.specs.declared.builder.command.Command.TheViews.{out-Command as fields_of};
 ghost use Rattle.zxtt.specs.Words.{IsAskedBy, IsAskedWith, IsRunOf, IsStandardInput, IsServeOf, clients_word, command_line, file_word, port_word, run_line, serve_line, valued};
 
@@ -21,6 +21,31 @@ semantics. Each line of its input is a call, which makes the next moment of the
 history, or a command, which looks at the history or moves in it; each is answered
 at once. So one can go back to the call that leaked a handle, closed a peer or
 killed a job."
+}
+
+/// What `run` does.
+fn run_about<'a>() -> &'a str {
+    "Answers the lines of a file; without any words the program does this"
+}
+
+/// What `serve` does.
+fn serve_about<'a>() -> &'a str {
+    "Answers the lines of clients that connect to a port, over one history"
+}
+
+/// What the word `from` does.
+fn from_help() -> &'static str {
+    "Begins with the calls of a session text, on the branch `main`"
+}
+
+/// What the word `save` does.
+fn save_help() -> &'static str {
+    "Writes the calls on `main` as a session text, once the input has ended"
+}
+
+/// What the word `clients` does.
+fn clients_help() -> &'static str {
+    "How many connections are accepted, 1 to 4; they are the clients 1 to N, in that order"
 }
 
 /// What is said behind the words.
@@ -172,7 +197,7 @@ fn from_word<'a>(alloc: Global) -> Arg<'a>
         .long("from")
         .value_name("TRACE")
         .action(ArgAction::Set)
-        .help("Begins with the calls of a session text, on the branch `main`")
+        .help(from_help())
 }
 
 /// The word of the session text that a run leaves.
@@ -184,7 +209,7 @@ fn save_word<'a>(alloc: Global) -> Arg<'a>
         .long("save")
         .value_name("OUT")
         .action(ArgAction::Set)
-        .help("Writes the calls on `main` as a session text, once the input has ended")
+        .help(save_help())
 }
 
 /// The word of the lines that are run.
@@ -221,9 +246,15 @@ fn clients_word<'a>(alloc: Global) -> Arg<'a>
         .action(ArgAction::Set)
         .value_parser(value_parser!(u8).range(1..=4))
         .default_value("1")
-        .help(
-            "How many connections are accepted, 1 to 4; they are the clients 1 to N, in that order",
-        )
+        .help(clients_help())
+}
+
+/// A word that tells what is done, with what is said of it and no words behind it.
+fn told_command<'a>(alloc: Global, name: &'a str, about: &'a str) -> Command<'a>
+    ensures line { app_of result ≡ new_app name.entry.now }
+    ensures globals { (fields_of result).has_globals ≡ false }
+{
+    Command::new(alloc, name).about(about).after_help(examples())
 }
 
 /// The words behind `run`.
@@ -232,9 +263,7 @@ fn run_command<'a>(alloc: Global) -> Result<Command<'a>, Error>
     ensures globals { IfOk result (λ command. (fields_of command).has_globals ≡ false) }
 {
     Ok(
-        Command::new(alloc, "run")
-            .about("Answers the lines of a file; without any words the program does this")
-            .after_help(examples())
+        told_command(alloc, "run", run_about())
             .arg(file_word(alloc))?
             .arg(from_word(alloc))?
             .arg(save_word(alloc))?,
@@ -247,9 +276,7 @@ fn serve_command<'a>(alloc: Global) -> Result<Command<'a>, Error>
     ensures globals { IfOk result (λ command. (fields_of command).has_globals ≡ false) }
 {
     Ok(
-        Command::new(alloc, "serve")
-            .about("Answers the lines of clients that connect to a port, over one history")
-            .after_help(examples())
+        told_command(alloc, "serve", serve_about())
             .arg(port_word(alloc))?
             .arg(clients_word(alloc))?
             .arg(from_word(alloc))?,
