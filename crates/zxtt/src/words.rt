@@ -254,7 +254,9 @@ fn told_command<'a>(alloc: Global, name: &'a str, about: &'a str) -> Command<'a>
     ensures line { app_of result ≡ new_app name.entry.now }
     ensures globals { (fields_of result).has_globals ≡ false }
 {
-    Command::new(alloc, name).about(about).after_help(examples())
+    Command::new(alloc, name)
+        .about(about)
+        .after_help(examples())
 }
 
 /// The words behind `run`.
