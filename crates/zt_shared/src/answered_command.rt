@@ -37,7 +37,10 @@ fn row(alloc: Global, asked: Command, said: &Answer) -> Result<(Box<Said>, Said)
     ensures shown { IfOk result (λ rows. rows.0.value ≡ (asked, said.now)) }
     ensures row { IfOk result (λ rows. rows.1 ≡ (asked, said.now)) }
 {
-    let shown = shown(alloc, &asked, said)?;
+    let Ok(shown) = shown(alloc, &asked, said) else {
+        drop(asked);
+        return Err(AllocError);
+    };
     let row = answered(asked, said)?;
     Ok((shown, row))
 }
@@ -64,7 +67,10 @@ fn answered(asked: Command, said: &Answer) -> Result<Said, AllocError>
 {
     match said.copy() {
         Ok(said) => Ok((asked, said)),
-        Err(error) => Err(error),
+        Err(error) => {
+            drop(asked);
+            Err(error)
+        }
     }
 }
 
@@ -90,6 +96,7 @@ pub(crate) fn turn<N: Naming>(
     ensures same { OnErr result ((standing_of book.new ≡ standing_of book.old) × (ours.new ≡ ours.old) × (mine.new ≡ mine.old)) }
 {
     let Ok(()) = ours.reserve(mine) else {
+        drop(asked);
         return Err(Refusal::OutOfMemory);
     };
     match book.serve(client, &asked) {
@@ -98,6 +105,7 @@ pub(crate) fn turn<N: Naming>(
             match enter(alloc, ours, mine, asked, &said) {
                 Ok(()) => Ok(said),
                 Err(_) => {
+                    drop(said);
                     book.take_back();
                     Err(Refusal::OutOfMemory)
                 }
@@ -136,6 +144,8 @@ pub(crate) fn pin_turn<N: Naming>(
             match enter(alloc, ours, mine, Command::Pin, &said) {
                 Ok(()) => Ok((said, frozen)),
                 Err(_) => {
+                    drop(said);
+                    drop(frozen);
                     book.take_back();
                     Err(Refusal::OutOfMemory)
                 }

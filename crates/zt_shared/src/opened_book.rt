@@ -92,6 +92,7 @@ pub fn open<A: Naming + Beginning, B: Naming, C: Naming, D: Naming>(
     ensures refused { IfErr result (λ why. why ≡ refusal.OutOfMemory) }
 {
     let Ok(book) = Book::new(alloc, blanks.clients) else {
+        drop(blanks);
         return Err(Refusal::OutOfMemory);
     };
     match open_book::<A, B, C, D>(alloc, blanks, book) {
@@ -118,7 +119,10 @@ pub fn open_book<A: Naming + Beginning, B: Naming, C: Naming, D: Naming>(
 {
     match set_out(alloc, &blanks, book.history()) {
         Ok((passes, told)) => Ok(hand_over(alloc, blanks, book, passes, told)),
-        Err(_) => Err((book, Refusal::OutOfMemory)),
+        Err(_) => {
+            drop(blanks);
+            Err((book, Refusal::OutOfMemory))
+        }
     }
 }
 
@@ -209,6 +213,8 @@ fn hand_out<A: Naming + Beginning, B: Naming, C: Naming, D: Naming>(
     if slot.number() <= clients {
         let told = told.again();
         passes.push_reserved(Pass { slot, told });
+    } else {
+        drop(slot);
     }
 }
 
