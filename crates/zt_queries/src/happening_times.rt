@@ -25,11 +25,22 @@ enum RowHappening {
 }
 
 /// The paths to the moment that is asked about and to the position, and how many moments they share.
-#[derive(Drop)]
 pub(crate) struct PathPair {
     pub(crate) way: Vec<Moment>,
     pub(crate) here: Vec<Moment>,
     pub(crate) shared: usize,
+}
+
+/// Lets both paths go in one call, so that a function that owns them is proved without going through them at each of its
+/// ways out.
+impl Drop for PathPair {
+    fn drop(self) {
+        let PathPair {
+            way: _way,
+            here: _here,
+            shared: _shared,
+        } = self;
+    }
 }
 
 /// The moment on the path to `at` at which the object was made; none where it was there at the opening. It reads the

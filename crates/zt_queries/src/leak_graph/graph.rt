@@ -83,7 +83,7 @@ fn draw(alloc: Global, graph: &mut Graph, store: &Store, key: RowKey) -> Result<
         Some(found) => graph_row_of(alloc, found)?,
         None => None,
     };
-    place(graph, key, drawn)?;
+    drop(place(graph, key, drawn)?);
     Ok(())
 }
 
@@ -121,7 +121,7 @@ fn put_copy(copied: &mut Graph, key: RowKey, graph_row: &GraphRow) -> Result<(),
         return Ok(());
     }
     let equal = copy_graph_row(graph_row)?;
-    place(copied, key, Some(equal))?;
+    drop(place(copied, key, Some(equal))?);
     Ok(())
 }
 

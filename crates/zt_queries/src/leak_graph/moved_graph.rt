@@ -119,6 +119,6 @@ fn redraw(alloc: Global, graph: &mut Graph, change: &Record, key: RowKey) -> Res
         Some(found) => graph_row_of(alloc, found)?,
         None => None,
     };
-    place(graph, key, drawn)?;
+    drop(place(graph, key, drawn)?);
     Ok(())
 }
