@@ -1,16 +1,29 @@
 -- What a book keeps while a command is answered and written, and while the last one is taken back.
 use Rattle.std.proofs.Common.{◌≡◌, ℕ, ◌≤◌, ◌<◌, List, [], ◌∷◌, ◌++◌, length, Option, Some, None, Ok, sym, ◌∙◌, ap, subst, arith, length-append}
+use Rattle.std.proofs.lemmas.List.{length-replicate}
 use Rattle.zt_history.specs.ProofsOnly.Branches.{without_last}
+use Rattle.zt_history.specs.Tree.{Tree}
 use Rattle.zt_book.specs.declared.book.LastServed.{LastServed}
 use Rattle.zt_book.specs.declared.client.Client.{Client}
 use Rattle.zt_book.specs.declared.log.Recorded.{Recorded}
-use Rattle.zt_book.specs.Session.{client_of, session_over, serve}
-use Rattle.zt_book.specs.Log.{SessionLog, IsCounted, IsLoaded, IsWholeLog, ReplaysOver}
+use Rattle.zt_book.specs.Session.{Session, first_client, client_of, session_over, serve}
+use Rattle.zt_book.specs.Log.{BookView, SessionLog, IsCounted, IsLoaded, IsWholeLog, ReplaysOver, book_over}
 use Rattle.zt_book.specs.ProofsOnly.Clients.{ClientsView, Stand, IsOneMore, session_before, before_of, CanTakeBack, IsBook}
 use Rattle.zt_book.proofs.ListLaws.{without_last-push}
 use Rattle.zt_book.proofs.ServedLaws.{one-more-length}
 use Rattle.zt_book.proofs.CountLaws.{counted-none, counted-row}
 use Rattle.zt_book.proofs.ReplayLaws.{replays-more}
+
+-- clients who all stand at the beginning are as many as they are
+module _ (M : Session) (t : Tree) (clients : ℕ) (over : M ≡ session_over t clients) where
+  begun : session_over M.tree (length M.clients) ≡ session_over t clients
+  begun = (λ i. session_over (over i).tree (length (over i).clients)) ∙ ap (session_over t) (length-replicate clients first_client)
+
+  pub begun-session : M ≡ session_over M.tree (length M.clients)
+  begun-session = over ∙ sym begun
+
+  pub begun-book : (book : BookView) → book ≡ book_over M.tree (length M.clients) → book ≡ book_over t clients
+  begun-book book is = is ∙ (λ i. let z : BookView = record { session = begun i; log = []; before = None } in z)
 
 -- a book to whose clients nothing was answered yet
 pub book-first : (d : ClientsView) (log : List Recorded) (last : Option LastServed) → length d.session.clients ≤ 4

@@ -78,10 +78,12 @@ impl Book {
         if clients > CLIENTS {
             return Err((0, Refusal::TooManyClients));
         }
-        let history = history_of(alloc, calls)?;
-        match Clients::new(alloc, history, clients) {
-            Ok(all_clients) => Ok(begin(alloc, all_clients)),
-            Err(_) => Err((0, Refusal::OutOfMemory)),
+        match history_of(alloc, calls) {
+            Ok(history) => match Clients::new(alloc, history, clients) {
+                Ok(all_clients) => Ok(begin(alloc, all_clients)),
+                Err(_) => Err((0, Refusal::OutOfMemory)),
+            },
+            Err(fault) => Err(fault),
         }
     }
 
@@ -107,6 +109,7 @@ impl Book {
                     Ok(said)
                 }
                 Err(_) => {
+                    drop(said);
                     self.all_clients.retract(client, was);
                     Err(Refusal::OutOfMemory)
                 }

@@ -71,7 +71,10 @@ impl Log {
         ensures err { OnErr result (self.new ≡ self.old) }
     {
         let asked = asked.copy()?;
-        let answered = answered.copy()?;
+        let Ok(answered) = answered.copy() else {
+            drop(asked);
+            return Err(AllocError);
+        };
         self.rows.push(Recorded {
             client,
             asked,
@@ -85,6 +88,6 @@ impl Log {
         requires { 0 < length self.old }
         ensures { self.new ≡ without_last self.old }
     {
-        self.rows.pop();
+        drop(self.rows.pop());
     }
 }
