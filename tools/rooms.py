@@ -1,4 +1,4 @@
-"""Crates side by side: what tools/build and tools/edits share.
+"""Crates side by side, for tools/build.
 
 rt lets one run at a time work in a crate and in what the crate stands on. So each run here gets a room, a repository of one
 crate and what it stands on alone, whose libraries are those of this repository, by hard links.
