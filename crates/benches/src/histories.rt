@@ -17,7 +17,7 @@ fn main_of(history: &History) -> Option<BranchId>
 }
 
 /// Makes a call of the first process.
-fn makes(history: &mut History, call: &Result<Call, AllocError>) -> bool {
+pub(crate) fn makes(history: &mut History, call: &Result<Call, AllocError>) -> bool {
     let Some(id) = main_of(history) else {
         return false;
     };

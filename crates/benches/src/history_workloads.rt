@@ -1,10 +1,13 @@
 //! Workloads over a history: `calls` makes COUNT mixed calls, `moves` goes over all of them, back to the opening and
 //! forth again, and `turns` makes 1,000 moves of ten moments at their end. Behind so many calls `made` asks 4,000 times
 //! when an object was made, and `ended`, `peer_closed` and `leaked` ask likewise. `leaks` asks what is leaked among COUNT
-//! objects. The time is that of one call, of one moment gone over, of one move or of one question.
+//! objects. `critical` ends COUNT processes, with the jobs that they are under, by the kill of the one that is critical to
+//! the job above all of them, and goes back over it. The time is that of one call, of one moment gone over, of one move, of
+//! one question, or of one process that ended and was there again.
 
+use crate::critical_jobs::{kills_critical, makes_critical};
 use crate::histories::{makes_leaks, makes_mixed};
-use crate::moves::{moved_over, turned};
+use crate::moves::{goes, moved_over, turned};
 use crate::questions::{asks_leaks, questions};
 use std::alloc::Global;
 use std::rt::Clock;
@@ -12,7 +15,7 @@ use std::time::Instant;
 use zt_history::History;
 use zt_rows::Happening;
 
-/// The nanoseconds of one call, of one moment gone over, of one move or of one question.
+/// The nanoseconds of one call, of one moment gone over, of one move, of one question or of one process.
 pub(crate) fn time_of(rt: &impl Clock, alloc: Global, workload: &str, count: u32) -> Option<u128> {
     match History::new(alloc) {
         Ok(mut history) => time_over(rt, alloc, &mut history, workload, count),
@@ -31,6 +34,7 @@ fn time_over(
     match workload {
         "calls" => time_of_calls(rt, alloc, history, count),
         "leaks" => time_of_leaks(rt, alloc, history, count),
+        "critical" => time_of_ending(rt, history, count),
         _ => time_behind_calls(rt, alloc, history, workload, count),
     }
 }
@@ -72,6 +76,19 @@ fn time_of_leaks(
         return None;
     }
     time_since(rt, start, 1)
+}
+
+/// The time in which one of so many processes ends and is there again.
+fn time_of_ending(rt: &impl Clock, history: &mut History, count: u32) -> Option<u128> {
+    if !makes_critical(history, count) {
+        return None;
+    }
+    let before = history.last().0;
+    let start = Instant::now(rt).ok()?;
+    if !kills_critical(history, count) || !goes(history, before) {
+        return None;
+    }
+    time_since(rt, start, count)
 }
 
 /// The time of one step of a workload behind so many mixed calls.

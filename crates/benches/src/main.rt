@@ -4,6 +4,7 @@
 #![tactic(auto)]
 
 mod calls;
+mod critical_jobs;
 mod histories;
 mod history_workloads;
 mod moves;

@@ -6,7 +6,7 @@ use zt_rows::Moment;
 const TURNS: u32 = 1_000;
 
 /// Goes to the moment.
-fn goes(history: &mut History, moment: u32) -> bool {
+pub(crate) fn goes(history: &mut History, moment: u32) -> bool {
     history.goto(Moment(moment)).is_ok()
 }
 

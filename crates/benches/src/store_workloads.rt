@@ -93,6 +93,7 @@ fn put_event(step: &mut Step, koid: u64, number: u64) -> Result<(), AllocError> 
         link: Koid(0),
         life: Life::Live,
         next: number,
+        critical: Koid(0),
     });
     step.put(RowKey::Object(Koid(koid)), Some(row))
 }

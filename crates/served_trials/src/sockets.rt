@@ -11,9 +11,7 @@ use std::sync::Wait;
 use std::thread::{JoinHandle, Threads};
 use std::time::Duration;
 use std::{io, thread};
-
-/// How many clients talk at once.
-const CLIENTS: usize = 4;
+use zt_rows::CLIENTS;
 
 /// How many lines each of them types.
 const TURNS: usize = 300;

@@ -17,7 +17,7 @@ use Rattle.zt_rows.specs.Tests.{any_row, count_row}
 use Rattle.zt_rows.specs.Support.{supports, support_count, is_supported}
 use Rattle.zt_rows.specs.Collect.{without, goes, rounds, collect}
 use Rattle.zt_rows.specs.Settle.{refresh, settle}
-use Rattle.zt_rows.specs.End.{links, chain, end}
+use Rattle.zt_rows.specs.End.{links, chain, highest, end}
 use Rattle.zt_rows.specs.Step.{direct, step}
 use Rattle.zt_history.specs.Tree.{opening_tree, path, state_at}
 use Rattle.zt_book.specs.Session.{Session, opening_session, first_client, serve, call_by, goto_by, back_by, branch_by, follow_by, pin_to}
@@ -42,7 +42,7 @@ two_branches :
     ∷ by_root call.PortCreate ∷ by_root call.ChannelCreate ∷ command.Follow (codes "main") ∷ command.Goto 5 ∷ command.Goto 3 ∷ [])
     ≡ Ok (Called 1 (Handle 7)) ∷ Ok (Called 2 (Handle 11)) ∷ Ok (Called 3 (Handle 15)) ∷ Ok (At 0) ∷ Ok (Branched (codes "fix") 0)
     ∷ Ok (Called 4 (Handle 7)) ∷ Ok (Called 5 (Handles 11 15)) ∷ Ok (Followed (codes "main") 3) ∷ Ok (At 5) ∷ Ok (At 3) ∷ []
-unfolding serve call_by goto_by back_by branch_by follow_by pin_to by_root row put change objects waits queue packets any_row count_row supports support_count is_supported without goes rounds collect refresh settle links chain end direct step path state_at
+unfolding serve call_by goto_by back_by branch_by follow_by pin_to by_root row put change objects waits queue packets any_row count_row supports support_count is_supported without goes rounds collect refresh settle links chain highest end direct step path state_at
 two_branches = refl
 
 -- a call while the client follows no branch; more steps back than there are; a name that is taken
@@ -52,7 +52,7 @@ detached_cursor :
     ∷ command.Branch (codes "main") ∷ command.Pin ∷ [])
     ≡ Ok (Called 1 (Handle 7)) ∷ Ok (Called 2 (Handle 11)) ∷ Ok (Called 3 (Handle 15)) ∷ Ok (At 3) ∷ Err refusal.Detached ∷ Err refusal.AtStart
     ∷ Err refusal.NameTaken ∷ Ok (Pinned 3) ∷ []
-unfolding serve call_by goto_by back_by branch_by follow_by pin_to by_root row put change objects waits queue packets any_row count_row supports support_count is_supported without goes rounds collect refresh settle links chain end direct step path state_at
+unfolding serve call_by goto_by back_by branch_by follow_by pin_to by_root row put change objects waits queue packets any_row count_row supports support_count is_supported without goes rounds collect refresh settle links chain highest end direct step path state_at
 detached_cursor = refl
 
 -- where all have ended no call is taken; on a branch from before that, one is
@@ -60,7 +60,7 @@ root_job_killed :
     answers (opening_session 1)
     (by_root (call.TaskKill 3) ∷ by_root call.EventCreate ∷ command.Back 1 ∷ command.Branch (codes "again") ∷ by_root call.EventCreate ∷ [])
     ≡ Ok (Called 1 (Status status.Ok)) ∷ Err refusal.NoProcess ∷ Ok (At 0) ∷ Ok (Branched (codes "again") 0) ∷ Ok (Called 2 (Handle 7)) ∷ []
-unfolding serve call_by goto_by back_by branch_by follow_by pin_to by_root row put change objects waits queue packets any_row count_row supports support_count is_supported without goes rounds collect refresh settle links chain end direct step path state_at
+unfolding serve call_by goto_by back_by branch_by follow_by pin_to by_root row put change objects waits queue packets any_row count_row supports support_count is_supported without goes rounds collect refresh settle links chain highest end direct step path state_at
 root_job_killed = refl
 
 -- a large letter in front, a branch and a moment that are not there, and a name of 32 bytes and one of 33
@@ -81,5 +81,5 @@ full_before_detached = refl
 
 -- calls to be loaded, of which the second is refused: nobody runs there
 not_loaded : loaded ((1025, call.TaskKill 3) ∷ (1025, call.EventCreate) ∷ (1025, call.EventCreate) ∷ []) ≡ Err (1, refusal.NoProcess)
-unfolding row put change objects waits queue packets any_row count_row supports support_count is_supported without goes rounds collect refresh settle links chain end direct step path state_at
+unfolding row put change objects waits queue packets any_row count_row supports support_count is_supported without goes rounds collect refresh settle links chain highest end direct step path state_at
 not_loaded = refl

@@ -1,5 +1,5 @@
 -- What the parts of a call on jobs and processes do one after another is what the call does.
-use Rattle.std.proofs.Common.{◌≡◌, ◌≤◌, ℕ, ◌+◌, ◌-◌, ◌^◌, ◌<◌, Bool, true, false, refl, sym, ap, ◌∙◌, subst, arith}
+use Rattle.std.proofs.Common.{◌≡◌, ◌≤◌, ℕ, ◌+◌, ◌-◌, ◌^◌, ◌<◌, Bool, true, false, ◌&&◌, ◌||◌, refl, sym, ap, ◌∙◌, subst, arith}
 use Rattle.std.specs.Prelude.{◌==◌, Option, None, Some, Result, Ok, Err, ok_or}
 use Rattle.zt_bits.specs.declared.kinds.Kind.{Kind}
 use Rattle.zt_bits.specs.declared.kinds.Kind.TheVariants as kind
@@ -13,12 +13,17 @@ use Rattle.zt_rows.specs.declared.rows.Held.{Held}
 use Rattle.zt_rows.specs.declared.rows.ObjectRow.{ObjectRow}
 use Rattle.zt_rows.specs.declared.rows.Row.TheVariants as rows
 use Rattle.zt_rows.specs.State.{State}
-use Rattle.zt_rows.specs.Reads.{as_object, counters, object, entry, is_live, is_live_process, on_object, runs}
-use Rattle.zt_rows.specs.Tests.{has_all, next_at}
+use Rattle.zt_rows.specs.Reads.{as_object, counters, object, entry, is_live, is_job, is_process, is_live_job, is_live_process, on_object, runs}
+use Rattle.zt_rows.specs.Tests.{has_all, is_task, next_at}
 use Rattle.zt_rows.specs.Room.{HasRoom}
 use Rattle.zt_rows.specs.Handles.{◌>>=◌, check, handle_else, answered, as_caller, caller, value_of, whole, fresh, next_koid, install, make}
 use Rattle.zt_rows.specs.JobCalls.{argument, give_up, child, hand_over, spawn}
+use Rattle.zt_rows.specs.End.{ends_with}
 use Rattle.zt_rows.specs.Consistent.{IsSound}
+use Rattle.zt_rows.proofs.RowLaws.{or_left, or_right}
+use Rattle.zt_rows.proofs.SoundLaws.{runs-some}
+use Rattle.zt_jobs.specs.EndingWalk.{IsWalkable}
+use Rattle.zt_jobs.proofs.EndingLaws.{sound-walkable}
 use Rattle.zt_rows.proofs.StateLaws.{row-put}
 use Rattle.zt_rows.proofs.TakeLaws.{object-taken, counters-taken, sound-taken}
 use Rattle.zt_store.specs.StepView.{Stepping, Advanced, begun}
@@ -74,6 +79,39 @@ named-object S wrong p h wanted rights held o e = entered (entry S p h) refl e
     entered : (r : Option Held) → entry S p h ≡ r → of_entry wrong S wanted rights r ≡ Ok (held, o) → (entry S p h ≡ Some held) × (object S held.koid ≡ Some o)
     entered None here e = cc
     entered (Some g) here e = found g (object S g.koid) refl here e
+
+-- its kind is one of those that are wanted
+pub named-kind : (S : State) (wrong : Status) (p h : ℕ) (wanted : Kind → Bool) (rights : ℕ) (held : Held) (o : ObjectRow) → handle_else wrong S p h wanted rights ≡ Ok (held, o) → wanted o.kind ≡ true
+named-kind S wrong p h wanted rights held o e = entered (entry S p h) e
+  where
+    of_kind : (a b : Bool) (g : Held) (u : ObjectRow) → a ≡ wanted u.kind → both a b wrong g u ≡ Ok (held, o) → wanted o.kind ≡ true
+    of_kind true b g u is e = ap (λ (z : ObjectRow). wanted z.kind) (sym (passed true b wrong g held u o e).1) ∙ sym is
+    of_kind false b g u is e = cc
+
+    found : (g : Held) (r : Option ObjectRow) → of_object wrong wanted rights g r ≡ Ok (held, o) → wanted o.kind ≡ true
+    found g None e = cc
+    found g (Some u) e = of_kind (wanted u.kind) (has_all g.rights.0 rights) g u refl e
+
+    entered : (r : Option Held) → of_entry wrong S wanted rights r ≡ Ok (held, o) → wanted o.kind ≡ true
+    entered None e = cc
+    entered (Some g) e = found g (object S g.koid) e
+
+-- ---- what ends
+
+live_task : (k : Kind) (lives : Bool) → is_task k ≡ true → lives ≡ true → ((is_job k && lives) || (is_process k && lives)) ≡ true
+live_task kind.Job lives t e = or_left (true && lives) _ e
+live_task kind.Process lives t e = e
+live_task _ lives t e = cc
+
+-- the walk finds what ends with a live process or job that a handle names
+pub named-walkable : (S : State) → IsSound S → (wrong : Status) (p h rights : ℕ) (held : Held) (o : ObjectRow) → handle_else wrong S p h is_task rights ≡ Ok (held, o) → is_live o.life ≡ true → IsWalkable S held.koid (ends_with S held.koid)
+named-walkable S sound wrong p h rights held o e live =
+    sound-walkable S sound held.koid o (named-object S wrong p h is_task rights held o e).1
+    (live_task o.kind (is_live o.life) (named-kind S wrong p h is_task rights held o e) live)
+
+-- and what ends with the caller
+pub caller-walkable : (S : State) → IsSound S → (p : ℕ) → runs S p ≡ true → IsWalkable S p (ends_with S p)
+caller-walkable S sound p live = let w = runs-some S p live in sound-walkable S sound p w.0 w.1 (or_right (is_live_job w.0) _ w.2)
 
 -- the koid of an object leaves room for one more
 pub koid-fits : (S : State) (x : ℕ) (o : ObjectRow) → HasRoom S → IsSound S → object S x ≡ Some o → x + 1 < 2 ^ 64

@@ -11,7 +11,7 @@ ghost use Rattle.zt_calls.specs.ProofsOnly.CallOutcomes.{Does};
 use crate::channel_calls::{channel_create, channel_read, channel_write};
 use crate::failure::Failure;
 use crate::handle_calls::{handle_close, handle_duplicate, handle_replace};
-use crate::job_calls::{job_create, process_exit, spawn, task_kill};
+use crate::job_calls::{job_create, job_set_critical, process_exit, spawn, task_kill};
 use crate::lost_objects::lost;
 use crate::object_calls::{event_create, eventpair_create, object_signal, object_signal_peer};
 use crate::port_calls::{object_wait_async, port_cancel, port_create, port_queue, port_wait};
@@ -167,6 +167,10 @@ fn answered(alloc: Global, step: &mut Step, process: Koid, call: &Call) -> Resul
         }
         Call::JobCreate { job } => job_create(step, process, *job),
         Call::Spawn { job, argument } => spawn(step, process, *job, *argument),
+        Call::JobSetCritical {
+            job,
+            process: critical,
+        } => job_set_critical(step, process, *job, *critical),
         Call::TaskKill { handle } => task_kill(alloc, step, process, *handle),
         Call::ProcessExit { code } => process_exit(alloc, step, process, *code),
     }

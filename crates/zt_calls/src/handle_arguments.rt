@@ -14,6 +14,7 @@ pub enum WantedKind {
     Channel,
     Port,
     Job,
+    Process,
     /// A process or a job.
     Task,
     /// An end of a channel or of a pair of events.
@@ -30,6 +31,7 @@ impl WantedKind {
             WantedKind::Channel => kind == Kind::Channel,
             WantedKind::Port => kind == Kind::Port,
             WantedKind::Job => kind == Kind::Job,
+            WantedKind::Process => kind == Kind::Process,
             WantedKind::Task => kind == Kind::Job || kind == Kind::Process,
             WantedKind::Endpoint => kind == Kind::Channel || kind == Kind::EventPair,
         }

@@ -1,9 +1,7 @@
 ghost use Rattle.std.specs.Prelude.{◌≡◌, ◌<◌, ◌+◌, ◌^◌, true, IfSome, IsSome, OnOk, OnErr};
-ghost use Rattle.zt_rows.specs.declared.rows.Life.TheVariants as life_variant;
 ghost use Rattle.zt_rows.specs.Consistent.{IsSound};
-ghost use Rattle.zt_rows.specs.End.{end, ends_with};
 ghost use Rattle.zt_rows.specs.Handles.{next_koid};
-ghost use Rattle.zt_rows.specs.JobCalls.{argument, give_up, job_create, process_exit, spawn, task_kill};
+ghost use Rattle.zt_rows.specs.JobCalls.{argument, give_up, job_create, job_set_critical, process_exit, spawn, task_kill};
 ghost use Rattle.zt_rows.specs.Reads.{entry, runs};
 ghost use Rattle.zt_rows.specs.Room.{HasRoom};
 ghost use Rattle.zt_rows.specs.Tests.{next_at};
@@ -18,7 +16,7 @@ use crate::new_objects::whole;
 use crate::taken_handles::take_out;
 use std::alloc::{AllocError, Global};
 use zt_bits::{Kind, Rights, Status};
-use zt_jobs::{depth, end_process, end_subtree, make_job, make_process};
+use zt_jobs::{depth, end_process, end_subtree, is_under, make_job, make_process, set_critical};
 use zt_rows::{HandleValue, Held, Koid, Life, Reply};
 use zt_store::Step;
 use zt_tables::install;
@@ -134,8 +132,30 @@ fn add_process(
 
 // ---- ending them
 
-/// Kills the process or the job that the handle names, and with a job all that is under it. To kill what has ended
-/// is ok and changes nothing.
+/// Makes the process critical to the job, which is above it. A process is critical to one job at most.
+pub fn job_set_critical(
+    step: &mut Step,
+    process: Koid,
+    job: HandleValue,
+    critical: HandleValue,
+) -> Result<Reply, Failure>
+    ensures does { Does (job_set_critical step.old.current process job critical) step.old step.new result }
+    ensures kept { Keeps step.old.places step.new.places }
+{
+    let (above, _) = handle_to(step, process, job, WantedKind::Job, Rights::DESTROY)?;
+    let (held, object) = handle_to(step, process, critical, WantedKind::Process, Rights::WAIT)?;
+    if object.critical != Koid(0) {
+        return Err(Failure::Status(Status::AlreadyBound));
+    }
+    if !is_under(step, above.koid, held.koid) {
+        return Err(Failure::Status(Status::InvalidArgs));
+    }
+    set_critical(step, held.koid, &object, above.koid)?;
+    Ok(Reply::Status(Status::Ok))
+}
+
+/// Kills the process or the job that the handle names, and what ends with it. To kill what has ended is ok and changes
+/// nothing.
 pub fn task_kill(
     alloc: Global,
     step: &mut Step,
@@ -148,33 +168,20 @@ pub fn task_kill(
 {
     let (held, task) = handle_to(step, process, handle, WantedKind::Task, Rights::DESTROY)?;
     if task.life == Life::Live {
-        kill(alloc, step, held.koid, task.kind)?;
+        end_subtree(alloc, step, held.koid, Life::Killed)?;
     }
     Ok(Reply::Status(Status::Ok))
 }
 
-/// Kills the process, or the job with all that is under it.
-fn kill(alloc: Global, step: &mut Step, task: Koid, kind: Kind) -> Result<(), AllocError>
-    requires sound { IsSound step.old.current }
-    ensures ok { let S = step.old.current in
-        OnOk result (Advanced step.old step.new (end S (ends_with S kind task) life_variant.Killed)) }
-    ensures err { OnErr result (AsBegun step.old step.new) }
-    ensures kept { Keeps step.old.places step.new.places }
-{
-    match kind {
-        Kind::Job => end_subtree(alloc, step, task, Life::Killed)?,
-        _ => end_process(alloc, step, task, Life::Killed)?,
-    };
-    Ok(())
-}
-
-/// Ends the caller with the code.
+/// Ends the caller with the code, and kills what else ends with it.
 pub fn process_exit(
     alloc: Global,
     step: &mut Step,
     process: Koid,
     code: i64,
 ) -> Result<Reply, Failure>
+    requires sound { IsSound step.old.current }
+    requires running { runs step.old.current process ≡ true }
     ensures does { Does (process_exit step.old.current process code) step.old step.new result }
     ensures kept { Keeps step.old.places step.new.places }
 {

@@ -5,8 +5,8 @@ ghost use Rattle.zt_store.specs.Places.{Keeps};
 ghost use Rattle.zt_store.specs.StepView.{Advanced, AsBegun};
 
 use std::alloc::AllocError;
-use zt_bits::{Kind, Signals, defaults};
-use zt_rows::{Counters, Held, Koid, Life, ObjectRow, Row, RowKey};
+use zt_bits::{Kind, defaults};
+use zt_rows::{Counters, Held, Koid, ObjectRow, Row, RowKey};
 use zt_store::Step;
 
 /// A handle to the object with the rights that its kind begins with.
@@ -16,19 +16,6 @@ pub fn whole(koid: Koid, kind: Kind) -> Held
     Held {
         koid,
         rights: defaults(kind),
-    }
-}
-
-/// A new live object of the kind, linked so.
-fn fresh(kind: Kind, link: Koid) -> ObjectRow
-    ensures { result ≡ fresh kind link }
-{
-    ObjectRow {
-        kind,
-        signals: Signals(0),
-        link,
-        life: Life::Live,
-        next: 0,
     }
 }
 
@@ -47,7 +34,10 @@ pub fn new_object(step: &mut Step, kind: Kind, link: Koid) -> Result<Koid, Alloc
         next_koid: Koid(koid.0 + 1),
         ..counters
     };
-    step.put(RowKey::Object(koid), Some(Row::Object(fresh(kind, link))))?;
+    step.put(
+        RowKey::Object(koid),
+        Some(Row::Object(ObjectRow::new(kind, link))),
+    )?;
     step.put(RowKey::Counters, Some(Row::Counters(raised)))?;
     Ok(koid)
 }
@@ -68,8 +58,14 @@ pub fn new_pair(step: &mut Step, kind: Kind) -> Result<(Koid, Koid), AllocError>
         next_koid: Koid(near.0 + 2),
         ..counters
     };
-    step.put(RowKey::Object(near), Some(Row::Object(fresh(kind, far))))?;
-    step.put(RowKey::Object(far), Some(Row::Object(fresh(kind, near))))?;
+    step.put(
+        RowKey::Object(near),
+        Some(Row::Object(ObjectRow::new(kind, far))),
+    )?;
+    step.put(
+        RowKey::Object(far),
+        Some(Row::Object(ObjectRow::new(kind, near))),
+    )?;
     step.put(RowKey::Counters, Some(Row::Counters(raised)))?;
     Ok((near, far))
 }

@@ -163,7 +163,7 @@ left-packet x p n f None = refl
 pub left-object : (x y : ℕ) → (y == x) ≡ false → (r : Option Row) → ((o : ObjectRow) → as_object r ≡ Some o → (is_endpoint o.kind && (o.link == x)) ≡ true → o.link ≡ 0) → option_and_then (left (only x) (key.Object y)) r ≡ r
 left-object x y f (Some (rows.Object o)) h =
     let link : (if is_endpoint o.kind && (o.link == x) then 0 else o.link) ≡ o.link = link-same (is_endpoint o.kind && (o.link == x)) o.link (h o refl) in
-    let same : unlinked (only x) o ≡ o = λ i. record { kind = o.kind; signals = o.signals; link = link i; life = o.life; next = o.next } in
+    let same : unlinked (only x) o ≡ o = λ i. record { kind = o.kind; signals = o.signals; link = link i; life = o.life; next = o.next; critical = o.critical } in
     then_none (y == x) (rows.Object (unlinked (only x) o)) f ∙ ap (λ q. Some (rows.Object q)) same
   where
     link-same : (b : Bool) (l : ℕ) → (b ≡ true → l ≡ 0) → (if b then 0 else l) ≡ l

@@ -3,9 +3,10 @@ ghost use Rattle.zt_console.specs.ProofsOnly.LineFeed.{decisive, has_no_feed};
 
 use std::alloc::{AllocError, Global};
 use std::marker::Model;
+use zt_text::LINE_BYTES;
 
 /// How many bytes decide how a line reads: one more than a line may have.
-const DECISIVE: usize = 140_001;
+const DECISIVE: usize = LINE_BYTES + 1;
 
 /// What was read of a line so far, but no more of it than decides how the line reads.
 #[derive(Drop)]

@@ -15,9 +15,6 @@ use std::marker::Model;
 use zt_rows::{Call, Koid, Moment, Refusal, Reply};
 use zt_store::{Record, Store};
 
-/// The last moment that a history can have.
-pub const LAST_MOMENT: u32 = 1_048_576;
-
 /// The last change, if it can be taken back.
 #[derive(Clone, Copy)]
 pub(crate) enum Undo {

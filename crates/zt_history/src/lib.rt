@@ -12,4 +12,4 @@ mod tree_changes;
 
 pub use branches::BranchId;
 pub use copied_calls::push_call;
-pub use history::{History, LAST_MOMENT};
+pub use history::History;

@@ -5,9 +5,9 @@ ghost use Rattle.zt_history.specs.HistoryRefusals.{IsHistoryRefusal, call_on, br
 ghost use Rattle.zt_history.specs.Timeline.{IsAtMost, after_branch, at_head, point_of, unmoved};
 
 use crate::branches::BranchId;
-use crate::history::{History, LAST_MOMENT, Undo};
+use crate::history::{History, Undo};
 use zt_calls::runs;
-use zt_rows::{Call, Koid, Moment, Refusal, Reply};
+use zt_rows::{Call, Koid, LAST_MOMENT, Moment, Refusal, Reply};
 
 impl History {
     /// Runs a call of a process at the head of a branch, which moves to the new moment, as does the store. Refused,

@@ -39,7 +39,7 @@ and-false : (b : Bool) → (b && false) ≡ false
 and-false true = refl
 and-false false = refl
 
-or-assoc : (a b d : Bool) → ((a || b) || d) ≡ (a || (b || d))
+pub or-assoc : (a b d : Bool) → ((a || b) || d) ≡ (a || (b || d))
 or-assoc true b d = refl
 or-assoc false b d = refl
 

@@ -1,39 +1,10 @@
--- Chains of links: how many there are above, and that what is under a job is closed under children.
-use Rattle.std.proofs.Common.{◌≡◌, ◌≤◌, ◌<◌, ℕ, zero, suc, ◌+◌, ◌-◌, Bool, true, false, not, cond, ◌&&◌, ◌||◌, List, [], ◌∷◌, length, ◌⊎◌, inl, inr, refl, sym, ap, ◌∙◌, subst, arith, add-one}
-use Rattle.std.specs.Prelude.{Option, None, Some, ◌==◌}
-use Rattle.std.proofs.lemmas.Bool.{eqb-true, eq-eqb}
+-- Chains of links: how many there are above, and whether a job is among them.
+use Rattle.std.proofs.Common.{◌≡◌, ◌≤◌, ◌<◌, ℕ, zero, suc, ◌+◌, ◌-◌, true, false, not, cond, ◌&&◌, ◌||◌, List, [], ◌∷◌, length, ◌⊎◌, inl, inr, refl, sym, ap, ◌∙◌, arith, add-one}
+use Rattle.std.specs.Prelude.{◌==◌}
 use Rattle.std.proofs.lemmas.Bool.Decides.{nat_tests}
-use Rattle.zt_rows.specs.declared.rows.ObjectRow.{ObjectRow}
 use Rattle.zt_rows.specs.State.{State}
-use Rattle.zt_rows.specs.Reads.{object, is_live_job, is_live_process}
-use Rattle.zt_rows.specs.Tests.{among, link_at, object_link}
-use Rattle.zt_rows.specs.End.{upward, links, chain, depth, is_live_task, is_under}
-use Rattle.zt_rows.specs.Consistent.{IsChild, has_parent, SoundObject, IsSound}
-use Rattle.zt_rows.proofs.RowLaws.{or_left, not_true}
-use Rattle.zt_rows.proofs.SoundLaws.{task-not-endpoint}
-use Rattle.zt_jobs.specs.TaskTree.{HasParents, IsWalkable}
-
--- ---- parents
-
-pub sound-parents : (S : State) → IsSound S → HasParents S
-sound-parents S sound = record {
-  above = λ x o there live.
-      let s : SoundObject S x o = sound.of_objects x o there in
-      elim (has_parent x o) as (λ b. has_parent x o ≡ b → (o.link ≡ 0) ⊎ ((o.link < x) × (is_live_task (object S o.link) ≡ true))) [
-        | true ↦ λ h. let c : IsChild S x o = s.parents h in inr (c.smaller, ap is_live_task c.there ∙ or_left (is_live_job c.parent) (is_live_process c.parent) c.live)
-        | false ↦ λ h. inl (s.alone (task-not-endpoint o live) h)
-      ] refl;
-}
-
-live-some : (r : Option ObjectRow) → is_live_task r ≡ true → (o : ObjectRow) × (r ≡ Some o)
-live-some (Some o) e = (o, refl)
-live-some None e = cc
-
-pub link-above : (S : State) → HasParents S → (x : ℕ) → is_live_task (object S x) ≡ true → (link_at S x ≡ 0) ⊎ ((link_at S x < x) × (is_live_task (object S (link_at S x)) ≡ true))
-link-above S parents x live =
-    let w = live-some (object S x) live in
-    let l : link_at S x ≡ w.0.link = ap object_link w.1 in
-    subst (λ y. (y ≡ 0) ⊎ ((y < x) × (is_live_task (object S y) ≡ true))) (sym l) (parents.above x w.0 w.1 (sym (ap is_live_task w.1) ∙ live))
+use Rattle.zt_rows.specs.Tests.{among, link_at}
+use Rattle.zt_rows.specs.End.{upward, links, chain, depth}
 
 -- ---- one link
 
@@ -68,53 +39,6 @@ links-none S x = refl
 pub chain-links : (S : State) (x : ℕ) → chain S x ≡ links (x + 1) S x
 unfolding chain
 chain-links S x = refl
-
--- more links than there are smaller koids make no difference
-links-enough : (S : State) → HasParents S → (n m x : ℕ) → x < n → x < m → is_live_task (object S x) ≡ true → links n S x ≡ links m S x
-unfolding links
-links-enough S parents zero m x a b live = absurd (omega arith)
-links-enough S parents (suc n) zero x a b live = absurd (omega arith)
-links-enough S parents (suc n) (suc m) x a b live =
-    let next : (link_at S x ≡ 0) ⊎ (links n S (link_at S x) ≡ links m S (link_at S x)) =
-    elim (link-above S parents x live) [
-      | inl z ↦ inl z
-      | inr w ↦ let l : link_at S x < x = w.0 in inr (links-enough S parents n m (link_at S x) (omega arith) (omega arith) w.1)
-    ] in
-    upward-alike (link_at S x) (λ y. links n S y) (λ y. links m S y) next
-
--- ---- what is under a job
-
-module _ (S : State) (parents : HasParents S) (job : ℕ) where
-  step-zero : (l : ℕ) (a b : Bool) → l ≡ 0 → (not (l == 0) && a) ≡ (not (l == 0) && b)
-  step-zero l a b e = let z : (l == 0) ≡ true = eq-eqb l 0 e in ap (λ t. not t && a) z ∙ sym (ap (λ t. not t && b) z)
-
-  -- what is above a live process or job is its parent, and what is above that
-  chain-step : (x : ℕ) → is_live_task (object S x) ≡ true → among (chain S x) job ≡ (not (link_at S x == 0) && is_under S job (link_at S x))
-  chain-step x live =
-      let l : ℕ = link_at S x in
-      let first : among (chain S x) job ≡ (not (l == 0) && ((l == job) || among (links x S l) job)) = ap (λ z. among z job) (chain-links S x) ∙ links-among x S x job in
-      elim (link-above S parents x live) [
-        | inl z ↦ first ∙ step-zero l _ _ z
-        | inr w ↦
-            let less : l < x = w.0 in
-            let same : links x S l ≡ chain S l = links-enough S parents x (l + 1) l less (omega arith) w.1 ∙ sym (chain-links S l) in
-            first
-            ∙ ap (λ z. not (l == 0) && ((l == job) || among z job)) same
-            ∙ sym (ap (λ b. not (l == 0) && ((l == job) || (b && among (chain S l) job))) w.1)
-      ]
-
-  pub under-step : IsWalkable S job
-  under-step x apart =
-      let other : (x == job) ≡ false = not_true (x == job) (λ e. apart (eqb-true x job e)) in
-      ap (λ b. b || (is_live_task (object S x) && among (chain S x) job)) other
-      ∙ elim (is_live_task (object S x)) as (λ b. is_live_task (object S x) ≡ b → (b && among (chain S x) job) ≡ (b && (not (link_at S x == 0) && is_under S job (link_at S x)))) [
-        | true ↦ λ live. chain-step x live
-        | false ↦ λ _. refl
-      ] refl
-
--- a job is under itself
-pub under-itself : (S : State) (job : ℕ) → is_under S job job ≡ true
-under-itself S job = or_left (job == job) _ (eq-eqb job job refl)
 
 -- ---- loops over links
 

@@ -4,3 +4,4 @@ pub mod MemberLaws
 pub mod PartLaws
 pub mod WalkLaws
 pub mod HandleLaws
+pub mod EndingLaws

@@ -1,20 +1,17 @@
--- A walk from each member to what is below it finds exactly what is under a job, where that is walkable; and the members are
--- listed by rising koids.
-use Rattle.std.proofs.Common.{◌≡◌, ◌≢◌, ◌≤◌, ◌<◌, ℕ, zero, suc, ◌+◌, Bool, true, false, not, ◌&&◌, ◌||◌, List, [], ◌∷◌, ◌++◌, length, get_or, ◌⊎◌, inl, inr, refl, sym, ap, ◌∙◌, subst, arith, add-one}
+-- A walk from each member to what ends next to it finds what ends, where that is walkable; and the members are listed by
+-- rising koids.
+use Rattle.std.proofs.Common.{◌≡◌, ◌≤◌, ◌<◌, ℕ, Bool, true, false, ◌||◌, List, [], ◌∷◌, ◌++◌, length, get_or, ◌⊎◌, inl, inr, refl, sym, ap, ◌∙◌, subst, arith}
 use Rattle.std.specs.Prelude.{◌==◌, if◌then◌else◌}
 use Rattle.std.proofs.lemmas.Bool.{eqb-true, eq-eqb, cases_lt}
 use Rattle.std.proofs.lemmas.List.Folds.{list_any-append, list_any_at}
 use Rattle.std.proofs.lemmas.List.Quantifiers.{all_pairs_push}
 use Rattle.zt_rows.specs.State.{State}
-use Rattle.zt_rows.specs.Reads.{object}
-use Rattle.zt_rows.specs.Tests.{among, link_at}
-use Rattle.zt_rows.specs.End.{links, chain, is_live_task, is_under}
-use Rattle.zt_rows.proofs.RowLaws.{and_left, and_right, and_both, or_left, or_right, or_true, true≢false, same_test}
+use Rattle.zt_rows.specs.Tests.{among}
+use Rattle.zt_rows.proofs.RowLaws.{or_left, or_right, or_true, true≢false, same_test}
 use Rattle.zt_store.specs.KoidSets.{only}
-use Rattle.zt_jobs.specs.TaskTree.{IsWalkable, is_child_in}
+use Rattle.zt_jobs.specs.EndingWalk.{IsWalkable, ends_next}
 use Rattle.zt_jobs.specs.ProofsOnly.TaskTree.{IsRising}
-use Rattle.zt_jobs.specs.ProofsOnly.SubtreeWalk.{IsNoted}
-use Rattle.zt_jobs.proofs.ChainLaws.{chain-links, links-among, links-none, under-itself}
+use Rattle.zt_jobs.specs.ProofsOnly.EndingWalk.{IsNoted}
 
 -- ---- members of a list
 
@@ -83,43 +80,21 @@ noted_new koid known more waiting later pushed is =
 
 -- ---- the walk
 
--- the same child, where another test passes its parent too
-child-also : (S : State) (one two : ℕ → Bool) (y : ℕ) → is_child_in S one y ≡ true → two (link_at S y) ≡ true → is_child_in S two y ≡ true
-child-also S one two y child passed =
-    and_both _ _ (and_left (is_live_task (object S y)) _ child)
-    (and_both _ _ (and_left (not (link_at S y == 0)) _ (and_right (is_live_task (object S y)) _ child)) passed)
-
--- the parent of a child passes the test
-child-parent : (S : State) (passes : ℕ → Bool) (y : ℕ) → is_child_in S passes y ≡ true → passes (link_at S y) ≡ true
-child-parent S passes y child = and_right (not (link_at S y == 0)) _ (and_right (is_live_task (object S y)) _ child)
-
--- all that is known is under the job; what waits is known; and what is known waits, or all its children are known
-pub record IsWalked (S : State) (job : ℕ) (known : ℕ → Bool) (waiting : List ℕ) : Type 0 where
-  pub under : (x : ℕ) → known x ≡ true → is_under S job x ≡ true
-  pub begun : known job ≡ true
+-- all that is known ends; what waits is known; and what is known waits, or all that ends next to it is known
+pub record IsWalked (S : State) (task : ℕ) (ending known : ℕ → Bool) (waiting : List ℕ) : Type 0 where
+  pub inside : (x : ℕ) → known x ≡ true → ending x ≡ true
+  pub begun : known task ≡ true
   pub waits : (x : ℕ) → among waiting x ≡ true → known x ≡ true
-  pub closed : (y : ℕ) → known y ≡ true → (among waiting y ≡ true) ⊎ ((x : ℕ) → is_child_in S (only y) x ≡ true → known x ≡ true)
+  pub closed : (y : ℕ) → known y ≡ true → (among waiting y ≡ true) ⊎ ((x : ℕ) → ends_next S y x ≡ true → known x ≡ true)
 
-module _ (S : State) (job : ℕ) (walkable : IsWalkable S job) where
-  apart : (x : ℕ) → (x == job) ≡ false → x ≢ job
-  apart x other same = true≢false (x == job) (eq-eqb x job same) other
-
-  -- what is below what is under the job is under it
-  child-under : (y x : ℕ) → is_under S job y ≡ true → is_child_in S (only y) x ≡ true → is_under S job x ≡ true
-  child-under y x under child =
-      let parent : y ≡ link_at S x = sym (eqb-true (link_at S x) y (child-parent S (only y) x child)) in
-      elim (x == job) as (λ b. (x == job) ≡ b → is_under S job x ≡ true) [
-        | true ↦ λ e. subst (λ z. is_under S job z ≡ true) (sym (eqb-true x job e)) (under-itself S job)
-        | false ↦ λ e. walkable x (apart x e) ∙ child-also S (only y) (is_under S job) x child (subst (λ z. is_under S job z ≡ true) parent under)
-      ] refl
-
-  pub walk-start : (none known : ℕ → Bool) (first waiting : List ℕ) → ((x : ℕ) → none x ≡ false) → first ≡ [] → ((x : ℕ) → known x ≡ (none x || (job == x))) → IsNoted none first known waiting → IsWalked S job known waiting
+module _ (S : State) (task : ℕ) (ending : ℕ → Bool) (walkable : IsWalkable S task ending) where
+  pub walk-start : (none known : ℕ → Bool) (first waiting : List ℕ) → ((x : ℕ) → none x ≡ false) → first ≡ [] → ((x : ℕ) → known x ≡ (none x || (task == x))) → IsNoted none first known waiting → IsWalked S task ending known waiting
   walk-start none known first waiting empty bare is noted = record {
-    under = λ x e. elim (or_true (none x) (job == x) (sym (is x) ∙ e)) [
+    inside = λ x e. elim (or_true (none x) (task == x) (sym (is x) ∙ e)) [
       | inl t ↦ absurd (true≢false (none x) t (empty x))
-      | inr same ↦ subst (λ z. is_under S job z ≡ true) (eqb-true job x same) (under-itself S job)
+      | inr same ↦ subst (λ z. ending z ≡ true) (eqb-true task x same) walkable.begun
     ];
-    begun = is job ∙ or_right (none job) (job == job) (eq-eqb job job refl);
+    begun = is task ∙ or_right (none task) (task == task) (eq-eqb task task refl);
     waits = λ x e. elim (noted.within x e) [
       | inl t ↦ let none_waits : false ≡ true = subst (λ l. among l x ≡ true) bare t in cc
       | inr k ↦ k
@@ -130,14 +105,14 @@ module _ (S : State) (job : ℕ) (walkable : IsWalkable S job) where
     ];
   }
 
-  -- one that waited has been looked below
-  pub walk-next : (at : ℕ) (known more : ℕ → Bool) (waiting rest later : List ℕ) → IsWalked S job known waiting → waiting ≡ rest ++ at ∷ [] → ((x : ℕ) → more x ≡ (known x || is_child_in S (only at) x)) → IsNoted known rest more later → IsWalked S job more later
+  -- one that waited has been looked at
+  pub walk-next : (at : ℕ) (known more : ℕ → Bool) (waiting rest later : List ℕ) → IsWalked S task ending known waiting → waiting ≡ rest ++ at ∷ [] → ((x : ℕ) → more x ≡ (known x || ends_next S at x)) → IsNoted known rest more later → IsWalked S task ending more later
   walk-next at known more waiting rest later walked popped is noted = record {
-    under = λ x e. elim (or_true (known x) (is_child_in S (only at) x) (sym (is x) ∙ e)) [
-      | inl k ↦ walked.under x k
-      | inr child ↦ child-under at x (walked.under at at_known) child
+    inside = λ x e. elim (or_true (known x) (ends_next S at x) (sym (is x) ∙ e)) [
+      | inl k ↦ walked.inside x k
+      | inr next ↦ walkable.closed at x (walked.inside at at_known) next
     ];
-    begun = grown job walked.begun;
+    begun = grown task walked.begun;
     waits = λ x e. elim (noted.within x e) [
       | inl r ↦ grown x (walked.waits x (has x ∙ or_left (among rest x) (at == x) r))
       | inr k ↦ k
@@ -155,48 +130,23 @@ module _ (S : State) (job : ℕ) (walkable : IsWalkable S job) where
       at_known = walked.waits at (has at ∙ or_right (among rest at) (at == at) (eq-eqb at at refl))
 
       grown : (x : ℕ) → known x ≡ true → more x ≡ true
-      grown x k = is x ∙ or_left (known x) (is_child_in S (only at) x) k
+      grown x k = is x ∙ or_left (known x) (ends_next S at x) k
 
-      looked : (y : ℕ) → (among waiting y ≡ true) ⊎ ((x : ℕ) → is_child_in S (only y) x ≡ true → known x ≡ true) → (among later y ≡ true) ⊎ ((x : ℕ) → is_child_in S (only y) x ≡ true → more x ≡ true)
+      looked : (y : ℕ) → (among waiting y ≡ true) ⊎ ((x : ℕ) → ends_next S y x ≡ true → known x ≡ true) → (among later y ≡ true) ⊎ ((x : ℕ) → ends_next S y x ≡ true → more x ≡ true)
       looked y (inl w) = elim (or_true (among rest y) (at == y) (sym (has y) ∙ w)) [
         | inl r ↦ inl (noted.still y r)
-        | inr same ↦ inr (λ x child. is x ∙ or_right (known x) (is_child_in S (only at) x) (subst (λ z. is_child_in S (only z) x ≡ true) (sym (eqb-true at y same)) child))
+        | inr same ↦ inr (λ x next. is x ∙ or_right (known x) (ends_next S at x) (subst (λ z. ends_next S z x ≡ true) (sym (eqb-true at y same)) next))
       ]
-      looked y (inr all) = inr (λ x child. grown x (all x child))
+      looked y (inr all) = inr (λ x next. grown x (all x next))
 
-  -- where nothing waits, all that has the job above by so many links is known
-  found-from : (known : ℕ → Bool) (waiting : List ℕ) → IsWalked S job known waiting → length waiting ≡ 0 → (n x : ℕ) → is_under S job x ≡ true → (x == job) ≡ false → among (links n S x) job ≡ true → known x ≡ true
-  found-from known waiting walked empty zero x under other above = absurd (true≢false (among (links 0 S x) job) above (ap (λ (l : List ℕ). among l job) (links-none S x)))
-  found-from known waiting walked empty (suc n) x under other above =
-      let l : ℕ = link_at S x in
-      let child : is_child_in S (is_under S job) x ≡ true = sym (walkable x (apart x other)) ∙ under in
-      let parent : is_under S job l ≡ true = child-parent S (is_under S job) x child in
-      let both : (not (l == 0) && ((l == job) || among (links n S l) job)) ≡ true = sym (links-among n S x job) ∙ ap (λ m. among (links m S x) job) (add-one n) ∙ above in
-      let there : known l ≡ true = elim (l == job) as (λ b. (l == job) ≡ b → known l ≡ true) [
-        | true ↦ λ e. subst (λ z. known z ≡ true) (sym (eqb-true l job e)) walked.begun
-        | false ↦ λ e. elim (or_true (l == job) (among (links n S l) job) (and_right (not (l == 0)) _ both)) [
-          | inl t ↦ absurd (true≢false (l == job) t e)
-          | inr t ↦ found-from known waiting walked empty n l parent e t
-        ]
-      ] refl in
-      elim (walked.closed l there) [
-        | inl w ↦ absurd (none-among waiting l empty w)
-        | inr all ↦ all x (child-also S (is_under S job) (only l) x child (eq-eqb l l refl))
-      ]
-
-  -- where nothing waits, what is known is what is under the job
-  pub walk-end : (known : ℕ → Bool) (waiting : List ℕ) → IsWalked S job known waiting → length waiting ≡ 0 → known ≡ is_under S job
+  -- where nothing waits, what is known is what ends
+  pub walk-end : (known : ℕ → Bool) (waiting : List ℕ) → IsWalked S task ending known waiting → length waiting ≡ 0 → known ≡ ending
   walk-end known waiting walked empty =
-      let each : (x : ℕ) → known x ≡ is_under S job x = λ x. same_test (known x) (is_under S job x) (walked.under x) (found x) in
+      let each : (x : ℕ) → known x ≡ ending x = λ x. same_test (known x) (ending x) (walked.inside x) (walkable.least known walked.begun next x) in
       λ i x. each x i
     where
-      found : (x : ℕ) → is_under S job x ≡ true → known x ≡ true
-      found x under = elim (x == job) as (λ b. (x == job) ≡ b → known x ≡ true) [
-        | true ↦ λ e. subst (λ z. known z ≡ true) (sym (eqb-true x job e)) walked.begun
-        | false ↦ λ e.
-            let above : among (chain S x) job ≡ true = and_right (is_live_task (object S x)) _ (sym (ap (λ b. b || (is_live_task (object S x) && among (chain S x) job)) e) ∙ under) in
-            found-from known waiting walked empty (x + 1) x under e (ap (λ (l : List ℕ). among l job) (sym (chain-links S x)) ∙ above)
-      ] refl
+      next : (y x : ℕ) → known y ≡ true → ends_next S y x ≡ true → known x ≡ true
+      next y x k h = elim (walked.closed y k) [ inl w ↦ absurd (none-among waiting y empty w) | inr all ↦ all x h ]
 
 -- ---- the members by rising koids
 

@@ -1,5 +1,5 @@
 -- Ending in parts is ending: rows of objects, tables and waits, member after member.
-use Rattle.std.proofs.Common.{◌≡◌, ◌<◌, ◌≤◌, ℕ, zero, suc, add-one, ◌+◌, Bool, true, false, cond, ◌&&◌, ◌||◌, List, length, take, get_or, ◌⊎◌, inl, inr, refl, sym, ap, ◌∙◌, arith, option_and_then, subst}
+use Rattle.std.proofs.Common.{◌≡◌, ◌<◌, ◌≤◌, ℕ, zero, suc, add-one, ◌+◌, Bool, true, false, not, cond, ◌&&◌, ◌||◌, List, length, take, get_or, ◌⊎◌, inl, inr, refl, sym, ap, ◌∙◌, arith, option_and_then, subst}
 use Rattle.std.specs.Option.{option_map_or}
 use Rattle.std.specs.Prelude.{Option, None, Some, ◌==◌, nat_lt, if◌then◌else◌}
 use Rattle.std.proofs.lemmas.Bool.{eqb-true, eq-eqb}
@@ -8,7 +8,9 @@ use Rattle.zt_rows.specs.declared.keys.RowKey.{RowKey}
 use Rattle.zt_rows.specs.declared.keys.RowKey.TheVariants as key
 use Rattle.zt_rows.specs.declared.rows.Held.{Held}
 use Rattle.zt_rows.specs.declared.rows.Life.{Life}
+use Rattle.zt_rows.specs.declared.rows.Life.TheVariants as life
 use Rattle.zt_rows.specs.declared.rows.ObjectRow.{ObjectRow}
+use Rattle.zt_rows.specs.declared.rows.Wait.{Wait}
 use Rattle.zt_rows.specs.declared.rows.Row.{Row}
 use Rattle.zt_rows.specs.declared.rows.Row.TheVariants as rows
 use Rattle.zt_rows.specs.Keys.{rowkey_eq}
@@ -24,10 +26,10 @@ use Rattle.zt_index.specs.Chains.{IsBehind}
 use Rattle.zt_index.specs.Criteria.{is_by, waits_where}
 use Rattle.zt_store.specs.KoidSets.{only}
 use Rattle.zt_jobs.specs.ProofsOnly.TaskTree.{IsRising}
-use Rattle.zt_jobs.specs.ProofsOnly.EndedTasks.{left_behind, with_end, without_tables, without_waits}
+use Rattle.zt_jobs.specs.ProofsOnly.EndedTasks.{left_behind, with_end, with_life, without_tables, without_waits}
 use Rattle.zt_jobs.specs.ProofsOnly.NextRow.{IsNextRow}
 use Rattle.zt_jobs.proofs.MemberLaws.{this_one}
-use Rattle.zt_jobs.proofs.WalkLaws.{behind-same, behind-change, change-then, IsSeen, seen-none, seen-put, seen-past, seen-all, none-left, unseen-left, below_more, below_same, below_none, below_past, below_all, below_over, below_or}
+use Rattle.zt_jobs.proofs.WalkLaws.{behind-same, behind-change, change-then, change-alike, IsSeen, seen-none, seen-put, seen-past, seen-all, none-left, unseen-left, below_more, below_same, below_none, below_past, below_all, below_over, below_or}
 
 -- ---- sets of processes and jobs
 
@@ -78,9 +80,9 @@ end-none S ending how x none = behind-same (with_end ending how) S (key.Object x
     stays (Some r) e = refl
     stays None e = refl
 
-pub end-some : (S : State) (how : Life) (x : ℕ) (o : ObjectRow) → object S x ≡ Some o → put S (key.Object x) (Some (rows.Object (record o { link = 0; life = how }))) ≡ left_behind (with_end (only x) how) S (key.Object x)
+pub end-some : (S : State) (how : Life) (x : ℕ) (o : ObjectRow) → object S x ≡ Some o → put S (key.Object x) (Some (rows.Object (record o { link = 0; life = how; critical = 0 }))) ≡ left_behind (with_end (only x) how) S (key.Object x)
 end-some S how x o there =
-    let ended : Bool → ObjectRow = λ b. record o { link = if b then 0 else o.link; life = if b then how else o.life } in
+    let ended : Bool → ObjectRow = λ b. record o { link = if b then 0 else o.link; life = if b then how else o.life; critical = if b then 0 else o.critical } in
     ap (put S (key.Object x)) (sym
     (ap (option_and_then (with_end (only x) how (key.Object x))) (object-row S x o there)
     ∙ ap (λ b. Some (rows.Object (ended b))) (eq-eqb x x refl)))
@@ -91,7 +93,7 @@ end-one S how x = behind-change (with_end (only x) how) S (key.Object x) (λ q a
   where
     other : (q : RowKey) → rowkey_eq q (key.Object x) ≡ false → (r : Option Row) → option_and_then (with_end (only x) how q) r ≡ r
     other (key.Object y) apart (Some (rows.Object o)) =
-        ap (λ b. Some (rows.Object (record o { link = if b then 0 else o.link; life = if b then how else o.life }))) apart
+        ap (λ b. Some (rows.Object (record o { link = if b then 0 else o.link; life = if b then how else o.life; critical = if b then 0 else o.critical }))) apart
     other _ apart (Some r) = refl
     other q apart None = refl
 
@@ -101,8 +103,8 @@ end-more S before after how x is = change-then (with_end (only x) how) (with_end
   where
     at : (k : RowKey) (r : Row) → option_and_then (with_end (only x) how k) (with_end before how k r) ≡ with_end after how k r
     at (key.Object y) (rows.Object o) =
-        (λ i. Some (rows.Object (record o { link = if-either (before y) (only x y) 0 o.link i; life = if-either (before y) (only x y) how o.life i })))
-        ∙ ap (λ b. Some (rows.Object (record o { link = if b then 0 else o.link; life = if b then how else o.life }))) (sym (is y))
+        (λ i. Some (rows.Object (record o { link = if-either (before y) (only x y) 0 o.link i; life = if-either (before y) (only x y) how o.life i; critical = if-either (before y) (only x y) 0 o.critical i })))
+        ∙ ap (λ b. Some (rows.Object (record o { link = if b then 0 else o.link; life = if b then how else o.life; critical = if b then 0 else o.critical }))) (sym (is y))
     at _ r = refl
 
 -- nothing has ended
@@ -110,7 +112,7 @@ pub end-nothing : (S : State) (before : ℕ → Bool) (how : Life) → ((y : ℕ
 end-nothing S before how none = same_state _ _ (λ q. sym (row-change (with_end before how) S q ∙ at q (row S q)))
   where
     at : (q : RowKey) (r : Option Row) → option_and_then (with_end before how q) r ≡ r
-    at (key.Object y) (Some (rows.Object o)) = ap (λ b. Some (rows.Object (record o { link = if b then 0 else o.link; life = if b then how else o.life }))) (none y)
+    at (key.Object y) (Some (rows.Object o)) = ap (λ b. Some (rows.Object (record o { link = if b then 0 else o.link; life = if b then how else o.life; critical = if b then 0 else o.critical }))) (none y)
     at _ (Some r) = refl
     at q None = refl
 
@@ -382,3 +384,77 @@ parts S ending how =
 -- the same set said otherwise
 pub end-alike : (S : State) (a b : ℕ → Bool) (how : Life) → ((x : ℕ) → a x ≡ b x) → end S a how ≡ end S b how
 end-alike S a b how same = ap (λ e. end S e how) (λ i x. same x i)
+
+-- ---- one that ends otherwise than the rest
+
+pub life-none : (S : State) (x : ℕ) (how : Life) → object S x ≡ None → S ≡ left_behind (with_life x how) S (key.Object x)
+life-none S x how none = behind-same (with_life x how) S (key.Object x) (stays (row S (key.Object x)) none)
+  where
+    stays : (r : Option Row) → as_object r ≡ None → option_and_then (with_life x how (key.Object x)) r ≡ r
+    stays (Some (rows.Object o)) e = cc
+    stays (Some r) e = refl
+    stays None e = refl
+
+pub life-some : (S : State) (x : ℕ) (how : Life) (o : ObjectRow) → object S x ≡ Some o → put S (key.Object x) (Some (rows.Object (record o { life = how }))) ≡ left_behind (with_life x how) S (key.Object x)
+life-some S x how o there =
+    ap (put S (key.Object x)) (sym
+    (ap (option_and_then (with_life x how (key.Object x))) (object-row S x o there)
+    ∙ ap (λ b. Some (rows.Object (record o { life = if b then how else o.life }))) (eq-eqb x x refl)))
+
+-- the row of one object is all that changes
+life-one : (S : State) (x : ℕ) (how : Life) → left_behind (with_life x how) S (key.Object x) ≡ change (with_life x how) S
+life-one S x how = behind-change (with_life x how) S (key.Object x) (λ q apart. other q apart (row S q))
+  where
+    other : (q : RowKey) → rowkey_eq q (key.Object x) ≡ false → (r : Option Row) → option_and_then (with_life x how q) r ≡ r
+    other (key.Object y) apart (Some (rows.Object o)) = ap (λ b. Some (rows.Object (record o { life = if b then how else o.life }))) apart
+    other _ apart (Some r) = refl
+    other q apart None = refl
+
+-- an object after an end of this kind, if it ended
+abbrev after : Bool → Life → ObjectRow → ObjectRow
+after b left o = record o { link = if b then 0 else o.link; life = if b then left else o.life; critical = if b then 0 else o.critical }
+
+-- a member that ends so after all were killed, and one that ends so before the others are killed
+pub exit-parts : (S : State) (ending : ℕ → Bool) (p : ℕ) (how : Life) → ending p ≡ true → left_behind (with_life p how) (end S ending life.Killed) (key.Object p) ≡ end (end S (λ x. x == p) how) (λ x. ending x && not (x == p)) life.Killed
+unfolding end
+exit-parts S ending p how member =
+    life-one (end S ending life.Killed) p how
+    ∙ change-then (with_life p how) (left_by ending life.Killed) (λ k r. option_and_then (with_life p how k) (left_by ending life.Killed k r)) S (λ k r. refl)
+    ∙ change-alike _ _ S at
+    ∙ sym (change-then (left_by others life.Killed) (left_by (λ x. x == p) how) (λ k r. option_and_then (left_by others life.Killed k) (left_by (λ x. x == p) how k r)) S (λ k r. refl))
+  where
+    others : ℕ → Bool
+    others x = ending x && not (x == p)
+
+    inside : (x : ℕ) → (x == p) ≡ true → ending x ≡ true
+    inside x same = subst (λ z. ending z ≡ true) (sym (eqb-true x p same)) member
+
+    object-alike : (a e : Bool) (o : ObjectRow) → (e ≡ true → a ≡ true) → record (after a life.Killed o) { life = if e then how else (if a then life.Killed else o.life) } ≡ after (a && not e) life.Killed (after e how o)
+    object-alike true true o h = refl
+    object-alike true false o h = refl
+    object-alike false false o h = refl
+    object-alike false true o h = let t : false ≡ true = h refl in cc
+
+    gone-alike : (a e : Bool) (f : Row → Option Row) (r : Row) → (e ≡ true → a ≡ true) → f r ≡ (if (a && not e) then None else Some r) → (if a then None else Some r) ≡ option_and_then f (if e then None else Some r)
+    gone-alike true true f r h g = refl
+    gone-alike true false f r h g = sym g
+    gone-alike false false f r h g = sym g
+    gone-alike false true f r h g = let t : false ≡ true = h refl in cc
+
+    kept-entry : (b : Bool) (q h : ℕ) (held : Held) → option_and_then (with_life p how (key.Entry q h)) (if b then None else Some (rows.Entry held)) ≡ (if b then None else Some (rows.Entry held))
+    kept-entry true q h held = refl
+    kept-entry false q h held = refl
+
+    kept-wait : (b : Bool) (n : ℕ) (w : Wait) → option_and_then (with_life p how (key.Wait n)) (if b then None else Some (rows.Wait w)) ≡ (if b then None else Some (rows.Wait w))
+    kept-wait true n w = refl
+    kept-wait false n w = refl
+
+    at : (k : RowKey) (r : Row) → option_and_then (with_life p how k) (left_by ending life.Killed k r) ≡ option_and_then (left_by others life.Killed k) (left_by (λ x. x == p) how k r)
+    at (key.Object x) (rows.Object o) = ap (λ z. Some (rows.Object z)) (object-alike (ending x) (x == p) o (inside x))
+    at (key.Entry q h) (rows.Entry held) =
+        kept-entry (ending q) q h held
+        ∙ gone-alike (ending q) (q == p) (left_by others life.Killed (key.Entry q h)) (rows.Entry held) (inside q) refl
+    at (key.Wait n) (rows.Wait w) =
+        kept-wait (ending w.process) n w
+        ∙ gone-alike (ending w.process) (w.process == p) (left_by others life.Killed (key.Wait n)) (rows.Wait w) (inside w.process) refl
+    at _ r = refl

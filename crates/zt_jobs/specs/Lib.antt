@@ -1,5 +1,5 @@
 -- Definitions to believe: public clauses are stated in them.
-pub mod TaskTree
+pub mod EndingWalk
 pub mod EndedTasks
 -- Used by proofs only: no public clause depends on them.
 pub mod ProofsOnly

@@ -2,4 +2,4 @@
 pub mod TaskTree
 pub mod EndedTasks
 pub mod NextRow
-pub mod SubtreeWalk
+pub mod EndingWalk

@@ -1,84 +1,103 @@
-ghost use Rattle.std.specs.Prelude.{◌≡◌, ◌==◌, IfOk, OnOk, OnErr};
+ghost use Rattle.std.specs.Prelude.{◌≡◌, ◌==◌, true, IfOk, OnOk, OnErr};
 ghost use Rattle.zt_rows.specs.declared.keys.RowKey.TheVariants as key_variant;
-ghost use Rattle.zt_rows.specs.End.{end, is_under};
+ghost use Rattle.zt_rows.specs.declared.rows.Life.TheVariants as life_variant;
+ghost use Rattle.zt_rows.specs.End.{end, ends_with};
+ghost use Rattle.zt_rows.specs.JobCalls.{others};
 ghost use Rattle.zt_rows.specs.State.{change};
 ghost use Rattle.zt_rows.specs.Tests.{among};
 ghost use Rattle.zt_store.specs.Places.{Keeps};
 ghost use Rattle.zt_store.specs.StepView.{Advanced, AsBegun};
 ghost use Rattle.zt_store.specs.ProofsOnly.StepView.{IsAhead};
 ghost use Rattle.zt_store.specs.KoidSets.{only};
-ghost use Rattle.zt_jobs.specs.TaskTree.{IsWalkable};
+ghost use Rattle.zt_jobs.specs.EndingWalk.{IsWalkable};
 ghost use Rattle.zt_jobs.specs.ProofsOnly.TaskTree.{IsRising};
 ghost use Rattle.zt_jobs.specs.EndedTasks.{handles_of};
-ghost use Rattle.zt_jobs.specs.ProofsOnly.EndedTasks.{left_behind, with_end};
+ghost use Rattle.zt_jobs.specs.ProofsOnly.EndedTasks.{left_behind, with_end, with_life};
 
 use crate::ended_tables::take_tables;
 use crate::ended_waits::drop_waits;
-use crate::subtree::members_under;
+use crate::ending_set::members_ending;
 use std::alloc::{AllocError, Global};
 use zt_rows::{Held, Koid, Life, ObjectRow, Row, RowKey};
 use zt_store::Step;
 
-/// Ends the process and nothing else: it has no parent any more, its entries go, and so do the waits that it made.
-/// Answers what its entries held, by rising value. The work grows with the places that its entries had and with its
-/// waits: no other row is looked at.
+/// Ends the process so, and kills what else ends with it: each of them has no parent any more, their entries go, and
+/// so do the waits that they made. Answers what the entries held, by rising process and value. The work grows with
+/// what ends, with the places that its entries had and with its waits: no other row is looked at.
 pub fn end_process(
     alloc: Global,
     step: &mut Step,
     process: Koid,
     how: Life,
 ) -> Result<Vec<Held>, AllocError>
+    requires { let S = step.old.current in IsWalkable S process (ends_with S process) }
     ensures handles { let S = step.old.current in
-        IfOk result (λ taken. taken.items ≡ handles_of S (λ x. x == process)) }
-    ensures ended { OnOk result (Advanced step.old step.new (end step.old.current (λ x. x == process) how)) }
+        IfOk result (λ taken. taken.items ≡ handles_of S (ends_with S process)) }
+    ensures ended { let S = step.old.current in OnOk result (Advanced step.old step.new
+        (end (end S (λ x. x == process) how) (others S process) life_variant.Killed)) }
     ensures err { OnErr result (AsBegun step.old step.new) }
     ensures kept { Keeps step.old.places step.new.places }
 {
-    end_members(alloc, step, &[process], how)
+    let Ok(members) = members_ending(alloc, step, process) else {
+        step.reset();
+        return Err(AllocError);
+    };
+    let done = exit_all(alloc, step, members.as_slice(), process, how);
+    if done.is_err() {
+        step.reset();
+    }
+    done
 }
 
-/// Ends the job and all that is under it: each of them has no parent any more, their entries go, and so do the waits
-/// that they made. Answers what the entries held, by rising process and value. The work grows with what is under the
-/// job, with the places that their entries had and with their waits: no other row is looked at.
+/// Ends the job so and all that ends with it: each of them has no parent any more, their entries go, and so do the
+/// waits that they made. Answers what the entries held, by rising process and value. The work grows with what ends,
+/// with the places that their entries had and with their waits: no other row is looked at.
 pub fn end_subtree(
     alloc: Global,
     step: &mut Step,
     job: Koid,
     how: Life,
 ) -> Result<Vec<Held>, AllocError>
-    requires { IsWalkable step.old.current job }
+    requires { let S = step.old.current in IsWalkable S job (ends_with S job) }
     ensures handles { let S = step.old.current in
-        IfOk result (λ taken. taken.items ≡ handles_of S (is_under S job)) }
+        IfOk result (λ taken. taken.items ≡ handles_of S (ends_with S job)) }
     ensures ended { let S = step.old.current in
-        OnOk result (Advanced step.old step.new (end S (is_under S job) how)) }
+        OnOk result (Advanced step.old step.new (end S (ends_with S job) how)) }
     ensures err { OnErr result (AsBegun step.old step.new) }
     ensures kept { Keeps step.old.places step.new.places }
 {
-    let Ok(members) = members_under(alloc, step, job) else {
+    let Ok(members) = members_ending(alloc, step, job) else {
         step.reset();
         return Err(AllocError);
     };
-    end_members(alloc, step, members.as_slice(), how)
-}
-
-/// Ends the members, and answers what their entries held.
-fn end_members(
-    alloc: Global,
-    step: &mut Step,
-    members: &[Koid],
-    how: Life,
-) -> Result<Vec<Held>, AllocError>
-    requires { IsRising members.now }
-    ensures handles { IfOk result (λ taken. taken.items ≡ handles_of step.old.current (among members.now)) }
-    ensures ended { OnOk result (Advanced step.old step.new (end step.old.current (among members.now) how)) }
-    ensures err { OnErr result (AsBegun step.old step.new) }
-    ensures kept { Keeps step.old.places step.new.places }
-{
-    let done = end_all(alloc, step, members, how);
+    let done = end_all(alloc, step, members.as_slice(), how);
     if done.is_err() {
         step.reset();
     }
     done
+}
+
+/// Kills the members, which end with the process, but for the process itself, which ends so. Answers what their entries
+/// held. Refused, the step stands in the middle of it.
+fn exit_all(
+    alloc: Global,
+    step: &mut Step,
+    members: &[Koid],
+    process: Koid,
+    how: Life,
+) -> Result<Vec<Held>, AllocError>
+    requires rising { IsRising members.now }
+    requires members { among members.now ≡ ends_with step.old.current process }
+    requires member { ends_with step.old.current process process ≡ true }
+    ensures ahead { IsAhead step.old step.new }
+    ensures handles { let S = step.old.current in
+        IfOk result (λ taken. taken.items ≡ handles_of S (ends_with S process)) }
+    ensures ended { let S = step.old.current in OnOk result (step.new.current
+        ≡ end (end S (λ x. x == process) how) (others S process) life_variant.Killed) }
+{
+    let taken = end_all(alloc, step, members, Life::Killed)?;
+    set_life(step, process, how)?;
+    Ok(taken)
 }
 
 /// Ends the members, and answers what their entries held. Refused, the step stands in the middle of it.
@@ -120,6 +139,22 @@ fn end_task(step: &mut Step, koid: Koid, how: Life) -> Result<(), AllocError>
     };
     let ended = ObjectRow {
         link: Koid(0),
+        life: how,
+        critical: Koid(0),
+        ..object
+    };
+    step.put(RowKey::Object(koid), Some(Row::Object(ended)))
+}
+
+/// Writes into the row of the object that it ended so, and leaves the rest of it.
+fn set_life(step: &mut Step, koid: Koid, how: Life) -> Result<(), AllocError>
+    ensures ahead { IsAhead step.old step.new }
+    ensures ok { OnOk result (step.new.current ≡ left_behind (with_life koid how) step.old.current (key_variant.Object koid)) }
+{
+    let Some(object) = step.object(koid) else {
+        return Ok(());
+    };
+    let ended = ObjectRow {
         life: how,
         ..object
     };

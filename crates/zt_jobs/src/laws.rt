@@ -1,16 +1,15 @@
 //! What holds of the tree of jobs. Each law is the contract of a function that does nothing.
-ghost use Rattle.std.specs.Prelude.{ℕ};
+ghost use Rattle.std.specs.Prelude.{◌≡◌, ℕ, true, Some};
+ghost use Rattle.zt_rows.specs.declared.rows.ObjectRow.{ObjectRow};
 ghost use Rattle.zt_rows.specs.State.{State};
+ghost use Rattle.zt_rows.specs.Reads.{object};
+ghost use Rattle.zt_rows.specs.End.{ends_with, is_live_task};
 ghost use Rattle.zt_rows.specs.Consistent.{IsSound};
-ghost use Rattle.zt_jobs.specs.TaskTree.{HasParents, IsWalkable};
+ghost use Rattle.zt_jobs.specs.EndingWalk.{IsWalkable};
 
-/// In a sound state the parent of a live process or job is live, and has a smaller koid.
-pub fn sound_states_have_parents()
-    ensures { (S : State) → IsSound S → HasParents S }
-{}
-
-/// Where parents are so, what is under any job, but for the job itself, is exactly the live processes and jobs whose parent
-/// is under it: so a walk from parent to child comes to all of it, and to nothing else.
-pub fn a_subtree_is_closed_under_children()
-    ensures { (S : State) (job : ℕ) → HasParents S → IsWalkable S job }
+/// In a sound state the walk from parent to child and from process to critical job, begun at a live process or job,
+/// finds what ends with it, and nothing else.
+pub fn sound_states_are_walkable()
+    ensures { (S : State) (x : ℕ) (o : ObjectRow) → IsSound S → object S x ≡ Some o → is_live_task (Some o) ≡ true
+        → IsWalkable S x (ends_with S x) }
 {}

@@ -7,8 +7,8 @@ ghost use Rattle.zt_store.specs.Places.{Keeps};
 ghost use Rattle.zt_store.specs.StepView.{Advanced, AsBegun};
 
 use std::alloc::AllocError;
-use zt_bits::{Kind, Signals};
-use zt_rows::{Counters, HandleValue, Held, Koid, Life, ObjectRow, Row, RowKey};
+use zt_bits::Kind;
+use zt_rows::{Counters, HandleValue, Held, Koid, ObjectRow, Row, RowKey};
 use zt_store::Step;
 
 /// A new live job under the parent, at the next koid.
@@ -20,7 +20,7 @@ pub fn make_job(step: &mut Step, parent: Koid) -> Result<Koid, AllocError>
     ensures err { OnErr result (AsBegun step.old step.new) }
     ensures kept { Keeps step.old.places step.new.places }
 {
-    make(step, fresh(Kind::Job, parent))
+    make(step, ObjectRow::new(Kind::Job, parent))
 }
 
 /// A new live process under the job, at the next koid. What is handed over is its first handle.
@@ -62,25 +62,12 @@ fn make(step: &mut Step, object: ObjectRow) -> Result<Koid, AllocError>
     Ok(koid)
 }
 
-/// A new live object of the kind, linked so.
-fn fresh(kind: Kind, link: Koid) -> ObjectRow
-    ensures { result ≡ fresh kind link }
-{
-    ObjectRow {
-        kind,
-        signals: Signals(0),
-        link,
-        life: Life::Live,
-        next: 0,
-    }
-}
-
 /// A new live process under the job, which has received a handle or none.
 fn child(has_handle: bool, job: Koid) -> ObjectRow
     ensures { result ≡ record (fresh kind_variant.Process job) { next = if has_handle then 1 else 0 } }
 {
     ObjectRow {
         next: u64::from(has_handle),
-        ..fresh(Kind::Process, job)
+        ..ObjectRow::new(Kind::Process, job)
     }
 }

@@ -2,6 +2,7 @@ ghost use Rattle.std.specs.Prelude.{◌≡◌, ◌+◌, ◌<◌, ◌^◌};
 ghost use Rattle.zt_rows.specs.End.{chain, depth, is_live_task, is_under};
 ghost use Rattle.zt_rows.specs.Reads.{object};
 ghost use Rattle.zt_rows.specs.Tests.{among, link_at};
+ghost use Rattle.zt_jobs.specs.EndingWalk.{critical_at};
 
 use zt_bits::Kind;
 use zt_rows::{Koid, Life};
@@ -71,6 +72,16 @@ pub(crate) fn link_of(step: &Step, koid: Koid) -> Koid
 {
     match step.object(koid) {
         Some(object) => object.link,
+        None => Koid(0),
+    }
+}
+
+/// The job that the object is critical to, 0 for none. It takes no memory.
+pub(crate) fn critical_of(step: &Step, koid: Koid) -> Koid
+    ensures { result ≡ critical_at step.now.current koid }
+{
+    match step.object(koid) {
+        Some(object) => object.critical,
         None => Koid(0),
     }
 }

@@ -21,15 +21,15 @@ use Rattle.zt_rows.specs.declared.rows.Row.TheVariants as rows
 use Rattle.zt_rows.specs.declared.rows.Wait.{Wait}
 use Rattle.zt_rows.specs.Contents.{MessageContent}
 use Rattle.zt_rows.specs.State.{State, put}
-use Rattle.zt_rows.specs.Reads.{as_counters, as_object, as_entry, as_message, counters, object, entry, message, queue, packets, is_job, is_live, runs}
+use Rattle.zt_rows.specs.Reads.{as_counters, as_object, as_entry, as_message, counters, object, entry, message, queue, packets, is_job, is_process, is_live, runs}
 use Rattle.zt_rows.specs.Tests.{any_kind, is_channel, is_port, is_endpoint, is_task, among, first, raised, next_at, object_next, without_bits, any_row}
 use Rattle.zt_rows.specs.Settle.{push_packet}
-use Rattle.zt_rows.specs.End.{depth, ends_with, end}
+use Rattle.zt_rows.specs.End.{depth, is_under, ends_with, end}
 use Rattle.zt_rows.specs.Handles.{◌>>=◌, handle, answered, done, caller, take_out, take_out_all, install, whole, fresh, next_koid, make, make_pair}
 use Rattle.zt_rows.specs.ObjectCalls.{create, create_pair, received, handle_close, handle_duplicate, handle_replace, may_set, set_signals, object_signal, object_signal_peer}
 use Rattle.zt_rows.specs.ChannelCalls.{sent, push_message, channel_write, has_room_for, take_message, refuse_message, channel_read}
 use Rattle.zt_rows.specs.PortCalls.{object_wait_async, pending, most_pending, port_queue, port_wait, is_cancelled, port_cancel}
-use Rattle.zt_rows.specs.JobCalls.{most_depth, job_create, argument, child, hand_over, spawn, task_kill, process_exit}
+use Rattle.zt_rows.specs.JobCalls.{most_depth, job_create, argument, child, hand_over, spawn, job_set_critical, task_kill, others, process_exit}
 use Rattle.zt_rows.specs.Step.{direct}
 use Rattle.zt_rows.specs.Consistent.{SoundMessage, IsSound}
 use Rattle.zt_rows.proofs.StateLaws.{row-put}
@@ -260,16 +260,26 @@ module _ (S : State) (sound : IsSound S) (p : ℕ) (live : runs S p ≡ true) wh
       let e : Direct S U = direct-entry S T d (next_koid S) 3 given (known-entry S p arg given handed.entry_there) in
       direct-install S U e p (caller S p) was-caller (whole (next_koid S) kind.Process) next-known)))
 
+  direct-job_set_critical : (job process : ℕ) → Direct S (job_set_critical S p job process).0
+  direct-job_set_critical job process =
+      after_handle (Direct S) S status.WrongType p job is_job 0x200 _ begun (λ over q named.
+      after_handle (Direct S) S status.WrongType p process is_process 0x4000 _ begun (λ held o found.
+      after_check (Direct S) S (o.critical == 0) status.AlreadyBound _ begun (λ free.
+      after_check (Direct S) S (is_under S over.koid held.koid) status.InvalidArgs _ begun (λ under.
+      direct-object S S begun held.koid (record o { critical = over.koid }) (is_old o found.object_there (record { kind = refl; life = λ e. e; link = inl refl }))))))
+
   direct-task_kill : (h : ℕ) → Direct S (task_kill S p h).0
   direct-task_kill h =
       after_handle (Direct S) S status.WrongType p h is_task 0x200 _ begun (λ held task found.
-      elim (is_live task.life) as (λ b. Direct S (if b then end S (ends_with S task.kind held.koid) life.Killed else S)) [
-        | true ↦ direct-end S S begun (ends_with S task.kind held.koid) life.Killed refl
+      elim (is_live task.life) as (λ b. Direct S (if b then end S (ends_with S held.koid) life.Killed else S)) [
+        | true ↦ direct-end S S begun (ends_with S held.koid) life.Killed refl
         | false ↦ begun
       ])
 
   direct-process_exit : (code : ℤ) → Direct S (process_exit S p code).0
-  direct-process_exit code = direct-end S S begun (λ x. x == p) (life.Exited code) refl
+  direct-process_exit code =
+      let T : State = end S (λ x. x == p) (life.Exited code) in
+      direct-end S T (direct-end S S begun (λ x. x == p) (life.Exited code) refl) (others S p) life.Killed refl
 
   -- every call
   pub direct-call : (c : Call) → Direct S (direct S p c).0
@@ -291,5 +301,6 @@ module _ (S : State) (sound : IsSound S) (p : ℕ) (live : runs S p ≡ true) wh
   direct-call (call.PortCancel port source packet_key) = direct-port_cancel port source packet_key
   direct-call (call.JobCreate job) = direct-job_create job
   direct-call (call.Spawn job arg) = direct-spawn job arg
+  direct-call (call.JobSetCritical job process) = direct-job_set_critical job process
   direct-call (call.TaskKill h) = direct-task_kill h
   direct-call (call.ProcessExit code) = direct-process_exit code

@@ -268,7 +268,7 @@ module _ (S T : State) (d : Direct S T) where
   aged-ended : (ending : ℕ → Bool) (how : Life) → is_live how ≡ false → (x : ℕ) (o : ObjectRow) → Aged o (ended ending how x o)
   aged-ended ending how dead x o = by_test (ending x)
     where
-      by_test : (b : Bool) → Aged o (record o { link = if b then 0 else o.link; life = if b then how else o.life })
+      by_test : (b : Bool) → Aged o (record o { link = if b then 0 else o.link; life = if b then how else o.life; critical = if b then 0 else o.critical })
       by_test true = record { kind = refl; life = λ e. absurd (true≢false (is_live how) e dead); link = inr refl }
       by_test false = record { kind = refl; life = λ e. e; link = inl refl }
 

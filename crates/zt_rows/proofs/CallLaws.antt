@@ -12,7 +12,7 @@ use Rattle.zt_rows.proofs.StepLaws.{consistent-completed, sound-create_call, sou
 use Rattle.zt_rows.proofs.SentLaws.{sound-channel_write}
 use Rattle.zt_rows.proofs.ReceivedLaws.{sound-channel_read}
 use Rattle.zt_rows.proofs.PortSteps.{sound-object_wait_async, sound-port_queue, sound-port_wait, sound-port_cancel}
-use Rattle.zt_rows.proofs.JobSteps.{sound-job_create, sound-spawn, sound-task_kill, sound-process_exit}
+use Rattle.zt_rows.proofs.JobSteps.{sound-job_create, sound-spawn, sound-job_set_critical, sound-task_kill, sound-process_exit}
 
 pub sound-direct : (S : State) (p : ℕ) (c : Call) → IsSound S → runs S p ≡ true → IsCall c → IsSound (direct S p c).0
 unfolding direct
@@ -33,6 +33,7 @@ sound-direct S p (call.PortWait port) sound live is = sound-port_wait S p port s
 sound-direct S p (call.PortCancel port source packet_key) sound live is = sound-port_cancel S p port source packet_key sound
 sound-direct S p (call.JobCreate job) sound live is = sound-job_create S p job sound live
 sound-direct S p (call.Spawn job argument) sound live is = sound-spawn S p job argument sound live
+sound-direct S p (call.JobSetCritical job process) sound live is = sound-job_set_critical S p job process sound
 sound-direct S p (call.TaskKill h) sound live is = sound-task_kill S p h sound
 sound-direct S p (call.ProcessExit code) sound live is = sound-process_exit S p code sound live
 

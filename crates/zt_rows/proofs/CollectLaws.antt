@@ -54,7 +54,7 @@ stays-supported S x h e =
 left-all : (going : ℕ → Bool) → ((x : ℕ) → going x ≡ false) → (k : RowKey) (r : Row) → left going k r ≡ Some r
 left-all going none (key.Object x) (rows.Object o) =
     let link : (if is_endpoint o.kind && going o.link then 0 else o.link) ≡ o.link = ap (λ b. if b then 0 else o.link) (and_no_right (is_endpoint o.kind) _ (none o.link)) in
-    let same : unlinked going o ≡ o = λ i. record { kind = o.kind; signals = o.signals; link = link i; life = o.life; next = o.next } in
+    let same : unlinked going o ≡ o = λ i. record { kind = o.kind; signals = o.signals; link = link i; life = o.life; next = o.next; critical = o.critical } in
     then_none (going x) (rows.Object (unlinked going o)) (none x) ∙ ap (λ q. Some (rows.Object q)) same
 left-all going none (key.Msg e n) (rows.Msg m) = then_none (going e) _ (none e)
 left-all going none (key.Packet p n) (rows.Packet k) = then_none (going p) _ (none p)

@@ -1,6 +1,6 @@
 -- A set of live processes and jobs that ends leaves a sound state sound where no live process or job is left under
 -- a job that ended; what ends with a job is such a set.
-use Rattle.std.proofs.Common.{◌≡◌, ◌≤◌, ◌<◌, ℕ, ◌+◌, Bool, true, false, cond, ◌&&◌, ◌||◌, ◌∷◌, inl, inr, refl, sym, ap, ◌∙◌, subst, arith}
+use Rattle.std.proofs.Common.{◌≡◌, ◌≤◌, ◌<◌, ℕ, ◌+◌, Bool, true, false, cond, ◌&&◌, ◌||◌, inl, inr, refl, sym, ap, ◌∙◌, subst, arith}
 use Rattle.std.specs.Prelude.{Option, None, Some, option_and_then, is_some, if◌then◌else◌, ◌==◌}
 use Rattle.std.specs.Option.{option_map}
 use Rattle.std.proofs.lemmas.Bool.{eqb-true}
@@ -11,7 +11,6 @@ use Rattle.zt_rows.specs.declared.keys.RowKey.TheVariants as key
 use Rattle.zt_rows.specs.declared.rows.Counters.{Counters}
 use Rattle.zt_rows.specs.declared.rows.Held.{Held}
 use Rattle.zt_rows.specs.declared.rows.Life.{Life}
-use Rattle.zt_rows.specs.declared.rows.Life.TheVariants as life
 use Rattle.zt_rows.specs.declared.rows.ObjectRow.{ObjectRow}
 use Rattle.zt_rows.specs.declared.rows.Packet.{Packet}
 use Rattle.zt_rows.specs.declared.rows.Wait.{Wait}
@@ -20,19 +19,18 @@ use Rattle.zt_rows.specs.declared.rows.Row.TheVariants as rows
 use Rattle.zt_rows.specs.Contents.{MessageContent}
 use Rattle.zt_rows.specs.State.{State, row}
 use Rattle.zt_rows.specs.Reads.{as_counters, as_object, as_entry, as_message, as_packet, as_wait, counters, object, entry, message, packet, wait, is_live, is_job, is_process, is_live_process, is_live_job, runs}
-use Rattle.zt_rows.specs.Tests.{exists, kind_at, next_at, object_link, object_next, is_endpoint, among, count_row}
+use Rattle.zt_rows.specs.Tests.{exists, kind_at, next_at, object_link, object_next, is_endpoint, count_row}
 use Rattle.zt_rows.specs.Room.{suits, is_wait}
 use Rattle.zt_rows.specs.Support.{root_job}
 use Rattle.zt_rows.specs.PortCalls.{is_user_packet_of, pending, most_pending}
 use Rattle.zt_rows.specs.JobCalls.{most_depth}
 use Rattle.zt_rows.specs.Handles.{next_koid}
-use Rattle.zt_rows.specs.End.{chain, depth, is_live_task, is_under, left_by, end}
-use Rattle.zt_rows.specs.Consistent.{IsPeer, IsChild, has_parent, may_be, SoundObject, SoundEntry, SoundMessage, SoundPacket, SoundWait, IsSound}
+use Rattle.zt_rows.specs.End.{depth, left_by, end}
+use Rattle.zt_rows.specs.Consistent.{IsPeer, IsChild, has_parent, may_be, SoundObject, SoundCritical, SoundEntry, SoundMessage, SoundPacket, SoundWait, IsSound}
 use Rattle.zt_rows.proofs.StateLaws.{row-change}
-use Rattle.zt_rows.proofs.RowLaws.{or_true, or_left, or_right, and_left, and_right, and_both, true≢false, not_true, count_row-change}
+use Rattle.zt_rows.proofs.RowLaws.{or_left, or_right, true≢false, not_true, count_row-change}
 use Rattle.zt_rows.proofs.ReadLaws.{some_one, only_if, none_either, if_none}
-use Rattle.zt_rows.proofs.SoundLaws.{is_task, task-not-endpoint, has_parent-task, runs-some, some-runs, all_map, SameLinks, same_depth, sound-above, changed-suits}
-use Rattle.zt_rows.proofs.ChainLaws.{chain-child}
+use Rattle.zt_rows.proofs.SoundLaws.{is_task, task-not-endpoint, process-not-job, has_parent-task, runs-some, some-runs, all_map, SameLinks, same_chain, same_depth, same_critical, sound-above, changed-suits}
 use Rattle.zt_rows.proofs.GivenLaws.{growth, OfKind, as_it_was, Spends}
 
 module _ (ending : ℕ → Bool) (how : Life) where
@@ -40,7 +38,19 @@ module _ (ending : ℕ → Bool) (how : Life) where
 
   -- the row of a process or job, which ends if it is of the set
   abbrev pub ended : ℕ → ObjectRow → ObjectRow
-  ended x o = record o { link = if ending x then 0 else o.link; life = if ending x then how else o.life }
+  ended x o = record o { link = if ending x then 0 else o.link; life = if ending x then how else o.life; critical = if ending x then 0 else o.critical }
+
+  -- what has ended is not live
+  pub not_live_after : is_live how ≡ false → (x : ℕ) (o : ObjectRow) → ending x ≡ true → is_task (ended x o) ≡ false
+  not_live_after over x o t =
+      let dead : is_live (ended x o).life ≡ false = ap (λ b. is_live (if b then how else o.life)) t ∙ over in
+      (λ i. (is_job o.kind && dead i) || (is_process o.kind && dead i)) ∙ neither (is_job o.kind) (is_process o.kind)
+    where
+      neither : (a b : Bool) → ((a && false) || (b && false)) ≡ false
+      neither true true = refl
+      neither true false = refl
+      neither false true = refl
+      neither false false = refl
 
   object-left : (x : ℕ) (r : Option Row) → as_object (option_and_then (left_by ending how (key.Object x)) r) ≡ option_map (ended x) (as_object r)
   object-left x (Some (rows.Object o)) = refl
@@ -132,8 +142,8 @@ module _ (ending : ℕ → Bool) (how : Life) where
         of_map None f = cc
 
     -- one outside the set is as it was
-    outside-is : (x : ℕ) (o : ObjectRow) → ending x ≡ false → ended x o ≡ o
-    outside-is x o out = ap (λ b. record o { link = if b then 0 else o.link; life = if b then how else o.life }) out
+    pub outside-is : (x : ℕ) (o : ObjectRow) → ending x ≡ false → ended x o ≡ o
+    outside-is x o out = ap (λ b. record o { link = if b then 0 else o.link; life = if b then how else o.life; critical = if b then 0 else o.critical }) out
 
     stays : (x : ℕ) (o : ObjectRow) → ending x ≡ false → object S x ≡ Some o → object rest x ≡ Some o
     stays x o out e = object-end x ∙ ap (option_map (ended x)) e ∙ ap Some (outside-is x o out)
@@ -178,20 +188,9 @@ module _ (ending : ℕ → Bool) (how : Life) where
       plain : (x : ℕ) (o : ObjectRow) → object S x ≡ Some o → is_endpoint o.kind ≡ true → ending x ≡ false
       plain x o e ends = not_true (ending x) (λ t. true≢false (is_endpoint o.kind) ends (task-not-endpoint o (tasks x o e t).0))
 
-      not_live_after : (x : ℕ) (o : ObjectRow) → ending x ≡ true → is_task (ended x o) ≡ false
-      not_live_after x o t =
-          let dead : is_live (ended x o).life ≡ false = ap (λ b. is_live (if b then how else o.life)) t ∙ over in
-          (λ i. (is_job o.kind && dead i) || (is_process o.kind && dead i)) ∙ neither (is_job o.kind) (is_process o.kind)
-        where
-          neither : (a b : Bool) → ((a && false) || (b && false)) ≡ false
-          neither true true = refl
-          neither true false = refl
-          neither false true = refl
-          neither false false = refl
-
       -- what is live afterwards is outside the set
       live-out : (x : ℕ) (o : ObjectRow) → is_task (ended x o) ≡ true → ending x ≡ false
-      live-out x o t = not_true (ending x) (λ e. true≢false (is_task (ended x o)) t (not_live_after x o e))
+      live-out x o t = not_true (ending x) (λ e. true≢false (is_task (ended x o)) t (not_live_after over x o e))
 
       peer-end : (x : ℕ) (o : ObjectRow) → ending x ≡ false → is_endpoint o.kind ≡ true → IsPeer S x o → IsPeer rest x o
       peer-end x o out ends p = record {
@@ -230,7 +229,7 @@ module _ (ending : ℕ → Bool) (how : Life) where
             low = s.low;
             high = subst (λ (c : Counters). x < c.next_koid) (sym counters-end) s.high;
             peers = λ ends. absurd (true≢false (ending x) t (plain x o e ends));
-            parents = λ h. absurd (true≢false (is_task (ended x o)) (has_parent-task x (ended x o) h) (not_live_after x o t));
+            parents = λ h. absurd (true≢false (is_task (ended x o)) (has_parent-task x (ended x o) h) (not_live_after over x o t));
             alone = λ a b. ap (λ b. if b then 0 else o.link) t;
             lives = ap (λ b. may_be o.kind (if b then how else o.life)) t ∙ (tasks x o e t).1;
             signals = s.signals;
@@ -304,6 +303,18 @@ module _ (ending : ℕ → Bool) (how : Life) where
           let same : depth rest x ≡ depth S x = same_depth rest S (sound-above rest objects-end) links-end x o e (or_left _ _ job) in
           subst (λ d. d ≤ most_depth) (sym same) (sound.depths x w.0 w.1 (ap is_live_job (sym is) ∙ job))
 
+      criticals-end : (x : ℕ) (o : ObjectRow) → object rest x ≡ Some o → SoundCritical rest x o
+      criticals-end x o e =
+          let w = ended-was x o e in
+          elim (ending x) as (λ b. ending x ≡ b → SoundCritical rest x o) [
+            | true ↦ λ t. inl (ap (λ (q : ObjectRow). q.critical) w.2 ∙ ap (λ b. if b then 0 else w.0.critical) t)
+            | false ↦ λ out.
+                let is : o ≡ w.0 = w.2 ∙ outside-is x w.0 out in
+                same_critical S rest x w.0 o (ap (λ (q : ObjectRow). q.critical) is) (ap is_live_process is)
+                (λ live. same_chain rest S (sound-above rest objects-end) links-end x o e (or_right (is_live_job o) _ (ap is_live_process is ∙ live)))
+                (sound.criticals x w.0 w.1)
+          ] refl
+
       -- such a set may end
       pub sound-end : IsSound (end S ending how)
       sound-end = record {
@@ -316,6 +327,7 @@ module _ (ending : ℕ → Bool) (how : Life) where
         of_waits = waits-end;
         ports = λ x. let a : pending rest x ≤ pending S x = pending-end x in let b : pending S x ≤ most_pending = sound.ports x in omega arith;
         depths = depths-end;
+        criticals = criticals-end;
       }
 
 -- ---- a process alone
@@ -331,7 +343,7 @@ sound-end_process S sound p live how over =
     (ap is_task same ∙ or_right (is_live_job w.0) _ w.2, ap (λ (z : ObjectRow). may_be z.kind how) same ∙ any_end w.0.kind (is_live w.0.life) w.2))
     (λ x o e h t.
     let c : IsChild S x o = (sound.of_objects x o e).parents h in
-    absurd (not_both c.parent (ap is_live_process (here o.link c.parent c.there t) ∙ w.2) c.live))
+    absurd (process-not-job c.parent (ap is_live_process (here o.link c.parent c.there t) ∙ w.2) c.live))
     over
   where
     any_end : (k : Kind) (lives : Bool) → (is_process k && lives) ≡ true → may_be k how ≡ true
@@ -341,49 +353,3 @@ sound-end_process S sound p live how over =
     any_end kind.Event lives e = cc
     any_end kind.EventPair lives e = cc
     any_end kind.Port lives e = cc
-
-    one_kind : (k : Kind) (lives : Bool) → (is_process k && lives) ≡ true → (is_job k && lives) ≡ true → ⊥
-    one_kind kind.Process lives e f = cc
-    one_kind kind.Job lives e f = cc
-    one_kind kind.Channel lives e f = cc
-    one_kind kind.Event lives e f = cc
-    one_kind kind.EventPair lives e f = cc
-    one_kind kind.Port lives e f = cc
-
-    not_both : (o : ObjectRow) → is_live_process o ≡ true → is_live_job o ≡ true → ⊥
-    not_both o e f = one_kind o.kind (is_live o.life) e f
-
--- ---- a job with all that is under it
-
--- what is live under a member is a member
-pub under-down : (S : State) → IsSound S → (job x : ℕ) (o : ObjectRow) → object S x ≡ Some o → has_parent x o ≡ true → is_under S job o.link ≡ true → is_under S job x ≡ true
-under-down S sound job x o e h t =
-    let above : chain S x ≡ o.link ∷ chain S o.link = chain-child S sound x o e h in
-    let task : is_live_task (object S x) ≡ true = ap is_live_task e ∙ has_parent-task x o h in
-    let member : among (chain S x) job ≡ true = ap (λ c. among c job) above ∙ elim (or_true (o.link == job) _ t) [
-      | inl is ↦ or_left (o.link == job) _ is
-      | inr under ↦ or_right (o.link == job) _ (and_right (is_live_task (object S o.link)) _ under)
-    ] in
-    or_right (x == job) _ (and_both (is_live_task (object S x)) _ task member)
-
--- a live job may be killed with all that is under it
-pub sound-kill_job : (S : State) → IsSound S → (job : ℕ) (o : ObjectRow) → object S job ≡ Some o → is_live_job o ≡ true → IsSound (end S (is_under S job) life.Killed)
-sound-kill_job S sound job o here live =
-    sound-end (is_under S job) life.Killed S sound
-    (λ x q e t. let task : is_task q ≡ true = member x q e t in (task, may_be_killed q.kind (is_live q.life) task))
-    (λ x q e h t. under-down S sound job x q e h t)
-    refl
-  where
-    may_be_killed : (k : Kind) (lives : Bool) → ((is_job k && lives) || (is_process k && lives)) ≡ true → may_be k life.Killed ≡ true
-    may_be_killed kind.Process lives e = refl
-    may_be_killed kind.Job lives e = refl
-    may_be_killed kind.Channel lives e = cc
-    may_be_killed kind.Event lives e = cc
-    may_be_killed kind.EventPair lives e = cc
-    may_be_killed kind.Port lives e = cc
-
-    member : (x : ℕ) (q : ObjectRow) → object S x ≡ Some q → is_under S job x ≡ true → is_task q ≡ true
-    member x q e t = elim (or_true (x == job) _ t) [
-      | inl is ↦ ap is_task (some_one q o (sym e ∙ ap (object S) (eqb-true x job is) ∙ here)) ∙ or_left _ _ live
-      | inr under ↦ sym (ap is_live_task e) ∙ and_left (is_live_task (object S x)) _ under
-    ]

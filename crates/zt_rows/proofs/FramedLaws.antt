@@ -24,11 +24,11 @@ use Rattle.zt_rows.specs.PortCalls.{pending, most_pending}
 use Rattle.zt_rows.specs.JobCalls.{most_depth}
 use Rattle.zt_rows.specs.Settle.{is_message_of, is_child_job_of, is_child_process_of, bit_if, terminated, writable, peer_closed, derived_by, derived}
 use Rattle.zt_rows.specs.End.{depth}
-use Rattle.zt_rows.specs.Consistent.{IsPeer, IsChild, has_parent, may_be, possible_signals, SoundObject, SoundEntry, SoundMessage, SoundPacket, SoundWait, IsSound}
-use Rattle.zt_rows.proofs.RowLaws.{same_test, any_row-at, at-any_row}
+use Rattle.zt_rows.specs.Consistent.{IsPeer, IsChild, has_parent, may_be, possible_signals, SoundObject, SoundCritical, SoundEntry, SoundMessage, SoundPacket, SoundWait, IsSound}
+use Rattle.zt_rows.proofs.RowLaws.{same_test, or_right, any_row-at, at-any_row}
 use Rattle.zt_rows.proofs.ReadLaws.{some_one, object-row, message-row}
 use Rattle.zt_rows.proofs.SupportLaws.{KeptBy, by_entry, by_message, by_child, by_itself, supported-kept, kept-supported}
-use Rattle.zt_rows.proofs.SoundLaws.{is_task, all_map, SameLinks, same_depth, sound-above}
+use Rattle.zt_rows.proofs.SoundLaws.{is_task, all_map, SameLinks, same_chain, same_depth, same_critical, sound-above}
 
 -- an object but for its signals and its next number
 abbrev pub shaped : ObjectRow → ObjectRow
@@ -254,6 +254,15 @@ module _ (S T : State) (sound : IsSound S) (f : Framed S T) where
       live_task : (o : ObjectRow) → is_live_job o ≡ true → is_task o ≡ true
       live_task o e = ap (λ b. b || is_live_process o) e
 
+  criticals-framed : (x : ℕ) (o : ObjectRow) → object T x ≡ Some o → SoundCritical T x o
+  criticals-framed x o h =
+      let w = shaped-there T S (turned S T f.of_shapes) x o h in
+      let e : shaped o ≡ shaped w.0 = sym w.2 in
+      let lives : is_live_process o ≡ is_live_process w.0 = ap is_live_process e in
+      same_critical S T x w.0 o (ap (λ (z : ObjectRow). z.critical) e) lives
+      (λ live. same_chain T S (sound-above T objects-framed) links-framed x o h (or_right (is_live_job o) _ (lives ∙ live)))
+      (sound.criticals x w.0 w.1)
+
   -- such a state is as sound
   pub sound-framed : IsSound T
   sound-framed = record {
@@ -266,6 +275,7 @@ module _ (S T : State) (sound : IsSound S) (f : Framed S T) where
     of_waits = waits-framed;
     ports = f.of_pending;
     depths = depths-framed;
+    criticals = criticals-framed;
   }
 
 -- one after the other

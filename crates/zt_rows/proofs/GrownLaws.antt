@@ -25,16 +25,20 @@ use Rattle.zt_rows.specs.PortCalls.{is_user_packet_of, pending, most_pending}
 use Rattle.zt_rows.specs.JobCalls.{most_depth}
 use Rattle.zt_rows.specs.End.{depth}
 use Rattle.zt_rows.specs.Handles.{value_of, install, next_koid}
-use Rattle.zt_rows.specs.Consistent.{IsPeer, IsChild, has_parent, may_be, possible_signals, SoundObject, SoundEntry, SoundMessage, SoundPacket, SoundWait, IsSound}
+use Rattle.zt_rows.specs.Consistent.{IsPeer, IsChild, has_parent, may_be, possible_signals, SoundObject, SoundCritical, SoundEntry, SoundMessage, SoundPacket, SoundWait, IsSound}
 use Rattle.zt_rows.proofs.StateLaws.{row-put}
-use Rattle.zt_rows.proofs.RowLaws.{and_left, and_right, count_row-put-out}
+use Rattle.zt_rows.proofs.RowLaws.{and_left, and_right, or_right, count_row-put-out}
 use Rattle.zt_rows.proofs.ReadLaws.{some_one, exists-some, some-exists, kind_at-some, chosen, object-put, typed-put}
-use Rattle.zt_rows.proofs.SoundLaws.{is_task, all_map, SameLinks, same_depth, sound-above, runs-some, some-runs}
+use Rattle.zt_rows.proofs.SoundLaws.{is_task, all_map, SameLinks, same_chain, same_depth, same_critical, sound-above, runs-some, some-runs}
 use Rattle.zt_rows.proofs.FramedLaws.{shaped}
 
--- the object is in its shape, and its next number did not fall
+-- an object but for its signals, its next number and what it is critical to
+abbrev pub outline : ObjectRow → ObjectRow
+outline o = record (shaped o) { critical = 0 }
+
+-- the object has its outline, and its next number did not fall
 pub record Kept (o q : ObjectRow) : Type 0 where
-  pub same : shaped q ≡ shaped o
+  pub same : outline q ≡ outline o
   pub next : o.next ≤ q.next
 
 pub kept_itself : (o : ObjectRow) → Kept o o
@@ -43,6 +47,10 @@ kept_itself o = record { same = refl; next = omega arith }
 -- every object of S is kept in T
 abbrev pub KeepsObjects : State → State → Type 0
 KeepsObjects S T = (x : ℕ) (o : ObjectRow) → object S x ≡ Some o → (q : ObjectRow) × (object T x ≡ Some q) × Kept o q
+
+-- the object is critical to what it was critical to, or soundly
+abbrev pub CriticalAsIn : State → State → ℕ → ObjectRow → Type 0
+CriticalAsIn S T x o = ((q : ObjectRow) × (object S x ≡ Some q) × (o.critical ≡ q.critical)) ⊎ SoundCritical T x o
 
 -- T has the objects of S, and its rows are those of S or sound
 pub record Grown (S T : State) : Type 0 where
@@ -57,6 +65,7 @@ pub record Grown (S T : State) : Type 0 where
   pub new_waits : (n : ℕ) (w : Wait) → wait T n ≡ Some w → ((wait S n ≡ Some w) × ((held : Held) → entry S w.process w.handle ≡ Some held → entry T w.process w.handle ≡ Some held)) ⊎ SoundWait T n w
   pub of_pending : (x : ℕ) → pending T x ≤ most_pending
   pub new_depths : (x : ℕ) (o : ObjectRow) → object T x ≡ Some o → is_live_job o ≡ true → (exists S x ≡ true) ⊎ (depth T x ≤ most_depth)
+  pub new_criticals : (x : ℕ) (o : ObjectRow) → object T x ≡ Some o → CriticalAsIn S T x o
 
 -- ---- what is kept of objects
 
@@ -114,7 +123,7 @@ module _ (S T : State) (keeps : KeepsObjects S T) where
   -- an object that is kept, with possible signals, is sound
   pub object-kept : next_koid S ≤ next_koid T → (x : ℕ) (o q : ObjectRow) → Kept o q → without_bits q.signals.0 (possible_signals q.kind) ≡ 0 → SoundObject S x o → SoundObject T x q
   object-kept koids x o q kept signals s =
-      let e : shaped q ≡ shaped o = kept.same in
+      let e : outline q ≡ outline o = kept.same in
       let link : q.link ≡ o.link = ap (λ (z : ObjectRow). z.link) e in
       let ends : is_endpoint q.kind ≡ is_endpoint o.kind = ap (λ (z : ObjectRow). is_endpoint z.kind) e in
       let parent : has_parent x q ≡ has_parent x o = ap (λ (z : ObjectRow). has_parent x z) e in
@@ -177,6 +186,7 @@ sound-grown S T sound g =
       ];
       ports = g.of_pending;
       depths = λ x o h live. elim (g.new_depths x o h live) [ inl e ↦ depths-kept x o h live e | inr d ↦ d ];
+      criticals = λ x o h. elim (g.new_criticals x o h) [ inl w ↦ criticals-kept x o h w.0 w.1 w.2 | inr s ↦ s ];
     }
   where
     live_task : (o : ObjectRow) → is_live_job o ≡ true → is_task o ≡ true
@@ -190,6 +200,14 @@ sound-grown S T sound g =
         let job : is_live_job w.0 ≡ true = ap is_live_job (sym k.2.same) ∙ ap is_live_job (sym here) ∙ live in
         let same : depth S x ≡ depth T x = same_depth S T (sound-above S sound.of_objects) (links-kept S T g.of_objects) x w.0 w.1 (live_task w.0 job) in
         subst (λ d. d ≤ most_depth) same (sound.depths x w.0 w.1 job)
+
+    criticals-kept : (x : ℕ) (o : ObjectRow) → object T x ≡ Some o → (q : ObjectRow) → object S x ≡ Some q → o.critical ≡ q.critical → SoundCritical T x o
+    criticals-kept x o h q e to =
+        let k = g.of_objects x q e in
+        let here : o ≡ k.0 = some_one o k.0 (sym h ∙ k.1) in
+        same_critical S T x q o to (ap is_live_process here ∙ ap is_live_process k.2.same)
+        (λ live. sym (same_chain S T (sound-above S sound.of_objects) (links-kept S T g.of_objects) x q e (or_right (is_live_job q) _ live)))
+        (sound.criticals x q e)
 
 -- ---- one object over the old one, or new
 
@@ -313,6 +331,10 @@ module _ (S : State) (sound : IsSound S) (p : ℕ) (me : ObjectRow) (here : obje
       | true ↦ λ t. inl (exists-some S x me (ap (object S) (eqb-true x p t) ∙ here))
       | false ↦ λ t. inl (exists-some S x o (sym (has-installed x ∙ ap (λ b. cond b (Some (raised me)) (object S x)) t) ∙ h))
     ] refl;
+    new_criticals = λ x o h. elim (x == p) as (λ b. (x == p) ≡ b → cond b (Some (raised me)) (object S x) ≡ Some o → CriticalAsIn S installed x o) [
+      | true ↦ λ t e. inl (me, ap (object S) (eqb-true x p t) ∙ here, ap (λ (z : ObjectRow). z.critical) (sym (some_one (raised me) o e)))
+      | false ↦ λ t e. inl (o, e, refl)
+    ] refl (sym (has-installed x) ∙ h);
   }
 
   -- the process has given out one more handle value

@@ -1,5 +1,5 @@
 -- The calls on jobs and processes leave a sound state sound, and give out no more than a call gives.
-use Rattle.std.proofs.Common.{◌≡◌, ◌<◌, ℕ, Bool, true, false, refl, sym, ap, ◌∙◌, subst, arith}
+use Rattle.std.proofs.Common.{◌≡◌, ◌<◌, ℕ, Bool, true, false, ◌||◌, inl, inr, refl, sym, ap, ◌∙◌, subst, arith}
 use Rattle.std.specs.Prelude.{ℤ, Option, None, Some, Result, Ok, nat_lt, if◌then◌else◌, ◌==◌, ◌&&◌}
 use Rattle.std.proofs.lemmas.Bool.{ltb-true}
 use Rattle.zt_bits.specs.declared.kinds.Kind.{Kind}
@@ -9,26 +9,30 @@ use Rattle.zt_bits.specs.declared.statuses.Status.TheVariants as status
 use Rattle.zt_rows.specs.declared.calls.Reply.{Reply}
 use Rattle.zt_rows.specs.declared.rows.Counters.{Counters}
 use Rattle.zt_rows.specs.declared.rows.Held.{Held}
+use Rattle.zt_rows.specs.declared.keys.RowKey.TheVariants as key
 use Rattle.zt_rows.specs.declared.rows.Life.{Life}
 use Rattle.zt_rows.specs.declared.rows.Life.TheVariants as life
+use Rattle.zt_rows.specs.declared.rows.Row.TheVariants as rows
 use Rattle.zt_rows.specs.declared.rows.ObjectRow.{ObjectRow}
-use Rattle.zt_rows.specs.State.{State}
-use Rattle.zt_rows.specs.Reads.{counters, object, is_job, is_process, is_live, runs}
-use Rattle.zt_rows.specs.Tests.{any_kind, is_task as is_task_kind}
-use Rattle.zt_rows.specs.End.{depth, ends_with, end}
+use Rattle.zt_rows.specs.State.{State, put}
+use Rattle.zt_rows.specs.Reads.{counters, object, is_job, is_process, is_live, is_live_job, is_live_process, runs}
+use Rattle.zt_rows.specs.Tests.{any_kind, is_task as is_task_kind, next_at, object_next, among}
+use Rattle.zt_rows.specs.End.{chain, depth, is_live_task, is_under, ends_with, end}
 use Rattle.zt_rows.specs.Handles.{◌>>=◌, handle, answered, take_out, install, whole, fresh, next_koid, make}
-use Rattle.zt_rows.specs.JobCalls.{most_depth, job_create, argument, child, hand_over, spawn, task_kill, process_exit}
+use Rattle.zt_rows.specs.JobCalls.{most_depth, job_create, argument, child, hand_over, spawn, job_set_critical, task_kill, others, process_exit}
 use Rattle.zt_rows.specs.Consistent.{IsSound}
-use Rattle.zt_rows.proofs.RowLaws.{and_both}
-use Rattle.zt_rows.proofs.ReadLaws.{exists-some}
-use Rattle.zt_rows.proofs.SoundLaws.{some-runs}
-use Rattle.zt_rows.proofs.GrownLaws.{sound-install}
+use Rattle.zt_rows.proofs.RowLaws.{and_both, or_left, or_right}
+use Rattle.zt_rows.proofs.ReadLaws.{some_one, exists-some}
+use Rattle.zt_rows.proofs.GrownLaws.{Kept, sound-install}
 use Rattle.zt_rows.proofs.MakeLaws.{object-made, others-made}
 use Rattle.zt_rows.proofs.TakeLaws.{object-taken, counters-taken, sound-taken}
+use Rattle.zt_rows.proofs.PutLaws.{chain-shaped, sound-shaped}
+use Rattle.zt_rows.proofs.AboveLaws.{under-cases}
 use Rattle.zt_rows.proofs.StepLaws.{Found, chained, after_check, after_handle, caller-is}
-use Rattle.zt_rows.proofs.GivenLaws.{spends-spends, spends-make, spends-take_out_all, spends-install, Called, spends-called, called-nothing}
+use Rattle.zt_rows.proofs.GivenLaws.{OfKind, spends-spends, spends-object, spends-make, spends-take_out_all, spends-install, Called, spends-called, called-nothing}
 use Rattle.zt_rows.proofs.MadeTaskLaws.{sound-task, sound-spawn_bare, spends-spawn_bare, sound-spawn_given, spends-spawn_given}
-use Rattle.zt_rows.proofs.EndLaws.{spends-end, sound-end_process, sound-kill_job}
+use Rattle.zt_rows.proofs.EndLaws.{spends-end}
+use Rattle.zt_rows.proofs.KillLaws.{sound-kill, sound-exit}
 
 -- ---- a job under a job
 
@@ -108,25 +112,61 @@ called-spawn S p h arg sound live =
     (spends-spawn_given T (sound-taken p (λ g. g == arg) S sound) p w.0 (same p ∙ w.1) w.2 held.koid job (same held.koid ∙ found.object_there) (and_both (is_job job.kind) _ found.of_kind lives) given
     (exists-some T given.koid o (same given.koid ∙ handed.object_there)))))))))
 
+-- ---- what is critical
+
+-- a job and a process have different koids, and a process that has the job above it is live
+critical-above : (S : State) → IsSound S → (j x : ℕ) (q o : ObjectRow) → object S j ≡ Some q → object S x ≡ Some o → is_job q.kind ≡ true → is_process o.kind ≡ true → is_under S j x ≡ true → (is_live_process o ≡ true) × (among (chain S x) j ≡ true)
+critical-above S sound j x q o job process is_one is_other h = elim (under-cases S j x h) [
+  | inl same ↦ absurd (one_kind o.kind is_other (ap (λ (z : ObjectRow). is_job z.kind) (some_one o q (sym process ∙ ap (object S) same ∙ job)) ∙ is_one))
+  | inr w ↦ (process_lives o.kind (is_live o.life) is_other (ap is_live_task (sym process ∙ w.1) ∙ w.2), w.3)
+]
+  where
+    one_kind : (k : Kind) → is_process k ≡ true → is_job k ≡ true → ⊥
+    one_kind kind.Job e f = cc
+    one_kind _ e f = cc
+
+    process_lives : (k : Kind) (lives : Bool) → is_process k ≡ true → ((is_job k && lives) || (is_process k && lives)) ≡ true → (is_process k && lives) ≡ true
+    process_lives kind.Process lives e t = t
+    process_lives _ lives e t = cc
+
+pub sound-job_set_critical : (S : State) (p job process : ℕ) → IsSound S → IsSound (job_set_critical S p job process).0
+sound-job_set_critical S p job process sound =
+    after_handle IsSound S status.WrongType p job is_job 0x200 _ sound (λ over q named.
+    after_handle IsSound S status.WrongType p process is_process 0x4000 _ sound (λ held o found.
+    after_check IsSound S (o.critical == 0) status.AlreadyBound _ sound (λ free.
+    after_check IsSound S (is_under S over.koid held.koid) status.InvalidArgs _ sound (λ under.
+    let w = critical-above S sound over.koid held.koid q o named.object_there found.object_there named.of_kind found.of_kind under in
+    let bound : ObjectRow = record o { critical = over.koid } in
+    let kept : Kept o bound = record { same = refl; next = omega arith } in
+    let possible = (sound.of_objects held.koid o found.object_there).signals in
+    let above : among (chain (put S (key.Object held.koid) (Some (rows.Object bound))) held.koid) over.koid ≡ true =
+    ap (λ c. among c over.koid) (chain-shaped S sound held.koid o found.object_there bound kept possible (or_right (is_live_job o) _ w.0)) ∙ w.1 in
+    sound-shaped S sound held.koid o found.object_there bound kept possible (inr (inr (w.0, above)))))))
+
+pub called-job_set_critical : (S : State) (p job process : ℕ) → Called S (job_set_critical S p job process).0
+called-job_set_critical S p job process =
+    after_handle (Called S) S status.WrongType p job is_job 0x200 _ (called-nothing S) (λ over q named.
+    after_handle (Called S) S status.WrongType p process is_process 0x4000 _ (called-nothing S) (λ held o found.
+    after_check (Called S) S (o.critical == 0) status.AlreadyBound _ (called-nothing S) (λ free.
+    after_check (Called S) S (is_under S over.koid held.koid) status.InvalidArgs _ (called-nothing S) (λ under.
+    let bound : ObjectRow = record o { critical = over.koid } in
+    let next : next_at S held.koid ≡ o.next = ap object_next found.object_there in
+    spends-called 0 0 0 S (put S (key.Object held.koid) (Some (rows.Object bound))) (omega arith) (omega arith) (omega arith)
+    (spends-object S 0 0 held.koid bound (subst (λ r. OfKind r o.kind) (sym found.object_there) refl) (omega arith))))))
+
 -- ---- what ends
 
--- what ends where a live process or job is killed
-sound-killed : (S : State) → IsSound S → (x : ℕ) (o : ObjectRow) → object S x ≡ Some o → is_task_kind o.kind ≡ true → is_live o.life ≡ true → IsSound (end S (ends_with S o.kind x) life.Killed)
-sound-killed S sound x o here task live = by_kind o.kind refl task
-  where
-    by_kind : (k : Kind) → o.kind ≡ k → is_task_kind k ≡ true → IsSound (end S (ends_with S k x) life.Killed)
-    by_kind kind.Job e t = sound-kill_job S sound x o here (ap (λ k. is_job k && is_live o.life) e ∙ live)
-    by_kind kind.Process e t = sound-end_process S sound x (some-runs S x o here (ap (λ k. is_process k && is_live o.life) e ∙ live)) life.Killed refl
-    by_kind kind.Channel e t = cc
-    by_kind kind.Event e t = cc
-    by_kind kind.EventPair e t = cc
-    by_kind kind.Port e t = cc
+-- a job or process by its kind that lives
+live_task : (k : Kind) (lives : Bool) → is_task_kind k ≡ true → lives ≡ true → ((is_job k && lives) || (is_process k && lives)) ≡ true
+live_task kind.Job lives t e = or_left (true && lives) _ e
+live_task kind.Process lives t e = e
+live_task _ lives t e = cc
 
 pub sound-task_kill : (S : State) (p h : ℕ) → IsSound S → IsSound (task_kill S p h).0
 sound-task_kill S p h sound =
     after_handle IsSound S status.WrongType p h is_task_kind 0x200 _ sound (λ held task found.
-    elim (is_live task.life) as (λ b. is_live task.life ≡ b → IsSound (if b then end S (ends_with S task.kind held.koid) life.Killed else S)) [
-      | true ↦ λ lives. sound-killed S sound held.koid task found.object_there found.of_kind lives
+    elim (is_live task.life) as (λ b. is_live task.life ≡ b → IsSound (if b then end S (ends_with S held.koid) life.Killed else S)) [
+      | true ↦ λ lives. sound-kill S sound held.koid task found.object_there (live_task task.kind (is_live task.life) found.of_kind lives)
       | false ↦ λ lives. sound
     ] refl)
 
@@ -136,13 +176,18 @@ called-end S ending how = spends-called 0 0 0 S (end S ending how) (omega arith)
 pub called-task_kill : (S : State) (p h : ℕ) → Called S (task_kill S p h).0
 called-task_kill S p h =
     after_handle (Called S) S status.WrongType p h is_task_kind 0x200 _ (called-nothing S) (λ held task found.
-    elim (is_live task.life) as (λ b. Called S (if b then end S (ends_with S task.kind held.koid) life.Killed else S)) [
-      | true ↦ called-end S (ends_with S task.kind held.koid) life.Killed
+    elim (is_live task.life) as (λ b. Called S (if b then end S (ends_with S held.koid) life.Killed else S)) [
+      | true ↦ called-end S (ends_with S held.koid) life.Killed
       | false ↦ called-nothing S
     ])
 
 pub sound-process_exit : (S : State) (p : ℕ) (code : ℤ) → IsSound S → runs S p ≡ true → IsSound (process_exit S p code).0
-sound-process_exit S p code sound live = sound-end_process S sound p live (life.Exited code) refl
+sound-process_exit S p code sound live =
+    let w = caller-is S p live in
+    sound-exit S sound p w.0 w.1 w.2 code
 
 pub called-process_exit : (S : State) (p : ℕ) (code : ℤ) → Called S (process_exit S p code).0
-called-process_exit S p code = called-end S (λ x. x == p) (life.Exited code)
+called-process_exit S p code =
+    let T : State = end S (λ x. x == p) (life.Exited code) in
+    spends-called 0 0 0 S (end T (others S p) life.Killed) (omega arith) (omega arith) (omega arith)
+    (spends-spends 0 0 0 0 0 0 S T (end T (others S p) life.Killed) (spends-end (λ x. x == p) (life.Exited code) S) (spends-end (others S p) life.Killed T))

@@ -22,6 +22,9 @@ pub mod PortSteps
 pub mod ChainLaws
 pub mod MadeTaskLaws
 pub mod EndLaws
+pub mod AboveLaws
+pub mod ClosedLaws
+pub mod KillLaws
 pub mod JobSteps
 pub mod CallLaws
 pub mod OpeningLaws

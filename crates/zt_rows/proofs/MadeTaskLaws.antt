@@ -94,7 +94,7 @@ module _ (S : State) (sound : IsSound S) (l : ℕ) (job : ObjectRow) (there : ob
 
   -- a live process, or a live job that lies not too deep, can be made under a live job
   pub sound-task : (is_live_job (new_task k l n) ≡ true → depth S l < most_depth) → IsSound (make (counters S) (new_task k l n) S)
-  sound-task deep = sound-make S sound (new_task k l n) sound-new_task (λ e. let a : depth S l < most_depth = deep e in let b : depth spawned (next_koid S) ≡ depth S l + 1 = depth-spawned in omega arith)
+  sound-task deep = sound-make S sound (new_task k l n) sound-new_task (λ e. let a : depth S l < most_depth = deep e in let b : depth spawned (next_koid S) ≡ depth S l + 1 = depth-spawned in omega arith) refl
 
 -- ---- a first entry
 
@@ -161,6 +161,7 @@ module _ (S : State) (sound : IsSound S) (p h : ℕ) (held : Held) (free : (old 
         let c : pending S x ≤ most_pending = sound.ports x in
         omega arith;
     new_depths = λ x o f job. inl (exists-some S x o (sym (object-handed x) ∙ f));
+    new_criticals = λ x o f. inl (o, sym (object-handed x) ∙ f, refl);
   }
 
   -- a process that runs may hold what exists by a value that it was given and that it does not hold

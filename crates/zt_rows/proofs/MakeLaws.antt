@@ -28,7 +28,7 @@ use Rattle.zt_rows.proofs.StateLaws.{row-put}
 use Rattle.zt_rows.proofs.RowLaws.{true≢false, count_row-put-out}
 use Rattle.zt_rows.proofs.ReadLaws.{some_one, exists-some, kind_at-some, object-put, over-same, typed-put}
 use Rattle.zt_rows.proofs.FramedLaws.{shaped, Framed, SameShapes, packet-framed, sound-framed}
-use Rattle.zt_rows.proofs.GrownLaws.{KeepsObjects, Grown, HasObject, keeps-with, new-with, has-object, sound-grown}
+use Rattle.zt_rows.proofs.GrownLaws.{KeepsObjects, CriticalAsIn, Grown, HasObject, keeps-with, new-with, has-object, sound-grown}
 
 -- ---- a new object
 
@@ -93,8 +93,8 @@ module _ (S : State) (sound : IsSound S) (o : ObjectRow) where
         | false ↦ λ t e. e ∙ h
       ] refl (has-made x)
 
-  grown-make : SoundObject made (next_koid S) o → (is_live_job o ≡ true → depth made (next_koid S) ≤ most_depth) → Grown S made
-  grown-make new deep = record {
+  grown-make : SoundObject made (next_koid S) o → (is_live_job o ≡ true → depth made (next_koid S) ≤ most_depth) → o.critical ≡ 0 → Grown S made
+  grown-make new deep free = record {
     of_rows = typed-put with_object (typed-put S sound.typed (key.Object (next_koid S)) (Some (rows.Object o)) (λ r e. subst (λ z. suits (key.Object (next_koid S)) z ≡ true) (some_one _ r e) refl)) key.Counters (Some (rows.Counters raised_counters)) (λ r e. subst (λ z. suits key.Counters z ≡ true) (some_one _ r e) refl);
     of_koids = let e : next_koid made ≡ next_koid S + 1 = koids-made in omega arith;
     of_numbers = let e : (counters made).next_wait ≡ (counters S).next_wait = ap (λ (c : Counters). c.next_wait) counters-made in omega arith;
@@ -113,11 +113,15 @@ module _ (S : State) (sound : IsSound S) (o : ObjectRow) where
       | true ↦ λ t e. inr (subst (λ z. depth made z ≤ most_depth) (sym (eqb-true x (next_koid S) t)) (deep (ap is_live_job (some_one o q e) ∙ job)))
       | false ↦ λ t e. inl (exists-some S x q e)
     ] refl (sym (has-made x) ∙ h);
+    new_criticals = λ x q h. elim (x == next_koid S) as (λ b. cond b (Some o) (object S x) ≡ Some q → CriticalAsIn S made x q) [
+      | true ↦ λ e. inr (inl (ap (λ (z : ObjectRow). z.critical) (sym (some_one o q e)) ∙ free))
+      | false ↦ λ e. inl (q, e, refl)
+    ] (sym (has-made x) ∙ h);
   }
 
-  -- an object that is sound at its place can be made; a live job has to lie not too deep
-  pub sound-make : SoundObject (make (counters S) o S) (next_koid S) o → (is_live_job o ≡ true → depth (make (counters S) o S) (next_koid S) ≤ most_depth) → IsSound (make (counters S) o S)
-  sound-make new deep = sound-grown S made sound (grown-make new deep)
+  -- an object that is sound at its place and critical to nothing can be made; a live job has to lie not too deep
+  pub sound-make : SoundObject (make (counters S) o S) (next_koid S) o → (is_live_job o ≡ true → depth (make (counters S) o S) (next_koid S) ≤ most_depth) → o.critical ≡ 0 → IsSound (make (counters S) o S)
+  sound-make new deep free = sound-grown S made sound (grown-make new deep free)
 
 no_task : (k : Kind) → is_task_kind k ≡ false → (is_process k ≡ false) × (is_job k ≡ false)
 no_task kind.Job e = cc
@@ -157,7 +161,7 @@ sound-create S sound k plain =
       lives = may_be-live k;
       signals = and_zero_l (4294967295 - possible_signals k);
     } in
-    sound-make S sound (fresh k 0) new (λ e. absurd (true≢false (is_live_job (fresh k 0)) e (not_job k (no_task k plain).1)))
+    sound-make S sound (fresh k 0) new (λ e. absurd (true≢false (is_live_job (fresh k 0)) e (not_job k (no_task k plain).1))) refl
 
 -- ---- new signals
 

@@ -22,17 +22,17 @@ use Rattle.zt_rows.specs.JobCalls.{most_depth}
 use Rattle.zt_rows.specs.Settle.{renewed}
 use Rattle.zt_rows.specs.End.{links, chain, depth}
 use Rattle.zt_rows.specs.Opening.{opening_rows, opening}
-use Rattle.zt_rows.specs.Consistent.{SoundObject, SoundEntry, IsSound, IsConsistent}
+use Rattle.zt_rows.specs.Consistent.{SoundObject, SoundCritical, SoundEntry, IsSound, IsConsistent}
 use Rattle.zt_rows.proofs.StateLaws.{rows-state_of}
 use Rattle.zt_rows.proofs.RowLaws.{In, row-in}
 use Rattle.zt_rows.proofs.ReadLaws.{some-exists, object-row, entry-row, message-row, packet-row, wait-row}
 use Rattle.zt_rows.proofs.SupportLaws.{by_itself, kept-supported}
 
 abbrev pub job_row : ObjectRow
-job_row = record { kind = kind.Job; signals = record { 0 = 0x10 }; link = 0; life = life.Live; next = 0 }
+job_row = record { kind = kind.Job; signals = record { 0 = 0x10 }; link = 0; life = life.Live; next = 0; critical = 0 }
 
 abbrev pub process_row : ObjectRow
-process_row = record { kind = kind.Process; signals = record { 0 = 0 }; link = 1024; life = life.Live; next = 1 }
+process_row = record { kind = kind.Process; signals = record { 0 = 0 }; link = 1024; life = life.Live; next = 1; critical = 0 }
 
 abbrev held_row : Held
 held_row = record { koid = 1024; rights = record { 0 = 0x3d203 } }
@@ -175,6 +175,7 @@ sound-opening = record {
   of_waits = λ n w h. absurd (no_wait n w (in-opening (key.Wait n) (rows.Wait w) (wait-row opening n w h)));
   ports = λ x. let e : pending opening x ≡ 0 = pending-opening x in omega arith;
   depths = of_both (λ x o. is_live_job o ≡ true → depth opening x ≤ most_depth) (λ e. let d : depth opening 1024 ≡ 0 = depth-opening in omega arith) (λ e. cc);
+  criticals = of_both (λ x o. SoundCritical opening x o) (inl refl) (inl refl);
 }
 
 -- every history begins with a consistent state

@@ -21,7 +21,7 @@ use Rattle.zt_rows.proofs.StateLaws.{row-put}
 use Rattle.zt_rows.proofs.RowLaws.{true≢false, or_left, count_row-put-out}
 use Rattle.zt_rows.proofs.ReadLaws.{some_one, exists-some, object-put, typed-put}
 use Rattle.zt_rows.proofs.SoundLaws.{task-not-endpoint, has_parent-not-endpoint}
-use Rattle.zt_rows.proofs.GrownLaws.{KeepsObjects, Grown, kept_itself, sound-grown}
+use Rattle.zt_rows.proofs.GrownLaws.{KeepsObjects, CriticalAsIn, Grown, kept_itself, sound-grown}
 use Rattle.zt_rows.proofs.MakeLaws.{koid-low, may_be-live}
 
 module _ (S : State) (sound : IsSound S) (made : Kind) (ends : is_endpoint made ≡ true) where
@@ -150,6 +150,16 @@ module _ (S : State) (sound : IsSound S) (made : Kind) (ends : is_endpoint made 
         ] f
       ] (sym (object-paired x) ∙ h)
 
+  criticals-paired : (x : ℕ) (o : ObjectRow) → object paired x ≡ Some o → CriticalAsIn S paired x o
+  criticals-paired x o h =
+      elim (x == far) as (λ b. cond b (Some (fresh made near)) (cond (x == near) (Some (fresh made far)) (object S x)) ≡ Some o → CriticalAsIn S paired x o) [
+        | true ↦ λ e. inr (inl (ap (λ (z : ObjectRow). z.critical) (sym (some_one _ o e))))
+        | false ↦ λ f. elim (x == near) as (λ b. cond b (Some (fresh made far)) (object S x) ≡ Some o → CriticalAsIn S paired x o) [
+          | true ↦ λ e. inr (inl (ap (λ (z : ObjectRow). z.critical) (sym (some_one _ o e))))
+          | false ↦ λ e. inl (o, e, refl)
+        ] f
+      ] (sym (object-paired x) ∙ h)
+
   grown-pair : Grown S paired
   grown-pair = record {
     of_rows = typed-put with_both (typed-put with_near (typed-put S sound.typed (key.Object near) (Some (rows.Object (fresh made far))) (λ r e. subst (λ z. suits (key.Object near) z ≡ true) (some_one _ r e) refl)) (key.Object far) (Some (rows.Object (fresh made near))) (λ r e. subst (λ z. suits (key.Object far) z ≡ true) (some_one _ r e) refl)) key.Counters (Some (rows.Counters new_counters)) (λ r e. subst (λ z. suits key.Counters z ≡ true) (some_one _ r e) refl);
@@ -168,6 +178,7 @@ module _ (S : State) (sound : IsSound S) (made : Kind) (ends : is_endpoint made 
         let d : pending S x ≤ most_pending = sound.ports x in
         omega arith;
     new_depths = λ x o h job. inl (jobs-paired x o h job);
+    new_criticals = criticals-paired;
   }
 
   -- two ends of a channel or of a pair of events can be made

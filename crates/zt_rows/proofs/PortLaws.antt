@@ -104,6 +104,7 @@ module _ (S : State) (w : Wait) where
           let c : pending S x ≤ most_pending = sound.ports x in
           omega arith;
       new_depths = λ x o h job. inl (exists-some S x o (sym (object-added x) ∙ h));
+      new_criticals = λ x o h. inl (o, sym (object-added x) ∙ h, refl);
     }
 
     -- a wait on an entry that is there, for a port, can be made

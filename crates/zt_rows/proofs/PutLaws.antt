@@ -1,4 +1,4 @@
--- Puts that leave a sound state sound, whichever call makes them: an object in its shape, as one that gave out a
+-- Puts that leave a sound state sound, whichever call makes them: an object in its outline, as one that gave out a
 -- number, and a row of what objects own. Puts under two keys may change places, so that an owner gives out the
 -- number before what has it is put.
 use Rattle.std.proofs.Common.{◌≡◌, ◌≤◌, ℕ, Bool, true, false, cond, ◌&&◌, ◌⊎◌, inl, inr, refl, sym, ap, ◌∙◌, subst, arith}
@@ -22,13 +22,14 @@ use Rattle.zt_rows.specs.Tests.{exists, without_bits, count_row, raised}
 use Rattle.zt_rows.specs.Room.{suits}
 use Rattle.zt_rows.specs.PortCalls.{is_user_packet_of, pending, most_pending}
 use Rattle.zt_rows.specs.JobCalls.{most_depth}
-use Rattle.zt_rows.specs.End.{depth}
+use Rattle.zt_rows.specs.End.{chain, depth}
 use Rattle.zt_rows.specs.Handles.{next_koid}
-use Rattle.zt_rows.specs.Consistent.{possible_signals, SoundMessage, SoundPacket, IsSound}
+use Rattle.zt_rows.specs.Consistent.{possible_signals, SoundCritical, SoundMessage, SoundPacket, IsSound}
 use Rattle.zt_rows.proofs.StateLaws.{row-put, same_state}
 use Rattle.zt_rows.proofs.RowLaws.{true≢false, and_left, and_right, count_row-put-out, count_row-take}
 use Rattle.zt_rows.proofs.ReadLaws.{some_one, exists-some, chosen, object-put, typed-put}
-use Rattle.zt_rows.proofs.GrownLaws.{Kept, KeepsObjects, kept_itself, Grown, object-kept, message-kept, packet-kept, sound-grown, HasObject, keeps-with, new-with, has-object}
+use Rattle.zt_rows.proofs.SoundLaws.{is_task, same_chain, sound-above}
+use Rattle.zt_rows.proofs.GrownLaws.{Kept, KeepsObjects, kept_itself, CriticalAsIn, Grown, links-kept, object-kept, message-kept, packet-kept, sound-grown, HasObject, keeps-with, new-with, has-object}
 
 -- ---- two puts
 
@@ -57,7 +58,7 @@ pub count_row-put-any : (test : RowKey → Row → Bool) (S : State) (k : RowKey
 count_row-put-any test S k (Some r) h = count_row-put-out test S k r (h r refl)
 count_row-put-any test S k None h = count_row-take test S k
 
--- ---- an object in its shape
+-- ---- an object in its outline
 
 module _ (S : State) (sound : IsSound S) (x : ℕ) (o : ObjectRow) (here : object S x ≡ Some o) (q : ObjectRow) (kept : Kept o q) (possible : without_bits q.signals.0 (possible_signals q.kind) ≡ 0) where
   abbrev shaped_anew : State
@@ -75,8 +76,22 @@ module _ (S : State) (sound : IsSound S) (x : ℕ) (o : ObjectRow) (here : objec
   koids-shaped : next_koid shaped_anew ≡ next_koid S
   koids-shaped = ap (λ (c : Counters). c.next_koid) counters-shaped
 
-  grown-shaped : Grown S shaped_anew
-  grown-shaped = record {
+  -- the jobs above it are as before
+  pub chain-shaped : is_task o ≡ true → chain (put S (key.Object x) (Some (rows.Object q))) x ≡ chain S x
+  chain-shaped task = sym (same_chain S shaped_anew (sound-above S sound.of_objects) (links-kept S shaped_anew keeps-shaped) x o here task)
+
+  -- it is critical to what it was critical to, or soundly
+  abbrev pub Bound : Type 0
+  Bound = (q.critical ≡ o.critical) ⊎ SoundCritical (put S (key.Object x) (Some (rows.Object q))) x q
+
+  critical-here : Bound → (y : ℕ) (p : ObjectRow) → y ≡ x → q ≡ p → CriticalAsIn S shaped_anew y p
+  critical-here bound y p at is = elim bound [
+    | inl same ↦ inl (o, ap (object S) at ∙ here, ap (λ (z : ObjectRow). z.critical) (sym is) ∙ same)
+    | inr s ↦ inr (subst (λ z. SoundCritical shaped_anew z p) (sym at) (subst (λ z. SoundCritical shaped_anew x z) is s))
+  ]
+
+  grown-shaped : Bound → Grown S shaped_anew
+  grown-shaped bound = record {
     of_rows = typed-put S sound.typed (key.Object x) (Some (rows.Object q)) (λ r e. subst (λ z. suits (key.Object x) z ≡ true) (some_one _ r e) refl);
     of_koids = let e : next_koid shaped_anew ≡ next_koid S = koids-shaped in omega arith;
     of_numbers = let e : (counters shaped_anew).next_wait ≡ (counters S).next_wait = ap (λ (c : Counters). c.next_wait) counters-shaped in omega arith;
@@ -94,15 +109,19 @@ module _ (S : State) (sound : IsSound S) (x : ℕ) (o : ObjectRow) (here : objec
       | true ↦ λ t. inl (exists-some S y o (ap (object S) (eqb-true y x t) ∙ here))
       | false ↦ λ t. inl (exists-some S y p (sym (has-shaped y ∙ ap (λ b. cond b (Some q) (object S y)) t) ∙ h))
     ] refl;
+    new_criticals = λ y p h. elim (y == x) as (λ b. (y == x) ≡ b → cond b (Some q) (object S y) ≡ Some p → CriticalAsIn S shaped_anew y p) [
+      | true ↦ λ t e. critical-here bound y p (eqb-true y x t) (some_one q p e)
+      | false ↦ λ t e. inl (p, e, refl)
+    ] refl (sym (has-shaped y) ∙ h);
   }
 
-  -- an object's row may become one of its shape
-  pub sound-shaped : IsSound (put S (key.Object x) (Some (rows.Object q)))
-  sound-shaped = sound-grown S shaped_anew sound grown-shaped
+  -- an object's row may become one of its outline
+  pub sound-shaped : Bound → IsSound (put S (key.Object x) (Some (rows.Object q)))
+  sound-shaped bound = sound-grown S shaped_anew sound (grown-shaped bound)
 
 -- an owner may give out one more number
 pub sound-raised : (S : State) → IsSound S → (x : ℕ) (o : ObjectRow) → object S x ≡ Some o → IsSound (put S (key.Object x) (Some (rows.Object (raised o))))
-sound-raised S sound x o here = sound-shaped S sound x o here (raised o) (record { same = refl; next = omega arith }) (sound.of_objects x o here).signals
+sound-raised S sound x o here = sound-shaped S sound x o here (raised o) (record { same = refl; next = omega arith }) (sound.of_objects x o here).signals (inl refl)
 
 pub exists-raised : (S : State) (x : ℕ) (o : ObjectRow) → (y : ℕ) → exists S y ≡ true → exists (put S (key.Object x) (Some (rows.Object (raised o)))) y ≡ true
 exists-raised S x o y e = elim (y == x) as (λ b. object (put S (key.Object x) (Some (rows.Object (raised o)))) y ≡ cond b (Some (raised o)) (object S y) → exists (put S (key.Object x) (Some (rows.Object (raised o)))) y ≡ true) [
@@ -141,6 +160,7 @@ sound-beside S T sound b =
       new_waits = λ n w h. inl (b.of_waits n w h, λ held e. b.of_entries w.process w.handle ∙ e);
       of_pending = b.of_pending;
       new_depths = λ x o h job. inl (exists-some S x o (sym (b.of_objects x) ∙ h));
+      new_criticals = λ x o h. inl (o, sym (b.of_objects x) ∙ h, refl);
     })
 
 -- ---- a message

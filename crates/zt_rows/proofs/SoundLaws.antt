@@ -17,13 +17,13 @@ use Rattle.zt_rows.specs.declared.rows.Row.TheVariants as rows
 use Rattle.zt_rows.specs.Contents.{MessageContent}
 use Rattle.zt_rows.specs.State.{State, row}
 use Rattle.zt_rows.specs.Reads.{counters, object, entry, message, packet, wait, is_live, is_job, is_process, is_live_process, is_live_job, on_object, runs}
-use Rattle.zt_rows.specs.Tests.{exists, kind_at, link_at, next_at, object_link, object_next, is_endpoint}
+use Rattle.zt_rows.specs.Tests.{exists, kind_at, link_at, next_at, object_link, object_next, is_endpoint, among}
 use Rattle.zt_rows.specs.Room.{suits}
 use Rattle.zt_rows.specs.Support.{root_job, is_supported}
 use Rattle.zt_rows.specs.PortCalls.{is_user_packet_of, pending}
 use Rattle.zt_rows.specs.Collect.{unlinked, left, without}
 use Rattle.zt_rows.specs.End.{upward, links, chain, depth}
-use Rattle.zt_rows.specs.Consistent.{IsPeer, IsChild, has_parent, SoundObject, SoundEntry, SoundMessage, SoundPacket, SoundWait, IsSound}
+use Rattle.zt_rows.specs.Consistent.{IsPeer, IsChild, has_parent, SoundObject, SoundCritical, SoundEntry, SoundMessage, SoundPacket, SoundWait, IsSound}
 use Rattle.zt_rows.proofs.RowLaws.{In, and_left, and_both, or_left, or_right, or_true, true≢false, not_true, count_row-change}
 use Rattle.zt_rows.proofs.ReadLaws.{some_one, exists-some, some-exists, kind_at-some, if_none, row-without, counters-without, entry-without, stayed, stays, wait-stayed, message-stayed, packet-stayed}
 use Rattle.zt_rows.proofs.SupportLaws.{KeptBy, by_entry, by_message, by_child, by_itself, kept-supported}
@@ -41,6 +41,18 @@ task-not-endpoint_of _ how e = refl
 
 pub task-not-endpoint : (o : ObjectRow) → is_task o ≡ true → is_endpoint o.kind ≡ false
 task-not-endpoint o e = task-not-endpoint_of o.kind (is_live o.life) e
+
+one_kind : (k : Kind) (lives : Bool) → (is_process k && lives) ≡ true → (is_job k && lives) ≡ true → ⊥
+one_kind kind.Process lives e f = cc
+one_kind kind.Job lives e f = cc
+one_kind kind.Channel lives e f = cc
+one_kind kind.Event lives e f = cc
+one_kind kind.EventPair lives e f = cc
+one_kind kind.Port lives e f = cc
+
+-- a process is no job
+pub process-not-job : (o : ObjectRow) → is_live_process o ≡ true → is_live_job o ≡ true → ⊥
+process-not-job o e f = one_kind o.kind (is_live o.life) e f
 
 pub has_parent-task : (x : ℕ) (o : ObjectRow) → has_parent x o ≡ true → is_task o ≡ true
 has_parent-task x o e = elim (or_true (is_live_process o) _ e) [
@@ -92,9 +104,19 @@ same_links A B above same (suc n) x o e t =
     let next : (o.link ≡ 0) ⊎ (links n A o.link ≡ links n B o.link) = elim (above x o e t) [ inl z ↦ inl z | inr q ↦ inr (same_links A B above same n o.link q.0 q.1 q.2) ] in
     ap (λ l. upward l (λ y. links n A y)) here ∙ upward-same o.link (λ y. links n A y) (λ y. links n B y) next ∙ ap (λ l. upward l (λ y. links n B y)) (sym there)
 
-pub same_depth : (A B : State) → HasTaskAbove A → SameLinks A B → (x : ℕ) (o : ObjectRow) → object A x ≡ Some o → is_task o ≡ true → depth A x ≡ depth B x
+pub same_chain : (A B : State) → HasTaskAbove A → SameLinks A B → (x : ℕ) (o : ObjectRow) → object A x ≡ Some o → is_task o ≡ true → chain A x ≡ chain B x
 unfolding chain
-same_depth A B above same x o e t = ap (λ l. length l) (same_links A B above same (x + 1) x o e t)
+same_chain A B above same x o e t = same_links A B above same (x + 1) x o e t
+
+pub same_depth : (A B : State) → HasTaskAbove A → SameLinks A B → (x : ℕ) (o : ObjectRow) → object A x ≡ Some o → is_task o ≡ true → depth A x ≡ depth B x
+same_depth A B above same x o e t = ap (λ l. length l) (same_chain A B above same x o e t)
+
+-- what is soundly critical stays so where the same jobs are above it
+pub same_critical : (A B : State) (x : ℕ) (q o : ObjectRow) → o.critical ≡ q.critical → is_live_process o ≡ is_live_process q → (is_live_process q ≡ true → chain B x ≡ chain A x) → SoundCritical A x q → SoundCritical B x o
+same_critical A B x q o to lives above s = elim s [
+  | inl none ↦ inl (to ∙ none)
+  | inr w ↦ inr (lives ∙ w.0, (λ i. among (above w.0 i) (to i)) ∙ w.1)
+]
 
 pub sound-above : (A : State) → ((x : ℕ) (o : ObjectRow) → object A x ≡ Some o → SoundObject A x o) → HasTaskAbove A
 sound-above A sound x o e t =
@@ -280,6 +302,14 @@ module _ (S : State) (sound : IsSound S) (going : ℕ → Bool) (free : (x : ℕ
       let was : depth S x ≤ 32 = sound.depths x w.0 w.1 (ap is_live_job (sym w.2) ∙ live) in
       subst (λ d. d ≤ 32) (sym same) was
 
+  left-criticals : (x : ℕ) (o : ObjectRow) → object rest x ≡ Some o → SoundCritical rest x o
+  left-criticals x o e =
+      let w = stayed going S x o e in
+      let lives : is_live_process o ≡ is_live_process w.0 = ap is_live_process w.2 in
+      same_critical S rest x w.0 o (ap (λ (q : ObjectRow). q.critical) w.2) lives
+      (λ live. same_chain rest S (sound-above rest left-objects) left-links x o e (or_right (is_live_job o) _ (lives ∙ live)))
+      (sound.criticals x w.0 w.1)
+
   pub sound-without : IsSound (without S going)
   sound-without = record {
     typed = left-typed;
@@ -291,4 +321,5 @@ module _ (S : State) (sound : IsSound S) (going : ℕ → Bool) (free : (x : ℕ
     of_waits = left-waits;
     ports = λ x. let a : pending rest x ≤ pending S x = left-pending x in let b : pending S x ≤ 2048 = sound.ports x in omega arith;
     depths = left-depths;
+    criticals = left-criticals;
   }

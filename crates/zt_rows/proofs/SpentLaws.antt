@@ -40,7 +40,7 @@ use Rattle.zt_rows.proofs.GivenLaws.{growth, OfKind, Spends, spends-itself, spen
 use Rattle.zt_rows.proofs.SentLaws.{called-channel_write}
 use Rattle.zt_rows.proofs.ReceivedLaws.{called-channel_read}
 use Rattle.zt_rows.proofs.PortSteps.{called-object_wait_async, called-port_queue, called-port_wait, called-port_cancel}
-use Rattle.zt_rows.proofs.JobSteps.{called-job_create, called-spawn, called-task_kill, called-process_exit}
+use Rattle.zt_rows.proofs.JobSteps.{called-job_create, called-spawn, called-job_set_critical, called-task_kill, called-process_exit}
 use Rattle.zt_rows.proofs.CallLaws.{sound-direct}
 use Rattle.zt_rows.proofs.OpeningLaws.{of_both, counters-opening}
 
@@ -185,6 +185,7 @@ called-direct S p (call.PortWait port) sound live = called-port_wait S p port
 called-direct S p (call.PortCancel port source packet_key) sound live = called-port_cancel S p port source packet_key
 called-direct S p (call.JobCreate job) sound live = called-job_create S p job sound live
 called-direct S p (call.Spawn job argument) sound live = called-spawn S p job argument sound live
+called-direct S p (call.JobSetCritical job process) sound live = called-job_set_critical S p job process
 called-direct S p (call.TaskKill h) sound live = called-task_kill S p h
 called-direct S p (call.ProcessExit code) sound live = called-process_exit S p code
 

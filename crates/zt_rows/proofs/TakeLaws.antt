@@ -117,6 +117,7 @@ module _ (p : ℕ) (values : ℕ → Bool) where
           let c : pending S x ≤ most_pending = sound.ports x in
           omega arith;
       new_depths = λ x o h job. inl (exists-some S x o (sym (object-taken x) ∙ h));
+      new_criticals = λ x o h. inl (o, sym (object-taken x) ∙ h, refl);
     }
 
     -- what is left when entries are taken out is sound

@@ -35,7 +35,7 @@ link-twice c l true false = refl
 unlinked-twice : (b c : ℕ → Bool) (o : ObjectRow) → unlinked c (unlinked b o) ≡ unlinked (either b c) o
 unlinked-twice b c o =
     let link : (unlinked c (unlinked b o)).link ≡ (unlinked (either b c) o).link = link-twice c o.link (is_endpoint o.kind) (b o.link) in
-    λ i. record { kind = o.kind; signals = o.signals; link = link i; life = o.life; next = o.next }
+    λ i. record { kind = o.kind; signals = o.signals; link = link i; life = o.life; next = o.next; critical = o.critical }
 
 twice_of : (s t : Bool) (f : Row → Option Row) (r q : Row) → f r ≡ (if t then None else Some q) → option_and_then f (if s then None else Some r) ≡ (if s || t then None else Some q)
 twice_of true t f r q e = refl

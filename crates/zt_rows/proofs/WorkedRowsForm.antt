@@ -2,11 +2,13 @@
 -- the state that they lead to. The rows themselves are theorems that hold by computation alone.
 use Rattle.std.specs.Prelude.{ℕ, Bool, ℤ, List, [], ◌∷◌, Option}
 use Rattle.zt_bits.specs.declared.kinds.Kind.{Kind}
+use Rattle.zt_bits.specs.declared.kinds.Kind.TheVariants as kind
 use Rattle.zt_bits.specs.declared.statuses.Status.{Status}
 use Rattle.zt_rows.specs.declared.calls.Reply.{Reply}
 use Rattle.zt_rows.specs.declared.calls.Reply.TheVariants as reply
 use Rattle.zt_rows.specs.declared.keys.RowKey.{RowKey}
 use Rattle.zt_rows.specs.declared.rows.Life.{Life}
+use Rattle.zt_rows.specs.declared.rows.Life.TheVariants as life
 use Rattle.zt_rows.specs.declared.rows.Row.{Row}
 use Rattle.zt_rows.specs.declared.rows.Row.TheVariants as rows
 use Rattle.zt_rows.specs.declared.supports.Support.{Support}
@@ -18,11 +20,11 @@ use Rattle.zt_rows.specs.Change.{keys_of_both, changed}
 use Rattle.zt_rows.specs.Opening.{opening}
 use Rattle.zt_rows.specs.Collect.{without, goes, rounds, collect}
 use Rattle.zt_rows.specs.Settle.{refresh, settle}
-use Rattle.zt_rows.specs.End.{links, chain, end}
+use Rattle.zt_rows.specs.End.{links, chain, highest, end}
 use Rattle.zt_rows.specs.ObjectCalls.{event_create, eventpair_create, handle_close, handle_duplicate, handle_replace, object_signal, object_signal_peer}
 use Rattle.zt_rows.specs.ChannelCalls.{channel_create, channel_write, channel_read}
 use Rattle.zt_rows.specs.PortCalls.{port_create, object_wait_async, port_queue, port_wait, port_cancel}
-use Rattle.zt_rows.specs.JobCalls.{job_create, spawn, task_kill, process_exit}
+use Rattle.zt_rows.specs.JobCalls.{job_create, spawn, job_set_critical, task_kill, process_exit}
 use Rattle.zt_rows.specs.Step.{completed}
 
 -- a call with its arguments, in the order of the lines of a trace
@@ -39,6 +41,7 @@ pub data Asked : Type 0 where
   PortCancel : (port source packet_key : ℕ) → Asked
   JobCreate : (job : ℕ) → Asked
   Spawn : (job arg : ℕ) → Asked
+  JobSetCritical : (job process : ℕ) → Asked
   TaskKill : (handle : ℕ) → Asked
   ProcessExit : (code : ℤ) → Asked
 
@@ -61,6 +64,7 @@ performed S p (PortWait port) = port_wait S p port
 performed S p (PortCancel port h k) = port_cancel S p port h k
 performed S p (JobCreate h) = job_create S p h
 performed S p (Spawn h arg) = spawn S p h arg
+performed S p (JobSetCritical job process) = job_set_critical S p job process
 performed S p (TaskKill h) = task_kill S p h
 performed S p (ProcessExit code) = process_exit S p code
 
@@ -74,7 +78,7 @@ all_of S (c ∷ cs) = let one = completed (performed S c.0 c.1) in followed one 
 
 -- the same from the opening
 unfoldable pub ran : List (ℕ × Asked) → State × List Reply
-unfolding row put change objects waits queue packets any_row count_row supports support_count is_supported without goes rounds collect refresh settle links chain end
+unfolding row put change objects waits queue packets any_row count_row supports support_count is_supported without goes rounds collect refresh settle links chain highest end
 ran cs = all_of opening cs
 
 -- a call of the root process
@@ -118,7 +122,11 @@ abbrev pub counters_row : ℕ → ℕ → Row
 counters_row koid number = rows.Counters (record { next_koid = koid; next_wait = number })
 
 abbrev pub object_row : Kind → ℕ → ℕ → Life → ℕ → Row
-object_row made signals link how next = rows.Object (record { kind = made; signals = record { 0 = signals }; link = link; life = how; next = next })
+object_row made signals link how next = rows.Object (record { kind = made; signals = record { 0 = signals }; link = link; life = how; next = next; critical = 0 })
+
+-- a live process that is critical to a job
+abbrev pub critical_row : ℕ → ℕ → ℕ → Row
+critical_row signals link job = rows.Object (record { kind = kind.Process; signals = record { 0 = signals }; link = link; life = life.Live; next = 0; critical = job })
 
 abbrev pub held_row : ℕ → ℕ → Row
 held_row koid rights = rows.Entry (record { koid = koid; rights = record { 0 = rights } })

@@ -2,14 +2,14 @@
 use Rattle.std.proofs.Common.{refl}
 use Rattle.std.specs.Prelude.{◌≡◌, ℕ, zero, suc, ◌+◌, false, pos, negsuc, List, [], ◌∷◌, ◌++◌, Some}
 use Rattle.zt_bits.specs.declared.kinds.Kind.TheVariants as kind
-use Rattle.zt_bits.specs.declared.statuses.Status.TheVariants.{BadHandle, WrongType, AccessDenied, PeerClosed, TimedOut, BadState, OutOfRange}
+use Rattle.zt_bits.specs.declared.statuses.Status.TheVariants.{BadHandle, WrongType, InvalidArgs, AccessDenied, PeerClosed, TimedOut, BadState, OutOfRange, AlreadyBound}
 use Rattle.zt_rows.specs.declared.calls.Reply.TheVariants.{Handle, Handles, Spawned, Message, Packet}
 use Rattle.zt_rows.specs.declared.keys.RowKey.TheVariants as key
 use Rattle.zt_rows.specs.declared.rows.Life.TheVariants as life
 use Rattle.zt_rows.specs.declared.rows.Packet.TheVariants as packet
 use Rattle.zt_rows.specs.declared.supports.Support.TheVariants as support
 use Rattle.zt_rows.specs.Handles.{done}
-use Rattle.zt_rows.proofs.WorkedRowsForm.{Asked, EventCreate, PortCreate, ChannelCreate, HandleClose, HandleDuplicate, HandleReplace, ChannelWrite, ChannelRead, ObjectSignal, ObjectWaitAsync, PortWait, JobCreate, Spawn, TaskKill, ProcessExit, ran, root, by_root, replies, rows_after, row_after, supports_after, then_one, failed, object_row, held_row, counters_row}
+use Rattle.zt_rows.proofs.WorkedRowsForm.{Asked, EventCreate, PortCreate, ChannelCreate, HandleClose, HandleDuplicate, HandleReplace, ChannelWrite, ChannelRead, ObjectSignal, ObjectWaitAsync, PortWait, JobCreate, Spawn, JobSetCritical, TaskKill, ProcessExit, ran, root, by_root, replies, rows_after, row_after, supports_after, then_one, failed, object_row, critical_row, held_row, counters_row}
 use Rattle.zt_rows.specs.State.{State, row, put}
 use Rattle.zt_rows.specs.End.{links, chain}
 use Rattle.zt_rows.specs.Opening.{opening}
@@ -190,3 +190,74 @@ pub killed_job_of_ten_replies : replies (by_root (job_of_ten ++ TaskKill 7 ∷ P
     ≡ Handle 7 ∷ Handle 11 ∷ done ∷ Spawned 15 1028 ∷ Spawned 19 1029 ∷ Spawned 23 1030 ∷ Spawned 27 1031 ∷ Spawned 31 1032 ∷ Spawned 35 1033 ∷ Spawned 39 1034 ∷ Spawned 43 1035 ∷ Spawned 47 1036 ∷ Spawned 51 1037 ∷ done ∷ Packet (packet.Signal 5 (record { 0 = 0x8 }) (record { 0 = 0x38 }) 1025 7) ∷ failed TimedOut ∷ []
 unfolding ran
 killed_job_of_ten_replies = refl
+
+-- ---- critical processes
+
+-- a process that is critical to its job, and another beside it; a process is critical to one job at most, and the job
+-- is above it
+abbrev pub critical_process : List (ℕ × Asked)
+critical_process =
+    by_root (JobCreate 3 ∷ Spawn 7 0 ∷ Spawn 7 0 ∷ JobSetCritical 7 11 ∷ JobSetCritical 7 11 ∷ JobCreate 3 ∷ JobSetCritical 19 15 ∷ [])
+
+pub made_critical : then_one (by_root (JobCreate 3 ∷ Spawn 7 0 ∷ Spawn 7 0 ∷ [])) (root (JobSetCritical 7 11))
+    ≡ (done, key.Object 1027 ∷ [])
+unfolding then_one
+made_critical = refl
+
+pub made_critical_row : row_after critical_process (key.Object 1027) ≡ Some (critical_row 0 1026 1026)
+unfolding row_after
+made_critical_row = refl
+
+pub critical_process_replies : replies critical_process
+    ≡ Handle 7 ∷ Spawned 11 1027 ∷ Spawned 15 1028 ∷ done ∷ failed AlreadyBound ∷ Handle 19 ∷ failed InvalidArgs ∷ []
+unfolding ran
+critical_process_replies = refl
+
+-- its exit ends the job and what else is under it
+pub critical_process_exits : then_one critical_process (1027, ProcessExit (pos 0))
+    ≡ (done, key.Object 1026 ∷ key.Object 1027 ∷ key.Object 1028 ∷ [])
+unfolding then_one
+critical_process_exits = refl
+
+pub critical_process_exited : rows_after (critical_process ++ (1027, ProcessExit (pos 0)) ∷ [])
+    ≡ (key.Counters, counters_row 1030 0)
+    ∷ (key.Object 1024, object_row kind.Job 0 0 life.Live 0)
+    ∷ (key.Object 1025, object_row kind.Process 0 1024 life.Live 5)
+    ∷ (key.Object 1026, object_row kind.Job 0x38 0 life.Killed 0)
+    ∷ (key.Object 1027, object_row kind.Process 0x8 0 (life.Exited (pos 0)) 0)
+    ∷ (key.Object 1028, object_row kind.Process 0x8 0 life.Killed 0)
+    ∷ (key.Object 1029, object_row kind.Job 0x30 1024 life.Live 0)
+    ∷ (key.Entry 1025 3, held_row 1024 0x3d203)
+    ∷ (key.Entry 1025 7, held_row 1026 0x3d203)
+    ∷ (key.Entry 1025 11, held_row 1027 0xd203)
+    ∷ (key.Entry 1025 15, held_row 1028 0xd203)
+    ∷ (key.Entry 1025 19, held_row 1029 0x3d203) ∷ []
+unfolding ran
+critical_process_exited = refl
+
+-- a process killed, the job that it is critical to, a process of that job, and the job that this one is critical to
+abbrev pub critical_chain : List Asked
+critical_chain =
+    JobCreate 3 ∷ JobCreate 7 ∷ Spawn 11 0 ∷ Spawn 11 0 ∷ Spawn 7 0 ∷ JobSetCritical 11 15 ∷ JobSetCritical 7 19 ∷ []
+
+pub critical_chain_ends : then_one (by_root critical_chain) (root (TaskKill 15))
+    ≡ (done, key.Object 1024 ∷ key.Object 1026 ∷ key.Object 1027 ∷ key.Object 1028 ∷ key.Object 1029 ∷ key.Object 1030 ∷ [])
+unfolding then_one
+critical_chain_ends = refl
+
+pub critical_chain_ended : row_after (by_root (critical_chain ++ TaskKill 15 ∷ [])) (key.Object 1030) ≡ Some (object_row kind.Process 0x8 0 life.Killed 0)
+unfolding row_after
+critical_chain_ended = refl
+
+-- a process can be critical to the root job, whose end is that of everything
+pub critical_to_the_root_job : rows_after (root (Spawn 3 0) ∷ root (JobSetCritical 3 7) ∷ (1026, ProcessExit (pos 0)) ∷ [])
+    ≡ (key.Counters, counters_row 1027 0)
+    ∷ (key.Object 1024, object_row kind.Job 0x38 0 life.Killed 0) ∷ []
+unfolding ran
+critical_to_the_root_job = refl
+
+-- a process that has ended is under no job, and was critical to none since
+pub critical_faults : replies (by_root (JobCreate 3 ∷ Spawn 7 0 ∷ EventCreate ∷ JobSetCritical 15 99 ∷ JobSetCritical 7 7 ∷ JobSetCritical 7 11 ∷ TaskKill 11 ∷ JobSetCritical 3 11 ∷ []))
+    ≡ Handle 7 ∷ Spawned 11 1027 ∷ Handle 15 ∷ failed WrongType ∷ failed WrongType ∷ done ∷ done ∷ failed InvalidArgs ∷ []
+unfolding ran
+critical_faults = refl

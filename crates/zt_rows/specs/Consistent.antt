@@ -17,11 +17,11 @@ use Rattle.zt_rows.specs.declared.rows.Wait.{Wait}
 use Rattle.zt_rows.specs.Contents.{MessageContent, IsWithinMessage}
 use Rattle.zt_rows.specs.State.{State, row}
 use Rattle.zt_rows.specs.Reads.{counters, object, entry, message, packet as packet_at, wait, runs, is_live_job, is_live_process}
-use Rattle.zt_rows.specs.Tests.{is_endpoint, exists, kind_at, next_at, without_bits}
+use Rattle.zt_rows.specs.Tests.{is_endpoint, exists, kind_at, next_at, without_bits, among}
 use Rattle.zt_rows.specs.Room.{suits}
 use Rattle.zt_rows.specs.Support.{root_job, is_supported}
 use Rattle.zt_rows.specs.Settle.{derived_mask, renewed, is_met}
-use Rattle.zt_rows.specs.End.{depth}
+use Rattle.zt_rows.specs.End.{chain, depth}
 use Rattle.zt_rows.specs.PortCalls.{pending, most_pending}
 use Rattle.zt_rows.specs.JobCalls.{most_depth}
 
@@ -67,6 +67,10 @@ pub record SoundObject (S : State) (x : ℕ) (o : ObjectRow) : Type 0 where
   pub lives : may_be o.kind o.life ≡ true
   pub signals : without_bits o.signals.0 (possible_signals o.kind) ≡ 0
 
+-- it is critical to no job, or it is a live process and the job is above it
+abbrev pub SoundCritical : State → ℕ → ObjectRow → Type 0
+SoundCritical S x o = (o.critical ≡ 0) ⊎ ((is_live_process o ≡ true) × (among (chain S x) o.critical ≡ true))
+
 -- ---- what objects own, and what names objects
 
 -- a live process holds it, by a value that it was given, and what it names exists
@@ -107,6 +111,7 @@ pub record IsSound (S : State) : Type 0 where
   pub of_waits : (n : ℕ) (w : Wait) → wait S n ≡ Some w → SoundWait S n w
   pub ports : (x : ℕ) → pending S x ≤ most_pending
   pub depths : (x : ℕ) (o : ObjectRow) → object S x ≡ Some o → is_live_job o ≡ true → depth S x ≤ most_depth
+  pub criticals : (x : ℕ) (o : ObjectRow) → object S x ≡ Some o → SoundCritical S x o
 
 -- a sound state at rest: removal, refreshing and firing have nothing left to do
 pub record IsConsistent (S : State) : Type 0 where

@@ -83,7 +83,7 @@ value_of n = 4 * n + 3
 
 abbrev pub as_caller : Option ObjectRow → ObjectRow
 as_caller (Some o) = o
-as_caller None = record { kind = kind.Process; signals = record { 0 = 0 }; link = 0; life = life.Killed; next = 0 }
+as_caller None = record { kind = kind.Process; signals = record { 0 = 0 }; link = 0; life = life.Killed; next = 0; critical = 0 }
 
 -- the row of the process that calls
 abbrev pub caller : State → ℕ → ObjectRow
@@ -111,7 +111,7 @@ whole x made = record { koid = x; rights = record { 0 = default_rights made } }
 
 -- a new object of this kind, linked so
 abbrev pub fresh : Kind → ℕ → ObjectRow
-fresh made link = record { kind = made; signals = record { 0 = 0 }; link = link; life = life.Live; next = 0 }
+fresh made link = record { kind = made; signals = record { 0 = 0 }; link = link; life = life.Live; next = 0; critical = 0 }
 
 -- the koid of the next object
 abbrev pub next_koid : State → ℕ

@@ -1,7 +1,7 @@
 -- The calls on jobs and processes. Names, rights and statuses as in Fuchsia's reference of `zx_job_create`,
--- `zx_task_kill` and `zx_process_exit`; `spawn`, which stands for creating and starting a process with one
--- handle, the depth of jobs and the order of the checks is this project's own profile.
-use Rattle.std.specs.Prelude.{ℕ, ℤ, ◌==◌, nat_lt, if◌then◌else◌, Option, None, Some, Result, Ok}
+-- `zx_job_set_critical`, `zx_task_kill` and `zx_process_exit`; `spawn`, which stands for creating and starting a
+-- process with one handle, the depth of jobs and the order of the checks is this project's own profile.
+use Rattle.std.specs.Prelude.{ℕ, ℤ, Bool, not, ◌==◌, ◌&&◌, nat_lt, if◌then◌else◌, Option, None, Some, Result, Ok}
 use Rattle.zt_bits.specs.declared.kinds.Kind.TheVariants as kind
 use Rattle.zt_bits.specs.declared.statuses.Status.{Status}
 use Rattle.zt_bits.specs.declared.statuses.Status.TheVariants as status
@@ -13,9 +13,9 @@ use Rattle.zt_rows.specs.declared.rows.Life.TheVariants as life
 use Rattle.zt_rows.specs.declared.rows.ObjectRow.{ObjectRow}
 use Rattle.zt_rows.specs.declared.rows.Row.TheVariants as rows
 use Rattle.zt_rows.specs.State.{State, put}
-use Rattle.zt_rows.specs.Reads.{counters, is_job, is_live}
+use Rattle.zt_rows.specs.Reads.{counters, is_job, is_process, is_live}
 use Rattle.zt_rows.specs.Tests.{any_kind, is_task}
-use Rattle.zt_rows.specs.End.{depth, ends_with, end}
+use Rattle.zt_rows.specs.End.{depth, is_under, ends_with, end}
 use Rattle.zt_rows.specs.Handles.{◌>>=◌, check, handle, done, answered, take_out, value_of, caller, install, whole, fresh, next_koid, make}
 
 -- ---- making jobs and processes
@@ -65,12 +65,25 @@ spawn S p h arg = answered S (do
 
 -- ---- ending them
 
--- the process or job ends, and with a job all that is under it; killing what has ended is nothing
+-- the process becomes critical to the job, which is above it; a process is critical to one job at most
+abbrev pub job_set_critical : State → ℕ → ℕ → ℕ → State × Reply
+job_set_critical S p job process = answered S (do
+  (above, _) ← handle S p job is_job 0x200
+  (held, o) ← handle S p process is_process 0x4000
+  _ ← check (o.critical == 0) status.AlreadyBound
+  _ ← check (is_under S above.koid held.koid) status.InvalidArgs
+  Ok (put S (key.Object held.koid) (Some (rows.Object (record o { critical = above.koid }))), done))
+
+-- the process or job is killed, and what ends with it; killing what has ended is nothing
 abbrev pub task_kill : State → ℕ → ℕ → State × Reply
 task_kill S p h = answered S (do
   (held, task) ← handle S p h is_task 0x200
-  Ok (if is_live task.life then end S (ends_with S task.kind held.koid) life.Killed else S, done))
+  Ok (if is_live task.life then end S (ends_with S held.koid) life.Killed else S, done))
 
--- the caller ends with this code
+-- what ends with the caller, but for the caller
+abbrev pub others : State → ℕ → ℕ → Bool
+others S p x = ends_with S p x && not (x == p)
+
+-- the caller ends with this code, and what else ends with it is killed
 abbrev pub process_exit : State → ℕ → ℤ → State × Reply
-process_exit S p code = (end S (λ x. x == p) (life.Exited code), done)
+process_exit S p code = (end (end S (λ x. x == p) (life.Exited code)) (others S p) life.Killed, done)

@@ -14,8 +14,8 @@ use Rattle.zt_rows.specs.State.{State, state_of}
 abbrev pub opening_rows : List (RowKey × Row)
 opening_rows =
     (key.Counters, rows.Counters (record { next_koid = 1026; next_wait = 0 }))
-    ∷ (key.Object 1024, rows.Object (record { kind = kind.Job; signals = record { 0 = 0x10 }; link = 0; life = life.Live; next = 0 }))
-    ∷ (key.Object 1025, rows.Object (record { kind = kind.Process; signals = record { 0 = 0 }; link = 1024; life = life.Live; next = 1 }))
+    ∷ (key.Object 1024, rows.Object (record { kind = kind.Job; signals = record { 0 = 0x10 }; link = 0; life = life.Live; next = 0; critical = 0 }))
+    ∷ (key.Object 1025, rows.Object (record { kind = kind.Process; signals = record { 0 = 0 }; link = 1024; life = life.Live; next = 1; critical = 0 }))
     ∷ (key.Entry 1025 3, rows.Entry (record { koid = 1024; rights = record { 0 = 0x3d203 } })) ∷ []
 
 abbrev pub opening : State

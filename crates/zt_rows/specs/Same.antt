@@ -42,7 +42,7 @@ counters_eq a b = (a.next_koid == b.next_koid) && (a.next_wait == b.next_wait)
 
 abbrev pub object_eq : ObjectRow → ObjectRow → Bool
 object_eq a b =
-    kind_eq a.kind b.kind && (a.signals.0 == b.signals.0) && (a.link == b.link) && life_eq a.life b.life && (a.next == b.next)
+    kind_eq a.kind b.kind && (a.signals.0 == b.signals.0) && (a.link == b.link) && life_eq a.life b.life && (a.next == b.next) && (a.critical == b.critical)
 
 abbrev pub content_eq : MessageContent → MessageContent → Bool
 content_eq a b = pointwise (λ x y. x == y) a.bytes b.bytes && pointwise held_eq a.handles b.handles

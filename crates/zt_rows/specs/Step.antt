@@ -12,7 +12,7 @@ use Rattle.zt_rows.specs.Settle.{settle}
 use Rattle.zt_rows.specs.ObjectCalls.{event_create, eventpair_create, handle_close, handle_duplicate, handle_replace, object_signal, object_signal_peer}
 use Rattle.zt_rows.specs.ChannelCalls.{channel_create, channel_write, channel_read}
 use Rattle.zt_rows.specs.PortCalls.{port_create, object_wait_async, port_queue, port_wait, port_cancel}
-use Rattle.zt_rows.specs.JobCalls.{job_create, spawn, task_kill, process_exit}
+use Rattle.zt_rows.specs.JobCalls.{job_create, spawn, job_set_critical, task_kill, process_exit}
 
 -- a call that there can be: what it sends is within a message
 abbrev pub IsCall : Call → Type 0
@@ -38,6 +38,7 @@ direct S p (call.PortWait port) = port_wait S p port
 direct S p (call.PortCancel port source packet_key) = port_cancel S p port source packet_key
 direct S p (call.JobCreate job) = job_create S p job
 direct S p (call.Spawn job argument) = spawn S p job argument
+direct S p (call.JobSetCritical job process) = job_set_critical S p job process
 direct S p (call.TaskKill h) = task_kill S p h
 direct S p (call.ProcessExit code) = process_exit S p code
 

@@ -149,11 +149,16 @@ pub enum Call {
         job: HandleValue,
         argument: HandleValue,
     },
-    /// The process or job ends, and with a job all that is under it.
+    /// The process becomes critical to the job, which is above it: the job ends where the process does.
+    JobSetCritical {
+        job: HandleValue,
+        process: HandleValue,
+    },
+    /// The process or job ends, and with it what is under a job that ends and what a process that ends is critical to.
     TaskKill {
         handle: HandleValue,
     },
-    /// The caller ends with this code.
+    /// The caller ends with this code, and what else ends with it is killed.
     ProcessExit {
         code: i64,
     },
@@ -218,6 +223,7 @@ impl Call {
             Call::PortCancel { port, source, key } => Call::PortCancel { port, source, key },
             Call::JobCreate { job } => Call::JobCreate { job },
             Call::Spawn { job, argument } => Call::Spawn { job, argument },
+            Call::JobSetCritical { job, process } => Call::JobSetCritical { job, process },
             Call::TaskKill { handle } => Call::TaskKill { handle },
             Call::ProcessExit { code } => Call::ProcessExit { code },
         })

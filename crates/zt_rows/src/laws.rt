@@ -1,6 +1,6 @@
 //! What holds of every state and every change of one, and of what follows every call. Each law is the contract
 //! of a function that does nothing.
-ghost use Rattle.std.specs.Prelude.{◌≡◌, ◌↔◌, ◌≤◌, ◌<◌, ◌+◌, true, if◌then◌else◌, List, map, Option, option_and_then, ◌||◌, ℕ, Bool, false};
+ghost use Rattle.std.specs.Prelude.{◌≡◌, ◌↔◌, ◌≤◌, ◌<◌, ◌+◌, true, if◌then◌else◌, List, map, Option, Some, option_and_then, ◌||◌, ℕ, Bool, false};
 ghost use Rattle.std.specs.List.{IsDistinct};
 ghost use Rattle.zt_rows.specs.declared.keys.RowKey.{RowKey};
 ghost use Rattle.zt_rows.specs.declared.rows.Row.{Row};
@@ -14,7 +14,9 @@ ghost use Rattle.zt_rows.specs.Collect.{goes, without, collect};
 ghost use Rattle.zt_rows.specs.Justified.{Justified};
 ghost use Rattle.zt_rows.specs.Settle.{settle};
 ghost use Rattle.zt_rows.specs.Consistent.{IsSound, IsConsistent};
-ghost use Rattle.zt_rows.specs.Reads.{runs};
+ghost use Rattle.zt_rows.specs.declared.rows.ObjectRow.{ObjectRow};
+ghost use Rattle.zt_rows.specs.End.{IsClosed, ends_with, is_live_task};
+ghost use Rattle.zt_rows.specs.Reads.{object, runs};
 ghost use Rattle.zt_rows.specs.Room.{HasRoom, HasSpent};
 ghost use Rattle.zt_rows.specs.Opening.{opening};
 ghost use Rattle.zt_rows.specs.Step.{IsCall, step};
@@ -114,6 +116,17 @@ pub fn few_calls_leave_room()
     ensures call { (S : State) (p : ℕ) (c : Call) (calls : ℕ) → calls < 1048576 → IsConsistent S
         → runs S p ≡ true → IsCall c → HasSpent calls S → HasSpent (calls + 1) (step S p c).0 }
     ensures room { (S : State) (calls : ℕ) → calls ≤ 1048576 → HasSpent calls S → HasRoom S }
+{}
+
+/// What ends with a live process or job is the least set that ends together and has it.
+pub fn what_ends_is_the_least_closed_set()
+    ensures has { (S : State) (x : ℕ) (o : ObjectRow) → IsSound S → object S x ≡ Some o → is_live_task (Some o) ≡ true
+        → ends_with S x x ≡ true }
+    ensures closed { (S : State) (x : ℕ) (o : ObjectRow) → IsSound S → object S x ≡ Some o → is_live_task (Some o) ≡ true
+        → IsClosed S (ends_with S x) }
+    ensures least { (S : State) (x : ℕ) (o : ObjectRow) → IsSound S → object S x ≡ Some o → is_live_task (Some o) ≡ true
+        → (ending : ℕ → Bool) → IsClosed S ending → ending x ≡ true
+        → (y : ℕ) → ends_with S x y ≡ true → ending y ≡ true }
 {}
 
 /// To remove one set of objects and then another is to remove both.

@@ -9,6 +9,9 @@ pub const MESSAGE_BYTES: usize = 65_536;
 /// The most handles that a message carries.
 pub const MESSAGE_HANDLES: usize = 64;
 
+/// The last moment that a history can have, and so the most calls.
+pub const LAST_MOMENT: u32 = 1_048_576;
+
 /// The most clients of a book.
 pub const CLIENTS: u8 = 4;
 

@@ -32,6 +32,7 @@ pub enum Life {
 
 /// An object. `link` is the peer of an endpoint, the parent of a live process or job, or 0. `next` is the
 /// next number of what the object owns: handles of a process, messages of an endpoint, packets of a port.
+/// `critical` is the job that ends where this live process ends, or 0.
 #[derive(Clone, Copy, Debug, PartialEq, Eq)]
 pub struct ObjectRow {
     pub kind: Kind,
@@ -39,6 +40,25 @@ pub struct ObjectRow {
     pub link: Koid,
     pub life: Life,
     pub next: u64,
+    pub critical: Koid,
+}
+
+impl ObjectRow {
+    ghost use Rattle.zt_rows.specs.Handles.{fresh};
+
+    /// A new live object of the kind, linked so.
+    pub fn new(kind: Kind, link: Koid) -> ObjectRow
+        ensures { result ≡ fresh kind link }
+    {
+        ObjectRow {
+            kind,
+            signals: Signals(0),
+            link,
+            life: Life::Live,
+            next: 0,
+            critical: Koid(0),
+        }
+    }
 }
 
 /// A message that waits in the queue of an endpoint, within the limits of a message.

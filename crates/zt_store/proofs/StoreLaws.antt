@@ -35,8 +35,8 @@ went-fits s S p q list new k came went seen fit same len is_went koid_counts =
 -- ---- the beginning of a history
 
 pub opened : put (put (put (put hollow (key.Counters) (Some (rows.Counters (record { next_koid = 1026; next_wait = 0 }))))
-    (key.Object 1024) (Some (rows.Object (record { kind = kind.Job; signals = record { 0 = 0x10 }; link = 0; life = life.Live; next = 0 }))))
-    (key.Object 1025) (Some (rows.Object (record { kind = kind.Process; signals = record { 0 = 0 }; link = 1024; life = life.Live; next = 1 }))))
+    (key.Object 1024) (Some (rows.Object (record { kind = kind.Job; signals = record { 0 = 0x10 }; link = 0; life = life.Live; next = 0; critical = 0 }))))
+    (key.Object 1025) (Some (rows.Object (record { kind = kind.Process; signals = record { 0 = 0 }; link = 1024; life = life.Live; next = 1; critical = 0 }))))
     (key.Entry 1025 3) (Some (rows.Entry (record { koid = 1024; rights = record { 0 = 0x3d203 } })))
     ≡ opening
 unfolding put hollow

@@ -46,6 +46,7 @@ const FIRST_JOB: ObjectRow = ObjectRow {
     link: Koid(0),
     life: Life::Live,
     next: 0,
+    critical: Koid(0),
 };
 
 const FIRST_PROCESS: ObjectRow = ObjectRow {
@@ -54,6 +55,7 @@ const FIRST_PROCESS: ObjectRow = ObjectRow {
     link: ROOT_JOB,
     life: Life::Live,
     next: 1,
+    critical: Koid(0),
 };
 
 const TO_ROOT_JOB: Held = Held {

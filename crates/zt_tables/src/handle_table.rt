@@ -85,6 +85,7 @@ fn owner_of(step: &Step, process: Koid) -> ObjectRow
             link: Koid(0),
             life: Life::Killed,
             next: 0,
+            critical: Koid(0),
         },
     }
 }

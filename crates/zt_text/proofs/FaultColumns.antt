@@ -21,7 +21,7 @@ use Rattle.zt_text.specs.Bytes.{hex_bytes, bytes_of, packet_bytes_of}
 use Rattle.zt_text.specs.Lists.{handles_of}
 use Rattle.zt_text.specs.Names.{name_of, happening_of}
 use Rattle.zt_text.specs.Fields.{Placed, Unread, ◌>>=◌, parts_of, placed, fields_of, unread, next, field, ended, flag}
-use Rattle.zt_text.specs.ReadCalls.{event_create, eventpair_create, handle_close, handle_duplicate, handle_replace, object_signal, object_signal_peer, channel_create, channel_write, channel_read, port_create, object_wait_async, port_queue, port_wait, port_cancel, job_create, spawn, task_kill, process_exit, task_call_named, port_call_named, channel_call_named, handle_call_named, call_named, any_call_named, call}
+use Rattle.zt_text.specs.ReadCalls.{event_create, eventpair_create, handle_close, handle_duplicate, handle_replace, object_signal, object_signal_peer, channel_create, channel_write, channel_read, port_create, object_wait_async, port_queue, port_wait, port_cancel, job_create, spawn, job_set_critical, task_kill, process_exit, task_call_named, port_call_named, channel_call_named, handle_call_named, call_named, any_call_named, call}
 use Rattle.zt_text.specs.ReadLines.{goto, back, only_name, branch, follow, show, holders, leaks, when, pin, question_named, plain_command_named, command_named, pinned_show, pinned_holders, pinned_leaks, pinned_named, pinned, word_named, call_or_word, asked_by, most_line_bytes, is_skipped, fields_in, each_by, read_as}
 use Rattle.zt_text.specs.ShownNumbers.{words}
 use Rattle.zt_text.specs.Columns.{AsksSomething, NoneGoesOn, column_of, IsFirstFault}
@@ -512,6 +512,10 @@ spawn_reader : IsReader Call spawn
 unfolding spawn
 spawn_reader = field_reader handle_of handle_word (λ a. then_field handle_of (λ b. ends (calls.Spawn a b))) (λ a. field_reader handle_of handle_word (λ b. ends (calls.Spawn a b)) (λ b. end_reader (calls.Spawn a b)))
 
+job_set_critical_reader : IsReader Call job_set_critical
+unfolding job_set_critical
+job_set_critical_reader = field_reader handle_of handle_word (λ a. then_field handle_of (λ b. ends (calls.JobSetCritical a b))) (λ a. field_reader handle_of handle_word (λ b. ends (calls.JobSetCritical a b)) (λ b. end_reader (calls.JobSetCritical a b)))
+
 object_signal_reader : IsReader Call object_signal
 unfolding object_signal
 object_signal_reader = field_reader handle_of handle_word (λ a. then_field signals_of (λ b. then_field signals_of (λ c. ends (calls.ObjectSignal a b c)))) (λ a. field_reader signals_of signals_word (λ b. then_field signals_of (λ c. ends (calls.ObjectSignal a b c))) (λ b. field_reader signals_of signals_word (λ c. ends (calls.ObjectSignal a b c)) (λ c. end_reader (calls.ObjectSignal a b c))))
@@ -548,9 +552,10 @@ unfolding task_call_named
 task_call_named_choice =
     choice_if (codes "job_create") job_create job_create_reader _
     (choice_if (codes "spawn") spawn spawn_reader _
+    (choice_if (codes "job_set_critical") job_set_critical job_set_critical_reader _
     (choice_if (codes "task_kill") task_kill task_kill_reader _
     (choice_if (codes "process_exit") process_exit process_exit_reader no_name
-    no_choice)))
+    no_choice))))
 
 port_call_named_choice : IsChoice Call port_call_named
 unfolding port_call_named

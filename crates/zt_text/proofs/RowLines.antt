@@ -1,11 +1,12 @@
 -- No two rows have one line: a reader of rows gives each row back from its line.
-use Rattle.std.proofs.Common.{lit<, lit≤, ◌≡◌, ℕ, ◌-◌, ◌^◌, ◌<◌, true, false, List, [], ◌∷◌, ◌++◌, map, drop, Option, Some, None, Result, Ok, refl, sym, ap, ◌∙◌, arith, All, append_assoc}
-use Rattle.std.specs.Prelude.{codes, ◌==◌, not, if◌then◌else◌}
+use Rattle.std.proofs.Common.{lit<, lit≤, ◌≡◌, ℕ, ◌-◌, ◌^◌, ◌<◌, Bool, true, false, List, [], ◌∷◌, ◌++◌, map, drop, Option, Some, None, Result, Ok, refl, sym, ap, ◌∙◌, arith, All, append_assoc}
+use Rattle.std.specs.Prelude.{codes, ok_or, ◌==◌, not, if◌then◌else◌}
 use Rattle.std.specs.Char.{is_ascii_digit}
 use Rattle.std.specs.Str.{bytes_eq}
 use Rattle.std.specs.Option.{option_map}
 use Rattle.std.specs.List.{list_all, join_with_byte}
 use Rattle.std.specs.Fmt.{decimal}
+use Rattle.std.proofs.lemmas.Bool.{eqb-true}
 use Rattle.std.proofs.lemmas.Bool.Decides.{nat_tests}
 use Rattle.std.proofs.lemmas.Fmt.{decimal_is_IsNumeral}
 use Rattle.std.proofs.lemmas.List.Elements.{All-head, All-tail}
@@ -15,6 +16,7 @@ use Rattle.zt_bits.specs.declared.kinds.Kind.TheVariants as kind
 use Rattle.zt_bits.specs.declared.right_bits.Rights.{Rights}
 use Rattle.zt_bits.specs.Words.{kind_word}
 use Rattle.zt_rows.specs.declared.refusals.Refusal.{Refusal}
+use Rattle.zt_rows.specs.declared.refusals.Refusal.TheVariants.{BadLine}
 use Rattle.zt_rows.specs.declared.keys.RowKey.{RowKey}
 use Rattle.zt_rows.specs.declared.keys.RowKey.TheVariants as key
 use Rattle.zt_rows.specs.declared.rows.Held.{Held}
@@ -27,7 +29,7 @@ use Rattle.zt_rows.specs.declared.rows.Row.TheVariants as rows
 use Rattle.zt_rows.specs.Room.{suits}
 use Rattle.zt_text.specs.Numbers.{is_hex_digit, decimal_of, koid_of, key_of, handle_of, code_of, mask_of, signals_of}
 use Rattle.zt_text.specs.Bytes.{hex_bytes, hex_text}
-use Rattle.zt_text.specs.Fields.{Unread, ◌>>=◌, next, field, placed, unread, parts_of, fields_of}
+use Rattle.zt_text.specs.Fields.{Placed, Unread, ◌>>=◌, next, field, placed, unread, parts_of, fields_of}
 use Rattle.zt_text.specs.Lines.{lines_of}
 use Rattle.zt_text.specs.ShownNumbers.{words, hexadecimal, shown_mask, shown_bytes, shown_list, shown_held}
 use Rattle.zt_text.specs.Answers.{shown_life, row_line}
@@ -36,7 +38,7 @@ use Rattle.zt_text.specs.Rows.{IsKeyWithin, IsHeldWithin, IsLifeWithin, IsPacket
 use Rattle.zt_text.proofs.ShownFields.{decimal_read, decimal_digits, mask_read, mask_digits_shown, code_read, digits_of, not_dash}
 use Rattle.zt_text.proofs.ShownWords.{is_free, AreFree, parts_joined, passing, free_digits, free_hex, free_seen, all_free, line_free, no_dash}
 use Rattle.zt_text.proofs.LineLemmas.{line_written}
-use Rattle.zt_text.proofs.RowWords.{key_word, key_numbers, row_word, row_words, line_words, line_shown, line_seen}
+use Rattle.zt_text.proofs.RowWords.{key_word, key_numbers, critical_words, row_word, row_words, line_words, line_shown, line_seen}
 
 -- ---- the forms of a row's fields
 
@@ -88,6 +90,11 @@ counters_of left = do
   wait ← field key_of koid.1
   Ok (key.Counters, rows.Counters (record { next_koid = koid.0; next_wait = wait.0 }))
 
+-- the job behind `critical:`; 0, where no field is left
+abbrev critical_in : List Placed → Result ℕ Refusal
+critical_in [] = Ok 0
+critical_in (word ∷ _) = ok_or (koid_of (drop 9 word.bytes)) (BadLine word.column)
+
 unfoldable object_of : Unread → Result (RowKey × Row) Refusal
 object_of left = do
   koid ← field koid_of left
@@ -96,7 +103,8 @@ object_of left = do
   link ← field koid_of signals.1
   how ← field life_of link.1
   number ← field key_of how.1
-  Ok (key.Object koid.0, rows.Object (record { kind = what.0; signals = signals.0; link = link.0; life = how.0; next = number.0 }))
+  critical ← critical_in number.1.fields
+  Ok (key.Object koid.0, rows.Object (record { kind = what.0; signals = signals.0; link = link.0; life = how.0; next = number.0; critical = critical }))
 
 unfoldable entry_of : Unread → Result (RowKey × Row) Refusal
 entry_of left = do
@@ -187,6 +195,11 @@ life_read life.Live h = refl
 life_read life.Killed h = refl
 life_read (life.Exited code) h = rw (code_read code h) refl
 
+critical_read : (job column : ℕ) (none : Bool) → (job == 0) ≡ none → job < 2 ^ 64 → critical_in (placed column (critical_words job)) ≡ Ok job
+unfolding placed
+critical_read job column true is small = rw is (ap Ok (sym (eqb-true job 0 is)))
+critical_read job column false is small = rw (is, key_read job small) refl
+
 any_bytes_read : (bytes : List ℕ) → All IsByte bytes → any_bytes_of (shown_bytes bytes) ≡ Some bytes
 unfolding any_bytes_of
 any_bytes_read [] are = refl
@@ -255,8 +268,9 @@ row_read : (k : RowKey) (r : Row) → suits k r ≡ true → IsKeyWithin k → I
 unfolding placed field counters_of object_of entry_of message_of wait_of row_named row_of
 row_read key.Counters (rows.Counters counters) fits of_key (a, b) column behind =
     rw (key_read counters.next_koid a, key_read counters.next_wait b) refl
-row_read (key.Object koid) (rows.Object object) fits of_key (a, b, c, d) column behind =
-    rw (key_read koid of_key, kind_read object.kind, mask_read object.signals.0 a, key_read object.link b, life_read object.life c, key_read object.next d) refl
+row_read (key.Object koid) (rows.Object object) fits of_key (a, b, c, d, e) column behind =
+    let critical : (at : ℕ) → critical_in (placed at (critical_words object.critical)) ≡ Ok object.critical = λ at. critical_read object.critical at (object.critical == 0) refl e in
+    rw (key_read koid of_key, kind_read object.kind, mask_read object.signals.0 a, key_read object.link b, life_read object.life c, key_read object.next d, critical) refl
 row_read (key.Entry process handle) (rows.Entry held) fits (p, q) (a, b) column behind =
     rw (key_read process p, handle_read handle q, key_read held.koid a, rights_read held.rights.0 b) refl
 row_read (key.Msg endpoint number) (rows.Msg message) fits (p, q) (a, b) column behind =

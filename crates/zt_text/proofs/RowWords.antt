@@ -1,6 +1,6 @@
 -- The words of a row's line: the words that its key and the row show, in turn, each of visible bytes.
-use Rattle.std.proofs.Common.{◌≡◌, ℕ, ◌^◌, ◌<◌, true, List, [], ◌∷◌, ◌++◌, map, refl, ap, ◌∙◌, arith, All, append_assoc}
-use Rattle.std.specs.Prelude.{codes, nat_lt}
+use Rattle.std.proofs.Common.{◌≡◌, ℕ, ◌^◌, ◌<◌, Bool, true, false, List, [], ◌∷◌, ◌++◌, map, refl, sym, ap, ◌∙◌, arith, All, append-nil, append_assoc}
+use Rattle.std.specs.Prelude.{codes, nat_lt, ◌==◌, if◌then◌else◌}
 use Rattle.std.specs.Fmt.{decimal}
 use Rattle.std.proofs.lemmas.List.Elements.{All-head, All-tail}
 use Rattle.std.proofs.lemmas.List.Folds.{list_all-append}
@@ -17,7 +17,7 @@ use Rattle.zt_rows.specs.declared.rows.Packet.TheVariants as packet
 use Rattle.zt_rows.specs.declared.rows.Row.{Row}
 use Rattle.zt_rows.specs.declared.rows.Row.TheVariants as rows
 use Rattle.zt_text.specs.ShownNumbers.{words, shown_mask, shown_bytes, shown_list, shown_held}
-use Rattle.zt_text.specs.Answers.{shown_packet, shown_key, shown_life, shown_object, shown_wait, shown_queued, shown_row}
+use Rattle.zt_text.specs.Answers.{shown_packet, shown_key, shown_life, shown_critical, shown_object, shown_wait, shown_queued, shown_row}
 use Rattle.zt_text.specs.Rows.{IsKeyWithin, IsHeldWithin, IsLifeWithin, IsPacketWithin, IsRowWithin}
 use Rattle.zt_text.proofs.ShownWords.{is_seen, AreSeen, seen_decimal, seen_code, seen_mask, seen_bytes, seen_joined}
 
@@ -48,6 +48,10 @@ packet_words (packet.User number bytes) = decimal number ∷ shown_bytes bytes �
 packet_words (packet.Signal number trigger observed process handle) =
     decimal number ∷ shown_mask trigger.0 ∷ shown_mask observed.0 ∷ decimal process ∷ decimal handle ∷ []
 
+-- the word of the job to which an object is critical, where there is one
+abbrev pub critical_words : ℕ → List (List ℕ)
+critical_words job = if job == 0 then [] else (codes "critical:" ++ decimal job) ∷ []
+
 -- the first word of a row, and the others
 abbrev pub row_word : Row → List ℕ
 row_word (rows.Counters counters) = decimal counters.next_koid
@@ -59,7 +63,8 @@ row_word (rows.Wait wait) = decimal wait.process
 
 abbrev pub row_words : Row → List (List ℕ)
 row_words (rows.Counters counters) = decimal counters.next_wait ∷ []
-row_words (rows.Object object) = shown_mask object.signals.0 ∷ decimal object.link ∷ shown_life object.life ∷ decimal object.next ∷ []
+row_words (rows.Object object) =
+    shown_mask object.signals.0 ∷ decimal object.link ∷ shown_life object.life ∷ decimal object.next ∷ critical_words object.critical
 row_words (rows.Entry held) = shown_mask held.rights.0 ∷ []
 row_words (rows.Msg message) = shown_list shown_held message.handles ∷ []
 row_words (rows.Packet held) = packet_words held
@@ -93,10 +98,18 @@ packet_shown (packet.User _ _) = refl
 packet_shown (packet.Signal number trigger observed process handle) =
     words_joined (codes "signal") (decimal number ∷ shown_mask trigger.0 ∷ shown_mask observed.0 ∷ []) (decimal process) (decimal handle ∷ [])
 
+critical_shown : (word : List ℕ) (others : List (List ℕ)) (job : ℕ) (none : Bool) → (job == 0) ≡ none
+    → words (word ∷ others) ++ shown_critical job ≡ words (word ∷ (others ++ critical_words job))
+critical_shown word others job true is =
+    rw is (append-nil (words (word ∷ others)) ∙ ap (λ ws. words (word ∷ ws)) (sym (append-nil others)))
+critical_shown word others job false is = rw is (words_joined word others (codes "critical:" ++ decimal job) [])
+
 row_shown : (r : Row) → shown_row r ≡ words (row_word r ∷ row_words r)
 unfolding shown_object shown_wait shown_row
 row_shown (rows.Counters _) = refl
-row_shown (rows.Object _) = refl
+row_shown (rows.Object object) =
+    critical_shown (kind_word object.kind) (shown_mask object.signals.0 ∷ decimal object.link ∷ shown_life object.life ∷ decimal object.next ∷ [])
+    object.critical (object.critical == 0) refl
 row_shown (rows.Entry _) = refl
 row_shown (rows.Msg _) = refl
 row_shown (rows.Packet held) = packet_shown held
@@ -156,10 +169,14 @@ packet_seen (packet.User number bytes) (a, b) = (refl, (seen_decimal number a, (
 packet_seen (packet.Signal number trigger observed process handle) (a, b, c, d, e) =
     (refl, (seen_decimal number a, (seen_mask trigger.0 b, (seen_mask observed.0 c, (seen_decimal process d, (seen_handle handle e, tt))))))
 
+critical_seen : (job : ℕ) (none : Bool) → (job == 0) ≡ none → job < 2 ^ 64 → AreSeen (critical_words job)
+critical_seen job true is small = rw is tt
+critical_seen job false is small = rw is (seen_decimal job small, tt)
+
 row_seen : (r : Row) → IsRowWithin r → AreSeen (row_word r ∷ row_words r)
 row_seen (rows.Counters counters) (a, b) = (seen_decimal counters.next_koid a, (seen_decimal counters.next_wait b, tt))
-row_seen (rows.Object object) (a, b, c, d) =
-    (seen_kind object.kind, (seen_mask object.signals.0 a, (seen_decimal object.link b, (seen_life object.life c, (seen_decimal object.next d, tt)))))
+row_seen (rows.Object object) (a, b, c, d, e) =
+    (seen_kind object.kind, (seen_mask object.signals.0 a, (seen_decimal object.link b, (seen_life object.life c, (seen_decimal object.next d, critical_seen object.critical (object.critical == 0) refl e)))))
 row_seen (rows.Entry held) (a, b) = (seen_decimal held.koid a, (seen_mask held.rights.0 b, tt))
 row_seen (rows.Msg message) (a, b) = (seen_bytes message.bytes a, (seen_handles_held message.handles b, tt))
 row_seen (rows.Packet held) h = packet_seen held h

@@ -15,7 +15,7 @@ use Rattle.zt_text.specs.declared.read_lines.Line.{Line}
 use Rattle.zt_text.specs.declared.read_lines.Line.TheVariants as line
 use Rattle.zt_text.specs.Numbers.{decimal_of}
 use Rattle.zt_text.specs.Fields.{fields_of, unread, placed, field, flag, ended}
-use Rattle.zt_text.specs.ReadCalls.{event_create, eventpair_create, handle_close, handle_duplicate, handle_replace, object_signal, object_signal_peer, channel_create, channel_write, channel_read, port_create, object_wait_async, port_queue, port_wait, port_cancel, job_create, spawn, task_kill, process_exit, task_call_named, port_call_named, channel_call_named, handle_call_named, call_named, any_call_named, call, process_call}
+use Rattle.zt_text.specs.ReadCalls.{event_create, eventpair_create, handle_close, handle_duplicate, handle_replace, object_signal, object_signal_peer, channel_create, channel_write, channel_read, port_create, object_wait_async, port_queue, port_wait, port_cancel, job_create, spawn, job_set_critical, task_kill, process_exit, task_call_named, port_call_named, channel_call_named, handle_call_named, call_named, any_call_named, call, process_call}
 use Rattle.zt_text.specs.ReadLines.{fields_in, asked_by, is_skipped, read_as}
 use Rattle.zt_text.specs.ShownNumbers.{words}
 use Rattle.zt_text.specs.Calls.{IsWithin, call_name, call_arguments, shown_call}
@@ -52,12 +52,13 @@ words_seen (calls.PortWait port) h = (refl, (seen_handle port h, tt))
 words_seen (calls.PortCancel port source key) (a, b, c) = (refl, (seen_handle port a, (seen_handle source b, (seen_decimal key c, tt))))
 words_seen (calls.JobCreate job) h = (refl, (seen_handle job h, tt))
 words_seen (calls.Spawn job argument) (a, b) = (refl, (seen_handle job a, (seen_handle argument b, tt)))
+words_seen (calls.JobSetCritical job process) (a, b) = (refl, (seen_handle job a, (seen_handle process b, tt)))
 words_seen (calls.TaskKill handle) h = (refl, (seen_handle handle h, tt))
 words_seen (calls.ProcessExit code) h = (refl, (seen_code code h, tt))
 
 -- the words of a call read as that call, at whatever column they begin
 call_read : (made : Call) → IsWithin made → (column behind : ℕ) → call (record { fields = placed column (call_name made ∷ call_arguments made); behind = behind }) ≡ Ok made
-unfolding placed field flag ended event_create eventpair_create handle_close handle_duplicate handle_replace object_signal object_signal_peer channel_create channel_write channel_read port_create object_wait_async port_queue port_wait port_cancel job_create spawn task_kill process_exit task_call_named port_call_named channel_call_named handle_call_named call_named any_call_named call
+unfolding placed field flag ended event_create eventpair_create handle_close handle_duplicate handle_replace object_signal object_signal_peer channel_create channel_write channel_read port_create object_wait_async port_queue port_wait port_cancel job_create spawn job_set_critical task_kill process_exit task_call_named port_call_named channel_call_named handle_call_named call_named any_call_named call
 call_read calls.EventCreate h column behind = refl
 call_read calls.EventPairCreate h column behind = refl
 call_read (calls.HandleClose handle) h column behind = rw (handle_read handle h) refl
@@ -82,6 +83,7 @@ call_read (calls.PortCancel port source key) (a, b, c) column behind =
     rw (handle_read port a, handle_read source b, key_read key c) refl
 call_read (calls.JobCreate job) h column behind = rw (handle_read job h) refl
 call_read (calls.Spawn job argument) (a, b) column behind = rw (handle_read job a, handle_read argument b) refl
+call_read (calls.JobSetCritical job process) (a, b) column behind = rw (handle_read job a, handle_read process b) refl
 call_read (calls.TaskKill handle) h column behind = rw (handle_read handle h) refl
 call_read (calls.ProcessExit code) h column behind = rw (code_read code h) refl
 

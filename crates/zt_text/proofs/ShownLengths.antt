@@ -74,6 +74,7 @@ name_few (calls.PortWait _) = lit≤ tt
 name_few (calls.PortCancel _ _ _) = lit≤ tt
 name_few (calls.JobCreate _) = lit≤ tt
 name_few (calls.Spawn _ _) = lit≤ tt
+name_few (calls.JobSetCritical _ _) = lit≤ tt
 name_few (calls.TaskKill _) = lit≤ tt
 name_few (calls.ProcessExit _) = lit≤ tt
 
@@ -128,6 +129,7 @@ arguments_few (calls.PortCancel port source key) (a, b, c) =
     three (decimal port) (decimal source) (decimal key) (handle_few port a) (omega (arith, q)) (omega (arith, r))
 arguments_few (calls.JobCreate job) h = let a = handle_few job h in one (decimal job) (omega (arith, a))
 arguments_few (calls.Spawn job argument) (a, b) = two (decimal job) (decimal argument) (handle_few job a) (handle_few argument b)
+arguments_few (calls.JobSetCritical job process) (a, b) = two (decimal job) (decimal process) (handle_few job a) (handle_few process b)
 arguments_few (calls.TaskKill handle) h = let a = handle_few handle h in one (decimal handle) (omega (arith, a))
 arguments_few (calls.ProcessExit code) h = one (signed_decimal code) (code_few code h)
 

@@ -21,7 +21,7 @@ use Rattle.zt_text.specs.Bytes.{bytes_of, packet_bytes_of}
 use Rattle.zt_text.specs.Lists.{handles_of}
 use Rattle.zt_text.specs.Names.{name_of, happening_of}
 use Rattle.zt_text.specs.Fields.{Placed, Unread, ◌>>=◌, placed, fields_of, unread, first_of, field, none_of, ended, flag_of, flag}
-use Rattle.zt_text.specs.ReadCalls.{event_create, eventpair_create, handle_close, handle_duplicate, handle_replace, object_signal, object_signal_peer, channel_create, channel_write, channel_read, port_create, object_wait_async, port_queue, port_wait, port_cancel, job_create, spawn, task_kill, process_exit, task_call_named, port_call_named, channel_call_named, handle_call_named, call_named, any_call_named, call, process_call}
+use Rattle.zt_text.specs.ReadCalls.{event_create, eventpair_create, handle_close, handle_duplicate, handle_replace, object_signal, object_signal_peer, channel_create, channel_write, channel_read, port_create, object_wait_async, port_queue, port_wait, port_cancel, job_create, spawn, job_set_critical, task_kill, process_exit, task_call_named, port_call_named, channel_call_named, handle_call_named, call_named, any_call_named, call, process_call}
 use Rattle.zt_text.specs.ReadLines.{goto, back, only_name, branch, follow, show, holders, leaks, when, pin, question_named, plain_command_named, command_named, pinned_show, pinned_holders, pinned_leaks, pinned_named, pinned, word_named, call_or_word, asked_by, most_line_bytes, is_skipped, fields_in, each_by, read_as}
 use Rattle.zt_text.specs.ShownNumbers.{words, shown_mask, shown_bytes, shown_list}
 use Rattle.zt_text.specs.Calls.{call_name, call_arguments, discard_words, shown_call}
@@ -359,6 +359,10 @@ spawn_spelled : (left : Unread) (made : Call) → spawn left ≡ Ok made → cal
 unfolding spawn
 spawn_spelled left made h = two_fields call_words (λ ws. codes "spawn" ∷ ws) handle_form handle_form calls.Spawn (λ a b. refl) left made h
 
+job_set_critical_spelled : (left : Unread) (made : Call) → job_set_critical left ≡ Ok made → call_words made ≡ codes "job_set_critical" ∷ texts left.fields
+unfolding job_set_critical
+job_set_critical_spelled left made h = two_fields call_words (λ ws. codes "job_set_critical" ∷ ws) handle_form handle_form calls.JobSetCritical (λ a b. refl) left made h
+
 object_signal_spelled : (left : Unread) (made : Call) → object_signal left ≡ Ok made → call_words made ≡ codes "object_signal" ∷ texts left.fields
 unfolding object_signal
 object_signal_spelled left made h = three_fields call_words (λ ws. codes "object_signal" ∷ ws) handle_form signals_form signals_form calls.ObjectSignal (λ a b c. refl) left made h
@@ -395,9 +399,10 @@ unfolding task_call_named
 task_call_named_spelled name left made =
     named (λ w. call_words made ≡ w ∷ texts left.fields) name.bytes (codes "job_create") (job_create left) _ made (job_create_spelled left made)
     (named (λ w. call_words made ≡ w ∷ texts left.fields) name.bytes (codes "spawn") (spawn left) _ made (spawn_spelled left made)
+    (named (λ w. call_words made ≡ w ∷ texts left.fields) name.bytes (codes "job_set_critical") (job_set_critical left) _ made (job_set_critical_spelled left made)
     (named (λ w. call_words made ≡ w ∷ texts left.fields) name.bytes (codes "task_kill") (task_kill left) _ made (task_kill_spelled left made)
     (named (λ w. call_words made ≡ w ∷ texts left.fields) name.bytes (codes "process_exit") (process_exit left) (Err (BadLine name.column)) made (process_exit_spelled left made)
-    (λ h. absurd (err_ok (BadLine name.column) made h)))))
+    (λ h. absurd (err_ok (BadLine name.column) made h))))))
 
 port_call_named_spelled : (name : Placed) (left : Unread) (made : Call) → port_call_named name left ≡ Ok made → call_words made ≡ name.bytes ∷ texts left.fields
 unfolding port_call_named

@@ -73,6 +73,7 @@ record Questions : Type 0 where
   no_leaks : shown_answer (answer.Leaks 1 []) ≡ codes "leaks 1 0" ++ (10 ∷ [])
   never : shown_answer (answer.When None) ≡ codes "never" ++ (10 ∷ [])
   when : shown_answer (answer.When (Some (record { moment = 5; process = 1028; call = calls.ProcessExit (pos 5) }))) ≡ codes "5 1028 process_exit 5" ++ (10 ∷ [])
+  when_critical : shown_answer (answer.When (Some (record { moment = 6; process = 1025; call = calls.JobSetCritical 3 15 }))) ≡ codes "6 1025 job_set_critical 3 15" ++ (10 ∷ [])
 
 shows_questions : Questions
 unfolding digits shown_support shown_call shown_answer
@@ -85,12 +86,15 @@ shows_questions = record {
   no_leaks = refl;
   never = refl;
   when = refl;
+  when_critical = refl;
 }
 
 record Rows : Type 0 where
   counters : alone key.Counters (rows.Counters (record { next_koid = 1027; next_wait = 0 })) ≡ behind_rows (codes "counters 1027 0")
-  killed : alone (key.Object 1027) (rows.Object (record { kind = kind.Process; signals = record { 0 = 0x8 }; link = 0; life = life.Killed; next = 1 })) ≡ behind_rows (codes "object 1027 process 0x00000008 0 killed 1")
-  exited : alone (key.Object 1027) (rows.Object (record { kind = kind.Process; signals = record { 0 = 0x8 }; link = 0; life = life.Exited (negsuc 4); next = 1 })) ≡ behind_rows (codes "object 1027 process 0x00000008 0 exit:-5 1")
+  killed : alone (key.Object 1027) (rows.Object (record { kind = kind.Process; signals = record { 0 = 0x8 }; link = 0; life = life.Killed; next = 1; critical = 0 })) ≡ behind_rows (codes "object 1027 process 0x00000008 0 killed 1")
+  exited : alone (key.Object 1027) (rows.Object (record { kind = kind.Process; signals = record { 0 = 0x8 }; link = 0; life = life.Exited (negsuc 4); next = 1; critical = 0 })) ≡ behind_rows (codes "object 1027 process 0x00000008 0 exit:-5 1")
+  critical : alone (key.Object 1027) (rows.Object (record { kind = kind.Process; signals = record { 0 = 0 }; link = 1026; life = life.Live; next = 0; critical = 1026 })) ≡ behind_rows (codes "object 1027 process 0x00000000 1026 live 0 critical:1026")
+  not_critical : alone (key.Object 1027) (rows.Object (record { kind = kind.Process; signals = record { 0 = 0 }; link = 1026; life = life.Live; next = 0; critical = 0 })) ≡ behind_rows (codes "object 1027 process 0x00000000 1026 live 0")
   message : alone (key.Msg 1026 0) (rows.Msg (record { bytes = 104 ∷ 105 ∷ []; handles = record { koid = 1030; rights = record { 0 = 0xd003 } } ∷ record { koid = 1031; rights = record { 0 = 0 } } ∷ [] })) ≡ behind_rows (codes "msg 1026 0 6869 1030:0x0000d003,1031:0x00000000")
   empty_message : alone (key.Msg 1026 1) (rows.Msg (record { bytes = []; handles = [] })) ≡ behind_rows (codes "msg 1026 1 - -")
   user : alone (key.Packet 1027 0) (rows.Packet (packet.User 18446744073709551615 (7 ∷ 171 ∷ []))) ≡ behind_rows (codes "packet 1027 0 user 18446744073709551615 07ab")
@@ -103,6 +107,8 @@ shows_rows = record {
   counters = refl;
   killed = refl;
   exited = refl;
+  critical = refl;
+  not_critical = refl;
   message = refl;
   empty_message = refl;
   user = refl;

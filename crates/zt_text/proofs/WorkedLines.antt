@@ -22,7 +22,7 @@ use Rattle.zt_text.specs.Bytes.{hex_bytes, bytes_of, packet_bytes_of}
 use Rattle.zt_text.specs.Lists.{listed, handles_of}
 use Rattle.zt_text.specs.Names.{name_of, happening_of}
 use Rattle.zt_text.specs.Fields.{placed, field, flag, ended}
-use Rattle.zt_text.specs.ReadCalls.{event_create, eventpair_create, handle_close, handle_duplicate, handle_replace, object_signal, object_signal_peer, channel_create, channel_write, channel_read, port_create, object_wait_async, port_queue, port_wait, port_cancel, job_create, spawn, task_kill, process_exit, task_call_named, port_call_named, channel_call_named, handle_call_named, call_named, any_call_named, call, process_call}
+use Rattle.zt_text.specs.ReadCalls.{event_create, eventpair_create, handle_close, handle_duplicate, handle_replace, object_signal, object_signal_peer, channel_create, channel_write, channel_read, port_create, object_wait_async, port_queue, port_wait, port_cancel, job_create, spawn, job_set_critical, task_kill, process_exit, task_call_named, port_call_named, channel_call_named, handle_call_named, call_named, any_call_named, call, process_call}
 use Rattle.zt_text.specs.ReadLines.{fields_in, back, show, goto, only_name, branch, follow, holders, leaks, when, pin, question_named, plain_command_named, command_named, pinned_show, pinned_holders, pinned_leaks, pinned_named, pinned, word_named, asked_by, read_as}
 use Rattle.zt_text.specs.Session.{call_in, calls_in, session_of}
 use Rattle.zt_text.specs.ShownNumbers.{hexadecimal}
@@ -31,7 +31,7 @@ use Rattle.zt_text.specs.Lines.{lines_of}
 
 -- what is unfolded to read a line
 unfoldable read_on_literals : ⊤
-unfolding decimal_of code_of mask_of hex_bytes bytes_of packet_bytes_of listed handles_of name_of happening_of placed field flag ended event_create eventpair_create handle_close handle_duplicate handle_replace object_signal object_signal_peer channel_create channel_write channel_read port_create object_wait_async port_queue port_wait port_cancel job_create spawn task_kill process_exit task_call_named port_call_named channel_call_named handle_call_named call_named any_call_named call goto back only_name branch follow show holders leaks when pin question_named plain_command_named command_named pinned_show pinned_holders pinned_leaks pinned_named pinned word_named asked_by fields_in read_as
+unfolding decimal_of code_of mask_of hex_bytes bytes_of packet_bytes_of listed handles_of name_of happening_of placed field flag ended event_create eventpair_create handle_close handle_duplicate handle_replace object_signal object_signal_peer channel_create channel_write channel_read port_create object_wait_async port_queue port_wait port_cancel job_create spawn job_set_critical task_kill process_exit task_call_named port_call_named channel_call_named handle_call_named call_named any_call_named call goto back only_name branch follow show holders leaks when pin question_named plain_command_named command_named pinned_show pinned_holders pinned_leaks pinned_named pinned word_named asked_by fields_in read_as
 read_on_literals = tt
 
 abbrev called : ℕ → Call → Line
@@ -158,9 +158,15 @@ reads_port_calls = record {
 record TaskCalls : Type 0 where
   create : read_as (codes "1025 job_create 3") ≡ Ok (Some (called 1025 (calls.JobCreate 3)))
   spawn : read_as (codes "1025 spawn 3 11") ≡ Ok (Some (called 1025 (calls.Spawn 3 11)))
+  set_critical : read_as (codes "1025 job_set_critical 3 15") ≡ Ok (Some (called 1025 (calls.JobSetCritical 3 15)))
   kill : read_as (codes "1025 task_kill 15") ≡ Ok (Some (called 1025 (calls.TaskKill 15)))
   exit : read_as (codes "1028 process_exit 5") ≡ Ok (Some (called 1028 (calls.ProcessExit (pos 5))))
   no_argument : read_as (codes "1025 spawn 3") ≡ Err (BadLine 13)
+  critical_to_nothing : read_as (codes "1025 job_set_critical") ≡ Err (BadLine 22)
+  critical_to_a_word : read_as (codes "1025 job_set_critical job 15") ≡ Err (BadLine 23)
+  no_process : read_as (codes "1025 job_set_critical 3") ≡ Err (BadLine 24)
+  process_in_hexadecimal : read_as (codes "1025 job_set_critical 3 0xf") ≡ Err (BadLine 25)
+  two_processes : read_as (codes "1025 job_set_critical 3 15 19") ≡ Err (BadLine 28)
   no_code : read_as (codes "1028 process_exit") ≡ Err (BadLine 18)
 
 reads_task_calls : TaskCalls
@@ -168,9 +174,15 @@ unfolding read_on_literals
 reads_task_calls = record {
   create = refl;
   spawn = refl;
+  set_critical = refl;
   kill = refl;
   exit = refl;
   no_argument = refl;
+  critical_to_nothing = refl;
+  critical_to_a_word = refl;
+  no_process = refl;
+  process_in_hexadecimal = refl;
+  two_processes = refl;
   no_code = refl;
 }
 
@@ -333,7 +345,7 @@ shows_status : shown_answer (answer.Called 3 (reply.Status BadHandle)) ≡ codes
 unfolding digits shown_reply shown_answer
 shows_status = refl
 
-shows_rows : shown_answer (answer.Rows 1 ((key.Object 1024, rows.Object (record { kind = Job; signals = record { 0 = 0x10 }; link = 0; life = Live; next = 0 })) ∷ (key.Entry 1025 7, rows.Entry (record { koid = 1026; rights = record { 0 = 0xd003 } })) ∷ [])) ≡ codes "rows 1 2" ++ (10 ∷ (codes "object 1024 job 0x00000010 0 live 0" ++ (10 ∷ (codes "entry 1025 7 1026 0x0000d003" ++ 10 ∷ []))))
+shows_rows : shown_answer (answer.Rows 1 ((key.Object 1024, rows.Object (record { kind = Job; signals = record { 0 = 0x10 }; link = 0; life = Live; next = 0; critical = 0 })) ∷ (key.Entry 1025 7, rows.Entry (record { koid = 1026; rights = record { 0 = 0xd003 } })) ∷ [])) ≡ codes "rows 1 2" ++ (10 ∷ (codes "object 1024 job 0x00000010 0 live 0" ++ (10 ∷ (codes "entry 1025 7 1026 0x0000d003" ++ 10 ∷ []))))
 unfolding digits hexadecimal shown_key shown_object shown_row shown_answer
 shows_rows = refl
 

@@ -1,5 +1,5 @@
 -- The lines of rows, of answers and of refusals.
-use Rattle.std.specs.Prelude.{ℕ, List, [], ◌∷◌, ◌++◌, length, Option, None, Some, codes}
+use Rattle.std.specs.Prelude.{ℕ, ◌==◌, List, [], ◌∷◌, ◌++◌, length, Option, None, Some, if◌then◌else◌, codes}
 use Rattle.std.specs.List.{flat_map}
 use Rattle.std.specs.Fmt.{decimal, signed_decimal}
 use Rattle.zt_bits.specs.declared.kinds.Kind.{Kind}
@@ -58,9 +58,14 @@ shown_life life.Live = codes "live"
 shown_life life.Killed = codes "killed"
 shown_life (life.Exited code) = codes "exit:" ++ signed_decimal code
 
+-- the job to which an object is critical, where there is one
+abbrev pub shown_critical : ℕ → List ℕ
+shown_critical job = if job == 0 then [] else codes " critical:" ++ decimal job
+
 unfoldable pub shown_object : ObjectRow → List ℕ
 shown_object object =
     words (kind_word object.kind ∷ shown_mask object.signals.0 ∷ decimal object.link ∷ shown_life object.life ∷ decimal object.next ∷ [])
+    ++ shown_critical object.critical
 
 unfoldable pub shown_wait : Wait → List ℕ
 shown_wait wait =

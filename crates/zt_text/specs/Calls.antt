@@ -25,6 +25,7 @@ call_name (calls.PortWait _) = codes "port_wait"
 call_name (calls.PortCancel _ _ _) = codes "port_cancel"
 call_name (calls.JobCreate _) = codes "job_create"
 call_name (calls.Spawn _ _) = codes "spawn"
+call_name (calls.JobSetCritical _ _) = codes "job_set_critical"
 call_name (calls.TaskKill _) = codes "task_kill"
 call_name (calls.ProcessExit _) = codes "process_exit"
 
@@ -55,6 +56,7 @@ call_arguments (calls.PortWait port) = decimal port ∷ []
 call_arguments (calls.PortCancel port source key) = decimal port ∷ decimal source ∷ decimal key ∷ []
 call_arguments (calls.JobCreate job) = decimal job ∷ []
 call_arguments (calls.Spawn job argument) = decimal job ∷ decimal argument ∷ []
+call_arguments (calls.JobSetCritical job process) = decimal job ∷ decimal process ∷ []
 call_arguments (calls.TaskKill handle) = decimal handle ∷ []
 call_arguments (calls.ProcessExit code) = signed_decimal code ∷ []
 
@@ -109,6 +111,7 @@ IsWithin (calls.PortWait port) = IsHandle port
 IsWithin (calls.PortCancel port source key) = IsHandle port × IsHandle source × IsKey key
 IsWithin (calls.JobCreate job) = IsHandle job
 IsWithin (calls.Spawn job argument) = IsHandle job × IsHandle argument
+IsWithin (calls.JobSetCritical job process) = IsHandle job × IsHandle process
 IsWithin (calls.TaskKill handle) = IsHandle handle
 IsWithin (calls.ProcessExit code) = IsCode code
 

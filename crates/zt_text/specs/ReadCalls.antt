@@ -127,6 +127,13 @@ spawn left = do
   _ ← ended argument.1
   Ok (calls.Spawn job.0 argument.0)
 
+unfoldable pub job_set_critical : Unread → Result Call Refusal
+job_set_critical left = do
+  job ← field handle_of left
+  process ← field handle_of job.1
+  _ ← ended process.1
+  Ok (calls.JobSetCritical job.0 process.0)
+
 unfoldable pub task_kill : Unread → Result Call Refusal
 task_kill left = do
   handle ← field handle_of left
@@ -144,9 +151,10 @@ unfoldable pub task_call_named : Placed → Unread → Result Call Refusal
 task_call_named name left =
     if bytes_eq name.bytes (codes "job_create") then job_create left
     else (if bytes_eq name.bytes (codes "spawn") then spawn left
+    else (if bytes_eq name.bytes (codes "job_set_critical") then job_set_critical left
     else (if bytes_eq name.bytes (codes "task_kill") then task_kill left
     else (if bytes_eq name.bytes (codes "process_exit") then process_exit left
-    else Err (BadLine name.column))))
+    else Err (BadLine name.column)))))
 
 -- the call of this name, of those on ports
 unfoldable pub port_call_named : Placed → Unread → Result Call Refusal

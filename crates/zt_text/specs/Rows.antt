@@ -35,7 +35,8 @@ IsPacketWithin (packet.Signal number trigger observed process handle) =
 
 abbrev pub IsRowWithin : Row → Type 0
 IsRowWithin (rows.Counters counters) = IsKey counters.next_koid × IsKey counters.next_wait
-IsRowWithin (rows.Object object) = IsMask object.signals.0 × IsKey object.link × IsLifeWithin object.life × IsKey object.next
+IsRowWithin (rows.Object object) =
+    IsMask object.signals.0 × IsKey object.link × IsLifeWithin object.life × IsKey object.next × IsKey object.critical
 IsRowWithin (rows.Entry held) = IsHeldWithin held
 IsRowWithin (rows.Msg message) = All IsByte message.bytes × All IsHeldWithin message.handles
 IsRowWithin (rows.Packet held) = IsPacketWithin held

@@ -13,7 +13,7 @@ use crate::numbers::{code, decimal, mask};
 use crate::separator::cut;
 use std::marker::Model;
 use zt_bits::Signals;
-use zt_rows::{HandleValue, Happening, Koid, Moment, Refusal};
+use zt_rows::{HandleValue, Happening, Koid, LAST_MOMENT, Moment, Refusal};
 
 /// A field of a line, with the column at which it begins.
 #[derive(Drop)]
@@ -208,7 +208,7 @@ impl<'a> Fields<'a> {
         ensures { result ≡ field count_of self.entry }
     {
         let (field, rest) = self.next()?;
-        match decimal(field.bytes(), 1_048_576) {
+        match decimal(field.bytes(), u64::from(LAST_MOMENT)) {
             Some(number) if number > 0 => Ok((number as u32, rest)),
             _ => Err(field.fault()),
         }

@@ -141,9 +141,16 @@ pub fn every_call_is_within(process: Koid, call: &Call)
             handle_is_within(source);
             key_is_within(key);
         }
-        Call::Spawn { job, argument } => {
+        Call::Spawn {
+            job,
+            argument: handle,
+        }
+        | Call::JobSetCritical {
+            job,
+            process: handle,
+        } => {
             handle_is_within(job);
-            handle_is_within(argument);
+            handle_is_within(handle);
         }
         Call::ProcessExit { code } => code_is_within(code),
     }
@@ -211,6 +218,7 @@ pub fn every_row_is_within(key: RowKey, row: &Row)
             key_is_within(object.link.0);
             life_is_within(object.life);
             key_is_within(object.next);
+            key_is_within(object.critical.0);
         }
         Row::Entry(held) => held_is_within(*held),
         Row::Msg(message) => {

@@ -21,5 +21,5 @@ mod write_arguments;
 pub use printed_answers::print_answer;
 pub use printed_calls::{print_call, print_session};
 pub use printed_rows::{RefusalLine, print_refusal, print_reply, print_rows};
-pub use read_lines::{Line, read_line};
+pub use read_lines::{LINE_BYTES, Line, read_line};
 pub use session_text::{line_of_call, read_session};

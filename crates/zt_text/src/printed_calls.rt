@@ -73,6 +73,7 @@ fn name(call: &Call) -> &'static str
         Call::PortCancel { .. } => "port_cancel",
         Call::JobCreate { .. } => "job_create",
         Call::Spawn { .. } => "spawn",
+        Call::JobSetCritical { .. } => "job_set_critical",
         Call::TaskKill { .. } => "task_kill",
         Call::ProcessExit { .. } => "process_exit",
     }
@@ -116,9 +117,14 @@ fn put_arguments(text: &mut String, call: &Call) -> Result<(), AllocError>
         Call::PortCancel { port, source, key } => {
             put_three(text, "", u64::from(port.0), u64::from(source.0), key)
         }
-        Call::Spawn { job, argument } => {
-            put_two(text, "", u64::from(job.0), u64::from(argument.0))
+        Call::Spawn {
+            job,
+            argument: handle,
         }
+        | Call::JobSetCritical {
+            job,
+            process: handle,
+        } => put_two(text, "", u64::from(job.0), u64::from(handle.0)),
         Call::ProcessExit { code } => write!(text, " {code}"),
     }
 }

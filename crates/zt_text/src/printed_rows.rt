@@ -2,13 +2,15 @@ ghost use Rattle.std.specs.Prelude.{◌≡◌, ◌++◌, IfOk, OnOk, string_byte
 ghost use Rattle.std.specs.Fmt.{decimal};
 ghost use Rattle.std.specs.List.{flat_map};
 ghost use Rattle.zt_text.specs.ShownNumbers.{shown_mask, shown_bytes, shown_list, shown_held};
-ghost use Rattle.zt_text.specs.Answers.{shown_packet, shown_reply, shown_key, shown_life, shown_object, shown_wait, shown_queued, shown_row, row_line, shown_column, shown_refusal};
+ghost use Rattle.zt_text.specs.Answers.{shown_packet, shown_reply, shown_key, shown_life, shown_critical, shown_object, shown_wait, shown_queued, shown_row, row_line, shown_column, shown_refusal};
 
 use crate::printed_words::{put_one, put_two};
 use std::alloc::{AllocError, Global};
 use std::fmt;
 use std::fmt::{Display, Formatter, Write};
-use zt_rows::{HandleValue, Held, Life, ObjectRow, Packet, Refusal, Reply, Row, RowKey, Wait};
+use zt_rows::{
+    HandleValue, Held, Koid, Life, ObjectRow, Packet, Refusal, Reply, Row, RowKey, Wait,
+};
 
 /// The status of a reply and its values, without a line feed.
 pub fn print_reply(alloc: Global, reply: &Reply) -> Result<Vec<u8>, AllocError>
@@ -236,7 +238,19 @@ fn put_object(text: &mut String, object: &ObjectRow) -> Result<(), AllocError>
     put_mask(text, object.signals.0)?;
     write!(text, " {} ", object.link.0)?;
     put_life(text, object.life)?;
-    write!(text, " {}", object.next)
+    write!(text, " {}", object.next)?;
+    put_critical(text, object.critical)
+}
+
+/// The job to which an object is critical, where there is one.
+fn put_critical(text: &mut String, job: Koid) -> Result<(), AllocError>
+    ensures { OnOk result (string_bytes text.new ≡ string_bytes text.old ++ shown_critical job) }
+{
+    if job.0 == 0 {
+        Ok(())
+    } else {
+        write!(text, " critical:{}", job.0)
+    }
 }
 
 fn put_life(text: &mut String, life: Life) -> Result<(), AllocError>

@@ -1,6 +1,6 @@
 ghost use Rattle.std.specs.Prelude.{◌≡◌, IfOk, IfErr};
 ghost use Rattle.zt_text.specs.ReadLines.{IsUnread, has_parcel};
-ghost use Rattle.zt_text.specs.ReadCalls.{call, any_call_named, call_named, handle_call_named, channel_call_named, channel_create, channel_write, channel_read, port_call_named, port_create, object_wait_async, port_queue, port_wait, port_cancel, task_call_named, job_create, spawn, task_kill, process_exit, event_create, eventpair_create, handle_close, handle_duplicate, handle_replace, object_signal, object_signal_peer};
+ghost use Rattle.zt_text.specs.ReadCalls.{call, any_call_named, call_named, handle_call_named, channel_call_named, channel_create, channel_write, channel_read, port_call_named, port_create, object_wait_async, port_queue, port_wait, port_cancel, task_call_named, job_create, spawn, job_set_critical, task_kill, process_exit, event_create, eventpair_create, handle_close, handle_duplicate, handle_replace, object_signal, object_signal_peer};
 
 use crate::fields::{Field, Fields};
 use crate::write_arguments::Write;
@@ -107,6 +107,8 @@ fn task_call_named(name: &Field<'_>, rest: Fields<'_>) -> Result<Call, Refusal>
         job_create(rest)
     } else if name.is("spawn") {
         spawn(rest)
+    } else if name.is("job_set_critical") {
+        job_set_critical(rest)
     } else if name.is("task_kill") {
         task_kill(rest)
     } else if name.is("process_exit") {
@@ -133,6 +135,16 @@ fn spawn(fields: Fields<'_>) -> Result<Call, Refusal>
     let (argument, rest) = rest.handle()?;
     rest.end()?;
     Ok(Call::Spawn { job, argument })
+}
+
+#[tactic(auto, unfolding(crate::specs::ReadCalls::job_set_critical))]
+fn job_set_critical(fields: Fields<'_>) -> Result<Call, Refusal>
+    ensures { result ≡ job_set_critical fields.entry }
+{
+    let (job, rest) = fields.handle()?;
+    let (process, rest) = rest.handle()?;
+    rest.end()?;
+    Ok(Call::JobSetCritical { job, process })
 }
 
 #[tactic(auto, unfolding(crate::specs::ReadCalls::task_kill))]

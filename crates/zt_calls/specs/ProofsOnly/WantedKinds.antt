@@ -6,7 +6,7 @@ use Rattle.zt_bits.specs.declared.statuses.Status.TheVariants as status
 use Rattle.zt_rows.specs.declared.rows.Held.{Held}
 use Rattle.zt_rows.specs.declared.rows.ObjectRow.{ObjectRow}
 use Rattle.zt_rows.specs.State.{State}
-use Rattle.zt_rows.specs.Reads.{is_job}
+use Rattle.zt_rows.specs.Reads.{is_job, is_process}
 use Rattle.zt_rows.specs.Tests.{any_kind, is_channel, is_port, is_task, is_endpoint}
 use Rattle.zt_rows.specs.Handles.{handle_else}
 use Rattle.zt_calls.specs.declared.handle_arguments.WantedKind.{WantedKind}
@@ -18,6 +18,7 @@ takes want.Any = any_kind
 takes want.Channel = is_channel
 takes want.Port = is_port
 takes want.Job = is_job
+takes want.Process = is_process
 takes want.Task = is_task
 takes want.Endpoint = is_endpoint
 

@@ -70,9 +70,9 @@ counters_eq-decides a b =
 
 pub object_eq-decides : (a b : ObjectRow) → Decides (object_eq a b) (a ≡ b)
 object_eq-decides a b =
-    Decides-like _ (λ e i. record { kind = e.0.0.0.0 i; signals = e.0.0.0.1 i; link = e.0.0.1 i; life = e.0.1 i; next = e.1 i })
-    (λ e. ((((ap (λ (o : ObjectRow). o.kind) e, ap (λ (o : ObjectRow). o.signals) e), ap (λ (o : ObjectRow). o.link) e), ap (λ (o : ObjectRow). o.life) e), ap (λ (o : ObjectRow). o.next) e))
-    (Decides-and _ _ (Decides-and _ _ (Decides-and _ _ (Decides-and _ _ (kind_eq-decides a.kind b.kind) (signals-decides a.signals b.signals)) (Decides-eqb a.link b.link)) (life_eq-decides a.life b.life)) (Decides-eqb a.next b.next))
+    Decides-like _ (λ e i. record { kind = e.0.0.0.0.0 i; signals = e.0.0.0.0.1 i; link = e.0.0.0.1 i; life = e.0.0.1 i; next = e.0.1 i; critical = e.1 i })
+    (λ e. (((((ap (λ (o : ObjectRow). o.kind) e, ap (λ (o : ObjectRow). o.signals) e), ap (λ (o : ObjectRow). o.link) e), ap (λ (o : ObjectRow). o.life) e), ap (λ (o : ObjectRow). o.next) e), ap (λ (o : ObjectRow). o.critical) e))
+    (Decides-and _ _ (Decides-and _ _ (Decides-and _ _ (Decides-and _ _ (Decides-and _ _ (kind_eq-decides a.kind b.kind) (signals-decides a.signals b.signals)) (Decides-eqb a.link b.link)) (life_eq-decides a.life b.life)) (Decides-eqb a.next b.next)) (Decides-eqb a.critical b.critical))
 
 bytes-decides : (xs ys : List ℕ) → Decides (pointwise (λ x y. x == y) xs ys) (xs ≡ ys)
 bytes-decides xs ys = slice_eq-Decides Decides-eqb xs ys _ refl

@@ -48,6 +48,7 @@ fn put_end(step: &mut Step, koid: Koid, link: Koid) -> Result<(), AllocError> {
         link,
         life: Life::Live,
         next: 0,
+        critical: Koid(0),
     };
     step.put(RowKey::Object(koid), Some(Row::Object(end)))
 }

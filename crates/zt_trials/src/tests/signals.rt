@@ -22,6 +22,7 @@ fn channel(signals: u32) -> ObjectRow {
         link: Koid(0),
         life: Life::Live,
         next: 1,
+        critical: Koid(0),
     }
 }
 

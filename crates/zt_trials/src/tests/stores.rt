@@ -44,6 +44,7 @@ fn put_object(
         link: Koid(link),
         life: Life::Live,
         next,
+        critical: Koid(0),
     };
     step.put(RowKey::Object(koid), Some(Row::Object(object)))
 }

@@ -64,6 +64,7 @@ const EXITED: ObjectRow = ObjectRow {
     link: Koid(0),
     life: Life::Exited(-7),
     next: 2,
+    critical: Koid(0),
 };
 
 const TO_ROOT_JOB: Held = Held {

@@ -1,0 +1,84 @@
+//! A job with many jobs under it, and processes under these, of which the last is critical to the job above all of them.
+
+use crate::histories::makes;
+use zt_bits::Status;
+use zt_history::History;
+use zt_rows::{Call, HandleValue, Reply};
+
+/// The first process's handle to the root job.
+const ROOT_JOB: HandleValue = HandleValue(3);
+
+/// Its handle to the job above all others but that.
+const ABOVE: HandleValue = HandleValue(7);
+
+/// How many processes each of the others has under it.
+const PROCESSES: u32 = 100;
+
+/// How far the handles of one such job are from those of the next: one for the job, and one for each of its processes.
+const APART: u32 = 404;
+
+/// The handle to the job of this number, from 0.
+fn job(number: u32) -> HandleValue {
+    HandleValue(number.saturating_mul(APART).saturating_add(11))
+}
+
+/// The handle that was given out last before the job of this number was made.
+fn last_before(number: u32) -> HandleValue {
+    HandleValue(number.saturating_mul(APART).saturating_add(7))
+}
+
+/// Makes the job of this number, and the processes under it.
+fn makes_job(history: &mut History, number: u32) -> bool {
+    if !makes(history, &Ok(Call::JobCreate { job: ABOVE })) {
+        return false;
+    }
+    let spawn = Ok(Call::Spawn {
+        job: job(number),
+        argument: HandleValue(0),
+    });
+    for _ in 0..PROCESSES {
+        if !makes(history, &spawn) {
+            return false;
+        }
+    }
+    true
+}
+
+/// Makes the jobs of so many numbers.
+fn makes_jobs(history: &mut History, count: u32) -> bool {
+    for number in 0..count {
+        if !makes_job(history, number) {
+            return false;
+        }
+    }
+    true
+}
+
+/// Makes the call, which has to be told ok.
+fn does(history: &mut History, call: Call) -> bool {
+    if !makes(history, &Ok(call)) {
+        return false;
+    }
+    match history.reply_of(history.last()) {
+        Some(Reply::Status(status)) => *status == Status::Ok,
+        _ => false,
+    }
+}
+
+/// Makes so many processes, a hundred under each job, of which the last is critical to the job above these.
+pub(crate) fn makes_critical(history: &mut History, count: u32) -> bool {
+    let jobs = count / PROCESSES;
+    let critical = Call::JobSetCritical {
+        job: ABOVE,
+        process: last_before(jobs),
+    };
+    makes(history, &Ok(Call::JobCreate { job: ROOT_JOB }))
+        && makes_jobs(history, jobs)
+        && does(history, critical)
+}
+
+/// Kills the critical one of so many processes.
+pub(crate) fn kills_critical(history: &mut History, count: u32) -> bool {
+    let handle = last_before(count / PROCESSES);
+    does(history, Call::TaskKill { handle })
+}

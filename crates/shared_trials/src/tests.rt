@@ -1,8 +1,0 @@
-mod branches;
-mod commands;
-mod opened_books;
-mod same_logs;
-mod threads;
-mod trials;
-mod twins;
-mod wholes;

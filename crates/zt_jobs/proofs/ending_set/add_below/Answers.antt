@@ -1,0 +1,31 @@
+use Rattle.std.proofs.Common.{ℕ, Bool, ◌∙◌, subst}
+use Rattle.std.specs.Prelude.{Some}
+use Rattle.std.specs.BTreeSet.{contains}
+use Rattle.std.specs.Ordering.{nat_cmp}
+use Rattle.zt_rows.proofs.RowLaws.{or_left}
+use Rattle.zt_index.specs.Chains.{IsNext}
+use Rattle.zt_index.specs.Criteria.{is_below, objects_where}
+use Rattle.zt_jobs.proofs.BelowLaws.{passed_known, passed_none}
+use Rattle.zt_jobs.proofs.MemberLaws.{noted_itself, noted_then}
+use Rattle.zt_jobs.proofs.ending_set.add_below.Goals as goal
+
+pub tasks-init : goal.tasks-init
+tasks-init c =
+    let passes : ℕ → Bool = objects_where c.args.step.now.current (is_below c.args.parent) in
+    record {
+      known = λ x. passed_none (contains nat_cmp c.args.known.now x) (passes x);
+      noted = noted_itself (contains nat_cmp c.args.known.now) c.args.waiting.now.items;
+    }
+
+pub tasks-preserved : goal.tasks-preserved
+tasks-preserved c =
+    let passes : ℕ → Bool = objects_where c.args.step.now.current (is_below c.args.parent) in
+    let found : IsNext passes c.tasks.low (Some c.in-Some.task) = subst (IsNext passes c.tasks.low) c.in-Some.is c.task_below.ensures in
+    let is = c.in_ok-note.ensures.known in
+    record {
+      known = λ x. passed_known passes c.tasks.low c.in-Some.task x (contains nat_cmp c.args.known.now x) (contains nat_cmp c.tasks.known x) (contains nat_cmp c.note.new.known x) found (c.tasks.invariant.known x) (is x);
+      noted =
+          noted_then (contains nat_cmp c.args.known.now) (contains nat_cmp c.tasks.known) (contains nat_cmp c.note.new.known)
+          c.args.waiting.now.items c.tasks.waiting.items c.note.new.waiting.items c.tasks.invariant.noted c.in_ok-note.ensures.noted
+          (λ x e. is x ∙ or_left (contains nat_cmp c.tasks.known x) _ e);
+    }

@@ -1,0 +1,131 @@
+//! Calls with much in their wake, with each request for memory refused in turn.
+use super::branch_calls::{
+    answers, answers_often, close, is_last_told, kill, make_job, send, sends, set_critical, spawn,
+    wait,
+};
+use super::same::keys_of;
+use super::twins::{call_both, mark};
+use std::alloc::Global;
+use zt_bits::Status;
+use zt_history::History;
+use zt_rows::{Call, Koid, Moment, RowKey};
+
+/// Puts the far end of each of three channels into the queue of the next.
+fn nests_three(alloc: Global, history: &mut History) -> bool {
+    answers_often(history, &Call::ChannelCreate, 3)
+        && sends(alloc, history, 15, 11)
+        && sends(alloc, history, 23, 19)
+}
+
+/// Whether the close that brings all three down is made whole or not at all.
+pub(super) fn is_cascade_whole(alloc: Global, tried: &mut History, other: &mut History) -> bool {
+    nests_three(alloc, tried)
+        && nests_three(alloc, other)
+        && mark(alloc)
+        && call_both(tried, other, &close(27))
+        && is_last_told(tried, 6, Status::Ok)
+}
+
+/// Makes a channel whose far end is closed, and an event.
+fn loses_peer(history: &mut History) -> bool {
+    answers(history, &Call::ChannelCreate)
+        && answers(history, &Call::EventCreate)
+        && answers(history, &close(11))
+}
+
+/// Whether the write that fails, and closes the event's handle, is made whole or not at all.
+pub(super) fn is_write_whole(alloc: Global, tried: &mut History, other: &mut History) -> bool {
+    match send(alloc, 7, 15) {
+        Ok(write) => {
+            loses_peer(tried)
+                && loses_peer(other)
+                && mark(alloc)
+                && call_both(tried, other, &write)
+                && is_last_told(tried, 4, Status::PeerClosed)
+        }
+        Err(_) => false,
+    }
+}
+
+/// Makes a job, a wait for its end, and forty processes under it.
+fn spawns_forty(history: &mut History) -> bool {
+    answers(history, &make_job(3))
+        && answers(history, &Call::PortCreate)
+        && answers(history, &wait(7, 11, 5))
+        && answers_often(history, &spawn(7), 40)
+}
+
+/// What a kill changes: the root job, all objects that calls have made, so many with the root job, the packet of a wait
+/// for the port, and the wait.
+fn killed_key(place: u64, objects: u64, port: Koid) -> RowKey {
+    if place == 0 {
+        RowKey::Object(Koid(1024))
+    } else if place < objects {
+        RowKey::Object(Koid(place.saturating_add(1025)))
+    } else if place == objects {
+        RowKey::Packet(port, 0)
+    } else {
+        RowKey::Wait(0)
+    }
+}
+
+/// Whether the keys are those, each once.
+fn are_killed(keys: &[RowKey], objects: u64, port: Koid) -> bool {
+    let mut place: u64 = 0;
+    for key in keys {
+        if *key != killed_key(place, objects, port) {
+            return false;
+        }
+        place = place.saturating_add(1);
+    }
+    place == objects.saturating_add(2)
+}
+
+/// Whether the kill is made whole or not at all, and its record has each key once.
+pub(super) fn is_kill_whole(alloc: Global, tried: &mut History, other: &mut History) -> bool {
+    spawns_forty(tried)
+        && spawns_forty(other)
+        && mark(alloc)
+        && call_both(tried, other, &kill(7))
+        && is_last_told(tried, 44, Status::Ok)
+        && are_killed(keys_of(tried, Moment(44)), 43, Koid(1027))
+}
+
+/// Makes three jobs, each under the one before, and under the last of them two processes, the first of which is critical
+/// to it.
+fn makes_lowest(history: &mut History) -> bool {
+    answers(history, &make_job(3))
+        && answers(history, &make_job(7))
+        && answers(history, &make_job(11))
+        && answers_often(history, &spawn(15), 2)
+        && answers(history, &set_critical(15, 19))
+}
+
+/// Makes the other of these critical to the job above, and a process under each of the two jobs above.
+fn makes_higher(history: &mut History) -> bool {
+    answers(history, &set_critical(11, 23))
+        && answers(history, &spawn(11))
+        && answers(history, &spawn(7))
+}
+
+/// Makes a wait for the end of the highest process.
+fn waits_for_highest(history: &mut History) -> bool {
+    answers(history, &Call::PortCreate) && answers(history, &wait(31, 35, 5))
+}
+
+fn makes_links(history: &mut History) -> bool {
+    makes_lowest(history) && makes_higher(history) && waits_for_highest(history)
+}
+
+/// Whether a third link, and then the kill that goes through all three, are made whole or not at all, and the record of
+/// the kill has each key once.
+pub(super) fn are_links_whole(alloc: Global, tried: &mut History, other: &mut History) -> bool {
+    makes_links(tried)
+        && makes_links(other)
+        && mark(alloc)
+        && call_both(tried, other, &set_critical(7, 27))
+        && is_last_told(tried, 12, Status::Ok)
+        && call_both(tried, other, &kill(19))
+        && is_last_told(tried, 13, Status::Ok)
+        && are_killed(keys_of(tried, Moment(13)), 9, Koid(1033))
+}
