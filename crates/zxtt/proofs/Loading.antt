@@ -30,7 +30,7 @@ some_loaded (Ok book) clients text h = (text, h)
 some_loaded (Err reason) clients text h = tt
 
 told : (reason : Fault) (clients : ℕ) (text : List ℕ) → IsFaultOfText clients text reason → TellsOfSomeText clients reason
-told (fault.Trace line reason) clients text h = (text, h)
+told (fault.Trace line reason place) clients text h = (text, h)
 told (fault.Words error) clients text h = absurd h
 told (fault.Unread error) clients text h = absurd h
 told (fault.Unopened path error) clients text h = absurd h

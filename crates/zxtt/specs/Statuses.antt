@@ -18,7 +18,7 @@ fault_status (fault.Unread error) = 2
 fault_status (fault.Unopened path error) = 3
 fault_status (fault.Unconnected error) = 3
 fault_status (fault.Refused reason) = stopped_status reason
-fault_status (fault.Trace line reason) = 6
+fault_status (fault.Trace line reason place) = 6
 
 -- of the program: 0 where nothing ended it before it was done
 abbrev pub end_status : {A : Type 0} → Result A Fault → ℕ

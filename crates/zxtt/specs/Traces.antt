@@ -16,12 +16,12 @@ IsLoadedFrom clients text book =
 
 -- the fault of a session text that is not loaded, with its line
 abbrev pub IsFaultOfText : ℕ → List ℕ → Fault → Type 0
-IsFaultOfText clients text (fault.Trace line reason) = IsNotLoaded clients text (line, reason)
+IsFaultOfText clients text (fault.Trace line reason place) = IsNotLoaded clients text (line, reason)
 IsFaultOfText clients text _ = ⊥
 
 -- a line is told at fault only of a text that is not loaded for it
 abbrev pub TellsOfSomeText : ℕ → Fault → Type 0
-TellsOfSomeText clients (fault.Trace line reason) = (text : List ℕ) × IsNotLoaded clients text (line, reason)
+TellsOfSomeText clients (fault.Trace line reason place) = (text : List ℕ) × IsNotLoaded clients text (line, reason)
 TellsOfSomeText clients _ = ⊤
 
 -- a book begins at the opening where no session text is named, and else over the calls of one

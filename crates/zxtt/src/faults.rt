@@ -5,6 +5,7 @@ ghost use Rattle.zt_rows.specs.declared.refusals.Refusal.TheVariants as refusal;
 ghost use Rattle.zxtt.specs.declared.faults.Fault.TheVariants as fault;
 ghost use Rattle.zxtt.specs.Statuses.{fault_status, stopped_status};
 
+use crate::trace_lines::TraceLine;
 use std::io;
 use thiserror::Error;
 use zt_rows::Refusal;
@@ -21,16 +22,23 @@ pub enum Fault {
     Unread(io::Error),
     /// A file could not be opened.
     #[error("zxtt: {path}: {error}")]
-    Unopened { path: String, error: io::Error },
+    Unopened {
+        path: String,
+        error: io::Error,
+    },
     /// The port could not be listened on, or a connection could not be accepted.
     #[error("zxtt: {0}")]
     Unconnected(io::Error),
     /// Something was refused.
     #[error("zxtt: {}", RefusalLine(*.0))]
     Refused(Refusal),
-    /// A session text was refused, with the number of the line at fault, or 0.
+    /// A session text was refused, with the number of the line at fault, or 0, and that line, if it can be shown.
     #[error("zxtt: line {line}: {}", RefusalLine(*.refusal))]
-    Trace { line: u64, refusal: Refusal },
+    Trace {
+        line: u64,
+        refusal: Refusal,
+        place: Option<TraceLine>,
+    },
 }
 
 impl Fault {

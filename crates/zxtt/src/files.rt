@@ -5,6 +5,7 @@ ghost use Rattle.zt_shared.specs.Sharing.{IsFresh};
 ghost use Rattle.zxtt.specs.Traces.{IsFaultOfText, IsLoadedFrom, TellsOfSomeText};
 
 use crate::faults::Fault;
+use crate::trace_lines::TraceLine;
 use std::alloc::Global;
 use std::fs::File;
 use std::io::{Read, Write};
@@ -30,19 +31,26 @@ pub fn load(rt: &HostRuntime, clients: u8, path: &str) -> Result<Book, Fault>
     ensures fresh { IfOk result (IsFresh clients) }
 {
     match read(rt, path) {
-        Ok(text) => book_of(rt.alloc(), clients, text.as_slice()),
+        Ok(text) => book_of(rt.alloc(), clients, path, text.as_slice()),
         Err(fault) => Err(fault),
     }
 }
 
-/// The book of so many clients over the calls of a session text.
-fn book_of(alloc: Global, clients: u8, text: &[u8]) -> Result<Book, Fault>
+/// The book of so many clients over the calls of a session text, which was read from this file.
+fn book_of(alloc: Global, clients: u8, path: &str, text: &[u8]) -> Result<Book, Fault>
     ensures loaded { IfOk result (IsLoadedFrom clients text.now) }
     ensures refused { IfErr result (IsFaultOfText clients text.now) }
 {
     match load_text(alloc, clients, text) {
         Ok(book) => Ok(book),
-        Err((line, refusal)) => Err(Fault::Trace { line, refusal }),
+        Err((line, refusal)) => {
+            let place = TraceLine::of(alloc, path, text, line);
+            Err(Fault::Trace {
+                line,
+                refusal,
+                place,
+            })
+        }
     }
 }
 

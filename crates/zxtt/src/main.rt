@@ -10,16 +10,24 @@ ghost use Rattle.zxtt.specs.declared.faults.Fault.TheVariants.{Refused};
 ghost use Rattle.zxtt.specs.Statuses.{end_status};
 ghost use Rattle.zxtt.specs.Traces.{BeginsFrom};
 
+mod advice;
+mod attendant;
+mod explanation;
 mod faults;
 mod files;
 mod service;
+mod terminal;
+mod trace_lines;
+mod wanted;
 mod words;
 
+use attendant::{Attendant, show_trace_line};
 use faults::Fault;
 use files::{load, open, save};
 use service::serve;
 use std::io::Read;
 use std::process::ExitCode;
+use terminal::Attended;
 use words::{Asked, Words};
 use zt_console::{Book, Counted, End, run};
 
@@ -53,6 +61,7 @@ fn ended(rt: &HostRuntime, done: &Result<(), Fault>) -> ExitCode
         Ok(()) => ExitCode::SUCCESS,
         Err(fault) => {
             let _ = eprintln!(rt; "{fault}");
+            show_trace_line(rt, fault);
             ExitCode::from(fault.status())
         }
     }
@@ -93,19 +102,29 @@ fn run_file(rt: &HostRuntime, book: Book, file: &str) -> Result<Book, Fault>
     requires { 1 ≤ length book.session.clients }
 {
     if file == "-" {
-        run_lines(rt, book, rt.stdin())
+        run_lines(rt, book, rt.stdin(), true)
     } else {
-        run_lines(rt, book, open(rt, file)?)
+        run_lines(rt, book, open(rt, file)?, false)
     }
 }
 
-/// Runs the lines of the reader, and answers on standard output.
-fn run_lines<R: Read + Drop>(rt: &HostRuntime, book: Book, reader: R) -> Result<Book, Fault>
+/// Runs the lines of the reader, which may be standard input, and answers on standard output.
+fn run_lines<R: Read + Drop>(
+    rt: &HostRuntime,
+    book: Book,
+    reader: R,
+    is_standard_input: bool,
+) -> Result<Book, Fault>
     requires { 1 ≤ length book.session.clients }
 {
-    let mut reader = Counted::new(reader);
+    let attendant = Attendant::new(rt, is_standard_input);
+    attendant.greet();
+    let mut reader = Counted::new(Attended::new(reader, attendant));
     let mut writer = Counted::new(rt.stdout());
     let (book, end) = run(rt.alloc(), book, &mut reader, &mut writer);
+    if end == End::Finished {
+        reader.into_inner().finish();
+    }
     left(book, end)
 }
 

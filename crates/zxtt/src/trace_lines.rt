@@ -1,0 +1,52 @@
+//! The line of a session text for which it was refused.
+
+use crate::explanation::{session_explanation, shown_line};
+use std::alloc::{AllocError, Global};
+use zt_rows::Refusal;
+
+/// A line of a session text, with the file that it stands in.
+#[derive(Debug, Drop)]
+pub struct TraceLine {
+    path: String,
+    bytes: Vec<u8>,
+}
+
+impl TraceLine {
+    /// The line with this number of the text in the file; nothing, where no line has it or memory is refused.
+    pub fn of(alloc: Global, path: &str, text: &[u8], number: u64) -> Option<TraceLine> {
+        let bytes = line_of(text, number)?;
+        Some(TraceLine {
+            path: String::from_str(alloc, path).ok()?,
+            bytes: Vec::from_slice(alloc, bytes).ok()?,
+        })
+    }
+
+    /// It in words, with its number and why it was refused.
+    pub fn explained(
+        &self,
+        alloc: Global,
+        number: u64,
+        refusal: Refusal,
+    ) -> Result<String, AllocError> {
+        let path = self.path.as_str();
+        let mut text = format!(in alloc; "{path}, line {number}:\n")?;
+        let shown = self.shown(alloc, number, refusal)?;
+        text.push_str(shown.as_str())?;
+        Ok(text)
+    }
+
+    /// The line, and what it lacks, where it cannot be read.
+    fn shown(&self, alloc: Global, number: u64, refusal: Refusal) -> Result<String, AllocError> {
+        let line = self.bytes.as_slice();
+        match refusal {
+            Refusal::BadLine(column) => session_explanation(alloc, number, line, column),
+            _ => shown_line(alloc, line),
+        }
+    }
+}
+
+/// The line with this number, counted from 1.
+fn line_of(text: &[u8], number: u64) -> Option<&[u8]> {
+    let before = number.checked_sub(1)? as usize;
+    text.split(|byte| *byte == b'\n').nth(before)
+}

@@ -1,0 +1,140 @@
+//! What is wanted of each field of a line.
+
+/// What a field is to be.
+#[derive(Clone, Copy)]
+pub enum Wanted {
+    /// The first line of a session text.
+    SessionLine,
+    /// What a line begins with.
+    Beginning,
+    /// The process that makes a call.
+    Process,
+    /// The name of a call.
+    CallName,
+    Handle,
+    Channel,
+    Port,
+    Job,
+    Task,
+    ProcessHandle,
+    /// The handle whose waits are taken back.
+    Source,
+    /// What a new process receives.
+    Argument,
+    Rights,
+    /// Signals that are cleared.
+    Cleared,
+    /// Signals that are set.
+    Set,
+    /// Signals that are waited for.
+    Signals,
+    Key,
+    Bytes,
+    Handles,
+    /// How many bytes there is room for.
+    ByteRoom,
+    /// How many handles there is room for.
+    HandleRoom,
+    Discard,
+    Packet,
+    Code,
+    Moment,
+    Count,
+    Name,
+    Koid,
+    Happening,
+    /// What may stand behind `pinned`.
+    PinnedQuestion,
+}
+
+impl Wanted {
+    /// It in words.
+    pub fn text(self) -> &'static str {
+        match self {
+            Wanted::SessionLine => "`zxtt 1`, the first line of a session text",
+            Wanted::Beginning => "a process or a command",
+            Wanted::Process => "a process, a decimal to 18446744073709551615",
+            Wanted::CallName => "the name of a call",
+            Wanted::Handle => "a handle, a decimal to 4294967295",
+            Wanted::Channel => "a handle of a channel, a decimal to 4294967295",
+            Wanted::Port => "a handle of a port, a decimal to 4294967295",
+            Wanted::Job => "a handle of a job, a decimal to 4294967295",
+            Wanted::Task => "a handle of a job or a process, a decimal to 4294967295",
+            Wanted::ProcessHandle => "a handle of a process, a decimal to 4294967295",
+            Wanted::Source => "the handle that is waited on, a decimal to 4294967295",
+            Wanted::Argument =>
+                "a handle that goes to the new process, or 0, a decimal to 4294967295",
+            Wanted::Rights => "rights, 0x and eight digits of 0 to 9 and a to f",
+            Wanted::Cleared => "the signals to clear, 0x and eight digits of 0 to 9 and a to f",
+            Wanted::Set => "the signals to set, 0x and eight digits of 0 to 9 and a to f",
+            Wanted::Signals => "signals, 0x and eight digits of 0 to 9 and a to f",
+            Wanted::Key => "a key, a decimal to 18446744073709551615",
+            Wanted::Bytes =>
+                "two digits of 0 to 9 and a to f for each of at most 65536 bytes, or -",
+            Wanted::Handles => "1 to 64 handles with , between, or -",
+            Wanted::ByteRoom => "how many bytes there is room for, a decimal to 4294967295",
+            Wanted::HandleRoom => "how many handles there is room for, a decimal to 4294967295",
+            Wanted::Discard => "discard, or nothing",
+            Wanted::Packet => "a packet, 64 digits of 0 to 9 and a to f",
+            Wanted::Code => "a code, a decimal from -9223372036854775808 to 9223372036854775807",
+            Wanted::Moment => "a moment, a decimal to 4294967295",
+            Wanted::Count => "a count, a decimal from 1 to 1048576",
+            Wanted::Name => "a name, one or more bytes from ! to ~",
+            Wanted::Koid => "a koid, a decimal to 18446744073709551615",
+            Wanted::Happening => "made, ended, peer_closed or leaked",
+            Wanted::PinnedQuestion => "show, holders or leaks",
+        }
+    }
+}
+
+/// The fields behind the name of a call, in their order; nothing, where no call has the name.
+pub fn fields_of_call(name: &[u8]) -> Option<&'static [Wanted]> {
+    match name {
+        b"event_create" | b"eventpair_create" | b"channel_create" | b"port_create" => Some(&[]),
+        b"handle_close" => Some(&[Wanted::Handle]),
+        b"handle_duplicate" | b"handle_replace" => Some(&[Wanted::Handle, Wanted::Rights]),
+        b"object_signal" | b"object_signal_peer" => {
+            Some(&[Wanted::Handle, Wanted::Cleared, Wanted::Set])
+        }
+        b"object_wait_async" => {
+            Some(&[Wanted::Handle, Wanted::Port, Wanted::Key, Wanted::Signals])
+        }
+        b"channel_write" => Some(&[Wanted::Channel, Wanted::Bytes, Wanted::Handles]),
+        b"channel_read" => Some(&[
+            Wanted::Channel,
+            Wanted::ByteRoom,
+            Wanted::HandleRoom,
+            Wanted::Discard,
+        ]),
+        _ => fields_of_other_call(name),
+    }
+}
+
+/// The same, of the calls on ports, jobs and processes.
+fn fields_of_other_call(name: &[u8]) -> Option<&'static [Wanted]> {
+    match name {
+        b"port_queue" => Some(&[Wanted::Port, Wanted::Key, Wanted::Packet]),
+        b"port_wait" => Some(&[Wanted::Port]),
+        b"port_cancel" => Some(&[Wanted::Port, Wanted::Source, Wanted::Key]),
+        b"job_create" => Some(&[Wanted::Job]),
+        b"spawn" => Some(&[Wanted::Job, Wanted::Argument]),
+        b"job_set_critical" => Some(&[Wanted::Job, Wanted::ProcessHandle]),
+        b"task_kill" => Some(&[Wanted::Task]),
+        b"process_exit" => Some(&[Wanted::Code]),
+        _ => None,
+    }
+}
+
+/// The fields behind the name of a command, in their order; nothing, where no command has the name.
+pub fn fields_of_command(name: &[u8]) -> Option<&'static [Wanted]> {
+    match name {
+        b"goto" => Some(&[Wanted::Moment]),
+        b"back" => Some(&[Wanted::Count]),
+        b"branch" | b"follow" => Some(&[Wanted::Name]),
+        b"show" | b"leaks" | b"pin" => Some(&[]),
+        b"holders" => Some(&[Wanted::Koid]),
+        b"when" => Some(&[Wanted::Happening, Wanted::Koid]),
+        b"pinned" => Some(&[Wanted::PinnedQuestion]),
+        _ => None,
+    }
+}
