@@ -72,16 +72,18 @@ fn plain(turn: u32, step: u32) -> Call {
     }
 }
 
-fn wait(handle: HandleValue) -> Call {
+/// A wait for the port.
+pub fn wait(handle: HandleValue) -> Call {
     Call::ObjectWaitAsync {
         handle,
         port: PORT,
         key: 1,
         signals: Signals(0x8),
+        edge: false,
     }
 }
 
-fn signal(handle: HandleValue, clear: u32, set: u32) -> Call {
+pub fn signal(handle: HandleValue, clear: u32, set: u32) -> Call {
     Call::ObjectSignal {
         handle,
         clear: Signals(clear),

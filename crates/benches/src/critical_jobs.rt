@@ -1,12 +1,11 @@
 //! A job with many jobs under it, and processes under these, of which the last is critical to the job above all of them.
 
-use crate::histories::makes;
-use zt_bits::Status;
+use crate::histories::{does, makes};
 use zt_history::History;
-use zt_rows::{Call, HandleValue, Reply};
+use zt_rows::{Call, HandleValue};
 
 /// The first process's handle to the root job.
-const ROOT_JOB: HandleValue = HandleValue(3);
+pub(crate) const ROOT_JOB: HandleValue = HandleValue(3);
 
 /// Its handle to the job above all others but that.
 const ABOVE: HandleValue = HandleValue(7);
@@ -52,17 +51,6 @@ fn makes_jobs(history: &mut History, count: u32) -> bool {
         }
     }
     true
-}
-
-/// Makes the call, which has to be told ok.
-fn does(history: &mut History, call: Call) -> bool {
-    if !makes(history, &Ok(call)) {
-        return false;
-    }
-    match history.reply_of(history.last()) {
-        Some(Reply::Status(status)) => *status == Status::Ok,
-        _ => false,
-    }
 }
 
 /// Makes so many processes, a hundred under each job, of which the last is critical to the job above these.

@@ -3,8 +3,9 @@ ghost use Rattle.std.specs.Prelude.{◌<◌, length, IfSome};
 
 use crate::calls::{leak, mixed};
 use std::alloc::{AllocError, Global};
+use zt_bits::Status;
 use zt_history::{BranchId, History};
-use zt_rows::{Call, Koid};
+use zt_rows::{Call, Koid, Reply};
 
 const ROOT: Koid = Koid(1025);
 
@@ -24,6 +25,17 @@ pub(crate) fn makes(history: &mut History, call: &Result<Call, AllocError>) -> b
     match call {
         Ok(call) => history.call(id, ROOT, call).is_ok(),
         Err(_) => false,
+    }
+}
+
+/// Makes the call, which has to be told ok.
+pub(crate) fn does(history: &mut History, call: Call) -> bool {
+    if !makes(history, &Ok(call)) {
+        return false;
+    }
+    match history.reply_of(history.last()) {
+        Some(Reply::Status(status)) => *status == Status::Ok,
+        _ => false,
     }
 }
 

@@ -1,13 +1,19 @@
 //! Workloads over a history: `calls` makes COUNT mixed calls, `moves` goes over all of them, back to the opening and
 //! forth again, and `turns` makes 1,000 moves of ten moments at their end. Behind so many calls `made` asks 4,000 times
 //! when an object was made, and `ended`, `peer_closed` and `leaked` ask likewise. `leaks` asks what is leaked among COUNT
-//! objects. `critical` ends COUNT processes, with the jobs that they are under, by the kill of the one that is critical to
-//! the job above all of them, and goes back over it. The time is that of one call, of one moment gone over, of one move, of
-//! one question, or of one process that ended and was there again.
+//! objects. `edges` changes an event 10,000 times beside another at which COUNT waits on edges are, whose signal stands.
+//! `critical` ends COUNT processes, with the jobs that they are under, by the kill of the one that is critical to the job
+//! above all of them, and goes back over it. `own_job` makes COUNT processes under the caller's own job, each with an
+//! event behind it, and goes back to the opening and forth again. `fired_back` goes back over calls that fired COUNT waits, and
+//! forth again. The time is that of one call, of one moment gone over, of one move, of one question, of one process that
+//! ended and was there again, of one that was made, gone and made again, or of one wait that was there again and fired again.
 
 use crate::critical_jobs::{kills_critical, makes_critical};
+use crate::edge_waits::{changes_other, makes_edge_waits};
+use crate::fired_waits::{fires_waits, makes_waits};
 use crate::histories::{makes_leaks, makes_mixed};
 use crate::moves::{goes, moved_over, turned};
+use crate::own_job::makes_siblings;
 use crate::questions::{asks_leaks, questions};
 use std::alloc::Global;
 use std::rt::Clock;
@@ -15,7 +21,7 @@ use std::time::Instant;
 use zt_history::History;
 use zt_rows::Happening;
 
-/// The nanoseconds of one call, of one moment gone over, of one move, of one question or of one process.
+/// The nanoseconds of one call, of one moment gone over, of one move, of one question, of one process or of one wait.
 pub(crate) fn time_of(rt: &impl Clock, alloc: Global, workload: &str, count: u32) -> Option<u128> {
     match History::new(alloc) {
         Ok(mut history) => time_over(rt, alloc, &mut history, workload, count),
@@ -34,7 +40,10 @@ fn time_over(
     match workload {
         "calls" => time_of_calls(rt, alloc, history, count),
         "leaks" => time_of_leaks(rt, alloc, history, count),
+        "edges" => time_beside_edges(rt, history, count),
         "critical" => time_of_ending(rt, history, count),
+        "own_job" => time_of_siblings(rt, history, count),
+        "fired_back" => time_of_fired(rt, history, count),
         _ => time_behind_calls(rt, alloc, history, workload, count),
     }
 }
@@ -78,6 +87,16 @@ fn time_of_leaks(
     time_since(rt, start, 1)
 }
 
+/// The time of one call that changes an event beside another at which so many waits are.
+fn time_beside_edges(rt: &impl Clock, history: &mut History, count: u32) -> Option<u128> {
+    if !makes_edge_waits(history, count) {
+        return None;
+    }
+    let start = Instant::now(rt).ok()?;
+    let changes = changes_other(history)?;
+    time_since(rt, start, changes)
+}
+
 /// The time in which one of so many processes ends and is there again.
 fn time_of_ending(rt: &impl Clock, history: &mut History, count: u32) -> Option<u128> {
     if !makes_critical(history, count) {
@@ -86,6 +105,36 @@ fn time_of_ending(rt: &impl Clock, history: &mut History, count: u32) -> Option<
     let before = history.last().0;
     let start = Instant::now(rt).ok()?;
     if !kills_critical(history, count) || !goes(history, before) {
+        return None;
+    }
+    time_since(rt, start, count)
+}
+
+/// The time in which one of so many processes under the caller's own job is made, and is gone and there again.
+fn time_of_siblings(rt: &impl Clock, history: &mut History, count: u32) -> Option<u128> {
+    let start = Instant::now(rt).ok()?;
+    if !makes_siblings(history, count) {
+        return None;
+    }
+    let after = history.last().0;
+    if !goes(history, 0) || !goes(history, after) {
+        return None;
+    }
+    time_since(rt, start, count)
+}
+
+/// The time in which one of so many waits that fired is there again and fires again, by moves.
+fn time_of_fired(rt: &impl Clock, history: &mut History, count: u32) -> Option<u128> {
+    if !makes_waits(history, count / 2) {
+        return None;
+    }
+    let before = history.last().0;
+    if !fires_waits(history, count / 2) {
+        return None;
+    }
+    let after = history.last().0;
+    let start = Instant::now(rt).ok()?;
+    if !goes(history, before) || !goes(history, after) {
         return None;
     }
     time_since(rt, start, count)

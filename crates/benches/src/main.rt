@@ -5,9 +5,12 @@
 
 mod calls;
 mod critical_jobs;
+mod edge_waits;
+mod fired_waits;
 mod histories;
 mod history_workloads;
 mod moves;
+mod own_job;
 mod questions;
 mod store_workloads;
 

@@ -38,7 +38,7 @@ caller_fits S p o e room r = process_fits o.kind (is_live o.life) o.next (room.o
 
 -- the state that a call of a process that runs leaves is consistent, if the one before is: B is where its step
 -- begins, T where it ends
-pub consistent_after : (S B T U : State) (p : ℕ) (c : Call) (r : Reply) → B ≡ S → U ≡ T → ◌≡◌ {A = State × Reply} (T, r) (completed (direct B p c)) → IsConsistent S → runs S p ≡ true → IsCall c → IsConsistent U
+pub consistent_after : (S B T U : State) (p : ℕ) (c : Call) (r : Reply) → B ≡ S → U ≡ T → ◌≡◌ {A = State × Reply} (T, r) (completed B (direct B p c)) → IsConsistent S → runs S p ≡ true → IsCall c → IsConsistent U
 unfolding step
 consistent_after S B T U p c r from left e before running is_call =
     let is : U ≡ (step S p c).0 = left ∙ ap (λ d. d.0) e ∙ ap (λ b. (step b p c).0) from in rw is (step-consistent S p c before running is_call)

@@ -75,22 +75,22 @@ counters-collect S = counters-rounds (length (objects S)) S
 -- ---- the waits that are met
 
 -- in a sound state a wait is for a port, and there are no more waits than numbers were given out
-room_to_fire : (S : State) → IsSound S → (counters S).next_wait ≤ 2 ^ 63 → PortsFit S → HasRoomToFire S
-room_to_fire S sound few fit n w e met =
+room_to_fire : (B S : State) → IsSound S → (counters S).next_wait ≤ 2 ^ 63 → PortsFit S → HasRoomToFire B S
+room_to_fire B S sound few fit n w e met =
     let s : SoundWait S n w = sound.of_waits n w (wait-refreshed S n w e) in
     let there = kind_at-some S w.port kind.Port s.port in
     let is : next_at S w.port ≡ there.0.next = ap object_next there.1 in
     let low : there.0.next < 2 ^ 63 = fit w.port there.0 there.1 there.2 in
-    let last : next_at (settle S) w.port ≤ next_at S w.port + 2 ^ 63 =
-    settled-within S (2 ^ 63) w.port (λ m v h. let t : SoundWait S m v = sound.of_waits m v h in let number : m < (counters S).next_wait = t.number in omega arith) in
+    let last : next_at (settle B S) w.port ≤ next_at S w.port + 2 ^ 63 =
+    settled-within B S (2 ^ 63) w.port (λ m v h. let t : SoundWait S m v = sound.of_waits m v h in let number : m < (counters S).next_wait = t.number in omega arith) in
     omega arith
 
 -- after a call of a live process and the removal of what nothing supports there is room for packets
-pub room_after : (S : State) (p : ℕ) (c : Call) → IsConsistent S → HasRoom S → runs S p ≡ true → IsCall c → HasRoomToFire (collect (direct S p c).0)
+pub room_after : (S : State) (p : ℕ) (c : Call) → IsConsistent S → HasRoom S → runs S p ≡ true → IsCall c → HasRoomToFire S (collect (direct S p c).0)
 room_after S p c consistent room live is =
     let T : State = (direct S p c).0 in
     let called : Called S T = called-direct S p c consistent.sound live in
     let first : (counters S).next_wait ≤ 2 ^ 62 = room.waits in
     let one : (counters T).next_wait ≤ (counters S).next_wait + 1 = called.waits in
     let same : (counters (collect T)).next_wait ≡ (counters T).next_wait = ap (λ (k : Counters). k.next_wait) (counters-collect T) in
-    room_to_fire (collect T) (sound-collect T (sound-direct S p c consistent.sound live is)) (omega arith) (ports-collect T (ports-called S T room called))
+    room_to_fire S (collect T) (sound-collect T (sound-direct S p c consistent.sound live is)) (omega arith) (ports-collect T (ports-called S T room called))

@@ -91,7 +91,7 @@ fn carried_out(
     requires begun { step.old.current ≡ step.old.beginning }
     requires limits { IsCall call.now }
     ensures beginning { step.new.beginning ≡ step.old.beginning }
-    ensures ok { IfOk result (λ reply. (step.new.current, reply) ≡ completed (direct step.old.current process call.now)) }
+    ensures ok { IfOk result (λ reply. (step.new.current, reply) ≡ completed step.old.current (direct step.old.current process call.now)) }
     ensures kept { Keeps step.old.places step.new.places }
 {
     let reply = direct(alloc, step, process, call)?;
@@ -159,7 +159,8 @@ fn answered(alloc: Global, step: &mut Step, process: Koid, call: &Call) -> Resul
             port,
             key,
             signals,
-        } => object_wait_async(step, process, *handle, *port, *key, *signals),
+            edge,
+        } => object_wait_async(step, process, *handle, *port, *key, *signals, *edge),
         Call::PortQueue { port, key, bytes } => port_queue(step, process, *port, *key, *bytes),
         Call::PortWait { port } => port_wait(step, process, *port),
         Call::PortCancel { port, source, key } => {

@@ -29,7 +29,8 @@ pub fn port_create(step: &mut Step, process: Koid) -> Result<Reply, Failure>
     create(step, process, Kind::Port)
 }
 
-/// Waits once for any of the signals on what the handle names: its packet will come to the port under the key.
+/// Waits once for any of the signals on what the handle names, or for an edge of one: its packet will come to the port
+/// under the key.
 pub fn object_wait_async(
     step: &mut Step,
     process: Koid,
@@ -37,9 +38,10 @@ pub fn object_wait_async(
     port: HandleValue,
     key: u64,
     signals: Signals,
+    edge: bool,
 ) -> Result<Reply, Failure>
     requires { HasRoom step.old.current }
-    ensures does { Does (object_wait_async step.old.current process handle port key signals.0) step.old step.new result }
+    ensures does { Does (object_wait_async step.old.current process handle port key signals.0 edge) step.old step.new result }
     ensures kept { Keeps step.old.places step.new.places }
 {
     handle_to(step, process, handle, WantedKind::Any, Rights::WAIT)?;
@@ -50,6 +52,7 @@ pub fn object_wait_async(
         port: held.koid,
         key,
         signals,
+        edge,
     };
     add_wait(step, wait)?;
     Ok(Reply::Status(Status::Ok))

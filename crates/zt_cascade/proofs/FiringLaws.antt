@@ -68,118 +68,119 @@ next-into : (S : State) (n : ℕ) (w : Wait) (x : ℕ) (o : Option ObjectRow) �
 next-into S n w x (Some p) h = next-push S n w p (news S w) x h
 next-into S n w x None h = (omega arith, omega arith)
 
-next-fire : (S : State) (e : ℕ × Wait) (x : ℕ) → IsOneMore (next_at S x) (next_at (fire S e) x)
-next-fire S (n, w) x =
-    elim (is_met S w) as (λ b. IsOneMore (next_at S x) (next_at (if b then fire_into (object S w.port) S (n, w) else S) x)) [
-      | true ↦ next-into S n w x (object S w.port) refl
-      | false ↦ (omega arith, omega arith)
-    ]
+module _ (B : State) where
+  next-fire : (S : State) (e : ℕ × Wait) (x : ℕ) → IsOneMore (next_at S x) (next_at (fire B S e) x)
+  next-fire S (n, w) x =
+      elim (is_met B S w) as (λ b. IsOneMore (next_at S x) (next_at (if b then fire_into (object S w.port) S (n, w) else S) x)) [
+        | true ↦ next-into S n w x (object S w.port) refl
+        | false ↦ (omega arith, omega arith)
+      ]
 
-next-if : (S : State) (n : ℕ) (o : Option Wait) (x : ℕ) → IsOneMore (next_at S x) (next_at (fire_if S n o) x)
-next-if S n (Some w) x = next-fire S (n, w) x
-next-if S n None x = (omega arith, omega arith)
+  next-if : (S : State) (n : ℕ) (o : Option Wait) (x : ℕ) → IsOneMore (next_at S x) (next_at (fire_if B S n o) x)
+  next-if S n (Some w) x = next-fire S (n, w) x
+  next-if S n None x = (omega arith, omega arith)
 
--- the port of a wait that fires is raised by one
-next-raised : (S : State) (n : ℕ) (w : Wait) (p : ObjectRow) → object S w.port ≡ Some p → next_at (push_packet w.port p (news S w) (put S (key.Wait n) None)) w.port ≡ next_at S w.port + 1
-next-raised S n w p h =
-    ap (λ r. object_next (as_object r))
-    (row-put-same (put (put S (key.Wait n) None) (key.Packet w.port p.next) (Some (rows.Packet (news S w)))) (key.Object w.port) (Some (rows.Object (raised p))))
-    ∙ ap (λ m. m + 1) (sym (ap object_next h))
+  -- the port of a wait that fires is raised by one
+  next-raised : (S : State) (n : ℕ) (w : Wait) (p : ObjectRow) → object S w.port ≡ Some p → next_at (push_packet w.port p (news S w) (put S (key.Wait n) None)) w.port ≡ next_at S w.port + 1
+  next-raised S n w p h =
+      ap (λ r. object_next (as_object r))
+      (row-put-same (put (put S (key.Wait n) None) (key.Packet w.port p.next) (Some (rows.Packet (news S w)))) (key.Object w.port) (Some (rows.Object (raised p))))
+      ∙ ap (λ m. m + 1) (sym (ap object_next h))
 
--- where a wait is met, its port is raised, or is not there
-next-met : (S : State) (n : ℕ) (w : Wait) → wait S n ≡ Some w → is_met S w ≡ true → (next_at S w.port ≡ 0) ⊎ (next_at (fire_number S n) w.port ≡ next_at S w.port + 1)
-next-met S n w there met = by (object S w.port) refl
-  where
-    fires : fire_number S n ≡ fire_into (object S w.port) S (n, w)
-    fires = ap (fire_if S n) there ∙ ap (λ b. if b then fire_into (object S w.port) S (n, w) else S) met
+  -- where a wait is met, its port is raised, or is not there
+  next-met : (S : State) (n : ℕ) (w : Wait) → wait S n ≡ Some w → is_met B S w ≡ true → (next_at S w.port ≡ 0) ⊎ (next_at (fire_number B S n) w.port ≡ next_at S w.port + 1)
+  next-met S n w there met = by (object S w.port) refl
+    where
+      fires : fire_number B S n ≡ fire_into (object S w.port) S (n, w)
+      fires = ap (fire_if B S n) there ∙ ap (λ b. if b then fire_into (object S w.port) S (n, w) else S) met
 
-    by : (r : Option ObjectRow) → object S w.port ≡ r → (next_at S w.port ≡ 0) ⊎ (next_at (fire_number S n) w.port ≡ next_at S w.port + 1)
-    by (Some p) e = inr (ap (λ (T : State). next_at T w.port) (fires ∙ ap (λ r. fire_into r S (n, w)) e) ∙ next-raised S n w p e)
-    by None e = inl (ap object_next e)
+      by : (r : Option ObjectRow) → object S w.port ≡ r → (next_at S w.port ≡ 0) ⊎ (next_at (fire_number B S n) w.port ≡ next_at S w.port + 1)
+      by (Some p) e = inr (ap (λ (T : State). next_at T w.port) (fires ∙ ap (λ r. fire_into r S (n, w)) e) ∙ next-raised S n w p e)
+      by None e = inl (ap object_next e)
 
--- a wait that is not met changes nothing
-pub unmet-number : (S : State) (n : ℕ) (w : Wait) → wait S n ≡ Some w → is_met S w ≡ false → S ≡ fire_number S n
-unmet-number S n w there unmet = sym (ap (fire_if S n) there ∙ ap (λ b. if b then fire_into (object S w.port) S (n, w) else S) unmet)
+  -- a wait that is not met changes nothing
+  pub unmet-number : (S : State) (n : ℕ) (w : Wait) → wait S n ≡ Some w → is_met B S w ≡ false → S ≡ fire_number B S n
+  unmet-number S n w there unmet = sym (ap (fire_if B S n) there ∙ ap (λ b. if b then fire_into (object S w.port) S (n, w) else S) unmet)
 
--- ---- several numbers
+  -- ---- several numbers
 
--- next numbers never fall
-next-grown : (ns : List ℕ) (S : State) (x : ℕ) → next_at S x ≤ next_at (fold fire_number S ns) x
-next-grown [] S x = omega arith
-next-grown (n ∷ ns) S x =
-    let here : IsOneMore (next_at S x) (next_at (fire_number S n) x) = next-if S n (wait S n) x in
-    let first : next_at S x ≤ next_at (fire_number S n) x = here.0 in
-    let later : next_at (fire_number S n) x ≤ next_at (fold fire_number (fire_number S n) ns) x = next-grown ns (fire_number S n) x in
-    omega arith
+  -- next numbers never fall
+  next-grown : (ns : List ℕ) (S : State) (x : ℕ) → next_at S x ≤ next_at (fold (fire_number B) S ns) x
+  next-grown [] S x = omega arith
+  next-grown (n ∷ ns) S x =
+      let here : IsOneMore (next_at S x) (next_at (fire_number B S n) x) = next-if S n (wait S n) x in
+      let first : next_at S x ≤ next_at (fire_number B S n) x = here.0 in
+      let later : next_at (fire_number B S n) x ≤ next_at (fold (fire_number B) (fire_number B S n) ns) x = next-grown ns (fire_number B S n) x in
+      omega arith
 
--- up to one of the numbers they are no greater than after the last
-next-part : (ns : List ℕ) (i d n : ℕ) (S : State) (x : ℕ) → i < length ns → n ≡ get_or ns i d → next_at (fire_number (fold fire_number S (take i ns)) n) x ≤ next_at (fold fire_number S ns) x
-next-part [] i d n S x less is = absurd (omega arith)
-next-part (m ∷ ns) zero d n S x less is = subst (λ k. next_at (fire_number S k) x ≤ next_at (fold fire_number (fire_number S m) ns) x) (sym is) (next-grown ns (fire_number S m) x)
-next-part (m ∷ ns) (suc i) d n S x less is = next-part ns i d n (fire_number S m) x (omega arith) is
+  -- up to one of the numbers they are no greater than after the last
+  next-part : (ns : List ℕ) (i d n : ℕ) (S : State) (x : ℕ) → i < length ns → n ≡ get_or ns i d → next_at (fire_number B (fold (fire_number B) S (take i ns)) n) x ≤ next_at (fold (fire_number B) S ns) x
+  next-part [] i d n S x less is = absurd (omega arith)
+  next-part (m ∷ ns) zero d n S x less is = subst (λ k. next_at (fire_number B S k) x ≤ next_at (fold (fire_number B) (fire_number B S m) ns) x) (sym is) (next-grown ns (fire_number B S m) x)
+  next-part (m ∷ ns) (suc i) d n S x less is = next-part ns i d n (fire_number B S m) x (omega arith) is
 
--- no wait comes
-wait-if : (S : State) (n : ℕ) (o : Option Wait) (m : ℕ) (w : Wait) → wait (fire_if S n o) m ≡ Some w → wait S m ≡ Some w
-wait-if S n (Some v) m w e = wait-left S n v m w e
-wait-if S n None m w e = e
+  -- no wait comes
+  wait-if : (S : State) (n : ℕ) (o : Option Wait) (m : ℕ) (w : Wait) → wait (fire_if B S n o) m ≡ Some w → wait S m ≡ Some w
+  wait-if S n (Some v) m w e = wait-left B S n v m w e
+  wait-if S n None m w e = e
 
-wait-numbers : (ns : List ℕ) (S : State) (m : ℕ) (w : Wait) → wait (fold fire_number S ns) m ≡ Some w → wait S m ≡ Some w
-wait-numbers [] S m w e = e
-wait-numbers (n ∷ ns) S m w e = wait-if S n (wait S n) m w (wait-numbers ns (fire_number S n) m w e)
+  wait-numbers : (ns : List ℕ) (S : State) (m : ℕ) (w : Wait) → wait (fold (fire_number B) S ns) m ≡ Some w → wait S m ≡ Some w
+  wait-numbers [] S m w e = e
+  wait-numbers (n ∷ ns) S m w e = wait-if S n (wait S n) m w (wait-numbers ns (fire_number B S n) m w e)
 
--- what is met stays met
-met-if : (S : State) (n : ℕ) (o : Option Wait) (v : Wait) → is_met (fire_if S n o) v ≡ is_met S v
-met-if S n (Some w) v = met-fire S n w v
-met-if S n None v = refl
+  -- what is met stays met
+  met-if : (S : State) (n : ℕ) (o : Option Wait) (v : Wait) → is_met B (fire_if B S n o) v ≡ is_met B S v
+  met-if S n (Some w) v = met-fire B S n w v
+  met-if S n None v = refl
 
-met-numbers : (ns : List ℕ) (S : State) (v : Wait) → is_met (fold fire_number S ns) v ≡ is_met S v
-met-numbers [] S v = refl
-met-numbers (n ∷ ns) S v = met-numbers ns (fire_number S n) v ∙ met-if S n (wait S n) v
+  met-numbers : (ns : List ℕ) (S : State) (v : Wait) → is_met B (fold (fire_number B) S ns) v ≡ is_met B S v
+  met-numbers [] S v = refl
+  met-numbers (n ∷ ns) S v = met-numbers ns (fire_number B S n) v ∙ met-if S n (wait S n) v
 
--- where the next wait is met, its port has room for its packet
-pub room-numbers : (S T : State) (ns : List ℕ) (i d n : ℕ) → FiresWithin S (fold fire_number S ns) → i < length ns → n ≡ get_or ns i d → T ≡ fold fire_number S (take i ns) → HasRoomFor T n
-room-numbers S T ns i d n room less here is w there met =
-    let U : State = fold fire_number S (take i ns) in
-    let there_now : wait U n ≡ Some w = ap (λ (V : State). wait V n) (sym is) ∙ there in
-    let met_now : is_met U w ≡ true = ap (λ (V : State). is_met V w) (sym is) ∙ met in
-    let stood : wait S n ≡ Some w = wait-numbers (take i ns) S n w there_now in
-    let met_first : is_met S w ≡ true = sym (met-numbers (take i ns) S w) ∙ met_now in
-    let most : next_at (fold fire_number S ns) w.port < 2 ^ 64 = room n w stood met_first in
-    let part : next_at (fire_number U n) w.port ≤ next_at (fold fire_number S ns) w.port = next-part ns i d n S w.port less here in
-    let fits : next_at U w.port + 1 < 2 ^ 64 = elim (next-met U n w there_now met_now) [ inl none ↦ omega arith | inr more ↦ omega arith ] in
-    subst (λ (V : State). next_at V w.port + 1 < 2 ^ 64) (sym is) fits
+  -- where the next wait is met, its port has room for its packet
+  pub room-numbers : (A S T : State) (ns : List ℕ) (i d n : ℕ) → A ≡ B → FiresWithin B S (fold (fire_number B) S ns) → i < length ns → n ≡ get_or ns i d → T ≡ fold (fire_number B) S (take i ns) → HasRoomFor A T n
+  room-numbers A S T ns i d n begun room less here is w there met =
+      let U : State = fold (fire_number B) S (take i ns) in
+      let there_now : wait U n ≡ Some w = ap (λ (V : State). wait V n) (sym is) ∙ there in
+      let met_now : is_met B U w ≡ true = ap (λ (V : State). is_met B V w) (sym is) ∙ ap (λ Z. is_met Z T w) (sym begun) ∙ met in
+      let stood : wait S n ≡ Some w = wait-numbers (take i ns) S n w there_now in
+      let met_first : is_met B S w ≡ true = sym (met-numbers (take i ns) S w) ∙ met_now in
+      let most : next_at (fold (fire_number B) S ns) w.port < 2 ^ 64 = room n w stood met_first in
+      let part : next_at (fire_number B U n) w.port ≤ next_at (fold (fire_number B) S ns) w.port = next-part ns i d n S w.port less here in
+      let fits : next_at U w.port + 1 < 2 ^ 64 = elim (next-met U n w there_now met_now) [ inl none ↦ omega arith | inr more ↦ omega arith ] in
+      subst (λ (V : State). next_at V w.port + 1 < 2 ^ 64) (sym is) fits
 
-pub settled : (S : State) → fold fire (refresh S) (waits (refresh S)) ≡ settle S
-unfolding settle
-settled S = refl
+  pub settled : (S : State) → fold (fire B) (refresh S) (waits (refresh S)) ≡ settle B S
+  unfolding settle
+  settled S = refl
 
--- ---- few numbers
+  -- ---- few numbers
 
-next-fold : (L : List (ℕ × Wait)) (S : State) (x : ℕ) → next_at (fold fire S L) x ≤ next_at S x + length L
-next-fold [] S x = omega arith
-next-fold (e ∷ L) S x =
-    let here : IsOneMore (next_at S x) (next_at (fire S e) x) = next-fire S e x in
-    let one : next_at (fire S e) x ≤ next_at S x + 1 = here.1 in
-    let later : next_at (fold fire (fire S e) L) x ≤ next_at (fire S e) x + length L = next-fold L (fire S e) x in
-    omega arith
+  next-fold : (L : List (ℕ × Wait)) (S : State) (x : ℕ) → next_at (fold (fire B) S L) x ≤ next_at S x + length L
+  next-fold [] S x = omega arith
+  next-fold (e ∷ L) S x =
+      let here : IsOneMore (next_at S x) (next_at (fire B S e) x) = next-fire S e x in
+      let one : next_at (fire B S e) x ≤ next_at S x + 1 = here.1 in
+      let later : next_at (fold (fire B) (fire B S e) L) x ≤ next_at (fire B S e) x + length L = next-fold L (fire B S e) x in
+      omega arith
 
--- waits by rising number are no more than there are numbers
-few-rising : (L : List (ℕ × Wait)) (low high : ℕ) → low ≤ high → IsOrdered L → ((n : ℕ) (w : Wait) → In (n, w) L → (low ≤ n) × (n < high)) → low + length L ≤ high
-few-rising [] low high le order within = omega arith
-few-rising ((n, w) ∷ L) low high le order within =
-    let here : (low ≤ n) × (n < high) = within n w (inl refl) in
-    let above : low ≤ n = here.0 in
-    let below : n < high = here.1 in
-    let rest : (n + 1) + length L ≤ high = few-rising L (n + 1) high (omega arith) order.1 (λ m v l. let less : n < m = order.0 m v l in (omega arith, (within m v (inr l)).1)) in
-    omega arith
+  -- waits by rising number are no more than there are numbers
+  few-rising : (L : List (ℕ × Wait)) (low high : ℕ) → low ≤ high → IsOrdered L → ((n : ℕ) (w : Wait) → In (n, w) L → (low ≤ n) × (n < high)) → low + length L ≤ high
+  few-rising [] low high le order within = omega arith
+  few-rising ((n, w) ∷ L) low high le order within =
+      let here : (low ≤ n) × (n < high) = within n w (inl refl) in
+      let above : low ≤ n = here.0 in
+      let below : n < high = here.1 in
+      let rest : (n + 1) + length L ≤ high = few-rising L (n + 1) high (omega arith) order.1 (λ m v l. let less : n < m = order.0 m v l in (omega arith, (within m v (inr l)).1)) in
+      omega arith
 
--- settling raises a next number by no more than there are numbers of waits
-pub settled-within : (S : State) (most x : ℕ) → ((n : ℕ) (w : Wait) → wait S n ≡ Some w → n < most) → next_at (settle S) x ≤ next_at S x + most
-settled-within S most x below =
-    let R : State = refresh S in
-    let L : List (ℕ × Wait) = waits R in
-    let few : 0 + length L ≤ most = few-rising L 0 most (omega arith) (ordered-waits R) (λ n w l. (omega arith, below n w (wait-refreshed S n w (in-waits R n w l)))) in
-    let raised : next_at (fold fire R L) x ≤ next_at R x + length L = next-fold L R x in
-    let first : next_at R x ≡ next_at S x = next-refreshed S x in
-    let last : next_at (settle S) x ≡ next_at (fold fire R L) x = ap (λ (T : State). next_at T x) (sym (settled S)) in
-    omega arith
+  -- settling raises a next number by no more than there are numbers of waits
+  pub settled-within : (S : State) (most x : ℕ) → ((n : ℕ) (w : Wait) → wait S n ≡ Some w → n < most) → next_at (settle B S) x ≤ next_at S x + most
+  settled-within S most x below =
+      let R : State = refresh S in
+      let L : List (ℕ × Wait) = waits R in
+      let few : 0 + length L ≤ most = few-rising L 0 most (omega arith) (ordered-waits R) (λ n w l. (omega arith, below n w (wait-refreshed S n w (in-waits R n w l)))) in
+      let raised : next_at (fold (fire B) R L) x ≤ next_at R x + length L = next-fold L R x in
+      let first : next_at R x ≡ next_at S x = next-refreshed S x in
+      let last : next_at (settle B S) x ≡ next_at (fold (fire B) R L) x = ap (λ (T : State). next_at T x) (sym (settled S)) in
+      omega arith

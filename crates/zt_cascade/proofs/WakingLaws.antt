@@ -19,6 +19,7 @@ use Rattle.zt_rows.specs.Settle.{is_met, observed, signals_by}
 use Rattle.zt_rows.specs.Tests.{among, object_signals}
 use Rattle.zt_rows.proofs.RowLaws.{and_both, or_left, or_true, true≢false}
 use Rattle.zt_rows.proofs.ReadLaws.{some_one}
+use Rattle.zt_rows.proofs.SettleLaws.{unmet-alike}
 use Rattle.zt_index.specs.Chains.{IsBehind, IsNext}
 use Rattle.zt_index.specs.Criteria.{is_at, is_on, names}
 use Rattle.zt_store.specs.StepView.{DiffersAtTouched, Stepping, listed}
@@ -124,29 +125,26 @@ woken-all s i list end so_far k there =
 
 -- ---- what is met
 
-met-alike : (B T : State) (w : Wait) → observed T w ≡ observed B w → is_met T w ≡ is_met B w
-met-alike B T w e = ap (λ s. not (bit_and w.signals.0 s == 0)) e
-
 module _ (s : Stepping) (list : List ℕ) (began : IsConsistent s.beginning) (differs : DiffersAtTouched s) (all : (k : RowKey) → listed s.touched k ≡ true → HasWoken s.beginning s.current k list) where
-  module _ (n : ℕ) (w : Wait) (there : wait s.current n ≡ Some w) (met : is_met s.current w ≡ true) where
-    -- a wait that was there, and now observes what it did, was met
-    quiet : {A : Type 0} → wait s.beginning n ≡ Some w → observed s.current w ≡ observed s.beginning w → A
-    quiet stood same = absurd (true≢false (is_met s.current w) met (met-alike s.beginning s.current w same ∙ began.waiting n w stood))
-
+  module _ (n : ℕ) (w : Wait) (there : wait s.current n ≡ Some w) (met : is_met s.beginning s.current w ≡ true) where
     module _ (stood : wait s.beginning n ≡ Some w) (unmoved : entry s.current w.process w.handle ≡ entry s.beginning w.process w.handle) where
-      same-by : (o : Option Held) → entry s.current w.process w.handle ≡ o → signals_by s.current o ≡ signals_by s.beginning o → observed s.current w ≡ observed s.beginning w
-      same-by o is e = ap (signals_by s.current) is ∙ e ∙ ap (signals_by s.beginning) (sym is ∙ unmoved)
+      -- a wait that was there, on an entry that was, whose object has the signals that it had, is not met
+      quiet : {A : Type 0} (o : Option Held) → entry s.current w.process w.handle ≡ o → signals_by s.current o ≡ signals_by s.beginning o → A
+      quiet o is e =
+          let same : signals_by s.beginning (entry s.current w.process w.handle) ≡ observed s.current w = ap (signals_by s.beginning) is ∙ sym e ∙ ap (signals_by s.current) (sym is) in
+          let plain : w.edge ≡ false → bit_and w.signals.0 (observed s.current w) ≡ 0 = λ f. ap (bit_and w.signals.0) (sym same ∙ ap (signals_by s.beginning) unmoved) ∙ began.waiting n w stood f in
+          absurd (true≢false (is_met s.beginning s.current w) met (unmet-alike s.beginning s.current w same plain))
 
       at-object : (held : Held) → entry s.current w.process w.handle ≡ Some held → HasWoken s.beginning s.current (key.Object held.koid) list → among list n ≡ true
-      at-object held is (inl same) = quiet stood (same-by (Some held) is same)
+      at-object held is (inl same) = quiet (Some held) is same
       at-object held is (inr lists) = lists n (ap (λ o. option_map_or (is_at s.current held.koid) o false) there ∙ ap (names held.koid) is ∙ eq-eqb held.koid held.koid refl)
 
       by_object : (held : Held) → entry s.current w.process w.handle ≡ Some held → (b : Bool) → listed s.touched (key.Object held.koid) ≡ b → among list n ≡ true
       by_object held is true t = at-object held is (all (key.Object held.koid) t)
-      by_object held is false t = quiet stood (same-by (Some held) is (ap (λ r. object_signals (as_object r)) (differs (key.Object held.koid) t)))
+      by_object held is false t = quiet (Some held) is (ap (λ r. object_signals (as_object r)) (differs (key.Object held.koid) t))
 
       by_held : (o : Option Held) → entry s.current w.process w.handle ≡ o → among list n ≡ true
-      by_held None is = quiet stood (same-by None is refl)
+      by_held None is = quiet None is refl
       by_held (Some held) is = by_object held is (listed s.touched (key.Object held.koid)) refl
 
     by_entry : wait s.beginning n ≡ Some w → (b : Bool) → listed s.touched (key.Entry w.process w.handle) ≡ b → among list n ≡ true
@@ -159,5 +157,5 @@ module _ (s : Stepping) (list : List ℕ) (began : IsConsistent s.beginning) (di
     by_wait true t = all (key.Wait n) t
     by_wait false t = by_entry (ap as_wait (sym (differs (key.Wait n) t)) ∙ there) (listed s.touched (key.Entry w.process w.handle)) refl
 
-  pub met-woken : HasMet s.current list
+  pub met-woken : HasMet s.beginning s.current list
   met-woken = record { each = λ n w there met. by_wait n w there met (listed s.touched (key.Wait n)) refl }

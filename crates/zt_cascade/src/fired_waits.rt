@@ -2,24 +2,23 @@ ghost use Rattle.std.specs.Prelude.{◌≡◌, OnOk};
 ghost use Rattle.std.specs.List.{fold};
 ghost use Rattle.zt_rows.specs.Consistent.{IsConsistent};
 ghost use Rattle.zt_rows.specs.Reads.{wait, waits};
-ghost use Rattle.zt_rows.specs.Settle.{fire, is_met, observed};
+ghost use Rattle.zt_rows.specs.Settle.{fire};
 ghost use Rattle.zt_store.specs.ProofsOnly.StepView.{IsAhead};
 ghost use Rattle.zt_cascade.specs.PacketRoom.{FiresWithin};
 ghost use Rattle.zt_cascade.specs.ProofsOnly.RaisedWaits.{HasRoomFor, fire_number};
 
-use crate::raised_waits::{signals_now, woken};
+use crate::raised_waits::woken;
 use std::alloc::{AllocError, Global};
-use zt_ports::fire;
-use zt_rows::Wait;
+use zt_ports::{fire, is_met};
 use zt_store::Step;
 
 /// Fires the waits that are met, by rising number. The step began consistent, so that only those can be met that this
 /// step may have woken: no other wait is looked at. Refused, the step stands in the middle of it.
 pub(crate) fn fire_all(step: &mut Step, alloc: Global) -> Result<(), AllocError>
     requires began { IsConsistent step.old.beginning }
-    requires room { let S = step.old.current in FiresWithin S (fold fire S (waits S)) }
+    requires room { let S = step.old.current in FiresWithin step.old.beginning S (fold (fire step.old.beginning) S (waits S)) }
     ensures ahead { IsAhead step.old step.new }
-    ensures ok { OnOk result (step.new.current ≡ fold fire step.old.current (waits step.old.current)) }
+    ensures ok { OnOk result (step.new.current ≡ fold (fire step.old.beginning) step.old.current (waits step.old.current)) }
 {
     let mut numbers = woken(step, alloc)?;
     numbers.sort_unstable();
@@ -32,9 +31,9 @@ pub(crate) fn fire_all(step: &mut Step, alloc: Global) -> Result<(), AllocError>
 /// Where there is a wait of this number and it is met, takes it away and puts the news at the end of its port. No other
 /// wait needs room there.
 fn fire_number(step: &mut Step, number: u64) -> Result<(), AllocError>
-    requires { HasRoomFor step.old.current number }
+    requires { HasRoomFor step.old.beginning step.old.current number }
     ensures ahead { IsAhead step.old step.new }
-    ensures ok { OnOk result (step.new.current ≡ fire_number step.old.current number) }
+    ensures ok { OnOk result (step.new.current ≡ fire_number step.old.beginning step.old.current number) }
 {
     let Some(wait) = step.wait(number) else {
         return Ok(());
@@ -43,22 +42,5 @@ fn fire_number(step: &mut Step, number: u64) -> Result<(), AllocError>
         fire(step, number, &wait)
     } else {
         Ok(())
-    }
-}
-
-/// Whether one of the signals waited for stands.
-fn is_met(step: &Step, wait: &Wait) -> bool
-    ensures { result ≡ is_met step.now.current wait.now }
-{
-    wait.signals.0 & observed(step, wait) != 0
-}
-
-/// All the signals on what the wait's handle names.
-fn observed(step: &Step, wait: &Wait) -> u32
-    ensures { result ≡ observed step.now.current wait.now }
-{
-    match step.entry(wait.process, wait.handle) {
-        Some(held) => signals_now(step, held.koid),
-        None => 0,
     }
 }

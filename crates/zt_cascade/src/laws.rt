@@ -45,5 +45,5 @@ pub fn what_a_step_loses_is_told()
 
 /// Settling raises a next number by no more than there are numbers of waits, so that few waits leave room to fire.
 pub fn settling_raises_few_numbers()
-    ensures { (S : State) (most x : ℕ) → ((n : ℕ) (w : Wait) → wait S n ≡ Option.Some w → n < most) → next_at (settle S) x ≤ next_at S x + most }
+    ensures { (B S : State) (most x : ℕ) → ((n : ℕ) (w : Wait) → wait S n ≡ Option.Some w → n < most) → next_at (settle B S) x ≤ next_at S x + most }
 {}

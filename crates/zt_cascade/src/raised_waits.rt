@@ -12,7 +12,7 @@ use zt_store::Step;
 /// began consistent, so that none was met then.
 pub(crate) fn woken(step: &Step, alloc: Global) -> Result<Vec<u64>, AllocError>
     requires { IsConsistent step.now.beginning }
-    ensures { IfOk result (λ list. HasMet step.now.current list.items) }
+    ensures { IfOk result (λ list. HasMet step.now.beginning step.now.current list.items) }
 {
     let mut list = Vec::new(alloc);
     for i in 0..usize::MAX {
@@ -94,7 +94,7 @@ fn signals_then(step: &Step, koid: Koid) -> u32
 }
 
 /// The signals on the object.
-pub(crate) fn signals_now(step: &Step, koid: Koid) -> u32
+fn signals_now(step: &Step, koid: Koid) -> u32
     ensures { result ≡ signals_at step.now.current koid }
 {
     match step.object(koid) {

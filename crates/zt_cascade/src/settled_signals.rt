@@ -14,14 +14,15 @@ use std::alloc::{AllocError, Global};
 use zt_rows::{Koid, RowKey};
 use zt_store::Step;
 
-/// Writes the derived signals anew, and then fires the waits that are met, by rising number. The step began
+/// Writes the derived signals anew, and then fires the waits that are met, by rising number; a wait on an edge by what
+/// did not stand when the step began. The step began
 /// consistent, so that only what is near a key that it put can have other signals than before. The work grows with
 /// these keys and with the waits on what changed, and not with the rows that there are. Refused for memory,
 /// the step is as it was begun.
 pub fn settle(step: &mut Step, alloc: Global) -> Result<(), AllocError>
     requires began { IsConsistent step.old.beginning }
-    requires room { HasRoomToFire step.old.current }
-    ensures ok { OnOk result (Advanced step.old step.new (settle step.old.current)) }
+    requires room { HasRoomToFire step.old.beginning step.old.current }
+    ensures ok { OnOk result (Advanced step.old step.new (settle step.old.beginning step.old.current)) }
     ensures err { OnErr result (AsBegun step.old step.new) }
     ensures kept { Keeps step.old.places step.new.places }
 {
@@ -35,9 +36,9 @@ pub fn settle(step: &mut Step, alloc: Global) -> Result<(), AllocError>
 /// Writes the derived signals anew and fires waits. Refused, the step stands in the middle of it.
 fn settle_all(step: &mut Step, alloc: Global) -> Result<(), AllocError>
     requires began { IsConsistent step.old.beginning }
-    requires room { HasRoomToFire step.old.current }
+    requires room { HasRoomToFire step.old.beginning step.old.current }
     ensures ahead { IsAhead step.old step.new }
-    ensures ok { OnOk result (step.new.current ≡ settle step.old.current) }
+    ensures ok { OnOk result (step.new.current ≡ settle step.old.beginning step.old.current) }
 {
     renew_near(step, alloc)?;
     fire_all(step, alloc)

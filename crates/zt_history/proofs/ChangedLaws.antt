@@ -13,9 +13,10 @@ use Rattle.zt_store.specs.StoreView.{Stored}
 use Rattle.zt_store.proofs.Fitting.{all_fit-kept}
 use Rattle.zt_history.specs.declared.history.Undo.{Undo}
 use Rattle.zt_history.specs.declared.history.Undo.TheVariants as undo
-use Rattle.zt_history.specs.Tree.{Made, Branch, parent_of, parent_at, made_by, state_at, head_at, headed, branch_named}
+use Rattle.zt_history.specs.Tree.{Made, Branch, parent_of, parent_at, made_by, head_at, headed, branch_named}
 use Rattle.zt_history.specs.HistoryRefusals.{most_moments}
 use Rattle.zt_history.specs.ProofsOnly.Branches.{without_last}
+use Rattle.zt_history.specs.Timeline.{Timeline, after_call_at}
 use Rattle.zt_history.specs.ProofsOnly.Timeline.{after_call}
 use Rattle.zt_history.specs.TreeInvariant.{AreMoments, AreBranches, IsMade}
 use Rattle.zt_history.specs.ProofsOnly.TreeInvariant.{IsHistory}
@@ -23,8 +24,8 @@ use Rattle.zt_history.specs.ProofsOnly.MomentNodes.{Chronicle, IsTurned, run_at}
 use Rattle.zt_history.specs.ProofsOnly.KeptHistory.{IsKept, timeline_of}
 use Rattle.zt_history.proofs.ListLaws.{get-last}
 use Rattle.zt_history.proofs.RunLaws.{moment-consistent, moment-room}
-use Rattle.zt_history.proofs.GrownLaws.{history-push, history-dropped, moments-push, moments-left}
-use Rattle.zt_history.proofs.TreeLaws.{without_last-push, last_apart, headed-back, length-headed, branches-headed, branches-push}
+use Rattle.zt_history.proofs.GrownLaws.{length-push, history-push, history-dropped, moments-push, moments-left}
+use Rattle.zt_history.proofs.TreeLaws.{without_last-push, last_apart, headed-back, length-headed, branches-more, branches-headed, branches-push}
 use Rattle.zt_history.proofs.KeptLaws.{kept-back}
 
 module _ (store : Stored) (moments : Chronicle) (branches : List Branch) (p : ℕ) (last : Undo) (is : IsKept store moments branches p last) where
@@ -63,32 +64,33 @@ module _ (store : Stored) (moments : Chronicle) (branches : List Branch) (p : �
         undo = (omega (arith, length-append branches (b ∷ [])), subst (AreBranches (length moments.made)) (sym (without_last-push branches b)) is.branches_stand);
       })
 
+  -- another head for a branch
+  pub kept-headed : (b m : ℕ) (moved : List Branch) → moved ≡ headed branches b m → m ≤ length moments.made → IsKept store moments moved p undo.Nothing
+  kept-headed b m moved heads there =
+      let P : List Branch → Type 0 = λ bs. IsKept store moments bs p undo.Nothing in
+      subst P (sym heads) (record {
+        moments_stand = is.moments_stand;
+        branches_stand = branches-headed (length moments.made) (length moments.made) m branches b (omega arith) there is.branches_stand;
+        history = is.history;
+        undo = tt;
+      })
+
   -- ---- a call that was answered
 
-  module _ (b process : ℕ) (call : Call) (reply : Reply) (new : Stored) (longer : Chronicle) (moved : List Branch) (end : ℕ)
-      (at_head : p ≡ head_at branches b) (within : b < length branches) (few : length moments.made < most_moments) (running : runs store.state process ≡ true) (limits : IsCall call)
+  module _ (process : ℕ) (call : Call) (reply : Reply) (new : Stored) (longer : Chronicle) (end : ℕ)
+      (few : length moments.made < most_moments) (running : runs store.state process ≡ true) (limits : IsCall call)
       (ran : ◌≡◌ {A = State × Reply} (new.state, reply) (step store.state process call))
       (made : longer.made ≡ moments.made ++ run_at p store.state process call ∷ []) (recorded : longer.records ≡ moments.records ++ before store.state new.state ∷ [])
       (kept : Keeps store.places new.places) (fit : fits new.places (before store.state new.state) ≡ true)
-      (ended : end ≡ length longer.made) (heads : moved ≡ headed branches b end) where
+      (ended : end ≡ length longer.made) where
     abbrev one : Made
     one = run_at p store.state process call
 
     end_is : end ≡ suc (length moments.made)
     end_is = ended ∙ ap length made ∙ omega (arith, length-append moments.made (one ∷ []))
 
-    parent_is : parent_at longer.made (length longer.made) ≡ p
-    parent_is = (λ i. parent_at (made i) ((sym ended ∙ end_is) i)) ∙ ap parent_of (get-last moments.made one (length moments.made) refl)
-
-    -- taken back, moments and heads are those of before
-    moments_back : without_last longer.made ≡ moments.made
-    moments_back = ap without_last made ∙ without_last-push moments.made one
-
-    heads_back : headed moved b (parent_at longer.made (length longer.made)) ≡ branches
-    heads_back = (λ i. headed (heads i) b ((parent_is ∙ at_head) i)) ∙ headed-back branches b end
-
-    pub kept-called : IsKept new longer moved end (undo.Call b)
-    kept-called =
+    pub kept-grown : IsKept new longer branches end undo.Nothing
+    kept-grown =
         let is_made : IsMade moments.made one = record {
           running = ap (λ S. runs S process) (sym is.history.here) ∙ running;
           limits = limits;
@@ -100,31 +102,82 @@ module _ (store : Stored) (moments : Chronicle) (branches : List Branch) (p : �
         let P : List Made → ℕ → Type 0 = λ made end. IsHistory made end new (moments.records ++ before store.state new.state ∷ []) in
         record {
           moments_stand = subst AreMoments (sym made) more;
-          branches_stand =
-              subst (AreBranches (length longer.made)) (sym heads)
-              (branches-headed (length moments.made) (length longer.made) end branches b (omega (arith, ended, end_is)) (omega (arith, ended)) is.branches_stand);
+          branches_stand = branches-more (length moments.made) (length longer.made) branches (omega (arith, ended, end_is)) is.branches_stand;
           history =
               subst (IsHistory longer.made end new) (sym recorded)
               (subst (λ made. P made end) (sym made) (subst (P (moments.made ++ one ∷ [])) (sym end_is) there));
-          undo = (
-            omega (arith, ended, end_is),
-            ended,
-            omega (arith, within, ap length heads, length-headed branches b end),
-            let n : length longer.made - 1 ≡ length moments.made = omega (arith, ended, end_is) in
-                let Q : ℕ → Type 0 = λ n. AreBranches n branches in
-                subst (AreBranches (length longer.made - 1)) (sym heads_back) (subst Q (sym n) is.branches_stand),
-          );
+          undo = tt;
         }
 
-    pub called-seen : timeline_of (record { made = longer.made; branches = moved }) end (undo.Call b) ≡ after_call (timeline_of (record { made = moments.made; branches = branches }) p last) b process call
-    called-seen =
-        let same : one ≡ made_by moments.made (head_at branches b) process call =
-        λ i. record { parent = at_head i; process = process; call = call; reply = (step ((is.history.here ∙ ap (state_at moments.made) at_head) i) process call).1 } in
+    pub grown-seen : timeline_of (record { made = longer.made; branches = branches }) end undo.Nothing ≡ after_call_at (timeline_of (record { made = moments.made; branches = branches }) p last) p process call
+    grown-seen =
+        let same : one ≡ made_by moments.made p process call =
+        λ i. record { parent = p; process = process; call = call; reply = (step (is.history.here i) process call).1 } in
         λ i. record {
-          tree = record { made = (made ∙ ap (λ e. moments.made ++ e ∷ []) same) i; branches = (heads ∙ ap (headed branches b) end_is) i };
+          tree = record { made = (made ∙ ap (λ e. moments.made ++ e ∷ []) same) i; branches = branches };
           position = end_is i;
-          before = Some (record { tree = record { made = moments_back i; branches = heads_back i }; position = (parent_is ∙ at_head) i });
+          before = None;
         }
+
+-- ---- the head of a branch moves to the moment that a call made there
+
+module _ (store : Stored) (moments : Chronicle) (branches moved : List Branch) (end : ℕ) (last : Undo) (is : IsKept store moments branches end last)
+    (h : Timeline) (b process : ℕ) (call : Call) (stand : AreBranches (length h.tree.made) h.tree.branches) (within : b < length h.tree.branches)
+    (g : Timeline) (view : timeline_of (record { made = moments.made; branches = branches }) end last ≡ g) (m : ℕ) (grown : g ≡ after_call_at h m process call)
+    (at_head : m ≡ head_at h.tree.branches b) (made : ℕ) (ended : g.position ≡ made) (headed_at : moved ≡ headed branches b made) where
+  seen : timeline_of (record { made = moments.made; branches = branches }) end last ≡ after_call_at h (head_at h.tree.branches b) process call
+  seen = view ∙ grown ∙ ap (λ m. after_call_at h m process call) at_head
+
+  heads : moved ≡ headed branches b end
+  heads = headed_at ∙ ap (headed branches b) (sym (ap (λ (t : Timeline). t.position) view ∙ ended))
+
+  made_is : moments.made ≡ h.tree.made ++ made_by h.tree.made (head_at h.tree.branches b) process call ∷ []
+  made_is = ap (λ (t : Timeline). t.tree.made) seen
+
+  same_branches : branches ≡ h.tree.branches
+  same_branches = ap (λ (t : Timeline). t.tree.branches) seen
+
+  at_end : end ≡ suc (length h.tree.made)
+  at_end = ap (λ (t : Timeline). t.position) seen
+
+  size : length moments.made ≡ suc (length h.tree.made)
+  size = ap length made_is ∙ length-push h.tree.made (made_by h.tree.made (head_at h.tree.branches b) process call)
+
+  -- taken back, moments and heads are those of before
+  up : parent_at moments.made (length moments.made) ≡ head_at h.tree.branches b
+  up =
+      (λ i. parent_at (made_is i) (size i))
+      ∙ ap parent_of (get-last h.tree.made (made_by h.tree.made (head_at h.tree.branches b) process call) (length h.tree.made) refl)
+
+  moments_back : without_last moments.made ≡ h.tree.made
+  moments_back = ap without_last made_is ∙ without_last-push h.tree.made (made_by h.tree.made (head_at h.tree.branches b) process call)
+
+  heads_back : headed moved b (parent_at moments.made (length moments.made)) ≡ h.tree.branches
+  heads_back = (λ i. headed ((heads ∙ ap (λ bs. headed bs b end) same_branches) i) b (up i)) ∙ headed-back h.tree.branches b end
+
+  pub kept-followed : IsKept store moments moved end (undo.Call b)
+  kept-followed = record {
+    moments_stand = is.moments_stand;
+    branches_stand =
+        subst (AreBranches (length moments.made)) (sym heads)
+        (branches-headed (length moments.made) (length moments.made) end branches b (omega arith) is.history.within is.branches_stand);
+    history = is.history;
+    undo = (
+      omega (arith, size),
+      at_end ∙ sym size,
+      omega (arith, within, ap length heads, length-headed branches b end, ap length same_branches),
+      let n : length moments.made - 1 ≡ length h.tree.made = omega (arith, size) in
+          let Q : ℕ → Type 0 = λ n. AreBranches n h.tree.branches in
+          subst (AreBranches (length moments.made - 1)) (sym heads_back) (subst Q (sym n) stand),
+    );
+  }
+
+  pub followed-seen : timeline_of (record { made = moments.made; branches = moved }) end (undo.Call b) ≡ after_call h b process call
+  followed-seen = λ i. record {
+    tree = record { made = made_is i; branches = (heads ∙ (λ j. headed (same_branches j) b (at_end j))) i };
+    position = at_end i;
+    before = Some (record { tree = record { made = moments_back i; branches = heads_back i }; position = up i });
+  }
 
 -- ---- a call that is taken back
 

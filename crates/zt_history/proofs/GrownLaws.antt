@@ -20,7 +20,7 @@ use Rattle.zt_history.proofs.MoreLaws.{falls-left, falls-push, state-more, recor
 use Rattle.zt_history.proofs.RecordLaws.{record_of-here, record_of-others}
 use Rattle.zt_history.proofs.RunLaws.{state-step}
 
-length-push : {A : Type 0} (xs : List A) (x : A) → length (xs ++ x ∷ []) ≡ suc (length xs)
+pub length-push : {A : Type 0} (xs : List A) (x : A) → length (xs ++ x ∷ []) ≡ suc (length xs)
 length-push xs x = omega (arith, length-append xs (x ∷ []))
 
 module _ (made : List Made) (e : Made) (falls : Falls made) (within : e.parent ≤ length made) where

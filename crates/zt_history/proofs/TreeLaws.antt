@@ -74,6 +74,10 @@ head-within n [] all i = omega arith
 head-within n (b ∷ bs) all zero = all.0
 head-within n (b ∷ bs) all (suc i) = head-within n bs all.1 i
 
+-- there are more moments
+pub branches-more : (n k : ℕ) (bs : List Branch) → n ≤ k → AreBranches n bs → AreBranches k bs
+branches-more n k bs more are = record { main = are.main; names = are.names; heads = heads-more n k more bs are.heads }
+
 pub branches-headed : (n k m : ℕ) (bs : List Branch) (i : ℕ) → n ≤ k → m ≤ k → AreBranches n bs → AreBranches k (headed bs i m)
 branches-headed n k m bs i more there are = record {
   main = ap (λ ns. slice_get ns 0) (names-headed bs i m) ∙ are.main;

@@ -21,8 +21,8 @@ use Rattle.zt_rows.specs.Step.{direct, step}
 use Rattle.zt_bits.specs.declared.kinds.Kind.TheVariants as kind
 use Rattle.zt_rows.specs.declared.rows.Life.TheVariants as life
 use Rattle.zt_rows.proofs.WorkedRowsForm.{object_row}
-use Rattle.zt_history.specs.Tree.{Tree, opening_tree, called, branched, path, parent_at, reply_at, replies_to, state_at, head_at, branch_named}
-use Rattle.zt_history.specs.HistoryRefusals.{call_on, branch_on, moment_on}
+use Rattle.zt_history.specs.Tree.{Tree, opening_tree, grown_at, head_moved, called, branched, path, parent_at, reply_at, replies_to, state_at, head_at, branch_named}
+use Rattle.zt_history.specs.HistoryRefusals.{call_on, call_under, branch_on, moment_on}
 use Rattle.zt_history.specs.TreeInvariant.{record_of}
 
 -- a call of the root process at the head of a branch
@@ -76,6 +76,26 @@ on_fix : row (state_at two_branches.made 5) (key.Object 1026) ≡ Some (object_r
 unfolding two_branches path state_at row put change objects waits queue packets any_row count_row supports support_count is_supported without goes rounds collect refresh settle links chain end direct step
 on_fix = refl
 
+-- ---- a call at a moment that is no head
+
+-- an event beside the second on `main`
+unfoldable with_third : Tree
+unfolding two_branches
+with_third = grown_at two_branches 1 1025 call.EventCreate
+
+paths_beside : map (path with_third.made) (3 ∷ 6 ∷ []) ≡ (1 ∷ 2 ∷ 3 ∷ []) ∷ (1 ∷ 6 ∷ []) ∷ []
+unfolding two_branches with_third path
+paths_beside = refl
+
+-- no head moves, until one is moved
+heads_beside : map (head_at with_third.branches) (0 ∷ 1 ∷ []) ≡ 3 ∷ 5 ∷ []
+unfolding two_branches with_third
+heads_beside = refl
+
+head_that_moved : map (head_at (head_moved with_third 1 6).branches) (0 ∷ 1 ∷ []) ≡ 3 ∷ 6 ∷ []
+unfolding two_branches with_third
+head_that_moved = refl
+
 -- ---- records
 
 -- which rows the record of a moment holds, and whether it holds a row or that there is none
@@ -115,6 +135,11 @@ name_taken = refl
 no_process : call_on two_branches 0 1026 call.EventCreate ≡ Err refusal.NoProcess
 unfolding two_branches path state_at row put change objects waits queue packets any_row count_row supports support_count is_supported without goes rounds collect refresh settle links chain end direct step
 no_process = refl
+
+-- the moment is looked for before the caller
+call_at_no_moment : call_under two_branches 6 1026 call.EventCreate ≡ Err refusal.NoMoment
+unfolding two_branches
+call_at_no_moment = refl
 
 -- a call whose check fails is answered, and makes a moment
 failed_call : call_on opening_tree 0 1025 (call.HandleClose 9) ≡ Ok (Called 1 (Status BadHandle), by_root opening_tree 0 (call.HandleClose 9))

@@ -7,7 +7,7 @@ use Rattle.zt_rows.specs.declared.calls.Call.{Call}
 use Rattle.zt_rows.specs.declared.refusals.Refusal.{Refusal}
 use Rattle.zt_rows.specs.declared.refusals.Refusal.TheVariants as refusal
 use Rattle.zt_rows.specs.Reads.{runs}
-use Rattle.zt_history.specs.Tree.{Tree, last_moment, state_at, head_at, made_by, called, branched, branch_named}
+use Rattle.zt_history.specs.Tree.{Tree, last_moment, state_at, head_at, made_by, grown_at, head_moved, called, branched, branch_named}
 
 -- the most moments after the opening
 abbrev pub most_moments : ℕ
@@ -35,12 +35,30 @@ IsHistoryRefusal (Err reason) given = given ≡ reason
 
 -- ---- what is asked
 
--- a call at the head of a branch: the new moment with the reply, and the tree after it
+-- a call at a moment that is there: the new moment with the reply, and the tree after it
+abbrev pub answered_at : Tree → ℕ → ℕ → Call → Tree → Result (Answer × Tree) Refusal
+answered_at t m process call after = do
+  _ ← check (runs (state_at t.made m) process) refusal.NoProcess
+  Ok (answer.Called (suc (last_moment t)) (made_by t.made m process call).reply, after)
+
+-- a call at a moment, where no head moves
+abbrev pub call_under : Tree → ℕ → ℕ → Call → Result (Answer × Tree) Refusal
+call_under t m process call = do
+  _ ← check (nat_lt (last_moment t) most_moments) refusal.Full
+  _ ← check (nat_le m (last_moment t)) refusal.NoMoment
+  answered_at t m process call (grown_at t m process call)
+
+-- a call at the head of a branch, which moves to the new moment
 abbrev pub call_on : Tree → ℕ → ℕ → Call → Result (Answer × Tree) Refusal
 call_on t b process call = do
   _ ← check (nat_lt (last_moment t) most_moments) refusal.Full
-  _ ← check (runs (state_at t.made (head_at t.branches b)) process) refusal.NoProcess
-  Ok (answer.Called (suc (last_moment t)) (made_by t.made (head_at t.branches b) process call).reply, called t b process call)
+  answered_at t (head_at t.branches b) process call (called t b process call)
+
+-- what is answered, where the head of this branch moves to the last moment then
+abbrev pub followed : ℕ → Result (Answer × Tree) Refusal → Result (Answer × Tree) Refusal
+followed b answered = do
+  made ← answered
+  Ok (made.0, head_moved made.1 b (last_moment made.1))
 
 -- a branch at a moment: its number, and the tree with it
 abbrev pub branch_on : Tree → List ℕ → ℕ → Result (ℕ × Tree) Refusal

@@ -1,7 +1,8 @@
 -- How a history is seen: its tree, the moment at which its store stands, and where it stands again once its last change
 -- is taken back. The state of the store is no part of it, since it is that of the moment.
-use Rattle.std.specs.Prelude.{◌≡◌, ◌⊎◌, ℕ, ◌≤◌, List, length, Option, None, Some}
-use Rattle.zt_history.specs.Tree.{Made, Tree, opening_tree, path, head_at, branched}
+use Rattle.std.specs.Prelude.{◌≡◌, ◌⊎◌, ℕ, suc, ◌≤◌, List, length, Option, None, Some}
+use Rattle.zt_rows.specs.declared.calls.Call.{Call}
+use Rattle.zt_history.specs.Tree.{Made, Tree, opening_tree, last_moment, path, head_at, grown_at, head_moved, branched}
 
 -- a tree, and one of its moments
 pub record Point : Type 0 where
@@ -34,13 +35,25 @@ point_of h = record { tree = h.tree; position = h.position }
 abbrev pub at_head : Timeline → ℕ → Point
 at_head h b = record { tree = h.tree; position = head_at h.tree.branches b }
 
+-- a call at this moment, and where it stands then; there is nothing to take back
+abbrev pub after_call_at : Timeline → ℕ → ℕ → Call → Timeline
+after_call_at h m process call = record { tree = grown_at h.tree m process call; position = suc (last_moment h.tree); before = None }
+
+-- another head for a branch, with nothing to take back
+abbrev pub after_move_head : Timeline → ℕ → ℕ → Timeline
+after_move_head h b m = record { tree = head_moved h.tree b m; position = h.position; before = None }
+
 -- a branch at this moment, and where it stands again once that is taken back
 abbrev pub after_branch : Timeline → List ℕ → ℕ → Timeline
 after_branch h name m = record { tree = branched h.tree name m; position = h.position; before = Some (point_of h) }
 
--- nothing is changed but, if anything, the position, which may be the head of this branch now
+-- nothing is changed but, if anything, the position, which may be this moment now
+abbrev pub IsMovedAtMost : Timeline → Timeline → ℕ → Type 0
+IsMovedAtMost old new m = (new ≡ unmoved old) ⊎ (new ≡ moved_to old m)
+
+-- the same where the moment is the head of this branch
 abbrev pub IsAtMost : Timeline → Timeline → ℕ → Type 0
-IsAtMost old new b = (new ≡ unmoved old) ⊎ (new ≡ moved_to old (head_at old.tree.branches b))
+IsAtMost old new b = IsMovedAtMost old new (head_at old.tree.branches b)
 
 -- a list of moments is the path to one of them
 pub record IsPath (made : List Made) (way : List ℕ) : Type 0 where

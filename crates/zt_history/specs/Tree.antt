@@ -117,12 +117,17 @@ made_by made m process call = record {
 abbrev pub grown : List Made → ℕ → ℕ → Call → List Made
 grown made m process call = made ++ made_by made m process call ∷ []
 
+-- the tree with one moment more, which a call makes at a moment; no head moves
+abbrev pub grown_at : Tree → ℕ → ℕ → Call → Tree
+grown_at t m process call = record { made = grown t.made m process call; branches = t.branches }
+
+-- the tree with another head for a branch
+abbrev pub head_moved : Tree → ℕ → ℕ → Tree
+head_moved t b m = record { made = t.made; branches = headed t.branches b m }
+
 -- the tree after a call at the head of a branch, which moves to the new moment
 abbrev pub called : Tree → ℕ → ℕ → Call → Tree
-called t b process call = record {
-  made = grown t.made (head_at t.branches b) process call;
-  branches = headed t.branches b (suc (length t.made));
-}
+called t b process call = head_moved (grown_at t (head_at t.branches b) process call) b (suc (last_moment t))
 
 -- the tree with one branch more, behind the others
 abbrev pub branched : Tree → List ℕ → ℕ → Tree

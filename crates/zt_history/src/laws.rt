@@ -7,9 +7,9 @@ ghost use Rattle.zt_rows.specs.Consistent.{IsConsistent};
 ghost use Rattle.zt_rows.specs.Opening.{opening};
 ghost use Rattle.zt_rows.specs.Room.{HasRoom};
 ghost use Rattle.zt_rows.specs.Step.{IsCall, run};
-ghost use Rattle.zt_history.specs.HistoryRefusals.{call_on, branch_on};
+ghost use Rattle.zt_history.specs.HistoryRefusals.{call_on, call_under, followed, branch_on};
 ghost use Rattle.zt_history.specs.TreeInvariant.{Falls, IsTree, record_of};
-ghost use Rattle.zt_history.specs.Tree.{Made, Tree, last_moment, parent_at, path, end_of, calls_to, replies_to, state_at, opening_tree};
+ghost use Rattle.zt_history.specs.Tree.{Made, Tree, last_moment, parent_at, path, end_of, calls_to, replies_to, state_at, head_at, head_moved, opening_tree};
 
 /// Where each parent is earlier, the path to a moment is its parent's, and the moment; and the path to a moment ends
 /// with it.
@@ -44,10 +44,18 @@ pub fn a_record_leads_back_and_forth()
         ≡ (state_at made (suc i), record_of made (suc i) (suc i)) }
 {}
 
-/// The opening is a tree, and what a call or a branch makes of a tree is one.
+/// The opening is a tree, and what a call, a branch or another head makes of a tree is one.
 pub fn calls_and_branches_make_trees()
     ensures opening { IsTree opening_tree }
     ensures call { (t : Tree) (b p : ℕ) (c : Call) (said : Answer) (u : Tree) → IsTree t → b < length t.branches → IsCall c
         → call_on t b p c ≡ Ok (said, u) → IsTree u }
+    ensures under { (t : Tree) (m p : ℕ) (c : Call) (said : Answer) (u : Tree) → IsTree t → IsCall c
+        → call_under t m p c ≡ Ok (said, u) → IsTree u }
     ensures branch { (t : Tree) (name : List ℕ) (m number : ℕ) (u : Tree) → IsTree t → branch_on t name m ≡ Ok (number, u) → IsTree u }
+    ensures head { (t : Tree) (b m : ℕ) → IsTree t → m ≤ last_moment t → IsTree (head_moved t b m) }
+{}
+
+/// A call on a branch is one at the head of that branch, which moves to the new moment then.
+pub fn a_call_is_one_at_the_head_that_moves_then()
+    ensures { (t : Tree) (b p : ℕ) (c : Call) → IsTree t → call_on t b p c ≡ followed b (call_under t (head_at t.branches b) p c) }
 {}

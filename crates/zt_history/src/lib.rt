@@ -8,6 +8,8 @@ mod history;
 pub mod laws;
 mod moments;
 mod new_moment;
+#[cfg(test)]
+mod tests;
 mod tree_changes;
 
 pub use branches::BranchId;

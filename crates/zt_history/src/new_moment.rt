@@ -1,8 +1,7 @@
 ghost use Rattle.std.specs.Prelude.{◌≡◌, ◌<◌, ◌≤◌, true, None, IfOk, OnOk, OnErr, length};
 ghost use Rattle.zt_rows.specs.Reads.{runs};
-ghost use Rattle.zt_history.specs.Timeline.{after_branch, moved_to, unmoved};
-ghost use Rattle.zt_history.specs.ProofsOnly.Timeline.{after_call};
-ghost use Rattle.zt_history.specs.Tree.{branch_named, head_at, made_by, state_at};
+ghost use Rattle.zt_history.specs.Timeline.{after_branch, after_call_at, moved_to, unmoved};
+ghost use Rattle.zt_history.specs.Tree.{branch_named, made_by, state_at};
 
 use crate::branches::BranchId;
 use crate::history::{History, Undo};
@@ -10,48 +9,37 @@ use std::alloc::AllocError;
 use zt_rows::{Call, Koid, Moment, Reply};
 
 impl History {
-    /// Moves the store to the head of a branch. Where it stands there already it takes no memory; where memory is
-    /// refused it stays where it is.
-    pub(crate) fn stand_at_head(&mut self, id: BranchId) -> Result<(), AllocError>
-        requires { id < length self.old.tree.branches }
-        ensures ok { OnOk result (self.new ≡ moved_to self.old (head_at self.old.tree.branches id)) }
+    /// Moves the store to a moment. Where it stands there already it takes no memory; where memory is refused it stays
+    /// where it is.
+    pub(crate) fn stand_at(&mut self, moment: Moment) -> Result<(), AllocError>
+        requires { moment ≤ length self.old.tree.made }
+        ensures ok { OnOk result (self.new ≡ moved_to self.old moment) }
         ensures err { OnErr result (self.new ≡ unmoved self.old) }
     {
-        let head = self.head(id);
-        if head == self.position() {
+        if moment == self.position() {
             self.forget();
             return Ok(());
         }
-        match self.goto(head) {
+        match self.goto(moment) {
             Ok(()) => Ok(()),
             Err(_) => Err(AllocError),
         }
     }
 
-    /// Runs a call of a process that runs at the head of a branch, where the store stands, and moves the head with the
-    /// store to the moment that it makes. Where memory is refused nothing changes.
-    pub(crate) fn run(
-        &mut self,
-        id: BranchId,
-        process: Koid,
-        call: &Call,
-    ) -> Result<Reply, AllocError>
-        requires branch { id < length self.old.tree.branches }
-        requires head { self.old.position ≡ head_at self.old.tree.branches id }
+    /// Runs a call of a process that runs where the store stands, and moves the store to the moment that it makes; no
+    /// head moves. Where memory is refused nothing changes.
+    pub(crate) fn grow(&mut self, process: Koid, call: &Call) -> Result<Reply, AllocError>
         requires few { length self.old.tree.made < 1048576 }
         requires running { runs (state_at self.old.tree.made self.old.position) process ≡ true }
         ensures ok { IfOk result (λ reply. reply ≡ (made_by self.old.tree.made self.old.position process call.now).reply) }
-        ensures called { OnOk result (self.new ≡ after_call self.old id process call.now) }
+        ensures grown { OnOk result (self.new ≡ after_call_at self.old self.old.position process call.now) }
         ensures err { OnErr result (self.new ≡ unmoved self.old) }
     {
         call.limits();
         self.undo = Undo::Nothing;
         let position = self.position;
         let reply = self.moments.run(&mut self.store, position, process, call)?;
-        let made = self.moments.last();
-        self.branches.set_head(id, made);
-        self.position = made;
-        self.undo = Undo::Call(id);
+        self.position = self.moments.last();
         Ok(reply)
     }
 

@@ -1,8 +1,8 @@
-ghost use Rattle.std.specs.Prelude.{◌≡◌, ◌<◌, Some, None, Ok, IsSome, IfOk, IfErr, OnOk, OnErr, length};
-ghost use Rattle.zt_rows.specs.Reads.{runs};
+ghost use Rattle.std.specs.Prelude.{◌≡◌, ◌<◌, ◌≤◌, Some, None, Ok, Err, IsSome, IfOk, IfErr, OnOk, OnErr, length};
 ghost use Rattle.zt_rows.specs.declared.calls.Answer.TheVariants as answer;
-ghost use Rattle.zt_history.specs.HistoryRefusals.{IsHistoryRefusal, call_on, branch_on};
-ghost use Rattle.zt_history.specs.Timeline.{IsAtMost, after_branch, at_head, point_of, unmoved};
+ghost use Rattle.zt_history.specs.HistoryRefusals.{IsHistoryRefusal, call_on, call_under, branch_on, moment_on};
+ghost use Rattle.zt_history.specs.Timeline.{IsAtMost, IsMovedAtMost, after_branch, after_call_at, after_move_head, at_head, point_of, unmoved};
+ghost use Rattle.zt_history.specs.Tree.{last_moment};
 
 use crate::branches::BranchId;
 use crate::history::{History, Undo};
@@ -25,16 +25,58 @@ impl History {
         ensures refused { IfErr result (IsHistoryRefusal (call_on self.old.tree id process call.now)) }
         ensures err { OnErr result (IsAtMost self.old self.new id) }
     {
+        let head = self.branches.head(id);
+        let made = self.call_at(head, process, call)?;
+        self.branches.set_head(id, made.0);
+        self.undo = Undo::Call(id);
+        Ok(made)
+    }
+
+    /// Runs a call of a process at any moment, and moves the store to the moment that it makes; no head moves, and
+    /// nothing can be taken back then. Refused, moments and heads are as before, and the store stands where it stood or
+    /// at the parent.
+    pub fn call_at(
+        &mut self,
+        parent: Moment,
+        process: Koid,
+        call: &Call,
+    ) -> Result<(Moment, Reply), Refusal>
+        ensures ok { IfOk result (λ made. call_under self.old.tree parent process call.now ≡ Ok (answer.Called made.0 made.1, self.new.tree)) }
+        ensures moved { OnOk result (self.new ≡ after_call_at self.old parent process call.now) }
+        ensures position { IfOk result (λ made. self.new.position ≡ made.0) }
+        ensures refused { IfErr result (IsHistoryRefusal (call_under self.old.tree parent process call.now)) }
+        ensures err { OnErr result (IsMovedAtMost self.old self.new parent) }
+    {
         self.forget();
         if self.last().0 >= LAST_MOMENT {
             return Err(Refusal::Full);
         }
-        self.stand_at_head(id)?;
+        if parent > self.last() {
+            return Err(Refusal::NoMoment);
+        }
+        self.stand_at(parent)?;
         if !runs(self.store(), process) {
             return Err(Refusal::NoProcess);
         }
-        let reply = self.run(id, process, call)?;
+        let reply = self.grow(process, call)?;
         Ok((self.last(), reply))
+    }
+
+    /// Gives a branch another head, any moment. The store stays where it is, and nothing can be taken back then. It
+    /// takes no memory.
+    pub fn move_head(&mut self, id: BranchId, moment: Moment) -> Result<(), Refusal>
+        requires { id < length self.old.tree.branches }
+        ensures moved { OnOk result (self.new ≡ after_move_head self.old id moment) }
+        ensures within { OnOk result (moment ≤ last_moment self.old.tree) }
+        ensures refused { IfErr result (λ given. moment_on self.old.tree moment ≡ Err given) }
+        ensures err { OnErr result (self.new ≡ unmoved self.old) }
+    {
+        self.undo = Undo::Nothing;
+        if moment > self.moments.last() {
+            return Err(Refusal::NoMoment);
+        }
+        self.branches.set_head(id, moment);
+        Ok(())
     }
 
     /// Makes a branch of a name that none has, with its head at a moment. The store stays where it is. Refused,

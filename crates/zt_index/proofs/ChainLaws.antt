@@ -1,12 +1,13 @@
 -- The links of items in buckets: what a search along them finds, and that they stay right when an item is put into a
 -- bucket or taken out.
-use Rattle.std.proofs.Common.{take_all, ◌≡◌, ◌<◌, ◌≤◌, ◌-◌, ◌==◌, arith, ℕ, zero, suc, Bool, true, false, cond, List, [], ◌∷◌, length, get_or, set, take, replicate, ◌++◌, Option, Some, None, refl, sym, ap, ◌∙◌, subst, inl, inr, get_or-set_same, get_or-set_other}
+use Rattle.std.proofs.Common.{take_all, ◌≡◌, ◌<◌, ◌≤◌, ◌-◌, ◌==◌, arith, ℕ, zero, suc, Bool, true, false, not, cond, List, [], ◌∷◌, length, get_or, set, take, replicate, ◌++◌, Option, Some, None, refl, sym, ap, ◌∙◌, subst, inl, inr, get_or-set_same, get_or-set_other}
 use Rattle.std.specs.Prelude.{IfSome, if◌then◌else◌}
+use Rattle.std.specs.Option.{is_some, option_eq}
 use Rattle.std.proofs.lemmas.Bool.{cases_lt, eqb-true, eq-eqb}
-use Rattle.std.proofs.lemmas.List.{length-map, get_or_past}
+use Rattle.std.proofs.lemmas.List.{length-map, get_or_past, map-set, set-get_or}
 use Rattle.zt_index.specs.declared.chains.BucketLink.{BucketLink}
 use Rattle.zt_index.specs.declared.chains.BucketEnds.{BucketEnds}
-use Rattle.zt_index.specs.Chains.{IsBehind, IsNext, bucket_at}
+use Rattle.zt_index.specs.Chains.{IsBehind, IsShortOf, IsNext, bucket_at}
 use Rattle.zt_index.specs.ProofsOnly.Chains.{IsPrevious, IsItemOf, IsBesides, IsChained, is_slot, is_bucket, is_in, buckets, next_of, before_of, no_link, no_ends}
 use Rattle.zt_index.proofs.ChainOrder.{IsSingle, IsLinked, ComesIn, GoesOut, linked-alike, linked-in, linked-out, rising, falling}
 
@@ -36,6 +37,23 @@ found-besides q low item h behind = ((behind, h.0), h.1)
 
 pub none-besides : (q : ℕ → Bool) (low : Option ℕ) → IsBesides q low None → IsNext q low None
 none-besides q low h = (tt, h.1)
+
+-- ---- an item goes behind a lower one of its bucket, where what is linked behind that one is above it
+
+short-of : (next : Option ℕ) (n m : ℕ) → IsShortOf (λ a b. a < b) next n → m < n → IsShortOf (λ a b. a < b) next m
+short-of None n m h less = tt
+short-of (Some s) n m h less = omega arith
+
+above-low : (before : Option ℕ) (m : ℕ) → IsShortOf (λ a b. b < a) before m → IsBehind (λ a b. a < b) before m
+above-low None m h = tt
+above-low (Some p) m h = h
+
+pub between-previous : (q : ℕ → Bool) (before next : Option ℕ) (n : ℕ) → IsItemOf q before → IsBehind (λ a b. a < b) before n → IsShortOf (λ a b. a < b) next n → IsNext q before next → IsPrevious q (Some n) before
+between-previous q before next n within behind short h = (found before within behind, λ m less more. h.1 m (above-low before m more) (short-of next n m short less))
+  where
+    found : (before : Option ℕ) → IsItemOf q before → IsBehind (λ a b. a < b) before n → IfSome before (λ m. (m < n) × (q m ≡ true))
+    found None w b = tt
+    found (Some m) w b = (b, w)
 
 -- how far it is to the end
 abbrev pub room_above : ℕ → Option ℕ → ℕ
@@ -158,6 +176,27 @@ pub before-other : (links : List BucketLink) (ends : List BucketEnds) (n : ℕ) 
 before-other links ends n link c None ne = refl
 before-other links ends n link c (Some m) ne = ap (λ (x : BucketLink). x.before) (get_or-set_other links n m link no_link (λ e. ne (ap (λ x. Some x) e)))
 
+-- ---- the link of an item in no bucket
+
+pub free-buckets : (links : List BucketLink) (n : ℕ) (link : BucketLink) → bucket_at (buckets links) n ≡ None → link.bucket ≡ None → buckets (set links n link) ≡ buckets links
+free-buckets links n link at free =
+    map-set (λ (x : BucketLink). x.bucket) links n link ∙ ap (set (buckets links) n) (free ∙ sym at) ∙ set-get_or (buckets links) n None
+
+not-free : (all : List (Option ℕ)) (b n : ℕ) (l : Option ℕ) → bucket_at all n ≡ None → IsItemOf (is_in all b) l → l ≡ Some n → ⊥
+not-free all b n l at within e =
+    let t : is_in all b n ≡ true = subst (IsItemOf (is_in all b)) e within in
+    let f : true ≡ false = sym t ∙ ap (is_bucket b) at in cc
+
+pub free-link : (links : List BucketLink) (ends : List BucketEnds) (n : ℕ) (link : BucketLink) → bucket_at (buckets links) n ≡ None → link.bucket ≡ None → IsChained links ends → IsChained (set links n link) ends
+free-link links ends n link at free chained =
+    let same : (b m : ℕ) → is_in (buckets (set links n link)) b m ≡ is_in (buckets links) b m = λ b m. ap (λ all. is_in all b m) (free-buckets links n link at free) in
+    record {
+      nexts = linked-alike (λ x y. x < y) (is_in (buckets links)) (is_in (buckets (set links n link))) (next_of links ends) (next_of (set links n link) ends) same
+          (λ b l within. next-other links ends n link b l (not-free (buckets links) b n l at within)) chained.nexts;
+      befores = linked-alike (λ x y. y < x) (is_in (buckets links)) (is_in (buckets (set links n link))) (before_of links ends) (before_of (set links n link) ends) same
+          (λ b l within. before-other links ends n link b l (not-free (buckets links) b n l at within)) chained.befores;
+    }
+
 -- the links before and behind n are not its own
 pub not-slot-before : (q : ℕ → Bool) (b n : ℕ) (before : Option ℕ) → IsPrevious q (Some n) before → is_slot b before b (Some n) ≡ false
 not-slot-before q b n None h = refl
@@ -214,6 +253,23 @@ pub none_left : (o : Option ℕ) → ((n : ℕ) → o ≡ Some n → ⊥) → o 
 none_left None h = refl
 none_left (Some n) h = absurd (h n refl)
 
+-- what is told of two options by code
+
+pub told-none : (o : Option ℕ) (told : Bool) → is_some o ≡ not told → told ≡ true → o ≡ None
+told-none None told h t = refl
+told-none (Some n) told h t = let e : true ≡ false = h ∙ ap not t in cc
+
+pub told-same : (a b : Option ℕ) → option_eq (λ x y. x == y) a b ≡ true → a ≡ b
+told-same None None h = refl
+told-same None (Some n) h = cc
+told-same (Some m) None h = cc
+told-same (Some m) (Some n) h = ap (λ x. Some x) (eqb-true m n h)
+
+pub stays : (links : List BucketLink) (n : ℕ) (bucket : Option ℕ) → option_eq (λ x y. x == y) (get_or links n no_link).bucket bucket ≡ true → buckets links ≡ set (buckets links) n bucket
+stays links n bucket told =
+    let at : bucket_at (buckets links) n ≡ bucket = bucket-link links n ∙ told-same (get_or links n no_link).bucket bucket told in
+    sym (ap (set (buckets links) n) (sym at) ∙ set-get_or (buckets links) n None)
+
 -- ---- more items, and more ends
 
 filled-nil : {A : Type 0} (m k : ℕ) (d : A) → get_or (replicate m d) k d ≡ d
@@ -233,8 +289,8 @@ pub more-links : (links later : List BucketLink) (ends : List BucketEnds) → ((
 more-links links later ends same chained =
     let q : (b m : ℕ) → is_in (buckets later) b m ≡ is_in (buckets links) b m = λ b m. ap (is_bucket b) (bucket-link later m ∙ ap (λ (x : BucketLink). x.bucket) (same m) ∙ sym (bucket-link links m)) in
     record {
-      nexts = linked-alike (λ x y. x < y) (is_in (buckets links)) (is_in (buckets later)) (next_of links ends) (next_of later ends) q nexts chained.nexts;
-      befores = linked-alike (λ x y. y < x) (is_in (buckets links)) (is_in (buckets later)) (before_of links ends) (before_of later ends) q befores chained.befores;
+      nexts = linked-alike (λ x y. x < y) (is_in (buckets links)) (is_in (buckets later)) (next_of links ends) (next_of later ends) q (λ b l w. nexts b l) chained.nexts;
+      befores = linked-alike (λ x y. y < x) (is_in (buckets links)) (is_in (buckets later)) (before_of links ends) (before_of later ends) q (λ b l w. befores b l) chained.befores;
     }
   where
     nexts : (b : ℕ) (l : Option ℕ) → next_of later ends b l ≡ next_of links ends b l
@@ -248,8 +304,8 @@ more-links links later ends same chained =
 pub more-ends : (links : List BucketLink) (ends later : List BucketEnds) → ((k : ℕ) → get_or later k no_ends ≡ get_or ends k no_ends) → IsChained links ends → IsChained links later
 more-ends links ends later same chained =
     record {
-      nexts = linked-alike (λ x y. x < y) (is_in (buckets links)) (is_in (buckets links)) (next_of links ends) (next_of links later) (λ b m. refl) nexts chained.nexts;
-      befores = linked-alike (λ x y. y < x) (is_in (buckets links)) (is_in (buckets links)) (before_of links ends) (before_of links later) (λ b m. refl) befores chained.befores;
+      nexts = linked-alike (λ x y. x < y) (is_in (buckets links)) (is_in (buckets links)) (next_of links ends) (next_of links later) (λ b m. refl) (λ b l w. nexts b l) chained.nexts;
+      befores = linked-alike (λ x y. y < x) (is_in (buckets links)) (is_in (buckets links)) (before_of links ends) (before_of links later) (λ b m. refl) (λ b l w. befores b l) chained.befores;
     }
   where
     nexts : (b : ℕ) (l : Option ℕ) → next_of links later b l ≡ next_of links ends b l

@@ -190,12 +190,13 @@ within-same q r (Some n) same h = sym (same n) ∙ h
 next-same : (lt : ℕ → ℕ → Type 0) (q r : ℕ → Bool) (low found : Option ℕ) → ((m : ℕ) → r m ≡ q m) → IsNextBy lt q low found → IsNextBy lt r low found
 next-same lt q r low found same h = (kept-next lt q r low found (λ m e. same m ∙ e) h.0, λ m behind short. same m ∙ h.1 m behind short)
 
--- nothing changes
+-- nothing changes of what is in a bucket
 pub linked-alike : (lt : ℕ → ℕ → Type 0) (q r : ℕ → ℕ → Bool) (next later : ℕ → Option ℕ → Option ℕ) → ((b m : ℕ) → r b m ≡ q b m)
-    → ((b : ℕ) (low : Option ℕ) → later b low ≡ next b low) → IsLinked lt q next → IsLinked lt r later
+    → ((b : ℕ) (low : Option ℕ) → IsItemOf (q b) low → later b low ≡ next b low) → IsLinked lt q next → IsLinked lt r later
 linked-alike lt q r next later same links all b low within =
-    subst (IsNextBy lt (r b) low) (sym (links b low))
-    (next-same lt (q b) (r b) low (next b low) (same b) (all b low (within-same (q b) (r b) low (same b) within)))
+    let kept : IsItemOf (q b) low = within-same (q b) (r b) low (same b) within in
+    subst (IsNextBy lt (r b) low) (sym (links b low kept))
+    (next-same lt (q b) (r b) low (next b low) (same b) (all b low kept))
 
 -- n goes out of the bucket b
 pub linked-out : (lt : ℕ → ℕ → Type 0) → IsOrder lt → (q r : ℕ → ℕ → Bool) (next later : ℕ → Option ℕ → Option ℕ) (b n : ℕ) (before found : Option ℕ)

@@ -1,6 +1,7 @@
-ghost use Rattle.std.specs.Prelude.{◌≡◌, ◌≤◌, ◌<◌, ◌^◌, ◌↔◌, ℕ, true, false, length, slice_index_or, slice_set, vec_len, IfOk, OnOk, IfSome, IsTrue, Option, Some, None, if◌then◌else◌};
-ghost use Rattle.zt_index.specs.Chains.{IsBehind, IsNext, bucket_at};
-ghost use Rattle.zt_index.specs.ProofsOnly.Chains.{IsBesides, IsChained, IsPrevious, before_of, buckets, is_in, is_slot, next_of, no_ends, no_link};
+ghost use Rattle.std.specs.Prelude.{◌≡◌, ◌≤◌, ◌<◌, ◌^◌, ◌↔◌, ℕ, List, true, false, length, slice_index_or, slice_set, vec_len, IfOk, OnOk, IfSome, IsTrue, Option, Some, None, if◌then◌else◌};
+ghost use Rattle.zt_index.specs.Chains.{IsBehind, IsNext, IsShortOf, bucket_at};
+ghost use Rattle.zt_index.specs.ProofsOnly.Chains.{IsBesides, IsChained, IsItemOf, IsPrevious, before_of, buckets, is_in, is_slot, next_of, no_ends, no_link};
+ghost use Rattle.zt_index.specs.declared.chains.BucketEnds.{BucketEnds};
 
 use std::alloc::{AllocError, Global};
 use std::marker::Model;
@@ -8,7 +9,8 @@ use std::marker::Model;
 /// How many buckets there are. A history has at most 2^20 moments, so that few items share a bucket by chance.
 pub(crate) const BUCKETS: usize = 1 << 14;
 
-/// Where an item stands: its bucket, and the items of this bucket beside it.
+/// Where an item stands: its bucket, and the items of this bucket beside it. Where it is in no bucket, those beside which it
+/// stood: a hint of where it goes when it is put back, of which nothing is promised.
 #[derive(Clone, Copy, Debug)]
 pub(crate) struct BucketLink {
     pub bucket: Option<u64>,
@@ -23,7 +25,7 @@ pub(crate) struct BucketEnds {
     pub last: Option<u64>,
 }
 
-/// An item in no bucket.
+/// An item that was in no bucket yet.
 const NO_LINK: BucketLink = BucketLink {
     bucket: None,
     before: None,
@@ -86,7 +88,8 @@ impl Chains {
         make_links(&mut self.links, len)
     }
 
-    /// Puts the item into the bucket, or into none. It takes no memory.
+    /// Puts the item into the bucket, or into none. It takes no memory. An item that is there already stays where it is; one
+    /// that is put back behind the item that it stood behind, or as the greatest of the bucket, is put there at once.
     pub fn set(&mut self, item: u64, bucket: Option<u64>)
         requires item { item < length self.old }
         requires bucket { IfSome bucket (λ b. b < 2 ^ 14) }
@@ -135,7 +138,7 @@ fn make_links(links: &mut Vec<BucketLink>, len: usize) -> Result<(), AllocError>
     links.resize(len, NO_LINK)
 }
 
-/// Puts the item into the bucket, or into none.
+/// Puts the item into the bucket, or into none; it stays where it is, if that is there.
 fn place(links: &mut [BucketLink], ends: &mut [BucketEnds], item: u64, bucket: Option<u64>)
     requires item { item < length links.old }
     requires bucket { IfSome bucket (λ b. b < length ends.old) }
@@ -143,8 +146,13 @@ fn place(links: &mut [BucketLink], ends: &mut [BucketEnds], item: u64, bucket: O
     ensures chained { IsChained links.new ends.new }
     ensures buckets { buckets links.new ≡ slice_set (buckets links.old) item bucket }
 {
+    let link = links[item as usize];
+    if link.bucket == bucket {
+        return;
+    }
     remove(links, ends, item);
     if let Some(bucket) = bucket {
+        remind(links, item);
         insert(links, ends, item, bucket);
     }
 }
@@ -181,6 +189,26 @@ fn is_behind(low: Option<u64>, item: u64) -> bool
 {
     match low {
         Some(low) => low < item,
+        None => true,
+    }
+}
+
+/// Whether the item is below the found one, if one was found.
+fn is_short_of(found: Option<u64>, item: u64) -> bool
+    ensures { IsTrue result ↔ IsShortOf (λ a b. a < b) found item }
+{
+    match found {
+        Some(found) => item < found,
+        None => true,
+    }
+}
+
+/// Whether the item is in the bucket, if there is an item.
+fn is_item_of(links: &[BucketLink], bucket: u64, item: Option<u64>) -> bool
+    ensures { IsTrue result ↔ IsItemOf (is_in (buckets links.now) bucket) item }
+{
+    match item {
+        Some(item) => is_in(links, bucket, item),
         None => true,
     }
 }
@@ -278,7 +306,7 @@ fn set_before(
     }
 }
 
-/// Takes the item out of its bucket.
+/// Takes the item out of its bucket. It keeps in its link beside which items it stood.
 fn remove(links: &mut [BucketLink], ends: &mut [BucketEnds], item: u64)
     requires item { item < length links.old }
     requires chained { IsChained links.old ends.old }
@@ -292,7 +320,28 @@ fn remove(links: &mut [BucketLink], ends: &mut [BucketEnds], item: u64)
     };
     set_next(links, ends, bucket, link.before, link.next);
     set_before(links, ends, bucket, link.next, link.before);
-    links[item as usize] = NO_LINK;
+    links[item as usize] = BucketLink {
+        bucket: None,
+        before: link.before,
+        next: link.next,
+    };
+}
+
+/// Lets the item that stood behind this one, if it is in no bucket, have stood behind this one last: where several go out of
+/// a bucket one behind the other, and come back by rising number, each is put back behind the one before it.
+fn remind(links: &mut [BucketLink], item: u64)
+    requires { item < length links.old }
+    ensures chained { (ends : List BucketEnds) → IsChained links.old ends → IsChained links.new ends }
+    ensures buckets { buckets links.new ≡ buckets links.old }
+{
+    let Some(behind) = links[item as usize].next else {
+        return;
+    };
+    let behind = behind as usize;
+    if behind < links.len() && links[behind].bucket.is_none() {
+        let link = &mut links[behind];
+        link.before = Some(item);
+    }
 }
 
 /// Puts the item, which is in no bucket, into the bucket.
@@ -316,6 +365,48 @@ fn insert(links: &mut [BucketLink], ends: &mut [BucketEnds], item: u64, bucket: 
 
 /// The greatest item of the bucket below this one, and the least above it.
 fn around(
+    links: &[BucketLink],
+    ends: &[BucketEnds],
+    bucket: u64,
+    item: u64,
+) -> (Option<u64>, Option<u64>)
+    requires free { is_in (buckets links.now) bucket item ≡ false }
+    requires chained { IsChained links.now ends.now }
+    ensures before { IsPrevious (is_in (buckets links.now) bucket) (Some item) result.0 }
+    ensures next { IsNext (is_in (buckets links.now) bucket) (Some item) result.1 }
+{
+    match hinted(links, ends, bucket, item) {
+        Some(beside) => beside,
+        None => searched(links, ends, bucket, item),
+    }
+}
+
+/// The same, where this item goes behind the one that it stood behind: that one is in the bucket, or there was none, and
+/// what is linked as the next behind it is above this item. These are a few looks.
+fn hinted(
+    links: &[BucketLink],
+    ends: &[BucketEnds],
+    bucket: u64,
+    item: u64,
+) -> Option<(Option<u64>, Option<u64>)>
+    requires { IsChained links.now ends.now }
+    ensures before { IfSome result (λ beside. IsPrevious (is_in (buckets links.now) bucket) (Some item) beside.0) }
+    ensures next { IfSome result (λ beside. IsNext (is_in (buckets links.now) bucket) (Some item) beside.1) }
+{
+    let before = links.get(item as usize)?.before;
+    if !is_item_of(links, bucket, before) || !is_behind(before, item) {
+        return None;
+    }
+    let next = next_of(links, ends, bucket, before);
+    if is_short_of(next, item) {
+        Some((before, next))
+    } else {
+        None
+    }
+}
+
+/// The same, by a walk from the greatest item of the bucket downwards.
+fn searched(
     links: &[BucketLink],
     ends: &[BucketEnds],
     bucket: u64,

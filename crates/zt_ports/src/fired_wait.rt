@@ -1,6 +1,7 @@
 ghost use Rattle.std.specs.Prelude.{◌≡◌, ◌<◌, ◌+◌, ◌^◌, OnOk, OnErr};
-ghost use Rattle.zt_rows.specs.Settle.{fire, news, observed};
-ghost use Rattle.zt_rows.specs.Tests.{next_at, signals_at};
+ghost use Rattle.zt_rows.specs.Settle.{fire, is_met, news, observed, signals_by};
+ghost use Rattle.zt_rows.specs.Reads.{entry};
+ghost use Rattle.zt_rows.specs.Tests.{next_at, object_signals};
 ghost use Rattle.zt_store.specs.Places.{Keeps};
 ghost use Rattle.zt_store.specs.StepView.{Advanced, AsBegun};
 
@@ -8,25 +9,38 @@ use crate::port_end::push_packet;
 use bitflags::Flags;
 use std::alloc::AllocError;
 use zt_bits::Signals;
-use zt_rows::{Koid, Packet, RowKey, Wait};
+use zt_rows::{ObjectRow, Packet, RowKey, Wait};
 use zt_store::Step;
 
 /// Where the wait of this number is met, takes it away and puts the news at the end of its port.
 pub fn fire(step: &mut Step, number: u64, wait: &Wait) -> Result<(), AllocError>
     requires { next_at step.old.current wait.now.port + 1 < 2 ^ 64 }
-    ensures ok { OnOk result (Advanced step.old step.new (fire step.old.current (number, wait.now))) }
+    ensures ok { OnOk result (Advanced step.old step.new (fire step.old.beginning step.old.current (number, wait.now))) }
     ensures err { OnErr result (AsBegun step.old step.new) }
     ensures kept { Keeps step.old.places step.new.places }
 {
-    let observed = observed(step, wait);
-    if !wait.signals.intersects(observed) {
+    if !is_met(step, wait) {
         return Ok(());
     }
     let Some(port) = step.object(wait.port) else {
         return Ok(());
     };
+    let parcel = news(wait, observed(step, wait));
     step.put(RowKey::Wait(number), None)?;
-    push_packet(step, wait.port, &port, news(wait, observed))
+    push_packet(step, wait.port, &port, parcel)
+}
+
+/// Whether one of the signals waited for stands; for a wait on an edge, one that did not stand when the step began.
+pub fn is_met(step: &Step, wait: &Wait) -> bool
+    ensures { result ≡ is_met step.now.beginning step.now.current wait.now }
+{
+    let observed = observed(step, wait);
+    let awaited = if wait.edge {
+        observed.difference(observed_then(step, wait))
+    } else {
+        observed
+    };
+    wait.signals.intersects(awaited)
 }
 
 /// The packet that tells that the wait fired, and the signals that stood then.
@@ -47,16 +61,26 @@ fn observed(step: &Step, wait: &Wait) -> Signals
     ensures { result.0 ≡ observed step.now.current wait.now }
 {
     match step.entry(wait.process, wait.handle) {
-        Some(held) => signals_at(step, held.koid),
+        Some(held) => signals_of(step.object(held.koid)),
+        None => Signals(0),
+    }
+}
+
+/// The signals that stood, when the step began, on what the wait's handle names now.
+fn observed_then(step: &Step, wait: &Wait) -> Signals
+    ensures { result.0 ≡ signals_by step.now.beginning (entry step.now.current wait.now.process wait.now.handle) }
+{
+    match step.entry(wait.process, wait.handle) {
+        Some(held) => signals_of(step.object_was(held.koid)),
         None => Signals(0),
     }
 }
 
 /// All the signals that stand on the object.
-fn signals_at(step: &Step, koid: Koid) -> Signals
-    ensures { result.0 ≡ signals_at step.now.current koid }
+fn signals_of(object: Option<ObjectRow>) -> Signals
+    ensures { result.0 ≡ object_signals object }
 {
-    match step.object(koid) {
+    match object {
         Some(object) => object.signals,
         None => Signals(0),
     }

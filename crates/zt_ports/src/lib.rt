@@ -10,7 +10,7 @@ mod port_end;
 mod port_front;
 
 pub use cancelled_waits::cancel;
-pub use fired_wait::fire;
+pub use fired_wait::{fire, is_met};
 pub use pending_packets::pending;
 pub use port_end::queue;
 pub use port_front::{front, take_front};

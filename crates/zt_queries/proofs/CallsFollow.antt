@@ -194,11 +194,11 @@ module _ (S : State) (sound : IsSound S) (p : ℕ) (live : runs S p ≡ true) wh
 
   -- ---- ports
 
-  direct-object_wait_async : (h port packet_key signals : ℕ) → Direct S (object_wait_async S p h port packet_key signals).0
-  direct-object_wait_async h port packet_key signals =
+  direct-object_wait_async : (h port packet_key signals : ℕ) (edge : Bool) → Direct S (object_wait_async S p h port packet_key signals edge).0
+  direct-object_wait_async h port packet_key signals edge =
       after_handle (Direct S) S status.WrongType p h any_kind 0x4000 _ begun (λ source seen named.
       after_handle (Direct S) S status.WrongType p port is_port 0x8 _ begun (λ held o found.
-      let w : Wait = record { process = p; handle = h; port = held.koid; key = packet_key; signals = record { 0 = signals } } in
+      let w : Wait = record { process = p; handle = h; port = held.koid; key = packet_key; signals = record { 0 = signals }; edge = edge } in
       let T : State = put S (key.Wait (counters S).next_wait) (Some (rows.Wait w)) in
       direct-counters S T (direct-wait S S begun (counters S).next_wait (Some (rows.Wait w))) (record (counters S) { next_wait = (counters S).next_wait + 1 }) (omega arith)))
 
@@ -295,7 +295,7 @@ module _ (S : State) (sound : IsSound S) (p : ℕ) (live : runs S p ≡ true) wh
   direct-call (call.ChannelWrite h parcel) = direct-channel_write h parcel.bytes parcel.handles
   direct-call (call.ChannelRead h bytes handles discard) = direct-channel_read h bytes handles discard
   direct-call call.PortCreate = direct-create kind.Port refl
-  direct-call (call.ObjectWaitAsync h port packet_key signals) = direct-object_wait_async h port packet_key signals.0
+  direct-call (call.ObjectWaitAsync h port packet_key signals edge) = direct-object_wait_async h port packet_key signals.0 edge
   direct-call (call.PortQueue port packet_key bytes) = direct-port_queue port packet_key bytes
   direct-call (call.PortWait port) = direct-port_wait port
   direct-call (call.PortCancel port source packet_key) = direct-port_cancel port source packet_key

@@ -50,7 +50,7 @@ follows-step S sound p live c is =
     let w = collect-set T in
     let d : Direct S T = direct-call S sound p live c in
     let left : Follows S (collect T) = subst (Follows S) (sym w.1) (follows-without S T w.0 d.follows) in
-    follows-framed S (collect T) (settle (collect T)) (framed-settle (collect T) (sound-collect T (sound-direct S p c sound live is))) left
+    follows-framed S (collect T) (settle S (collect T)) (framed-settle S (collect T) (sound-collect T (sound-direct S p c sound live is))) left
 
 -- ---- what leaked is
 
@@ -413,8 +413,8 @@ module _ (S : State) (consistent : IsConsistent S) where
       let o = endpoint_of (object S x) (and_left (on_object (λ (o : ObjectRow). is_endpoint o.kind) (object S x)) _ e) in
       let q = some-exists T x (d.there x (exists-some S x o.0 o.1)) in
       let left : exists (without T w.0) x ≡ true = exists-some (without T w.0) x (unlinked w.0 q.0) (stays w.0 T x q.0 q.1 stays_in) in
-      let f : Framed (collect T) (settle (collect T)) = framed-settle (collect T) (sound-collect T (sound-direct S p c consistent.sound live is)) in
-      exists-shaped (collect T) (settle (collect T)) f.of_shapes x ∙ ap (λ Z. exists Z x) w.1 ∙ left
+      let f : Framed (collect T) (settle S (collect T)) = framed-settle S (collect T) (sound-collect T (sound-direct S p c consistent.sound live is)) in
+      exists-shaped (collect T) (settle S (collect T)) f.of_shapes x ∙ ap (λ Z. exists Z x) w.1 ∙ left
 
   -- ---- the laws
 

@@ -31,7 +31,7 @@ reached_after cs = reached (ran cs).0
 abbrev path_from : ℕ → State → List (ℕ × Asked) → List (ℕ × State)
 path_from n S [] = []
 path_from n S (c ∷ cs) =
-    let T = (completed (performed S c.0 c.1)).0 in
+    let T = (completed S (performed S c.0 c.1)).0 in
     (n + 1, T) ∷ path_from (n + 1) T cs
 
 -- the moments of the calls at which it happens

@@ -27,7 +27,7 @@ sound-direct S p call.ChannelCreate sound live is = sound-create_pair S p kind.C
 sound-direct S p (call.ChannelWrite h parcel) sound live is = sound-channel_write S p h parcel.bytes parcel.handles sound is
 sound-direct S p (call.ChannelRead h bytes handles discard) sound live is = sound-channel_read S p h bytes handles discard sound live
 sound-direct S p call.PortCreate sound live is = sound-create_call S p kind.Port sound live refl
-sound-direct S p (call.ObjectWaitAsync h port packet_key signals) sound live is = sound-object_wait_async S p h port packet_key signals.0 sound
+sound-direct S p (call.ObjectWaitAsync h port packet_key signals edge) sound live is = sound-object_wait_async S p h port packet_key signals.0 edge sound
 sound-direct S p (call.PortQueue port packet_key bytes) sound live is = sound-port_queue S p port packet_key bytes sound
 sound-direct S p (call.PortWait port) sound live is = sound-port_wait S p port sound
 sound-direct S p (call.PortCancel port source packet_key) sound live is = sound-port_cancel S p port source packet_key sound
@@ -40,4 +40,4 @@ sound-direct S p (call.ProcessExit code) sound live is = sound-process_exit S p 
 -- a call of a live process leaves a consistent state consistent
 pub step-consistent : (S : State) (p : ℕ) (c : Call) → IsConsistent S → runs S p ≡ true → IsCall c → IsConsistent (step S p c).0
 unfolding step
-step-consistent S p c consistent live is = consistent-completed (direct S p c).0 (sound-direct S p c consistent.sound live is)
+step-consistent S p c consistent live is = consistent-completed S (direct S p c).0 (sound-direct S p c consistent.sound live is)

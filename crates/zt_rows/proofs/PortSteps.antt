@@ -1,5 +1,5 @@
 -- The calls on ports leave a sound state sound, and give out no more than a call gives.
-use Rattle.std.proofs.Common.{ℕ, List, ap, ◌∙◌, arith}
+use Rattle.std.proofs.Common.{ℕ, Bool, List, ap, ◌∙◌, arith}
 use Rattle.std.specs.Prelude.{None, Some, nat_lt}
 use Rattle.std.specs.Option.{option_map}
 use Rattle.std.proofs.lemmas.Bool.{ltb-true}
@@ -21,20 +21,20 @@ use Rattle.zt_rows.proofs.PortLaws.{is_port-is, sound-add_wait, spends-add_wait,
 -- ---- waits
 
 -- the wait that a call makes
-abbrev waiting_for : ℕ → ℕ → ℕ → ℕ → ℕ → Wait
-waiting_for p h x packet_key signals = record { process = p; handle = h; port = x; key = packet_key; signals = record { 0 = signals } }
+abbrev waiting_for : ℕ → ℕ → ℕ → ℕ → ℕ → Bool → Wait
+waiting_for p h x packet_key signals edge = record { process = p; handle = h; port = x; key = packet_key; signals = record { 0 = signals }; edge = edge }
 
-pub sound-object_wait_async : (S : State) (p h port packet_key signals : ℕ) → IsSound S → IsSound (object_wait_async S p h port packet_key signals).0
-sound-object_wait_async S p h port packet_key signals sound =
+pub sound-object_wait_async : (S : State) (p h port packet_key signals : ℕ) (edge : Bool) → IsSound S → IsSound (object_wait_async S p h port packet_key signals edge).0
+sound-object_wait_async S p h port packet_key signals edge sound =
     after_handle IsSound S status.WrongType p h any_kind 0x4000 _ sound (λ source seen named.
     after_handle IsSound S status.WrongType p port is_port 0x8 _ sound (λ held o found.
-    sound-add_wait S (waiting_for p h held.koid packet_key signals) sound source named.entry_there (ap (option_map (λ (q : ObjectRow). q.kind)) found.object_there ∙ ap Some (is_port-is o.kind found.of_kind))))
+    sound-add_wait S (waiting_for p h held.koid packet_key signals edge) sound source named.entry_there (ap (option_map (λ (q : ObjectRow). q.kind)) found.object_there ∙ ap Some (is_port-is o.kind found.of_kind))))
 
-pub called-object_wait_async : (S : State) (p h port packet_key signals : ℕ) → Called S (object_wait_async S p h port packet_key signals).0
-called-object_wait_async S p h port packet_key signals =
+pub called-object_wait_async : (S : State) (p h port packet_key signals : ℕ) (edge : Bool) → Called S (object_wait_async S p h port packet_key signals edge).0
+called-object_wait_async S p h port packet_key signals edge =
     after_handle (Called S) S status.WrongType p h any_kind 0x4000 _ (called-nothing S) (λ source seen named.
     after_handle (Called S) S status.WrongType p port is_port 0x8 _ (called-nothing S) (λ held o found.
-    let w : Wait = waiting_for p h held.koid packet_key signals in
+    let w : Wait = waiting_for p h held.koid packet_key signals edge in
     spends-called 0 0 1 S (add_wait (counters S) w S) (omega arith) (omega arith) (omega arith) (spends-add_wait S w)))
 
 -- ---- packets of users

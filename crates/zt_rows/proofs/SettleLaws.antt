@@ -1,11 +1,13 @@
 -- Settling: it frames a sound state, afterwards derived signals agree and no wait is met, and where that holds
 -- already it changes nothing.
-use Rattle.std.proofs.Common.{◌≡◌, ◌≤◌, ℕ, ◌+◌, ◌-◌, Bool, true, false, cond, not, ◌&&◌, List, [], ◌∷◌, inl, inr, refl, sym, ap, ◌∙◌, subst, arith}
+use Rattle.std.proofs.Common.{◌≡◌, ◌≤◌, ℕ, ◌+◌, ◌-◌, Bool, true, false, cond, not, ◌&&◌, List, [], ◌∷◌, inl, inr, refl, sym, ap, ◌∙◌, subst, arith, w32, min, ◌^◌, ◌<◌}
 use Rattle.std.specs.Prelude.{Option, None, Some, option_and_then, if◌then◌else◌, ◌==◌, bit_and, bit_or, fold}
 use Rattle.std.specs.Option.{option_map}
 use Rattle.std.specs.Int.Bits.{and_comm, and_self, and_zero_l}
-use Rattle.std.proofs.lemmas.Nat.{and_assoc, and_or_apart}
-use Rattle.std.proofs.lemmas.Bool.{eqb-true, eq-eqb}
+use Rattle.std.proofs.lemmas.Nat.{and_assoc, and_le_l, and_or_apart, pow_pos}
+use Rattle.std.proofs.lemmas.Nat.Bits.{bit_at_and, bit_at_not, bit_at-zero, same_from_bits_below}
+use Rattle.std.specs.Int.{bit_at}
+use Rattle.std.proofs.lemmas.Bool.{cases_lt, eqb-true, eq-eqb}
 use Rattle.zt_bits.specs.declared.kinds.Kind.{Kind}
 use Rattle.zt_bits.specs.declared.kinds.Kind.TheVariants as kind
 use Rattle.zt_rows.specs.declared.keys.RowKey.{RowKey}
@@ -22,7 +24,7 @@ use Rattle.zt_rows.specs.Tests.{exists, kind_at, next_at, signals_at, object_nex
 use Rattle.zt_rows.specs.Room.{suits}
 use Rattle.zt_rows.specs.Support.{is_supported}
 use Rattle.zt_rows.specs.PortCalls.{is_user_packet_of, pending, most_pending}
-use Rattle.zt_rows.specs.Settle.{is_message_of, is_child_job_of, is_child_process_of, derived_mask, bit_if, derived_by, derived, renewed, refreshed, refresh, push_packet, signals_by, is_met, news, fire_into, fire, settle}
+use Rattle.zt_rows.specs.Settle.{is_message_of, is_child_job_of, is_child_process_of, derived_mask, bit_if, derived_by, derived, renewed, refreshed, refresh, push_packet, signals_by, observed, risen, is_met, news, fire_into, fire, settle}
 use Rattle.zt_rows.specs.Collect.{collect}
 use Rattle.zt_rows.specs.Consistent.{possible_signals, SoundObject, SoundPacket, IsSound, IsConsistent}
 use Rattle.zt_rows.proofs.StateLaws.{row-put, row-change, same_state}
@@ -273,26 +275,9 @@ module _ (S : State) (n : ℕ) (w : Wait) (o : ObjectRow) where
 
 -- ---- firing
 
-met-fire : (S : State) (n : ℕ) (w : Wait) (o : ObjectRow) → is_met S w ≡ true → object S w.port ≡ Some o → fire S (n, w) ≡ fired S n w o
-met-fire S n w o met here = ap (λ b. if b then fire_into (object S w.port) S (n, w) else S) met ∙ ap (λ r. fire_into r S (n, w)) here
-
-unmet-fire : (S : State) (n : ℕ) (w : Wait) → is_met S w ≡ false → fire S (n, w) ≡ S
-unmet-fire S n w met = ap (λ b. if b then fire_into (object S w.port) S (n, w) else S) met
-
--- a fact of the state after firing, from the two cases
-pub fire-cases : (P : State → Type 0) (S : State) (n : ℕ) (w : Wait) → kind_at S w.port ≡ Some kind.Port → P S → ((o : ObjectRow) → object S w.port ≡ Some o → P (fired S n w o)) → P (fire S (n, w))
-fire-cases P S n w port unmet met =
-    let there = kind_at-some S w.port kind.Port port in
-    elim (is_met S w) as (λ b. is_met S w ≡ b → P (fire S (n, w))) [
-      | true ↦ λ t. subst P (sym (met-fire S n w there.0 t there.1)) (met there.0 there.1)
-      | false ↦ λ t. subst P (sym (unmet-fire S n w t)) unmet
-    ] refl
-
-pub framed-fire : (S : State) (n : ℕ) (w : Wait) → IsSound S → kind_at S w.port ≡ Some kind.Port → Framed S (fire S (n, w))
-framed-fire S n w sound port = fire-cases (λ T. Framed S T) S n w port (framed_itself S sound) (λ o here. framed-fired S n w o here sound port)
-
-pub signals-fire : (S : State) (n : ℕ) (w : Wait) → kind_at S w.port ≡ Some kind.Port → (x : ℕ) → signals_at (fire S (n, w)) x ≡ signals_at S x
-signals-fire S n w port x = fire-cases (λ T. signals_at T x ≡ signals_at S x) S n w port refl (λ o here. signals-fired S n w o here x)
+-- each of these waits is for a port
+abbrev pub ForPorts : State → List (ℕ × Wait) → Type 0
+ForPorts S ws = (n : ℕ) (w : Wait) → In (n, w) ws → kind_at S w.port ≡ Some kind.Port
 
 signals_by-same : (S T : State) → ((x : ℕ) → signals_at T x ≡ signals_at S x) → (r s : Option Held) → r ≡ s → signals_by T r ≡ signals_by S s
 signals_by-same S T same r s e = ap (signals_by T) e ∙ one s
@@ -301,55 +286,76 @@ signals_by-same S T same r s e = ap (signals_by T) e ∙ one s
     one (Some held) = same held.koid
     one None = refl
 
-pub met-same : (S T : State) → ((p h : ℕ) → entry T p h ≡ entry S p h) → ((x : ℕ) → signals_at T x ≡ signals_at S x) → (w : Wait) → is_met T w ≡ is_met S w
-met-same S T entries signals w = ap (λ s. not (bit_and w.signals.0 s == 0)) (signals_by-same S T signals (entry T w.process w.handle) (entry S w.process w.handle) (entries w.process w.handle))
+module _ (B : State) where
+  met-fire : (S : State) (n : ℕ) (w : Wait) (o : ObjectRow) → is_met B S w ≡ true → object S w.port ≡ Some o → fire B S (n, w) ≡ fired S n w o
+  met-fire S n w o met here = ap (λ b. if b then fire_into (object S w.port) S (n, w) else S) met ∙ ap (λ r. fire_into r S (n, w)) here
 
--- each of these waits is for a port
-abbrev pub ForPorts : State → List (ℕ × Wait) → Type 0
-ForPorts S ws = (n : ℕ) (w : Wait) → In (n, w) ws → kind_at S w.port ≡ Some kind.Port
+  unmet-fire : (S : State) (n : ℕ) (w : Wait) → is_met B S w ≡ false → fire B S (n, w) ≡ S
+  unmet-fire S n w met = ap (λ b. if b then fire_into (object S w.port) S (n, w) else S) met
 
-pub ports-fire : (S : State) (n : ℕ) (w : Wait) (ws : List (ℕ × Wait)) → IsSound S → ForPorts S ((n, w) ∷ ws) → ForPorts (fire S (n, w)) ws
-ports-fire S n w ws sound ports m v l = kind_at-shaped S (fire S (n, w)) (framed-fire S n w sound (ports n w (inl refl))).of_shapes v.port ∙ ports m v (inr l)
+  -- a fact of the state after firing, from the two cases
+  pub fire-cases : (P : State → Type 0) (S : State) (n : ℕ) (w : Wait) → kind_at S w.port ≡ Some kind.Port → P S → ((o : ObjectRow) → object S w.port ≡ Some o → P (fired S n w o)) → P (fire B S (n, w))
+  fire-cases P S n w port unmet met =
+      let there = kind_at-some S w.port kind.Port port in
+      elim (is_met B S w) as (λ b. is_met B S w ≡ b → P (fire B S (n, w))) [
+        | true ↦ λ t. subst P (sym (met-fire S n w there.0 t there.1)) (met there.0 there.1)
+        | false ↦ λ t. subst P (sym (unmet-fire S n w t)) unmet
+      ] refl
 
-pub sound-fire : (S : State) (n : ℕ) (w : Wait) → IsSound S → kind_at S w.port ≡ Some kind.Port → IsSound (fire S (n, w))
-sound-fire S n w sound port = sound-framed S (fire S (n, w)) sound (framed-fire S n w sound port)
+  pub framed-fire : (S : State) (n : ℕ) (w : Wait) → IsSound S → kind_at S w.port ≡ Some kind.Port → Framed S (fire B S (n, w))
+  framed-fire S n w sound port = fire-cases (λ T. Framed S T) S n w port (framed_itself S sound) (λ o here. framed-fired S n w o here sound port)
 
-framed-fold : (ws : List (ℕ × Wait)) (S : State) → IsSound S → ForPorts S ws → Framed S (fold fire S ws)
-framed-fold [] S sound ports = framed_itself S sound
-framed-fold ((n, w) ∷ ws) S sound ports =
-    let port : kind_at S w.port ≡ Some kind.Port = ports n w (inl refl) in
-    framed-framed S (fire S (n, w)) (fold fire (fire S (n, w)) ws) (framed-fire S n w sound port)
-    (framed-fold ws (fire S (n, w)) (sound-fire S n w sound port) (ports-fire S n w ws sound ports))
+  pub signals-fire : (S : State) (n : ℕ) (w : Wait) → kind_at S w.port ≡ Some kind.Port → (x : ℕ) → signals_at (fire B S (n, w)) x ≡ signals_at S x
+  signals-fire S n w port x = fire-cases (λ T. signals_at T x ≡ signals_at S x) S n w port refl (λ o here. signals-fired S n w o here x)
 
-signals-fold : (ws : List (ℕ × Wait)) (S : State) → IsSound S → ForPorts S ws → (x : ℕ) → signals_at (fold fire S ws) x ≡ signals_at S x
-signals-fold [] S sound ports x = refl
-signals-fold ((n, w) ∷ ws) S sound ports x =
-    let port : kind_at S w.port ≡ Some kind.Port = ports n w (inl refl) in
-    signals-fold ws (fire S (n, w)) (sound-fire S n w sound port) (ports-fire S n w ws sound ports) x ∙ signals-fire S n w port x
+  pub met-same : (S T : State) → ((p h : ℕ) → entry T p h ≡ entry S p h) → ((x : ℕ) → signals_at T x ≡ signals_at S x) → (w : Wait) → is_met B T w ≡ is_met B S w
+  met-same S T entries signals w =
+      let held : entry T w.process w.handle ≡ entry S w.process w.handle = entries w.process w.handle in
+      let seen : observed T w ≡ observed S w = signals_by-same S T signals (entry T w.process w.handle) (entry S w.process w.handle) held in
+      λ i. not (bit_and w.signals.0 (if w.edge then without_bits (seen i) (signals_by B (held i)) else seen i) == 0)
 
--- a wait that fires is gone
-gone-fired : (S : State) (n : ℕ) (w : Wait) → kind_at S w.port ≡ Some kind.Port → is_met S w ≡ true → wait (fire S (n, w)) n ≡ None
-gone-fired S n w port met =
-    let there = kind_at-some S w.port kind.Port port in
-    ap (λ T. wait T n) (met-fire S n w there.0 met there.1) ∙ wait-fired S n w there.0 n ∙ ap (λ b. cond b None (wait S n)) (eq-eqb n n refl)
+  pub ports-fire : (S : State) (n : ℕ) (w : Wait) (ws : List (ℕ × Wait)) → IsSound S → ForPorts S ((n, w) ∷ ws) → ForPorts (fire B S (n, w)) ws
+  ports-fire S n w ws sound ports m v l = kind_at-shaped S (fire B S (n, w)) (framed-fire S n w sound (ports n w (inl refl))).of_shapes v.port ∙ ports m v (inr l)
 
--- no wait that was met is left
-quiet : (ws : List (ℕ × Wait)) (S : State) → IsSound S → ForPorts S ws → (m : ℕ) (v : Wait) → wait (fold fire S ws) m ≡ Some v → In (m, v) ws → is_met S v ≡ true → ⊥
-quiet [] S sound ports m v h l met = l
-quiet ((n, w) ∷ ws) S sound ports m v h (inl e) met =
-    let port : kind_at S w.port ≡ Some kind.Port = ports n w (inl refl) in
-    let number : m ≡ n = ap (λ (z : ℕ × Wait). z.0) e in
-    let same : v ≡ w = ap (λ (z : ℕ × Wait). z.1) e in
-    let left : wait (fire S (n, w)) m ≡ Some v = (framed-fold ws (fire S (n, w)) (sound-fire S n w sound port) (ports-fire S n w ws sound ports)).of_waits m v h in
-    let none : wait (fire S (n, w)) m ≡ None = ap (wait (fire S (n, w))) number ∙ gone-fired S n w port (ap (is_met S) (sym same) ∙ met) in
-    not_both _ none left
-  where
-    not_both : {v : Wait} (r : Option Wait) → r ≡ None → r ≡ Some v → ⊥
-    not_both r p q = cc
-quiet ((n, w) ∷ ws) S sound ports m v h (inr l) met =
-    let port : kind_at S w.port ≡ Some kind.Port = ports n w (inl refl) in
-    let same : is_met (fire S (n, w)) v ≡ is_met S v = met-same S (fire S (n, w)) (framed-fire S n w sound port).of_entries (signals-fire S n w port) v in
-    quiet ws (fire S (n, w)) (sound-fire S n w sound port) (ports-fire S n w ws sound ports) m v h l (same ∙ met)
+  pub sound-fire : (S : State) (n : ℕ) (w : Wait) → IsSound S → kind_at S w.port ≡ Some kind.Port → IsSound (fire B S (n, w))
+  sound-fire S n w sound port = sound-framed S (fire B S (n, w)) sound (framed-fire S n w sound port)
+
+  framed-fold : (ws : List (ℕ × Wait)) (S : State) → IsSound S → ForPorts S ws → Framed S (fold (fire B) S ws)
+  framed-fold [] S sound ports = framed_itself S sound
+  framed-fold ((n, w) ∷ ws) S sound ports =
+      let port : kind_at S w.port ≡ Some kind.Port = ports n w (inl refl) in
+      framed-framed S (fire B S (n, w)) (fold (fire B) (fire B S (n, w)) ws) (framed-fire S n w sound port)
+      (framed-fold ws (fire B S (n, w)) (sound-fire S n w sound port) (ports-fire S n w ws sound ports))
+
+  signals-fold : (ws : List (ℕ × Wait)) (S : State) → IsSound S → ForPorts S ws → (x : ℕ) → signals_at (fold (fire B) S ws) x ≡ signals_at S x
+  signals-fold [] S sound ports x = refl
+  signals-fold ((n, w) ∷ ws) S sound ports x =
+      let port : kind_at S w.port ≡ Some kind.Port = ports n w (inl refl) in
+      signals-fold ws (fire B S (n, w)) (sound-fire S n w sound port) (ports-fire S n w ws sound ports) x ∙ signals-fire S n w port x
+
+  -- a wait that fires is gone
+  gone-fired : (S : State) (n : ℕ) (w : Wait) → kind_at S w.port ≡ Some kind.Port → is_met B S w ≡ true → wait (fire B S (n, w)) n ≡ None
+  gone-fired S n w port met =
+      let there = kind_at-some S w.port kind.Port port in
+      ap (λ T. wait T n) (met-fire S n w there.0 met there.1) ∙ wait-fired S n w there.0 n ∙ ap (λ b. cond b None (wait S n)) (eq-eqb n n refl)
+
+  -- no wait that was met is left
+  quiet : (ws : List (ℕ × Wait)) (S : State) → IsSound S → ForPorts S ws → (m : ℕ) (v : Wait) → wait (fold (fire B) S ws) m ≡ Some v → In (m, v) ws → is_met B S v ≡ true → ⊥
+  quiet [] S sound ports m v h l met = l
+  quiet ((n, w) ∷ ws) S sound ports m v h (inl e) met =
+      let port : kind_at S w.port ≡ Some kind.Port = ports n w (inl refl) in
+      let number : m ≡ n = ap (λ (z : ℕ × Wait). z.0) e in
+      let same : v ≡ w = ap (λ (z : ℕ × Wait). z.1) e in
+      let left : wait (fire B S (n, w)) m ≡ Some v = (framed-fold ws (fire B S (n, w)) (sound-fire S n w sound port) (ports-fire S n w ws sound ports)).of_waits m v h in
+      let none : wait (fire B S (n, w)) m ≡ None = ap (wait (fire B S (n, w))) number ∙ gone-fired S n w port (ap (is_met B S) (sym same) ∙ met) in
+      not_both _ none left
+    where
+      not_both : {v : Wait} (r : Option Wait) → r ≡ None → r ≡ Some v → ⊥
+      not_both r p q = cc
+  quiet ((n, w) ∷ ws) S sound ports m v h (inr l) met =
+      let port : kind_at S w.port ≡ Some kind.Port = ports n w (inl refl) in
+      let same : is_met B (fire B S (n, w)) v ≡ is_met B S v = met-same S (fire B S (n, w)) (framed-fire S n w sound port).of_entries (signals-fire S n w port) v in
+      quiet ws (fire B S (n, w)) (sound-fire S n w sound port) (ports-fire S n w ws sound ports) m v h l (same ∙ met)
 
 -- ---- the list of waits
 
@@ -373,60 +379,69 @@ waits-in S n w h = filter_map-in wait_at (n, w) (key.Wait n, rows.Wait w) S.rows
 pub ports-sound : (S : State) → IsSound S → ForPorts S (waits S)
 ports-sound S sound n w l = (sound.of_waits n w (in-waits S n w l)).port
 
-pub framed-settle : (S : State) → IsSound S → Framed S (settle S)
-unfolding settle
-framed-settle S sound =
-    let R : State = refresh S in
-    let f : Framed S R = framed-refresh S sound in
-    let s : IsSound R = sound-framed S R sound f in
-    framed-framed S R (fold fire R (waits R)) f (framed-fold (waits R) R s (ports-sound R s))
+module _ (B : State) where
+  pub framed-settle : (S : State) → IsSound S → Framed S (settle B S)
+  unfolding settle
+  framed-settle S sound =
+      let R : State = refresh S in
+      let f : Framed S R = framed-refresh S sound in
+      let s : IsSound R = sound-framed S R sound f in
+      framed-framed S R (fold (fire B) R (waits R)) f (framed-fold B (waits R) R s (ports-sound R s))
 
-pub sound-settle : (S : State) → IsSound S → IsSound (settle S)
-sound-settle S sound = sound-framed S (settle S) sound (framed-settle S sound)
+  pub sound-settle : (S : State) → IsSound S → IsSound (settle B S)
+  sound-settle S sound = sound-framed S (settle B S) sound (framed-settle S sound)
 
-pub signals-settle : (S : State) → IsSound S → (x : ℕ) → signals_at (settle S) x ≡ signals_at (refresh S) x
-unfolding settle
-signals-settle S sound x =
-    let R : State = refresh S in
-    let s : IsSound R = sound-framed S R sound (framed-refresh S sound) in
-    signals-fold (waits R) R s (ports-sound R s) x
+  pub signals-settle : (S : State) → IsSound S → (x : ℕ) → signals_at (settle B S) x ≡ signals_at (refresh S) x
+  unfolding settle
+  signals-settle S sound x =
+      let R : State = refresh S in
+      let s : IsSound R = sound-framed S R sound (framed-refresh S sound) in
+      signals-fold B (waits R) R s (ports-sound R s) x
 
--- no wait is met afterwards
-pub quiet-settle : (S : State) → IsSound S → (n : ℕ) (w : Wait) → wait (settle S) n ≡ Some w → is_met (settle S) w ≡ false
-unfolding settle
-quiet-settle S sound n w h =
-    let R : State = refresh S in
-    let U : State = fold fire R (waits R) in
-    let s : IsSound R = sound-framed S R sound (framed-refresh S sound) in
-    let f : Framed R U = framed-fold (waits R) R s (ports-sound R s) in
-    let same : is_met U w ≡ is_met R w = met-same R U f.of_entries (signals-fold (waits R) R s (ports-sound R s)) w in
-    not_true (is_met U w) (λ t. quiet (waits R) R s (ports-sound R s) n w h (waits-in R n w (f.of_waits n w h)) (sym same ∙ t))
+  -- no wait is met afterwards
+  pub quiet-settle : (S : State) → IsSound S → (n : ℕ) (w : Wait) → wait (settle B S) n ≡ Some w → is_met B (settle B S) w ≡ false
+  unfolding settle
+  quiet-settle S sound n w h =
+      let R : State = refresh S in
+      let U : State = fold (fire B) R (waits R) in
+      let s : IsSound R = sound-framed S R sound (framed-refresh S sound) in
+      let f : Framed R U = framed-fold B (waits R) R s (ports-sound R s) in
+      let same : is_met B U w ≡ is_met B R w = met-same B R U f.of_entries (signals-fold B (waits R) R s (ports-sound R s)) w in
+      not_true (is_met B U w) (λ t. quiet B (waits R) R s (ports-sound R s) n w h (waits-in R n w (f.of_waits n w h)) (sym same ∙ t))
 
--- derived signals agree afterwards
-pub agrees-settle : (S : State) → IsSound S → (x : ℕ) (o : ObjectRow) → object (settle S) x ≡ Some o → renewed (settle S) x o ≡ o.signals.0
-agrees-settle S sound x o h =
-    let U : State = settle S in
-    let f : Framed S U = framed-settle S sound in
-    let w = shaped-there U S (turned S U f.of_shapes) x o h in
-    let q : ObjectRow = w.0 in
-    let e : shaped o ≡ shaped q = sym w.2 in
-    let mask : ℕ = derived_mask q.kind in
-    let signals : o.signals.0 ≡ renewed S x q = ap object_signals (sym h) ∙ signals-settle S sound x ∙ ap object_signals (object-refresh S x ∙ ap (option_map (renew S x)) w.1) in
-    let kinds : derived_mask o.kind ≡ mask = ap (λ (z : ObjectRow). derived_mask z.kind) e in
-    let same : derived U x o ≡ derived S x q = derived-framed S U f x o q e in
-    (λ i. bit_or (without_bits (signals i) (kinds i)) (same i)) ∙ renew-twice q.signals.0 mask (derived S x q) (derived-out S x q) ∙ sym signals
+  -- derived signals agree afterwards
+  pub agrees-settle : (S : State) → IsSound S → (x : ℕ) (o : ObjectRow) → object (settle B S) x ≡ Some o → renewed (settle B S) x o ≡ o.signals.0
+  agrees-settle S sound x o h =
+      let U : State = settle B S in
+      let f : Framed S U = framed-settle S sound in
+      let w = shaped-there U S (turned S U f.of_shapes) x o h in
+      let q : ObjectRow = w.0 in
+      let e : shaped o ≡ shaped q = sym w.2 in
+      let mask : ℕ = derived_mask q.kind in
+      let signals : o.signals.0 ≡ renewed S x q = ap object_signals (sym h) ∙ signals-settle S sound x ∙ ap object_signals (object-refresh S x ∙ ap (option_map (renew S x)) w.1) in
+      let kinds : derived_mask o.kind ≡ mask = ap (λ (z : ObjectRow). derived_mask z.kind) e in
+      let same : derived U x o ≡ derived S x q = derived-framed S U f x o q e in
+      (λ i. bit_or (without_bits (signals i) (kinds i)) (same i)) ∙ renew-twice q.signals.0 mask (derived S x q) (derived-out S x q) ∙ sym signals
 
--- a sound state in which everything is supported is consistent once it is settled
-pub consistent_settled : (S : State) → IsSound S → ((x : ℕ) → exists S x ≡ true → is_supported S x ≡ true) → IsConsistent (settle S)
-consistent_settled S sound supported =
-    let U : State = settle S in
-    let f : Framed S U = framed-settle S sound in
-    record {
-      sound = sound-settle S sound;
-      supported = λ x e. supported-framed S U f x ∙ supported x (sym (exists-shaped S U f.of_shapes x) ∙ e);
-      agrees = agrees-settle S sound;
-      waiting = quiet-settle S sound;
-    }
+  -- a wait without edge is met where one of its signals stands
+  met-plain : (S : State) (w : Wait) → w.edge ≡ false → is_met B S w ≡ not (bit_and w.signals.0 (observed S w) == 0)
+  met-plain S w plain = ap (λ b. not (bit_and w.signals.0 (if b then risen B S w else observed S w) == 0)) plain
+
+  from_not : {b : Bool} → not b ≡ false → b ≡ true
+  from_not {b = true} e = refl
+  from_not {b = false} e = cc
+
+  -- a sound state in which everything is supported is consistent once it is settled
+  pub consistent_settled : (S : State) → IsSound S → ((x : ℕ) → exists S x ≡ true → is_supported S x ≡ true) → IsConsistent (settle B S)
+  consistent_settled S sound supported =
+      let U : State = settle B S in
+      let f : Framed S U = framed-settle S sound in
+      record {
+        sound = sound-settle S sound;
+        supported = λ x e. supported-framed S U f x ∙ supported x (sym (exists-shaped S U f.of_shapes x) ∙ e);
+        agrees = agrees-settle S sound;
+        waiting = λ n w there plain. eqb-true (bit_and w.signals.0 (observed U w)) 0 (from_not (sym (met-plain U w plain) ∙ quiet-settle S sound n w there));
+      }
 
 -- ---- where nothing is to be done
 
@@ -440,19 +455,36 @@ refreshed-same S agrees k r h = refl
 pub refresh-same : (S : State) → ((x : ℕ) (o : ObjectRow) → object S x ≡ Some o → renewed S x o ≡ o.signals.0) → refresh S ≡ S
 refresh-same S agrees = same_state (refresh S) S (λ k. row-refresh S k ∙ and_then_all (refreshed S k) (row S k) (λ r e. refreshed-same S agrees k r e))
 
-fold-same : (ws : List (ℕ × Wait)) (S : State) → ((n : ℕ) (w : Wait) → In (n, w) ws → is_met S w ≡ false) → fold fire S ws ≡ S
-fold-same [] S h = refl
-fold-same ((n, w) ∷ ws) S h = ap (λ T. fold fire T ws) (unmet-fire S n w (h n w (inl refl))) ∙ fold-same ws S (λ m v l. h m v (inr l))
+-- no signal has risen between a state and itself
+none-risen : (x : ℕ) → without_bits x x ≡ 0
+none-risen x = elim (cases_lt x (2 ^ 32)) [
+  | inl fits ↦ same_from_bits_below 32 (without_bits x x) 0 (omega (arith, and_le_l x (4294967295 - x))) (pow_pos 32) (λ i within. one (bit_at x i) (bit_at (4294967295 - x) i) (bit_at_and x (4294967295 - x) i) (bit_at_not w32 x i fits within) ∙ sym (bit_at-zero i))
+  | inr more ↦ ap (bit_and x) (spent x more) ∙ and_comm x 0 ∙ and_zero_l x
+]
+  where
+    spent : (x : ℕ) → 2 ^ 32 ≤ x → 4294967295 - x ≡ 0
+    spent x more = omega arith
 
--- settling changes nothing where derived signals agree and no wait is met
-pub settle-same : (S : State) → ((x : ℕ) (o : ObjectRow) → object S x ≡ Some o → renewed S x o ≡ o.signals.0) → ((n : ℕ) (w : Wait) → wait S n ≡ Some w → is_met S w ≡ false) → settle S ≡ S
-unfolding settle
-settle-same S agrees waiting =
-    ap (λ T. fold fire T (waits T)) (refresh-same S agrees) ∙ fold-same (waits S) S (λ n w l. waiting n w (in-waits S n w l))
+    one : {m : ℕ} (a b : ℕ) → m ≡ min a b → b ≡ 1 - a → m ≡ 0
+    one a b e f = omega (arith, e, f)
+
+-- a wait is not met where what it names has the signals that it had, and it is on an edge or none of its signals stands
+pub unmet-alike : (S T : State) (w : Wait) → signals_by S (entry T w.process w.handle) ≡ observed T w → (w.edge ≡ false → bit_and w.signals.0 (observed T w) ≡ 0) → is_met S T w ≡ false
+unmet-alike S T w same plain = ap (λ s. not (s == 0)) (by w.edge refl)
+  where
+    by : (b : Bool) → w.edge ≡ b → bit_and w.signals.0 (if b then risen S T w else observed T w) ≡ 0
+    by true e = ap (bit_and w.signals.0) (ap (without_bits (observed T w)) same ∙ none-risen (observed T w)) ∙ and_comm w.signals.0 0 ∙ and_zero_l w.signals.0
+    by false e = plain e
+
+fold-same : (B : State) (ws : List (ℕ × Wait)) (S : State) → ((n : ℕ) (w : Wait) → In (n, w) ws → is_met B S w ≡ false) → fold (fire B) S ws ≡ S
+fold-same B [] S h = refl
+fold-same B ((n, w) ∷ ws) S h = ap (λ T. fold (fire B) T ws) (unmet-fire B S n w (h n w (inl refl))) ∙ fold-same B ws S (λ m v l. h m v (inr l))
 
 -- a consistent state is at rest
-pub settle_at_rest : (S : State) → IsConsistent S → settle S ≡ S
-settle_at_rest S c = settle-same S c.agrees c.waiting
+pub settle_at_rest : (S : State) → IsConsistent S → settle S S ≡ S
+unfolding settle
+settle_at_rest S c =
+    ap (λ T. fold (fire S) T (waits T)) (refresh-same S c.agrees) ∙ fold-same S (waits S) S (λ n w l. unmet-alike S S w refl (c.waiting n w (in-waits S n w l)))
 
 pub collect_at_rest : (S : State) → IsConsistent S → collect S ≡ S
 collect_at_rest S c = collect-none S (λ x. supported-stays S x (c.supported x))

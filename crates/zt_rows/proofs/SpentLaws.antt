@@ -179,7 +179,7 @@ called-direct S p call.ChannelCreate sound live = called-create_pair S p kind.Ch
 called-direct S p (call.ChannelWrite h parcel) sound live = called-channel_write S p h parcel.bytes parcel.handles sound
 called-direct S p (call.ChannelRead h bytes handles discard) sound live = called-channel_read S p h bytes handles discard sound live
 called-direct S p call.PortCreate sound live = called-create S p kind.Port sound live
-called-direct S p (call.ObjectWaitAsync h port packet_key signals) sound live = called-object_wait_async S p h port packet_key signals.0
+called-direct S p (call.ObjectWaitAsync h port packet_key signals edge) sound live = called-object_wait_async S p h port packet_key signals.0 edge
 called-direct S p (call.PortQueue port packet_key bytes) sound live = called-port_queue S p port packet_key bytes
 called-direct S p (call.PortWait port) sound live = called-port_wait S p port
 called-direct S p (call.PortCancel port source packet_key) sound live = called-port_cancel S p port source packet_key
@@ -297,16 +297,16 @@ given-fired S n w calls packets port given o here =
       ] (sym (object-fired S n w o x) ∙ e);
     }
 
-given-fire : (S : State) (n : ℕ) (w : Wait) (calls packets : ℕ) → kind_at S w.port ≡ Some kind.Port → HasGiven calls packets S → HasGiven calls (packets + 1) (fire S (n, w))
-given-fire S n w calls packets port given =
-    fire-cases (λ T. HasGiven calls (packets + 1) T) S n w port (given-more S calls packets (packets + 1) (omega arith) given) (given-fired S n w calls packets port given)
+given-fire : (B S : State) (n : ℕ) (w : Wait) (calls packets : ℕ) → kind_at S w.port ≡ Some kind.Port → HasGiven calls packets S → HasGiven calls (packets + 1) (fire B S (n, w))
+given-fire B S n w calls packets port given =
+    fire-cases B (λ T. HasGiven calls (packets + 1) T) S n w port (given-more S calls packets (packets + 1) (omega arith) given) (given-fired S n w calls packets port given)
 
-given-fold : (ws : List (ℕ × Wait)) (S : State) (calls packets : ℕ) → IsSound S → ForPorts S ws → HasGiven calls packets S → HasGiven calls (packets + length ws) (fold fire S ws)
-given-fold [] S calls packets sound ports given = given-more S calls packets (packets + 0) (omega arith) given
-given-fold ((n, w) ∷ ws) S calls packets sound ports given =
+given-fold : (B : State) (ws : List (ℕ × Wait)) (S : State) (calls packets : ℕ) → IsSound S → ForPorts S ws → HasGiven calls packets S → HasGiven calls (packets + length ws) (fold (fire B) S ws)
+given-fold B [] S calls packets sound ports given = given-more S calls packets (packets + 0) (omega arith) given
+given-fold B ((n, w) ∷ ws) S calls packets sound ports given =
     let port : kind_at S w.port ≡ Some kind.Port = ports n w (inl refl) in
-    given-more (fold fire (fire S (n, w)) ws) calls (packets + 1 + length ws) (packets + suc (length ws)) (omega arith)
-    (given-fold ws (fire S (n, w)) calls (packets + 1) (sound-fire S n w sound port) (ports-fire S n w ws sound ports) (given-fire S n w calls packets port given))
+    given-more (fold (fire B) (fire B S (n, w)) ws) calls (packets + 1 + length ws) (packets + suc (length ws)) (omega arith)
+    (given-fold B ws (fire B S (n, w)) calls (packets + 1) (sound-fire B S n w sound port) (ports-fire B S n w ws sound ports) (given-fire B S n w calls packets port given))
 
 -- as many waits as rows of waits
 counted-wait : (e : RowKey × Row) (es : List (RowKey × Row)) → length (cons_option (wait_at e) (filter_map wait_at es)) ≡ cond (is_wait e.0 e.1) 1 0 + length (filter_map wait_at es)
@@ -321,15 +321,15 @@ waits-counted : (S : State) → length (waits S) ≡ count_row is_wait S
 unfolding waits count_row
 waits-counted S = counted-waits S.rows
 
-given-settle : (S : State) (calls packets : ℕ) → IsSound S → HasGiven calls packets S → HasGiven calls (packets + calls) (settle S)
+given-settle : (B S : State) (calls packets : ℕ) → IsSound S → HasGiven calls packets S → HasGiven calls (packets + calls) (settle B S)
 unfolding settle
-given-settle S calls packets sound given =
+given-settle B S calls packets sound given =
     let R : State = refresh S in
     let s : IsSound R = sound-framed S R sound (framed-refresh S sound) in
     let g : HasGiven calls packets R = given-refresh S calls packets given in
     let n : length (waits R) ≡ count_row is_wait R = waits-counted R in
     let few : count_row is_wait R ≤ calls = g.waiting in
-    given-more (fold fire R (waits R)) calls (packets + length (waits R)) (packets + calls) (omega arith) (given-fold (waits R) R calls packets s (ports-sound R s) g)
+    given-more (fold (fire B) R (waits R)) calls (packets + length (waits R)) (packets + calls) (omega arith) (given-fold B (waits R) R calls packets s (ports-sound R s) g)
 
 -- one call more gives out no more than a call gives
 pub spent-step : (S : State) (p : ℕ) (c : Call) (calls : ℕ) → calls < 1048576 → IsSound S → runs S p ≡ true → IsCall c → HasSpent calls S → HasSpent (calls + 1) (step S p c).0
@@ -338,4 +338,4 @@ spent-step S p c calls few sound live is given =
     let T : State = (direct S p c).0 in
     let s : IsSound (collect T) = sound-collect T (sound-direct S p c sound live is) in
     let g : HasGiven (calls + 1) (2097152 * calls + 1) (collect T) = given-collect T (calls + 1) (2097152 * calls + 1) (given-called S T calls (2097152 * calls) given (called-direct S p c sound live)) in
-    given-more (settle (collect T)) (calls + 1) (2097152 * calls + 1 + (calls + 1)) (2097152 * (calls + 1)) (omega arith) (given-settle (collect T) (calls + 1) (2097152 * calls + 1) s g)
+    given-more (settle S (collect T)) (calls + 1) (2097152 * calls + 1 + (calls + 1)) (2097152 * (calls + 1)) (omega arith) (given-settle S (collect T) (calls + 1) (2097152 * calls + 1) s g)

@@ -31,8 +31,8 @@ use Rattle.zt_rows.proofs.PairLaws.{near-there, far-there, others-paired, sound-
 -- ---- the end of a call
 
 -- what is sound is consistent once it is collected and settled
-pub consistent-completed : (T : State) → IsSound T → IsConsistent (settle (collect T))
-consistent-completed T sound = consistent_settled (collect T) (sound-collect T sound) (λ x e. stays-supported (collect T) x (collect-supported T x) e)
+pub consistent-completed : (S T : State) → IsSound T → IsConsistent (settle S (collect T))
+consistent-completed S T sound = consistent_settled S (collect T) (sound-collect T sound) (λ x e. stays-supported (collect T) x (collect-supported T x) e)
 
 -- ---- checks: a fact of the state that a call leaves, from each way through its checks
 

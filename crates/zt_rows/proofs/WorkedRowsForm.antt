@@ -1,6 +1,6 @@
 -- How worked rows are written: the calls with their arguments, as a list from the opening, and what is read of
 -- the state that they lead to. The rows themselves are theorems that hold by computation alone.
-use Rattle.std.specs.Prelude.{ℕ, Bool, ℤ, List, [], ◌∷◌, Option}
+use Rattle.std.specs.Prelude.{ℕ, Bool, true, false, ℤ, List, [], ◌∷◌, Option}
 use Rattle.zt_bits.specs.declared.kinds.Kind.{Kind}
 use Rattle.zt_bits.specs.declared.kinds.Kind.TheVariants as kind
 use Rattle.zt_bits.specs.declared.statuses.Status.{Status}
@@ -35,7 +35,7 @@ pub data Asked : Type 0 where
   ChannelWrite : (handle : ℕ) (bytes handles : List ℕ) → Asked
   ChannelRead : (handle bytes handles : ℕ) (discard : Bool) → Asked
   ObjectSignal ObjectSignalPeer : (handle clear set : ℕ) → Asked
-  ObjectWaitAsync : (handle port packet_key signals : ℕ) → Asked
+  ObjectWaitAsync ObjectWaitEdge : (handle port packet_key signals : ℕ) → Asked
   PortQueue : (port packet_key : ℕ) (bytes : List ℕ) → Asked
   PortWait : (port : ℕ) → Asked
   PortCancel : (port source packet_key : ℕ) → Asked
@@ -58,7 +58,8 @@ performed S p (ChannelWrite h bytes hs) = channel_write S p h bytes hs
 performed S p (ChannelRead h nb nh discard) = channel_read S p h nb nh discard
 performed S p (ObjectSignal h c s) = object_signal S p h c s
 performed S p (ObjectSignalPeer h c s) = object_signal_peer S p h c s
-performed S p (ObjectWaitAsync h port k s) = object_wait_async S p h port k s
+performed S p (ObjectWaitAsync h port k s) = object_wait_async S p h port k s false
+performed S p (ObjectWaitEdge h port k s) = object_wait_async S p h port k s true
 performed S p (PortQueue port k bytes) = port_queue S p port k bytes
 performed S p (PortWait port) = port_wait S p port
 performed S p (PortCancel port h k) = port_cancel S p port h k
@@ -74,7 +75,7 @@ followed one rest = (rest.0, one.1 ∷ rest.1)
 -- the last state and all replies of the calls, each carried through
 abbrev pub all_of : State → List (ℕ × Asked) → State × List Reply
 all_of S [] = (S, [])
-all_of S (c ∷ cs) = let one = completed (performed S c.0 c.1) in followed one (all_of one.0 cs)
+all_of S (c ∷ cs) = let one = completed S (performed S c.0 c.1) in followed one (all_of one.0 cs)
 
 -- the same from the opening
 unfoldable pub ran : List (ℕ × Asked) → State × List Reply
@@ -109,7 +110,7 @@ unfoldable pub then_one : List (ℕ × Asked) → ℕ × Asked → Reply × List
 unfolding ran keys_of_both changed
 then_one cs c =
     let S = (ran cs).0 in
-    let T = completed (performed S c.0 c.1) in
+    let T = completed S (performed S c.0 c.1) in
     (T.1, changed S T.0)
 
 -- ---- replies and rows in short

@@ -1,5 +1,5 @@
 -- Worked rows on ports, packets and waits: each holds by computation.
-use Rattle.std.proofs.Common.{refl}
+use Rattle.std.proofs.Common.{true, refl}
 use Rattle.std.specs.Prelude.{◌≡◌, ℕ, false, pos, List, [], ◌∷◌, Some}
 use Rattle.zt_bits.specs.declared.statuses.Status.TheVariants.{BadHandle, WrongType, AccessDenied, TimedOut, NotFound}
 use Rattle.zt_rows.specs.declared.calls.Reply.TheVariants.{Handle, Handles, Spawned, Message, Packet}
@@ -7,7 +7,7 @@ use Rattle.zt_rows.specs.declared.keys.RowKey.TheVariants as key
 use Rattle.zt_rows.specs.declared.rows.Packet.TheVariants as packet
 use Rattle.zt_rows.specs.declared.rows.Row.TheVariants as rows
 use Rattle.zt_rows.specs.Handles.{done}
-use Rattle.zt_rows.proofs.WorkedRowsForm.{Asked, EventCreate, PortCreate, ChannelCreate, HandleClose, HandleDuplicate, ChannelWrite, ChannelRead, ObjectSignal, ObjectWaitAsync, PortQueue, PortWait, PortCancel, Spawn, ProcessExit, ran, root, by_root, replies, row_after, then_one, failed}
+use Rattle.zt_rows.proofs.WorkedRowsForm.{Asked, EventCreate, PortCreate, ChannelCreate, HandleClose, HandleDuplicate, ChannelWrite, ChannelRead, ObjectSignal, ObjectWaitAsync, ObjectWaitEdge, PortQueue, PortWait, PortCancel, Spawn, ProcessExit, ran, root, by_root, replies, row_after, then_one, failed}
 
 -- ---- waits
 
@@ -44,7 +44,7 @@ unfolding ran
 fires_once = refl
 
 -- a wait for no signal never fires
-pub waits_for_nothing : row_after (by_root (EventCreate ∷ PortCreate ∷ ObjectWaitAsync 7 11 1 0 ∷ ObjectSignal 7 0 0x8 ∷ [])) (key.Wait 0) ≡ Some (rows.Wait (record { process = 1025; handle = 7; port = 1027; key = 1; signals = record { 0 = 0 } }))
+pub waits_for_nothing : row_after (by_root (EventCreate ∷ PortCreate ∷ ObjectWaitAsync 7 11 1 0 ∷ ObjectSignal 7 0 0x8 ∷ [])) (key.Wait 0) ≡ Some (rows.Wait (record { process = 1025; handle = 7; port = 1027; key = 1; signals = record { 0 = 0 }; edge = false }))
 unfolding row_after
 waits_for_nothing = refl
 
@@ -53,6 +53,22 @@ pub not_seen : then_one (by_root (EventCreate ∷ PortCreate ∷ ObjectWaitAsync
     ≡ (done, key.Object 1026 ∷ [])
 unfolding then_one
 not_seen = refl
+
+-- a wait on an edge passes by what stands when it is made, and what is cleared and set in one call; it fires once
+pub wait_on_an_edge : replies (by_root (EventCreate ∷ PortCreate ∷ ObjectSignal 7 0 0x8 ∷ ObjectWaitEdge 7 11 4 0x8 ∷ PortWait 11 ∷ ObjectSignal 7 0x8 0x8 ∷ ObjectSignal 7 0x8 0 ∷ ObjectSignal 7 0 0x8 ∷ PortWait 11 ∷ PortWait 11 ∷ []))
+    ≡ Handle 7 ∷ Handle 11 ∷ done ∷ done ∷ failed TimedOut ∷ done ∷ done ∷ done ∷ Packet (packet.Signal 4 (record { 0 = 0x8 }) (record { 0 = 0x8 }) 1025 7) ∷ failed TimedOut ∷ []
+unfolding ran
+wait_on_an_edge = refl
+
+pub edge_not_met : row_after (by_root (EventCreate ∷ PortCreate ∷ ObjectSignal 7 0 0x8 ∷ ObjectWaitEdge 7 11 4 0x8 ∷ [])) (key.Wait 0) ≡ Some (rows.Wait (record { process = 1025; handle = 7; port = 1027; key = 4; signals = record { 0 = 0x8 }; edge = true }))
+unfolding row_after
+edge_not_met = refl
+
+-- with a signal that stands and another that rises, it fires and tells of both
+pub edge_beside_what_stands : replies (by_root (EventCreate ∷ PortCreate ∷ ObjectSignal 7 0 0x8 ∷ ObjectWaitEdge 7 11 4 0x01000008 ∷ ObjectSignal 7 0 0x01000000 ∷ PortWait 11 ∷ []))
+    ≡ Handle 7 ∷ Handle 11 ∷ done ∷ done ∷ done ∷ Packet (packet.Signal 4 (record { 0 = 0x01000008 }) (record { 0 = 0x01000008 }) 1025 7) ∷ []
+unfolding ran
+edge_beside_what_stands = refl
 
 -- waits go with the handle, when it is sent on, and with the port; packets stay
 pub closed_with_its_wait : then_one (by_root (EventCreate ∷ PortCreate ∷ ObjectWaitAsync 7 11 1 0x8 ∷ [])) (root (HandleClose 7))

@@ -1,7 +1,7 @@
 -- The states that a history can reach, as one fact with named parts: what the rows of objects, entries,
 -- messages, packets and waits owe each other. Object lifetimes and peers as in Fuchsia's reference of kernel
 -- objects; numbers and limits are this project's own profile.
-use Rattle.std.specs.Prelude.{◌≡◌, ◌≢◌, ◌⊎◌, ℕ, ◌+◌, ◌*◌, ◌<◌, ◌≤◌, Bool, true, false, not, ◌==◌, ◌&&◌, ◌||◌, Some, bit_or}
+use Rattle.std.specs.Prelude.{◌≡◌, ◌≢◌, ◌⊎◌, ℕ, ◌+◌, ◌*◌, ◌<◌, ◌≤◌, Bool, true, false, not, ◌==◌, ◌&&◌, ◌||◌, Some, bit_and, bit_or}
 use Rattle.std.specs.List.{AllByRecursion}
 use Rattle.zt_bits.specs.declared.kinds.Kind.{Kind}
 use Rattle.zt_bits.specs.declared.kinds.Kind.TheVariants as kind
@@ -20,7 +20,7 @@ use Rattle.zt_rows.specs.Reads.{counters, object, entry, message, packet as pack
 use Rattle.zt_rows.specs.Tests.{is_endpoint, exists, kind_at, next_at, without_bits, among}
 use Rattle.zt_rows.specs.Room.{suits}
 use Rattle.zt_rows.specs.Support.{root_job, is_supported}
-use Rattle.zt_rows.specs.Settle.{derived_mask, renewed, is_met}
+use Rattle.zt_rows.specs.Settle.{derived_mask, renewed, observed}
 use Rattle.zt_rows.specs.End.{chain, depth}
 use Rattle.zt_rows.specs.PortCalls.{pending, most_pending}
 use Rattle.zt_rows.specs.JobCalls.{most_depth}
@@ -118,4 +118,4 @@ pub record IsConsistent (S : State) : Type 0 where
   pub sound : IsSound S
   pub supported : (x : ℕ) → exists S x ≡ true → is_supported S x ≡ true
   pub agrees : (x : ℕ) (o : ObjectRow) → object S x ≡ Some o → renewed S x o ≡ o.signals.0
-  pub waiting : (n : ℕ) (w : Wait) → wait S n ≡ Some w → is_met S w ≡ false
+  pub waiting : (n : ℕ) (w : Wait) → wait S n ≡ Some w → w.edge ≡ false → bit_and w.signals.0 (observed S w) ≡ 0

@@ -31,12 +31,13 @@ port_create S p = create kind.Port S p
 abbrev pub add_wait : Counters → Wait → State → State
 add_wait c w S = put (put S (key.Wait c.next_wait) (Some (rows.Wait w))) key.Counters (Some (rows.Counters (record c { next_wait = c.next_wait + 1 })))
 
--- a wait for any of the signals on what the handle names; its packet will come to the port under this key
-abbrev pub object_wait_async : State → ℕ → ℕ → ℕ → ℕ → ℕ → State × Reply
-object_wait_async S p h port packet_key signals = answered S (do
+-- a wait for any of the signals on what the handle names, or for its edge; its packet will come to the port under
+-- this key
+abbrev pub object_wait_async : State → ℕ → ℕ → ℕ → ℕ → ℕ → Bool → State × Reply
+object_wait_async S p h port packet_key signals edge = answered S (do
   _ ← handle S p h any_kind 0x4000
   (held, _) ← handle S p port is_port 0x8
-  Ok (add_wait (counters S) (record { process = p; handle = h; port = held.koid; key = packet_key; signals = record { 0 = signals } }) S, done))
+  Ok (add_wait (counters S) (record { process = p; handle = h; port = held.koid; key = packet_key; signals = record { 0 = signals }; edge = edge }) S, done))
 
 -- ---- packets of users
 

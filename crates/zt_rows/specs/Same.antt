@@ -1,6 +1,7 @@
 -- When two rows are one, as a test that computes: every field of the one is that of the other. A test by
 -- the tests of the fields is what the code's own `==` answers.
 use Rattle.std.specs.Prelude.{ℕ, Bool, true, false, ◌==◌, ◌&&◌}
+use Rattle.std.specs.Bool.{beq}
 use Rattle.std.specs.Ordering.{int_eq}
 use Rattle.std.specs.Cmp.Lexicographic.{pointwise}
 use Rattle.zt_bits.specs.declared.kinds.Kind.{Kind}
@@ -55,7 +56,7 @@ packet_eq _ _ = false
 
 abbrev pub wait_eq : Wait → Wait → Bool
 wait_eq a b =
-    (a.process == b.process) && (a.handle == b.handle) && (a.port == b.port) && (a.key == b.key) && (a.signals.0 == b.signals.0)
+    (a.process == b.process) && (a.handle == b.handle) && (a.port == b.port) && (a.key == b.key) && (a.signals.0 == b.signals.0) && beq a.edge b.edge
 
 abbrev pub row_eq : Row → Row → Bool
 row_eq (rows.Counters a) (rows.Counters b) = counters_eq a b

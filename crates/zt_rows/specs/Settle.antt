@@ -1,7 +1,8 @@
 -- The end of every call: the signals that follow from the rows are written anew, then the waits whose signals
--- stand become packets of their ports. Signals and one-shot waits as in Fuchsia's reference of signals and of
--- `zx_object_wait_async`; the order of packets within a call, and the signals of jobs without children, are
--- this project's own profile.
+-- stand, or came to stand in this call, become packets of their ports. Signals, one-shot waits and waits on edges as
+-- in Fuchsia's reference of signals and of `zx_object_wait_async`; the order of packets within a call, the signals of
+-- jobs without children, and that a call's start and end are what an edge lies between, are this project's own
+-- profile.
 use Rattle.std.specs.Prelude.{ℕ, Bool, false, not, ◌==◌, ◌&&◌, if◌then◌else◌, fold, Option, None, Some, bit_and, bit_or}
 use Rattle.zt_bits.specs.declared.kinds.Kind.{Kind}
 use Rattle.zt_bits.specs.declared.kinds.Kind.TheVariants as kind
@@ -108,9 +109,13 @@ signals_by S None = 0
 abbrev pub observed : State → Wait → ℕ
 observed S w = signals_by S (entry S w.process w.handle)
 
--- one of the signals waited for stands
-abbrev pub is_met : State → Wait → Bool
-is_met S w = not (bit_and w.signals.0 (observed S w) == 0)
+-- those of them in T that did not stand on it in S
+abbrev pub risen : State → State → Wait → ℕ
+risen S T w = without_bits (observed T w) (signals_by S (entry T w.process w.handle))
+
+-- one of the signals waited for stands in T; for a wait on an edge, one that did not stand in S
+abbrev pub is_met : State → State → Wait → Bool
+is_met S T w = not (bit_and w.signals.0 (if w.edge then risen S T w else observed T w) == 0)
 
 -- the news that the wait fired
 abbrev pub news : State → Wait → Packet
@@ -120,10 +125,10 @@ abbrev pub fire_into : Option ObjectRow → State → ℕ × Wait → State
 fire_into (Some port) S (n, w) = push_packet w.port port (news S w) (put S (key.Wait n) None)
 fire_into None S (n, w) = S
 
--- a wait that is met goes, and its packet comes to the end of its port
-abbrev pub fire : State → ℕ × Wait → State
-fire S (n, w) = if is_met S w then fire_into (object S w.port) S (n, w) else S
+-- a wait that is met in T, after S, goes, and its packet comes to the end of its port
+abbrev pub fire : State → State → ℕ × Wait → State
+fire S T (n, w) = if is_met S T w then fire_into (object T w.port) T (n, w) else T
 
--- derived signals anew, then each wait in rising number
-unfoldable pub settle : State → State
-settle S = let T = refresh S in fold fire T (waits T)
+-- the end of a call that began in S and has come to T: derived signals anew, then each wait in rising number
+unfoldable pub settle : State → State → State
+settle S T = let U = refresh T in fold (fire S) U (waits U)

@@ -32,7 +32,7 @@ direct S p call.ChannelCreate = channel_create S p
 direct S p (call.ChannelWrite h parcel) = channel_write S p h parcel.bytes parcel.handles
 direct S p (call.ChannelRead h bytes handles discard) = channel_read S p h bytes handles discard
 direct S p call.PortCreate = port_create S p
-direct S p (call.ObjectWaitAsync h port packet_key signals) = object_wait_async S p h port packet_key signals.0
+direct S p (call.ObjectWaitAsync h port packet_key signals edge) = object_wait_async S p h port packet_key signals.0 edge
 direct S p (call.PortQueue port packet_key bytes) = port_queue S p port packet_key bytes
 direct S p (call.PortWait port) = port_wait S p port
 direct S p (call.PortCancel port source packet_key) = port_cancel S p port source packet_key
@@ -42,13 +42,13 @@ direct S p (call.JobSetCritical job process) = job_set_critical S p job process
 direct S p (call.TaskKill h) = task_kill S p h
 direct S p (call.ProcessExit code) = process_exit S p code
 
--- the state after a call's direct change has been carried through, with its reply
-abbrev pub completed : State × Reply → State × Reply
-completed d = (settle (collect d.0), d.1)
+-- the state after the direct change of a call that began in S has been carried through, with its reply
+abbrev pub completed : State → State × Reply → State × Reply
+completed S d = (settle S (collect d.0), d.1)
 
 -- one call of a process; `runs S p`, that p is a live process of S, is the premise under which it is a call
 unfoldable pub step : State → ℕ → Call → State × Reply
-step S p c = completed (direct S p c)
+step S p c = completed S (direct S p c)
 
 abbrev pub followed : Reply → State × List Reply → State × List Reply
 followed first rest = (rest.0, first ∷ rest.1)

@@ -119,12 +119,14 @@ pub enum Call {
         discard: bool,
     },
     PortCreate,
-    /// When one of the signals stands on what the handle names, a packet under this key comes to the port.
+    /// When one of the signals stands on what the handle names, a packet under this key comes to the port. With `edge`
+    /// that is a signal that did not stand before the call at whose end it does.
     ObjectWaitAsync {
         handle: HandleValue,
         port: HandleValue,
         key: u64,
         signals: Signals,
+        edge: bool,
     },
     PortQueue {
         port: HandleValue,
@@ -212,11 +214,13 @@ impl Call {
                 port,
                 key,
                 signals,
+                edge,
             } => Call::ObjectWaitAsync {
                 handle,
                 port,
                 key,
                 signals,
+                edge,
             },
             Call::PortQueue { port, key, bytes } => Call::PortQueue { port, key, bytes },
             Call::PortWait { port } => Call::PortWait { port },

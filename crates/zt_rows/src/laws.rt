@@ -83,7 +83,7 @@ pub fn a_path_is_made_again()
 #[tactic(auto, using(crate::proofs::SettleLaws::rest_laws))]
 pub fn consistent_is_at_rest()
     ensures collected { (S : State) → IsConsistent S → collect S ≡ S }
-    ensures settled { (S : State) → IsConsistent S → settle S ≡ S }
+    ensures settled { (S : State) → IsConsistent S → settle S S ≡ S }
 {}
 
 /// Nothing goes after collecting: every object that is left has a support.
@@ -92,9 +92,10 @@ pub fn collected_is_supported()
     ensures { (S : State) (x : ℕ) → goes (collect S) x ≡ false }
 {}
 
-/// What is sound is consistent once it is collected and settled, so a call owes no more than a sound state.
+/// What is sound is consistent once it is collected and settled, whatever it came from, so a call owes no more than a
+/// sound state.
 pub fn sound_becomes_consistent()
-    ensures { (S : State) → IsSound S → IsConsistent (settle (collect S)) }
+    ensures { (S T : State) → IsSound T → IsConsistent (settle S (collect T)) }
 {}
 
 /// A call of a live process leaves a consistent state consistent.

@@ -10,6 +10,7 @@ mod limits;
 mod numbers;
 mod refusals;
 mod rows;
+mod saved;
 mod supports;
 
 pub use calls::{Answer, Call, Command, Event, Happening, Parcel, Reply};
@@ -19,4 +20,5 @@ pub use limits::{CLIENT_ROWS, CLIENTS, LAST_MOMENT, MESSAGE_BYTES, MESSAGE_HANDL
 pub use numbers::{HandleValue, Koid, Moment};
 pub use refusals::Refusal;
 pub use rows::{Counters, Held, Life, Message, ObjectRow, Packet, Row, Wait};
+pub use saved::{Cursor, Saved, SavedBranch, SavedCall};
 pub use supports::Support;

@@ -157,7 +157,8 @@ pub enum Packet {
     },
 }
 
-/// A wait: when one of the signals stands on what the handle names, a packet goes to the port.
+/// A wait: when one of the signals stands on what the handle names, a packet goes to the port. With `edge` it is not
+/// enough that one stands: it must have come to stand in a call.
 #[derive(Clone, Copy, Debug, PartialEq, Eq)]
 pub struct Wait {
     pub process: Koid,
@@ -165,6 +166,7 @@ pub struct Wait {
     pub port: Koid,
     pub key: u64,
     pub signals: Signals,
+    pub edge: bool,
 }
 
 /// What stands under a key: one variant for each variant of the key.

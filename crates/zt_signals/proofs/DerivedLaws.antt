@@ -8,10 +8,17 @@ use Rattle.zt_rows.specs.declared.keys.RowKey.{RowKey}
 use Rattle.zt_rows.specs.declared.keys.RowKey.TheVariants as key
 use Rattle.zt_rows.specs.declared.rows.Row.{Row}
 use Rattle.zt_rows.specs.declared.rows.Row.TheVariants as rows
-use Rattle.zt_rows.specs.State.{State, row}
+use Rattle.zt_rows.specs.declared.rows.ObjectRow.{ObjectRow}
+use Rattle.zt_rows.specs.Keys.{rowkey_eq}
+use Rattle.zt_rows.specs.ProofsOnly.KeyOrder.{rowkey_eq-equal}
+use Rattle.zt_rows.specs.State.{State, row, put}
+use Rattle.zt_rows.specs.Reads.{object}
 use Rattle.zt_rows.specs.Room.{SuitsKey}
-use Rattle.zt_rows.specs.Settle.{is_message_of}
+use Rattle.zt_rows.specs.Settle.{is_message_of, renewed, refreshed}
 use Rattle.zt_rows.specs.Tests.{any_row, count_row}
+use Rattle.zt_rows.proofs.ReadLaws.{object-row}
+use Rattle.zt_rows.proofs.StateLaws.{row-put, same_state}
+use Rattle.zt_signals.specs.ObjectSignals.{refreshed_object, refreshed_object_of}
 use Rattle.zt_rows.proofs.RowLaws.{any_row-at, at-any_row, not_true, count-cons}
 use Rattle.zt_cells.specs.FirstNumber.{IsFirst}
 
@@ -52,3 +59,16 @@ counted p (e ∷ es) = ap (λ n. n == 0) (count-cons p e es) ∙ none_more (p e)
 pub count-none : (test : RowKey → Row → Bool) (S : State) → (count_row test S == 0) ≡ not (any_row test S)
 unfolding count_row any_row
 count-none test S = counted (λ e. test e.0 e.1) S.rows
+
+-- ---- signals anew
+
+-- an object whose signals are those that the rows give it stays as it is
+pub refreshed_stays : (S : State) (x : ℕ) (o : ObjectRow) → object S x ≡ Some o → renewed S x o ≡ o.signals.0 → S ≡ refreshed_object S x
+refreshed_stays S x o there same = same_state S (refreshed_object S x) (λ q. sym (ap (λ z. row (refreshed_object_of z S x) q) there ∙ row-put S (key.Object x) (refreshed S (key.Object x) (rows.Object o)) q ∙ by q (rowkey_eq q (key.Object x)) refl))
+  where
+    was : refreshed S (key.Object x) (rows.Object o) ≡ row S (key.Object x)
+    was = (λ i. Some (rows.Object (record o { signals = record { 0 = same i } }))) ∙ sym (object-row S x o there)
+
+    by : (q : RowKey) (b : Bool) → rowkey_eq q (key.Object x) ≡ b → cond b (refreshed S (key.Object x) (rows.Object o)) (row S q) ≡ row S q
+    by q true e = was ∙ ap (row S) (sym (rowkey_eq-equal q (key.Object x) e))
+    by q false e = refl

@@ -1,4 +1,3 @@
 -- Used by proofs only: no public clause depends on them.
-pub mod ObjectSignals
 pub mod KeyWalk
 pub mod WaitGroups

@@ -1,9 +1,7 @@
 ghost use Rattle.std.specs.Prelude.{◌≡◌, OnOk, OnErr};
-ghost use Rattle.zt_rows.specs.Reads.{object};
 ghost use Rattle.zt_store.specs.Places.{Keeps};
 ghost use Rattle.zt_store.specs.StepView.{Advanced, AsBegun};
 ghost use Rattle.zt_signals.specs.ObjectSignals.{refreshed_object, signals_set};
-ghost use Rattle.zt_signals.specs.ProofsOnly.ObjectSignals.{anew};
 
 use crate::derived_signals::renewed_signals;
 use bitflags::Flags;
@@ -26,23 +24,20 @@ pub fn set_bits(step: &mut Step, koid: Koid, clear: Signals, set: Signals) -> Re
     step.put(RowKey::Object(koid), Some(Row::Object(object)))
 }
 
-/// Writes the derived signals of the object anew. Where there is no such object, nothing changes.
+/// Writes the derived signals of the object anew. Where there is no such object, or they are as they were, nothing is put.
+#[tactic(auto, using(crate::proofs::DerivedLaws::refreshed_stays))]
 pub fn refresh(step: &mut Step, koid: Koid) -> Result<(), AllocError>
     ensures ok { OnOk result (Advanced step.old step.new (refreshed_object step.old.current koid)) }
     ensures err { OnErr result (AsBegun step.old step.new) }
     ensures kept { Keeps step.old.places step.new.places }
 {
-    match anew(step, koid) {
-        Some(object) => step.put(RowKey::Object(koid), Some(Row::Object(object))),
-        None => Ok(()),
-    }
-}
-
-/// The object with its derived signals anew.
-fn anew(step: &Step, koid: Koid) -> Option<ObjectRow>
-    ensures { result ≡ anew step.now.current koid }
-{
-    let object = step.object(koid)?;
+    let Some(object) = step.object(koid) else {
+        return Ok(());
+    };
     let signals = renewed_signals(step, koid, &object);
-    Some(ObjectRow { signals, ..object })
+    if signals == object.signals {
+        return Ok(());
+    }
+    let object = ObjectRow { signals, ..object };
+    step.put(RowKey::Object(koid), Some(Row::Object(object)))
 }

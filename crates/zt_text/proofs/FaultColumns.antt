@@ -236,53 +236,53 @@ makes_reader reader make k = record {
 
 -- ---- a word that may stand at the end
 
-flag_none : (c b : ℕ) → flag (codes "discard") (from c b []) ≡ Ok false
+flag_none : (word : List ℕ) (c b : ℕ) → flag word (from c b []) ≡ Ok false
 unfolding placed flag
-flag_none c b = refl
+flag_none word c b = refl
 
-flag_other : (w : List ℕ) (ws : List (List ℕ)) (c b : ℕ) → bytes_eq w (codes "discard") ≡ false → flag (codes "discard") (from c b (w ∷ ws)) ≡ Err (BadLine c)
+flag_other : (word w : List ℕ) (ws : List (List ℕ)) (c b : ℕ) → bytes_eq w word ≡ false → flag word (from c b (w ∷ ws)) ≡ Err (BadLine c)
 unfolding placed flag
-flag_other w ws c b is = rw is refl
+flag_other word w ws c b is = rw is refl
 
-flag_alone : (w : List ℕ) (c b : ℕ) → bytes_eq w (codes "discard") ≡ true → flag (codes "discard") (from c b (w ∷ [])) ≡ Ok true
+flag_alone : (word w : List ℕ) (c b : ℕ) → bytes_eq w word ≡ true → flag word (from c b (w ∷ [])) ≡ Ok true
 unfolding placed flag
-flag_alone w c b is = rw is refl
+flag_alone word w c b is = rw is refl
 
-flag_surplus : (w x : List ℕ) (ws : List (List ℕ)) (c b : ℕ) → bytes_eq w (codes "discard") ≡ true
-    → flag (codes "discard") (from c b (w ∷ x ∷ ws)) ≡ Err (BadLine (c + length w + 1))
+flag_surplus : (word w x : List ℕ) (ws : List (List ℕ)) (c b : ℕ) → bytes_eq w word ≡ true
+    → flag word (from c b (w ∷ x ∷ ws)) ≡ Err (BadLine (c + length w + 1))
 unfolding placed flag
-flag_surplus w x ws c b is = rw is refl
+flag_surplus word w x ws c b is = rw is refl
 
-flag_at_fault : (w : List ℕ) (ws : List (List ℕ)) (is_word : Bool) → bytes_eq w (codes "discard") ≡ is_word → (c b : ℕ) (fault : Refusal)
-    → flag (codes "discard") (from c b (w ∷ ws)) ≡ Err fault → IsFault Bool (flag (codes "discard")) (w ∷ ws) c b fault
-flag_at_fault w ws false is c b fault h = record {
+flag_at_fault : (word w : List ℕ) (ws : List (List ℕ)) (is_word : Bool) → bytes_eq w word ≡ is_word → (c b : ℕ) (fault : Refusal)
+    → flag word (from c b (w ∷ ws)) ≡ Err fault → IsFault Bool (flag word) (w ∷ ws) c b fault
+flag_at_fault word w ws false is c b fault h = record {
   before = [];
   left = w ∷ ws;
   more = [];
   whole = refl;
-  place = same_err (flag (codes "discard") (from c b (w ∷ ws))) fault (BadLine c) h (flag_other w ws c b is);
+  place = same_err (flag word (from c b (w ∷ ws))) fault (BadLine c) h (flag_other word w ws c b is);
   free = tt;
-  goes_on = λ d e. (false, flag_none d e);
-  none = λ d e ys read. err_ok (BadLine d) read.0 (sym (flag_other w ys d e is) ∙ read.1);
+  goes_on = λ d e. (false, flag_none word d e);
+  none = λ d e ys read. err_ok (BadLine d) read.0 (sym (flag_other word w ys d e is) ∙ read.1);
 }
-flag_at_fault w [] true is c b fault h = absurd (ok_err true fault (sym (flag_alone w c b is) ∙ h))
-flag_at_fault w (x ∷ xs) true is c b fault h = record {
+flag_at_fault word w [] true is c b fault h = absurd (ok_err true fault (sym (flag_alone word w c b is) ∙ h))
+flag_at_fault word w (x ∷ xs) true is c b fault h = record {
   before = w ∷ [];
   left = x ∷ xs;
   more = [];
   whole = refl;
-  place = same_err (flag (codes "discard") (from c b (w ∷ x ∷ xs))) fault (BadLine (c + length w + 1)) h (flag_surplus w x xs c b is);
+  place = same_err (flag word (from c b (w ∷ x ∷ xs))) fault (BadLine (c + length w + 1)) h (flag_surplus word w x xs c b is);
   free = tt;
-  goes_on = λ d e. (true, flag_alone w d e is);
-  none = λ d e ys read. err_ok (BadLine (d + length w + 1)) read.0 (sym (flag_surplus w x ys d e is) ∙ read.1);
+  goes_on = λ d e. (true, flag_alone word w d e is);
+  none = λ d e ys read. err_ok (BadLine (d + length w + 1)) read.0 (sym (flag_surplus word w x ys d e is) ∙ read.1);
 }
 
-flag_faults : (ws : List (List ℕ)) (c b : ℕ) (fault : Refusal) → flag (codes "discard") (from c b ws) ≡ Err fault → IsFault Bool (flag (codes "discard")) ws c b fault
-flag_faults [] c b fault h = absurd (ok_err false fault (sym (flag_none c b) ∙ h))
-flag_faults (w ∷ ws) c b fault h = flag_at_fault w ws (bytes_eq w (codes "discard")) refl c b fault h
+flag_faults : (word : List ℕ) (ws : List (List ℕ)) (c b : ℕ) (fault : Refusal) → flag word (from c b ws) ≡ Err fault → IsFault Bool (flag word) ws c b fault
+flag_faults word [] c b fault h = absurd (ok_err false fault (sym (flag_none word c b) ∙ h))
+flag_faults word (w ∷ ws) c b fault h = flag_at_fault word w ws (bytes_eq w word) refl c b fault h
 
-flag_reader : IsReader Bool (flag (codes "discard"))
-flag_reader = record { fresh = []; free = tt; reads = λ c b. (false, flag_none c b); faults = flag_faults }
+flag_reader : (word : List ℕ) → IsReader Bool (flag word)
+flag_reader word = record { fresh = []; free = tt; reads = λ c b. (false, flag_none word c b); faults = flag_faults word }
 
 -- ---- a name, which tells the reader of the fields behind it
 
@@ -534,7 +534,7 @@ port_cancel_reader = field_reader handle_of handle_word (λ a. then_field handle
 
 object_wait_async_reader : IsReader Call object_wait_async
 unfolding object_wait_async
-object_wait_async_reader = field_reader handle_of handle_word (λ a. then_field handle_of (λ b. then_field key_of (λ c. then_field signals_of (λ d. ends (calls.ObjectWaitAsync a b c d))))) (λ a. field_reader handle_of handle_word (λ b. then_field key_of (λ c. then_field signals_of (λ d. ends (calls.ObjectWaitAsync a b c d)))) (λ b. field_reader key_of key_word (λ c. then_field signals_of (λ d. ends (calls.ObjectWaitAsync a b c d))) (λ c. field_reader signals_of signals_word (λ d. ends (calls.ObjectWaitAsync a b c d)) (λ d. end_reader (calls.ObjectWaitAsync a b c d)))))
+object_wait_async_reader = field_reader handle_of handle_word (λ a. then_field handle_of (λ b. then_field key_of (λ c. then_field signals_of (λ d. makes (flag (codes "edge")) (calls.ObjectWaitAsync a b c d))))) (λ a. field_reader handle_of handle_word (λ b. then_field key_of (λ c. then_field signals_of (λ d. makes (flag (codes "edge")) (calls.ObjectWaitAsync a b c d)))) (λ b. field_reader key_of key_word (λ c. then_field signals_of (λ d. makes (flag (codes "edge")) (calls.ObjectWaitAsync a b c d))) (λ c. field_reader signals_of signals_word (λ d. makes (flag (codes "edge")) (calls.ObjectWaitAsync a b c d)) (λ d. makes_reader (flag (codes "edge")) (calls.ObjectWaitAsync a b c d) (flag_reader (codes "edge"))))))
 
 abbrev write_of : ℕ → List ℕ → List ℕ → Call
 write_of handle bytes handles = calls.ChannelWrite handle (record { bytes = bytes; handles = handles })
@@ -545,7 +545,7 @@ channel_write_reader = field_reader handle_of handle_word (λ a. then_field byte
 
 channel_read_reader : IsReader Call channel_read
 unfolding channel_read
-channel_read_reader = field_reader handle_of handle_word (λ a. then_field amount_of (λ b. then_field amount_of (λ c. makes (flag (codes "discard")) (calls.ChannelRead a b c)))) (λ a. field_reader amount_of handle_word (λ b. then_field amount_of (λ c. makes (flag (codes "discard")) (calls.ChannelRead a b c))) (λ b. field_reader amount_of handle_word (λ c. makes (flag (codes "discard")) (calls.ChannelRead a b c)) (λ c. makes_reader (flag (codes "discard")) (calls.ChannelRead a b c) flag_reader)))
+channel_read_reader = field_reader handle_of handle_word (λ a. then_field amount_of (λ b. then_field amount_of (λ c. makes (flag (codes "discard")) (calls.ChannelRead a b c)))) (λ a. field_reader amount_of handle_word (λ b. then_field amount_of (λ c. makes (flag (codes "discard")) (calls.ChannelRead a b c))) (λ b. field_reader amount_of handle_word (λ c. makes (flag (codes "discard")) (calls.ChannelRead a b c)) (λ c. makes_reader (flag (codes "discard")) (calls.ChannelRead a b c) (flag_reader (codes "discard")))))
 
 task_call_named_choice : IsChoice Call task_call_named
 unfolding task_call_named

@@ -14,9 +14,12 @@ pub mod SessionTexts
 pub mod SpelledFields
 pub mod SpelledLines
 pub mod SpelledSessions
+pub mod SavedLemmas
+pub mod SavedTrees
 pub mod FaultColumns
 pub mod RowWords
 pub mod RowLines
 mod WorkedLines
 mod WorkedAnswers
 mod LongLines
+mod WorkedTrees

@@ -29,11 +29,11 @@ use Rattle.zt_rows.specs.declared.rows.Row.TheVariants as rows
 use Rattle.zt_rows.specs.Room.{suits}
 use Rattle.zt_text.specs.Numbers.{is_hex_digit, decimal_of, koid_of, key_of, handle_of, code_of, mask_of, signals_of}
 use Rattle.zt_text.specs.Bytes.{hex_bytes, hex_text}
-use Rattle.zt_text.specs.Fields.{Placed, Unread, ◌>>=◌, next, field, placed, unread, parts_of, fields_of}
+use Rattle.zt_text.specs.Fields.{Placed, Unread, ◌>>=◌, next, field, flag_of, placed, unread, parts_of, fields_of}
 use Rattle.zt_text.specs.Lines.{lines_of}
 use Rattle.zt_text.specs.ShownNumbers.{words, hexadecimal, shown_mask, shown_bytes, shown_list, shown_held}
 use Rattle.zt_text.specs.Answers.{shown_life, row_line}
-use Rattle.zt_text.specs.Calls.{IsByte}
+use Rattle.zt_text.specs.Calls.{IsByte, flag_words}
 use Rattle.zt_text.specs.Rows.{IsKeyWithin, IsHeldWithin, IsLifeWithin, IsPacketWithin, IsRowWithin}
 use Rattle.zt_text.proofs.ShownFields.{decimal_read, decimal_digits, mask_read, mask_digits_shown, code_read, digits_of, not_dash}
 use Rattle.zt_text.proofs.ShownWords.{is_free, AreFree, parts_joined, passing, free_digits, free_hex, free_seen, all_free, line_free, no_dash}
@@ -153,7 +153,8 @@ wait_of left = do
   port ← field koid_of handle.1
   under ← field key_of port.1
   signals ← field signals_of under.1
-  Ok (key.Wait number.0, rows.Wait (record { process = process.0; handle = handle.0; port = port.0; key = under.0; signals = signals.0 }))
+  edge ← flag_of (codes "edge") signals.1.fields
+  Ok (key.Wait number.0, rows.Wait (record { process = process.0; handle = handle.0; port = port.0; key = under.0; signals = signals.0; edge = edge }))
 
 unfoldable row_named : List ℕ → Unread → Result (RowKey × Row) Refusal
 row_named name left =
@@ -199,6 +200,11 @@ critical_read : (job column : ℕ) (none : Bool) → (job == 0) ≡ none → job
 unfolding placed
 critical_read job column true is small = rw is (ap Ok (sym (eqb-true job 0 is)))
 critical_read job column false is small = rw (is, key_read job small) refl
+
+edge_read : (edge : Bool) (column : ℕ) → flag_of (codes "edge") (placed column (flag_words (codes "edge") edge)) ≡ Ok edge
+unfolding placed
+edge_read true column = refl
+edge_read false column = refl
 
 any_bytes_read : (bytes : List ℕ) → All IsByte bytes → any_bytes_of (shown_bytes bytes) ≡ Some bytes
 unfolding any_bytes_of
@@ -277,7 +283,8 @@ row_read (key.Msg endpoint number) (rows.Msg message) fits (p, q) (a, b) column 
     rw (key_read endpoint p, key_read number q, any_bytes_read message.bytes a, all_held_read message.handles b) refl
 row_read (key.Packet port number) (rows.Packet held) fits (p, q) of_row column behind = packet_read held of_row port number column behind p q
 row_read (key.Wait number) (rows.Wait wait) fits of_key (a, b, c, d, e) column behind =
-    rw (key_read number of_key, key_read wait.process a, handle_read wait.handle b, key_read wait.port c, key_read wait.key d, mask_read wait.signals.0 e) refl
+    let edge : (at : ℕ) → flag_of (codes "edge") (placed at (flag_words (codes "edge") wait.edge)) ≡ Ok wait.edge = λ at. edge_read wait.edge at in
+    rw (key_read number of_key, key_read wait.process a, handle_read wait.handle b, key_read wait.port c, key_read wait.key d, mask_read wait.signals.0 e, edge) refl
 row_read _ _ fits of_key of_row column behind = cc fits
 
 -- the line of a row is one line, whose fields are its words

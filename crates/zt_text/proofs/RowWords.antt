@@ -18,8 +18,9 @@ use Rattle.zt_rows.specs.declared.rows.Row.{Row}
 use Rattle.zt_rows.specs.declared.rows.Row.TheVariants as rows
 use Rattle.zt_text.specs.ShownNumbers.{words, shown_mask, shown_bytes, shown_list, shown_held}
 use Rattle.zt_text.specs.Answers.{shown_packet, shown_key, shown_life, shown_critical, shown_object, shown_wait, shown_queued, shown_row}
+use Rattle.zt_text.specs.Calls.{flag_words}
 use Rattle.zt_text.specs.Rows.{IsKeyWithin, IsHeldWithin, IsLifeWithin, IsPacketWithin, IsRowWithin}
-use Rattle.zt_text.proofs.ShownWords.{is_seen, AreSeen, seen_decimal, seen_code, seen_mask, seen_bytes, seen_joined}
+use Rattle.zt_text.proofs.ShownWords.{is_seen, AreSeen, seen_decimal, seen_code, seen_mask, seen_bytes, seen_joined, seen_flag}
 
 -- the first word of a key, and its numbers
 abbrev pub key_word : RowKey → List ℕ
@@ -68,7 +69,8 @@ row_words (rows.Object object) =
 row_words (rows.Entry held) = shown_mask held.rights.0 ∷ []
 row_words (rows.Msg message) = shown_list shown_held message.handles ∷ []
 row_words (rows.Packet held) = packet_words held
-row_words (rows.Wait wait) = decimal wait.handle ∷ decimal wait.port ∷ decimal wait.key ∷ shown_mask wait.signals.0 ∷ []
+row_words (rows.Wait wait) =
+    decimal wait.handle ∷ decimal wait.port ∷ decimal wait.key ∷ shown_mask wait.signals.0 ∷ flag_words (codes "edge") wait.edge
 
 -- all words of a row's line
 abbrev pub line_words : RowKey → Row → List (List ℕ)
@@ -181,7 +183,7 @@ row_seen (rows.Entry held) (a, b) = (seen_decimal held.koid a, (seen_mask held.r
 row_seen (rows.Msg message) (a, b) = (seen_bytes message.bytes a, (seen_handles_held message.handles b, tt))
 row_seen (rows.Packet held) h = packet_seen held h
 row_seen (rows.Wait wait) (a, b, c, d, e) =
-    (seen_decimal wait.process a, (seen_handle wait.handle b, (seen_decimal wait.port c, (seen_decimal wait.key d, (seen_mask wait.signals.0 e, tt)))))
+    (seen_decimal wait.process a, (seen_handle wait.handle b, (seen_decimal wait.port c, (seen_decimal wait.key d, (seen_mask wait.signals.0 e, seen_flag (codes "edge") wait.edge refl)))))
 
 pub line_seen : (k : RowKey) (r : Row) → IsKeyWithin k → IsRowWithin r → AreSeen (line_words k r)
 line_seen k r of_key of_row =

@@ -1,6 +1,6 @@
 -- The line of a call reads as that call.
 use Rattle.std.proofs.Common.{lit<, lit≤, ◌≡◌, ℕ, ◌+◌, ◌-◌, ◌^◌, ◌<◌, true, false, List, [], ◌∷◌, ◌++◌, length, Some, Ok, refl, ap, ◌∙◌, arith}
-use Rattle.std.specs.Prelude.{Option, Result, nat_lt}
+use Rattle.std.specs.Prelude.{Option, Result, nat_lt, codes}
 use Rattle.std.specs.Char.{is_ascii_digit}
 use Rattle.std.specs.List.{list_all}
 use Rattle.std.specs.Fmt.{decimal}
@@ -20,20 +20,20 @@ use Rattle.zt_text.specs.ReadLines.{fields_in, asked_by, is_skipped, read_as}
 use Rattle.zt_text.specs.ShownNumbers.{words}
 use Rattle.zt_text.specs.Calls.{IsWithin, call_name, call_arguments, shown_call}
 use Rattle.zt_text.proofs.ShownFields.{decimal_read, decimal_digits, mask_read, bytes_read, packet_bytes_read, code_read}
-use Rattle.zt_text.proofs.ShownWords.{is_free, is_seen, AreSeen, parts_joined, free_seen, all_free, line_free, seen_decimal, seen_code, seen_mask, seen_bytes, seen_handles, handles_read}
+use Rattle.zt_text.proofs.ShownWords.{is_free, is_seen, AreSeen, parts_joined, free_seen, all_free, line_free, seen_decimal, seen_code, seen_mask, seen_bytes, seen_handles, seen_flag, handles_read}
 use Rattle.zt_text.proofs.ShownLengths.{call_line_few}
 
-handle_read : (n : ℕ) → n < 2 ^ 32 → decimal_of (2 ^ 32 - 1) (decimal n) ≡ Some n
+pub handle_read : (n : ℕ) → n < 2 ^ 32 → decimal_of (2 ^ 32 - 1) (decimal n) ≡ Some n
 handle_read n small = decimal_read (2 ^ 32 - 1) n (omega (arith, small)) (lit< tt)
 
-key_read : (n : ℕ) → n < 2 ^ 64 → decimal_of (2 ^ 64 - 1) (decimal n) ≡ Some n
+pub key_read : (n : ℕ) → n < 2 ^ 64 → decimal_of (2 ^ 64 - 1) (decimal n) ≡ Some n
 key_read n small = decimal_read (2 ^ 64 - 1) n (omega (arith, small)) (lit< tt)
 
 seen_handle : (n : ℕ) → n < 2 ^ 32 → is_seen (decimal n) ≡ true
 seen_handle n small = seen_decimal n (omega (arith, small))
 
 -- every word of a call is of visible bytes
-words_seen : (made : Call) → IsWithin made → AreSeen (call_name made ∷ call_arguments made)
+pub words_seen : (made : Call) → IsWithin made → AreSeen (call_name made ∷ call_arguments made)
 words_seen calls.EventCreate h = (refl, tt)
 words_seen calls.EventPairCreate h = (refl, tt)
 words_seen (calls.HandleClose handle) h = (refl, (seen_handle handle h, tt))
@@ -43,10 +43,11 @@ words_seen (calls.ObjectSignal handle clear set) (a, b, c) = (refl, (seen_handle
 words_seen (calls.ObjectSignalPeer handle clear set) (a, b, c) = (refl, (seen_handle handle a, (seen_mask clear.0 b, (seen_mask set.0 c, tt))))
 words_seen calls.ChannelCreate h = (refl, tt)
 words_seen (calls.ChannelWrite handle parcel) (a, b, few, c, short) = (refl, (seen_handle handle a, (seen_bytes parcel.bytes b, (seen_handles parcel.handles c, tt))))
-words_seen (calls.ChannelRead handle bytes handles true) (a, b, c) = (refl, (seen_handle handle a, (seen_handle bytes b, (seen_handle handles c, (refl, tt)))))
-words_seen (calls.ChannelRead handle bytes handles false) (a, b, c) = (refl, (seen_handle handle a, (seen_handle bytes b, (seen_handle handles c, tt))))
+words_seen (calls.ChannelRead handle bytes handles discard) (a, b, c) =
+    (refl, (seen_handle handle a, (seen_handle bytes b, (seen_handle handles c, seen_flag (codes "discard") discard refl))))
 words_seen calls.PortCreate h = (refl, tt)
-words_seen (calls.ObjectWaitAsync handle port key signals) (a, b, c, d) = (refl, (seen_handle handle a, (seen_handle port b, (seen_decimal key c, (seen_mask signals.0 d, tt)))))
+words_seen (calls.ObjectWaitAsync handle port key signals edge) (a, b, c, d) =
+    (refl, (seen_handle handle a, (seen_handle port b, (seen_decimal key c, (seen_mask signals.0 d, seen_flag (codes "edge") edge refl)))))
 words_seen (calls.PortQueue port key bytes) (a, b, c, whole) = (refl, (seen_handle port a, (seen_decimal key b, (seen_bytes bytes c, tt))))
 words_seen (calls.PortWait port) h = (refl, (seen_handle port h, tt))
 words_seen (calls.PortCancel port source key) (a, b, c) = (refl, (seen_handle port a, (seen_handle source b, (seen_decimal key c, tt))))
@@ -57,7 +58,7 @@ words_seen (calls.TaskKill handle) h = (refl, (seen_handle handle h, tt))
 words_seen (calls.ProcessExit code) h = (refl, (seen_code code h, tt))
 
 -- the words of a call read as that call, at whatever column they begin
-call_read : (made : Call) → IsWithin made → (column behind : ℕ) → call (record { fields = placed column (call_name made ∷ call_arguments made); behind = behind }) ≡ Ok made
+pub call_read : (made : Call) → IsWithin made → (column behind : ℕ) → call (record { fields = placed column (call_name made ∷ call_arguments made); behind = behind }) ≡ Ok made
 unfolding placed field flag ended event_create eventpair_create handle_close handle_duplicate handle_replace object_signal object_signal_peer channel_create channel_write channel_read port_create object_wait_async port_queue port_wait port_cancel job_create spawn job_set_critical task_kill process_exit task_call_named port_call_named channel_call_named handle_call_named call_named any_call_named call
 call_read calls.EventCreate h column behind = refl
 call_read calls.EventPairCreate h column behind = refl
@@ -74,7 +75,9 @@ call_read (calls.ChannelRead handle bytes handles true) (a, b, c) column behind 
 call_read (calls.ChannelRead handle bytes handles false) (a, b, c) column behind =
     rw (handle_read handle a, handle_read bytes b, handle_read handles c) refl
 call_read calls.PortCreate h column behind = refl
-call_read (calls.ObjectWaitAsync handle port key signals) (a, b, c, d) column behind =
+call_read (calls.ObjectWaitAsync handle port key signals true) (a, b, c, d) column behind =
+    rw (handle_read handle a, handle_read port b, key_read key c, mask_read signals.0 d) refl
+call_read (calls.ObjectWaitAsync handle port key signals false) (a, b, c, d) column behind =
     rw (handle_read handle a, handle_read port b, key_read key c, mask_read signals.0 d) refl
 call_read (calls.PortQueue port key bytes) (a, b, c, whole) column behind =
     rw (handle_read port a, key_read key b, packet_bytes_read bytes c whole) refl

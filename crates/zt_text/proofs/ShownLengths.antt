@@ -1,6 +1,6 @@
 -- The line of a call is not too long.
-use Rattle.std.proofs.Common.{lit<, lit≤, ◌≡◌, ℕ, suc, ◌+◌, ◌*◌, ◌^◌, ◌<◌, ◌≤◌, true, false, List, [], ◌∷◌, length, map, ℤ, pos, negsuc, arith, All, length-append}
-use Rattle.std.specs.Prelude.{nat_lt}
+use Rattle.std.proofs.Common.{lit<, lit≤, ◌≡◌, ℕ, suc, ◌+◌, ◌*◌, ◌^◌, ◌<◌, ◌≤◌, Bool, true, false, List, [], ◌∷◌, length, map, ℤ, pos, negsuc, arith, All, length-append}
+use Rattle.std.specs.Prelude.{nat_lt, codes}
 use Rattle.std.specs.List.{join_with_byte}
 use Rattle.std.specs.Fmt.{decimal, signed_decimal}
 use Rattle.std.proofs.lemmas.Bool.Decides.{nat_tests}
@@ -9,7 +9,7 @@ use Rattle.std.proofs.lemmas.List.Elements.{All-head, All-tail}
 use Rattle.zt_rows.specs.declared.calls.Call.{Call}
 use Rattle.zt_rows.specs.declared.calls.Call.TheVariants as calls
 use Rattle.zt_text.specs.ShownNumbers.{words, shown_mask, shown_bytes, shown_list}
-use Rattle.zt_text.specs.Calls.{IsByte, IsHandle, IsCode, IsWithin, call_name, call_arguments}
+use Rattle.zt_text.specs.Calls.{IsByte, IsHandle, IsCode, IsWithin, call_name, flag_words, call_arguments}
 use Rattle.zt_text.proofs.ShownFields.{mask_length, digits_of}
 
 -- a place for each byte of the words, and one behind each word
@@ -68,7 +68,7 @@ name_few calls.ChannelCreate = lit≤ tt
 name_few (calls.ChannelWrite _ _) = lit≤ tt
 name_few (calls.ChannelRead _ _ _ _) = lit≤ tt
 name_few calls.PortCreate = lit≤ tt
-name_few (calls.ObjectWaitAsync _ _ _ _) = lit≤ tt
+name_few (calls.ObjectWaitAsync _ _ _ _ _) = lit≤ tt
 name_few (calls.PortQueue _ _ _) = lit≤ tt
 name_few (calls.PortWait _) = lit≤ tt
 name_few (calls.PortCancel _ _ _) = lit≤ tt
@@ -86,6 +86,11 @@ two a b p q = omega (arith, p, q)
 
 three : (a b c : List ℕ) → length a ≤ 10 → length b ≤ 20 → length c ≤ 132000 → room (a ∷ b ∷ c ∷ []) ≤ 139000
 three a b c p q r = omega (arith, p, q, r)
+
+-- a word that may stand at the end takes a place for each of its bytes, and one more
+flag_few : (word : List ℕ) (stands : Bool) → length word ≤ 7 → room (flag_words word stands) ≤ 8
+flag_few word true few = omega (arith, few)
+flag_few word false few = lit≤ tt
 
 arguments_few : (made : Call) → IsWithin made → room (call_arguments made) ≤ 139000
 arguments_few calls.EventCreate h = lit≤ tt
@@ -108,18 +113,19 @@ arguments_few (calls.ChannelWrite handle parcel) (a, b, few, c, short) =
   where
     write : (a b c : List ℕ) → length a ≤ 10 → length b ≤ 132000 → length c ≤ 1000 → room (a ∷ b ∷ c ∷ []) ≤ 139000
     write a b c p q r = omega (arith, p, q, r)
-arguments_few (calls.ChannelRead handle bytes handles true) (a, b, c) = read_words (decimal handle) (decimal bytes) (decimal handles) (handle_few handle a) (handle_few bytes b) (handle_few handles c)
+arguments_few (calls.ChannelRead handle bytes handles discard) (a, b, c) =
+    read_words (decimal handle) (decimal bytes) (decimal handles) (flag_words (codes "discard") discard)
+    (handle_few handle a) (handle_few bytes b) (handle_few handles c) (flag_few (codes "discard") discard (lit≤ tt))
   where
-    read_words : (a b c : List ℕ) → length a ≤ 10 → length b ≤ 10 → length c ≤ 10 → room (a ∷ b ∷ c ∷ (100 ∷ 105 ∷ 115 ∷ 99 ∷ 97 ∷ 114 ∷ 100 ∷ []) ∷ []) ≤ 139000
-    read_words a b c p q r = omega (arith, p, q, r)
-arguments_few (calls.ChannelRead handle bytes handles false) (a, b, c) =
-    let p = handle_few bytes b in let q = handle_few handles c in
-    three (decimal handle) (decimal bytes) (decimal handles) (handle_few handle a) (omega (arith, p)) (omega (arith, q))
+    read_words : (a b c : List ℕ) (last : List (List ℕ)) → length a ≤ 10 → length b ≤ 10 → length c ≤ 10 → room last ≤ 8 → room (a ∷ b ∷ c ∷ last) ≤ 139000
+    read_words a b c last p q r s = omega (arith, p, q, r, s)
 arguments_few calls.PortCreate h = lit≤ tt
-arguments_few (calls.ObjectWaitAsync handle port key signals) (a, b, c, d) = four (decimal handle) (decimal port) (decimal key) (shown_mask signals.0) (handle_few handle a) (handle_few port b) (key_few key c) (mask_few signals.0 d)
+arguments_few (calls.ObjectWaitAsync handle port key signals edge) (a, b, c, d) =
+    wait_words (decimal handle) (decimal port) (decimal key) (shown_mask signals.0) (flag_words (codes "edge") edge)
+    (handle_few handle a) (handle_few port b) (key_few key c) (mask_few signals.0 d) (flag_few (codes "edge") edge (lit≤ tt))
   where
-    four : (a b c d : List ℕ) → length a ≤ 10 → length b ≤ 10 → length c ≤ 20 → length d ≤ 10 → room (a ∷ b ∷ c ∷ d ∷ []) ≤ 139000
-    four a b c d p q r s = omega (arith, p, q, r, s)
+    wait_words : (a b c d : List ℕ) (last : List (List ℕ)) → length a ≤ 10 → length b ≤ 10 → length c ≤ 20 → length d ≤ 10 → room last ≤ 8 → room (a ∷ b ∷ c ∷ d ∷ last) ≤ 139000
+    wait_words a b c d last p q r s t = omega (arith, p, q, r, s, t)
 arguments_few (calls.PortQueue port key bytes) (a, b, c, whole) =
     let q = bytes_few bytes c in
     three (decimal port) (decimal key) (shown_bytes bytes) (handle_few port a) (key_few key b) (omega (arith, q, whole))
@@ -141,3 +147,45 @@ call_line_few process made small within =
     let rest = arguments_few made within in
     let whole = joined_few 32 (decimal process ∷ call_name made ∷ call_arguments made) in
     grind (arith, nat_tests, first, name, rest, whole)
+
+-- ---- the lines of a saved tree
+
+-- no separator stands behind the last word
+joined_fewer : (c : ℕ) (word : List ℕ) (others : List (List ℕ)) → length (join_with_byte c (word ∷ others)) + 1 ≤ room (word ∷ others)
+joined_fewer c word [] = omega arith
+joined_fewer c word (next ∷ others) =
+    let rest = joined_fewer c next others in
+    let whole = length-append word (c ∷ join_with_byte c (next ∷ others)) in
+    omega (arith, rest, whole)
+
+pub saved_call_few : (parent process : ℕ) (made : Call) → parent < 2 ^ 32 → process < 2 ^ 64 → IsWithin made
+    → nat_lt 140000 (length (words (codes "call" ∷ decimal parent ∷ decimal process ∷ call_name made ∷ call_arguments made))) ≡ false
+saved_call_few parent process made low small within =
+    let first = handle_few parent low in
+    let second = key_few process small in
+    let name = name_few made in
+    let rest = arguments_few made within in
+    let whole = joined_few 32 (codes "call" ∷ decimal parent ∷ decimal process ∷ call_name made ∷ call_arguments made) in
+    grind (arith, nat_tests, first, second, name, rest, whole)
+
+pub branch_few : (name : List ℕ) (head : ℕ) → length name ≤ 139982 → head < 2 ^ 32 → nat_lt 140000 (length (words (codes "branch" ∷ name ∷ decimal head ∷ []))) ≡ false
+branch_few name head short low =
+    let last = handle_few head low in
+    let whole = joined_fewer 32 (codes "branch") (name ∷ decimal head ∷ []) in
+    grind (arith, nat_tests, short, last, whole)
+
+client_few : (client : ℕ) → client ≤ 4 → length (decimal client) ≤ 1
+client_few client few = length-decimal-le 1 client (lit< tt) (omega (arith, few)) (omega (arith, few))
+
+pub follow_few : (client : ℕ) (name : List ℕ) → client ≤ 4 → length name ≤ 139982 → nat_lt 140000 (length (words (codes "cursor" ∷ decimal client ∷ codes "follow" ∷ name ∷ []))) ≡ false
+follow_few client name few short =
+    let number = client_few client few in
+    let whole = joined_fewer 32 (codes "cursor") (decimal client ∷ codes "follow" ∷ name ∷ []) in
+    grind (arith, nat_tests, short, number, whole)
+
+pub at_few : (client moment : ℕ) → client ≤ 4 → moment < 2 ^ 32 → nat_lt 140000 (length (words (codes "cursor" ∷ decimal client ∷ codes "at" ∷ decimal moment ∷ []))) ≡ false
+at_few client moment few low =
+    let number = client_few client few in
+    let last = handle_few moment low in
+    let whole = joined_fewer 32 (codes "cursor") (decimal client ∷ codes "at" ∷ decimal moment ∷ []) in
+    grind (arith, nat_tests, last, number, whole)

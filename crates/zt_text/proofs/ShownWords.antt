@@ -17,7 +17,7 @@ use Rattle.std.proofs.lemmas.Fmt.{decimal_is_IsNumeral}
 use Rattle.zt_rows.specs.declared.calls.Call.{Call}
 use Rattle.zt_text.specs.ShownNumbers.{words, hexadecimal, shown_mask, shown_bytes, shown_list}
 use Rattle.zt_text.specs.Bytes.{hex_text}
-use Rattle.zt_text.specs.Calls.{IsByte, IsHandle, IsCode, call_name, call_arguments, shown_call}
+use Rattle.zt_text.specs.Calls.{IsByte, IsHandle, IsCode, call_name, flag_words, call_arguments, shown_call}
 use Rattle.zt_text.specs.ProofsOnly.Calls.{spaced}
 use Rattle.zt_text.proofs.ShownFields.{decimal_read, decimal_digits, mask_digits_shown, digits_of}
 
@@ -77,6 +77,11 @@ abbrev pub AreSeen : List (List ℕ) → Type 0
 AreSeen [] = ⊤
 AreSeen (word ∷ others) = (is_seen word ≡ true) × AreSeen others
 
+-- a word that may stand at the end
+pub seen_flag : (word : List ℕ) (stands : Bool) → is_seen word ≡ true → AreSeen (flag_words word stands)
+seen_flag word true seen = (seen, tt)
+seen_flag word false seen = tt
+
 pub free_seen : (c : ℕ) → c ≤ 32 → (word : List ℕ) → is_seen word ≡ true → is_free c word ≡ true
 free_seen c low word all = passing (λ byte. nat_lt 32 byte) c (λ b h. let other : (b == c) ≡ false = grind (arith, nat_tests) in rw other refl) word all
 
@@ -84,7 +89,7 @@ pub all_free : (words : List (List ℕ)) → AreSeen words → AreFree 32 words
 all_free [] are = tt
 all_free (word ∷ others) (here, are) = (free_seen 32 (lit≤ tt) word here, all_free others are)
 
-seen_if : (p : ℕ → Bool) → ((b : ℕ) → p b ≡ true → nat_lt 32 b ≡ true) → (bs : List ℕ) → list_all p bs ≡ true → is_seen bs ≡ true
+pub seen_if : (p : ℕ → Bool) → ((b : ℕ) → p b ≡ true → nat_lt 32 b ≡ true) → (bs : List ℕ) → list_all p bs ≡ true → is_seen bs ≡ true
 seen_if p high [] all = refl
 seen_if p high (b ∷ bs) all =
     let parts = and_parts (p b) (list_all p bs) all in

@@ -24,7 +24,7 @@ use Rattle.zt_text.specs.Fields.{Placed, Unread, ◌>>=◌, placed, fields_of, u
 use Rattle.zt_text.specs.ReadCalls.{event_create, eventpair_create, handle_close, handle_duplicate, handle_replace, object_signal, object_signal_peer, channel_create, channel_write, channel_read, port_create, object_wait_async, port_queue, port_wait, port_cancel, job_create, spawn, job_set_critical, task_kill, process_exit, task_call_named, port_call_named, channel_call_named, handle_call_named, call_named, any_call_named, call, process_call}
 use Rattle.zt_text.specs.ReadLines.{goto, back, only_name, branch, follow, show, holders, leaks, when, pin, question_named, plain_command_named, command_named, pinned_show, pinned_holders, pinned_leaks, pinned_named, pinned, word_named, call_or_word, asked_by, most_line_bytes, is_skipped, fields_in, each_by, read_as}
 use Rattle.zt_text.specs.ShownNumbers.{words, shown_mask, shown_bytes, shown_list}
-use Rattle.zt_text.specs.Calls.{call_name, call_arguments, discard_words, shown_call}
+use Rattle.zt_text.specs.Calls.{call_name, call_arguments, flag_words, shown_call}
 use Rattle.zt_text.specs.Session.{call_in}
 use Rattle.zt_text.specs.Spellings.{happening_word, command_words, line_words}
 use Rattle.zt_text.proofs.SpelledFields.{some_same, decimal_spelled, count_spelled, name_spelled, happening_spelled, code_spelled, mask_spelled, signals_spelled, bytes_spelled, packet_bytes_spelled, handles_spelled}
@@ -132,24 +132,24 @@ end_then : {B : Type 0} (left : Unread) (value made : B) → (ended left >>= λ 
 unfolding ended
 end_then left value made h = nothing_then left.fields value made h
 
-flag_word : {B : Type 0} (make : Bool → B) (word : List ℕ) (column : ℕ) (fields : List Placed) (is_word : Bool) (made : B) → bytes_eq word (codes "discard") ≡ is_word
-    → ((if is_word then (none_of fields >>= λ _. Ok true) else Err (BadLine column)) >>= λ discard. Ok (make discard)) ≡ Ok made
-    → (discard : Bool) × (make discard ≡ made) × (word ∷ texts fields ≡ discard_words discard)
-flag_word make word column fields false made is h = absurd (err_ok (BadLine column) made h)
-flag_word make word column [] true made is h =
-    (true, same_ok (make true) made (Ok (make true)) refl h, ap (λ w. w ∷ []) ((bytes_eq-Decides word (codes "discard")).0 is))
-flag_word make word column (x ∷ xs) true made is h = absurd (err_ok (BadLine x.column) made h)
+flag_word : {B : Type 0} (name : List ℕ) (make : Bool → B) (word : List ℕ) (column : ℕ) (fields : List Placed) (is_word : Bool) (made : B) → bytes_eq word name ≡ is_word
+    → ((if is_word then (none_of fields >>= λ _. Ok true) else Err (BadLine column)) >>= λ stands. Ok (make stands)) ≡ Ok made
+    → (stands : Bool) × (make stands ≡ made) × (word ∷ texts fields ≡ flag_words name stands)
+flag_word name make word column fields false made is h = absurd (err_ok (BadLine column) made h)
+flag_word name make word column [] true made is h =
+    (true, same_ok (make true) made (Ok (make true)) refl h, ap (λ w. w ∷ []) ((bytes_eq-Decides word name).0 is))
+flag_word name make word column (x ∷ xs) true made is h = absurd (err_ok (BadLine x.column) made h)
 
-flag_in : {B : Type 0} (make : Bool → B) (fields : List Placed) (made : B) → (flag_of (codes "discard") fields >>= λ discard. Ok (make discard)) ≡ Ok made
-    → (discard : Bool) × (make discard ≡ made) × (texts fields ≡ discard_words discard)
-flag_in make [] made h = (false, same_ok (make false) made (Ok (make false)) refl h, refl)
-flag_in make (x ∷ xs) made h = flag_word make x.bytes x.column xs (bytes_eq x.bytes (codes "discard")) made refl h
+flag_in : {B : Type 0} (name : List ℕ) (make : Bool → B) (fields : List Placed) (made : B) → (flag_of name fields >>= λ stands. Ok (make stands)) ≡ Ok made
+    → (stands : Bool) × (make stands ≡ made) × (texts fields ≡ flag_words name stands)
+flag_in name make [] made h = (false, same_ok (make false) made (Ok (make false)) refl h, refl)
+flag_in name make (x ∷ xs) made h = flag_word name make x.bytes x.column xs (bytes_eq x.bytes name) made refl h
 
 -- the word at the end stands there or is left out
-flag_then : {B : Type 0} (make : Bool → B) (left : Unread) (made : B) → (flag (codes "discard") left >>= λ discard. Ok (make discard)) ≡ Ok made
-    → (discard : Bool) × (make discard ≡ made) × (texts left.fields ≡ discard_words discard)
+flag_then : {B : Type 0} (name : List ℕ) (make : Bool → B) (left : Unread) (made : B) → (flag name left >>= λ stands. Ok (make stands)) ≡ Ok made
+    → (stands : Bool) × (make stands ≡ made) × (texts left.fields ≡ flag_words name stands)
 unfolding flag
-flag_then make left made h = flag_in make left.fields made h
+flag_then name make left made h = flag_in name make left.fields made h
 
 -- ---- as many fields as a call has
 
@@ -169,30 +169,30 @@ reads_three first second third make left = do
   a ← field first.read left
   reads_two second third (make a.0) a.1
 
-abbrev reads_four : {A B C D E : Type 0} → Form A → Form B → Form C → Form D → (A → B → C → D → E) → Unread → Result E Refusal
-reads_four first second third fourth make left = do
-  a ← field first.read left
-  reads_three second third fourth (make a.0) a.1
+abbrev reads_flag : {B : Type 0} → List ℕ → (Bool → B) → Unread → Result B Refusal
+reads_flag name make left = do
+  stands ← flag name left
+  Ok (make stands)
 
-abbrev reads_flag : {B : Type 0} → (Bool → B) → Unread → Result B Refusal
-reads_flag make left = do
-  discard ← flag (codes "discard") left
-  Ok (make discard)
-
-abbrev reads_one_flag : {A B : Type 0} → Form A → (A → Bool → B) → Unread → Result B Refusal
-reads_one_flag first make left = do
+abbrev reads_one_flag : {A B : Type 0} → List ℕ → Form A → (A → Bool → B) → Unread → Result B Refusal
+reads_one_flag name first make left = do
   a ← field first.read left
-  reads_flag (make a.0) a.1
+  reads_flag name (make a.0) a.1
 
-abbrev reads_two_flag : {A B C : Type 0} → Form A → Form B → (A → B → Bool → C) → Unread → Result C Refusal
-reads_two_flag first second make left = do
+abbrev reads_two_flag : {A B C : Type 0} → List ℕ → Form A → Form B → (A → B → Bool → C) → Unread → Result C Refusal
+reads_two_flag name first second make left = do
   a ← field first.read left
-  reads_one_flag second (make a.0) a.1
+  reads_one_flag name second (make a.0) a.1
 
-abbrev reads_three_flag : {A B C D : Type 0} → Form A → Form B → Form C → (A → B → C → Bool → D) → Unread → Result D Refusal
-reads_three_flag first second third make left = do
+abbrev reads_three_flag : {A B C D : Type 0} → List ℕ → Form A → Form B → Form C → (A → B → C → Bool → D) → Unread → Result D Refusal
+reads_three_flag name first second third make left = do
   a ← field first.read left
-  reads_two_flag second third (make a.0) a.1
+  reads_two_flag name second third (make a.0) a.1
+
+abbrev reads_four_flag : {A B C D E : Type 0} → List ℕ → Form A → Form B → Form C → Form D → (A → B → C → D → Bool → E) → Unread → Result E Refusal
+reads_four_flag name first second third fourth make left = do
+  a ← field first.read left
+  reads_three_flag name second third fourth (make a.0) a.1
 
 one_read : {A B : Type 0} (first : Form A) (make : A → B) (left : Unread) (made : B) → reads_one first make left ≡ Ok made
     → (a : A) × (make a ≡ made) × (texts left.fields ≡ first.shows a ∷ [])
@@ -215,35 +215,36 @@ three_read first second third make left made h =
     let others = two_read second third (make read.0) read.1 made read.3 in
     (read.0, others.0, others.1, others.2, read.2 ∙ ap (λ ws. first.shows read.0 ∷ ws) others.3)
 
-four_read : {A B C D E : Type 0} (first : Form A) (second : Form B) (third : Form C) (fourth : Form D) (make : A → B → C → D → E) (left : Unread) (made : E)
-    → reads_four first second third fourth make left ≡ Ok made
-    → (a : A) × (b : B) × (c : C) × (d : D) × (make a b c d ≡ made) × (texts left.fields ≡ first.shows a ∷ second.shows b ∷ third.shows c ∷ fourth.shows d ∷ [])
-four_read first second third fourth make left made h =
-    let read = field_then first left (λ x. reads_three second third fourth (make x.0) x.1) made h in
-    let others = three_read second third fourth (make read.0) read.1 made read.3 in
-    (read.0, others.0, others.1, others.2, others.3, read.2 ∙ ap (λ ws. first.shows read.0 ∷ ws) others.4)
-
-one_flag_read : {A B : Type 0} (first : Form A) (make : A → Bool → B) (left : Unread) (made : B) → reads_one_flag first make left ≡ Ok made
-    → (a : A) × (d : Bool) × (make a d ≡ made) × (texts left.fields ≡ first.shows a ∷ discard_words d)
-one_flag_read first make left made h =
-    let read = field_then first left (λ x. reads_flag (make x.0) x.1) made h in
-    let others = flag_then (make read.0) read.1 made read.3 in
+one_flag_read : {A B : Type 0} (name : List ℕ) (first : Form A) (make : A → Bool → B) (left : Unread) (made : B) → reads_one_flag name first make left ≡ Ok made
+    → (a : A) × (d : Bool) × (make a d ≡ made) × (texts left.fields ≡ first.shows a ∷ flag_words name d)
+one_flag_read name first make left made h =
+    let read = field_then first left (λ x. reads_flag name (make x.0) x.1) made h in
+    let others = flag_then name (make read.0) read.1 made read.3 in
     (read.0, others.0, others.1, read.2 ∙ ap (λ ws. first.shows read.0 ∷ ws) others.2)
 
-two_flag_read : {A B C : Type 0} (first : Form A) (second : Form B) (make : A → B → Bool → C) (left : Unread) (made : C) → reads_two_flag first second make left ≡ Ok made
-    → (a : A) × (b : B) × (d : Bool) × (make a b d ≡ made) × (texts left.fields ≡ first.shows a ∷ second.shows b ∷ discard_words d)
-two_flag_read first second make left made h =
-    let read = field_then first left (λ x. reads_one_flag second (make x.0) x.1) made h in
-    let others = one_flag_read second (make read.0) read.1 made read.3 in
+two_flag_read : {A B C : Type 0} (name : List ℕ) (first : Form A) (second : Form B) (make : A → B → Bool → C) (left : Unread) (made : C) → reads_two_flag name first second make left ≡ Ok made
+    → (a : A) × (b : B) × (d : Bool) × (make a b d ≡ made) × (texts left.fields ≡ first.shows a ∷ second.shows b ∷ flag_words name d)
+two_flag_read name first second make left made h =
+    let read = field_then first left (λ x. reads_one_flag name second (make x.0) x.1) made h in
+    let others = one_flag_read name second (make read.0) read.1 made read.3 in
     (read.0, others.0, others.1, others.2, read.2 ∙ ap (λ ws. first.shows read.0 ∷ ws) others.3)
 
-three_flag_read : {A B C D : Type 0} (first : Form A) (second : Form B) (third : Form C) (make : A → B → C → Bool → D) (left : Unread) (made : D)
-    → reads_three_flag first second third make left ≡ Ok made
-    → (a : A) × (b : B) × (c : C) × (d : Bool) × (make a b c d ≡ made) × (texts left.fields ≡ first.shows a ∷ second.shows b ∷ third.shows c ∷ discard_words d)
-three_flag_read first second third make left made h =
-    let read = field_then first left (λ x. reads_two_flag second third (make x.0) x.1) made h in
-    let others = two_flag_read second third (make read.0) read.1 made read.3 in
+three_flag_read : {A B C D : Type 0} (name : List ℕ) (first : Form A) (second : Form B) (third : Form C) (make : A → B → C → Bool → D) (left : Unread) (made : D)
+    → reads_three_flag name first second third make left ≡ Ok made
+    → (a : A) × (b : B) × (c : C) × (d : Bool) × (make a b c d ≡ made) × (texts left.fields ≡ first.shows a ∷ second.shows b ∷ third.shows c ∷ flag_words name d)
+three_flag_read name first second third make left made h =
+    let read = field_then first left (λ x. reads_two_flag name second third (make x.0) x.1) made h in
+    let others = two_flag_read name second third (make read.0) read.1 made read.3 in
     (read.0, others.0, others.1, others.2, others.3, read.2 ∙ ap (λ ws. first.shows read.0 ∷ ws) others.4)
+
+four_flag_read : {A B C D E : Type 0} (name : List ℕ) (first : Form A) (second : Form B) (third : Form C) (fourth : Form D) (make : A → B → C → D → Bool → E) (left : Unread) (made : E)
+    → reads_four_flag name first second third fourth make left ≡ Ok made
+    → (a : A) × (b : B) × (c : C) × (d : D) × (s : Bool) × (make a b c d s ≡ made)
+    × (texts left.fields ≡ first.shows a ∷ second.shows b ∷ third.shows c ∷ fourth.shows d ∷ flag_words name s)
+four_flag_read name first second third fourth make left made h =
+    let read = field_then first left (λ x. reads_three_flag name second third fourth (make x.0) x.1) made h in
+    let others = three_flag_read name second third fourth (make read.0) read.1 made read.3 in
+    (read.0, others.0, others.1, others.2, others.3, others.4, read.2 ∙ ap (λ ws. first.shows read.0 ∷ ws) others.5)
 
 -- ---- what is made of them
 
@@ -280,21 +281,21 @@ three_fields show_words put first second third make shown left made h =
     let t = three_read first second third make left made h in
     spelled_as show_words put (texts left.fields) (first.shows t.0 ∷ second.shows t.1 ∷ third.shows t.2 ∷ []) (make t.0 t.1 t.2) made t.3 t.4 (shown t.0 t.1 t.2)
 
-four_fields : {A B C D T : Type 0} (show_words : T → Words) (put : Words → Words) (first : Form A) (second : Form B) (third : Form C) (fourth : Form D) (make : A → B → C → D → T)
-    → ((a : A) (b : B) (c : C) (d : D) → show_words (make a b c d) ≡ put (first.shows a ∷ second.shows b ∷ third.shows c ∷ fourth.shows d ∷ []))
-    → (left : Unread) (made : T) → reads_four first second third fourth make left ≡ Ok made → show_words made ≡ put (texts left.fields)
-four_fields show_words put first second third fourth make shown left made h =
-    let t = four_read first second third fourth make left made h in
-    spelled_as show_words put (texts left.fields) (first.shows t.0 ∷ second.shows t.1 ∷ third.shows t.2 ∷ fourth.shows t.3 ∷ []) (make t.0 t.1 t.2 t.3) made t.4 t.5
+three_and_flag : {A B C T : Type 0} (show_words : T → Words) (put : Words → Words) (name : List ℕ) (first : Form A) (second : Form B) (third : Form C) (make : A → B → C → Bool → T)
+    → ((a : A) (b : B) (c : C) (s : Bool) → show_words (make a b c s) ≡ put (first.shows a ∷ second.shows b ∷ third.shows c ∷ flag_words name s))
+    → (left : Unread) (made : T) → reads_three_flag name first second third make left ≡ Ok made → show_words made ≡ put (texts left.fields)
+three_and_flag show_words put name first second third make shown left made h =
+    let t = three_flag_read name first second third make left made h in
+    spelled_as show_words put (texts left.fields) (first.shows t.0 ∷ second.shows t.1 ∷ third.shows t.2 ∷ flag_words name t.3) (make t.0 t.1 t.2 t.3) made t.4 t.5
     (shown t.0 t.1 t.2 t.3)
 
-fields_and_flag : {A B C T : Type 0} (show_words : T → Words) (put : Words → Words) (first : Form A) (second : Form B) (third : Form C) (make : A → B → C → Bool → T)
-    → ((a : A) (b : B) (c : C) (d : Bool) → show_words (make a b c d) ≡ put (first.shows a ∷ second.shows b ∷ third.shows c ∷ discard_words d))
-    → (left : Unread) (made : T) → reads_three_flag first second third make left ≡ Ok made → show_words made ≡ put (texts left.fields)
-fields_and_flag show_words put first second third make shown left made h =
-    let t = three_flag_read first second third make left made h in
-    spelled_as show_words put (texts left.fields) (first.shows t.0 ∷ second.shows t.1 ∷ third.shows t.2 ∷ discard_words t.3) (make t.0 t.1 t.2 t.3) made t.4 t.5
-    (shown t.0 t.1 t.2 t.3)
+four_and_flag : {A B C D T : Type 0} (show_words : T → Words) (put : Words → Words) (name : List ℕ) (first : Form A) (second : Form B) (third : Form C) (fourth : Form D) (make : A → B → C → D → Bool → T)
+    → ((a : A) (b : B) (c : C) (d : D) (s : Bool) → show_words (make a b c d s) ≡ put (first.shows a ∷ second.shows b ∷ third.shows c ∷ fourth.shows d ∷ flag_words name s))
+    → (left : Unread) (made : T) → reads_four_flag name first second third fourth make left ≡ Ok made → show_words made ≡ put (texts left.fields)
+four_and_flag show_words put name first second third fourth make shown left made h =
+    let t = four_flag_read name first second third fourth make left made h in
+    spelled_as show_words put (texts left.fields) (first.shows t.0 ∷ second.shows t.1 ∷ third.shows t.2 ∷ fourth.shows t.3 ∷ flag_words name t.4) (make t.0 t.1 t.2 t.3 t.4) made t.5 t.6
+    (shown t.0 t.1 t.2 t.3 t.4)
 
 -- what a name tells
 named_if : {T : Type 0} (Spells : List ℕ → Type 0) (b : Bool) (word name : List ℕ) (x y : Result T Refusal) (made : T) → bytes_eq word name ≡ b
@@ -388,11 +389,11 @@ port_cancel_spelled left made h = three_fields call_words (λ ws. codes "port_ca
 
 object_wait_async_spelled : (left : Unread) (made : Call) → object_wait_async left ≡ Ok made → call_words made ≡ codes "object_wait_async" ∷ texts left.fields
 unfolding object_wait_async
-object_wait_async_spelled left made h = four_fields call_words (λ ws. codes "object_wait_async" ∷ ws) handle_form handle_form key_form signals_form calls.ObjectWaitAsync (λ a b c d. refl) left made h
+object_wait_async_spelled left made h = four_and_flag call_words (λ ws. codes "object_wait_async" ∷ ws) (codes "edge") handle_form handle_form key_form signals_form calls.ObjectWaitAsync (λ a b c d s. refl) left made h
 
 channel_read_spelled : (left : Unread) (made : Call) → channel_read left ≡ Ok made → call_words made ≡ codes "channel_read" ∷ texts left.fields
 unfolding channel_read
-channel_read_spelled left made h = fields_and_flag call_words (λ ws. codes "channel_read" ∷ ws) handle_form handle_form handle_form calls.ChannelRead (λ a b c d. refl) left made h
+channel_read_spelled left made h = three_and_flag call_words (λ ws. codes "channel_read" ∷ ws) (codes "discard") handle_form handle_form handle_form calls.ChannelRead (λ a b c s. refl) left made h
 
 task_call_named_spelled : (name : Placed) (left : Unread) (made : Call) → task_call_named name left ≡ Ok made → call_words made ≡ name.bytes ∷ texts left.fields
 unfolding task_call_named

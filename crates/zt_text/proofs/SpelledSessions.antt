@@ -90,11 +90,11 @@ first_if true same u h = absurd (err_ok LineTooLong u h)
 first_if false true u h = refl
 first_if false false u h = absurd (err_ok (BadLine 1) u h)
 
-first_spelled : (text : List ℕ) (u : Unit {0}) → first_line text ≡ Ok u → text ≡ codes "zxtt 1"
+pub first_spelled : (text : List ℕ) (u : Unit {0}) → first_line text ≡ Ok u → text ≡ codes "zxtt 1"
 first_spelled text u h =
     (bytes_eq-Decides text (codes "zxtt 1")).0 (first_if (nat_lt most_line_bytes (length text)) (bytes_eq text (codes "zxtt 1")) u h)
 
-line_then : (r : Result (Unit {0}) Refusal) (others : Result (List (ℕ × Call)) (ℕ × Refusal)) (calls : List (ℕ × Call)) → (at_line 1 r >>= λ _. others) ≡ Ok calls
+pub line_then : (r : Result (Unit {0}) Refusal) (others : Result (List (ℕ × Call)) (ℕ × Refusal)) (calls : List (ℕ × Call)) → (at_line 1 r >>= λ _. others) ≡ Ok calls
     → (u : Unit {0}) × (r ≡ Ok u) × (others ≡ Ok calls)
 line_then (Ok u) others calls h = (u, refl, h)
 line_then (Err reason) others calls h = absurd (err_ok (fault_at 1 reason) calls h)

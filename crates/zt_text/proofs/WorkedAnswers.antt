@@ -1,6 +1,6 @@
 -- Answers and refusals that were shown by hand, as theorems: the forms of replies and rows.
 use Rattle.std.proofs.Common.{◌≡◌, List, ℕ, [], ◌∷◌, ◌++◌, refl}
-use Rattle.std.specs.Prelude.{codes, negsuc, pos, None, Some}
+use Rattle.std.specs.Prelude.{codes, negsuc, pos, true, false, None, Some}
 use Rattle.std.specs.Fmt.{digits}
 use Rattle.zt_bits.specs.declared.kinds.Kind.TheVariants as kind
 use Rattle.zt_rows.specs.declared.refusals.Refusal.TheVariants.{BadName}
@@ -99,7 +99,8 @@ record Rows : Type 0 where
   empty_message : alone (key.Msg 1026 1) (rows.Msg (record { bytes = []; handles = [] })) ≡ behind_rows (codes "msg 1026 1 - -")
   user : alone (key.Packet 1027 0) (rows.Packet (packet.User 18446744073709551615 (7 ∷ 171 ∷ []))) ≡ behind_rows (codes "packet 1027 0 user 18446744073709551615 07ab")
   signal : alone (key.Packet 1027 1) (rows.Packet fired) ≡ behind_rows (codes "packet 1027 1 signal 4 0x00000008 0xff000008 1025 7")
-  wait : alone (key.Wait 0) (rows.Wait (record { process = 1025; handle = 7; port = 1027; key = 4; signals = record { 0 = 0x8 } })) ≡ behind_rows (codes "wait 0 1025 7 1027 4 0x00000008")
+  wait : alone (key.Wait 0) (rows.Wait (record { process = 1025; handle = 7; port = 1027; key = 4; signals = record { 0 = 0x8 }; edge = false })) ≡ behind_rows (codes "wait 0 1025 7 1027 4 0x00000008")
+  wait_on_an_edge : alone (key.Wait 0) (rows.Wait (record { process = 1025; handle = 7; port = 1027; key = 4; signals = record { 0 = 0x8 }; edge = true })) ≡ behind_rows (codes "wait 0 1025 7 1027 4 0x00000008 edge")
 
 shows_rows : Rows
 unfolding digits hexadecimal hex_text shown_packet shown_key shown_object shown_wait shown_queued shown_row shown_answer
@@ -114,4 +115,5 @@ shows_rows = record {
   user = refl;
   signal = refl;
   wait = refl;
+  wait_on_an_edge = refl;
 }

@@ -132,7 +132,8 @@ lists_at_their_ends = record { longest = refl; too_long = refl }
 
 record PortCalls : Type 0 where
   create : read_as (codes "1025 port_create") ≡ Ok (Some (called 1025 calls.PortCreate))
-  wait_async : read_as (codes "1025 object_wait_async 7 11 18446744073709551615 0x00000008") ≡ Ok (Some (called 1025 (calls.ObjectWaitAsync 7 11 18446744073709551615 (record { 0 = 8 }))))
+  wait_async : read_as (codes "1025 object_wait_async 7 11 18446744073709551615 0x00000008") ≡ Ok (Some (called 1025 (calls.ObjectWaitAsync 7 11 18446744073709551615 (record { 0 = 8 }) false)))
+  wait_on_an_edge : read_as (codes "1025 object_wait_async 7 11 4 0x00000008 edge") ≡ Ok (Some (called 1025 (calls.ObjectWaitAsync 7 11 4 (record { 0 = 8 }) true)))
   queue : read_as (codes "1025 port_queue 11 1 00000000000000000000000000000000000000000000000000000000000000ff") ≡ Ok (Some (called 1025 (calls.PortQueue 11 1 (replicate 31 0 ++ 255 ∷ []))))
   wait : read_as (codes "1025 port_wait 11") ≡ Ok (Some (called 1025 (calls.PortWait 11)))
   cancel : read_as (codes "1025 port_cancel 11 7 9") ≡ Ok (Some (called 1025 (calls.PortCancel 11 7 9)))
@@ -140,12 +141,14 @@ record PortCalls : Type 0 where
   few_digits : read_as (codes "1025 port_queue 11 1 000000000000000000000000000000000000000000000000000000000000ff") ≡ Err (BadLine 22)
   upper : read_as (codes "1025 port_queue 11 1 00000000000000000000000000000000000000000000000000000000000000Ff") ≡ Err (BadLine 22)
   wide_key : read_as (codes "1025 port_cancel 11 7 18446744073709551616") ≡ Err (BadLine 23)
+  misspelt : read_as (codes "1025 object_wait_async 7 11 4 0x00000008 edges") ≡ Err (BadLine 42)
 
 reads_port_calls : PortCalls
 unfolding read_on_literals
 reads_port_calls = record {
   create = refl;
   wait_async = refl;
+  wait_on_an_edge = refl;
   queue = refl;
   wait = refl;
   cancel = refl;
@@ -153,6 +156,7 @@ reads_port_calls = record {
   few_digits = refl;
   upper = refl;
   wide_key = refl;
+  misspelt = refl;
 }
 
 record TaskCalls : Type 0 where

@@ -25,7 +25,7 @@ use Rattle.zt_rows.specs.declared.refusals.Refusal.{Refusal}
 use Rattle.zt_rows.specs.declared.refusals.Refusal.TheVariants as refusal
 use Rattle.zt_rows.specs.Refusals.{refusal_number, refusal_name}
 use Rattle.zt_text.specs.ShownNumbers.{words, shown_mask, shown_bytes, shown_list, shown_held}
-use Rattle.zt_text.specs.Calls.{shown_call}
+use Rattle.zt_text.specs.Calls.{flag_words, shown_call}
 
 -- a packet as the reader of its port gets it
 unfoldable pub shown_packet : Packet → List ℕ
@@ -67,9 +67,11 @@ shown_object object =
     words (kind_word object.kind ∷ shown_mask object.signals.0 ∷ decimal object.link ∷ shown_life object.life ∷ decimal object.next ∷ [])
     ++ shown_critical object.critical
 
+-- a wait on an edge says so at its end
 unfoldable pub shown_wait : Wait → List ℕ
 shown_wait wait =
-    words (decimal wait.process ∷ decimal wait.handle ∷ decimal wait.port ∷ decimal wait.key ∷ shown_mask wait.signals.0 ∷ [])
+    words (decimal wait.process ∷ decimal wait.handle ∷ decimal wait.port ∷ decimal wait.key ∷ shown_mask wait.signals.0
+    ∷ flag_words (codes "edge") wait.edge)
 
 -- a packet that waits shows, behind what its reader will get, whose handle was waited on
 unfoldable pub shown_queued : Packet → List ℕ

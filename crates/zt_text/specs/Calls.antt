@@ -19,7 +19,7 @@ call_name calls.ChannelCreate = codes "channel_create"
 call_name (calls.ChannelWrite _ _) = codes "channel_write"
 call_name (calls.ChannelRead _ _ _ _) = codes "channel_read"
 call_name calls.PortCreate = codes "port_create"
-call_name (calls.ObjectWaitAsync _ _ _ _) = codes "object_wait_async"
+call_name (calls.ObjectWaitAsync _ _ _ _ _) = codes "object_wait_async"
 call_name (calls.PortQueue _ _ _) = codes "port_queue"
 call_name (calls.PortWait _) = codes "port_wait"
 call_name (calls.PortCancel _ _ _) = codes "port_cancel"
@@ -29,10 +29,10 @@ call_name (calls.JobSetCritical _ _) = codes "job_set_critical"
 call_name (calls.TaskKill _) = codes "task_kill"
 call_name (calls.ProcessExit _) = codes "process_exit"
 
--- the word of a read that discards what has no room
-abbrev pub discard_words : Bool → List (List ℕ)
-discard_words true = codes "discard" ∷ []
-discard_words false = []
+-- a word that may stand at the end, where it does
+abbrev pub flag_words : List ℕ → Bool → List (List ℕ)
+flag_words word true = word ∷ []
+flag_words word false = []
 
 -- the arguments of a call
 abbrev pub call_arguments : Call → List (List ℕ)
@@ -47,10 +47,10 @@ call_arguments calls.ChannelCreate = []
 call_arguments (calls.ChannelWrite handle parcel) =
     decimal handle ∷ shown_bytes parcel.bytes ∷ shown_list decimal parcel.handles ∷ []
 call_arguments (calls.ChannelRead handle bytes handles discard) =
-    decimal handle ∷ decimal bytes ∷ decimal handles ∷ discard_words discard
+    decimal handle ∷ decimal bytes ∷ decimal handles ∷ flag_words (codes "discard") discard
 call_arguments calls.PortCreate = []
-call_arguments (calls.ObjectWaitAsync handle port key signals) =
-    decimal handle ∷ decimal port ∷ decimal key ∷ shown_mask signals.0 ∷ []
+call_arguments (calls.ObjectWaitAsync handle port key signals edge) =
+    decimal handle ∷ decimal port ∷ decimal key ∷ shown_mask signals.0 ∷ flag_words (codes "edge") edge
 call_arguments (calls.PortQueue port key bytes) = decimal port ∷ decimal key ∷ shown_bytes bytes ∷ []
 call_arguments (calls.PortWait port) = decimal port ∷ []
 call_arguments (calls.PortCancel port source key) = decimal port ∷ decimal source ∷ decimal key ∷ []
@@ -104,7 +104,7 @@ IsWithin (calls.ChannelWrite handle parcel) =
     × All IsHandle parcel.handles × (length parcel.handles ≤ 64)
 IsWithin (calls.ChannelRead handle bytes handles _) = IsHandle handle × (bytes < 2 ^ 32) × (handles < 2 ^ 32)
 IsWithin calls.PortCreate = ⊤
-IsWithin (calls.ObjectWaitAsync handle port key signals) =
+IsWithin (calls.ObjectWaitAsync handle port key signals _) =
     IsHandle handle × IsHandle port × IsKey key × IsMask signals.0
 IsWithin (calls.PortQueue port key bytes) = IsHandle port × IsKey key × All IsByte bytes × (length bytes ≡ 32)
 IsWithin (calls.PortWait port) = IsHandle port

@@ -14,5 +14,6 @@ pub mod Session
 pub mod Rows
 pub mod Spellings
 pub mod Columns
+pub mod SavedTexts
 -- Used by proofs only: no public clause depends on them.
 pub mod ProofsOnly

@@ -2,3 +2,4 @@
 pub mod Calls
 pub mod Session
 pub mod Cut
+pub mod SavedTexts

@@ -89,8 +89,8 @@ object_wait_async left = do
   port ← field handle_of handle.1
   key ← field key_of port.1
   signals ← field signals_of key.1
-  _ ← ended signals.1
-  Ok (calls.ObjectWaitAsync handle.0 port.0 key.0 signals.0)
+  edge ← flag (codes "edge") signals.1
+  Ok (calls.ObjectWaitAsync handle.0 port.0 key.0 signals.0 edge)
 
 unfoldable pub port_queue : Unread → Result Call Refusal
 port_queue left = do

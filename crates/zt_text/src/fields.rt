@@ -4,6 +4,7 @@ ghost use Rattle.zt_text.specs.Bytes.{bytes_of, packet_bytes_of};
 ghost use Rattle.zt_text.specs.Lists.{handles_of};
 ghost use Rattle.zt_text.specs.Names.{name_of, happening_of};
 ghost use Rattle.zt_text.specs.Fields.{unread, next, field, ended, flag};
+ghost use Rattle.zt_text.specs.SavedTexts.{client_of};
 ghost use Rattle.std.specs.Str.{bytes_eq};
 
 use crate::bytes::{Digits, packet_bytes};
@@ -13,7 +14,7 @@ use crate::numbers::{code, decimal, mask};
 use crate::separator::cut;
 use std::marker::Model;
 use zt_bits::Signals;
-use zt_rows::{HandleValue, Happening, Koid, LAST_MOMENT, Moment, Refusal};
+use zt_rows::{CLIENTS, HandleValue, Happening, Koid, LAST_MOMENT, Moment, Refusal};
 
 /// A field of a line, with the column at which it begins.
 #[derive(Drop)]
@@ -199,6 +200,18 @@ impl<'a> Fields<'a> {
         match Name::of(field.bytes()) {
             Some(name) => Ok((name, rest)),
             None => Err(field.fault()),
+        }
+    }
+
+    /// The number of this client, where the next field writes it.
+    #[tactic(auto, unfolding(crate::specs::Fields::field))]
+    pub fn client(self, wanted: u64) -> Result<(u64, Fields<'a>), Refusal>
+        ensures { result ≡ field (client_of wanted) self.entry }
+    {
+        let (field, rest) = self.next()?;
+        match decimal(field.bytes(), u64::from(CLIENTS)) {
+            Some(number) if number == wanted => Ok((number, rest)),
+            _ => Err(field.fault()),
         }
     }
 

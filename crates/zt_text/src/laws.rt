@@ -13,6 +13,7 @@ ghost use Rattle.zt_text.specs.Bytes.{bytes_of, packet_bytes_of};
 ghost use Rattle.zt_text.specs.Lists.{handles_of};
 ghost use Rattle.zt_text.specs.ReadLines.{read_as};
 ghost use Rattle.zt_text.specs.Session.{session_of};
+ghost use Rattle.zt_text.specs.SavedTexts.{IsSaved, IsSavedCall, IsHeadWithin, IsPlaceWithin, in_a_row, saved_of, saved_text};
 ghost use Rattle.zt_text.specs.Columns.{ColumnsTellFirstFaults};
 ghost use Rattle.zt_text.specs.Spellings.{IsSpelledAsShown, CallsAreSpelledAsShown, LinesHaveTheWordsOfWhatTheyAsk, LinesAskDifferentThings, SessionsAreSpelledAsShown};
 ghost use Rattle.zt_text.specs.Rows.{IsKeyWithin, IsRowWithin};
@@ -25,7 +26,7 @@ use crate::within::{
     handles_held_are_within, held_is_within, key_is_within, life_is_within, mask_is_within,
     packet_is_within,
 };
-use zt_rows::{Call, Koid, Row, RowKey};
+use zt_rows::{Call, Cursor, Koid, Row, RowKey, Saved, SavedBranch, SavedCall};
 
 /// A number that is shown in decimal digits reads as that number, and a code with its sign as that code.
 #[tactic(auto, using(crate::proofs::ShownFields::decimal_read, crate::proofs::ShownFields::code_read))]
@@ -121,6 +122,7 @@ pub fn every_call_is_within(process: Koid, call: &Call)
             port,
             key,
             signals,
+            edge: _,
         } => {
             handle_is_within(handle);
             handle_is_within(port);
@@ -189,6 +191,80 @@ pub fn calls_have_lines_of_their_own()
 #[tactic(auto, using(crate::proofs::SessionTexts::session_read))]
 pub fn sessions_read_back()
     ensures { (calls : List (ℕ × Call)) → All IsCalled calls → session_of (session_text calls) ≡ Ok calls }
+{}
+
+/// The session text of a tree reads as that tree: of its moments, its branches and its cursors nothing is lost.
+#[tactic(auto, using(crate::proofs::SavedTrees::saved_read))]
+pub fn saved_trees_read_back()
+    ensures { (saved : Saved) → IsSaved saved → saved_of (saved_text saved) ≡ Ok saved }
+{}
+
+/// Every saved tree has the numbers that the law on its text speaks of.
+pub fn every_saved_is_within(saved: &Saved)
+    ensures moments { All IsSavedCall saved.now.moments }
+    ensures heads { All IsHeadWithin saved.now.branches }
+    ensures places { All IsPlaceWithin saved.now.cursors }
+{
+    moments_are_within(saved.moments.as_slice());
+    heads_are_within(saved.branches.as_slice());
+    places_are_within(saved.cursors.as_slice());
+}
+
+/// Every moment has such numbers.
+fn moments_are_within(moments: &[SavedCall])
+    ensures { All IsSavedCall moments.now }
+{
+    for made in moments {
+        moment_is_within(made);
+    }
+}
+
+/// A moment has such numbers.
+fn moment_is_within(made: &SavedCall)
+    ensures { IsSavedCall made.now }
+{
+    mask_is_within(made.parent.0);
+    every_call_is_within(made.process, &made.call);
+}
+
+/// Every head has such a number.
+fn heads_are_within(branches: &[SavedBranch])
+    ensures { All IsHeadWithin branches.now }
+{
+    for branch in branches {
+        head_is_within(branch);
+    }
+}
+
+/// A head has such a number.
+fn head_is_within(branch: &SavedBranch)
+    ensures { IsHeadWithin branch.now }
+{
+    mask_is_within(branch.head.0);
+}
+
+/// Every cursor has such a number.
+fn places_are_within(cursors: &[Cursor])
+    ensures { All IsPlaceWithin cursors.now }
+{
+    for cursor in cursors {
+        place_is_within(cursor);
+    }
+}
+
+/// A cursor has such a number.
+fn place_is_within(cursor: &Cursor)
+    ensures { IsPlaceWithin cursor.now }
+{
+    if let Cursor::At(moment) = cursor {
+        mask_is_within(moment.0);
+    }
+}
+
+/// A session text of version 1 reads as the calls that it has, each made at the moment of the one before it.
+#[tactic(auto, using(crate::proofs::SavedTrees::first_version))]
+pub fn calls_read_as_a_row()
+    ensures { (text : List ℕ) (calls : List (ℕ × Call)) → session_of text ≡ Ok calls → saved_of text ≡ Ok (in_a_row calls) }
 {}
 
 /// A session text that reads as calls is their session text, but for skipped lines and the line feed of its last line.

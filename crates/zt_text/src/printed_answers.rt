@@ -50,7 +50,12 @@ fn print_moment(alloc: Global, word: &str, moment: Moment) -> Result<Vec<u8>, Al
 }
 
 /// The line of a word, a name and a moment. The name may be of any bytes.
-fn print_name(alloc: Global, word: &str, name: &[u8], moment: Moment) -> Result<Vec<u8>, AllocError>
+pub(crate) fn print_name(
+    alloc: Global,
+    word: &str,
+    name: &[u8],
+    moment: Moment,
+) -> Result<Vec<u8>, AllocError>
     ensures { IfOk result (λ text. text.items ≡ name_line word.now name.now moment) }
 {
     let mut number = String::new(alloc);

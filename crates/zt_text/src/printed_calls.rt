@@ -1,8 +1,8 @@
-ghost use Rattle.std.specs.Prelude.{◌≡◌, ◌++◌, [], ◌∷◌, IfOk, OnOk, string_bytes};
+ghost use Rattle.std.specs.Prelude.{◌≡◌, ◌++◌, [], ◌∷◌, IfOk, OnOk, string_bytes, codes};
 ghost use Rattle.std.specs.Fmt.{decimal};
 ghost use Rattle.std.specs.List.{flat_map};
 ghost use Rattle.zt_text.specs.ShownNumbers.{shown_mask, shown_bytes, shown_list};
-ghost use Rattle.zt_text.specs.Calls.{call_name, discard_words, call_arguments, shown_call, call_line, session_text};
+ghost use Rattle.zt_text.specs.Calls.{call_name, flag_words, call_arguments, shown_call, call_line, session_text};
 ghost use Rattle.zt_text.specs.ProofsOnly.Calls.{spaced};
 
 use crate::printed_rows::{put_bytes, put_handles, put_mask};
@@ -108,7 +108,8 @@ fn put_arguments(text: &mut String, call: &Call) -> Result<(), AllocError>
             port,
             key,
             signals,
-        } => put_wait_async(text, handle, port, key, signals),
+            edge,
+        } => put_wait_async(text, handle, port, key, signals, edge),
         Call::PortQueue {
             port,
             key,
@@ -164,19 +165,21 @@ fn put_write(text: &mut String, handle: HandleValue, parcel: &Parcel) -> Result<
     put_handles(text, parcel.handles().as_slice())
 }
 
-/// A handle, the port of a wait, its key and its signals.
+/// A handle, the port of a wait, its key and its signals, and the word of a wait on an edge.
 fn put_wait_async(
     text: &mut String,
     handle: HandleValue,
     port: HandleValue,
     key: u64,
     signals: Signals,
+    edge: bool,
 ) -> Result<(), AllocError>
     ensures { OnOk result (string_bytes text.new ≡ string_bytes text.old
-        ++ spaced (decimal handle ∷ decimal port ∷ decimal key ∷ shown_mask signals.0 ∷ [])) }
+        ++ spaced (decimal handle ∷ decimal port ∷ decimal key ∷ shown_mask signals.0 ∷ flag_words (codes "edge") edge)) }
 {
     write!(text, " {} {} {key} ", handle.0, port.0)?;
-    put_mask(text, signals.0)
+    put_mask(text, signals.0)?;
+    if edge { text.push_str(" edge") } else { Ok(()) }
 }
 
 /// A port, and the key and the bytes of a packet.
@@ -202,7 +205,7 @@ fn put_read(
     discard: bool,
 ) -> Result<(), AllocError>
     ensures { OnOk result (string_bytes text.new ≡ string_bytes text.old
-        ++ spaced (decimal handle ∷ decimal bytes ∷ decimal handles ∷ discard_words discard)) }
+        ++ spaced (decimal handle ∷ decimal bytes ∷ decimal handles ∷ flag_words (codes "discard") discard)) }
 {
     put_three(
         text,

@@ -290,5 +290,10 @@ fn put_wait(text: &mut String, wait: &Wait) -> Result<(), AllocError>
         "{} {} {} {} ",
         wait.process.0, wait.handle.0, wait.port.0, wait.key
     )?;
-    put_mask(text, wait.signals.0)
+    put_mask(text, wait.signals.0)?;
+    if wait.edge {
+        text.push_str(" edge")
+    } else {
+        Ok(())
+    }
 }

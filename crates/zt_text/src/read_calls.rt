@@ -181,12 +181,13 @@ fn object_wait_async(fields: Fields<'_>) -> Result<Call, Refusal>
     let (port, rest) = rest.handle()?;
     let (key, rest) = rest.key()?;
     let (signals, rest) = rest.signals()?;
-    rest.end()?;
+    let edge = rest.flag("edge")?;
     Ok(Call::ObjectWaitAsync {
         handle,
         port,
         key,
         signals,
+        edge,
     })
 }
 

@@ -168,7 +168,7 @@ fn follow(alloc: Global, fields: Fields<'_>) -> Result<Command, Refusal>
 
 /// A name with nothing behind it.
 #[tactic(auto, unfolding(crate::specs::ReadLines::only_name))]
-fn only_name(fields: Fields<'_>) -> Result<Name<'_>, Refusal>
+pub(crate) fn only_name(fields: Fields<'_>) -> Result<Name<'_>, Refusal>
     ensures { result ≡ only_name fields.entry }
 {
     let (name, rest) = fields.name()?;

@@ -30,7 +30,7 @@ pub fn read_session(alloc: Global, text: &[u8]) -> Result<Vec<(Koid, Call)>, (u6
 }
 
 /// The first line of some bytes, and those behind its line feed.
-fn next_line(bytes: &[u8]) -> (&[u8], &[u8])
+pub(crate) fn next_line(bytes: &[u8]) -> (&[u8], &[u8])
     requires { 0 < length bytes.now }
     ensures lines { lines_of bytes.now ≡ result.0.now ∷ lines_of result.1.now }
     ensures shorter { length result.1.now < length bytes.now }
@@ -96,7 +96,7 @@ fn take_line(
 }
 
 /// A fault with the number of its line; a want of memory has no line.
-fn fault_at(number: u64, fault: Refusal) -> (u64, Refusal)
+pub(crate) fn fault_at(number: u64, fault: Refusal) -> (u64, Refusal)
     ensures { result ≡ fault_at number fault }
 {
     match fault {
@@ -119,7 +119,7 @@ fn call_in(alloc: Global, line: &[u8]) -> Result<Option<(Koid, Call)>, Refusal>
 
 /// A process and its call.
 #[tactic(auto, unfolding(crate::specs::ReadCalls::process_call))]
-fn process_call(alloc: Global, fields: Fields<'_>) -> Result<(Koid, Call), Refusal>
+pub(crate) fn process_call(alloc: Global, fields: Fields<'_>) -> Result<(Koid, Call), Refusal>
     ensures read { IfOk result (λ made. process_call fields.entry ≡ Ok made) }
     ensures refused { IfErr result (λ refusal. IsUnread (λ _. true) (process_call fields.entry) refusal) }
 {

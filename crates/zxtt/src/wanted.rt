@@ -36,6 +36,7 @@ pub enum Wanted {
     /// How many handles there is room for.
     HandleRoom,
     Discard,
+    Edge,
     Packet,
     Code,
     Moment,
@@ -75,6 +76,7 @@ impl Wanted {
             Wanted::ByteRoom => "how many bytes there is room for, a decimal to 4294967295",
             Wanted::HandleRoom => "how many handles there is room for, a decimal to 4294967295",
             Wanted::Discard => "discard, or nothing",
+            Wanted::Edge => "edge, or nothing",
             Wanted::Packet => "a packet, 64 digits of 0 to 9 and a to f",
             Wanted::Code => "a code, a decimal from -9223372036854775808 to 9223372036854775807",
             Wanted::Moment => "a moment, a decimal to 4294967295",
@@ -96,9 +98,13 @@ pub fn fields_of_call(name: &[u8]) -> Option<&'static [Wanted]> {
         b"object_signal" | b"object_signal_peer" => {
             Some(&[Wanted::Handle, Wanted::Cleared, Wanted::Set])
         }
-        b"object_wait_async" => {
-            Some(&[Wanted::Handle, Wanted::Port, Wanted::Key, Wanted::Signals])
-        }
+        b"object_wait_async" => Some(&[
+            Wanted::Handle,
+            Wanted::Port,
+            Wanted::Key,
+            Wanted::Signals,
+            Wanted::Edge,
+        ]),
         b"channel_write" => Some(&[Wanted::Channel, Wanted::Bytes, Wanted::Handles]),
         b"channel_read" => Some(&[
             Wanted::Channel,

@@ -22,22 +22,22 @@ HasWoken B T (key.Entry p h) list = Lists T (is_on p h) list
 HasWoken B T (key.Object x) list = (signals_at T x ≡ signals_at B x) ⊎ Lists T (is_at T x) list
 HasWoken B T _ list = ⊤
 
--- each wait that is met is in the list
-pub record HasMet (T : State) (list : List ℕ) : Type 0 where
-  pub each : (n : ℕ) (w : Wait) → wait T n ≡ Some w → is_met T w ≡ true → among list n ≡ true
+-- each wait that is met in T, after B, is in the list
+pub record HasMet (B T : State) (list : List ℕ) : Type 0 where
+  pub each : (n : ℕ) (w : Wait) → wait T n ≡ Some w → is_met B T w ≡ true → among list n ≡ true
 
 -- the later list has what the first one has
 abbrev pub IsLonger : List ℕ → List ℕ → Type 0
 IsLonger list later = (n : ℕ) → among list n ≡ true → among later n ≡ true
 
-abbrev pub fire_if : State → ℕ → Option Wait → State
-fire_if S n (Some w) = fire S (n, w)
-fire_if S n None = S
+abbrev pub fire_if : State → State → ℕ → Option Wait → State
+fire_if B T n (Some w) = fire B T (n, w)
+fire_if B T n None = T
 
--- the wait of this number, if there is one, fires where it is met
-abbrev pub fire_number : State → ℕ → State
-fire_number S n = fire_if S n (wait S n)
+-- the wait of this number, if there is one, fires where it is met in T, after B
+abbrev pub fire_number : State → State → ℕ → State
+fire_number B T n = fire_if B T n (wait T n)
 
 -- where the wait is met, its port has room for its packet
-abbrev pub HasRoomFor : State → ℕ → Type 0
-HasRoomFor S n = (w : Wait) → wait S n ≡ Some w → is_met S w ≡ true → next_at S w.port + 1 < 2 ^ 64
+abbrev pub HasRoomFor : State → State → ℕ → Type 0
+HasRoomFor B T n = (w : Wait) → wait T n ≡ Some w → is_met B T w ≡ true → next_at T w.port + 1 < 2 ^ 64

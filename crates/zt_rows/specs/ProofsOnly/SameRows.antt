@@ -1,5 +1,6 @@
 -- The test that two rows are one is exact. Used by proofs only.
 use Rattle.std.proofs.Common.{◌≡◌, ℕ, List, Bool, cond, refl, sym, ap, ◌∙◌}
+use Rattle.std.specs.Cmp.{booleans_Decides}
 use Rattle.std.specs.Prelude.{◌==◌}
 use Rattle.std.specs.Bool.{Decides, one_answer}
 use Rattle.std.specs.Cmp.{IsPartialEquivalence}
@@ -95,9 +96,9 @@ packet_eq-decides _ _ = (λ e. cc, λ e. cc)
 
 pub wait_eq-decides : (a b : Wait) → Decides (wait_eq a b) (a ≡ b)
 wait_eq-decides a b =
-    Decides-like _ (λ e i. record { process = e.0.0.0.0 i; handle = e.0.0.0.1 i; port = e.0.0.1 i; key = e.0.1 i; signals = e.1 i })
-    (λ e. ((((ap (λ (o : Wait). o.process) e, ap (λ (o : Wait). o.handle) e), ap (λ (o : Wait). o.port) e), ap (λ (o : Wait). o.key) e), ap (λ (o : Wait). o.signals) e))
-    (Decides-and _ _ (Decides-and _ _ (Decides-and _ _ (Decides-and _ _ (Decides-eqb a.process b.process) (Decides-eqb a.handle b.handle)) (Decides-eqb a.port b.port)) (Decides-eqb a.key b.key)) (signals-decides a.signals b.signals))
+    Decides-like _ (λ e i. record { process = e.0.0.0.0.0 i; handle = e.0.0.0.0.1 i; port = e.0.0.0.1 i; key = e.0.0.1 i; signals = e.0.1 i; edge = e.1 i })
+    (λ e. (((((ap (λ (o : Wait). o.process) e, ap (λ (o : Wait). o.handle) e), ap (λ (o : Wait). o.port) e), ap (λ (o : Wait). o.key) e), ap (λ (o : Wait). o.signals) e), ap (λ (o : Wait). o.edge) e))
+    (Decides-and _ _ (Decides-and _ _ (Decides-and _ _ (Decides-and _ _ (Decides-and _ _ (Decides-eqb a.process b.process) (Decides-eqb a.handle b.handle)) (Decides-eqb a.port b.port)) (Decides-eqb a.key b.key)) (signals-decides a.signals b.signals)) (booleans_Decides a.edge b.edge))
 
 pub row_eq-decides : (a b : Row) → Decides (row_eq a b) (a ≡ b)
 row_eq-decides (rows.Counters a) (rows.Counters b) = Decides-like _ (λ e. ap rows.Counters e) (λ e. cc) (counters_eq-decides a b)

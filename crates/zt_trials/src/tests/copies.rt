@@ -84,6 +84,7 @@ fn rows_are_copied(rt: HostRuntime) {
         port: Koid(1027),
         key: 9,
         signals: Signals(8),
+        edge: true,
     };
     check(&rt, is_row_copied(&Row::Wait(wait)) == Ok(true));
 }

@@ -86,6 +86,7 @@ fn wait_for(port: Koid) -> Wait {
         port,
         key: 5,
         signals: Signals(8),
+        edge: false,
     }
 }
 

@@ -90,6 +90,7 @@ fn put_wait(step: &mut Step, number: u64) -> Result<(), AllocError> {
         port: PORT,
         key: 5,
         signals: Signals(8),
+        edge: true,
     };
     step.put(RowKey::Wait(number), Some(Row::Wait(wait)))
 }

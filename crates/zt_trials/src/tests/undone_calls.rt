@@ -17,11 +17,11 @@ use zt_text::{print_reply, read_session};
 const CALLS: usize = 26;
 
 /// Calls of the first process and of two that it makes, one under a job of its own. A channel end goes to the first
-/// child, which is sent an event, waits on it and on the end, takes the packets and sends the event back; the other is
+/// child, which is sent an event, waits on it for an edge and on the end, takes the packets and sends it back; the other is
 /// killed with its job; then each process that is left exits. No clause tells the lines, so that who asks for them is
 /// proved without going over their bytes.
 fn asked() -> &'static [u8] {
-    b"zxtt 1\n1025 channel_create\n1025 spawn 3 11\n1025 event_create\n1025 handle_duplicate 19 0x80000000\n1025 channel_write 7 6869 23\n1028 channel_read 3 2 1\n1028 port_create\n1028 object_wait_async 7 11 5 0x00000008\n1028 object_wait_async 3 11 6 0x00000004\n1028 port_queue 11 9 0123456789abcdef0123456789abcdef0123456789abcdef0123456789abcdef\n1025 object_signal 19 0x00000000 0x00000008\n1028 port_wait 11\n1028 port_wait 11\n1028 port_wait 11\n1028 channel_write 3 - 7\n1025 channel_read 7 0 0\n1025 job_create 3\n1025 spawn 27 0\n1032 eventpair_create\n1032 object_signal_peer 3 0x00000000 0x01000000\n1032 handle_replace 7 0x00004000\n1025 task_kill 27\n1025 handle_close 99\n1025 handle_close 7\n1028 process_exit -7\n1025 process_exit 0\n"
+    b"zxtt 1\n1025 channel_create\n1025 spawn 3 11\n1025 event_create\n1025 handle_duplicate 19 0x80000000\n1025 channel_write 7 6869 23\n1028 channel_read 3 2 1\n1028 port_create\n1028 object_wait_async 7 11 5 0x00000008 edge\n1028 object_wait_async 3 11 6 0x00000004\n1028 port_queue 11 9 0123456789abcdef0123456789abcdef0123456789abcdef0123456789abcdef\n1025 object_signal 19 0x00000000 0x00000008\n1028 port_wait 11\n1028 port_wait 11\n1028 port_wait 11\n1028 channel_write 3 - 7\n1025 channel_read 7 0 0\n1025 job_create 3\n1025 spawn 27 0\n1032 eventpair_create\n1032 object_signal_peer 3 0x00000000 0x01000000\n1032 handle_replace 7 0x00004000\n1025 task_kill 27\n1025 handle_close 99\n1025 handle_close 7\n1028 process_exit -7\n1025 process_exit 0\n"
 }
 
 /// What each of them is answered.

@@ -33,4 +33,5 @@ settle-requires-clause-room c =
     let made : State = (direct S c.args.process c.args.call.now).0 in
     let left : c.direct.new.step.current ≡ made = ap (λ (d : State × Reply). d.0) c.in_ok-reply.ensures.ok in
     let collected : c.release.new.step.current ≡ collect made = c.in_ok-release.ensures.ok.1 ∙ ap collect left in
-    subst HasRoomToFire (sym collected) (room_after S c.args.process c.args.call.now c.requires.consistent c.requires.room c.requires.running c.requires.limits)
+    subst (λ B. HasRoomToFire B c.release.new.step.current) (c.requires.begun ∙ sym c.direct.ensures.beginning ∙ sym c.in_ok-release.ensures.ok.0)
+    (subst (HasRoomToFire S) (sym collected) (room_after S c.args.process c.args.call.now c.requires.consistent c.requires.room c.requires.running c.requires.limits))

@@ -13,18 +13,20 @@ use Rattle.zt_cascade.proofs.fired_waits.fire_all.Goals as goal
 pub fire_number-requires : goal.fire_number-requires
 fire_number-requires c =
     let S = c.args.step.now.current in
-    let all : fold fire_number S c.deref-number-items.result.now ≡ fold fire S (waits S) =
-    ap (fold fire_number S) c.deref-number-items.ensures.value
-    ∙ fired_by_number S c.in_ok-numbers.numbers.items c.sort_unstable.new.self.items c.in_ok-numbers.ensures c.sort_unstable.ensures.permutation
+    let B = c.args.step.now.beginning in
+    let all : fold (fire_number B) S c.deref-number-items.result.now ≡ fold (fire B) S (waits S) =
+    ap (fold (fire_number B) S) c.deref-number-items.ensures.value
+    ∙ fired_by_number B S c.in_ok-numbers.numbers.items c.sort_unstable.new.self.items c.in_ok-numbers.ensures c.sort_unstable.ensures.permutation
     (IsNonDecreasingBy-from_sort (λ x. x) c.sort_unstable.new.self.items c.sort_unstable.ensures.sorted) in
-    room-numbers S c.loop-number.step.current c.deref-number-items.result.now c.loop-number.number-index _ _ (subst (FiresWithin S) (sym all) c.requires.room)
-    c.loop-number-test.true refl c.loop-number.invariant.current
+    room-numbers B c.loop-number.step.beginning S c.loop-number.step.current c.deref-number-items.result.now c.loop-number.number-index _ _ c.loop-number.invariant.ahead.beginning
+    (subst (FiresWithin B S) (sym all) c.requires.room) c.loop-number-test.true refl c.loop-number.invariant.current
 
 pub returns-clause-ok : goal.returns-clause-ok
 returns-clause-ok c =
     let S = c.args.step.now.current in
+    let B = c.args.step.now.beginning in
     c.loop-number.invariant.current
-    ∙ fold-all fire_number S c.deref-number-items.result.now c.loop-number.number-index c.loop-number-test.false
-    ∙ ap (fold fire_number S) c.deref-number-items.ensures.value
-    ∙ fired_by_number S c.in_ok-numbers.numbers.items c.sort_unstable.new.self.items c.in_ok-numbers.ensures c.sort_unstable.ensures.permutation
+    ∙ fold-all (fire_number B) S c.deref-number-items.result.now c.loop-number.number-index c.loop-number-test.false
+    ∙ ap (fold (fire_number B) S) c.deref-number-items.ensures.value
+    ∙ fired_by_number B S c.in_ok-numbers.numbers.items c.sort_unstable.new.self.items c.in_ok-numbers.ensures c.sort_unstable.ensures.permutation
     (IsNonDecreasingBy-from_sort (λ x. x) c.sort_unstable.new.self.items c.sort_unstable.ensures.sorted)

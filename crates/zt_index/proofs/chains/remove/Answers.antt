@@ -1,4 +1,4 @@
-use Rattle.std.proofs.Common.{◌≡◌, ◌<◌, ℕ, cond, Some, None, List, length, set, refl, sym, ap, ◌∙◌, subst, arith}
+use Rattle.std.proofs.Common.{◌≡◌, ◌<◌, ℕ, cond, Some, None, List, get_or, length, set, refl, sym, ap, ◌∙◌, subst, arith}
 use Rattle.std.specs.Prelude.{IfSome}
 use Rattle.std.proofs.lemmas.List.{map-set, set-get_or}
 use Rattle.zt_index.specs.declared.chains.BucketLink.{BucketLink}
@@ -6,6 +6,10 @@ use Rattle.zt_index.specs.Chains.{bucket_at}
 use Rattle.zt_index.specs.ProofsOnly.Chains.{buckets, before_of, next_of, is_slot, no_link}
 use Rattle.zt_index.proofs.ChainLaws.{removed, bucket-link, lengths-same, in-own, ends-there, before-there, next-there, next-other, before-other, none_left}
 use Rattle.zt_index.proofs.chains.remove.Goals as goal
+
+-- the link that the item keeps
+abbrev kept_link : List BucketLink → ℕ → BucketLink
+kept_link links n = record { bucket = None; before = (get_or links n no_link).before; next = (get_or links n no_link).next }
 
 pub returns-in_default-clause-buckets : goal.returns-in_default-clause-buckets
 returns-in_default-clause-buckets c =
@@ -37,13 +41,14 @@ returns-clause-chained c =
     let b : ℕ = c.in-Some.bucket in
     let at : bucket_at (buckets L) c.args.item ≡ Some b = bucket-link L c.args.item ∙ c.in-Some.is in
     let lt : c.args.item < length (buckets L) = omega (arith, lengths-same L, c.requires.item) in
-    removed L (set c.set_before.new.links c.args.item no_link) c.args.ends.now c.set_before.new.ends c.args.item b
+    let kept : BucketLink = kept_link L c.args.item in
+    removed L (set c.set_before.new.links c.args.item kept) c.args.ends.now c.set_before.new.ends c.args.item b
     (before_of L c.args.ends.now b (Some c.args.item)) (next_of L c.args.ends.now b (Some c.args.item)) c.requires.chained lt at refl refl
-    (λ d l ne. next-other c.set_before.new.links c.set_before.new.ends c.args.item no_link d l ne ∙ c.set_before.ensures.nexts d l ∙ c.set_next.ensures.nexts d l)
-    (λ d l ne. before-other c.set_before.new.links c.set_before.new.ends c.args.item no_link d l ne ∙ c.set_before.ensures.befores d l
+    (λ d l ne. next-other c.set_before.new.links c.set_before.new.ends c.args.item kept d l ne ∙ c.set_before.ensures.nexts d l ∙ c.set_next.ensures.nexts d l)
+    (λ d l ne. before-other c.set_before.new.links c.set_before.new.ends c.args.item kept d l ne ∙ c.set_before.ensures.befores d l
     ∙ ap (cond (is_slot b (next_of L c.args.ends.now b (Some c.args.item)) d l) (before_of L c.args.ends.now b (Some c.args.item))) (c.set_next.ensures.befores d l))
-    (map-set (λ (x : BucketLink). x.bucket) c.set_before.new.links c.args.item no_link ∙ ap (λ bs. set bs c.args.item None) (c.set_before.ensures.buckets ∙ c.set_next.ensures.buckets))
+    (map-set (λ (x : BucketLink). x.bucket) c.set_before.new.links c.args.item kept ∙ ap (λ bs. set bs c.args.item None) (c.set_before.ensures.buckets ∙ c.set_next.ensures.buckets))
 
 pub returns-clause-buckets : goal.returns-clause-buckets
 returns-clause-buckets c =
-    map-set (λ (x : BucketLink). x.bucket) c.set_before.new.links c.args.item no_link ∙ ap (λ bs. set bs c.args.item None) (c.set_before.ensures.buckets ∙ c.set_next.ensures.buckets)
+    map-set (λ (x : BucketLink). x.bucket) c.set_before.new.links c.args.item (kept_link c.args.links.now c.args.item) ∙ ap (λ bs. set bs c.args.item None) (c.set_before.ensures.buckets ∙ c.set_next.ensures.buckets)

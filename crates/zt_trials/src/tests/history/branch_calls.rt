@@ -96,11 +96,25 @@ pub(super) fn send(alloc: Global, through: u32, sent: u32) -> Result<Call, Alloc
 
 /// A wait for the signal that says that a task has ended.
 pub(super) fn wait(handle: u32, port: u32, key: u64) -> Call {
+    wait_for(handle, port, key, 0x8, false)
+}
+
+/// A wait for any of the signals, or for the edge of one.
+pub(super) fn wait_for(handle: u32, port: u32, key: u64, signals: u32, edge: bool) -> Call {
     Call::ObjectWaitAsync {
         handle: HandleValue(handle),
         port: HandleValue(port),
         key,
-        signals: Signals(0x8),
+        signals: Signals(signals),
+        edge,
+    }
+}
+
+pub(super) fn signal(handle: u32, clear: u32, set: u32) -> Call {
+    Call::ObjectSignal {
+        handle: HandleValue(handle),
+        clear: Signals(clear),
+        set: Signals(set),
     }
 }
 

@@ -1,7 +1,7 @@
 //! Calls with much in their wake, with each request for memory refused in turn.
 use super::branch_calls::{
-    answers, answers_often, close, is_last_told, kill, make_job, send, sends, set_critical, spawn,
-    wait,
+    answers, answers_often, close, is_last_told, kill, make_job, send, sends, set_critical, signal,
+    spawn, wait, wait_for,
 };
 use super::same::keys_of;
 use super::twins::{call_both, mark};
@@ -128,4 +128,82 @@ pub(super) fn are_links_whole(alloc: Global, tried: &mut History, other: &mut Hi
         && call_both(tried, other, &kill(19))
         && is_last_told(tried, 13, Status::Ok)
         && are_killed(keys_of(tried, Moment(13)), 9, Koid(1033))
+}
+
+const EVENT: Koid = Koid(1026);
+
+const PORT: Koid = Koid(1027);
+
+/// What the call changes in which a signal rises, and another that stands is cleared and set: the event, the port, and
+/// three waits with their packets.
+const FIRED: [RowKey; 8] = [
+    RowKey::Object(EVENT),
+    RowKey::Object(PORT),
+    RowKey::Packet(PORT, 0),
+    RowKey::Packet(PORT, 1),
+    RowKey::Packet(PORT, 2),
+    RowKey::Wait(0),
+    RowKey::Wait(2),
+    RowKey::Wait(3),
+];
+
+/// What the call changes in which the other falls.
+const FELL: [RowKey; 1] = [RowKey::Object(EVENT)];
+
+/// What the call changes in which it rises again: the same of the one wait that is left.
+const FIRED_LATER: [RowKey; 4] = [
+    RowKey::Object(EVENT),
+    RowKey::Object(PORT),
+    RowKey::Packet(PORT, 3),
+    RowKey::Wait(1),
+];
+
+/// Makes an event with a signal that stands, and a port.
+fn makes_signalled(history: &mut History) -> bool {
+    answers(history, &Call::EventCreate)
+        && answers(history, &Call::PortCreate)
+        && answers(history, &signal(7, 0, 0x8))
+}
+
+/// Makes waits on the event: two on edges, of which one is for the signal that stands and another, and the second for that
+/// which stands alone; and two for the other.
+fn makes_waits(history: &mut History) -> bool {
+    answers(history, &wait_for(7, 11, 1, 0x100_0008, true))
+        && answers(history, &wait_for(7, 11, 2, 0x8, true))
+        && answers(history, &wait_for(7, 11, 3, 0x100_0000, false))
+        && answers(history, &wait_for(7, 11, 4, 0x100_0000, false))
+}
+
+fn waits_on_edges(history: &mut History) -> bool {
+    makes_signalled(history) && makes_waits(history)
+}
+
+/// Whether the call is made whole or not at all, is told ok, and its record has those keys.
+fn is_signal_whole(
+    tried: &mut History,
+    other: &mut History,
+    call: &Call,
+    moment: u32,
+    keys: &[RowKey],
+) -> bool {
+    call_both(tried, other, call)
+        && is_last_told(tried, moment, Status::Ok)
+        && keys_of(tried, Moment(moment)) == keys
+}
+
+/// Whether a call in which one wait on an edge and two others fire, and one in which the second wait on an edge does, are
+/// made whole or not at all.
+pub(super) fn are_edges_whole(alloc: Global, tried: &mut History, other: &mut History) -> bool {
+    waits_on_edges(tried)
+        && waits_on_edges(other)
+        && mark(alloc)
+        && is_signal_whole(
+            tried,
+            other,
+            &signal(7, 0x8, 0x100_0008),
+            8,
+            FIRED.as_slice(),
+        )
+        && is_signal_whole(tried, other, &signal(7, 0x8, 0), 9, FELL.as_slice())
+        && is_signal_whole(tried, other, &signal(7, 0, 0x8), 10, FIRED_LATER.as_slice())
 }

@@ -1,5 +1,7 @@
 //! Trials over two histories each, of which one is asked while memory is refused.
-use super::cascades::{are_links_whole, is_cascade_whole, is_kill_whole, is_write_whole};
+use super::cascades::{
+    are_edges_whole, are_links_whole, is_cascade_whole, is_kill_whole, is_write_whole,
+};
 use super::moves::are_moves_whole;
 use std::alloc::Global;
 use zt_history::History;
@@ -11,6 +13,7 @@ enum PairTrial {
     Write,
     Kill,
     Links,
+    Edges,
     Moves,
 }
 
@@ -20,6 +23,7 @@ fn try_over(alloc: Global, tried: &mut History, other: &mut History, trial: Pair
         PairTrial::Write => is_write_whole(alloc, tried, other),
         PairTrial::Kill => is_kill_whole(alloc, tried, other),
         PairTrial::Links => are_links_whole(alloc, tried, other),
+        PairTrial::Edges => are_edges_whole(alloc, tried, other),
         PairTrial::Moves => are_moves_whole(alloc, tried, other),
     }
 }
@@ -58,6 +62,11 @@ fn refused_after_mark_each_key_is_recorded_once(rt: HostRuntime) {
 #[test]
 fn refused_after_mark_no_critical_link_is_half_followed(rt: HostRuntime) {
     assert!(rt; holds(rt.alloc(), PairTrial::Links));
+}
+
+#[test]
+fn refused_after_mark_no_edge_is_half_met(rt: HostRuntime) {
+    assert!(rt; holds(rt.alloc(), PairTrial::Edges));
 }
 
 #[test]

@@ -2,7 +2,7 @@ use Rattle.std.proofs.Common.{◌≡◌, ◌<◌}
 use Rattle.std.specs.Prelude.{IfSome}
 use Rattle.zt_index.specs.ProofsOnly.Chains.{IsItemOf, before_of, buckets, is_in}
 use Rattle.zt_index.proofs.ChainLaws.{room_below}
-use Rattle.zt_index.proofs.chains.around.Given as goal
+use Rattle.zt_index.proofs.chains.searched.Given as goal
 
 abbrev pub invariant-items : goal.invariant-items
 invariant-items l = record {

@@ -1,7 +1,7 @@
 use Rattle.std.proofs.Common.{◌<◌, ℕ, Bool, Some, Option, sym, ◌∙◌, subst}
 use Rattle.zt_index.specs.ProofsOnly.Chains.{IsPrevious, buckets, is_in}
 use Rattle.zt_index.proofs.ChainLaws.{below-shorter, room_below}
-use Rattle.zt_index.proofs.chains.around.Goals as goal
+use Rattle.zt_index.proofs.chains.searched.Goals as goal
 
 pub items-smaller : goal.items-smaller
 items-smaller c =

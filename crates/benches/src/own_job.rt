@@ -1,0 +1,20 @@
+//! Processes under the job of the process that makes them.
+
+use crate::critical_jobs::ROOT_JOB;
+use crate::histories::makes;
+use zt_history::History;
+use zt_rows::{Call, HandleValue};
+
+/// Makes so many processes under the caller's own job, and an event behind each.
+pub(crate) fn makes_siblings(history: &mut History, count: u32) -> bool {
+    let spawn = Ok(Call::Spawn {
+        job: ROOT_JOB,
+        argument: HandleValue(0),
+    });
+    for _ in 0..count {
+        if !makes(history, &spawn) || !makes(history, &Ok(Call::EventCreate)) {
+            return false;
+        }
+    }
+    true
+}

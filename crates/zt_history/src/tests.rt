@@ -1,0 +1,100 @@
+//! A call at a moment that is no head, and a head that moves, over one history each.
+use crate::History;
+use std::alloc::Global;
+use zt_rows::{Call, HandleValue, Koid, Moment, Reply};
+
+const ROOT: Koid = Koid(1025);
+
+/// Whether the store stands at the last moment, which is this one, with this handle for its reply.
+fn tells(history: &History, moment: u32, handle: u32) -> bool {
+    let last = history.last();
+    match history.reply_of(last) {
+        Some(Reply::Handle(given)) => {
+            last == Moment(moment) && history.position() == last && *given == HandleValue(handle)
+        }
+        _ => false,
+    }
+}
+
+/// Whether an event that the first process makes on `main` is told so.
+fn tells_on_main(history: &mut History, moment: u32, handle: u32) -> bool {
+    match history.find(b"main") {
+        Some(id) => {
+            history.call(id, ROOT, &Call::EventCreate).is_ok() && tells(history, moment, handle)
+        }
+        None => false,
+    }
+}
+
+/// Whether an event that it makes at a moment is told so.
+fn tells_at(history: &mut History, parent: u32, moment: u32, handle: u32) -> bool {
+    history
+        .call_at(Moment(parent), ROOT, &Call::EventCreate)
+        .is_ok()
+        && tells(history, moment, handle)
+}
+
+/// Whether `main` has this head.
+fn has_head(history: &History, moment: u32) -> bool {
+    match history.find(b"main") {
+        Some(id) => history.head(id) == Moment(moment),
+        None => false,
+    }
+}
+
+/// Whether a second event at the opening is told beside the first, on `main`, whose head stays.
+fn is_moment_made_at_the_opening(history: &mut History) -> bool {
+    tells_on_main(history, 1, 7)
+        && tells_at(history, 0, 2, 7)
+        && has_head(history, 1)
+        && !history.can_retract()
+}
+
+/// Whether the head of `main` moves there, and the store stays.
+fn moves_head(history: &mut History, moment: u32) -> bool {
+    let position = history.position();
+    match history.find(b"main") {
+        Some(id) => {
+            history.move_head(id, Moment(moment)).is_ok() && history.position() == position
+        }
+        None => false,
+    }
+}
+
+/// Whether a call on `main` is told behind the head that was moved.
+fn is_moved_head_called_at(history: &mut History) -> bool {
+    tells_on_main(history, 1, 7)
+        && tells_on_main(history, 2, 11)
+        && moves_head(history, 1)
+        && has_head(history, 1)
+        && tells_on_main(history, 3, 11)
+        && has_head(history, 3)
+}
+
+/// What is tried over a history that begins at the opening.
+#[derive(Clone, Copy)]
+enum Trial {
+    MomentAtTheOpening,
+    MovedHead,
+}
+
+/// Whether it holds over a new history.
+fn holds(alloc: Global, trial: Trial) -> bool {
+    match History::new(alloc) {
+        Ok(mut history) => match trial {
+            Trial::MomentAtTheOpening => is_moment_made_at_the_opening(&mut history),
+            Trial::MovedHead => is_moved_head_called_at(&mut history),
+        },
+        Err(_) => false,
+    }
+}
+
+#[test]
+fn a_moment_is_made_at_the_opening(rt: HostRuntime) {
+    assert!(rt; holds(rt.alloc(), Trial::MomentAtTheOpening));
+}
+
+#[test]
+fn a_head_that_moved_is_called_at(rt: HostRuntime) {
+    assert!(rt; holds(rt.alloc(), Trial::MovedHead));
+}

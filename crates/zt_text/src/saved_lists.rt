@@ -1,0 +1,96 @@
+ghost use Rattle.std.specs.Prelude.{◌≡◌, OnOk};
+ghost use Rattle.zt_text.specs.SavedTexts.{bare, add_call, add_branch, add_cursor, next_client, takes_branches, takes_calls};
+
+use std::alloc::{AllocError, Global};
+use std::marker::Model;
+use zt_rows::{Cursor, Items, Saved, SavedBranch, SavedCall};
+
+/// A saved tree while its lines are read.
+#[derive(Drop)]
+pub struct SavedLists {
+    moments: Vec<SavedCall>,
+    branches: Vec<SavedBranch>,
+    cursors: Vec<Cursor>,
+}
+
+impl Model for SavedLists {
+    ghost use Rattle.zt_rows.specs.declared.saved.Saved.{Saved};
+
+    ghost Value = { Saved };
+
+    ghost view = { λ t. record { moments = t.moments.items; branches = t.branches.items; cursors = t.cursors.items } };
+}
+
+impl SavedLists {
+    /// No moment, no branch and no cursor, which take no memory.
+    pub fn new(alloc: Global) -> SavedLists
+        ensures { result ≡ bare }
+    {
+        SavedLists {
+            moments: Vec::new(alloc),
+            branches: Vec::new(alloc),
+            cursors: Vec::new(alloc),
+        }
+    }
+
+    /// Whether a moment may come: behind no branch and no cursor.
+    pub fn takes_calls(&self) -> bool
+        ensures { result ≡ takes_calls self.now }
+    {
+        self.branches.is_empty() && self.cursors.is_empty()
+    }
+
+    /// Whether a branch may come: behind no cursor.
+    pub fn takes_branches(&self) -> bool
+        ensures { result ≡ takes_branches self.now }
+    {
+        self.cursors.is_empty()
+    }
+
+    /// The client whose cursor is to come, counted from 1.
+    pub fn next_client(&self) -> u64
+        ensures { result ≡ next_client self.now }
+    {
+        self.cursors.len() as u64 + 1
+    }
+
+    /// A moment more.
+    pub fn push_call(&mut self, made: SavedCall) -> Result<(), AllocError>
+        ensures { OnOk result (self.new ≡ add_call self.old made) }
+    {
+        self.moments.push(made)?;
+        Ok(())
+    }
+
+    /// A branch more.
+    pub fn push_branch(&mut self, branch: SavedBranch) -> Result<(), AllocError>
+        ensures { OnOk result (self.new ≡ add_branch self.old branch) }
+    {
+        self.branches.push(branch)?;
+        Ok(())
+    }
+
+    /// A cursor more.
+    pub fn push_cursor(&mut self, cursor: Cursor) -> Result<(), AllocError>
+        ensures { OnOk result (self.new ≡ add_cursor self.old cursor) }
+    {
+        self.cursors.push(cursor)?;
+        Ok(())
+    }
+
+    /// The tree.
+    pub fn into_saved(self) -> Saved
+        ensures { result ≡ self }
+    {
+        let SavedLists {
+            moments,
+            branches,
+            cursors,
+        } = self;
+        Saved {
+            moments: Items::new(moments),
+            branches: Items::new(branches),
+            cursors: Items::new(cursors),
+        }
+    }
+}
