@@ -6,9 +6,10 @@ ghost use Rattle.zxtt.specs.Traces.{IsFaultOfText, IsLoadedFrom, TellsOfSomeText
 
 use crate::faults::Fault;
 use crate::trace_lines::TraceLine;
+use crate::whole_file::write_whole;
 use std::alloc::Global;
 use std::fs::File;
-use std::io::{Read, Write};
+use std::io::Read;
 use std::{fs, io};
 use zt_console::{Book, load_text, main_text};
 use zt_rows::Refusal;
@@ -54,17 +55,10 @@ fn book_of(alloc: Global, clients: u8, path: &str, text: &[u8]) -> Result<Book, 
     }
 }
 
-/// Writes the session text of the path to the head of `main`.
+/// Writes the session text of the path to the head of `main`. Where it cannot be written, a file that stands there stays.
 pub fn save(rt: &HostRuntime, book: &Book, path: &str) -> Result<(), Fault> {
-    let mut file = match fs::create(rt, path) {
-        Ok(file) => file,
-        Err(error) => return Err(unopened(rt.alloc(), path, error)),
-    };
     let text = main_text(rt.alloc(), book)?;
-    match file.write_all(text.as_slice()) {
-        Ok(()) => Ok(()),
-        Err(_) => Err(Fault::Refused(Refusal::WriteFault)),
-    }
+    write_whole(rt, path, text.as_slice())
 }
 
 /// All bytes of a file.
@@ -84,7 +78,7 @@ fn read(rt: &HostRuntime, path: &str) -> Result<Vec<u8>, Fault>
 }
 
 /// The file of this path could not be opened.
-fn unopened(alloc: Global, path: &str, error: io::Error) -> Fault
+pub(crate) fn unopened(alloc: Global, path: &str, error: io::Error) -> Fault
     ensures { (clients : ℕ) → TellsOfSomeText clients result }
 {
     match String::from_str(alloc, path) {

@@ -19,6 +19,7 @@ mod service;
 mod terminal;
 mod trace_lines;
 mod wanted;
+mod whole_file;
 mod words;
 
 use attendant::{Attendant, show_trace_line};
