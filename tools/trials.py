@@ -71,6 +71,20 @@ def counted(passed, failed):
     return 1 if failed or not passed else 0
 
 
+# what the program says on standard error of who listens, comes and goes
+NOTICE = re.compile(r'zxtt: (?:listening on|client \d+ (?:came from|went)).*')
+
+
+def lines_of(text):
+    return text.decode().split('\n')[:-1]
+
+
+def parted(lines):
+    """The lines that are no such notices, and the notices, without their ports."""
+    notices = [re.sub(r':\d+$', '', line) for line in lines if NOTICE.fullmatch(line)]
+    return [line for line in lines if not NOTICE.fullmatch(line)], notices
+
+
 def run(program, words, lines=b'', limit=LIMIT):
     """What the program with these words did over the lines of its standard input."""
     running = subprocess.Popen(
@@ -202,7 +216,7 @@ class Server:
         """Raises where the program does not end well, or does not print so many rows of the log."""
         status, printed, said = self.ended()
         expect('printed', b'closed %d\n' % rows, printed)
-        expect('standard error', b'', said)
+        expect('standard error', [], parted(lines_of(said))[0])
         expect('exit status', 0, status)
 
 

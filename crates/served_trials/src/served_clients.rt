@@ -55,7 +55,7 @@ fn serve_named<
     };
     let callers = callers(rt.alloc(), passes, ends)?;
     match sessions(rt, rt.alloc(), shared, callers, gate) {
-        Ok(done) => Ok(done),
+        Ok((book, served)) => Ok((book.into_log(), served)),
         Err(_) => Err(Refusal::OutOfMemory),
     }
 }

@@ -1,8 +1,8 @@
 //! Goes through each case of the folder that it is started in, by a run over a book and by a session over a shared book
 //! of one client. The case NAME is the lines of NAME.in, and the text of NAME.out that both have to tell them. It begins
 //! with the session text NAME.from, if there is one, and else at the opening; where that text does not load, its fault is
-//! what is told. If there is a file NAME.save, the calls on `main` are saved so in the end of the run. One line is printed
-//! of each case, in the order of their names.
+//! what is told. If there is a file NAME.save, the calls on `main` are saved so in the end of the run, and if there is a file
+//! NAME.tree, the whole tree is. One line is printed of each case, in the order of their names.
 #![tactic(auto)]
 
 ghost use Rattle.std.specs.Prelude.{◌≡◌, ◌≤◌, length, IfOk};
@@ -18,7 +18,7 @@ use std::fmt::{Display, Formatter, Write};
 use std::rt::Files;
 use std::sync::Wait;
 use std::{fmt, fs, io};
-use zt_console::{Book, Counted, End, load_text, main_text, run};
+use zt_console::{Book, Counted, End, load_text, main_text, run, tree_text};
 use zt_rows::Refusal;
 use zt_text::RefusalLine;
 
@@ -65,13 +65,14 @@ fn add_name(alloc: Global, names: &mut Vec<String>, file: &str) -> Result<(), Al
     Ok(())
 }
 
-/// The texts of a case: the lines, what they are told, and, if there are such, the session text that it begins with and the
-/// one that is saved.
+/// The texts of a case: the lines, what they are told, and, if there are such, the session text that it begins with and those
+/// that are saved, of `main` and of the whole tree.
 struct Case {
     asked: Vec<u8>,
     told: Vec<u8>,
     from: Option<Vec<u8>>,
     saved: Option<Vec<u8>>,
+    tree: Option<Vec<u8>>,
 }
 
 /// Lets all texts go in one call, so that who has them is proved without going through them at each way out.
@@ -82,6 +83,7 @@ impl Drop for Case {
             told: _told,
             from: _from,
             saved: _saved,
+            tree: _tree,
         } = self;
     }
 }
@@ -108,6 +110,7 @@ fn read_case(rt: &(impl Files + AllocGlobal), name: &str) -> io::Result<Case> {
         told: Vec::new(rt.alloc()),
         from: None,
         saved: None,
+        tree: None,
     };
     match read_others(rt, name, &mut case) {
         Ok(()) => Ok(case),
@@ -120,6 +123,7 @@ fn read_others(rt: &(impl Files + AllocGlobal), name: &str, case: &mut Case) -> 
     case.told = read(rt, name, "out")?;
     case.from = read_some(rt, name, "from")?;
     case.saved = read_some(rt, name, "save")?;
+    case.tree = read_some(rt, name, "tree")?;
     Ok(())
 }
 
@@ -134,11 +138,7 @@ fn report(rt: &(impl Files + AllocGlobal + Print + Wait), name: &str) -> io::Res
 /// As `report`, of a case with these texts.
 fn report_case(rt: &(impl AllocGlobal + Print + Wait), name: &str, case: &Case) -> io::Result<()> {
     match outcome(rt, &case.from, case.asked.as_slice()) {
-        Ok(came) => say(
-            rt,
-            name,
-            &how_it_went(case.told.as_slice(), &case.saved, &came),
-        ),
+        Ok(came) => say(rt, name, &how_it_went(case, &came)),
         Err(refusal) => say_stopped(rt, name, refusal.name()),
     }
 }
@@ -151,11 +151,28 @@ fn say_stopped(rt: &impl Print, name: &str, cause: &str) -> io::Result<()> {
     println!(rt; "{name} stopped: {cause}")
 }
 
-/// What a run wrote, the session text of `main` behind it, and what a session wrote.
-#[derive(Drop)]
-struct Came {
+/// What a run wrote, and the session texts behind it, of `main` and of the whole tree.
+struct Ran {
     answers: Vec<u8>,
     saved: Vec<u8>,
+    tree: Vec<u8>,
+}
+
+/// Lets all texts go in one call, as those of a case.
+impl Drop for Ran {
+    fn drop(self) {
+        let Ran {
+            answers: _answers,
+            saved: _saved,
+            tree: _tree,
+        } = self;
+    }
+}
+
+/// What a run left, and what a session wrote.
+#[derive(Drop)]
+struct Came {
+    ran: Ran,
     session: Vec<u8>,
 }
 
@@ -166,26 +183,27 @@ fn outcome(
     from: &Option<Vec<u8>>,
     asked: &[u8],
 ) -> Result<Came, Refusal> {
-    let (answers, saved) = run_from(rt.alloc(), from, asked)?;
+    let ran = run_from(rt.alloc(), from, asked)?;
     match session_from(rt, from, asked) {
-        Ok(session) => Ok(Came {
-            answers,
-            saved,
-            session,
-        }),
+        Ok(session) => Ok(Came { ran, session }),
         Err(refusal) => Err(refusal),
     }
 }
 
 /// What a run over these lines writes, or the fault of the session text, and what would be saved.
-fn run_from(
-    alloc: Global,
-    from: &Option<Vec<u8>>,
-    asked: &[u8],
-) -> Result<(Vec<u8>, Vec<u8>), Refusal> {
+fn run_from(alloc: Global, from: &Option<Vec<u8>>, asked: &[u8]) -> Result<Ran, Refusal> {
     match begin(alloc, from) {
         Ok(book) => run_lines(alloc, book, asked),
-        Err((line, refusal)) => Ok((fault(alloc, line, refusal)?, Vec::new(alloc))),
+        Err((line, refusal)) => Ok(unsaved(alloc, fault(alloc, line, refusal)?)),
+    }
+}
+
+/// What was written, and nothing saved.
+fn unsaved(alloc: Global, answers: Vec<u8>) -> Ran {
+    Ran {
+        answers,
+        saved: Vec::new(alloc),
+        tree: Vec::new(alloc),
     }
 }
 
@@ -203,7 +221,7 @@ fn session_from(
 
 /// The book of one client in which a case begins; or why there is none, with the number of the session text's line at
 /// fault, or 0.
-#[tactic(auto, using(crate::proofs::Beginning::loaded_clients, crate::proofs::Beginning::loaded_is_fresh, crate::proofs::Beginning::first_clients, crate::proofs::Beginning::first_is_fresh))]
+#[tactic(auto, using(crate::proofs::Beginning::loaded_is_fresh, crate::proofs::Beginning::first_clients, crate::proofs::Beginning::first_is_fresh))]
 fn begin(alloc: Global, from: &Option<Vec<u8>>) -> Result<Book, (u64, Refusal)>
     ensures clients { IfOk result (λ book. length book.session.clients ≡ 1) }
     ensures fresh { IfOk result (IsFresh 1) }
@@ -227,7 +245,7 @@ fn fault(alloc: Global, line: u64, refusal: Refusal) -> Result<Vec<u8>, Refusal>
 }
 
 /// What a run over these lines writes, and would save.
-fn run_lines(alloc: Global, book: Book, asked: &[u8]) -> Result<(Vec<u8>, Vec<u8>), Refusal>
+fn run_lines(alloc: Global, book: Book, asked: &[u8]) -> Result<Ran, Refusal>
     requires { 1 ≤ length book.session.clients }
 {
     let mut reader = Counted::new(asked);
@@ -240,11 +258,19 @@ fn run_lines(alloc: Global, book: Book, asked: &[u8]) -> Result<(Vec<u8>, Vec<u8
 }
 
 /// These answers, and what is saved of the book.
-fn with_saved(alloc: Global, book: &Book, answers: Vec<u8>) -> Result<(Vec<u8>, Vec<u8>), Refusal> {
-    match main_text(alloc, book) {
-        Ok(saved) => Ok((answers, saved)),
+fn with_saved(alloc: Global, book: &Book, answers: Vec<u8>) -> Result<Ran, Refusal> {
+    let mut ran = unsaved(alloc, answers);
+    match save(alloc, book, &mut ran) {
+        Ok(()) => Ok(ran),
         Err(refusal) => Err(refusal),
     }
+}
+
+/// Keeps what is saved of the book.
+fn save(alloc: Global, book: &Book, ran: &mut Ran) -> Result<(), Refusal> {
+    ran.saved = main_text(alloc, book)?;
+    ran.tree = tree_text(alloc, book)?;
+    Ok(())
 }
 
 /// How a case went.
@@ -253,23 +279,33 @@ enum Verdict<'a> {
     AsTold,
     Answers(Difference<'a>),
     Saved(Difference<'a>),
+    Tree(Difference<'a>),
     Session(Difference<'a>),
 }
 
 /// How a case went, by what it had to tell and, where that is told, to save.
-fn how_it_went<'a>(told: &'a [u8], saved: &'a Option<Vec<u8>>, came: &'a Came) -> Verdict<'a> {
-    if let Some(difference) = first_difference(told, came.answers.as_slice()) {
+fn how_it_went<'a>(case: &'a Case, came: &'a Came) -> Verdict<'a> {
+    let told = case.told.as_slice();
+    if let Some(difference) = first_difference(told, came.ran.answers.as_slice()) {
         return Verdict::Answers(difference);
     }
     if let Some(difference) = first_difference(told, came.session.as_slice()) {
         return Verdict::Session(difference);
     }
-    let Some(saved) = saved else {
-        return Verdict::AsTold;
-    };
-    match first_difference(saved.as_slice(), came.saved.as_slice()) {
+    if let Some(difference) = saved_otherwise(&case.saved, came.ran.saved.as_slice()) {
+        return Verdict::Saved(difference);
+    }
+    match saved_otherwise(&case.tree, came.ran.tree.as_slice()) {
         None => Verdict::AsTold,
-        Some(difference) => Verdict::Saved(difference),
+        Some(difference) => Verdict::Tree(difference),
+    }
+}
+
+/// Where a text that was saved differs from the one of the case, if it has such.
+fn saved_otherwise<'a>(told: &'a Option<Vec<u8>>, saved: &'a [u8]) -> Option<Difference<'a>> {
+    match told {
+        Some(told) => first_difference(told.as_slice(), saved),
+        None => None,
     }
 }
 
@@ -279,6 +315,7 @@ impl<'a> Display for Verdict<'a> {
             Verdict::AsTold => f.write_str("as told"),
             Verdict::Answers(difference) => write!(f, "{difference}"),
             Verdict::Saved(difference) => write!(f, "saved: {difference}"),
+            Verdict::Tree(difference) => write!(f, "tree: {difference}"),
             Verdict::Session(difference) => write!(f, "session: {difference}"),
         }
     }

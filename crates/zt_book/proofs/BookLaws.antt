@@ -1,40 +1,27 @@
 -- What a book keeps while a command is answered and written, and while the last one is taken back.
-use Rattle.std.proofs.Common.{◌≡◌, ℕ, ◌≤◌, ◌<◌, List, [], ◌∷◌, ◌++◌, length, Option, Some, None, Ok, sym, ◌∙◌, ap, subst, arith, length-append}
-use Rattle.std.proofs.lemmas.List.{length-replicate}
+use Rattle.std.proofs.Common.{◌≡◌, ℕ, ◌≤◌, ◌<◌, List, [], ◌∷◌, ◌++◌, length, Option, Some, None, Ok, refl, sym, ◌∙◌, ap, subst, arith, length-append}
 use Rattle.zt_history.specs.ProofsOnly.Branches.{without_last}
-use Rattle.zt_history.specs.Tree.{Tree}
 use Rattle.zt_book.specs.declared.book.LastServed.{LastServed}
 use Rattle.zt_book.specs.declared.client.Client.{Client}
 use Rattle.zt_book.specs.declared.log.Recorded.{Recorded}
-use Rattle.zt_book.specs.Session.{Session, first_client, client_of, session_over, serve}
-use Rattle.zt_book.specs.Log.{BookView, SessionLog, IsCounted, IsLoaded, IsWholeLog, ReplaysOver, book_over}
+use Rattle.zt_book.specs.Session.{Session, client_of, serve}
+use Rattle.zt_book.specs.Log.{SessionLog, IsCounted, IsBegun, IsWholeLog, Replays}
 use Rattle.zt_book.specs.ProofsOnly.Clients.{ClientsView, Stand, IsOneMore, session_before, before_of, CanTakeBack, IsBook}
 use Rattle.zt_book.proofs.ListLaws.{without_last-push}
 use Rattle.zt_book.proofs.ServedLaws.{one-more-length}
-use Rattle.zt_book.proofs.CountLaws.{counted-none, counted-row}
-use Rattle.zt_book.proofs.ReplayLaws.{replays-more}
-
--- clients who all stand at the beginning are as many as they are
-module _ (M : Session) (t : Tree) (clients : ℕ) (over : M ≡ session_over t clients) where
-  begun : session_over M.tree (length M.clients) ≡ session_over t clients
-  begun = (λ i. session_over (over i).tree (length (over i).clients)) ∙ ap (session_over t) (length-replicate clients first_client)
-
-  pub begun-session : M ≡ session_over M.tree (length M.clients)
-  begun-session = over ∙ sym begun
-
-  pub begun-book : (book : BookView) → book ≡ book_over M.tree (length M.clients) → book ≡ book_over t clients
-  begun-book book is = is ∙ (λ i. let z : BookView = record { session = begun i; log = []; before = None } in z)
+use Rattle.zt_book.proofs.BegunLaws.{begun-few, begun-unanswered}
+use Rattle.zt_book.proofs.CountLaws.{counted-begun, counted-row}
+use Rattle.zt_book.proofs.ReplayLaws.{replays-row}
 
 -- a book to whose clients nothing was answered yet
-pub book-first : (d : ClientsView) (log : List Recorded) (last : Option LastServed) → length d.session.clients ≤ 4
-    → d.session ≡ session_over d.session.tree (length d.session.clients) → IsLoaded d.session.tree → log ≡ [] → last ≡ None → IsBook d log last
-book-first d log last few first begun empty none =
+pub book-begun : (d : ClientsView) (log : List Recorded) → IsBegun d.session → log ≡ [] → IsBook d log None
+book-begun d log begun empty =
     let kept : IsBook d [] None = record {
-      counted = subst (λ M. IsCounted M []) (sym first) (counted-none d.session.tree (length d.session.clients) few);
-      whole = record { tree = d.session.tree; begun = begun; replays = first };
+      counted = counted-begun d.session (begun-few d.session begun) (begun-unanswered d.session begun);
+      whole = record { base = d.session; begun = begun; replays = refl };
       served = tt;
     } in
-    subst (λ l. IsBook d l last) (sym empty) (subst (IsBook d []) (sym none) kept)
+    subst (λ l. IsBook d l None) (sym empty) kept
 
 module _ (d e : ClientsView) (log more : List Recorded) (row : Recorded) (client : ℕ) (was : Client) (written : more ≡ log ++ row ∷ [])
     (back : session_before e client was ≡ d.session) where
@@ -52,12 +39,14 @@ module _ (d e : ClientsView) (log more : List Recorded) (row : Recorded) (client
       let long : length e.session.clients ≡ length d.session.clients = one-more-length d.session.clients e.session.clients client moved in
       let answered : serve d.session row.client row.asked ≡ Ok (row.answered, e.session) =
       subst (λ n. serve d.session n row.asked ≡ Ok (row.answered, e.session)) (sym of_it) served in
+      let base : Session = kept.whole.base in
       record {
         counted = subst (IsCounted e.session) (sym written) (counted-row d.session e.session client log row one known of_it moved kept.counted room);
         whole = record {
-          tree = kept.whole.tree;
+          base = base;
           begun = kept.whole.begun;
-          replays = replays-more kept.whole.tree d.session e.session log more row written long kept.whole.replays answered;
+          replays =
+              subst (λ l. Replays base l e.session) (sym written) (replays-row base d.session e.session log row kept.whole.replays answered);
         };
         served = record {
           numbered = one;
@@ -66,8 +55,7 @@ module _ (d e : ClientsView) (log more : List Recorded) (row : Recorded) (client
           stand = subst Stand (sym back) stand;
           counted = subst (IsCounted (session_before e client was)) (sym shorter) (subst (λ M. IsCounted M log) (sym back) kept.counted);
           replays =
-              subst (ReplaysOver kept.whole.tree (session_before e client was)) (sym shorter)
-              (subst (λ M. ReplaysOver kept.whole.tree M log) (sym back) kept.whole.replays);
+              subst (λ l. Replays base l (session_before e client was)) (sym shorter) (subst (Replays base log) (sym back) kept.whole.replays);
         };
       }
 
@@ -84,15 +72,14 @@ pub book-back : (d e : ClientsView) (log less : List Recorded) (was : Option Las
     → e.session ≡ session_before d last.client last.was → less ≡ without_last log → IsBook d log was → IsBook e less None
 book-back d e log less was last is same shorter kept =
     let known : IsBook d log (Some last) = subst (IsBook d log) is kept in
-    let can : CanTakeBack known.whole.tree d log last = known.served in
+    let base : Session = known.whole.base in
+    let can : CanTakeBack base d log last = known.served in
     record {
       counted = subst (λ l. IsCounted e.session l) (sym shorter) (subst (λ M. IsCounted M (without_last log)) (sym same) can.counted);
       whole = record {
-        tree = known.whole.tree;
+        base = base;
         begun = known.whole.begun;
-        replays =
-            subst (ReplaysOver known.whole.tree e.session) (sym shorter)
-            (subst (λ M. ReplaysOver known.whole.tree M (without_last log)) (sym same) can.replays);
+        replays = subst (λ l. Replays base l e.session) (sym shorter) (subst (Replays base (without_last log)) (sym same) can.replays);
       };
       served = tt;
     }

@@ -45,7 +45,7 @@ refused-there (Err _) f given h = h
 
 -- ---- branches
 
-some-branch : (branches : List Branch) → slice_get (names_of branches) 0 ≡ Some main_name → 0 < length branches
+pub some-branch : (branches : List Branch) → slice_get (names_of branches) 0 ≡ Some main_name → 0 < length branches
 some-branch [] h = cc h
 some-branch (b ∷ bs) h = omega arith
 
@@ -317,7 +317,7 @@ when_forgotten M client what object = when-memory M client what object _ refl
 
 -- ---- the first clients
 
-first-stands : (t : Tree) → IsTree t → IsClient t first_client
+pub first-stands : (t : Tree) → IsTree t → IsClient t first_client
 first-stands t h = record { cursor = some-branch t.branches h.branches.main; pinned = tt; rows = omega arith }
 
 pub first_all_clients : (h : Timeline) (clients : ℕ) → clients ≤ 4 → IsTree h.tree → AreClients h (replicate clients first_client) false

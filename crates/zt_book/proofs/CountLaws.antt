@@ -1,14 +1,13 @@
 -- The rows of each client stay counted while one more is written.
 use Rattle.std.proofs.Common.{◌≡◌, ℕ, ◌+◌, ◌-◌, ◌≤◌, ◌<◌, Bool, true, false, eqb, cond, List, [], ◌∷◌, ◌++◌, length, get_or, refl, sym, ◌∙◌, ap, subst, arith, length-append}
-use Rattle.std.specs.Prelude.{replicate}
+use Rattle.std.specs.Prelude.{All}
 use Rattle.std.specs.List.{AllByRecursion}
 use Rattle.std.proofs.lemmas.Bool.{eqb-true, eqb-false}
-use Rattle.std.proofs.lemmas.List.{length-replicate, get_or-set_same, get_or-set_other, get_or-replicate}
+use Rattle.std.proofs.lemmas.List.{get_or-set_same, get_or-set_other}
 use Rattle.std.proofs.lemmas.List.Elements.{filter-append}
-use Rattle.zt_history.specs.Tree.{Tree}
 use Rattle.zt_book.specs.declared.client.Client.{Client}
 use Rattle.zt_book.specs.declared.log.Recorded.{Recorded}
-use Rattle.zt_book.specs.Session.{Session, first_client, client_of, session_over, most_rows}
+use Rattle.zt_book.specs.Session.{Session, first_client, client_of, most_rows}
 use Rattle.zt_book.specs.Log.{rows_of, IsOf, IsCounted}
 use Rattle.zt_book.proofs.ListLaws.{all-append}
 use Rattle.zt_book.specs.ProofsOnly.Clients.{IsOneMore}
@@ -16,17 +15,16 @@ use Rattle.zt_book.proofs.ServedLaws.{one-more-length}
 
 -- ---- no row yet
 
-first : (t : Tree) (clients client : ℕ) → 1 ≤ client → client ≤ length (replicate clients first_client) → client_of (session_over t clients) client ≡ first_client
-first t clients client one known =
-    get_or-replicate clients (client - 1) first_client first_client (omega (arith, one, known, length-replicate clients first_client))
-
-pub counted-none : (t : Tree) (clients : ℕ) → clients ≤ 4 → IsCounted (session_over t clients) []
-counted-none t clients few = record {
-  few = subst (λ n. n ≤ 4) (sym (length-replicate clients first_client)) few;
-  each = λ client one known. ap (λ (c : Client). c.rows) (first t clients client one known);
-  within = λ client one known. subst (λ (c : Client). c.rows ≤ most_rows) (sym (first t clients client one known)) (omega arith);
-  of_clients = tt;
-}
+pub counted-begun : (M : Session) → length M.clients ≤ 4 → All (λ (client : Client). client.rows ≡ 0) M.clients → IsCounted M []
+counted-begun M few none =
+    let nothing : (client : ℕ) → 1 ≤ client → client ≤ length M.clients → (client_of M client).rows ≡ 0 =
+    λ client one known. none (client - 1) first_client (omega (arith, one, known)) in
+    record {
+      few = few;
+      each = nothing;
+      within = λ client one known. subst (λ rows. rows ≤ most_rows) (sym (nothing client one known)) (omega arith);
+      of_clients = tt;
+    }
 
 -- ---- one row more
 

@@ -3,6 +3,14 @@ pub mod ServedLaws
 pub mod CountLaws
 pub mod ClientsLaws
 pub mod LoadLaws
+pub mod TurnLaws
+pub mod SeatLaws
+pub mod KeptLaws
+pub mod RowLaws
+pub mod BegunLaws
+pub mod AgainLaws
+pub mod WrittenLaws
+pub mod SavedLaws
 pub mod ReplayLaws
 pub mod BookLaws
 mod WorkedSessions

@@ -8,10 +8,10 @@ use Rattle.zt_rows.specs.declared.refusals.Refusal.{Refusal}
 use Rattle.zt_rows.specs.declared.refusals.Refusal.TheVariants as refusal
 use Rattle.zt_rows.specs.Reads.{runs}
 use Rattle.zt_history.specs.HistoryRefusals.{check, ◌>>=◌, call_on, most_moments, IsHistoryRefusal}
-use Rattle.zt_history.specs.Tree.{Tree, Branch, opening_tree, last_moment, state_at, head_at, headed, called, made_by}
+use Rattle.zt_history.specs.Tree.{Tree, Branch, last_moment, state_at, head_at, headed, called, made_by}
 use Rattle.zt_rows.specs.declared.calls.Answer.TheVariants as answer
 use Rattle.std.specs.Prelude.{nat_lt}
-use Rattle.zt_book.specs.Log.{loaded, loaded_behind, loaded_from, IsUnloadedBy, IsUnloaded, IsLoaded}
+use Rattle.zt_book.specs.Log.{loaded, loaded_behind, loaded_from, IsUnloadedBy, IsUnloaded}
 use Rattle.zt_book.specs.ProofsOnly.Log.{fault_at}
 use Rattle.zt_book.proofs.ServedLaws.{behind, last}
 
@@ -46,16 +46,16 @@ loaded-more i t u process call said rest h = ap (λ r. loaded_behind i r (λ v. 
 
 -- ---- a call that is refused
 
-refused-either : (A : Type 0) (reason given : Refusal) → IsHistoryRefusal {A = A} (Err reason) given → (given ≡ reason) ⊎ (given ≡ refusal.OutOfMemory)
+pub refused-either : (A : Type 0) (reason given : Refusal) → IsHistoryRefusal {A = A} (Err reason) given → (given ≡ reason) ⊎ (given ≡ refusal.OutOfMemory)
 refused-either A refusal.NoProcess given h = h
 refused-either A _ given h = inl h
 
-fault-either : (i : ℕ) (given : Refusal) → (fault_at i given ≡ (i, given)) ⊎ (fault_at i given ≡ (0, refusal.OutOfMemory))
+pub fault-either : (i : ℕ) (given : Refusal) → (fault_at i given ≡ (i, given)) ⊎ (fault_at i given ≡ (0, refusal.OutOfMemory))
 fault-either i refusal.OutOfMemory = inr refl
 fault-either i _ = inl refl
 
 -- want of memory can always be told
-pub unloaded-memory : (whole : Result Tree (ℕ × Refusal)) → IsUnloadedBy false whole (0, refusal.OutOfMemory)
+pub unloaded-memory : {A : Type 0} (whole : Result A (ℕ × Refusal)) → IsUnloadedBy false whole (0, refusal.OutOfMemory)
 unloaded-memory (Ok t) = refl
 unloaded-memory (Err first) = inr refl
 
@@ -78,14 +78,14 @@ unloaded-here i t process call given rest = unloaded_here (call_on t 0 process c
 
 -- ---- so far
 
-drop_all : {A : Type 0} (xs : List A) (i : ℕ) → length xs ≤ i → drop i xs ≡ []
+pub drop_all : {A : Type 0} (xs : List A) (i : ℕ) → length xs ≤ i → drop i xs ≡ []
 drop_all [] zero h = refl
 drop_all [] (suc i) h = refl
 drop_all (x ∷ xs) zero h = absurd (omega arith)
 drop_all (x ∷ xs) (suc i) h = drop_all xs i (omega arith)
 
-front : (calls : List (ℕ × Call)) (i : ℕ) (x : ℕ × Call) → i < length calls → x ≡ get_or calls i x → drop i calls ≡ x ∷ drop (suc i) calls
-front calls i x there is = drop-cons calls i x there ∙ ap (λ y. y ∷ drop (suc i) calls) (sym is)
+pub front : {A : Type 0} (xs : List A) (i : ℕ) (x : A) → i < length xs → x ≡ get_or xs i x → drop i xs ≡ x ∷ drop (suc i) xs
+front xs i x there is = drop-cons xs i x there ∙ ap (λ y. y ∷ drop (suc i) xs) (sym is)
 
 pub loaded-so-far : (calls : List (ℕ × Call)) (i j : ℕ) (t u : Tree) (x : ℕ × Call) (said : Answer) → i < length calls → j ≡ suc i
     → x ≡ get_or calls i x → call_on t 0 x.0 x.1 ≡ Ok (said, u) → loaded_from i t (drop i calls) ≡ loaded calls → loaded_from j u (drop j calls) ≡ loaded calls
@@ -102,19 +102,11 @@ unloaded-so-far calls i t x given there is refused so_far =
     subst (λ w. IsUnloadedBy false w (fault_at i given)) here (unloaded-here i t x.0 x.1 given (drop (suc i) calls) refused)
 
 -- too many clients are told before all
-pub unloaded-many : (clients : ℕ) (whole : Result Tree (ℕ × Refusal)) → 4 < clients → IsUnloaded clients whole (0, refusal.TooManyClients)
+pub unloaded-many : {A : Type 0} (clients : ℕ) (whole : Result A (ℕ × Refusal)) → 4 < clients → IsUnloaded clients whole (0, refusal.TooManyClients)
 unloaded-many clients whole h = rw (lt-ltb 4 clients h) refl
 
-pub unloaded-few : (clients : ℕ) (whole : Result Tree (ℕ × Refusal)) (fault : ℕ × Refusal) → clients ≤ 4 → IsUnloadedBy false whole fault → IsUnloaded clients whole fault
+pub unloaded-few : {A : Type 0} (clients : ℕ) (whole : Result A (ℕ × Refusal)) (fault : ℕ × Refusal) → clients ≤ 4 → IsUnloadedBy false whole fault → IsUnloaded clients whole fault
 unloaded-few clients whole fault h told = rw (le-ltb 4 clients h) told
 
 pub loaded-whole : (calls : List (ℕ × Call)) (i : ℕ) (t : Tree) → length calls ≤ i → loaded_from i t (drop i calls) ≡ loaded calls → loaded calls ≡ Ok t
 loaded-whole calls i t whole so_far = sym so_far ∙ ap (loaded_from i t) (drop_all calls i whole)
-
--- ---- trees that loading gives
-
-pub opening-loaded : (t : Tree) → t ≡ opening_tree → IsLoaded t
-opening-loaded t is = record { calls = []; gives = ap Ok (sym is) }
-
-pub calls-loaded : (calls : List (ℕ × Call)) (t u : Tree) → loaded calls ≡ Ok t → u ≡ t → IsLoaded u
-calls-loaded calls t u gives same = record { calls = calls; gives = gives ∙ ap Ok (sym same) }

@@ -1,6 +1,7 @@
--- Worked sessions: what one client's commands are answered, one after another. Each holds by computation.
+-- Worked sessions: what one client's commands are answered, one after another, and what is loaded of a saved tree. Each holds
+-- by computation.
 use Rattle.std.proofs.Common.{refl}
-use Rattle.std.specs.Prelude.{◌≡◌, List, [], ◌∷◌, codes, replicate, Result, Ok, Err}
+use Rattle.std.specs.Prelude.{◌≡◌, ℕ, List, [], ◌∷◌, map, codes, replicate, Result, Ok, Err}
 use Rattle.zt_rows.specs.declared.calls.Answer.{Answer}
 use Rattle.zt_rows.specs.declared.calls.Answer.TheVariants.{Called, At, Branched, Followed, Pinned}
 use Rattle.zt_rows.specs.declared.calls.Call.{Call}
@@ -11,6 +12,9 @@ use Rattle.zt_rows.specs.declared.calls.Reply.TheVariants.{Handle, Handles, Stat
 use Rattle.zt_bits.specs.declared.statuses.Status.TheVariants as status
 use Rattle.zt_rows.specs.declared.refusals.Refusal.{Refusal}
 use Rattle.zt_rows.specs.declared.refusals.Refusal.TheVariants as refusal
+use Rattle.zt_rows.specs.declared.saved.Saved.{Saved}
+use Rattle.zt_rows.specs.declared.saved.Cursor.{Cursor as SavedCursor}
+use Rattle.zt_rows.specs.declared.saved.Cursor.TheVariants as place
 use Rattle.zt_rows.specs.State.{row, put, change}
 use Rattle.zt_rows.specs.Reads.{objects, waits, queue, packets}
 use Rattle.zt_rows.specs.Tests.{any_row, count_row}
@@ -19,9 +23,10 @@ use Rattle.zt_rows.specs.Collect.{without, goes, rounds, collect}
 use Rattle.zt_rows.specs.Settle.{refresh, settle}
 use Rattle.zt_rows.specs.End.{links, chain, highest, end}
 use Rattle.zt_rows.specs.Step.{direct, step}
-use Rattle.zt_history.specs.Tree.{opening_tree, path, state_at}
+use Rattle.zt_history.specs.Tree.{main_name, opening_tree, path, state_at}
 use Rattle.zt_book.specs.Session.{Session, opening_session, first_client, serve, call_by, goto_by, back_by, branch_by, follow_by, pin_to}
 use Rattle.zt_book.specs.Log.{loaded}
+use Rattle.zt_book.specs.SavedSessions.{loaded_saved, saved_of_session}
 
 -- what the commands of client 1 are answered; a refusal leaves the session as it is
 abbrev behind : Session → Result (Answer × Session) Refusal → (Session → List (Result Answer Refusal)) → List (Result Answer Refusal)
@@ -83,3 +88,103 @@ full_before_detached = refl
 not_loaded : loaded ((1025, call.TaskKill 3) ∷ (1025, call.EventCreate) ∷ (1025, call.EventCreate) ∷ []) ≡ Err (1, refusal.NoProcess)
 unfolding row put change objects waits queue packets any_row count_row supports support_count is_supported without goes rounds collect refresh settle links chain highest end direct step path state_at
 not_loaded = refl
+
+-- ---- saved trees
+
+-- an event on `main`, and a port on `fix` from the opening, which client 1 follows
+abbrev example : Saved
+example = record {
+  moments = record { parent = 0; process = 1025; call = call.EventCreate } ∷ record { parent = 0; process = 1025; call = call.PortCreate } ∷ [];
+  branches = record { name = main_name; head = 1 } ∷ record { name = codes "fix"; head = 2 } ∷ [];
+  cursors = place.Follows (codes "fix") ∷ [];
+}
+
+-- the same, whose port is made at this moment by this process
+abbrev second_made : ℕ → ℕ → Saved
+second_made parent process = record example {
+  moments = record { parent = 0; process = 1025; call = call.EventCreate } ∷ record { parent = parent; process = process; call = call.PortCreate } ∷ [];
+}
+
+-- the same with these branches
+abbrev branched_so : List (List ℕ × ℕ) → Saved
+branched_so branches = record example { branches = map (λ b. record { name = b.0; head = b.1 }) branches }
+
+-- the same with these cursors
+abbrev placed : List SavedCursor → Saved
+placed cursors = record example { cursors = cursors }
+
+-- what is loaded, as it is written down
+abbrev written : Result Session (ℕ × Refusal) → Result Saved (ℕ × Refusal)
+written (Ok M) = Ok (saved_of_session M)
+written (Err fault) = Err fault
+
+-- what is loaded is written down as it was
+saved_again : written (loaded_saved 1 example) ≡ Ok example
+unfolding row put change objects waits queue packets any_row count_row supports support_count is_supported without goes rounds collect refresh settle links chain highest end direct step path state_at
+saved_again = refl
+
+-- client 2 has no cursor, and follows `main`
+client_without_a_cursor : written (loaded_saved 2 example) ≡ Ok (placed (place.Follows (codes "fix") ∷ place.Follows main_name ∷ []))
+unfolding row put change objects waits queue packets any_row count_row supports support_count is_supported without goes rounds collect refresh settle links chain highest end direct step path state_at
+client_without_a_cursor = refl
+
+-- the parent is to be an earlier moment, which is looked at before the process
+parent_that_is_no_earlier_moment : loaded_saved 1 (second_made 2 7) ≡ Err (1, refusal.NoMoment)
+unfolding row put change objects waits queue packets any_row count_row supports support_count is_supported without goes rounds collect refresh settle links chain highest end direct step path state_at
+parent_that_is_no_earlier_moment = refl
+
+process_that_does_not_run : loaded_saved 1 (second_made 1 7) ≡ Err (1, refusal.NoProcess)
+unfolding row put change objects waits queue packets any_row count_row supports support_count is_supported without goes rounds collect refresh settle links chain highest end direct step path state_at
+process_that_does_not_run = refl
+
+-- branches have the numbers behind those of the moments
+branch_before_its_moment : loaded_saved 1 (branched_so ((main_name, 1) ∷ (codes "fix", 3) ∷ [])) ≡ Err (3, refusal.NoMoment)
+unfolding row put change objects waits queue packets any_row count_row supports support_count is_supported without goes rounds collect refresh settle links chain highest end direct step path state_at
+branch_before_its_moment = refl
+
+main_before_its_moment : loaded_saved 1 (branched_so ((main_name, 3) ∷ (codes "fix", 2) ∷ [])) ≡ Err (2, refusal.NoMoment)
+unfolding row put change objects waits queue packets any_row count_row supports support_count is_supported without goes rounds collect refresh settle links chain highest end direct step path state_at
+main_before_its_moment = refl
+
+no_branch_at_all : loaded_saved 1 (branched_so []) ≡ Err (2, refusal.NoBranch)
+unfolding row put change objects waits queue packets any_row count_row supports support_count is_supported without goes rounds collect refresh settle links chain highest end direct step path state_at
+no_branch_at_all = refl
+
+first_branch_not_main : loaded_saved 1 (branched_so ((codes "fix", 2) ∷ (main_name, 1) ∷ [])) ≡ Err (2, refusal.NoBranch)
+unfolding row put change objects waits queue packets any_row count_row supports support_count is_supported without goes rounds collect refresh settle links chain highest end direct step path state_at
+first_branch_not_main = refl
+
+name_twice : loaded_saved 1 (branched_so ((main_name, 1) ∷ (codes "fix", 2) ∷ (codes "fix", 1) ∷ [])) ≡ Err (4, refusal.NameTaken)
+unfolding row put change objects waits queue packets any_row count_row supports support_count is_supported without goes rounds collect refresh settle links chain highest end direct step path state_at
+name_twice = refl
+
+main_twice : loaded_saved 1 (branched_so ((main_name, 1) ∷ (main_name, 2) ∷ [])) ≡ Err (3, refusal.NameTaken)
+unfolding row put change objects waits queue packets any_row count_row supports support_count is_supported without goes rounds collect refresh settle links chain highest end direct step path state_at
+main_twice = refl
+
+name_that_is_none : loaded_saved 1 (branched_so ((main_name, 1) ∷ (codes "Fix", 3) ∷ [])) ≡ Err (3, refusal.BadName)
+unfolding row put change objects waits queue packets any_row count_row supports support_count is_supported without goes rounds collect refresh settle links chain highest end direct step path state_at
+name_that_is_none = refl
+
+-- cursors have the numbers behind those of moments and branches
+cursor_at_an_unknown_branch : loaded_saved 1 (placed (place.Follows (codes "fi") ∷ [])) ≡ Err (4, refusal.NoBranch)
+unfolding row put change objects waits queue packets any_row count_row supports support_count is_supported without goes rounds collect refresh settle links chain highest end direct step path state_at
+cursor_at_an_unknown_branch = refl
+
+cursor_at_an_unknown_moment : loaded_saved 1 (placed (place.At 3 ∷ [])) ≡ Err (4, refusal.NoMoment)
+unfolding row put change objects waits queue packets any_row count_row supports support_count is_supported without goes rounds collect refresh settle links chain highest end direct step path state_at
+cursor_at_an_unknown_moment = refl
+
+-- a cursor beyond the clients is tested, and dropped
+cursor_beyond_the_clients : written (loaded_saved 1 (placed (place.At 2 ∷ place.At 0 ∷ []))) ≡ Ok (placed (place.At 2 ∷ []))
+unfolding row put change objects waits queue packets any_row count_row supports support_count is_supported without goes rounds collect refresh settle links chain highest end direct step path state_at
+cursor_beyond_the_clients = refl
+
+cursor_beyond_the_clients_tested : loaded_saved 1 (placed (place.At 2 ∷ place.At 3 ∷ [])) ≡ Err (5, refusal.NoMoment)
+unfolding row put change objects waits queue packets any_row count_row supports support_count is_supported without goes rounds collect refresh settle links chain highest end direct step path state_at
+cursor_beyond_the_clients_tested = refl
+
+-- five clients are too many, whatever the tree
+cursor_of_a_fifth : loaded_saved 5 (branched_so []) ≡ Err (0, refusal.TooManyClients)
+unfolding row put change objects waits queue packets any_row count_row supports support_count is_supported without goes rounds collect refresh settle links chain highest end direct step path state_at
+cursor_of_a_fifth = refl

@@ -5,11 +5,13 @@ use Rattle.zt_rows.specs.declared.calls.Answer.{Answer}
 use Rattle.zt_rows.specs.declared.calls.Call.{Call}
 use Rattle.zt_rows.specs.declared.refusals.Refusal.{Refusal}
 use Rattle.zt_rows.specs.declared.refusals.Refusal.TheVariants as refusal
+use Rattle.zt_rows.specs.declared.saved.Saved.{Saved}
 use Rattle.zt_history.specs.HistoryRefusals.{call_on}
 use Rattle.zt_history.specs.Tree.{Tree, opening_tree, state_at, calls_to}
 use Rattle.zt_queries.specs.FrozenCopy.{Snapshot}
 use Rattle.zt_book.specs.declared.log.Recorded.{Recorded}
 use Rattle.zt_book.specs.Session.{Session, opening_session, session_over, client_of, most_rows, serve}
+use Rattle.zt_book.specs.SavedSessions.{loaded_saved}
 
 -- ---- the log
 
@@ -53,9 +55,13 @@ pub record BookView : Type 0 where
 abbrev pub standing_of : BookView → SessionLog
 standing_of b = record { session = b.session; log = b.log }
 
+-- a book whose log begins in this session
+abbrev pub book_at : Session → BookView
+book_at M = record { session = M; log = []; before = None }
+
 -- a book of so many clients at the opening
 abbrev pub first_book : ℕ → BookView
-first_book clients = record { session = opening_session clients; log = []; before = None }
+first_book clients = book_at (opening_session clients)
 
 -- a copy of the history at this moment of a tree
 abbrev pub snapshot_at : Tree → ℕ → Snapshot
@@ -79,31 +85,28 @@ loaded calls = loaded_from 0 opening_tree calls
 
 -- a book of so many clients over a loaded tree: its log begins there
 abbrev pub book_over : Tree → ℕ → BookView
-book_over t clients = record { session = session_over t clients; log = []; before = None }
+book_over t clients = book_at (session_over t clients)
 
--- what is told where a book is not loaded: that there are too many clients; or the first call that is refused; or that
--- memory was refused
-abbrev pub IsUnloadedBy : Bool → Result Tree (ℕ × Refusal) → ℕ × Refusal → Type 0
+-- what is told where a book is not loaded: that there are too many clients; or the first call, moment, branch or cursor
+-- that is refused; or that memory was refused
+abbrev pub IsUnloadedBy : {Whole : Type 0} → Bool → Result Whole (ℕ × Refusal) → ℕ × Refusal → Type 0
 IsUnloadedBy true whole fault = fault ≡ (0, refusal.TooManyClients)
 IsUnloadedBy false (Err first) fault = (fault ≡ first) ⊎ (fault ≡ (0, refusal.OutOfMemory))
 IsUnloadedBy false (Ok t) fault = fault ≡ (0, refusal.OutOfMemory)
 
-abbrev pub IsUnloaded : ℕ → Result Tree (ℕ × Refusal) → ℕ × Refusal → Type 0
+abbrev pub IsUnloaded : {Whole : Type 0} → ℕ → Result Whole (ℕ × Refusal) → ℕ × Refusal → Type 0
 IsUnloaded clients whole fault = IsUnloadedBy (nat_lt 4 clients) whole fault
 
 -- ---- the log of a book
 
--- loading some calls gives this tree
-pub record IsLoaded (t : Tree) : Type 0 where
-  pub calls : List (ℕ × Call)
-  pub gives : loaded calls ≡ Ok t
+-- loading a saved tree gives this session
+pub record IsBegun (M : Session) : Type 0 where
+  pub saved : Saved
+  pub gives : loaded_saved (length M.clients) saved ≡ Ok M
 
--- the log replays from a session over this tree, of as many clients as M has, and ends in M
-abbrev pub ReplaysOver : Tree → Session → List Recorded → Type 0
-ReplaysOver t M log = Replays (session_over t (length M.clients)) log M
-
--- the log has all that was answered to the clients of M: it replays from a tree that loading gives, and ends in M
+-- the log has all that was answered to the clients of M: it replays from a session that loading a saved tree gives, and
+-- ends in M
 pub record IsWholeLog (M : Session) (log : List Recorded) : Type 0 where
-  pub tree : Tree
-  pub begun : IsLoaded tree
-  pub replays : ReplaysOver tree M log
+  pub base : Session
+  pub begun : IsBegun base
+  pub replays : Replays base log M

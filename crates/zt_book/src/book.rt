@@ -1,18 +1,20 @@
 ghost use Rattle.std.specs.Prelude.{◌≡◌, ◌≢◌, ◌≤◌, ◌<◌, ◌↔◌, ◌++◌, ◌∷◌, [], None, Some, Ok, IfOk, IfErr, OnOk, OnErr, IsErrOf, IsSome, is_some, length};
 ghost use Rattle.zt_rows.specs.declared.calls.Command.TheVariants as command;
 ghost use Rattle.zt_history.specs.Tree.{Tree};
-ghost use Rattle.zt_book.specs.Session.{serve, session_over, position_of, IsCommandRefusal};
-ghost use Rattle.zt_book.specs.Log.{IsCounted, IsLoaded, IsWholeLog, standing_of, first_book, book_over, loaded, snapshot_at, IsUnloaded};
+ghost use Rattle.zt_book.specs.Session.{serve, position_of, IsCommandRefusal};
+ghost use Rattle.zt_book.specs.SavedSessions.{loaded_saved, saved_of_session};
+ghost use Rattle.zt_book.specs.Log.{IsBegun, IsCounted, IsWholeLog, standing_of, first_book, book_at, book_over, loaded, snapshot_at, IsUnloaded};
 
 use crate::client::Client;
 use crate::clients::Clients;
+use crate::loaded_clients::session_of;
 use crate::loaded_history::history_of;
 use crate::log::Log;
 use std::alloc::Global;
 use std::marker::Model;
 use zt_history::History;
 use zt_queries::Frozen;
-use zt_rows::{Answer, CLIENT_ROWS, CLIENTS, Call, Command, Koid, Refusal};
+use zt_rows::{Answer, CLIENT_ROWS, CLIENTS, Call, Command, Koid, Refusal, Saved};
 
 /// The client to which the last command was answered, and what was known of it before.
 #[derive(Clone, Copy)]
@@ -87,6 +89,29 @@ impl Book {
         }
     }
 
+    /// The book of so many clients over a saved tree: one client at each cursor, and where there are no more, others at
+    /// `main`; cursors beyond the clients are looked at, and left. Refused, the number is that of the item, from 0, where
+    /// moments, branches and cursors are counted in one row, or 0 for too many clients and for want of memory. Where
+    /// there is no branch it is the number that the first would have.
+    pub fn load_saved(alloc: Global, clients: u8, saved: &Saved) -> Result<Book, (u64, Refusal)>
+        ensures ok { IfOk result (λ book. loaded_saved clients saved.now ≡ Ok book.session) }
+        ensures first { IfOk result (λ book. book ≡ book_at book.session) }
+        ensures clients { IfOk result (λ book. length book.session.clients ≡ clients) }
+        ensures few { OnOk result (clients ≤ 4) }
+        ensures refused { IfErr result (IsUnloaded clients (loaded_saved clients saved.now)) }
+    {
+        if clients > CLIENTS {
+            return Err((0, Refusal::TooManyClients));
+        }
+        let moments = saved.moments.as_slice();
+        let branches = saved.branches.as_slice();
+        let cursors = saved.cursors.as_slice();
+        match session_of(alloc, clients, moments, branches, cursors) {
+            Ok(all_clients) => Ok(begin(alloc, all_clients)),
+            Err(fault) => Err(fault),
+        }
+    }
+
     /// Answers a command of a client, and writes both in the log. Refused, session and log are as before.
     pub fn serve(&mut self, client: u8, request: &Command) -> Result<Answer, Refusal>
         requires numbered { 1 ≤ client }
@@ -136,6 +161,15 @@ impl Book {
             Ok(said) => Ok((said, frozen)),
             Err(reason) => Err(reason),
         }
+    }
+
+    /// The session as it is written down: the tree, and where each client stands. What a client pinned is left out, and
+    /// so is the log.
+    pub fn save(&self) -> Result<Saved, Refusal>
+        ensures ok { IfOk result (λ saved. saved ≡ saved_of_session self.now.session) }
+        ensures refused { IfErr result (λ refusal. refusal ≡ Refusal.OutOfMemory) }
+    {
+        Ok(self.all_clients.saved()?)
     }
 
     /// The tree, with a store at one of its moments. It takes no memory.
@@ -204,8 +238,8 @@ impl Book {
         let _ = &self.log;
     }
 
-    /// What was answered replays: from the clients of the book over a tree that loading gives, the log ends in the book's
-    /// session. It takes no memory.
+    /// What was answered replays: from a session that loading a saved tree gives, the log ends in the book's session. It
+    /// takes no memory.
     pub fn log_replays(&self)
         ensures { IsWholeLog self.now.session self.now.log }
     {
@@ -230,11 +264,10 @@ impl Book {
     }
 }
 
-/// The book of clients to whom nothing was answered yet, over a tree that loading gives.
-fn begin(alloc: Global, all_clients: Clients) -> Book
-    requires first { all_clients.session ≡ session_over all_clients.session.tree (length all_clients.session.clients) }
-    requires loaded { IsLoaded all_clients.session.tree }
-    ensures { result ≡ book_over all_clients.session.tree (length all_clients.session.clients) }
+/// The book of clients to whom nothing was answered yet: its log begins in their session.
+pub(crate) fn begin(alloc: Global, all_clients: Clients) -> Book
+    requires { IsBegun all_clients.session }
+    ensures { result ≡ book_at all_clients.session }
 {
     let log = Log::new(alloc);
     let last = None;

@@ -1,4 +1,4 @@
-ghost use Rattle.std.specs.Prelude.{◌≡◌, ◌≤◌, ◌<◌, ◌-◌, IfOk, IfErr, OnOk, length};
+ghost use Rattle.std.specs.Prelude.{◌≡◌, ◌≤◌, ◌<◌, ◌-◌, All, IfOk, IfErr, OnOk, length};
 ghost use Rattle.zt_history.specs.TreeInvariant.{IsTree};
 ghost use Rattle.zt_book.specs.Session.{client_of, counted, position_of, session_over, with_client};
 ghost use Rattle.zt_book.specs.Log.{snapshot_at};
@@ -50,6 +50,20 @@ impl Clients {
             clients,
             grown,
         })
+    }
+
+    /// These clients over a history.
+    pub(crate) fn over(history: History, clients: Vec<Client>) -> Clients
+        requires few { length clients.items ≤ 4 }
+        requires stand { All (IsClient history.tree) clients.items }
+        ensures { result.session ≡ record { tree = history.tree; clients = clients.items } }
+    {
+        let grown = false;
+        Clients {
+            history,
+            clients,
+            grown,
+        }
     }
 
     /// What holds of all clients and of their history.

@@ -6,8 +6,12 @@ mod branch_name;
 mod client;
 mod clients;
 mod commands;
+pub mod laws;
+mod loaded_clients;
 mod loaded_history;
+mod loaded_tree;
 mod log;
+mod saved_session;
 
 pub use book::Book;
 pub use client::{Client, Cursor};

@@ -7,7 +7,7 @@ use zt_history::{BranchId, History};
 use zt_rows::{Call, Koid, Refusal};
 
 /// The branch that is there from the start.
-const MAIN: BranchId = BranchId(0);
+pub(crate) const MAIN: BranchId = BranchId(0);
 
 /// The history of these calls on `main`, in turn.
 pub(crate) fn history_of(alloc: Global, calls: &[(Koid, Call)]) -> Result<History, (u64, Refusal)>
@@ -27,8 +27,8 @@ pub(crate) fn history_of(alloc: Global, calls: &[(Koid, Call)]) -> Result<Histor
     Ok(history)
 }
 
-/// Where the refusal is told: at the call of this number, and want of memory at none.
-fn fault(number: u64, refusal: Refusal) -> (u64, Refusal)
+/// Where the refusal is told: at the item of this number, and want of memory at none.
+pub(crate) fn fault(number: u64, refusal: Refusal) -> (u64, Refusal)
     ensures { result ≡ fault_at number refusal }
 {
     if refusal == Refusal::OutOfMemory {

@@ -1,12 +1,14 @@
 -- The clients of a shared book at their places, and what is left of them there.
-use Rattle.std.proofs.Common.{◌≡◌, ℕ, suc, ◌≤◌, List, [], ◌∷◌, ◌++◌, length, map, get_or, Option, Some, None, refl, sym, ◌∙◌, ap, subst, arith}
+use Rattle.std.proofs.Common.{◌≡◌, ℕ, suc, ◌<◌, ◌≤◌, List, [], ◌∷◌, ◌++◌, length, map, get_or, Option, Some, None, refl, sym, ◌∙◌, ap, subst, arith}
 use Rattle.std.specs.Prelude.{All}
 use Rattle.std.specs.List.{AllZip, filter_map, cons_option}
 use Rattle.std.specs.List.Sorted.{IsPermutation}
+use Rattle.std.proofs.lemmas.List.{get_or-map, length-map}
 use Rattle.std.proofs.lemmas.List.Elements.{filter_map-append, All-head, All-tail, All-map}
 use Rattle.zt_rows.specs.declared.calls.Answer.{Answer}
 use Rattle.zt_rows.specs.declared.calls.Command.{Command}
 use Rattle.zt_book.specs.declared.log.Recorded.{Recorded}
+use Rattle.zt_book.specs.Log.{Replays}
 use Rattle.zt_book.specs.Session.{Session}
 use Rattle.zt_shared.specs.Sharing.{PassView, IsPartOf, IsOneLog, told_to, first_part, first_parts, numbers}
 use Rattle.zt_shared.proofs.SharingLaws.{in_order}
@@ -60,6 +62,13 @@ told-in log before after end who base part =
 
 abbrev pub IsIn : List Recorded → PassView → Type 0
 IsIn log pass = (end : Session) × IsPartOf pass log end
+
+-- what holds of where each pass begins holds of where each client began
+begun-all : {I O : Type 0} (Q : Session → Type 0) (log : List Recorded) (cs : List (Caller I O)) → All (λ (p : PassView). Q p.base) (map (λ (c : Caller I O). told_in log c.2) cs)
+    → All (λ (c : Caller I O). Q c.2.base) cs
+begun-all {I} {O} Q log cs h = λ i d lt.
+    let f : Caller I O → PassView = λ c. told_in log c.2 in
+    subst (λ (p : PassView). Q p.base) (get_or-map f cs i d (f d) lt) (h i (f d) (subst (λ n. i < n) (sym (length-map cs f)) lt))
 
 module _ {I O A B C D : Type 0} (remaining : I → Option (List ℕ)) (contents : O → Option (List ℕ)) where
   abbrev pub Zipped : List (Caller I O) → List (ClientSession I O A B C D) → Type 0
@@ -130,6 +139,13 @@ module _ {I O A B C D : Type 0} (remaining : I → Option (List ℕ)) (contents 
       → IsOneLog n passes log → IsOneLog n (map (λ (c : Caller I O). told_in log c.2) cs) log
   all_closed n log cs ps passes z e closed =
       subst (λ l. IsOneLog n l log) (e ∙ passes_left log cs ps z (subst (All (IsIn log)) e closed.parts)) closed
+
+  -- from where each of them began, the log ends in the session in which it ends from where the passes began
+  pub all_ended : (n : ℕ) (log : List Recorded) (end : Session) (cs : List (Caller I O)) (ps : List (ClientSession I O A B C D)) (passes : List PassView) → Zipped cs ps → passes ≡ filter_map pass_at ps
+      → IsOneLog n passes log → All (λ (p : PassView). Replays p.base log end) passes → All (λ (c : Caller I O). Replays c.2.base log end) cs
+  all_ended n log end cs ps passes z e closed ended =
+      let same = e ∙ passes_left log cs ps z (subst (All (IsIn log)) e closed.parts) in
+      begun-all (λ (base : Session). Replays base log end) log cs (subst (All (λ (p : PassView). Replays p.base log end)) same ended)
 
   pub all_served : (n : ℕ) (log : List Recorded) (cs : List (Caller I O)) (ps : List (ClientSession I O A B C D)) (passes : List PassView) (served : List (Served I O)) → Zipped cs ps
       → passes ≡ filter_map pass_at ps → served ≡ map served_at ps → IsOneLog n passes log

@@ -1,5 +1,6 @@
 ghost use Rattle.std.specs.Prelude.{◌≡◌, ◌<◌, ◌≤◌, ◌+◌, [], ◌∷◌, ◌++◌, length, map, All, IfOk, IfErr, IsPermutation, vec_len, vec_capacity};
 ghost use Rattle.std.specs.List.{AllZip, cons_option, filter_map};
+ghost use Rattle.zt_book.specs.Log.{Replays};
 ghost use Rattle.zt_shared.specs.Sharing.{IsOneLog, numbers};
 ghost use Rattle.zt_console.specs.ProofsOnly.ClientSessions.{place_of, served_at, pass_at};
 ghost use Rattle.zt_console.specs.Sessions.{IsCountable, IsServed, told_in};
@@ -11,9 +12,9 @@ use std::alloc::{AllocError, Global};
 use std::io::{Read, Write};
 use std::sync::Wait;
 use std::thread::Threads;
-use zt_book::Log;
+use zt_book::Book;
 use zt_shared::account::Naming;
-use zt_shared::{Beginning, Gate, Pass, Shared, close};
+use zt_shared::{Beginning, Gate, Pass, Shared, close_book};
 
 /// What a client brings: where its lines come from, where their text goes, and its pass.
 pub type Caller<I, O, A, B, C, D> = (Counted<I>, Counted<O>, Pass<A, B, C, D>);
@@ -45,11 +46,11 @@ struct SessionLists<I: Read, O: Write, A: Naming + Beginning, B: Naming, C: Nami
     passes: Vec<Pass<A, B, C, D>>,
 }
 
-/// Serves all clients of a shared book, who come in any order, each by a session on a thread of its own, and closes the
-/// book when all have ended.
+/// Serves all clients of a shared book, who come in any order, each by a session on a thread of its own, and gives the book
+/// back when all have ended.
 /// All that serving takes of memory but each session's own is asked for first; where it is refused, the book and the
 /// clients come back. A client for whom no thread can be started is not served: it has no rows, and its session ends as
-/// one that found no memory.
+/// one that found no memory. The gate is told of each session that has ended, also of such a one, at once.
 pub fn sessions<
     R: Threads + Wait + Sync,
     I: Read + Send + Drop,
@@ -65,11 +66,13 @@ pub fn sessions<
     shared: Shared<A, B, C, D>,
     callers: Vec<Caller<I, O, A, B, C, D>>,
     gate: &G,
-) -> Result<(Log, Vec<Served<I, O>>), (Shared<A, B, C, D>, Vec<Caller<I, O, A, B, C, D>>)>
+) -> Result<(Book, Vec<Served<I, O>>), (Shared<A, B, C, D>, Vec<Caller<I, O, A, B, C, D>>)>
     requires all { IsPermutation (numbers A.clients) (map (λ caller. caller.2.client) callers.items) }
     requires counts { All IsCountable callers.items }
-    ensures log { IfOk result (λ done. IsOneLog A.clients (map (λ caller. told_in done.0 caller.2) callers.items) done.0) }
-    ensures each { IfOk result (λ done. AllZip (λ caller served. IsServed I.remaining O.contents caller (told_in done.0 caller.2) served.reader served.writer served.end) callers.items done.1.items) }
+    ensures log { IfOk result (λ done. IsOneLog A.clients (map (λ caller. told_in done.0.log caller.2) callers.items) done.0.log) }
+    ensures end { IfOk result (λ done. All (λ caller. Replays caller.2.base done.0.log done.0.session) callers.items) }
+    ensures clients { IfOk result (λ done. length done.0.session.clients ≡ A.clients) }
+    ensures each { IfOk result (λ done. AllZip (λ caller served. IsServed I.remaining O.contents caller (told_in done.0.log caller.2) served.reader served.writer served.end) callers.items done.1.items) }
     ensures refused { IfErr result (λ back. (back.0 ≡ shared) × (back.1 ≡ callers)) }
 {
     let Ok(lists) = room_for(alloc, callers.len()) else {
@@ -85,8 +88,8 @@ pub fn sessions<
     take_places(&mut waiting, callers);
     let places = serve_all(rt, alloc, &shared, gate, waiting, threads, places);
     leave_places(places, &mut served, &mut passes);
-    let log = close(shared, passes);
-    Ok((log, served))
+    let book = close_book(shared, passes);
+    Ok((book, served))
 }
 
 /// Empty lists with room for so many clients.

@@ -151,7 +151,7 @@ fn start<
             ensures { IsGivenBack I.remaining O.contents place result }
         {
             let all = place;
-            serve_place(rt, alloc, shared, gate, refused, all)
+            serve_client(rt, alloc, shared, gate, refused, all)
         },
     );
     match begun {
@@ -171,6 +171,31 @@ fn client_of<I, O, A: Naming + Beginning, B: Naming, C: Naming, D: Naming>(
         Some(pass) => usize::from(pass.client()),
         None => NOBODY,
     }
+}
+
+/// Serves a client at its place, or turns it away, and tells the gate when its session has ended.
+fn serve_client<
+    R: Wait,
+    I: Read,
+    O: Write,
+    A: Naming + Beginning,
+    B: Naming,
+    C: Naming,
+    D: Naming,
+    G: Gate,
+>(
+    rt: &R,
+    alloc: Global,
+    shared: &Shared<A, B, C, D>,
+    gate: &G,
+    refused: &AtomicUsize,
+    place: ClientSession<I, O, A, B, C, D>,
+) -> ClientSession<I, O, A, B, C, D>
+    ensures { IsGivenBack I.remaining O.contents place result }
+{
+    let place = serve_place(rt, alloc, shared, gate, refused, place);
+    tell_end(gate, &place);
+    place
 }
 
 /// Serves a client at its place, or says there that it was turned away.
@@ -199,6 +224,16 @@ fn serve_place<
         serve(rt, alloc, shared, gate, &mut place);
     }
     place
+}
+
+/// Tells the gate that the session of a place's client has ended.
+fn tell_end<I, O, A: Naming + Beginning, B: Naming, C: Naming, D: Naming, G: Gate>(
+    gate: &G,
+    place: &ClientSession<I, O, A, B, C, D>,
+) {
+    if let Some(pass) = &place.pass {
+        gate.ended(pass.client());
+    }
 }
 
 /// Serves one client, where its pass is there and its failures can be counted.

@@ -20,5 +20,5 @@ pub use counted_faults::Counted;
 pub use loaded_text::load_text;
 pub use pass_session::session;
 pub use run_loop::End;
-pub use saved_text::main_text;
+pub use saved_text::{main_text, tree_text};
 pub use zt_book::Book;

@@ -3,13 +3,15 @@ ghost use Rattle.zt_history.specs.Tree.{head_at};
 ghost use Rattle.std.specs.List.{filter_map};
 ghost use Rattle.zt_history.specs.HistoryRefusals.{IsHistoryRefusal, moment_on};
 ghost use Rattle.zt_history.specs.Tree.{call_at, calls_to};
+ghost use Rattle.zt_book.specs.SavedSessions.{saved_of_session};
 ghost use Rattle.zt_text.specs.Calls.{session_text};
+ghost use Rattle.zt_text.specs.SavedTexts.{saved_text};
 
 use std::alloc::{AllocError, Global};
 use zt_book::Book;
 use zt_history::{BranchId, History, push_call};
 use zt_rows::{Call, Koid, Moment, Refusal};
-use zt_text::print_session;
+use zt_text::{print_saved, print_session};
 
 /// The session text of the path to the head of `main`, the first branch. It loads as that path again.
 #[tactic(auto, using(crate::proofs::SaveLaws::main_there, crate::proofs::SaveLaws::memory_alone))]
@@ -21,6 +23,18 @@ pub fn main_text(alloc: Global, book: &Book) -> Result<Vec<u8>, Refusal>
     let _position = history.position();
     let head = history.head(BranchId(0));
     path_text(alloc, history, head)
+}
+
+/// The session text of the whole tree, of version 2, with its branches and where each client stands. It loads as that tree
+/// again, with the clients where they stand; what they pinned and were answered is no part of it.
+pub fn tree_text(alloc: Global, book: &Book) -> Result<Vec<u8>, Refusal>
+    ensures ok { IfOk result (λ text. text.items ≡ saved_text (saved_of_session book.now.session)) }
+    ensures refused { IfErr result (λ refusal. refusal ≡ Refusal.OutOfMemory) }
+{
+    match book.save() {
+        Ok(saved) => Ok(print_saved(alloc, &saved)?),
+        Err(refusal) => Err(refusal),
+    }
 }
 
 /// The session text of the path to a moment, which loads as that path again.

@@ -97,6 +97,13 @@ branch_head None = 0
 abbrev pub head_at : List Branch → ℕ → ℕ
 head_at branches i = branch_head (slice_get branches i)
 
+abbrev pub branch_name : Option Branch → List ℕ
+branch_name (Some b) = b.name
+branch_name None = []
+
+abbrev pub name_at : List Branch → ℕ → List ℕ
+name_at branches i = branch_name (slice_get branches i)
+
 -- the branches with this head for the one of this number
 abbrev pub headed : List Branch → ℕ → ℕ → List Branch
 headed [] i m = []

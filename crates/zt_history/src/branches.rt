@@ -1,6 +1,6 @@
 ghost use Rattle.std.specs.Prelude.{◌≡◌, ◌<◌, ◌+◌, ◌++◌, ◌∷◌, [], None, IfOk, OnOk, OnErr, IfSome, length};
 ghost use Rattle.zt_history.specs.ProofsOnly.Branches.{without_last};
-ghost use Rattle.zt_history.specs.Tree.{Branch, branch_named, head_at, headed, opening_tree};
+ghost use Rattle.zt_history.specs.Tree.{Branch, branch_named, head_at, headed, name_at, opening_tree};
 
 use indexmap::IndexMap;
 use std::alloc::{AllocError, Global};
@@ -72,6 +72,17 @@ impl Branches {
         ensures { result ≡ head_at self.now id }
     {
         self.heads[id.0]
+    }
+
+    /// The name of a branch. It takes no memory.
+    pub(crate) fn name(&self, id: BranchId) -> &[u8]
+        requires { id < length self.now }
+        ensures { result.now ≡ name_at self.now id }
+    {
+        match self.heads.get_index(id.0) {
+            Some((name, _)) => name.as_slice(),
+            None => unreachable!(),
+        }
     }
 
     /// Moves the head of a branch. It takes no memory.

@@ -3,7 +3,7 @@ ghost use Rattle.std.specs.Option.{option_copied, option_map};
 ghost use Rattle.zt_rows.specs.declared.calls.Reply.{Reply};
 ghost use Rattle.zt_rows.specs.Opening.{opening};
 ghost use Rattle.zt_rows.specs.Step.{run};
-ghost use Rattle.zt_history.specs.Tree.{call_at, reply_at, parent_at, path, end_of, state_at, calls_to, replies_to, head_at, branch_named};
+ghost use Rattle.zt_history.specs.Tree.{call_at, reply_at, parent_at, path, end_of, state_at, calls_to, replies_to, head_at, name_at, branch_named};
 ghost use Rattle.zt_history.specs.HistoryRefusals.{IsHistoryRefusal, moment_on};
 ghost use Rattle.zt_history.specs.TreeInvariant.{recorded_at, Falls, IsTree};
 ghost use Rattle.zt_history.specs.Timeline.{at_opening, moved_to, unmoved, IsPath};
@@ -91,6 +91,21 @@ impl History {
         self.branches.head(id)
     }
 
+    /// The name of a branch. It takes no memory.
+    pub fn name(&self, id: BranchId) -> &[u8]
+        requires { id < length self.now.tree.branches }
+        ensures { result.now ≡ name_at self.now.tree.branches id }
+    {
+        self.branches.name(id)
+    }
+
+    /// How many branches there are. It takes no memory.
+    pub fn branches(&self) -> usize
+        ensures { result ≡ length self.now.tree.branches }
+    {
+        self.branches.len()
+    }
+
     /// The last moment. It takes no memory.
     pub fn last(&self) -> Moment
         ensures last { result ≡ length self.now.tree.made }
@@ -136,6 +151,14 @@ impl History {
             Some(node) => Some((node.process, &node.call)),
             None => None,
         }
+    }
+
+    /// The moment at which a moment's call was made; the opening for itself, and beyond the last moment. It takes no
+    /// memory.
+    pub fn parent_of(&self, moment: Moment) -> Moment
+        ensures { result ≡ parent_at self.now.tree.made moment }
+    {
+        self.moments.parent(moment)
     }
 
     /// The record of a moment: the rows before its call where it is on the path to the position, else the rows after

@@ -8,8 +8,6 @@ mod history;
 pub mod laws;
 mod moments;
 mod new_moment;
-#[cfg(test)]
-mod tests;
 mod tree_changes;
 
 pub use branches::BranchId;

@@ -22,6 +22,7 @@ pub mod Same
 pub mod Change
 pub mod Path
 pub mod Room
+pub mod CallsInARow
 pub mod Consistent
 -- Used by proofs only: no public clause depends on them.
 pub mod ProofsOnly

@@ -20,7 +20,7 @@ use Rattle.zt_book.specs.Session.{Session, serve, pin_to, position_of, IsCommand
 use Rattle.zt_book.specs.Log.{SessionLog, Replays, rows_of, IsCounted, snapshot_at}
 use Rattle.zt_shared.specs.Accounts.{most}
 use Rattle.once_cell.specs.declared.race.note.Note.{Note}
-use Rattle.zt_rows.specs.declared.calls.Call.{Call}
+use Rattle.zt_rows.specs.declared.saved.Saved.{Saved}
 use Rattle.zt_shared.specs.Sharing.{PassView, IsPartOf, IsAnsweredOnPass, IsRefusedTo, IsPinnedOnPass, IsCopyOf, told_to, logged, said_in}
 use Rattle.zt_shared.specs.ProofsOnly.Sharing.{begun}
 use Rattle.zt_shared.specs.ProofsOnly.LockedBooks.{Shown, Sides, sides_of, IsLockedBook}
@@ -208,7 +208,7 @@ module _ (client : ℕ) (side : Sides → List (Command × Answer)) (with_side :
     (at : (log : List Recorded) → side (sides_of log) ≡ told_to client log)
     (more : (log : List Recorded) (c : Command) (a : Answer) → sides_of (logged log client c a) ≡ with_side (told_to client log ++ (c, a) ∷ []) (sides_of log))
     (same : (s : Sides) → with_side (side s) s ≡ s)
-    (base clients cell : ℕ) (told : Note (List (ℕ × Call))) (M N : Session) (log log' : List Recorded) (s : Sides) (ours : List (Command × Answer)) (locked : IsLockedBook base clients cell told M log s) where
+    (base clients cell : ℕ) (told : Note Saved) (M N : Session) (log log' : List Recorded) (s : Sides) (ours : List (Command × Answer)) (locked : IsLockedBook base clients cell told M log s) where
   pub locked-answered : (c : Command) (a : Answer) → serve M client c ≡ Ok (a, N) → log' ≡ logged log client c a → ours ≡ side s ++ (c, a) ∷ []
       → length N.clients ≡ length M.clients → IsLockedBook base clients cell told N log' (with_side ours s)
   locked-answered c a served grown mine kept = record {

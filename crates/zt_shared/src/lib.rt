@@ -10,8 +10,8 @@ mod opened_book;
 mod pass;
 mod shared;
 
-pub use closed_book::close;
+pub use closed_book::{close, close_book};
 pub use gate::Gate;
 pub use opened_book::{Blanks, open, open_book};
-pub use pass::{Beginning, Calls, Pass, Said};
+pub use pass::{Beginning, Pass, Said};
 pub use shared::Shared;

@@ -1,4 +1,4 @@
-ghost use Rattle.std.specs.Prelude.{◌≡◌, ◌≢◌, ◌++◌, ◌∷◌, [], All, Ok, Err, IfOk, IfErr, OnErr, IfSome};
+ghost use Rattle.std.specs.Prelude.{◌≡◌, ◌≢◌, ◌++◌, ◌∷◌, [], All, Ok, Err, IfOk, IfErr, OnErr, IfSome, length};
 ghost use Rattle.std.specs.List.{AllByRecursion};
 ghost use Rattle.zt_rows.specs.declared.calls.Command.TheVariants as command;
 ghost use Rattle.zt_rows.specs.declared.refusals.Refusal.TheVariants as refusal;
@@ -9,21 +9,21 @@ ghost use Rattle.zt_shared.specs.Sharing.{IsPartOf, logged};
 
 use crate::account::{LockSide, Naming};
 use crate::answered_command::{pin_turn, turn};
-use crate::pass::{Beginning, Calls, Pass, Said, Slot};
+use crate::pass::{Beginning, Pass, Said, Slot};
 use once_cell::race::{Note, OnceBox};
 use std::alloc::Global;
 use std::marker::Model;
-use zt_book::{Book, Log};
+use zt_book::Book;
 use zt_queries::Frozen;
-use zt_rows::{Answer, Command, Refusal};
+use zt_rows::{Answer, Command, Refusal, Saved};
 
 /// What lies under the lock: the book, and of each client's account the lock's side. Each row of the log is a row of
 /// its client's account, in the log's order.
 #[derive(Drop)]
 pub(crate) struct LockedBook<A: Naming + Beginning, B: Naming, C: Naming, D: Naming> {
     pub(crate) book: Book,
-    pub(crate) base: OnceBox<Calls>,
-    pub(crate) told: Note<Calls>,
+    pub(crate) base: OnceBox<Saved>,
+    pub(crate) told: Note<Saved>,
     pub(crate) first: LockSide<A, Said>,
     pub(crate) second: LockSide<B, Said>,
     pub(crate) third: LockSide<C, Said>,
@@ -134,18 +134,21 @@ impl<A: Naming + Beginning, B: Naming, C: Naming, D: Naming> LockedBook<A, B, C,
         }
     }
 
-    /// The log, of which each row is of one of the clients. It takes no memory.
-    pub(crate) fn into_log(self) -> Log
-        ensures log { result ≡ self.log }
-        ensures others { AllByRecursion (IsOf A.clients) result }
+    /// The book, with a log of which each row is of one of the clients. It takes no memory.
+    pub(crate) fn into_book(self) -> Book
+        ensures session { result.session ≡ self.session }
+        ensures log { result.log ≡ self.log }
+        ensures clients { length result.session.clients ≡ A.clients }
+        ensures others { AllByRecursion (IsOf A.clients) result.log }
     {
-        self.book.rows_are_counted();
-        self.book.into_log()
+        let book = self.book;
+        book.rows_are_counted();
+        book
     }
 }
 
 /// Two notes of the base cell know one base.
-fn agree_on_base(ours: &mut Note<Calls>, theirs: &mut Note<Calls>)
+fn agree_on_base(ours: &mut Note<Saved>, theirs: &mut Note<Saved>)
     requires { ours.old.cell ≡ theirs.old.cell }
     ensures ours { ours.new ≡ ours.old }
     ensures theirs { theirs.new ≡ theirs.old }

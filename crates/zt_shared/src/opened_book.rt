@@ -2,30 +2,31 @@ ghost use Rattle.std.specs.Prelude.{◌≡◌, ◌≢◌, ◌≤◌, ◌<◌, �
 ghost use Rattle.once_cell.specs.Once.{cell_name};
 ghost use Rattle.zt_rows.specs.declared.refusals.Refusal.TheVariants as refusal;
 ghost use Rattle.zt_book.specs.Session.{opening_session};
+ghost use Rattle.zt_book.specs.SavedSessions.{saved_of_session};
 ghost use Rattle.zt_shared.specs.Sharing.{IsFresh, first_parts};
 ghost use Rattle.zt_shared.specs.ProofsOnly.Sharing.{begun};
 ghost use Rattle.zt_shared.specs.OpenedBook.{IsNamed};
-ghost use Rattle.zt_shared.specs.ProofsOnly.OpenedBook.{calls_in, part_of};
+ghost use Rattle.zt_shared.specs.ProofsOnly.OpenedBook.{part_of};
 ghost use Rattle.zt_shared.specs.ProofsOnly.ClientSlots.{slot_number, slot_rows};
 
 use crate::account::{Blank, Naming, Refused, claim};
 use crate::locked_book::LockedBook;
-use crate::pass::{Beginning, Calls, Pass, Said, Slot};
+use crate::pass::{Beginning, Pass, Said, Slot};
 use crate::shared::Shared;
 use once_cell::race::{Note, OnceBox};
 use std::alloc::{AllocError, Global};
 use std::marker::Model;
 use std::sync::Mutex;
 use zt_book::Book;
-use zt_history::{History, push_call};
-use zt_rows::{CLIENTS, Call, Items, Koid, Moment, Refusal};
+use zt_book::laws::what_was_loaded_is_loaded_again;
+use zt_rows::{CLIENTS, Refusal, Saved};
 
 /// What a shared book is made of, before any type names it: an empty base cell, and an account without rows for each
 /// of the four clients, also those beyond the number of clients.
 #[derive(Drop)]
 pub struct Blanks {
     clients: u8,
-    base: OnceBox<Calls>,
+    base: OnceBox<Saved>,
     first: Blank<Said>,
     second: Blank<Said>,
     third: Blank<Said>,
@@ -117,7 +118,7 @@ pub fn open_book<A: Naming + Beginning, B: Naming, C: Naming, D: Naming>(
     ensures passes { IfOk result (λ opened. opened.1.items ≡ first_parts blanks.clients book.session) }
     ensures refused { IfErr result (λ back. (back.0 ≡ book) × (back.1 ≡ refusal.OutOfMemory)) }
 {
-    match set_out(alloc, &blanks, book.history()) {
+    match set_out(alloc, &blanks, &book) {
         Ok((passes, told)) => Ok(hand_over(alloc, blanks, book, passes, told)),
         Err(_) => {
             drop(blanks);
@@ -126,19 +127,19 @@ pub fn open_book<A: Naming + Beginning, B: Naming, C: Naming, D: Naming>(
     }
 }
 
-/// Room for the passes, and a note of the base cell, in which the calls of the history stand from now on.
+/// Room for the passes, and a note of the base cell, in which the book's session is written down from now on.
 fn set_out<A: Naming + Beginning, B: Naming, C: Naming, D: Naming>(
     alloc: Global,
     blanks: &Blanks,
-    history: &History,
-) -> Result<(Vec<Pass<A, B, C, D>>, Note<Calls>), Refused>
+    book: &Book,
+) -> Result<(Vec<Pass<A, B, C, D>>, Note<Saved>), Refused>
     ensures passes { IfOk result (λ set. (set.0.items ≡ []) × (4 ≤ vec_capacity set.0)) }
-    ensures told { IfOk result (λ set. (set.1.cell ≡ blanks.now.base) × (set.1.known ≡ Some (calls_in history.now.tree))) }
+    ensures told { IfOk result (λ set. (set.1.cell ≡ blanks.now.base) × (set.1.known ≡ Some (saved_of_session book.now.session))) }
 {
     let Ok(passes) = Vec::with_capacity(alloc, CLIENTS as usize) else {
         return Err(Refused);
     };
-    match note_base(alloc, &blanks.base, history) {
+    match note_base(alloc, &blanks.base, book) {
         Ok(told) => Ok((passes, told)),
         Err(refused) => Err(refused),
     }
@@ -150,7 +151,7 @@ fn hand_over<A: Naming + Beginning, B: Naming, C: Naming, D: Naming>(
     blanks: Blanks,
     book: Book,
     mut passes: Vec<Pass<A, B, C, D>>,
-    mut told: Note<Calls>,
+    mut told: Note<Saved>,
 ) -> (Shared<A, B, C, D>, Vec<Pass<A, B, C, D>>)
     requires base { (blanks.base ≡ A.base) × (blanks.clients ≡ A.clients) }
     requires first { IsNamed A.name A.parts A.cells blanks.first }
@@ -159,10 +160,11 @@ fn hand_over<A: Naming + Beginning, B: Naming, C: Naming, D: Naming>(
     requires fourth { IsNamed D.name D.parts D.cells blanks.fourth }
     requires fresh { IsFresh blanks.clients book }
     requires empty { (passes.items ≡ []) × (4 ≤ vec_capacity passes) }
-    requires told { (told.cell ≡ blanks.base) × (told.known ≡ Some (calls_in book.session.tree)) }
+    requires told { (told.cell ≡ blanks.base) × (told.known ≡ Some (saved_of_session book.session)) }
     ensures { result.1.items ≡ first_parts blanks.clients book.session }
 {
     book.log_replays();
+    what_was_loaded_is_loaded_again();
     let Blanks {
         clients,
         base,
@@ -196,7 +198,7 @@ fn hand_over<A: Naming + Beginning, B: Naming, C: Naming, D: Naming>(
 /// Puts the pass of a client behind the others, where there are so many clients.
 fn hand_out<A: Naming + Beginning, B: Naming, C: Naming, D: Naming>(
     passes: &mut Vec<Pass<A, B, C, D>>,
-    told: &mut Note<Calls>,
+    told: &mut Note<Saved>,
     clients: u8,
     slot: Slot<A, B, C, D>,
 )
@@ -218,35 +220,18 @@ fn hand_out<A: Naming + Beginning, B: Naming, C: Naming, D: Naming>(
     }
 }
 
-/// Sets the base cell to the calls of the history, and notes what stands in it.
-fn note_base(
-    alloc: Global,
-    cell: &OnceBox<Calls>,
-    history: &History,
-) -> Result<Note<Calls>, Refused>
-    ensures { IfOk result (λ note. (note.cell ≡ cell_name cell.now) × (note.known ≡ Some (calls_in history.now.tree))) }
+/// Writes the book's session down in the base cell, and notes what stands in it.
+fn note_base(alloc: Global, cell: &OnceBox<Saved>, book: &Book) -> Result<Note<Saved>, Refused>
+    ensures { IfOk result (λ note. (note.cell ≡ cell_name cell.now) × (note.known ≡ Some (saved_of_session book.now.session))) }
 {
-    let Ok(calls) = calls_of(alloc, history) else {
+    let Ok(saved) = book.save() else {
         return Err(Refused);
     };
-    let Ok(shown) = Box::new(alloc, Items::new(calls)) else {
+    let Ok(shown) = Box::new(alloc, saved) else {
         return Err(Refused);
     };
     match claim(cell, shown) {
         Some(note) => Ok(note),
         None => Err(Refused),
     }
-}
-
-/// The calls of the history's moments, each with its process.
-#[tactic(auto, using(crate::proofs::OpeningLaws::next_call))]
-fn calls_of(alloc: Global, history: &History) -> Result<Vec<(Koid, Call)>, AllocError>
-    ensures { IfOk result (λ calls. calls.items ≡ calls_in history.now.tree) }
-{
-    let last = history.last();
-    let mut calls = Vec::with_capacity(alloc, last.0 as usize)?;
-    for at in 0..last.0 {
-        push_call(&mut calls, history, Moment(at + 1))?;
-    }
-    Ok(calls)
 }

@@ -6,13 +6,10 @@ ghost use Rattle.zt_shared.specs.ProofsOnly.ClientSlots.{slot_number, slot_rows}
 use crate::account::{Naming, PassSide};
 use once_cell::race::Note;
 use std::marker::{Brand, Model};
-use zt_rows::{Answer, Call, Command, Items, Koid};
+use zt_rows::{Answer, Command, Saved};
 
 /// A command of a client with its answer.
 pub type Said = (Command, Answer);
-
-/// The calls of the tree over which a log begins, each with its process.
-pub type Calls = Items<(Koid, Call)>;
 
 /// Where a log begins: the name of the cell that tells it, and the number of clients.
 pub trait Beginning {
@@ -43,7 +40,7 @@ pub(crate) enum Slot<A: Naming, B: Naming, C: Naming, D: Naming> {
 #[derive(Drop)]
 pub struct Pass<A: Naming + Beginning, B: Naming, C: Naming, D: Naming> {
     pub(crate) slot: Slot<A, B, C, D>,
-    pub(crate) told: Note<Calls>,
+    pub(crate) told: Note<Saved>,
 }
 
 impl<A: Naming + Beginning, B: Naming, C: Naming, D: Naming> Model for Pass<A, B, C, D> {

@@ -13,7 +13,8 @@ use Rattle.zt_text.specs.Fields.{◌>>=◌}
 use Rattle.zt_text.specs.Lines.{lines_of}
 use Rattle.zt_text.specs.ReadLines.{IsUnread}
 use Rattle.zt_text.specs.Session.{session_of, fault_at, at_line, IsFaultOf}
-use Rattle.zt_text.specs.SavedTexts.{bare, with_line, with_lines, as_moment, moments_from, in_a_row, tree_lines, saved_by, saved_of, IsUnreadTree, cursor_words, cursor_lines}
+use Rattle.zt_rows.specs.CallsInARow.{as_moment, moments_from, in_a_row}
+use Rattle.zt_text.specs.SavedTexts.{bare, with_line, with_lines, tree_lines, saved_by, saved_of, IsUnreadTree, cursor_words, cursor_lines}
 use Rattle.zt_text.specs.ProofsOnly.SavedTexts.{row_of}
 
 -- ---- lines

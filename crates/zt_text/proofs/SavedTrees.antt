@@ -23,7 +23,8 @@ use Rattle.zt_text.specs.Calls.{call_name, call_arguments}
 use Rattle.zt_text.specs.Answers.{as_line}
 use Rattle.zt_text.specs.Lines.{lines_of}
 use Rattle.zt_text.specs.Session.{at_line, first_line, calls_in, calls_of_lines, session_of}
-use Rattle.zt_text.specs.SavedTexts.{saved_call_words, branch_words, place_words, cursor_words, saved_call_line, branch_line, cursor_lines, saved_text, saved_call, saved_branch, client_of, follows, at_moment, place_named, saved_cursor, with_call, with_branch, with_cursor, with_word, with_fields, with_line, with_lines, in_a_row, tree_lines, saved_of, IsName, IsSavedCall, IsSavedBranch, IsSavedCursor, IsSaved}
+use Rattle.zt_rows.specs.CallsInARow.{in_a_row}
+use Rattle.zt_text.specs.SavedTexts.{saved_call_words, branch_words, place_words, cursor_words, saved_call_line, branch_line, cursor_lines, saved_text, saved_call, saved_branch, client_of, follows, at_moment, place_named, saved_cursor, with_call, with_branch, with_cursor, with_word, with_fields, with_line, with_lines, tree_lines, saved_of, IsName, IsSavedCall, IsSavedBranch, IsSavedCursor, IsSaved}
 use Rattle.zt_text.proofs.ShownFields.{decimal_read}
 use Rattle.zt_text.proofs.ShownWords.{is_free, is_seen, AreSeen, parts_joined, free_seen, all_free, line_free, seen_if, seen_decimal}
 use Rattle.zt_text.proofs.ShownLengths.{saved_call_few, branch_few, follow_few, at_few}

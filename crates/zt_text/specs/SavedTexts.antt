@@ -1,16 +1,16 @@
 -- A tree of moments as a session text of version 2: how it is written, and what a text reads as.
-use Rattle.std.specs.Prelude.{◌≡◌, ◌⊎◌, ⊤, ◌==◌, ℕ, ◌+◌, ◌^◌, ◌<◌, ◌≤◌, nat_lt, Bool, ◌&&◌, List, [], ◌∷◌, ◌++◌, length, Option, Some, None, Result, Ok, Err, if◌then◌else◌, codes}
+use Rattle.std.specs.Prelude.{◌≡◌, ◌⊎◌, ⊤, ◌==◌, ℕ, ◌+◌, ◌^◌, ◌<◌, ◌≤◌, Bool, ◌&&◌, List, [], ◌∷◌, ◌++◌, length, Option, Some, None, Result, Ok, Err, if◌then◌else◌, codes}
 use Rattle.std.specs.List.{All, flat_map}
 use Rattle.std.specs.Fmt.{decimal}
 use Rattle.std.specs.Str.{bytes_eq}
 use Rattle.zt_rows.specs.declared.refusals.Refusal.{Refusal}
 use Rattle.zt_rows.specs.declared.refusals.Refusal.TheVariants.{BadLine, OutOfMemory}
-use Rattle.zt_rows.specs.declared.calls.Call.{Call}
 use Rattle.zt_rows.specs.declared.saved.Saved.{Saved}
 use Rattle.zt_rows.specs.declared.saved.SavedCall.{SavedCall}
 use Rattle.zt_rows.specs.declared.saved.SavedBranch.{SavedBranch}
 use Rattle.zt_rows.specs.declared.saved.Cursor.{Cursor}
 use Rattle.zt_rows.specs.declared.saved.Cursor.TheVariants.{Follows, At}
+use Rattle.zt_rows.specs.CallsInARow.{in_a_row}
 use Rattle.zt_text.specs.Numbers.{decimal_of, moment_of}
 use Rattle.zt_text.specs.Names.{name_of}
 use Rattle.zt_text.specs.Fields.{Placed, Unread, ◌>>=◌, next, field, ended}
@@ -174,25 +174,6 @@ with_lines tree number (line ∷ lines) = do
   more ← at_line number (with_line tree line)
   with_lines more (number + 1) lines
 
--- ---- the tree of a session text of version 1
-
--- each call is made at the moment of the call before it; moments have no larger numbers than 32 bits hold
-abbrev pub as_moment : ℕ → ℕ
-as_moment number = if nat_lt number 4294967295 then number else 4294967295
-
-abbrev pub moments_from : ℕ → List (ℕ × Call) → List SavedCall
-moments_from number [] = []
-moments_from number (made ∷ calls) =
-    record { parent = as_moment number; process = made.0; call = made.1 } ∷ moments_from (number + 1) calls
-
--- the branch `main` leads to the last
-abbrev pub in_a_row : List (ℕ × Call) → Saved
-in_a_row calls = record {
-  moments = moments_from 0 calls;
-  branches = record { name = codes "main"; head = as_moment (length calls) } ∷ [];
-  cursors = [];
-}
-
 -- ---- session texts of both versions
 
 -- the lines behind a first line `zxtt 2`
@@ -220,13 +201,6 @@ IsUnreadTree (Err first) fault = (fault ≡ first) ⊎ (fault ≡ (0, OutOfMemor
 -- a name that a line can write
 abbrev pub IsName : List ℕ → Type 0
 IsName name = name_of name ≡ Some name
-
-abbrev pub IsNamed : SavedBranch → Type 0
-IsNamed branch = IsName branch.name
-
-abbrev pub IsPlace : Cursor → Type 0
-IsPlace (Follows name) = IsName name
-IsPlace (At _) = ⊤
 
 -- so short that no line with the name is too long
 abbrev pub IsShort : List ℕ → Type 0

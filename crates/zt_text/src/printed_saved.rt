@@ -1,9 +1,9 @@
-ghost use Rattle.std.specs.Prelude.{◌≡◌, ◌++◌, ◌+◌, ◌≤◌, length, IfOk, OnOk, string_bytes};
-ghost use Rattle.std.specs.List.{All, flat_map};
+ghost use Rattle.std.specs.Prelude.{◌≡◌, ◌++◌, ◌+◌, IfOk, OnOk, string_bytes};
+ghost use Rattle.std.specs.List.{flat_map};
 ghost use Rattle.zt_rows.specs.declared.saved.Cursor.TheVariants.{Follows, At};
 ghost use Rattle.zt_text.specs.Answers.{as_line};
 ghost use Rattle.zt_text.specs.ShownNumbers.{words};
-ghost use Rattle.zt_text.specs.SavedTexts.{saved_call_line, branch_line, cursor_words, cursor_lines, saved_text, IsNamed, IsPlace};
+ghost use Rattle.zt_text.specs.SavedTexts.{saved_call_line, branch_line, cursor_words, cursor_lines, saved_text};
 
 use crate::printed_answers::print_name;
 use crate::printed_calls::put_call;
@@ -13,9 +13,6 @@ use zt_rows::{Cursor, Moment, Saved, SavedBranch, SavedCall};
 /// The session text of a tree, of version 2.
 #[tactic(auto, unfolding(crate::specs::SavedTexts::saved_text))]
 pub fn print_saved(alloc: Global, saved: &Saved) -> Result<Vec<u8>, AllocError>
-    requires branches { All IsNamed saved.now.branches }
-    requires cursors { All IsPlace saved.now.cursors }
-    requires clients { length saved.now.cursors ≤ 4 }
     ensures { IfOk result (λ text. text.items ≡ saved_text saved.now) }
 {
     let mut calls = String::new(alloc);

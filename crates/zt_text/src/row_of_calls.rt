@@ -1,5 +1,5 @@
 ghost use Rattle.std.specs.Prelude.{◌≡◌, ◌∷◌, [], codes, length, IfOk};
-ghost use Rattle.zt_text.specs.SavedTexts.{as_moment, moments_from, in_a_row};
+ghost use Rattle.zt_rows.specs.CallsInARow.{as_moment, moments_from, in_a_row};
 
 use std::alloc::{AllocError, Global};
 use zt_rows::{Call, Items, Koid, Moment, Saved, SavedBranch, SavedCall};

@@ -21,13 +21,15 @@ port_word = record (new_rule (codes "PORT")) { action = Some Set; required = tru
 abbrev pub clients_word : Rule
 clients_word = record (valued (codes "clients")) { parser = Some (parser.Signed (pos 1) (pos 4)); defaults = codes "1" ∷ [] }
 
--- `run [FILE] [--from TRACE] [--save OUT]`
+-- `run [FILE] [--from TRACE] [--save OUT] [--save-tree OUT]`
 abbrev pub run_line : App
-run_line = with_rule (with_rule (with_rule (new_app (codes "run")) file_word) (valued (codes "from"))) (valued (codes "save"))
+run_line =
+    with_rule (with_rule (with_rule (with_rule (new_app (codes "run")) file_word) (valued (codes "from"))) (valued (codes "save"))) (valued (codes "save-tree"))
 
--- `serve PORT [--clients N] [--from TRACE]`
+-- `serve PORT [--clients N] [--from TRACE] [--save-tree OUT]`
 abbrev pub serve_line : App
-serve_line = with_rule (with_rule (with_rule (new_app (codes "serve")) port_word) clients_word) (valued (codes "from"))
+serve_line =
+    with_rule (with_rule (with_rule (with_rule (new_app (codes "serve")) port_word) clients_word) (valued (codes "from"))) (valued (codes "save-tree"))
 
 -- the program's own, with its version, and one of the two behind it
 abbrev pub program : App
@@ -45,18 +47,20 @@ IsNumberOf bits (Some text) n =
 
 -- what is asked for behind `run`, by the values of its words
 abbrev pub IsRunOf : List Row → Asked → Type 0
-IsRunOf rows (asked.Run file from save) =
+IsRunOf rows (asked.Run file from save save_tree) =
     (file.now ≡ unwrap_or (first_of (codes "FILE") rows) (codes "-"))
     × (option_map (λ s. s.now) from ≡ first_of (codes "from") rows)
     × (option_map (λ s. s.now) save ≡ first_of (codes "save") rows)
-IsRunOf rows (asked.Serve port clients from) = ⊥
+    × (option_map (λ s. s.now) save_tree ≡ first_of (codes "save-tree") rows)
+IsRunOf rows (asked.Serve port clients from save_tree) = ⊥
 
 -- what is asked for behind `serve`
 abbrev pub IsServeOf : List Row → Asked → Type 0
-IsServeOf rows (asked.Run file from save) = ⊥
-IsServeOf rows (asked.Serve port clients from) =
+IsServeOf rows (asked.Run file from save save_tree) = ⊥
+IsServeOf rows (asked.Serve port clients from save_tree) =
     IsNumberOf 16 (one_of (codes "PORT") rows) port × IsNumberOf 8 (one_of (codes "clients") rows) clients
     × (option_map (λ s. s.now) from ≡ first_of (codes "from") rows)
+    × (option_map (λ s. s.now) save_tree ≡ first_of (codes "save-tree") rows)
 
 -- what is asked for by the word that was met and the values of the words behind it
 abbrev pub IsAskedBy : Option (Text × List Row) → Asked → Type 0
@@ -64,8 +68,8 @@ IsAskedBy met asked = IfSome met (λ word. (word.0 ≡ codes "run" → IsRunOf w
 
 -- to run standard input, from the opening
 abbrev pub IsStandardInput : Asked → Type 0
-IsStandardInput (asked.Run file from save) = (file.now ≡ codes "-") × (from ≡ None) × (save ≡ None)
-IsStandardInput (asked.Serve port clients from) = ⊥
+IsStandardInput (asked.Run file from save save_tree) = (file.now ≡ codes "-") × (from ≡ None) × (save ≡ None) × (save_tree ≡ None)
+IsStandardInput (asked.Serve port clients from save_tree) = ⊥
 
 -- what is asked for with these words, the program's own name among them
 abbrev pub IsAskedWith : List Text → Asked → Type 0

@@ -1,6 +1,6 @@
 //! What is said of the field of a line that has not the form wanted in its place.
 
-use crate::wanted::{Wanted, fields_of_call, fields_of_command};
+use crate::wanted::{Wanted, fields_of_call, fields_of_command, fields_of_tree_line};
 
 /// What is said of a field.
 #[derive(Clone, Copy)]
@@ -28,11 +28,35 @@ pub fn advice_at(line: &[u8], offset: usize) -> Advice {
     }
 }
 
-/// The same, of a line of a session text, with its number.
+/// The same, of a line of a session text of version 1, with its number.
 pub fn session_advice(number: u64, line: &[u8], offset: usize) -> Advice {
     if number == 1 {
         Advice::Wanted(Wanted::SessionLine)
-    } else if offset == 0 {
+    } else {
+        call_advice(line, offset)
+    }
+}
+
+/// The same, of a line of version 2 behind the first.
+pub fn tree_advice(line: &[u8], offset: usize) -> Advice {
+    let place = place_of(line, offset);
+    let first = field(line, 0);
+    if place == 0 {
+        Advice::Wanted(Wanted::TreeLine)
+    } else if place > 1 && first == b"call".as_slice() {
+        let before = start_of_field(line, 2);
+        call_advice(
+            line.get(before..).unwrap_or(&[]),
+            offset.saturating_sub(before),
+        )
+    } else {
+        of_field(fields_of_tree_line(first, field(line, 2)), place - 1)
+    }
+}
+
+/// The same, of a line that can be a call alone.
+fn call_advice(line: &[u8], offset: usize) -> Advice {
+    if offset == 0 {
         Advice::Wanted(Wanted::Process)
     } else {
         advice_at(line, offset)
@@ -93,6 +117,15 @@ fn place_of(line: &[u8], offset: usize) -> usize {
 /// The field at this place, counted from 0; no bytes, where it is missing.
 fn field(line: &[u8], place: usize) -> &[u8] {
     line.split(|byte| *byte == b' ').nth(place).unwrap_or(&[])
+}
+
+/// How many bytes of the line stand before the field at this place.
+fn start_of_field(line: &[u8], place: usize) -> usize {
+    let mut start = 0usize;
+    for before in line.split(|byte| *byte == b' ').take(place) {
+        start = start.saturating_add(before.len()).saturating_add(1);
+    }
+    start
 }
 
 /// Whether the field begins as a number does. A field that can be read and does not is a command's name.

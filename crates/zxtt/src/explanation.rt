@@ -1,6 +1,6 @@
 //! Lines that cannot be read, explained to a person.
 
-use crate::advice::{Advice, advice_at, session_advice};
+use crate::advice::{Advice, advice_at, session_advice, tree_advice};
 use std::alloc::{AllocError, Global};
 
 /// The most bytes of a line that are shown.
@@ -18,7 +18,7 @@ pub fn explanation(alloc: Global, line: &[u8], column: u64) -> Result<String, Al
     explained(alloc, line, offset, advice_at(line, offset))
 }
 
-/// The same, of a line of a session text, with its number.
+/// The same, of a line of a session text of version 1, with its number.
 pub fn session_explanation(
     alloc: Global,
     number: u64,
@@ -27,6 +27,12 @@ pub fn session_explanation(
 ) -> Result<String, AllocError> {
     let offset = offset_of(line, column);
     explained(alloc, line, offset, session_advice(number, line, offset))
+}
+
+/// The same, of a line of a session text of version 2 behind the first.
+pub fn tree_explanation(alloc: Global, line: &[u8], column: u64) -> Result<String, AllocError> {
+    let offset = offset_of(line, column);
+    explained(alloc, line, offset, tree_advice(line, offset))
 }
 
 /// A line as it is shown, where no column of it is at fault.

@@ -2,7 +2,8 @@
 
 ghost use Rattle.std.specs.Prelude.{◌≡◌, length, IfErr, IfOk, List, ℕ};
 ghost use Rattle.zt_shared.specs.Sharing.{IsFresh};
-ghost use Rattle.zxtt.specs.Traces.{IsFaultOfText, IsLoadedFrom, TellsOfSomeText};
+ghost use Rattle.zt_console.specs.LoadedText.{IsLoadedOf};
+ghost use Rattle.zxtt.specs.Traces.{IsFaultOfText, TellsOfSomeText};
 
 use crate::faults::Fault;
 use crate::trace_lines::TraceLine;
@@ -11,7 +12,7 @@ use std::alloc::Global;
 use std::fs::File;
 use std::io::Read;
 use std::{fs, io};
-use zt_console::{Book, load_text, main_text};
+use zt_console::{Book, load_text, main_text, tree_text};
 use zt_rows::Refusal;
 
 /// Opens a file to be read.
@@ -24,9 +25,9 @@ pub fn open(rt: &HostRuntime, path: &str) -> Result<File, Fault>
     }
 }
 
-/// The book of so many clients over the calls of a session text that is read from a file.
+/// The book of so many clients over the tree of a session text that is read from a file.
 pub fn load(rt: &HostRuntime, clients: u8, path: &str) -> Result<Book, Fault>
-    ensures loaded { IfOk result (λ book. (text : List ℕ) × IsLoadedFrom clients text book) }
+    ensures loaded { IfOk result (λ book. (text : List ℕ) × IsLoadedOf clients text book) }
     ensures refused { IfErr result (TellsOfSomeText clients) }
     ensures clients { IfOk result (λ book. length book.session.clients ≡ clients) }
     ensures fresh { IfOk result (IsFresh clients) }
@@ -37,10 +38,11 @@ pub fn load(rt: &HostRuntime, clients: u8, path: &str) -> Result<Book, Fault>
     }
 }
 
-/// The book of so many clients over the calls of a session text, which was read from this file.
+/// The book of so many clients over the tree of a session text, which was read from this file.
 fn book_of(alloc: Global, clients: u8, path: &str, text: &[u8]) -> Result<Book, Fault>
-    ensures loaded { IfOk result (IsLoadedFrom clients text.now) }
+    ensures loaded { IfOk result (IsLoadedOf clients text.now) }
     ensures refused { IfErr result (IsFaultOfText clients text.now) }
+    ensures clients { IfOk result (λ book. length book.session.clients ≡ clients) }
 {
     match load_text(alloc, clients, text) {
         Ok(book) => Ok(book),
@@ -55,9 +57,22 @@ fn book_of(alloc: Global, clients: u8, path: &str, text: &[u8]) -> Result<Book, 
     }
 }
 
-/// Writes the session text of the path to the head of `main`. Where it cannot be written, a file that stands there stays.
-pub fn save(rt: &HostRuntime, book: &Book, path: &str) -> Result<(), Fault> {
+/// Writes the session text of the path to the head of `main`, if a file is named. Where it cannot be written, a file that
+/// stands there stays.
+pub fn save(rt: &HostRuntime, book: &Book, to: Option<&str>) -> Result<(), Fault> {
+    let Some(path) = to else {
+        return Ok(());
+    };
     let text = main_text(rt.alloc(), book)?;
+    write_whole(rt, path, text.as_slice())
+}
+
+/// The same with the session text of the whole tree.
+pub fn save_tree(rt: &HostRuntime, book: &Book, to: Option<&str>) -> Result<(), Fault> {
+    let Some(path) = to else {
+        return Ok(());
+    };
+    let text = tree_text(rt.alloc(), book)?;
     write_whole(rt, path, text.as_slice())
 }
 

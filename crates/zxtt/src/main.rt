@@ -12,6 +12,7 @@ ghost use Rattle.zxtt.specs.Traces.{BeginsFrom};
 
 mod advice;
 mod attendant;
+mod connections;
 mod explanation;
 mod faults;
 mod files;
@@ -24,7 +25,7 @@ mod words;
 
 use attendant::{Attendant, show_trace_line};
 use faults::Fault;
-use files::{load, open, save};
+use files::{load, open, save, save_tree};
 use service::serve;
 use std::io::Read;
 use std::process::ExitCode;
@@ -38,15 +39,23 @@ fn main(rt: HostRuntime) -> ExitCode {
         Err(fault) => return ended(&rt, &Err(fault)),
     };
     let done = match words.asked(rt.alloc()) {
-        Ok(Asked::Run { file, from, save }) => run_asked(&rt, file, from, save),
+        Ok(
+            Asked::Run {
+                file,
+                from,
+                save,
+                save_tree,
+            },
+        ) => run_asked(&rt, file, from, save, save_tree),
         Ok(
             Asked::Serve {
                 port,
                 clients,
                 from,
+                save_tree,
             },
         ) => match begin(&rt, clients, from) {
-            Ok(book) => serve(&rt, port, clients, book),
+            Ok(book) => save_served(&rt, serve(&rt, port, clients, book), save_tree),
             Err(fault) => Err(fault),
         },
         Err(fault) => Err(fault),
@@ -68,19 +77,28 @@ fn ended(rt: &HostRuntime, done: &Result<(), Fault>) -> ExitCode
     }
 }
 
-/// Runs the lines of a file, and saves the history of `main` if a file is named.
+/// Runs the lines of a file, and saves the history of `main`, and then the whole tree, if files are named.
 fn run_asked(
     rt: &HostRuntime,
     file: &str,
     from: Option<&str>,
     to: Option<&str>,
+    tree_to: Option<&str>,
 ) -> Result<(), Fault> {
     let book = begin(rt, 1, from)?;
     let book = run_file(rt, book, file)?;
-    match to {
-        Some(path) => save(rt, &book, path),
-        None => Ok(()),
-    }
+    save(rt, &book, to)?;
+    save_tree(rt, &book, tree_to)
+}
+
+/// Saves the whole tree of a book that was served, if a file is named.
+fn save_served(
+    rt: &HostRuntime,
+    served: Result<Book, Fault>,
+    tree_to: Option<&str>,
+) -> Result<(), Fault> {
+    let book = served?;
+    save_tree(rt, &book, tree_to)
 }
 
 /// A book of so many clients at the opening, or over a trace if one is named.

@@ -1,6 +1,6 @@
 //! The line of a session text for which it was refused.
 
-use crate::explanation::{session_explanation, shown_line};
+use crate::explanation::{session_explanation, shown_line, tree_explanation};
 use std::alloc::{AllocError, Global};
 use zt_rows::Refusal;
 
@@ -9,6 +9,8 @@ use zt_rows::Refusal;
 pub struct TraceLine {
     path: String,
     bytes: Vec<u8>,
+    /// Whether the text is of version 2.
+    is_of_tree: bool,
 }
 
 impl TraceLine {
@@ -18,6 +20,7 @@ impl TraceLine {
         Some(TraceLine {
             path: String::from_str(alloc, path).ok()?,
             bytes: Vec::from_slice(alloc, bytes).ok()?,
+            is_of_tree: line_of(text, 1) == Some(b"zxtt 2".as_slice()),
         })
     }
 
@@ -39,6 +42,7 @@ impl TraceLine {
     fn shown(&self, alloc: Global, number: u64, refusal: Refusal) -> Result<String, AllocError> {
         let line = self.bytes.as_slice();
         match refusal {
+            Refusal::BadLine(column) if self.is_of_tree => tree_explanation(alloc, line, column),
             Refusal::BadLine(column) => session_explanation(alloc, number, line, column),
             _ => shown_line(alloc, line),
         }

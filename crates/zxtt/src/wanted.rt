@@ -5,6 +5,8 @@
 pub enum Wanted {
     /// The first line of a session text.
     SessionLine,
+    /// What a line of a session text of version 2 begins with.
+    TreeLine,
     /// What a line begins with.
     Beginning,
     /// The process that makes a call.
@@ -43,6 +45,10 @@ pub enum Wanted {
     Count,
     Name,
     Koid,
+    /// The client whose cursor is to come.
+    Client,
+    /// How it stands: behind a branch, or at a moment.
+    Cursor,
     Happening,
     /// What may stand behind `pinned`.
     PinnedQuestion,
@@ -52,7 +58,9 @@ impl Wanted {
     /// It in words.
     pub fn text(self) -> &'static str {
         match self {
-            Wanted::SessionLine => "`zxtt 1`, the first line of a session text",
+            Wanted::SessionLine => "`zxtt 1` or `zxtt 2`, the first line of a session text",
+            Wanted::TreeLine =>
+                "call, branch or cursor: first all calls, then all branches, then cursors",
             Wanted::Beginning => "a process or a command",
             Wanted::Process => "a process, a decimal to 18446744073709551615",
             Wanted::CallName => "the name of a call",
@@ -83,6 +91,8 @@ impl Wanted {
             Wanted::Count => "a count, a decimal from 1 to 1048576",
             Wanted::Name => "a name, one or more bytes from ! to ~",
             Wanted::Koid => "a koid, a decimal to 18446744073709551615",
+            Wanted::Client => "the next client: 1, 2, 3 and 4 have a line each, in this order",
+            Wanted::Cursor => "follow or at",
             Wanted::Happening => "made, ended, peer_closed or leaked",
             Wanted::PinnedQuestion => "show, holders or leaks",
         }
@@ -141,6 +151,20 @@ pub fn fields_of_command(name: &[u8]) -> Option<&'static [Wanted]> {
         b"holders" => Some(&[Wanted::Koid]),
         b"when" => Some(&[Wanted::Happening, Wanted::Koid]),
         b"pinned" => Some(&[Wanted::PinnedQuestion]),
+        _ => None,
+    }
+}
+
+/// The fields behind the first word of a line of a session text of version 2, in their order, with the third field of the
+/// line; of a call those ahead of its process.
+pub fn fields_of_tree_line(word: &[u8], third: &[u8]) -> Option<&'static [Wanted]> {
+    match word {
+        b"call" => Some(&[Wanted::Moment]),
+        b"branch" => Some(&[Wanted::Name, Wanted::Moment]),
+        b"cursor" if third == b"follow".as_slice() => {
+            Some(&[Wanted::Client, Wanted::Cursor, Wanted::Name])
+        }
+        b"cursor" => Some(&[Wanted::Client, Wanted::Cursor, Wanted::Moment]),
         _ => None,
     }
 }

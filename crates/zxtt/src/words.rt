@@ -35,12 +35,17 @@ fn serve_about<'a>() -> &'a str {
 
 /// What the word `from` does.
 fn from_help() -> &'static str {
-    "Begins with the calls of a session text, on the branch `main`"
+    "Begins with the calls or the whole tree of a session text"
 }
 
 /// What the word `save` does.
 fn save_help() -> &'static str {
     "Writes the calls on `main` as a session text, once the input has ended"
+}
+
+/// What the word `save-tree` does.
+fn save_tree_help() -> &'static str {
+    "Writes the whole tree as a session text, all branches and where each client stands, at the end"
 }
 
 /// What the word `clients` does.
@@ -78,17 +83,20 @@ pub struct Words {
 /// What the words ask for.
 #[derive(Clone, Copy)]
 pub enum Asked<'a> {
-    /// To run the lines of a file, from a trace if one is named, and to save the history of `main` if a file is named.
+    /// To run the lines of a file, from a trace if one is named, and to save the history of `main`, and the whole tree, if
+    /// files are named.
     Run {
         file: &'a str,
         from: Option<&'a str>,
         save: Option<&'a str>,
+        save_tree: Option<&'a str>,
     },
-    /// To serve so many clients of a port, from a trace if one is named.
+    /// To serve so many clients of a port, from a trace if one is named, and to save the whole tree if a file is named.
     Serve {
         port: u16,
         clients: u8,
         from: Option<&'a str>,
+        save_tree: Option<&'a str>,
     },
 }
 
@@ -135,6 +143,7 @@ fn unasked<'a>() -> Asked<'a>
         file: "-",
         from: None,
         save: None,
+        save_tree: None,
     }
 }
 
@@ -159,6 +168,7 @@ fn run_of<'a>(words: &ArgMatches<'a>) -> Asked<'a>
         file: words.get_str("FILE").unwrap_or("-"),
         from: words.get_str("from"),
         save: words.get_str("save"),
+        save_tree: words.get_str("save-tree"),
     }
 }
 
@@ -170,6 +180,7 @@ fn serve_of<'a>(words: &ArgMatches<'a>) -> Asked<'a>
         port: words.get_one("PORT").unwrap_or(0),
         clients: words.get_one("clients").unwrap_or(1),
         from: words.get_str("from"),
+        save_tree: words.get_str("save-tree"),
     }
 }
 
@@ -210,6 +221,18 @@ fn save_word<'a>(alloc: Global) -> Arg<'a>
         .value_name("OUT")
         .action(ArgAction::Set)
         .help(save_help())
+}
+
+/// The word of the session text of the whole tree that the program leaves.
+fn save_tree_word<'a>(alloc: Global) -> Arg<'a>
+    ensures rule { rule_of result ≡ valued (codes "save-tree") }
+    ensures global { result.global ≡ false }
+{
+    Arg::new(alloc, "save-tree")
+        .long("save-tree")
+        .value_name("OUT")
+        .action(ArgAction::Set)
+        .help(save_tree_help())
 }
 
 /// The word of the lines that are run.
@@ -268,7 +291,8 @@ fn run_command<'a>(alloc: Global) -> Result<Command<'a>, Error>
         told_command(alloc, "run", run_about())
             .arg(file_word(alloc))?
             .arg(from_word(alloc))?
-            .arg(save_word(alloc))?,
+            .arg(save_word(alloc))?
+            .arg(save_tree_word(alloc))?,
     )
 }
 
@@ -281,6 +305,7 @@ fn serve_command<'a>(alloc: Global) -> Result<Command<'a>, Error>
         told_command(alloc, "serve", serve_about())
             .arg(port_word(alloc))?
             .arg(clients_word(alloc))?
-            .arg(from_word(alloc))?,
+            .arg(from_word(alloc))?
+            .arg(save_tree_word(alloc))?,
     )
 }

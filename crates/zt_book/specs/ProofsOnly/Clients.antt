@@ -10,7 +10,7 @@ use Rattle.zt_book.specs.declared.client.Cursor.{Cursor}
 use Rattle.zt_book.specs.declared.client.Cursor.TheVariants.{Follows, At}
 use Rattle.zt_book.specs.declared.log.Recorded.{Recorded}
 use Rattle.zt_book.specs.Session.{Session, first_client, most_rows}
-use Rattle.zt_book.specs.Log.{BookView, SessionLog, IsCounted, IsWholeLog, ReplaysOver}
+use Rattle.zt_book.specs.Log.{BookView, SessionLog, IsCounted, IsWholeLog, Replays}
 
 -- ---- where clients can stand
 
@@ -78,20 +78,20 @@ before_of d log None = None
 abbrev pub kept_of : ClientsView → List Recorded → Option LastServed → BookView
 kept_of d log last = record { session = d.session; log = log; before = before_of d log last }
 
--- the last command can be taken back: what was answered before it replays over the same tree
-pub record CanTakeBack (t : Tree) (d : ClientsView) (log : List Recorded) (last : LastServed) : Type 0 where
+-- the last command can be taken back: what was answered before it replays from the same session
+pub record CanTakeBack (base : Session) (d : ClientsView) (log : List Recorded) (last : LastServed) : Type 0 where
   pub numbered : 1 ≤ last.client
   pub known : last.client ≤ length d.session.clients
   pub some : 0 < length log
   pub stand : Stand (session_before d last.client last.was)
   pub counted : IsCounted (session_before d last.client last.was) (without_last log)
-  pub replays : ReplaysOver t (session_before d last.client last.was) (without_last log)
+  pub replays : Replays base (without_last log) (session_before d last.client last.was)
 
-abbrev pub IsLastServed : Tree → ClientsView → List Recorded → Option LastServed → Type 0
-IsLastServed t d log (Some last) = CanTakeBack t d log last
-IsLastServed t d log None = ⊤
+abbrev pub IsLastServed : Session → ClientsView → List Recorded → Option LastServed → Type 0
+IsLastServed base d log (Some last) = CanTakeBack base d log last
+IsLastServed base d log None = ⊤
 
 pub record IsBook (d : ClientsView) (log : List Recorded) (last : Option LastServed) : Type 0 where
   pub counted : IsCounted d.session log
   pub whole : IsWholeLog d.session log
-  pub served : IsLastServed whole.tree d log last
+  pub served : IsLastServed whole.base d log last

@@ -2,8 +2,8 @@
 use Rattle.std.specs.Prelude.{◌≡◌, ℕ, List, length, IsSome}
 use Rattle.once_cell.specs.declared.race.note.Note.{Note}
 use Rattle.zt_rows.specs.declared.calls.Answer.{Answer}
-use Rattle.zt_rows.specs.declared.calls.Call.{Call}
 use Rattle.zt_rows.specs.declared.calls.Command.{Command}
+use Rattle.zt_rows.specs.declared.saved.Saved.{Saved}
 use Rattle.zt_book.specs.declared.log.Recorded.{Recorded}
 use Rattle.zt_book.specs.Session.{Session}
 use Rattle.zt_book.specs.Log.{Replays}
@@ -35,7 +35,7 @@ sides_of log = record {
 -- While the lock is free: the base cell, of this name, and the note of it are the ones that the naming type names; the
 -- log replays from where the note says that it begins to the book's session, which has so many clients; and the rows of
 -- each account are the log's rows of its client.
-pub record IsLockedBook (base clients cell : ℕ) (told : Note (List (ℕ × Call))) (end : Session) (log : List Recorded) (sides : Sides) : Type 0 where
+pub record IsLockedBook (base clients cell : ℕ) (told : Note Saved) (end : Session) (log : List Recorded) (sides : Sides) : Type 0 where
   pub named : cell ≡ base
   pub noted : told.cell ≡ base
   pub known : IsSome told.known

@@ -6,7 +6,7 @@ use Rattle.zt_rows.specs.declared.calls.Call.{Call}
 use Rattle.zt_rows.specs.declared.saved.Saved.{Saved}
 use Rattle.zt_text.specs.Lines.{lines_of}
 use Rattle.zt_text.specs.Fields.{◌>>=◌}
-use Rattle.zt_text.specs.SavedTexts.{in_a_row}
+use Rattle.zt_rows.specs.CallsInARow.{in_a_row}
 
 -- the bytes of these lines, where there are any
 abbrev pub IsBehindFirst : Option (List (List ℕ)) → Option (Bor (List ℕ)) → Type 0

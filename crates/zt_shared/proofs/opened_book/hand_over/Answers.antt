@@ -1,7 +1,7 @@
 -- The lock is free for the first time, and each client has its pass.
 use Rattle.once_cell.specs.declared.race.note.Note.{Note}
-use Rattle.zt_rows.specs.declared.calls.Call.{Call}
-use Rattle.std.proofs.Common.{◌≡◌, ℕ, List, ap, refl, ◌∙◌, sym}
+use Rattle.zt_rows.specs.declared.saved.Saved.{Saved}
+use Rattle.std.proofs.Common.{◌≡◌, ap, ◌∙◌, sym}
 use Rattle.once_cell.specs.Once.{cell_name}
 use Rattle.zt_shared.specs.ProofsOnly.Sharing.{begun}
 use Rattle.zt_shared.proofs.OpeningLaws.{noted-begun, handed-all, opened-locked}
@@ -11,8 +11,9 @@ pub invariant_of-locked : goal.invariant_of-locked
 invariant_of-locked g c =
     let told = c.hand_out-4.ensures.told ∙ (c.hand_out-3.ensures.told ∙ (c.hand_out-2.ensures.told ∙ c.hand_out.ensures.told)) in
     let note = c.requires.told in
-    opened-locked g.A.Beginning.base g.A.Beginning.clients (cell_name c.blanks.inside.base) c.args.blanks.clients c.hand_out-4.new.told c.args.book c.args.book.session.tree
-    _ _ _ _ (ap (λ b. b.base) c.blanks.view_is ∙ c.requires.base.0) c.requires.base.1 c.requires.fresh c.log_replays.ensures refl
+    opened-locked c.what_was_loaded_is_loaded_again.ensures
+    g.A.Beginning.base g.A.Beginning.clients (cell_name c.blanks.inside.base) c.args.blanks.clients c.hand_out-4.new.told c.args.book
+    _ _ _ _ (ap (λ b. b.base) c.blanks.view_is ∙ c.requires.base.0) c.requires.base.1 c.requires.fresh c.log_replays.ensures
     (ap (λ n. n.cell) told ∙ (note.0 ∙ sym (ap (λ b. b.base) c.blanks.view_is))) (ap (λ n. n.known) told ∙ note.1)
     c.open-first.ensures.lock c.open-second.ensures.lock c.open-third.ensures.lock c.open-fourth.ensures.lock
 
@@ -26,8 +27,8 @@ returns g c =
     let clients = c.blanks.inside.clients in
     let many : clients ≡ c.args.blanks.clients = ap (λ b. b.clients) c.blanks.view_is in
     let base : begun clients told.known ≡ c.args.book.session =
-    noted-begun c.args.blanks.clients clients c.args.book c.args.book.session.tree told.known (sym many) c.requires.fresh c.log_replays.ensures refl known in
-    let at = λ (n : Note (List (ℕ × Call))). begun clients n.known in
+    noted-begun c.what_was_loaded_is_loaded_again.ensures c.args.blanks.clients clients c.args.book told.known (sym many) c.requires.fresh c.log_replays.ensures known in
+    let at = λ (n : Note Saved). begun clients n.known in
     handed-all clients c.args.blanks.clients c.args.book.session _ _ _ _ _ _ _ _ _ many c.blanks.invariant
     c.requires.empty.0 c.hand_out.ensures.passes c.hand_out-2.ensures.passes c.hand_out-3.ensures.passes c.hand_out-4.ensures.passes
     base (ap at two ∙ base) (ap at three ∙ base) (ap at four ∙ base)

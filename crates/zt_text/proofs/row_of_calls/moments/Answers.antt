@@ -1,5 +1,5 @@
 use Rattle.std.proofs.Common.{ap, ◌∙◌}
-use Rattle.zt_text.specs.SavedTexts.{as_moment}
+use Rattle.zt_rows.specs.CallsInARow.{as_moment}
 use Rattle.zt_text.proofs.SavedLemmas.{row_more}
 use Rattle.zt_text.proofs.row_of_calls.moments.Goals as goal
 

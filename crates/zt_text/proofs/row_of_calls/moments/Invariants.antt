@@ -1,5 +1,5 @@
 use Rattle.std.proofs.Common.{◌≡◌}
-use Rattle.zt_text.specs.SavedTexts.{moments_from}
+use Rattle.zt_rows.specs.CallsInARow.{moments_from}
 use Rattle.zt_text.proofs.row_of_calls.moments.Given as goal
 
 abbrev pub invariant-loop-process : goal.invariant-loop-process

@@ -6,7 +6,7 @@ use zt_bits::{Signals, Status};
 use zt_history::{BranchId, History};
 use zt_rows::{Call, HandleValue, Koid, Moment, Parcel, Refusal, Reply};
 
-const ROOT: Koid = Koid(1025);
+pub(super) const ROOT: Koid = Koid(1025);
 
 pub(super) const MAIN: &[u8] = b"main";
 

@@ -1,5 +1,11 @@
-//! A history of two branches.
-use super::branch_calls::{FIX, MAIN, answers_often, head_of, refusal_on, values_of};
+//! A history of two branches, and calls at moments of both with each request for memory refused in turn.
+use super::branch_calls::{
+    FIX, MAIN, answers_often, close, head_of, is_last_told, refusal_on, values_of,
+};
+use super::twins::make_both;
+use crate::tests::commands::mark;
+use std::alloc::Global;
+use zt_bits::Status;
 use zt_history::History;
 use zt_rows::{Call, Moment};
 
@@ -38,4 +44,27 @@ fn has_heads(history: &History) -> bool {
 /// Whether both branches are made and told.
 pub(super) fn are_branches_told(history: &mut History) -> bool {
     are_branches_made(history) && tells_main(history) && tells_fix(history) && has_heads(history)
+}
+
+/// Makes calls in both: at the head of `main`, at that of the other branch, and at the opening.
+fn are_made_apart(tried: &mut History, other: &mut History) -> bool {
+    make_both(tried, other, Moment(3), &close(7))
+        && is_last_told(tried, 6, Status::Ok)
+        && make_both(tried, other, Moment(5), &close(11))
+        && is_last_told(tried, 7, Status::Ok)
+        && make_both(tried, other, Moment(0), &Call::EventCreate)
+        && tells(tried, 8, 7, 0)
+}
+
+/// Whether calls at moments of either branch are made whole or not at all, and move no head.
+pub(super) fn are_calls_apart_whole(
+    alloc: Global,
+    tried: &mut History,
+    other: &mut History,
+) -> bool {
+    are_branches_made(tried)
+        && are_branches_made(other)
+        && mark(alloc)
+        && are_made_apart(tried, other)
+        && has_heads(tried)
 }

@@ -4,7 +4,8 @@ use super::branch_calls::{
     spawn, wait, wait_for,
 };
 use super::same::keys_of;
-use super::twins::{call_both, mark};
+use super::twins::call_both;
+use crate::tests::commands::mark;
 use std::alloc::Global;
 use zt_bits::Status;
 use zt_history::History;

@@ -1,6 +1,7 @@
 //! Moves over a history with each request for memory refused in turn, and over a long one with the third refused.
 use super::branch_calls::{answers_often, close, is_last_told, sends};
-use super::twins::{call_both, fork_both, go_both, mark};
+use super::twins::{call_both, fork_both, go_both};
+use crate::tests::commands::mark;
 use std::alloc::Global;
 use zt_bits::Status;
 use zt_history::History;

@@ -1,4 +1,5 @@
 //! Trials over two histories each, of which one is asked while memory is refused.
+use super::branches::are_calls_apart_whole;
 use super::cascades::{
     are_edges_whole, are_links_whole, is_cascade_whole, is_kill_whole, is_write_whole,
 };
@@ -15,6 +16,7 @@ enum PairTrial {
     Links,
     Edges,
     Moves,
+    Apart,
 }
 
 fn try_over(alloc: Global, tried: &mut History, other: &mut History, trial: PairTrial) -> bool {
@@ -25,6 +27,7 @@ fn try_over(alloc: Global, tried: &mut History, other: &mut History, trial: Pair
         PairTrial::Links => are_links_whole(alloc, tried, other),
         PairTrial::Edges => are_edges_whole(alloc, tried, other),
         PairTrial::Moves => are_moves_whole(alloc, tried, other),
+        PairTrial::Apart => are_calls_apart_whole(alloc, tried, other),
     }
 }
 
@@ -72,4 +75,9 @@ fn refused_after_mark_no_edge_is_half_met(rt: HostRuntime) {
 #[test]
 fn refused_after_mark_no_move_is_half_made(rt: HostRuntime) {
     assert!(rt; holds(rt.alloc(), PairTrial::Moves));
+}
+
+#[test]
+fn refused_after_mark_no_moment_is_half_made(rt: HostRuntime) {
+    assert!(rt; holds(rt.alloc(), PairTrial::Apart));
 }

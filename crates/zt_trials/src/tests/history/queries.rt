@@ -1,7 +1,7 @@
 //! Queries of a history where memory is ample, from each position, and over a long path with the third request refused.
 use super::branch_calls::{answers, answers_often, close, sends};
 use super::branches::are_branches_made;
-use super::twins::mark;
+use crate::tests::commands::mark;
 use std::alloc::Global;
 use zt_bits::Kind;
 use zt_history::History;

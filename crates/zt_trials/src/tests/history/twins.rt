@@ -1,19 +1,10 @@
 //! Two histories that were made by the same calls. One is asked, and where memory is refused to it, it has to be as the
 //! other, and to answer when it is asked again.
-use super::branch_calls::{FIX, MAIN, answers, head_of};
+use super::branch_calls::{FIX, MAIN, ROOT, answers, head_of};
 use super::same::is_same;
 use std::alloc::Global;
 use zt_history::History;
 use zt_rows::{Call, Moment};
-
-/// The size of a request that `tools/refuse-each-request` takes as the mark from which on it counts.
-const MARK: usize = 1_234_567;
-
-/// Marks the place from which on requests for memory are refused.
-pub(super) fn mark(alloc: Global) -> bool {
-    let mark: Result<Vec<u8>, _> = Vec::with_capacity(alloc, MARK);
-    mark.is_ok()
-}
 
 fn goes(history: &mut History, moment: Moment) -> bool {
     history.goto(moment).is_ok()
@@ -67,4 +58,26 @@ fn is_forked(tried: &mut History, other: &History) -> bool {
 /// Makes the branch `fix` at the position in both.
 pub(super) fn fork_both(tried: &mut History, other: &mut History) -> bool {
     is_forked(tried, other) && (forks(other) || forks(other)) && is_same(tried, other)
+}
+
+/// Makes a call of the first process at the moment.
+fn makes(history: &mut History, at: Moment, call: &Call) -> bool {
+    history.call_at(at, ROOT, call).is_ok()
+}
+
+/// Whether a history that refused a call at a moment is as the other, once that stands there or where it stood.
+fn is_followed_at(tried: &History, other: &mut History, at: Moment) -> bool {
+    let stands = tried.position();
+    (stands == other.position() || stands == at) && goes(other, stands) && is_same(tried, other)
+}
+
+fn is_made(tried: &mut History, other: &mut History, at: Moment, call: &Call) -> bool {
+    makes(tried, at, call) || (is_followed_at(tried, other, at) && makes(tried, at, call))
+}
+
+/// Makes a call at the moment in both.
+pub(super) fn make_both(tried: &mut History, other: &mut History, at: Moment, call: &Call) -> bool {
+    is_made(tried, other, at, call)
+        && (makes(other, at, call) || makes(other, at, call))
+        && is_same(tried, other)
 }

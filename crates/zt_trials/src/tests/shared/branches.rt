@@ -1,9 +1,9 @@
 //! A run of two branches, served to a book of one thread beside its twin, in which a branch is made and rows are shown with
 //! each request for memory refused in turn.
 
-use super::commands::mark;
 use super::same_logs::{Told, is_same_log, tells_last};
 use super::twins::{twin_refusal, twin_settled};
+use crate::tests::commands::mark;
 use std::alloc::Global;
 use zt_book::Book;
 

@@ -1,6 +1,6 @@
 //! Whether logs, their rows and answers are the same. What asks for memory here looks again where it was refused.
 
-use super::commands::command;
+use crate::tests::commands::command;
 use std::alloc::{AllocError, Global};
 use std::fmt::Debug;
 use zt_book::{Log, Recorded};

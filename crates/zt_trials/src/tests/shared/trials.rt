@@ -4,8 +4,9 @@ ghost use Rattle.zt_shared.specs.OpenedBook.{IsNamed};
 
 use super::opened_books::{Opened, at_opening, over_loaded};
 use super::same_logs::{Told, is_same_log, tells};
+use super::saved::tells_the_same_loaded;
 use super::threads::{asks_on_threads, replays};
-use super::twins::{Twins, closed};
+use super::twins::{Twins, closed, closed_book};
 use super::wholes::{is_ask_whole, is_pin_whole};
 use std::alloc::Global;
 use std::marker::Brand;
@@ -36,6 +37,7 @@ const LOADED: [Told; 1] = [(
 enum SharedTrial {
     ClosedEnd,
     Loaded,
+    Saved,
     Threads,
     Ask,
     Pin,
@@ -44,7 +46,7 @@ enum SharedTrial {
 /// What is asked and told, where both is known beforehand.
 fn told_in(trial: SharedTrial) -> &'static [Told] {
     match trial {
-        SharedTrial::ClosedEnd => CLOSED_END.as_slice(),
+        SharedTrial::ClosedEnd | SharedTrial::Saved => CLOSED_END.as_slice(),
         SharedTrial::Loaded => LOADED.as_slice(),
         _ => &[],
     }
@@ -80,7 +82,7 @@ fn try_over<
     trial: SharedTrial,
 ) -> bool {
     match trial {
-        SharedTrial::ClosedEnd | SharedTrial::Loaded => asks_each(
+        SharedTrial::ClosedEnd | SharedTrial::Loaded | SharedTrial::Saved => asks_each(
             rt,
             alloc,
             shared,
@@ -96,14 +98,16 @@ fn try_over<
 /// Whether the log has what was to be told.
 fn is_told(alloc: Global, log: &Log, twin: &mut Book, trial: SharedTrial) -> bool {
     match trial {
-        SharedTrial::ClosedEnd | SharedTrial::Loaded => tells(alloc, log, told_in(trial)),
+        SharedTrial::ClosedEnd | SharedTrial::Loaded | SharedTrial::Saved => {
+            tells(alloc, log, told_in(trial))
+        }
         SharedTrial::Threads => replays(twin, log),
         SharedTrial::Ask | SharedTrial::Pin => true,
     }
 }
 
 /// Whether the log that closing gives has what was to be told, and is the twin's.
-fn closes<A: Naming + Beginning, B: Naming, C: Naming, D: Naming>(
+fn closes_to_a_log<A: Naming + Beginning, B: Naming, C: Naming, D: Naming>(
     alloc: Global,
     shared: Shared<A, B, C, D>,
     twins: Twins<A, B, C, D>,
@@ -117,6 +121,41 @@ fn closes<A: Naming + Beginning, B: Naming, C: Naming, D: Naming>(
             is_told(alloc, &log, &mut twin, trial) && is_same_log(alloc, &log, twin.log())
         }
         None => false,
+    }
+}
+
+/// Whether the book that closing gives has such a log, and is saved and loaded again.
+fn closes_to_a_book<A: Naming + Beginning, B: Naming, C: Naming, D: Naming>(
+    alloc: Global,
+    shared: Shared<A, B, C, D>,
+    twins: Twins<A, B, C, D>,
+    trial: SharedTrial,
+) -> bool
+    requires { A.clients ≡ 2 }
+{
+    let Twins { one, two, mut twin } = twins;
+    match closed_book(alloc, shared, one, two) {
+        Some(mut book) => {
+            is_told(alloc, book.log(), &mut twin, trial)
+                && is_same_log(alloc, book.log(), twin.log())
+                && tells_the_same_loaded(alloc, &mut book)
+        }
+        None => false,
+    }
+}
+
+/// Whether closing gives what was to be told.
+fn closes<A: Naming + Beginning, B: Naming, C: Naming, D: Naming>(
+    alloc: Global,
+    shared: Shared<A, B, C, D>,
+    twins: Twins<A, B, C, D>,
+    trial: SharedTrial,
+) -> bool
+    requires { A.clients ≡ 2 }
+{
+    match trial {
+        SharedTrial::Saved => closes_to_a_book(alloc, shared, twins, trial),
+        _ => closes_to_a_log(alloc, shared, twins, trial),
     }
 }
 
@@ -176,6 +215,11 @@ fn two_clients_share_one_log(rt: HostRuntime) {
 #[test]
 fn a_loaded_book_goes_on(rt: HostRuntime) {
     assert!(rt; holds(&rt, rt.alloc(), SharedTrial::Loaded));
+}
+
+#[test]
+fn a_closed_book_is_saved_and_loaded(rt: HostRuntime) {
+    assert!(rt; holds(&rt, rt.alloc(), SharedTrial::Saved));
 }
 
 #[test]

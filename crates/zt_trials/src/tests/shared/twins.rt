@@ -1,15 +1,16 @@
 //! Two clients of a shared book, beside a book of one thread. Both books are asked the same, and where memory is refused to
 //! one of them it is asked again.
-ghost use Rattle.std.specs.Prelude.{◌≡◌, ◌≤◌, [], IfSome, vec_capacity};
+ghost use Rattle.std.specs.Prelude.{◌≡◌, ◌≤◌, [], map, IfSome, IsPermutation, vec_capacity};
+ghost use Rattle.zt_shared.specs.Sharing.{numbers};
 
-use super::commands::command;
 use super::same_logs::has_rows_of;
+use crate::tests::commands::command;
 use std::alloc::Global;
 use std::sync::Wait;
 use zt_book::{Book, Log};
 use zt_rows::Refusal;
 use zt_shared::account::Naming;
-use zt_shared::{Beginning, Pass, Shared, close};
+use zt_shared::{Beginning, Pass, Shared, close, close_book};
 
 /// The passes of two clients, and the other book.
 #[derive(Drop)]
@@ -126,6 +127,24 @@ fn room<A: Naming + Beginning, B: Naming, C: Naming, D: Naming>(
     }
 }
 
+/// The passes of two clients, the first one first.
+fn in_a_row<A: Naming + Beginning, B: Naming, C: Naming, D: Naming>(
+    alloc: Global,
+    one: Pass<A, B, C, D>,
+    two: Pass<A, B, C, D>,
+) -> Option<Vec<Pass<A, B, C, D>>>
+    requires { A.clients ≡ 2 }
+    ensures { IfSome result (λ passes. IsPermutation (numbers A.clients) (map (λ pass. pass.client) passes.items)) }
+{
+    if one.client() != 1 || two.client() != 2 {
+        return None;
+    }
+    let mut passes = room(alloc)?;
+    passes.push_reserved(one);
+    passes.push_reserved(two);
+    Some(passes)
+}
+
 /// The log of two clients.
 pub(super) fn closed<A: Naming + Beginning, B: Naming, C: Naming, D: Naming>(
     alloc: Global,
@@ -135,11 +154,19 @@ pub(super) fn closed<A: Naming + Beginning, B: Naming, C: Naming, D: Naming>(
 ) -> Option<Log>
     requires { A.clients ≡ 2 }
 {
-    if one.client() != 1 || two.client() != 2 {
-        return None;
-    }
-    let mut passes = room(alloc)?;
-    passes.push_reserved(one);
-    passes.push_reserved(two);
+    let passes = in_a_row(alloc, one, two)?;
     Some(close(shared, passes))
+}
+
+/// The book of two clients.
+pub(super) fn closed_book<A: Naming + Beginning, B: Naming, C: Naming, D: Naming>(
+    alloc: Global,
+    shared: Shared<A, B, C, D>,
+    one: Pass<A, B, C, D>,
+    two: Pass<A, B, C, D>,
+) -> Option<Book>
+    requires { A.clients ≡ 2 }
+{
+    let passes = in_a_row(alloc, one, two)?;
+    Some(close_book(shared, passes))
 }

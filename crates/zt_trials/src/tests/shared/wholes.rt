@@ -1,8 +1,8 @@
 //! Commands of which each is answered whole or not at all, with each request for memory refused in turn.
 
-use super::commands::mark;
 use super::same_logs::{Told, looks_same, tells_last};
 use super::twins::{Twins, refusal, twin_settled};
+use crate::tests::commands::mark;
 use std::alloc::Global;
 use std::sync::Wait;
 use zt_book::Book;

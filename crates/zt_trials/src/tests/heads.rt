@@ -1,6 +1,6 @@
 //! A call at a moment that is no head, and a head that moves, over one history each.
-use crate::History;
 use std::alloc::Global;
+use zt_history::History;
 use zt_rows::{Call, HandleValue, Koid, Moment, Reply};
 
 const ROOT: Koid = Koid(1025);

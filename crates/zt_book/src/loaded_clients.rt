@@ -1,0 +1,121 @@
+ghost use Rattle.std.specs.Prelude.{◌≡◌, ◌+◌, ◌≤◌, ◌<◌, ◌^◌, false, [], All, Ok, Err, IfOk, IfErr, length, slice_index_or};
+ghost use Rattle.zt_book.specs.Session.{first_client};
+ghost use Rattle.zt_book.specs.SavedSessions.{clients_at, in_turn, loaded_saved, place_on, seated, with_cursor};
+ghost use Rattle.zt_book.specs.Log.{IsUnloadedBy};
+ghost use Rattle.zt_book.specs.ProofsOnly.Clients.{IsCursor};
+
+use crate::client::{Client, Cursor};
+use crate::clients::Clients;
+use crate::loaded_history::{MAIN, fault};
+use crate::loaded_tree::tree_of;
+use std::alloc::{AllocError, Global};
+use zt_history::History;
+use zt_rows::{Cursor as SavedCursor, Refusal, SavedBranch, SavedCall};
+
+/// So many clients over the tree of these moments and branches, where these cursors tell.
+pub(crate) fn session_of(
+    alloc: Global,
+    clients: u8,
+    moments: &[SavedCall],
+    branches: &[SavedBranch],
+    cursors: &[SavedCursor],
+) -> Result<Clients, (u64, Refusal)>
+    requires { clients ≤ 4 }
+    ensures ok { IfOk result (λ all_clients. loaded_saved clients (record { moments = moments.now; branches = branches.now; cursors = cursors.now }) ≡ Ok all_clients.session) }
+    ensures refused { IfErr result (IsUnloadedBy false (loaded_saved clients (record { moments = moments.now; branches = branches.now; cursors = cursors.now }))) }
+{
+    let history = tree_of(alloc, moments, branches)?;
+    let number = moments.len() as u64 + branches.len() as u64;
+    seat(alloc, clients, number, history, cursors)
+}
+
+/// So many clients over a history, where these cursors tell. The first of them has this number.
+fn seat(
+    alloc: Global,
+    clients: u8,
+    number: u64,
+    history: History,
+    cursors: &[SavedCursor],
+) -> Result<Clients, (u64, Refusal)>
+    requires few { clients ≤ 4 }
+    requires counted { number + length cursors.now < 2 ^ 64 }
+    ensures ok { IfOk result (λ all_clients. seated clients number history.tree cursors.now ≡ Ok all_clients.session) }
+    ensures refused { IfErr result (IsUnloadedBy false (seated clients number history.tree cursors.now)) }
+{
+    let _position = history.position();
+    let found = cursors_in(alloc, number, &history, cursors)?;
+    match clients_at(alloc, clients, found.as_slice()) {
+        Ok(standing) => Ok(Clients::over(history, standing)),
+        Err(_) => Err((0, Refusal::OutOfMemory)),
+    }
+}
+
+/// These cursors in a history, in turn. The first of them has this number.
+fn cursors_in(
+    alloc: Global,
+    number: u64,
+    history: &History,
+    cursors: &[SavedCursor],
+) -> Result<Vec<Cursor>, (u64, Refusal)>
+    requires { number + length cursors.now < 2 ^ 64 }
+    ensures ok { IfOk result (λ found. in_turn (with_cursor history.now.tree) number [] cursors.now ≡ Ok found.items) }
+    ensures stand { IfOk result (λ found. All (IsCursor history.now.tree) found.items) }
+    ensures refused { IfErr result (IsUnloadedBy false (in_turn (with_cursor history.now.tree) number [] cursors.now)) }
+{
+    let mut found = Vec::new(alloc);
+    for place in 0..cursors.len() {
+        match place_in(history, &cursors[place]) {
+            Ok(cursor) => match found.push(cursor) {
+                Ok(()) => {}
+                Err(_) => return Err((0, Refusal::OutOfMemory)),
+            },
+            Err(reason) => return Err(fault(number + place as u64, reason)),
+        }
+    }
+    Ok(found)
+}
+
+/// Where the cursor stands in a history.
+fn place_in(history: &History, saved: &SavedCursor) -> Result<Cursor, Refusal>
+    ensures ok { IfOk result (λ cursor. place_on history.now.tree saved.now ≡ Ok cursor) }
+    ensures stands { IfOk result (IsCursor history.now.tree) }
+    ensures refused { IfErr result (λ reason. place_on history.now.tree saved.now ≡ Err reason) }
+{
+    match saved {
+        SavedCursor::Follows(name) => match history.find(name.as_slice()) {
+            Some(branch) => Ok(Cursor::Follows(branch)),
+            None => Err(Refusal::NoBranch),
+        },
+        SavedCursor::At(moment) => {
+            if *moment > history.last() {
+                return Err(Refusal::NoMoment);
+            }
+            Ok(Cursor::At(*moment))
+        }
+    }
+}
+
+/// So many clients: one at each cursor, and where there are no more, others at `main`.
+fn clients_at(alloc: Global, clients: u8, cursors: &[Cursor]) -> Result<Vec<Client>, AllocError>
+    ensures { IfOk result (λ standing. standing.items ≡ clients_at clients cursors.now) }
+{
+    let mut standing = Vec::new(alloc);
+    for place in 0..clients as usize {
+        standing.push(Client {
+            cursor: cursor_at(cursors, place),
+            pinned: None,
+            rows: 0,
+        })?;
+    }
+    Ok(standing)
+}
+
+/// The cursor of this place, from 0, and where there is none, that of who follows `main`.
+fn cursor_at(cursors: &[Cursor], place: usize) -> Cursor
+    ensures { result ≡ slice_index_or cursors.now place first_client.cursor }
+{
+    match cursors.get(place) {
+        Some(cursor) => *cursor,
+        None => Cursor::Follows(MAIN),
+    }
+}

@@ -1,0 +1,119 @@
+ghost use Rattle.std.specs.Prelude.{◌≡◌, ◌+◌, ◌<◌, ◌^◌, [], false, Ok, IfOk, IfErr, OnOk, length};
+ghost use Rattle.zt_history.specs.HistoryRefusals.{IsHistoryRefusal};
+ghost use Rattle.zt_book.specs.SavedSessions.{in_turn, loaded_tree, with_moment, with_main, with_branch, with_branches};
+ghost use Rattle.zt_book.specs.Log.{IsUnloadedBy};
+
+use crate::branch_name::is_name;
+use crate::loaded_history::{MAIN, fault};
+use std::alloc::Global;
+use zt_history::History;
+use zt_rows::{Refusal, SavedBranch, SavedCall};
+
+/// The history of these moments and branches.
+pub(crate) fn tree_of(
+    alloc: Global,
+    moments: &[SavedCall],
+    branches: &[SavedBranch],
+) -> Result<History, (u64, Refusal)>
+    ensures ok { IfOk result (λ history. loaded_tree (record { moments = moments.now; branches = branches.now; cursors = [] }) ≡ Ok history.tree) }
+    ensures refused { IfErr result (IsUnloadedBy false (loaded_tree (record { moments = moments.now; branches = branches.now; cursors = [] }))) }
+{
+    let Ok(mut history) = History::new(alloc) else {
+        return Err((0, Refusal::OutOfMemory));
+    };
+    put_moments(&mut history, moments)?;
+    put_branches(&mut history, moments.len() as u64, branches)?;
+    Ok(history)
+}
+
+/// Makes each of these moments in turn.
+fn put_moments(history: &mut History, moments: &[SavedCall]) -> Result<(), (u64, Refusal)>
+    ensures ok { OnOk result (in_turn with_moment 0 history.old.tree moments.now ≡ Ok history.new.tree) }
+    ensures refused { IfErr result (IsUnloadedBy false (in_turn with_moment 0 history.old.tree moments.now)) }
+{
+    for place in 0..moments.len() {
+        match put_moment(history, &moments[place]) {
+            Ok(()) => {}
+            Err(reason) => return Err(fault(place as u64, reason)),
+        }
+    }
+    Ok(())
+}
+
+/// Makes one moment more.
+fn put_moment(history: &mut History, saved: &SavedCall) -> Result<(), Refusal>
+    ensures ok { OnOk result (with_moment history.old.tree saved.now ≡ Ok history.new.tree) }
+    ensures refused { IfErr result (IsHistoryRefusal (with_moment history.old.tree saved.now)) }
+{
+    match history.call_at(saved.parent, saved.process, &saved.call) {
+        Ok(_) => Ok(()),
+        Err(reason) => Err(reason),
+    }
+}
+
+/// Moves `main`, and makes the other branches in turn. The first of them has this number.
+fn put_branches(
+    history: &mut History,
+    number: u64,
+    branches: &[SavedBranch],
+) -> Result<(), (u64, Refusal)>
+    requires { number + length branches.now < 2 ^ 64 }
+    ensures ok { OnOk result (with_branches number history.old.tree branches.now ≡ Ok history.new.tree) }
+    ensures refused { IfErr result (IsUnloadedBy false (with_branches number history.old.tree branches.now)) }
+{
+    match branches {
+        [] => Err((number, Refusal::NoBranch)),
+        [first, others @ ..] => match put_main(history, first) {
+            Ok(()) => put_others(history, number + 1, others),
+            Err(reason) => Err(fault(number, reason)),
+        },
+    }
+}
+
+/// Moves `main`, where the branch has this name.
+fn put_main(history: &mut History, saved: &SavedBranch) -> Result<(), Refusal>
+    ensures ok { OnOk result (with_main history.old.tree saved.now ≡ Ok history.new.tree) }
+    ensures refused { IfErr result (IsHistoryRefusal (with_main history.old.tree saved.now)) }
+{
+    if saved.name.as_slice() != b"main".as_slice() {
+        return Err(Refusal::NoBranch);
+    }
+    let _position = history.position();
+    history.move_head(MAIN, saved.head)
+}
+
+/// Makes each of these branches in turn. The first of them has this number.
+fn put_others(
+    history: &mut History,
+    number: u64,
+    branches: &[SavedBranch],
+) -> Result<(), (u64, Refusal)>
+    requires { number + length branches.now < 2 ^ 64 }
+    ensures ok { OnOk result (in_turn with_branch number history.old.tree branches.now ≡ Ok history.new.tree) }
+    ensures refused { IfErr result (IsUnloadedBy false (in_turn with_branch number history.old.tree branches.now)) }
+{
+    for place in 0..branches.len() {
+        match put_branch(history, &branches[place]) {
+            Ok(()) => {}
+            Err(reason) => return Err(fault(number + place as u64, reason)),
+        }
+    }
+    Ok(())
+}
+
+/// Makes one branch more.
+fn put_branch(history: &mut History, saved: &SavedBranch) -> Result<(), Refusal>
+    ensures ok { OnOk result (with_branch history.old.tree saved.now ≡ Ok history.new.tree) }
+    ensures refused { IfErr result (IsHistoryRefusal (with_branch history.old.tree saved.now)) }
+{
+    if !is_name(saved.name.as_slice()) {
+        return Err(Refusal::BadName);
+    }
+    if history.find(saved.name.as_slice()).is_some() {
+        return Err(Refusal::NameTaken);
+    }
+    match history.branch(saved.name.as_slice(), saved.head) {
+        Ok(_) => Ok(()),
+        Err(reason) => Err(reason),
+    }
+}
