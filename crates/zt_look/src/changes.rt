@@ -1,0 +1,95 @@
+ghost use Rattle.std.specs.Prelude.{◌≡◌, ◌++◌, ◌∷◌, [], map, Ok, IfOk, IfErr, OnOk, OnErr};
+ghost use Rattle.std.specs.Option.{option_copied};
+ghost use Rattle.zt_history.specs.HistoryRefusals.{IsHistoryRefusal};
+ghost use Rattle.zt_history.specs.Timeline.{moved_to};
+ghost use Rattle.zt_look.specs.Changes.{changed_on, changes_at};
+ghost use Rattle.zt_look.specs.ProofsOnly.RecordSides.{row_before, change_under};
+
+use crate::limits::limits;
+use std::alloc::{AllocError, Global};
+use zt_history::History;
+use zt_rows::{Moment, Refusal, Row, RowKey};
+use zt_store::{Record, Store};
+
+/// A row that a call changed: what stood under the key before the call, and what stands there after it.
+#[derive(Drop)]
+pub struct Change {
+    pub key: RowKey,
+    pub before: Option<Row>,
+    pub after: Option<Row>,
+}
+
+/// The rows that the call of a moment changed, in the order of their keys, the counters first; none at the opening. The
+/// history goes to the moment, at the cost of the records on the way.
+pub fn changed(alloc: Global, history: &mut History, moment: Moment) -> Result<Vec<Change>, Refusal>
+    ensures ok { IfOk result (λ list. changed_on history.old.tree moment ≡ Ok list.items) }
+    ensures refused { IfErr result (IsHistoryRefusal (changed_on history.old.tree moment)) }
+    ensures moved { OnOk result (history.new ≡ moved_to history.old moment) }
+    ensures tree { OnErr result (history.new.tree ≡ history.old.tree) }
+{
+    history.goto(moment)?;
+    let list = changed_here(alloc, history)?;
+    Ok(list)
+}
+
+/// The rows that the call of the position changed.
+fn changed_here(alloc: Global, history: &History) -> Result<Vec<Change>, AllocError>
+    ensures { IfOk result (λ list. list.items ≡ changes_at history.now.tree.made history.now.position) }
+{
+    limits(history);
+    match history.record_of(history.position()) {
+        Some(kept) => Ok(changes_by(alloc, kept, history.store())?),
+        None => Ok(Vec::new(alloc)),
+    }
+}
+
+/// What stands under the keys of the record, in it and in the store.
+fn changes_by(alloc: Global, kept: &Record, store: &Store) -> Result<Vec<Change>, AllocError>
+    ensures { IfOk result (λ list. list.items ≡ map (change_under kept.now store.now.state) (map (λ e. e.0) kept.now)) }
+{
+    let mut list = Vec::new(alloc);
+    for key in kept.keys() {
+        push_change(&mut list, kept, store, *key)?;
+    }
+    Ok(list)
+}
+
+/// Puts what stands under a key, in the record and in the store, behind the others.
+fn push_change(
+    list: &mut Vec<Change>,
+    kept: &Record,
+    store: &Store,
+    key: RowKey,
+) -> Result<(), AllocError>
+    ensures { OnOk result (list.new.items ≡ list.old.items ++ change_under kept.now store.now.state key ∷ []) }
+{
+    let after = store.row(key);
+    let before = row_before(kept, key, after);
+    let change = Change {
+        key,
+        before: copied(before)?,
+        after: copied(after)?,
+    };
+    list.push(change)?;
+    Ok(())
+}
+
+/// The row that stood under the key before a call, where this is the row after it: what the record has, or else the same.
+fn row_before<'a>(kept: &'a Record, key: RowKey, after: Option<&'a Row>) -> Option<&'a Row>
+    ensures { option_copied result ≡ row_before kept.now key (option_copied after.entry) }
+{
+    match kept.held(key) {
+        Some(held) => held,
+        None => after,
+    }
+}
+
+/// An equal row in memory of its own, if there is one.
+fn copied(row: Option<&Row>) -> Result<Option<Row>, AllocError>
+    ensures { IfOk result (λ copied. copied ≡ option_copied row.entry) }
+{
+    match row {
+        Some(row) => Ok(Some(row.copy()?)),
+        None => Ok(None),
+    }
+}

@@ -1,0 +1,109 @@
+ghost use Rattle.std.specs.Prelude.{◌≡◌, ◌++◌, true, Some, IfOk, IfErr, OnOk};
+ghost use Rattle.zt_rows.specs.declared.refusals.Refusal.TheVariants as refusal;
+ghost use Rattle.zt_rows.specs.Reads.{runs};
+ghost use Rattle.zt_rows.specs.Tests.{exists, kind_at};
+ghost use Rattle.zt_history.specs.HistoryRefusals.{IsHistoryRefusal, check};
+ghost use Rattle.zt_history.specs.Tree.{state_at};
+ghost use Rattle.zt_look.specs.HandleList.{AreHandles};
+ghost use Rattle.zt_look.specs.ProofsOnly.HandlesSoFar.{handle_by, with_handle, NamesObjects};
+
+use crate::limits::limits;
+use std::alloc::{AllocError, Global};
+use zt_bits::{Kind, Rights};
+use zt_history::History;
+use zt_rows::{HandleValue, Held, Koid, Life, Refusal};
+use zt_store::Store;
+
+/// A handle of a process: its value, the object that it names, and what it allows with it.
+#[derive(Clone, Copy)]
+pub struct Handle {
+    pub value: HandleValue,
+    pub koid: Koid,
+    pub kind: Kind,
+    pub rights: Rights,
+}
+
+/// The handles of a process at a history's position, by rising value. It looks at the places of this process alone.
+/// Refused where the process does not run there.
+pub fn handles_at(alloc: Global, history: &History, process: Koid) -> Result<Vec<Handle>, Refusal>
+    ensures ok { IfOk result (λ list. AreHandles (state_at history.now.tree.made history.now.position) process list.items) }
+    ensures running { OnOk result (runs (state_at history.now.tree.made history.now.position) process ≡ true) }
+    ensures refused { IfErr result
+        (IsHistoryRefusal (check (runs (state_at history.now.tree.made history.now.position) process) refusal.NoProcess)) }
+{
+    limits(history);
+    let kept = history.store();
+    if !runs(kept, process) {
+        return Err(Refusal::NoProcess);
+    }
+    let list = handles_of(alloc, kept, process)?;
+    Ok(list)
+}
+
+/// Whether the koid is that of a live process.
+fn runs(store: &Store, process: Koid) -> bool
+    ensures { result ≡ runs store.now.state process }
+{
+    match store.object(process) {
+        Some(object) => object.kind == Kind::Process && object.life == Life::Live,
+        None => false,
+    }
+}
+
+/// The handles of a process, by rising value.
+fn handles_of(alloc: Global, store: &Store, process: Koid) -> Result<Vec<Handle>, AllocError>
+    requires { NamesObjects store.now.state process }
+    ensures { IfOk result (λ list. AreHandles store.now.state process list.items) }
+{
+    let mut list = Vec::new(alloc);
+    let mut next = store.handle_of(process, None);
+    'handles: while let Some(value) = next {
+        push_handle(&mut list, store, process, value)?;
+        next = store.handle_of(process, Some(value));
+    }
+    Ok(list)
+}
+
+/// Puts the handle of a value behind the others, where the process has one.
+fn push_handle(
+    list: &mut Vec<Handle>,
+    store: &Store,
+    process: Koid,
+    value: HandleValue,
+) -> Result<(), AllocError>
+    requires { NamesObjects store.now.state process }
+    ensures { OnOk result (list.new.items ≡ with_handle store.now.state process value list.old.items) }
+{
+    match store.entry(process, value) {
+        Some(held) => {
+            push_held(list, store, value, held)?;
+            Ok(())
+        }
+        None => Ok(()),
+    }
+}
+
+/// Puts what the value holds behind the others.
+fn push_held(
+    list: &mut Vec<Handle>,
+    store: &Store,
+    value: HandleValue,
+    held: Held,
+) -> Result<(), AllocError>
+    requires { exists store.now.state held.koid ≡ true }
+    ensures { OnOk result (list.new.items ≡ list.old.items ++ handle_by value (Some held) (kind_at store.now.state held.koid)) }
+{
+    match store.object(held.koid) {
+        Some(object) => {
+            let handle = Handle {
+                value,
+                koid: held.koid,
+                kind: object.kind,
+                rights: held.rights,
+            };
+            list.push(handle)?;
+            Ok(())
+        }
+        None => unreachable!(),
+    }
+}
