@@ -1,2 +1,3 @@
 pub mod ChangeLaws
 pub mod HandleLaws
+pub mod CallLaws

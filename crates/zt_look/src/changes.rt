@@ -75,7 +75,11 @@ fn push_change(
 }
 
 /// The row that stood under the key before a call, where this is the row after it: what the record has, or else the same.
-fn row_before<'a>(kept: &'a Record, key: RowKey, after: Option<&'a Row>) -> Option<&'a Row>
+pub(crate) fn row_before<'a>(
+    kept: &'a Record,
+    key: RowKey,
+    after: Option<&'a Row>,
+) -> Option<&'a Row>
     ensures { option_copied result ≡ row_before kept.now key (option_copied after.entry) }
 {
     match kept.held(key) {

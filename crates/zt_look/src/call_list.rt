@@ -1,0 +1,263 @@
+ghost use Rattle.std.specs.Prelude.{◌≡◌, ◌==◌, ◌++◌, ◌∷◌, [], map, if◌then◌else◌, Ok, IfOk, IfErr, OnOk, OnErr};
+ghost use Rattle.std.specs.List.{list_any};
+ghost use Rattle.zt_history.specs.HistoryRefusals.{IsHistoryRefusal};
+ghost use Rattle.zt_history.specs.Timeline.{moved_to, IsPath};
+ghost use Rattle.zt_history.specs.Tree.{end_of};
+ghost use Rattle.zt_look.specs.CallList.{calls_on, asked_among, is_asked, is_within, is_failed, is_by, is_about, touched, touches, is_of, names};
+ghost use Rattle.zt_look.specs.ProofsOnly.RecordSides.{change_under, row_before};
+ghost use Rattle.zt_rows.specs.State.{row};
+ghost use Rattle.std.specs.Option.{option_copied};
+
+use crate::changes::row_before;
+use crate::limits::limits;
+use std::alloc::{AllocError, Global};
+use zt_bits::Status;
+use zt_history::History;
+use zt_rows::{Call, Held, Koid, Moment, Refusal, Reply, Row, RowKey};
+use zt_store::{Record, Store};
+
+/// A call that was made: at which moment, by which process, and what it answered.
+#[derive(Drop)]
+pub struct CallMade {
+    pub moment: Moment,
+    pub process: Koid,
+    pub call: Call,
+    pub reply: Reply,
+}
+
+/// Which calls are asked for: those of the moments from the first to the last, and of these, where it is asked, those alone
+/// that failed, that a process made, or that changed a row of an object or of a handle that names it.
+#[derive(Clone, Copy)]
+pub struct CallFilter {
+    pub first: Moment,
+    pub last: Moment,
+    pub failed: bool,
+    pub process: Option<Koid>,
+    pub object: Option<Koid>,
+}
+
+/// The calls on the path to a moment that are asked for, in the path's order. The history goes along the path, at the cost
+/// of its records.
+pub fn calls(
+    alloc: Global,
+    history: &mut History,
+    at: Moment,
+    asked: &CallFilter,
+) -> Result<Vec<CallMade>, Refusal>
+    ensures ok { IfOk result (λ list. calls_on history.old.tree at asked.now ≡ Ok list.items) }
+    ensures refused { IfErr result (IsHistoryRefusal (calls_on history.old.tree at asked.now)) }
+    ensures moved { OnOk result (history.new ≡ moved_to history.old at) }
+    ensures tree { OnErr result (history.new.tree ≡ history.old.tree) }
+{
+    let way = history.path(at)?;
+    let list = calls_along(alloc, history, way.as_slice(), asked)?;
+    Ok(list)
+}
+
+/// The calls on a path that are asked for; the history goes along it.
+fn calls_along(
+    alloc: Global,
+    history: &mut History,
+    way: &[Moment],
+    asked: &CallFilter,
+) -> Result<Vec<CallMade>, AllocError>
+    requires { IsPath history.old.tree.made way.now }
+    ensures ok { IfOk result (λ list. list.items ≡ asked_among history.old.tree.made asked.now way.now) }
+    ensures moved { OnOk result (history.new ≡ moved_to history.old (end_of way.now)) }
+    ensures tree { OnErr result (history.new.tree ≡ history.old.tree) }
+{
+    limits(history);
+    let mut list = Vec::new(alloc);
+    for place in 0..way.len() {
+        history.along(&way[..place + 1]);
+        push_asked(&mut list, history, asked)?;
+    }
+    history.along(way);
+    Ok(list)
+}
+
+/// Puts the call of the position behind the others, where it is asked for.
+fn push_asked(
+    list: &mut Vec<CallMade>,
+    history: &History,
+    asked: &CallFilter,
+) -> Result<(), AllocError>
+    ensures { OnOk result (list.new.items ≡ list.old.items ++ asked_among history.now.tree.made asked.now (history.now.position ∷ [])) }
+{
+    let moment = history.position();
+    match history.call_of(moment) {
+        Some((process, call)) => match history.reply_of(moment) {
+            Some(reply) => push_if_asked(list, history, asked, process, call, reply),
+            None => Ok(()),
+        },
+        None => Ok(()),
+    }
+}
+
+/// Puts this call of the process at the position, with this reply, behind the others, where it is asked for.
+fn push_if_asked(
+    list: &mut Vec<CallMade>,
+    history: &History,
+    asked: &CallFilter,
+    process: Koid,
+    call: &Call,
+    reply: &Reply,
+) -> Result<(), AllocError>
+    ensures { OnOk result (list.new.items ≡ list.old.items
+        ++ (if is_asked history.now.tree.made asked.now history.now.position process reply.now
+        then record { moment = history.now.position; process = process; call = call.now; reply = reply.now } ∷ [] else [])) }
+{
+    if is_asked(history, asked, process, reply) {
+        push_copy(list, history.position(), process, call, reply)
+    } else {
+        Ok(())
+    }
+}
+
+/// Puts an equal call of the process, with an equal reply, behind the others.
+fn push_copy(
+    list: &mut Vec<CallMade>,
+    moment: Moment,
+    process: Koid,
+    call: &Call,
+    reply: &Reply,
+) -> Result<(), AllocError>
+    ensures { OnOk result (list.new.items ≡ list.old.items ++ record { moment = moment; process = process; call = call.now; reply = reply.now } ∷ []) }
+{
+    let made = CallMade {
+        moment,
+        process,
+        call: call.copy()?,
+        reply: reply.copy()?,
+    };
+    list.push(made)?;
+    Ok(())
+}
+
+/// Whether the call of the position, which this process made and which was answered so, is asked for.
+fn is_asked(history: &History, asked: &CallFilter, process: Koid, reply: &Reply) -> bool
+    ensures { result ≡ is_asked history.now.tree.made asked.now history.now.position process reply.now }
+{
+    is_within(asked, history.position())
+        && (!asked.failed || is_failed(reply))
+        && is_by(asked.process, process)
+        && is_about(asked.object, history)
+}
+
+/// Whether the moment is among those that are asked for.
+fn is_within(asked: &CallFilter, moment: Moment) -> bool
+    ensures { result ≡ is_within asked.now moment }
+{
+    asked.first <= moment && moment <= asked.last
+}
+
+/// Whether the status is not ok.
+fn is_failed(reply: &Reply) -> bool
+    ensures { result ≡ is_failed reply.now }
+{
+    match reply {
+        Reply::Status(status) => *status != Status::Ok,
+        Reply::TooSmall(_, _) => true,
+        _ => false,
+    }
+}
+
+/// Whether the process is the one that is asked for, if one is.
+fn is_by(asked: Option<Koid>, process: Koid) -> bool
+    ensures { result ≡ is_by asked process }
+{
+    match asked {
+        Some(koid) => koid == process,
+        None => true,
+    }
+}
+
+/// Whether the call of the position changed a row of the object that is asked for or of a handle that names it, if one is.
+fn is_about(asked: Option<Koid>, history: &History) -> bool
+    ensures { result ≡ is_about asked history.now.tree.made history.now.position }
+{
+    match asked {
+        Some(koid) => is_touched(history, koid),
+        None => true,
+    }
+}
+
+/// Whether the call of the position changed a row of the object or of a handle that names it.
+fn is_touched(history: &History, koid: Koid) -> bool
+    ensures { result ≡ touched koid history.now.tree.made history.now.position }
+{
+    limits(history);
+    match history.record_of(history.position()) {
+        Some(kept) => any_touches(kept, history.store(), koid),
+        None => false,
+    }
+}
+
+/// Whether a row under a key of the record, in it or in the store, is the object's or that of a handle that names it.
+fn any_touches(kept: &Record, store: &Store, koid: Koid) -> bool
+    ensures { result ≡ list_any (touches koid) (map (change_under kept.now store.now.state) (map (λ e. e.0) kept.now)) }
+{
+    for key in kept.keys() {
+        if touches(kept, store, key, koid) {
+            return true;
+        }
+    }
+    false
+}
+
+/// The same of the row under one key.
+fn touches(kept: &Record, store: &Store, key: &RowKey, koid: Koid) -> bool
+    ensures { result ≡ touches koid (change_under kept.now store.now.state key.now) }
+{
+    is_of(koid, key) || names_before(kept, store, key, koid) || names_after(store, key, koid)
+}
+
+/// Whether the row under the key before the call is that of a handle that names the object.
+fn names_before(kept: &Record, store: &Store, key: &RowKey, koid: Koid) -> bool
+    ensures { result ≡ names koid (row_before kept.now key.now (row store.now.state key.now)) }
+{
+    names(koid, row_before(kept, *key, store.row(*key)))
+}
+
+/// Whether the row under the key after the call is that of a handle that names the object.
+fn names_after(store: &Store, key: &RowKey, koid: Koid) -> bool
+    ensures { result ≡ names koid (row store.now.state key.now) }
+{
+    names(koid, store.row(*key))
+}
+
+/// Whether the key is that of the object or of what it owns.
+fn is_of(koid: Koid, key: &RowKey) -> bool
+    ensures { result ≡ is_of koid key.now }
+{
+    match key {
+        RowKey::Object(owner) => *owner == koid,
+        RowKey::Entry(owner, _) => *owner == koid,
+        RowKey::Msg(owner, _) => *owner == koid,
+        RowKey::Packet(owner, _) => *owner == koid,
+        _ => false,
+    }
+}
+
+/// Whether the row is that of a handle that names the object, or of a message with one.
+fn names(koid: Koid, row: Option<&Row>) -> bool
+    ensures { result ≡ names koid (option_copied row.entry) }
+{
+    match row {
+        Some(Row::Entry(held)) => held.koid == koid,
+        Some(Row::Msg(message)) => any_names(koid, message.handles().as_slice()),
+        _ => false,
+    }
+}
+
+/// Whether one of the handles names the object.
+fn any_names(koid: Koid, handles: &[Held]) -> bool
+    ensures { result ≡ list_any (λ held. held.koid == koid) handles.now }
+{
+    for held in handles {
+        if held.koid == koid {
+            return true;
+        }
+    }
+    false
+}
