@@ -23,9 +23,12 @@ mod session_text;
 mod within;
 mod write_arguments;
 
-pub use printed_answers::print_answer;
-pub use printed_calls::{print_call, print_session};
-pub use printed_rows::{RefusalLine, print_refusal, print_reply, print_rows};
+pub use printed_answers::{print_answer, put_supports};
+pub use printed_calls::{print_call, print_session, put_call};
+pub use printed_rows::{
+    RefusalLine, print_refusal, print_reply, print_rows, put_bytes, put_critical, put_key,
+    put_life, put_mask, put_reply,
+};
 pub use printed_saved::print_saved;
 pub use read_lines::{LINE_BYTES, Line, read_line};
 pub use saved_text::read_saved;

@@ -99,7 +99,7 @@ fn print_holders(alloc: Global, koid: Koid, kept: &[Support]) -> Result<Vec<u8>,
 }
 
 /// A line for each thing that keeps an object.
-fn put_supports(text: &mut String, kept: &[Support]) -> Result<(), AllocError>
+pub fn put_supports(text: &mut String, kept: &[Support]) -> Result<(), AllocError>
     ensures { OnOk result (string_bytes text.new ≡ string_bytes text.old ++ flat_map support_line kept.now) }
 {
     for support in kept {

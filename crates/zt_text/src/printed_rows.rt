@@ -195,7 +195,7 @@ pub fn put_rows(text: &mut String, rows: &[(RowKey, Row)]) -> Result<(), AllocEr
 
 /// The word and the numbers of a key.
 #[tactic(auto, unfolding(crate::specs::Answers::shown_key))]
-fn put_key(text: &mut String, key: RowKey) -> Result<(), AllocError>
+pub fn put_key(text: &mut String, key: RowKey) -> Result<(), AllocError>
     ensures { OnOk result (string_bytes text.new ≡ string_bytes text.old ++ shown_key key) }
 {
     match key {
@@ -243,7 +243,7 @@ fn put_object(text: &mut String, object: &ObjectRow) -> Result<(), AllocError>
 }
 
 /// The job to which an object is critical, where there is one.
-fn put_critical(text: &mut String, job: Koid) -> Result<(), AllocError>
+pub fn put_critical(text: &mut String, job: Koid) -> Result<(), AllocError>
     ensures { OnOk result (string_bytes text.new ≡ string_bytes text.old ++ shown_critical job) }
 {
     if job.0 == 0 {
@@ -253,7 +253,8 @@ fn put_critical(text: &mut String, job: Koid) -> Result<(), AllocError>
     }
 }
 
-fn put_life(text: &mut String, life: Life) -> Result<(), AllocError>
+/// Whether an object runs, or how it ended.
+pub fn put_life(text: &mut String, life: Life) -> Result<(), AllocError>
     ensures { OnOk result (string_bytes text.new ≡ string_bytes text.old ++ shown_life life) }
 {
     match life {
