@@ -33,7 +33,7 @@ changes-same S = ap (map (pair_at S S)) (changed-same S)
 
 -- ---- by the record
 
-row-turned : (S T : State) (k : RowKey) → row_before (before S T) k (row T k) ≡ row S k
+pub row-turned : (S T : State) (k : RowKey) → row_before (before S T) k (row T k) ≡ row S k
 row-turned S T k = sym (row-with_rows T (before S T) k) ∙ ap (λ U. row U k) (with_rows-before S T)
 
 keys-before : (S T : State) → map (λ e. e.0) (before S T) ≡ changed S T
@@ -77,7 +77,7 @@ given_record : {A B : Type 0} (o : Option A) (x y : B) → option_map (λ _. x) 
 given_record (Some a) x y e = some_same x y e
 given_record None x y e = cc
 
-here-before : (made : List Made) → Falls made → (m : ℕ) (R : List (RowKey × Option Row)) → recorded_at made m m ≡ Some R → R ≡ before (state_at made (parent_at made m)) (state_at made m)
+pub here-before : (made : List Made) → Falls made → (m : ℕ) (R : List (RowKey × Option Row)) → recorded_at made m m ≡ Some R → R ≡ before (state_at made (parent_at made m)) (state_at made m)
 here-before made falls zero R e = cc
 here-before made falls (suc i) R e = sym (given_record (slice_get made i) (record_of made (suc i) (suc i)) R e) ∙ turned made falls i
 

@@ -39,7 +39,7 @@ all-at P [] i all h = absurd (omega (arith, h))
 all-at P (x ∷ xs) zero all h = all.0
 all-at P (x ∷ xs) (suc i) all h = all-at P xs i all.1 (omega (arith, h))
 
-rising-push : (xs : List ℕ) (x : ℕ) → IsStrictlyIncreasing xs → AllByRecursion (λ y. y < x) xs → IsStrictlyIncreasing (xs ++ x ∷ [])
+pub rising-push : (xs : List ℕ) (x : ℕ) → IsStrictlyIncreasing xs → AllByRecursion (λ y. y < x) xs → IsStrictlyIncreasing (xs ++ x ∷ [])
 rising-push xs x up below k h =
     let size : length (xs ++ x ∷ []) ≡ length xs + 1 = omega (arith, length-append xs (x ∷ [])) in
     let here : k < length xs = omega (arith, h, size) in

@@ -1,3 +1,16 @@
 pub mod ChangeLaws
 pub mod HandleLaws
 pub mod CallLaws
+pub mod SearchLaws
+pub mod UnleakedLaws
+pub mod EventLaws
+pub mod MarkLaws
+pub mod MessageLaws
+pub mod RowWalkLaws
+pub mod ObjectRowLaws
+pub mod CountLaws
+pub mod FateLaws
+pub mod NameLaws
+pub mod MaskLaws
+mod WorkedLines
+pub mod QueuedLaws

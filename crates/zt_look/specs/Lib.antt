@@ -2,5 +2,15 @@
 pub mod Changes
 pub mod HandleList
 pub mod CallList
+pub mod EventList
+pub mod BranchList
+pub mod MessageList
+pub mod ObjectLook
+pub mod CallCounts
+pub mod Fates
+pub mod Names
+pub mod NamedTexts
+pub mod Lines
+pub mod QueuedMessages
 -- Used by proofs only: no public clause depends on them.
 pub mod ProofsOnly

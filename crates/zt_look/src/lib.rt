@@ -1,14 +1,39 @@
-//! The questions that people ask of a trace: the calls of a path with their replies, what a call changed, and which handles a
-//! process has.
+//! The questions that people ask of a trace: the calls of a path with their replies, what a call changed, what happened to
+//! objects, which handles a process has, what became of the messages of an endpoint, where branches leave one another, all that
+//! is told of one object, and a path in short; and the lines that show them.
 #![tactic(auto)]
 
+mod branch_list;
+mod call_counts;
 mod call_list;
 mod changes;
+mod event_list;
+mod fates;
 mod handle_list;
+pub mod laws;
 mod limits;
+mod lines;
+pub mod message_laws;
+mod message_list;
+mod object_look;
+mod object_rows;
+mod path_summary;
 #[cfg(test)]
 mod tests;
+mod unleaked_search;
+mod unleaked_set;
 
+pub use branch_list::{BranchLook, branches};
+pub use call_counts::CallCount;
 pub use call_list::{CallFilter, CallMade, calls};
 pub use changes::{Change, changed};
+pub use event_list::{HappeningSet, ObjectEvent, events};
+pub use fates::{Fate, ObjectFate};
 pub use handle_list::{Handle, handles_at};
+pub use lines::{
+    print_branch, print_call_count, print_call_made, print_change, print_event, print_fate,
+    print_handle, print_object, print_queued_message, print_when,
+};
+pub use message_list::{MessageEnd, QueuedMessage, messages};
+pub use object_look::{ObjectLook, object_at};
+pub use path_summary::{PathSummary, summary};

@@ -1,8 +1,18 @@
-//! What is asked of a history of one call, where memory is ample.
-use crate::{CallFilter, CallMade, Change, Handle, calls, changed, handles_at};
+//! What is asked of a history of a few calls, where memory is ample.
+mod branch_list;
+mod lines;
+mod message_list;
+mod objects;
+mod summaries;
+
+use crate::{
+    CallFilter, CallMade, Change, Handle, HappeningSet, ObjectEvent, calls, changed, events,
+    handles_at,
+};
 use std::alloc::Global;
+use zt_bits::Kind;
 use zt_history::History;
-use zt_rows::{Call, HandleValue, Koid, Moment, RowKey};
+use zt_rows::{Call, HandleValue, Happening, Koid, Moment, Parcel, RowKey};
 
 const ROOT: Koid = Koid(1025);
 
@@ -95,18 +105,18 @@ fn three_calls(alloc: Global) -> Option<History> {
 
 /// What is asked of the three.
 #[derive(Clone, Copy)]
-enum Question {
+enum AskedCalls {
     All,
     Failed,
     About,
 }
 
 /// The calls to the third moment that are asked for.
-fn filter_of(question: Question) -> CallFilter {
+fn filter_of(question: AskedCalls) -> CallFilter {
     let (failed, object) = match question {
-        Question::All => (false, None),
-        Question::Failed => (true, None),
-        Question::About => (false, Some(Koid(1026))),
+        AskedCalls::All => (false, None),
+        AskedCalls::Failed => (true, None),
+        AskedCalls::About => (false, Some(Koid(1026))),
     };
     CallFilter {
         first: Moment(1),
@@ -118,14 +128,14 @@ fn filter_of(question: Question) -> CallFilter {
 }
 
 /// Whether these are the calls that are asked for: all three, the second, or the first and the last.
-fn are_those(question: Question, told: &[CallMade]) -> bool {
+fn are_those(question: AskedCalls, told: &[CallMade]) -> bool {
     match question {
-        Question::All => told.len() == 3,
-        Question::Failed => match told {
+        AskedCalls::All => told.len() == 3,
+        AskedCalls::Failed => match told {
             [missed] => missed.moment == Moment(2),
             _ => false,
         },
-        Question::About => match told {
+        AskedCalls::About => match told {
             [made, closed] => made.moment == Moment(1) && closed.moment == Moment(3),
             _ => false,
         },
@@ -133,7 +143,7 @@ fn are_those(question: Question, told: &[CallMade]) -> bool {
 }
 
 /// Whether the calls that are asked for are told.
-fn are_told(alloc: Global, question: Question) -> bool {
+fn are_told(alloc: Global, question: AskedCalls) -> bool {
     match three_calls(alloc) {
         Some(mut history) => {
             match calls(alloc, &mut history, Moment(3), &filter_of(question)) {
@@ -147,15 +157,127 @@ fn are_told(alloc: Global, question: Question) -> bool {
 
 #[test]
 fn all_calls_are_told(rt: HostRuntime) {
-    assert!(rt; are_told(rt.alloc(), Question::All));
+    assert!(rt; are_told(rt.alloc(), AskedCalls::All));
 }
 
 #[test]
 fn calls_that_failed_are_told(rt: HostRuntime) {
-    assert!(rt; are_told(rt.alloc(), Question::Failed));
+    assert!(rt; are_told(rt.alloc(), AskedCalls::Failed));
 }
 
 #[test]
 fn calls_about_an_object_are_told(rt: HostRuntime) {
-    assert!(rt; are_told(rt.alloc(), Question::About));
+    assert!(rt; are_told(rt.alloc(), AskedCalls::About));
+}
+
+/// The call that sends the one end of the first channel over the other end, so that it waits at itself.
+fn sending_itself(alloc: Global) -> Option<Call> {
+    let mut handles = Vec::new(alloc);
+    match handles.push(HandleValue(11)) {
+        Ok(()) => match Parcel::new(Vec::new(alloc), handles) {
+            Some(parcel) => Some(Call::ChannelWrite {
+                handle: HandleValue(7),
+                parcel,
+            }),
+            None => None,
+        },
+        Err(_) => None,
+    }
+}
+
+/// Whether the first process makes a channel, sends the one end to itself, and closes the other.
+fn is_cycle_made(alloc: Global, history: &mut History) -> bool {
+    match sending_itself(alloc) {
+        Some(call) => {
+            is_called(history, &Call::ChannelCreate)
+                && is_called(history, &call)
+                && is_called(history, &closing(7))
+        }
+        None => false,
+    }
+}
+
+/// The number of the happening, as they are listed.
+fn number_of(what: Happening) -> u8 {
+    match what {
+        Happening::Made => 0,
+        Happening::Ended => 1,
+        Happening::PeerClosed => 2,
+        Happening::Leaked => 3,
+    }
+}
+
+/// Whether this happened to this end of the channel at the moment.
+fn is_at(event: &ObjectEvent, moment: u32, koid: u64, number: u8) -> bool {
+    event.moment == Moment(moment)
+        && event.koid == Koid(koid)
+        && number_of(event.what) == number
+        && event.kind == Kind::Channel
+}
+
+/// Whether these are all events of the cycle.
+fn are_all_events(list: &[ObjectEvent]) -> bool {
+    match list {
+        [first, second, leaked, ended, closed] => {
+            is_at(first, 1, 1026, 0)
+                && is_at(second, 1, 1027, 0)
+                && is_at(leaked, 2, 1027, 3)
+                && is_at(ended, 3, 1026, 1)
+                && is_at(closed, 3, 1027, 2)
+        }
+        _ => false,
+    }
+}
+
+/// Whether these are its events but for the leak.
+fn are_shown_events(list: &[ObjectEvent]) -> bool {
+    match list {
+        [first, second, ended, closed] => {
+            is_at(first, 1, 1026, 0)
+                && is_at(second, 1, 1027, 0)
+                && is_at(ended, 3, 1026, 1)
+                && is_at(closed, 3, 1027, 2)
+        }
+        _ => false,
+    }
+}
+
+/// Whether the events of the cycle are told, with the leak or without it.
+fn are_events_told(alloc: Global, history: &mut History, leaked: bool) -> bool {
+    let asked = HappeningSet {
+        made: true,
+        ended: true,
+        peer_closed: true,
+        leaked,
+    };
+    match events(alloc, history, Moment(3), &asked) {
+        Ok(list) => {
+            if leaked {
+                are_all_events(list.as_slice())
+            } else {
+                are_shown_events(list.as_slice())
+            }
+        }
+        Err(_) => false,
+    }
+}
+
+/// Whether the events of the cycle are told, in a history of their own.
+fn is_cycle_told(alloc: Global, leaked: bool) -> bool {
+    match History::new(alloc) {
+        Ok(mut history) => {
+            is_cycle_made(alloc, &mut history) && are_events_told(alloc, &mut history, leaked)
+        }
+        Err(_) => false,
+    }
+}
+
+#[test]
+fn events_are_told(rt: HostRuntime) {
+    assert!(rt; is_cycle_told(rt.alloc(), true));
+}
+
+#[test]
+fn events_without_leaks_are_told(rt: HostRuntime) {
+    assert!(rt; is_cycle_told(rt.alloc(), false));
 }

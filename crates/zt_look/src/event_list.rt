@@ -1,0 +1,377 @@
+ghost use Rattle.std.specs.Prelude.{◌≡◌, ◌++◌, ◌∷◌, [], ◌||◌, ◌<◌, ◌≤◌, ℕ, true, length, map, Ok, IfOk, IfErr, OnOk, OnErr};
+ghost use Rattle.std.specs.BTreeSet.{contains, IsOrdered};
+ghost use Rattle.std.specs.List.{flat_map, list_any};
+ghost use Rattle.std.specs.Option.{option_copied};
+ghost use Rattle.std.specs.Ordering.{nat_cmp};
+ghost use Rattle.zt_history.specs.HistoryRefusals.{IsHistoryRefusal, moment_on};
+ghost use Rattle.zt_history.specs.Timeline.{moved_to, IsPath};
+ghost use Rattle.zt_history.specs.Tree.{end_of, parent_at, path, state_at};
+ghost use Rattle.zt_look.specs.EventList.{AreEvents, is_asked};
+ghost use Rattle.zt_look.specs.ProofsOnly.EventsSoFar.{AddsMoment, AreLeaked, event_shown, events_shown, is_object, kind_shown, object_over, shows, change_over};
+ghost use Rattle.zt_look.specs.ProofsOnly.UnleakedSet.{IsUnleakedSet};
+ghost use Rattle.zt_queries.specs.Happenings.{is_cut_off};
+ghost use Rattle.zt_rows.specs.Reads.{as_object, is_live, on_object};
+
+use crate::limits::limits;
+use crate::unleaked_set::{back_over, unleaked_at};
+use bitflags::Flags;
+use std::alloc::{AllocError, Global};
+use std::collections::BTreeSet;
+use zt_bits::{Kind, Signals};
+use zt_history::History;
+use zt_rows::{Happening, Koid, Life, Moment, ObjectRow, Refusal, Row, RowKey};
+use zt_store::{Record, Store};
+
+/// Something that happened to an object in the call of a moment. The kind is the object's after the call, or before it where
+/// the object is gone then.
+#[derive(Clone, Copy)]
+pub struct ObjectEvent {
+    pub moment: Moment,
+    pub koid: Koid,
+    pub what: Happening,
+    pub kind: Kind,
+}
+
+/// Which happenings are asked for.
+#[derive(Clone, Copy)]
+pub struct HappeningSet {
+    pub made: bool,
+    pub ended: bool,
+    pub peer_closed: bool,
+    pub leaked: bool,
+}
+
+/// What a moment's call did to an object: its rows before and after the call, and whether the call leaked it.
+#[derive(Clone, Copy)]
+struct ObjectChange {
+    moment: Moment,
+    koid: Koid,
+    before: Option<ObjectRow>,
+    after: Option<ObjectRow>,
+    leaked: bool,
+}
+
+/// What happened to objects in the calls on the path to a moment, as far as it is asked for: moment by moment, in each by
+/// rising koid, and to one object in the order in which `HappeningSet` lists it. The history goes back along the path and then
+/// to the moment, at the cost of its records; where leaks are asked for, at that of their search too.
+pub fn events(
+    alloc: Global,
+    history: &mut History,
+    at: Moment,
+    asked: &HappeningSet,
+) -> Result<Vec<ObjectEvent>, Refusal>
+    ensures ok { IfOk result (λ list. AreEvents history.old.tree.made asked.now (path history.old.tree.made at) list.items) }
+    ensures within { OnOk result (moment_on history.old.tree at ≡ Ok at) }
+    ensures refused { IfErr result (IsHistoryRefusal (moment_on history.old.tree at)) }
+    ensures moved { OnOk result (history.new ≡ moved_to history.old at) }
+    ensures tree { OnErr result (history.new.tree ≡ history.old.tree) }
+{
+    let way = history.path(at)?;
+    let list = events_along(alloc, history, way.as_slice(), asked)?;
+    Ok(list)
+}
+
+/// The events on a path; the history goes back along it, and then to its end.
+fn events_along(
+    alloc: Global,
+    history: &mut History,
+    way: &[Moment],
+    asked: &HappeningSet,
+) -> Result<Vec<ObjectEvent>, AllocError>
+    requires { IsPath history.old.tree.made way.now }
+    ensures ok { IfOk result (λ list. AreEvents history.old.tree.made asked.now way.now list.items) }
+    ensures moved { OnOk result (history.new ≡ moved_to history.old (end_of way.now)) }
+    ensures tree { OnErr result (history.new.tree ≡ history.old.tree) }
+{
+    limits(history);
+    history.along(way);
+    let mut set = unleaked_if(alloc, history, asked)?;
+    let mut list = Vec::new(alloc);
+    for place in (0..way.len()).rev() {
+        let moment = way[place];
+        history.along(&way[..place]);
+        push_moment(alloc, &mut list, &mut set, history, moment, asked)?;
+    }
+    history.along(way);
+    list.reverse();
+    Ok(list)
+}
+
+/// Puts the events of the moment's call behind the others, the last first, and takes the set of what is not leaked back to the
+/// moment's parent, at which the history stands. The set is there where leaks are asked for.
+fn push_moment(
+    alloc: Global,
+    list: &mut Vec<ObjectEvent>,
+    set: &mut BTreeSet<u64>,
+    history: &History,
+    moment: Moment,
+    asked: &HappeningSet,
+) -> Result<(), AllocError>
+    requires made { 0 < moment }
+    requires there { moment ≤ length history.now.tree.made }
+    requires parent { history.now.position ≡ parent_at history.now.tree.made moment }
+    requires unleaked { asked.now.leaked ≡ true → IsUnleakedSet (state_at history.now.tree.made moment) set.old }
+    ensures list { OnOk result (AddsMoment history.now.tree.made asked.now moment list.old.items list.new.items) }
+    ensures set { OnOk result (asked.now.leaked ≡ true → IsUnleakedSet (state_at history.now.tree.made history.now.position) set.new) }
+{
+    let leaked = leaked_by(alloc, set, history, moment, asked)?;
+    let mut here = events_at(alloc, history, moment, asked, &leaked)?;
+    here.reverse();
+    list.extend_from_slice(here.as_slice())?;
+    Ok(())
+}
+
+/// What is not leaked at the position, where leaks are asked for.
+fn unleaked_if(
+    alloc: Global,
+    history: &History,
+    asked: &HappeningSet,
+) -> Result<BTreeSet<u64>, AllocError>
+    ensures { IfOk result (λ set. asked.now.leaked ≡ true → IsUnleakedSet (state_at history.now.tree.made history.now.position) set) }
+{
+    if asked.leaked {
+        unleaked_at(alloc, history)
+    } else {
+        Ok(BTreeSet::new(alloc))
+    }
+}
+
+/// What the moment's call leaked, where leaks are asked for; the set goes back to the moment's parent.
+fn leaked_by(
+    alloc: Global,
+    set: &mut BTreeSet<u64>,
+    history: &History,
+    moment: Moment,
+    asked: &HappeningSet,
+) -> Result<BTreeSet<u64>, AllocError>
+    requires made { 0 < moment }
+    requires there { moment ≤ length history.now.tree.made }
+    requires parent { history.now.position ≡ parent_at history.now.tree.made moment }
+    requires unleaked { asked.now.leaked ≡ true → IsUnleakedSet (state_at history.now.tree.made moment) set.old }
+    ensures leaked { IfOk result (λ found. AreLeaked history.now.tree.made asked.now moment found) }
+    ensures set { OnOk result (asked.now.leaked ≡ true → IsUnleakedSet (state_at history.now.tree.made history.now.position) set.new) }
+{
+    if asked.leaked {
+        back_over(alloc, set, history, moment)
+    } else {
+        Ok(BTreeSet::new(alloc))
+    }
+}
+
+/// The events of the moment's call, where the history stands at the moment's parent, and these are what the call leaked.
+fn events_at(
+    alloc: Global,
+    history: &History,
+    moment: Moment,
+    asked: &HappeningSet,
+    leaked: &BTreeSet<u64>,
+) -> Result<Vec<ObjectEvent>, AllocError>
+    requires made { 0 < moment }
+    requires there { moment ≤ length history.now.tree.made }
+    requires parent { history.now.position ≡ parent_at history.now.tree.made moment }
+    requires leaked { AreLeaked history.now.tree.made asked.now moment leaked.now }
+    ensures { IfOk result (λ here. AreEvents history.now.tree.made asked.now (moment ∷ []) here.items) }
+{
+    limits(history);
+    match history.record_of(moment) {
+        Some(kept) => {
+            let koids = koids_of(kept, leaked)?;
+            events_among(alloc, kept, history.store(), moment, asked, leaked, koids)
+        }
+        None => Ok(Vec::new(alloc)),
+    }
+}
+
+/// The koids of what was leaked, and of the objects that have a row in the record.
+fn koids_of(kept: &Record, leaked: &BTreeSet<u64>) -> Result<BTreeSet<u64>, AllocError>
+    ensures has { IfOk result (λ koids. (x : ℕ) → contains nat_cmp koids x
+        ≡ (contains nat_cmp leaked.now x || list_any (is_object x) (map (λ e. e.0) kept.now))) }
+    ensures ordered { IfOk result (IsOrdered nat_cmp) }
+{
+    let mut koids = leaked.clone()?;
+    for key in kept.keys() {
+        add_object(&mut koids, key)?;
+    }
+    let _count = koids.len();
+    Ok(koids)
+}
+
+/// Adds the koid of the key, where it is that of an object.
+fn add_object(koids: &mut BTreeSet<u64>, key: &RowKey) -> Result<(), AllocError>
+    ensures { OnOk result ((x : ℕ) → contains nat_cmp koids.new x ≡ (contains nat_cmp koids.old x || is_object x key.now)) }
+{
+    match key {
+        RowKey::Object(koid) => {
+            koids.insert(koid.0)?;
+            Ok(())
+        }
+        _ => Ok(()),
+    }
+}
+
+/// The events of these objects in the moment's call, by its record and the store before it.
+fn events_among(
+    alloc: Global,
+    kept: &Record,
+    store: &Store,
+    moment: Moment,
+    asked: &HappeningSet,
+    leaked: &BTreeSet<u64>,
+    koids: BTreeSet<u64>,
+) -> Result<Vec<ObjectEvent>, AllocError>
+    ensures { IfOk result (λ here. here.items
+        ≡ flat_map (λ x. events_shown asked.now (change_over kept.now store.now.state moment leaked.now x)) koids.keys) }
+{
+    let mut left = koids;
+    let mut here = Vec::new(alloc);
+    'koids: while let Some(koid) = left.pop_first() {
+        let change = change_over(kept, store, moment, leaked, Koid(koid));
+        push_events(&mut here, asked, &change)?;
+    }
+    Ok(here)
+}
+
+/// What the moment's call did to the object, by its record and the store before it.
+fn change_over(
+    kept: &Record,
+    store: &Store,
+    moment: Moment,
+    leaked: &BTreeSet<u64>,
+    koid: Koid,
+) -> ObjectChange
+    ensures { result ≡ change_over kept.now store.now.state moment leaked.now koid }
+{
+    ObjectChange {
+        moment,
+        koid,
+        before: store.object(koid),
+        after: object_over(kept, store, koid),
+        leaked: leaked.contains(&koid.0),
+    }
+}
+
+/// The object on the other side of the record's call.
+fn object_over(kept: &Record, store: &Store, koid: Koid) -> Option<ObjectRow>
+    ensures { result ≡ object_over kept.now store.now.state koid }
+{
+    match kept.held(RowKey::Object(koid)) {
+        Some(held) => as_object(held),
+        None => store.object(koid),
+    }
+}
+
+/// The object of the row, if it is one.
+fn as_object(row: Option<&Row>) -> Option<ObjectRow>
+    ensures { result ≡ as_object (option_copied row.entry) }
+{
+    match row {
+        Some(Row::Object(found)) => Some(*found),
+        _ => None,
+    }
+}
+
+/// Puts what happened to the object behind the others, as far as it is asked for.
+fn push_events(
+    list: &mut Vec<ObjectEvent>,
+    asked: &HappeningSet,
+    change: &ObjectChange,
+) -> Result<(), AllocError>
+    ensures { OnOk result (list.new.items ≡ list.old.items ++ events_shown asked.now change.now) }
+{
+    push_event(list, asked, change, Happening::Made)?;
+    push_event(list, asked, change, Happening::Ended)?;
+    push_event(list, asked, change, Happening::PeerClosed)?;
+    push_event(list, asked, change, Happening::Leaked)
+}
+
+/// Puts the event behind the others, where it happened so and is asked for.
+fn push_event(
+    list: &mut Vec<ObjectEvent>,
+    asked: &HappeningSet,
+    change: &ObjectChange,
+    what: Happening,
+) -> Result<(), AllocError>
+    ensures { OnOk result (list.new.items ≡ list.old.items ++ event_shown asked.now change.now what) }
+{
+    if !is_asked(asked, what) || !shows(what, change) {
+        return Ok(());
+    }
+    match kind_shown(change) {
+        Some(kind) => {
+            let event = ObjectEvent {
+                moment: change.moment,
+                koid: change.koid,
+                what,
+                kind,
+            };
+            list.push(event)?;
+            Ok(())
+        }
+        None => Ok(()),
+    }
+}
+
+/// Whether it is asked for.
+fn is_asked(asked: &HappeningSet, what: Happening) -> bool
+    ensures { result ≡ is_asked asked.now what }
+{
+    match what {
+        Happening::Made => asked.made,
+        Happening::Ended => asked.ended,
+        Happening::PeerClosed => asked.peer_closed,
+        Happening::Leaked => asked.leaked,
+    }
+}
+
+/// Whether it happened so.
+fn shows(what: Happening, change: &ObjectChange) -> bool
+    ensures { result ≡ shows what change.now }
+{
+    match what {
+        Happening::Made => change.before.is_none() && change.after.is_some(),
+        Happening::Ended => is_living(&change.before) && !is_living(&change.after),
+        Happening::PeerClosed => !is_alone(&change.before) && is_alone(&change.after),
+        Happening::Leaked => change.leaked,
+    }
+}
+
+/// The kind after the call, or before it where the object is gone.
+fn kind_shown(change: &ObjectChange) -> Option<Kind>
+    ensures { result ≡ kind_shown change.now }
+{
+    match change.after {
+        Some(object) => Some(object.kind),
+        None => match change.before {
+            Some(object) => Some(object.kind),
+            None => None,
+        },
+    }
+}
+
+/// Whether there is an object that has not ended.
+fn is_living(object: &Option<ObjectRow>) -> bool
+    ensures { result ≡ on_object (λ o. is_live o.life) object.now }
+{
+    match object {
+        Some(found) => found.life == Life::Live,
+        None => false,
+    }
+}
+
+/// Whether there is an endpoint with the signal that its peer is closed.
+fn is_alone(object: &Option<ObjectRow>) -> bool
+    ensures { result ≡ on_object is_cut_off object.now }
+{
+    match object {
+        Some(found) => is_cut_off(found),
+        None => false,
+    }
+}
+
+/// Whether it is an endpoint with the signal that its peer is closed.
+fn is_cut_off(object: &ObjectRow) -> bool
+    ensures { result ≡ is_cut_off object.now }
+{
+    matches!(object.kind, Kind::Channel | Kind::EventPair)
+        && object.signals.contains(Signals::PEER_CLOSED)
+}

@@ -1,0 +1,17 @@
+//! What holds of the lines. Each law is the contract of a function that does nothing.
+ghost use Rattle.std.specs.Prelude.{◌≡◌, ℕ, false};
+ghost use Rattle.zt_rows.specs.declared.calls.Call.{Call};
+ghost use Rattle.zt_rows.specs.declared.calls.Reply.{Reply};
+ghost use Rattle.zt_rows.specs.declared.keys.RowKey.{RowKey};
+ghost use Rattle.zt_rows.specs.declared.rows.Row.{Row};
+ghost use Rattle.zt_text.specs.Answers.{row_line, shown_reply};
+ghost use Rattle.zt_text.specs.Calls.{shown_call};
+ghost use Rattle.zt_look.specs.NamedTexts.{line_of_row, call_text, reply_text};
+
+/// Where names are not asked for, a row, a call and a reply are shown as the lines of rows, of calls and of replies are.
+#[tactic(auto, using(crate::proofs::MaskLaws::row_by_masks, crate::proofs::MaskLaws::call_by_masks, crate::proofs::MaskLaws::reply_by_masks))]
+pub fn masks_are_shown_as_ever()
+    ensures rows { (key : RowKey) (row : Row) → line_of_row false (key, row) ≡ row_line (key, row) }
+    ensures calls { (process : ℕ) (call : Call) → call_text false process call ≡ shown_call process call }
+    ensures replies { (reply : Reply) → reply_text false reply ≡ shown_reply reply }
+{}

@@ -1,0 +1,395 @@
+//! The lines of the answers. Each function gives the text of one answer's line or lines, with rights and signals by their
+//! names, where these are asked for.
+ghost use Rattle.std.specs.Prelude.{◌≡◌, ◌++◌, ◌∷◌, IfOk, OnOk, string_bytes};
+ghost use Rattle.std.specs.Option.{option_map};
+ghost use Rattle.std.specs.Fmt.{decimal};
+ghost use Rattle.std.specs.List.{flat_map};
+ghost use Rattle.zt_text.specs.ShownNumbers.{words};
+ghost use Rattle.zt_look.specs.NamedTexts.{line_of_row};
+ghost use Rattle.zt_look.specs.ProofsOnly.SpacedWords.{behind_spaces};
+ghost use Rattle.zt_look.specs.Lines.{call_made_line, marked_line, change_lines, handle_line, event_line, when_line, content_line, written_line, end_line, message_lines, branch_line, object_line, holder_lines, object_lines, call_count_line, fate_line, happening_word, end_word, fate_word, when_words, call_words, leaves_words};
+
+mod calls;
+mod names;
+mod rows;
+
+use crate::call_counts::CallCount;
+use crate::call_list::CallMade;
+use crate::changes::Change;
+use crate::event_list::ObjectEvent;
+use crate::fates::{Fate, ObjectFate};
+use crate::handle_list::Handle;
+use crate::message_list::{MessageEnd, QueuedMessage};
+use crate::object_look::ObjectLook;
+use calls::{put_call, put_reply};
+use names::put_rights;
+use rows::{put_content, put_row};
+use std::alloc::{AllocError, Global};
+use zt_rows::{Call, Happening, Koid, Message, Moment, ObjectRow, Row, RowKey, Support};
+use zt_text::put_supports;
+
+/// A call of a path: its moment, the call, and what it answered.
+pub fn print_call_made(alloc: Global, made: &CallMade, names: bool) -> Result<Vec<u8>, AllocError>
+    ensures { IfOk result (λ text. text.items ≡ call_made_line names made.now) }
+{
+    let mut text = String::new(alloc);
+    write!(text, "{} ", made.moment.0)?;
+    put_call(&mut text, made.process, &made.call, names)?;
+    text.push_str(" => ")?;
+    put_reply(&mut text, &made.reply, names)?;
+    text.push_str("\n")?;
+    Ok(text.into_bytes())
+}
+
+/// A row that a call changed: behind `-` as it was, behind `+` as it is.
+pub fn print_change(alloc: Global, change: &Change, names: bool) -> Result<Vec<u8>, AllocError>
+    ensures { IfOk result (λ text. text.items ≡ change_lines names change.now) }
+{
+    let mut text = String::new(alloc);
+    put_marked(&mut text, "- ", change.key, &change.before, names)?;
+    put_marked(&mut text, "+ ", change.key, &change.after, names)?;
+    Ok(text.into_bytes())
+}
+
+/// A row behind a mark, where there is one.
+fn put_marked(
+    text: &mut String,
+    mark: &str,
+    key: RowKey,
+    row: &Option<Row>,
+    names: bool,
+) -> Result<(), AllocError>
+    ensures { OnOk result (string_bytes text.new ≡ string_bytes text.old ++ marked_line names mark.now key row.now) }
+{
+    match row {
+        None => Ok(()),
+        Some(row) => {
+            text.push_str(mark)?;
+            put_row(text, key, row, names)
+        }
+    }
+}
+
+/// A handle of a process: its value, its object, and what it allows.
+pub fn print_handle(alloc: Global, handle: &Handle, names: bool) -> Result<Vec<u8>, AllocError>
+    ensures { IfOk result (λ text. text.items ≡ handle_line names handle.now) }
+{
+    let mut text = String::new(alloc);
+    write!(
+        text,
+        "{} {} {} ",
+        handle.value.0,
+        handle.koid.0,
+        handle.kind.word()
+    )?;
+    put_rights(&mut text, handle.rights.0, names)?;
+    text.push_str("\n")?;
+    Ok(text.into_bytes())
+}
+
+/// What happened to an object, with the call of the moment.
+pub fn print_event(
+    alloc: Global,
+    event: &ObjectEvent,
+    process: Koid,
+    call: &Call,
+    names: bool,
+) -> Result<Vec<u8>, AllocError>
+    ensures { IfOk result (λ text. text.items ≡ event_line names event.now process call.now) }
+{
+    let mut text = String::new(alloc);
+    write!(
+        text,
+        "{} {} {} {} ",
+        event.moment.0,
+        happening_word(event.what),
+        event.koid.0,
+        event.kind.word()
+    )?;
+    put_call(&mut text, process, call, names)?;
+    text.push_str("\n")?;
+    Ok(text.into_bytes())
+}
+
+/// The word of a happening.
+fn happening_word(what: Happening) -> &'static str
+    ensures { result.now ≡ happening_word what }
+{
+    match what {
+        Happening::Made => "made",
+        Happening::Ended => "ended",
+        Happening::PeerClosed => "peer_closed",
+        Happening::Leaked => "leaked",
+    }
+}
+
+/// When it happened to an object, with the call of the moment, or that it did not.
+pub fn print_when(
+    alloc: Global,
+    what: Happening,
+    found: &Option<(Moment, Koid, &Call)>,
+    names: bool,
+) -> Result<Vec<u8>, AllocError>
+    ensures { IfOk result (λ text. text.items ≡ when_line names what (option_map (λ e. (e.0, e.1, e.2.now)) found.now)) }
+{
+    let mut text = String::new(alloc);
+    text.push_str(happening_word(what))?;
+    put_found(&mut text, found, names)?;
+    text.push_str("\n")?;
+    Ok(text.into_bytes())
+}
+
+/// A moment with its call, behind a space, or that there is none.
+fn put_found(
+    text: &mut String,
+    found: &Option<(Moment, Koid, &Call)>,
+    names: bool,
+) -> Result<(), AllocError>
+    ensures { OnOk result (string_bytes text.new ≡ string_bytes text.old
+        ++ (32 ∷ words (when_words names (option_map (λ e. (e.0, e.1, e.2.now)) found.now)))) }
+{
+    match found {
+        None => text.push_str(" never"),
+        Some((moment, process, call)) => {
+            write!(text, " {} ", moment.0)?;
+            put_call(text, *process, call, names)
+        }
+    }
+}
+
+/// A message that was queued: what it is, the call that wrote it, with its process, and what became of it, with the call
+/// that did it.
+pub fn print_queued_message(
+    alloc: Global,
+    queued: &QueuedMessage,
+    process: Koid,
+    written: &Call,
+    ended: &Option<(Koid, &Call)>,
+    names: bool,
+) -> Result<Vec<u8>, AllocError>
+    ensures { IfOk result (λ text. text.items
+        ≡ message_lines names queued.now (process, written.now) (option_map (λ e. (e.0, e.1.now)) ended.now)) }
+{
+    let mut text = String::new(alloc);
+    put_message(&mut text, queued.number, &queued.message, names)?;
+    put_written(&mut text, queued, process, written, names)?;
+    put_end(&mut text, queued, ended, names)?;
+    Ok(text.into_bytes())
+}
+
+/// The line of what a message carries.
+fn put_message(
+    text: &mut String,
+    number: u64,
+    message: &Message,
+    names: bool,
+) -> Result<(), AllocError>
+    ensures { OnOk result (string_bytes text.new ≡ string_bytes text.old ++ content_line names number message.now) }
+{
+    write!(text, "{number} message ")?;
+    put_content(text, message, names)?;
+    text.push_str("\n")
+}
+
+/// The line of the call that wrote a message.
+fn put_written(
+    text: &mut String,
+    queued: &QueuedMessage,
+    process: Koid,
+    call: &Call,
+    names: bool,
+) -> Result<(), AllocError>
+    ensures { OnOk result (string_bytes text.new ≡ string_bytes text.old
+        ++ written_line names queued.now.number queued.now.written (process, call.now)) }
+{
+    write!(text, "{} written {} ", queued.number, queued.written.0)?;
+    put_call(text, process, call, names)?;
+    text.push_str("\n")
+}
+
+/// The line of what became of a message.
+fn put_end(
+    text: &mut String,
+    queued: &QueuedMessage,
+    by: &Option<(Koid, &Call)>,
+    names: bool,
+) -> Result<(), AllocError>
+    ensures { OnOk result (string_bytes text.new ≡ string_bytes text.old
+        ++ end_line names queued.now.number queued.now.ended (option_map (λ e. (e.0, e.1.now)) by.now)) }
+{
+    match queued.ended {
+        None => writeln!(text, "{} waits", queued.number),
+        Some((moment, end)) => {
+            write!(text, "{} {} {}", queued.number, end_word(end), moment.0)?;
+            put_by(text, by, names)?;
+            text.push_str("\n")
+        }
+    }
+}
+
+/// A call behind a space, where one is told.
+fn put_by(text: &mut String, by: &Option<(Koid, &Call)>, names: bool) -> Result<(), AllocError>
+    ensures { OnOk result (string_bytes text.new ≡ string_bytes text.old ++ behind_spaces (call_words names (option_map (λ e. (e.0, e.1.now)) by.now))) }
+{
+    match by {
+        None => Ok(()),
+        Some((process, call)) => {
+            text.push_str(" ")?;
+            put_call(text, *process, call, names)
+        }
+    }
+}
+
+/// The word of what became of a message.
+fn end_word(end: MessageEnd) -> &'static str
+    ensures { result.now ≡ end_word end }
+{
+    match end {
+        MessageEnd::Read => "read",
+        MessageEnd::Discarded => "discarded",
+        MessageEnd::Lost => "lost",
+    }
+}
+
+/// A branch: its name and its head, and which branch it leaves at which moment. The names may be of any bytes.
+pub fn print_branch(
+    alloc: Global,
+    name: &[u8],
+    head: Moment,
+    leaves: &Option<(&[u8], Moment)>,
+) -> Result<Vec<u8>, AllocError>
+    ensures { IfOk result (λ text. text.items ≡ branch_line name.now head (option_map (λ e. (e.0.now, e.1)) leaves.now)) }
+{
+    let mut text = Vec::from_slice(alloc, b"branch ")?;
+    text.extend_from_slice(name)?;
+    push_moment(&mut text, head)?;
+    push_leaves(&mut text, leaves)?;
+    text.push(b'\n')?;
+    Ok(text)
+}
+
+/// Which branch a branch leaves, and at which moment, behind a space, where it leaves one.
+fn push_leaves(text: &mut Vec<u8>, leaves: &Option<(&[u8], Moment)>) -> Result<(), AllocError>
+    ensures { OnOk result (text.new.items ≡ text.old.items ++ behind_spaces (leaves_words (option_map (λ e. (e.0.now, e.1)) leaves.now))) }
+{
+    match leaves {
+        None => Ok(()),
+        Some((name, moment)) => {
+            text.extend_from_slice(b" leaves ")?;
+            text.extend_from_slice(name)?;
+            push_moment(text, *moment)
+        }
+    }
+}
+
+/// A moment behind a space.
+fn push_moment(text: &mut Vec<u8>, moment: Moment) -> Result<(), AllocError>
+    ensures { OnOk result (text.new.items ≡ text.old.items ++ (32 ∷ decimal moment)) }
+{
+    let mut number = String::new(*text.allocator());
+    write!(number, " {}", moment.0)?;
+    text.extend_from_slice(number.as_bytes())
+}
+
+/// An object: its row, what keeps it, and the rows of its messages, packets and waits.
+pub fn print_object(alloc: Global, object: &ObjectLook, names: bool) -> Result<Vec<u8>, AllocError>
+    ensures { IfOk result (λ text. text.items ≡ object_lines names object.now) }
+{
+    let mut text = String::new(alloc);
+    put_object_line(&mut text, object.koid, object.row, names)?;
+    put_holders(
+        &mut text,
+        object.koid,
+        object.row,
+        object.holders.as_slice(),
+    )?;
+    put_rows(&mut text, object.messages.as_slice(), names)?;
+    put_rows(&mut text, object.packets.as_slice(), names)?;
+    put_rows(&mut text, object.waits.as_slice(), names)?;
+    Ok(text.into_bytes())
+}
+
+/// The row of an object, or that it has none.
+fn put_object_line(
+    text: &mut String,
+    koid: Koid,
+    row: Option<ObjectRow>,
+    names: bool,
+) -> Result<(), AllocError>
+    ensures { OnOk result (string_bytes text.new ≡ string_bytes text.old ++ object_line names koid row) }
+{
+    match row {
+        None => writeln!(text, "object {} gone", koid.0),
+        Some(object) => put_row(text, RowKey::Object(koid), &Row::Object(object), names),
+    }
+}
+
+/// What keeps an object, where it has a row.
+fn put_holders(
+    text: &mut String,
+    koid: Koid,
+    row: Option<ObjectRow>,
+    holders: &[Support],
+) -> Result<(), AllocError>
+    ensures { OnOk result (string_bytes text.new ≡ string_bytes text.old ++ holder_lines koid row holders.now) }
+{
+    match row {
+        None => Ok(()),
+        Some(_) => {
+            writeln!(text, "holders {} {}", koid.0, holders.len())?;
+            put_supports(text, holders)
+        }
+    }
+}
+
+/// A line for each row.
+fn put_rows(text: &mut String, rows: &[(RowKey, Row)], names: bool) -> Result<(), AllocError>
+    ensures { OnOk result (string_bytes text.new ≡ string_bytes text.old ++ flat_map (line_of_row names) rows.now) }
+{
+    for (key, row) in rows {
+        put_row(text, *key, row, names)?;
+    }
+    Ok(())
+}
+
+/// How often the calls of a process were answered with a status.
+pub fn print_call_count(alloc: Global, count: &CallCount) -> Result<Vec<u8>, AllocError>
+    ensures { IfOk result (λ text. text.items ≡ call_count_line count.now) }
+{
+    let mut text = String::new(alloc);
+    writeln!(
+        text,
+        "calls {} {} {}",
+        count.process.0,
+        count.status.word(),
+        count.count
+    )?;
+    Ok(text.into_bytes())
+}
+
+/// What became of an object, and since which moment.
+pub fn print_fate(alloc: Global, object: &ObjectFate) -> Result<Vec<u8>, AllocError>
+    ensures { IfOk result (λ text. text.items ≡ fate_line object.now) }
+{
+    let mut text = String::new(alloc);
+    writeln!(
+        text,
+        "{} {} {} {}",
+        fate_word(object.fate),
+        object.koid.0,
+        object.kind.word(),
+        object.since.0
+    )?;
+    Ok(text.into_bytes())
+}
+
+/// The word of a fate.
+fn fate_word(fate: Fate) -> &'static str
+    ensures { result.now ≡ fate_word fate }
+{
+    match fate {
+        Fate::Alive => "alive",
+        Fate::Leaked => "leaked",
+        Fate::Dead => "dead",
+    }
+}

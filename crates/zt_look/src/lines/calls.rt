@@ -1,0 +1,148 @@
+//! The texts of calls and replies, with rights and signals by their names, where these are asked for.
+ghost use Rattle.std.specs.Prelude.{◌≡◌, ◌++◌, ◌∷◌, [], None, OnOk, string_bytes, codes};
+ghost use Rattle.std.specs.Fmt.{decimal};
+ghost use Rattle.zt_text.specs.ShownNumbers.{words};
+ghost use Rattle.zt_text.specs.Calls.{flag_words};
+ghost use Rattle.zt_look.specs.Names.{shown_rights, shown_signals};
+ghost use Rattle.zt_look.specs.NamedTexts.{call_text, reply_text};
+
+use crate::lines::names::{put_rights, put_signals};
+use crate::lines::rows::put_packet;
+use std::alloc::AllocError;
+use zt_bits::Signals;
+use zt_rows::{Call, HandleValue, Koid, Reply};
+
+/// A call of a process.
+#[tactic(auto, unfolding(crate::specs::NamedTexts::call_text, zt_text::specs::Calls::shown_call))]
+pub(crate) fn put_call(
+    text: &mut String,
+    process: Koid,
+    call: &Call,
+    names: bool,
+) -> Result<(), AllocError>
+    ensures { OnOk result (string_bytes text.new ≡ string_bytes text.old ++ call_text names process call.now) }
+{
+    match *call {
+        Call::HandleDuplicate { handle, rights } => {
+            put_asked(text, process, "handle_duplicate", handle, rights, names)
+        }
+        Call::HandleReplace { handle, rights } => {
+            put_asked(text, process, "handle_replace", handle, rights, names)
+        }
+        Call::ObjectSignal { handle, clear, set } => {
+            put_signaled(text, process, "object_signal", handle, clear, set, names)
+        }
+        Call::ObjectSignalPeer { handle, clear, set } => {
+            put_signaled(
+                text,
+                process,
+                "object_signal_peer",
+                handle,
+                clear,
+                set,
+                names,
+            )
+        }
+        Call::ObjectWaitAsync {
+            handle,
+            port,
+            key,
+            signals,
+            edge,
+        } => put_wait_async(
+            text,
+            process,
+            "object_wait_async",
+            handle,
+            port,
+            key,
+            signals,
+            edge,
+            names,
+        ),
+        _ => zt_text::put_call(text, process, call),
+    }
+}
+
+/// A call that asks for a handle's rights.
+fn put_asked(
+    text: &mut String,
+    process: Koid,
+    name: &str,
+    handle: HandleValue,
+    rights: u32,
+    names: bool,
+) -> Result<(), AllocError>
+    ensures { OnOk result (string_bytes text.new ≡ string_bytes text.old
+        ++ words (decimal process ∷ name.now ∷ decimal handle ∷ shown_rights names rights ∷ [])) }
+{
+    write!(text, "{} {name} {} ", process.0, handle.0)?;
+    put_rights(text, rights, names)
+}
+
+/// A call that takes signals away and sets others.
+fn put_signaled(
+    text: &mut String,
+    process: Koid,
+    name: &str,
+    handle: HandleValue,
+    clear: Signals,
+    set: Signals,
+    names: bool,
+) -> Result<(), AllocError>
+    ensures { OnOk result (string_bytes text.new ≡ string_bytes text.old
+        ++ words (decimal process ∷ name.now ∷ decimal handle ∷ shown_signals names None clear.0 ∷ shown_signals names None set.0 ∷ [])) }
+{
+    write!(text, "{} {name} {} ", process.0, handle.0)?;
+    put_signals(text, None, clear, names)?;
+    text.push_str(" ")?;
+    put_signals(text, None, set, names)
+}
+
+/// A call that waits for signals of what a handle names, with a packet of this key to a port.
+fn put_wait_async(
+    text: &mut String,
+    process: Koid,
+    name: &str,
+    handle: HandleValue,
+    port: HandleValue,
+    key: u64,
+    signals: Signals,
+    edge: bool,
+    names: bool,
+) -> Result<(), AllocError>
+    ensures { OnOk result (string_bytes text.new ≡ string_bytes text.old
+        ++ words (decimal process ∷ name.now ∷ decimal handle ∷ decimal port ∷ decimal key
+        ∷ shown_signals names None signals.0 ∷ flag_words (codes "edge") edge)) }
+{
+    write!(text, "{} {name} {} {} {key} ", process.0, handle.0, port.0)?;
+    put_waited(text, signals, edge, names)
+}
+
+/// The signals of a wait, and the word of one on an edge.
+fn put_waited(
+    text: &mut String,
+    signals: Signals,
+    edge: bool,
+    names: bool,
+) -> Result<(), AllocError>
+    ensures { OnOk result (string_bytes text.new ≡ string_bytes text.old
+        ++ words (shown_signals names None signals.0 ∷ flag_words (codes "edge") edge)) }
+{
+    put_signals(text, None, signals, names)?;
+    if edge { text.push_str(" edge") } else { Ok(()) }
+}
+
+/// The status of a reply and its values.
+#[tactic(auto, unfolding(crate::specs::NamedTexts::reply_text))]
+pub(crate) fn put_reply(text: &mut String, reply: &Reply, names: bool) -> Result<(), AllocError>
+    ensures { OnOk result (string_bytes text.new ≡ string_bytes text.old ++ reply_text names reply.now) }
+{
+    match reply {
+        Reply::Packet(packet) => {
+            text.push_str("ok ")?;
+            put_packet(text, packet, names)
+        }
+        _ => zt_text::put_reply(text, reply),
+    }
+}

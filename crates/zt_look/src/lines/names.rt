@@ -1,0 +1,130 @@
+//! Rights and signals by their names, where these are asked for, or as masks.
+ghost use Rattle.std.specs.Prelude.{◌≡◌, ◌++◌, ◌<◌, map, OnOk, string_bytes};
+ghost use Rattle.zt_look.specs.Names.{shown_bits, shown_rights, shown_signals, signal_names, right_names};
+
+use std::alloc::AllocError;
+use zt_bits::{Kind, Signals};
+use zt_text::put_mask;
+
+/// The mask of a bit, and the bit's name.
+type Name = (u32, &'static str);
+
+/// The rights, as a handle has them and as they are asked for.
+static RIGHTS: [Name; 12] = [
+    (0x1, "DUPLICATE"),
+    (0x2, "TRANSFER"),
+    (0x4, "READ"),
+    (0x8, "WRITE"),
+    (0x200, "DESTROY"),
+    (0x1000, "SIGNAL"),
+    (0x2000, "SIGNAL_PEER"),
+    (0x4000, "WAIT"),
+    (0x8000, "INSPECT"),
+    (0x10000, "MANAGE_JOB"),
+    (0x20000, "MANAGE_PROCESS"),
+    (0x80000000, "SAME_RIGHTS"),
+];
+
+/// The signals of an object, where it is not known to be a job or a process.
+static SIGNALS: [Name; 14] = [
+    (0x1, "READABLE"),
+    (0x2, "WRITABLE"),
+    (0x4, "PEER_CLOSED"),
+    (0x8, "SIGNALED"),
+    (0x10, "NO_JOBS"),
+    (0x20, "NO_PROCESSES"),
+    (0x1000000, "USER_0"),
+    (0x2000000, "USER_1"),
+    (0x4000000, "USER_2"),
+    (0x8000000, "USER_3"),
+    (0x10000000, "USER_4"),
+    (0x20000000, "USER_5"),
+    (0x40000000, "USER_6"),
+    (0x80000000, "USER_7"),
+];
+
+/// The signals of a job or a process.
+static TASK_SIGNALS: [Name; 14] = [
+    (0x1, "READABLE"),
+    (0x2, "WRITABLE"),
+    (0x4, "PEER_CLOSED"),
+    (0x8, "TERMINATED"),
+    (0x10, "NO_JOBS"),
+    (0x20, "NO_PROCESSES"),
+    (0x1000000, "USER_0"),
+    (0x2000000, "USER_1"),
+    (0x4000000, "USER_2"),
+    (0x8000000, "USER_3"),
+    (0x10000000, "USER_4"),
+    (0x20000000, "USER_5"),
+    (0x40000000, "USER_6"),
+    (0x80000000, "USER_7"),
+];
+
+/// Rights by their names, where these are asked for, or as a mask.
+#[tactic(auto, unfolding(crate::specs::Names::shown_rights))]
+pub(crate) fn put_rights(text: &mut String, rights: u32, names: bool) -> Result<(), AllocError>
+    ensures { OnOk result (string_bytes text.new ≡ string_bytes text.old ++ shown_rights names rights) }
+{
+    if names {
+        put_bits(text, right_names(), rights)
+    } else {
+        put_mask(text, rights)
+    }
+}
+
+/// Signals of an object of a kind, if it is known, by their names, where these are asked for, or as a mask.
+#[tactic(auto, unfolding(crate::specs::Names::shown_signals))]
+pub(crate) fn put_signals(
+    text: &mut String,
+    kind: Option<Kind>,
+    signals: Signals,
+    names: bool,
+) -> Result<(), AllocError>
+    ensures { OnOk result (string_bytes text.new ≡ string_bytes text.old ++ shown_signals names kind signals.0) }
+{
+    if names {
+        put_bits(text, signal_names(kind), signals.0)
+    } else {
+        put_mask(text, signals.0)
+    }
+}
+
+/// The rights.
+fn right_names() -> &'static [Name]
+    ensures { map (λ e. (e.0, e.1.now)) result.now ≡ right_names }
+{
+    &RIGHTS
+}
+
+/// The signals of an object of a kind, if it is known.
+fn signal_names(kind: Option<Kind>) -> &'static [Name]
+    ensures { map (λ e. (e.0, e.1.now)) result.now ≡ signal_names kind }
+{
+    match kind {
+        Some(Kind::Job | Kind::Process) => &TASK_SIGNALS,
+        _ => &SIGNALS,
+    }
+}
+
+/// The bits of a mask by their names with a bar between, and behind them those that have no name.
+fn put_bits(text: &mut String, names: &[Name], bits: u32) -> Result<(), AllocError>
+    ensures { OnOk result (string_bytes text.new ≡ string_bytes text.old ++ shown_bits (map (λ e. (e.0, e.1.now)) names.now) bits) }
+{
+    if bits == 0 {
+        return text.push_str("NONE");
+    }
+    let mut left = bits;
+    for (bit, name) in names {
+        if left & *bit == 0 {
+            continue;
+        }
+        text.push_str(name)?;
+        left = left.saturating_sub(*bit);
+        if left == 0 {
+            return Ok(());
+        }
+        text.push_str("|")?;
+    }
+    put_mask(text, left)
+}

@@ -1,0 +1,372 @@
+//! The search for what is unleaked: a set of koids grows by what rows name, each koid that comes into it is looked into once.
+ghost use Rattle.std.specs.Prelude.{◌≡◌, ◌≤◌, ◌<◌, ℕ, true, not, ◌&&◌, ◌||◌, Some, OnOk, IfOk, length, [], List};
+ghost use Rattle.std.specs.Ordering.{nat_cmp};
+ghost use Rattle.std.specs.BTreeSet.{contains, IsOrdered};
+ghost use Rattle.zt_rows.specs.declared.keys.RowKey.TheVariants as keys;
+ghost use Rattle.zt_rows.specs.Keys.{first_number};
+ghost use Rattle.zt_rows.specs.Consistent.{IsConsistent};
+ghost use Rattle.zt_rows.specs.Reads.{message, object};
+ghost use Rattle.zt_rows.specs.State.{State};
+ghost use Rattle.zt_rows.specs.Tests.{among, is_task, next_at};
+ghost use Rattle.zt_rows.specs.Reads.{is_live_process};
+ghost use Rattle.zt_look.specs.ProofsOnly.UnleakedSearch.{Adds, AreBetween, AreThere, IsNamedAt, IsNamedBy, IsNamedHere, IsOpen, IsSearched, IsSeeded, WaitInside, begun_by, in_set, is_gone, is_gone_at, is_there_after, itself, koid_of, koids, koids_in, named_by, parents};
+
+use std::alloc::{AllocError, Global};
+use std::collections::BTreeSet;
+use zt_bits::Kind;
+use zt_rows::{Held, Koid, Life, ObjectRow, ROOT_JOB, RowKey};
+use zt_store::{Record, Store};
+
+/// The set as far as it is known, those in it that were not looked into, and those that came into it and are there after
+/// the call.
+#[derive(Drop)]
+pub(crate) struct Search {
+    pub(crate) set: BTreeSet<u64>,
+    pub(crate) waiting: Vec<Koid>,
+    pub(crate) found: BTreeSet<u64>,
+}
+
+/// Goes over the rows under these keys, and then on, until nothing more comes into the set.
+pub(crate) fn search_from(
+    search: &mut Search,
+    kept: &Record,
+    store: &Store,
+    all: &[RowKey],
+) -> Result<(), AllocError>
+    ensures { OnOk result (IsSeeded store.now.state kept.now all.now search.old search.new) }
+{
+    for key in all {
+        add_by(search, kept, store, *key)?;
+    }
+    Ok(())
+}
+
+/// Looks into what waits, and into what comes into the set then.
+pub(crate) fn go_on(search: &mut Search, kept: &Record, store: &Store) -> Result<(), AllocError>
+    requires consistent { IsConsistent store.now.state }
+    requires opened { IsOpen store.now.state search.old }
+    requires inside { WaitInside search.old }
+    requires there { AreThere store.now.state search.old }
+    ensures searched { OnOk result (IsSearched store.now.state kept.now search.old search.new) }
+    ensures ended { OnOk result (search.new.waiting.items ≡ []) }
+{
+    while let Some(koid) = search.waiting.pop() {
+        look_into(search, kept, store, koid)?;
+        in_order(search);
+    }
+    Ok(())
+}
+
+/// What holds of the set: its koids rise.
+fn in_order(search: &Search)
+    ensures { IsOrdered nat_cmp search.now.set }
+{
+    search.set.len();
+}
+
+/// Adds what the row under the key names.
+fn add_by(search: &mut Search, kept: &Record, store: &Store, key: RowKey) -> Result<(), AllocError>
+    ensures { OnOk result (Adds (IsNamedHere store.now.state (in_set search.old) key) kept.now search.old search.new) }
+{
+    let (begun, asked) = (key, key);
+    add_begun(search, kept, store, begun)?;
+    let koid = owner(asked);
+    if has(search, koid) {
+        add_named(search, kept, store, key)?;
+        Ok(())
+    } else {
+        Ok(())
+    }
+}
+
+/// The number that the key begins with: that of the object whose row it is, or at which the message waits.
+fn owner(key: RowKey) -> Koid
+    ensures { result ≡ first_number key }
+{
+    match key {
+        RowKey::Counters => Koid(0),
+        RowKey::Object(koid) => koid,
+        RowKey::Entry(process, _) => process,
+        RowKey::Msg(endpoint, _) => endpoint,
+        RowKey::Packet(port, _) => port,
+        RowKey::Wait(number) => Koid(number),
+    }
+}
+
+/// Whether the set has the koid.
+fn has(search: &Search, koid: Koid) -> bool
+    ensures { result ≡ in_set search.now koid }
+{
+    let number = koid.0;
+    search.set.contains(&number)
+}
+
+/// Adds what the row under the key names in any case: an entry what the process holds, the root job and a live process
+/// themselves.
+fn add_begun(
+    search: &mut Search,
+    kept: &Record,
+    store: &Store,
+    key: RowKey,
+) -> Result<(), AllocError>
+    ensures { OnOk result (Adds (λ x. among (begun_by store.now.state key) x ≡ true) kept.now search.old search.new) }
+{
+    match key {
+        RowKey::Object(koid) => add_itself(search, kept, koid, store.object(koid)),
+        RowKey::Entry(process, handle) => add_held(search, kept, store.entry(process, handle)),
+        _ => Ok(()),
+    }
+}
+
+/// Adds the koid where the object keeps itself.
+fn add_itself(
+    search: &mut Search,
+    kept: &Record,
+    koid: Koid,
+    object: Option<ObjectRow>,
+) -> Result<(), AllocError>
+    ensures { OnOk result (Adds (λ x. among (itself koid object) x ≡ true) kept.now search.old search.new) }
+{
+    match object {
+        Some(object) => {
+            if koid == ROOT_JOB || is_live_process(&object) {
+                add(search, kept, koid)
+            } else {
+                Ok(())
+            }
+        }
+        None => Ok(()),
+    }
+}
+
+/// Adds what the handle names, if there is one.
+fn add_held(search: &mut Search, kept: &Record, held: Option<Held>) -> Result<(), AllocError>
+    ensures { OnOk result (Adds (λ x. among (koid_of held) x ≡ true) kept.now search.old search.new) }
+{
+    match held {
+        Some(held) => add(search, kept, held.koid),
+        None => Ok(()),
+    }
+}
+
+/// Adds what the row under the key names where its object is unleaked.
+fn add_named(
+    search: &mut Search,
+    kept: &Record,
+    store: &Store,
+    key: RowKey,
+) -> Result<(), AllocError>
+    ensures { OnOk result (Adds (λ x. among (named_by store.now.state key) x ≡ true) kept.now search.old search.new) }
+{
+    match key {
+        RowKey::Object(koid) => add_parent(search, kept, store.object(koid)),
+        RowKey::Msg(endpoint, number) => add_message(search, kept, store, endpoint, number),
+        _ => Ok(()),
+    }
+}
+
+/// Adds the parent of a job or a process, if it has one.
+fn add_parent(
+    search: &mut Search,
+    kept: &Record,
+    object: Option<ObjectRow>,
+) -> Result<(), AllocError>
+    ensures { OnOk result (Adds (λ x. among (parents object) x ≡ true) kept.now search.old search.new) }
+{
+    match object {
+        Some(object) => {
+            if is_task(&object) && object.link != Koid(0) {
+                add(search, kept, object.link)
+            } else {
+                Ok(())
+            }
+        }
+        None => Ok(()),
+    }
+}
+
+/// Adds what a message names, if there is one of this number at the endpoint.
+fn add_message(
+    search: &mut Search,
+    kept: &Record,
+    store: &Store,
+    endpoint: Koid,
+    number: u64,
+) -> Result<(), AllocError>
+    ensures { OnOk result (Adds (λ x. among (koids_in (message store.now.state endpoint number)) x ≡ true) kept.now search.old search.new) }
+{
+    match store.message(endpoint, number) {
+        Some(message) => add_handles(search, kept, message.handles().as_slice()),
+        None => Ok(()),
+    }
+}
+
+/// Adds what the handles name.
+fn add_handles(search: &mut Search, kept: &Record, handles: &[Held]) -> Result<(), AllocError>
+    ensures { OnOk result (Adds (λ x. among (koids handles.now) x ≡ true) kept.now search.old search.new) }
+{
+    for held in handles {
+        add(search, kept, held.koid)?;
+    }
+    Ok(())
+}
+
+/// Adds what the rows of an object name: its parent, and what the messages that wait at it have.
+fn look_into(
+    search: &mut Search,
+    kept: &Record,
+    store: &Store,
+    koid: Koid,
+) -> Result<(), AllocError>
+    requires { IsConsistent store.now.state }
+    ensures { OnOk result (Adds (IsNamedBy store.now.state koid) kept.now search.old search.new) }
+{
+    add_parent(search, kept, store.object(koid))?;
+    add_messages(search, kept, store, koid)?;
+    Ok(())
+}
+
+/// Adds what the messages that wait at the endpoint name, at the cost of its queue.
+fn add_messages(
+    search: &mut Search,
+    kept: &Record,
+    store: &Store,
+    endpoint: Koid,
+) -> Result<(), AllocError>
+    requires { IsConsistent store.now.state }
+    ensures { OnOk result (Adds (IsNamedAt store.now.state endpoint) kept.now search.old search.new) }
+{
+    match store.first_message(endpoint) {
+        Some(first) => {
+            let next = next_at(store, endpoint);
+            add_between(search, kept, store, endpoint, first, next)
+        }
+        None => Ok(()),
+    }
+}
+
+/// The next number of what the object owns, or 0 where there is no object.
+fn next_at(store: &Store, koid: Koid) -> u64
+    ensures { result ≡ next_at store.now.state koid }
+{
+    match store.object(koid) {
+        Some(object) => object.next,
+        None => 0,
+    }
+}
+
+/// Adds what the messages at the endpoint name, where they have numbers from the first one on and below the next.
+fn add_between(
+    search: &mut Search,
+    kept: &Record,
+    store: &Store,
+    endpoint: Koid,
+    first: u64,
+    next: u64,
+) -> Result<(), AllocError>
+    requires { AreBetween store.now.state endpoint first next }
+    ensures { OnOk result (Adds (IsNamedAt store.now.state endpoint) kept.now search.old search.new) }
+{
+    for number in first..next {
+        add_message(search, kept, store, endpoint, number)?;
+    }
+    Ok(())
+}
+
+/// Adds the koid where the set does not have it: it waits then, and is found where it is there after the call.
+fn add(search: &mut Search, kept: &Record, koid: Koid) -> Result<(), AllocError>
+    ensures { OnOk result (Adds (λ x. x ≡ koid) kept.now search.old search.new) }
+{
+    if search.set.insert(koid.0)? {
+        search.waiting.push(koid)?;
+        if is_there_after(kept, koid) {
+            search.found.insert(koid.0)?;
+        }
+    }
+    Ok(())
+}
+
+/// Whether the object, which was there before the call of the record, is there after it.
+fn is_there_after(kept: &Record, koid: Koid) -> bool
+    ensures { result ≡ is_there_after kept.now koid }
+{
+    match kept.held(RowKey::Object(koid)) {
+        Some(None) => false,
+        _ => true,
+    }
+}
+
+/// Whether it is a process that has not ended.
+fn is_live_process(object: &ObjectRow) -> bool
+    ensures { result ≡ is_live_process object.now }
+{
+    object.kind == Kind::Process && object.life == Life::Live
+}
+
+/// Whether it is a job or a process.
+fn is_task(object: &ObjectRow) -> bool
+    ensures { result ≡ is_task object.now.kind }
+{
+    object.kind == Kind::Job || object.kind == Kind::Process
+}
+
+/// The objects of these keys that are not there and that the set does not have.
+pub(crate) fn unknown_gone(
+    alloc: Global,
+    set: &BTreeSet<u64>,
+    store: &Store,
+    all: &[RowKey],
+) -> Result<BTreeSet<u64>, AllocError>
+    ensures { IfOk result (λ found. (x : ℕ) → contains nat_cmp found x ≡ (not (contains nat_cmp set.now x) && is_gone store.now.state all.now x)) }
+{
+    let mut found = BTreeSet::new(alloc);
+    for key in all {
+        add_gone(&mut found, set, store, *key)?;
+    }
+    Ok(found)
+}
+
+/// Adds the object of the key, where it is not there and the set does not have it.
+fn add_gone(
+    found: &mut BTreeSet<u64>,
+    set: &BTreeSet<u64>,
+    store: &Store,
+    key: RowKey,
+) -> Result<(), AllocError>
+    ensures { OnOk result ((x : ℕ) → contains nat_cmp found.new x ≡ (contains nat_cmp found.old x || (not (contains nat_cmp set.now x) && is_gone_at store.now.state key x))) }
+{
+    match key {
+        RowKey::Object(koid) => {
+            let (number, asked) = (koid.0, koid.0);
+            if store.object(koid).is_none() && !set.contains(&asked) {
+                found.insert(number)?;
+            }
+            Ok(())
+        }
+        _ => Ok(()),
+    }
+}
+
+/// Takes the objects of these keys that are not there out of the set.
+pub(crate) fn take_gone(set: &mut BTreeSet<u64>, store: &Store, all: &[RowKey])
+    ensures { (x : ℕ) → contains nat_cmp set.new x ≡ (contains nat_cmp set.old x && not (is_gone store.now.state all.now x)) }
+{
+    for key in all {
+        take_if_gone(set, store, *key);
+    }
+}
+
+/// Takes the object of the key out of the set, where it is not there.
+fn take_if_gone(set: &mut BTreeSet<u64>, store: &Store, key: RowKey)
+    ensures { (x : ℕ) → contains nat_cmp set.new x ≡ (contains nat_cmp set.old x && not (is_gone_at store.now.state key x)) }
+{
+    match key {
+        RowKey::Object(koid) => {
+            if store.object(koid).is_none() {
+                let number = koid.0;
+                set.remove(&number);
+            }
+        }
+        _ => {}
+    }
+}
