@@ -198,6 +198,18 @@ impl Book {
         log
     }
 
+    /// The tree, without the rest of the book: who has it can go to its moments. It takes no memory.
+    pub fn into_history(self) -> History
+        ensures { result.tree ≡ self.session.tree }
+    {
+        let Book {
+            all_clients,
+            log: _,
+            last: _,
+        } = self;
+        all_clients.into_history()
+    }
+
     /// How many clients there are. It takes no memory.
     pub fn clients(&self) -> u8
         ensures clients { result ≡ length self.now.session.clients }

@@ -83,6 +83,18 @@ impl Clients {
         &self.history
     }
 
+    /// The history, without the clients.
+    pub(crate) fn into_history(self) -> History
+        ensures { result.tree ≡ self.session.tree }
+    {
+        let Clients {
+            history,
+            clients: _,
+            grown: _,
+        } = self;
+        history
+    }
+
     /// How many clients there are.
     pub(crate) fn clients(&self) -> u8
         ensures { result ≡ length self.now.session.clients }
