@@ -1,3 +1,4 @@
 pub mod Loading
 pub mod ClientLaws
 pub mod WordLaws
+pub mod QuestionLaws

@@ -26,6 +26,7 @@ told : (reason : Fault) (clients : ℕ) (text : List ℕ) → IsFaultOfText clie
 told (fault.Trace line reason place) clients text h = (text, h)
 told (fault.Words error) clients text h = absurd h
 told (fault.Unread error) clients text h = absurd h
+told (fault.Unasked reason) clients text h = absurd h
 told (fault.Unopened path error) clients text h = absurd h
 told (fault.Unconnected error) clients text h = absurd h
 told (fault.Refused reason) clients text h = absurd h

@@ -15,6 +15,7 @@ stopped_status _ = 6
 abbrev pub fault_status : Fault → ℕ
 fault_status (fault.Words error) = 2
 fault_status (fault.Unread error) = 2
+fault_status (fault.Unasked reason) = 2
 fault_status (fault.Unopened path error) = 3
 fault_status (fault.Unconnected error) = 3
 fault_status (fault.Refused reason) = stopped_status reason

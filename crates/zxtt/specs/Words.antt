@@ -1,22 +1,19 @@
 -- The command line, and what the words of the command line ask for.
-use Rattle.std.specs.Prelude.{◌≡◌, ◌≤◌, ◌<◌, ◌^◌, ℕ, length, List, [], ◌∷◌, Option, Some, None, true, codes, pos, option_map, unwrap_or, IfSome, ⊤}
-use Rattle.std.specs.Str.Parse.{IsNumeral, digits_value, without_leading_plus}
+use Rattle.std.specs.Prelude.{◌≡◌, ◌≤◌, ◌<◌, length, List, [], ◌∷◌, Option, Some, None, true, codes, pos, option_map, unwrap_or, IfSome}
 use Rattle.clap.specs.Words.{App, Row, Rule, Text, first_of, one_of, subcommand_of, new_app, new_rule, with_rule, with_subcommand}
 use Rattle.clap.specs.declared.builder.ArgAction.TheVariants.{Set}
 use Rattle.clap.specs.declared.builder.value_parser.ValueParser.TheVariants as parser
 use Rattle.zxtt.specs.declared.words.Asked.{Asked}
 use Rattle.zxtt.specs.declared.words.Asked.TheVariants as asked
-
--- a word with a value behind it, as `--from TRACE`
-abbrev pub valued : Text → Rule
-valued name = record (new_rule name) { long = Some name; action = Some Set; value_names = 1 }
+use Rattle.zxtt.specs.LookWords.{IsLookOf, look_line}
+use Rattle.zxtt.specs.Rules.{IsNumberOf, needed, valued}
 
 -- the lines to run, or `-`
 abbrev pub file_word : Rule
 file_word = record (new_rule (codes "FILE")) { action = Some Set; defaults = codes "-" ∷ [] }
 
 abbrev pub port_word : Rule
-port_word = record (new_rule (codes "PORT")) { action = Some Set; required = true; parser = Some (parser.Signed (pos 1) (pos 65535)) }
+port_word = record (needed (codes "PORT")) { parser = Some (parser.Signed (pos 1) (pos 65535)) }
 
 abbrev pub clients_word : Rule
 clients_word = record (valued (codes "clients")) { parser = Some (parser.Signed (pos 1) (pos 4)); defaults = codes "1" ∷ [] }
@@ -31,19 +28,16 @@ abbrev pub serve_line : App
 serve_line =
     with_rule (with_rule (with_rule (with_rule (new_app (codes "serve")) port_word) clients_word) (valued (codes "from"))) (valued (codes "save-tree"))
 
--- the program's own, with its version, and one of the two behind it
+-- the program's own, with its version, and one of the three behind it
 abbrev pub program : App
 program = record { top = record (new_app (codes "zxtt")).top { has_version = true; subcommand_required = true }; subs = [] }
 
-abbrev pub command_line : App
-command_line = with_subcommand (with_subcommand program run_line.top) serve_line.top
+-- `run` and `serve`, which answer line by line
+abbrev pub talk_line : App
+talk_line = with_subcommand (with_subcommand program run_line.top) serve_line.top
 
--- the number that a text reads as, in so many bits
-abbrev pub IsNumberOf : ℕ → Option Text → ℕ → Type 0
-IsNumberOf bits None n = ⊤
-IsNumberOf bits (Some text) n =
-    IsNumeral 10 (without_leading_plus text) → digits_value 10 (without_leading_plus text) < 2 ^ bits
-    → n ≡ digits_value 10 (without_leading_plus text)
+abbrev pub command_line : App
+command_line = with_subcommand talk_line look_line.top
 
 -- what is asked for behind `run`, by the values of its words
 abbrev pub IsRunOf : List Row → Asked → Type 0
@@ -52,24 +46,30 @@ IsRunOf rows (asked.Run file from save save_tree) =
     × (option_map (λ s. s.now) from ≡ first_of (codes "from") rows)
     × (option_map (λ s. s.now) save ≡ first_of (codes "save") rows)
     × (option_map (λ s. s.now) save_tree ≡ first_of (codes "save-tree") rows)
-IsRunOf rows (asked.Serve port clients from save_tree) = ⊥
+IsRunOf rows _ = ⊥
 
 -- what is asked for behind `serve`
 abbrev pub IsServeOf : List Row → Asked → Type 0
-IsServeOf rows (asked.Run file from save save_tree) = ⊥
 IsServeOf rows (asked.Serve port clients from save_tree) =
     IsNumberOf 16 (one_of (codes "PORT") rows) port × IsNumberOf 8 (one_of (codes "clients") rows) clients
     × (option_map (λ s. s.now) from ≡ first_of (codes "from") rows)
     × (option_map (λ s. s.now) save_tree ≡ first_of (codes "save-tree") rows)
+IsServeOf rows _ = ⊥
+
+-- what is asked for behind `look`
+abbrev pub IsLookedFor : List Row → Asked → Type 0
+IsLookedFor rows (asked.Look look) = IsLookOf rows look
+IsLookedFor rows _ = ⊥
 
 -- what is asked for by the word that was met and the values of the words behind it
 abbrev pub IsAskedBy : Option (Text × List Row) → Asked → Type 0
-IsAskedBy met asked = IfSome met (λ word. (word.0 ≡ codes "run" → IsRunOf word.1 asked) × (word.0 ≡ codes "serve" → IsServeOf word.1 asked))
+IsAskedBy met asked = IfSome met (λ word. (word.0 ≡ codes "run" → IsRunOf word.1 asked) × (word.0 ≡ codes "serve" → IsServeOf word.1 asked)
+    × (word.0 ≡ codes "look" → IsLookedFor word.1 asked))
 
 -- to run standard input, from the opening
 abbrev pub IsStandardInput : Asked → Type 0
 IsStandardInput (asked.Run file from save save_tree) = (file.now ≡ codes "-") × (from ≡ None) × (save ≡ None) × (save_tree ≡ None)
-IsStandardInput (asked.Serve port clients from save_tree) = ⊥
+IsStandardInput _ = ⊥
 
 -- what is asked for with these words, the program's own name among them
 abbrev pub IsAskedWith : List Text → Asked → Type 0

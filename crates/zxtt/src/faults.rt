@@ -5,6 +5,7 @@ ghost use Rattle.zt_rows.specs.declared.refusals.Refusal.TheVariants as refusal;
 ghost use Rattle.zxtt.specs.declared.faults.Fault.TheVariants as fault;
 ghost use Rattle.zxtt.specs.Statuses.{fault_status, stopped_status};
 
+use crate::no_question::NoQuestion;
 use crate::trace_lines::TraceLine;
 use std::io;
 use thiserror::Error;
@@ -20,6 +21,9 @@ pub enum Fault {
     /// The words are no text.
     #[error("zxtt: the words cannot be read: {0}")]
     Unread(io::Error),
+    /// The words ask no question.
+    #[error("{0}")]
+    Unasked(NoQuestion),
     /// A file could not be opened.
     #[error("zxtt: {path}: {error}")]
     Unopened {
@@ -54,7 +58,7 @@ impl Fault {
         ensures { result ≡ fault_status self.now }
     {
         match self {
-            Fault::Words(_) | Fault::Unread(_) => 2,
+            Fault::Words(_) | Fault::Unread(_) | Fault::Unasked(_) => 2,
             Fault::Unopened { .. } | Fault::Unconnected(_) => 3,
             Fault::Refused(refusal) => stopped_status(*refusal),
             Fault::Trace { .. } => 6,

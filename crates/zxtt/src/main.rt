@@ -1,4 +1,4 @@
-//! `zxtt` reads calls and commands line by line, and answers each.
+//! `zxtt` reads calls and commands line by line, and answers each; or it answers one question about a session text.
 #![tactic(auto)]
 
 ghost use Rattle.std.specs.Prelude.{◌≡◌, ◌≤◌, length, IfErr, IfOk};
@@ -11,11 +11,16 @@ ghost use Rattle.zxtt.specs.Statuses.{end_status};
 ghost use Rattle.zxtt.specs.Traces.{BeginsFrom};
 
 mod advice;
+mod answer_lines;
 mod attendant;
 mod connections;
 mod explanation;
 mod faults;
 mod files;
+mod look;
+mod look_words;
+mod no_question;
+mod question;
 mod service;
 mod terminal;
 mod trace_lines;
@@ -26,6 +31,7 @@ mod words;
 use attendant::{Attendant, show_trace_line};
 use faults::Fault;
 use files::{load, open, save, save_tree};
+use look::look;
 use service::serve;
 use std::io::Read;
 use std::process::ExitCode;
@@ -58,6 +64,7 @@ fn main(rt: HostRuntime) -> ExitCode {
             Ok(book) => save_served(&rt, serve(&rt, port, clients, book), save_tree),
             Err(fault) => Err(fault),
         },
+        Ok(Asked::Look(asked)) => look(&rt, &asked),
         Err(fault) => Err(fault),
     };
     ended(&rt, &done)

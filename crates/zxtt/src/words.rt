@@ -1,11 +1,13 @@
 //! The words of the command line.
 
 ghost use Rattle.std.specs.Prelude.{◌≡◌, IfOk, codes, false, map, string_bytes};
-ghost use Rattle.clap.specs.Words.{app_of, found_of, new_app, rows_of, rule_of, subcommand_of, subcommand_rows_of};
+ghost use Rattle.clap.specs.Words.{HasMatchesOf, app_of, found_of, new_app, rows_of, rule_of, subcommand_of, subcommand_rows_of};
 ghost use Rattle.clap.specs.declared.builder.command.Command.TheViews.{out-Command as fields_of};
-ghost use Rattle.zxtt.specs.Words.{IsAskedBy, IsAskedWith, IsRunOf, IsStandardInput, IsServeOf, clients_word, command_line, file_word, port_word, run_line, serve_line, valued};
+ghost use Rattle.zxtt.specs.Rules.{valued};
+ghost use Rattle.zxtt.specs.Words.{IsAskedBy, IsAskedWith, IsRunOf, IsStandardInput, IsServeOf, IsLookedFor, clients_word, command_line, file_word, port_word, run_line, serve_line, talk_line};
 
 use crate::faults::Fault;
+use crate::look_words::{Look, look_command, look_of};
 use clap::{Arg, ArgAction, ArgMatches, Command, Error, value_parser};
 use std::alloc::Global;
 use std::env;
@@ -54,7 +56,7 @@ fn clients_help() -> &'static str {
 }
 
 /// What is said behind the words.
-fn examples() -> &'static str {
+fn examples<'a>() -> &'a str {
     "Lines, with what they do:
   1025 event_create               process 1025, which is there from the start, makes an event
   1025 handle_close 7             it closes its handle 7
@@ -98,6 +100,8 @@ pub enum Asked<'a> {
         from: Option<&'a str>,
         save_tree: Option<&'a str>,
     },
+    /// To answer a question about a session text.
+    Look(Look<'a>),
 }
 
 impl Words {
@@ -120,18 +124,25 @@ impl Words {
         if self.words.len() <= 1 {
             return Ok(unasked());
         }
-        match self.parsed(alloc) {
-            Ok(asked) => Ok(asked),
+        self.parsed(alloc)
+    }
+
+    /// What they ask for, as the command line is declared.
+    fn parsed(&self, alloc: Global) -> Result<Asked<'_>, Fault>
+        ensures { IfOk result (IsAskedBy (subcommand_of command_line (map string_bytes self.now.words.items))) }
+    {
+        match self.met(alloc) {
+            Ok(matches) => asked_of(&matches),
             Err(error) => Err(Fault::Words(error)),
         }
     }
 
-    /// What they ask for, as the command line is declared.
-    fn parsed(&self, alloc: Global) -> Result<Asked<'_>, Error>
-        ensures { IfOk result (IsAskedBy (subcommand_of command_line (map string_bytes self.now.words.items))) }
+    /// What is met of them.
+    fn met(&self, alloc: Global) -> Result<ArgMatches<'_>, Error>
+        ensures { IfOk result (HasMatchesOf command_line (map string_bytes self.now.words.items)) }
     {
         let matches = command(alloc)?.try_get_matches_from(self.words.as_slice())?;
-        Ok(asked_of(&matches))
+        Ok(matches)
     }
 }
 
@@ -148,15 +159,27 @@ fn unasked<'a>() -> Asked<'a>
 }
 
 /// What the words that were met ask for.
-fn asked_of<'a>(matches: &ArgMatches<'a>) -> Asked<'a>
-    ensures { IsAskedBy (subcommand_rows_of matches.now) result }
+fn asked_of<'a>(matches: &ArgMatches<'a>) -> Result<Asked<'a>, Fault>
+    ensures { IfOk result (IsAskedBy (subcommand_rows_of matches.now)) }
 {
     if let Some(run) = matches.subcommand_matches("run") {
-        run_of(run)
+        Ok(run_of(run))
     } else if let Some(serve) = matches.subcommand_matches("serve") {
-        serve_of(serve)
+        Ok(serve_of(serve))
+    } else if let Some(look) = matches.subcommand_matches("look") {
+        looked_for(look)
     } else {
-        unasked()
+        Ok(unasked())
+    }
+}
+
+/// What the words behind `look` ask for.
+fn looked_for<'a>(words: &ArgMatches<'a>) -> Result<Asked<'a>, Fault>
+    ensures { IfOk result (IsLookedFor (rows_of (found_of words.now))) }
+{
+    match look_of(words) {
+        Ok(look) => Ok(Asked::Look(look)),
+        Err(reason) => Err(Fault::Unasked(reason)),
     }
 }
 
@@ -187,6 +210,14 @@ fn serve_of<'a>(words: &ArgMatches<'a>) -> Asked<'a>
 /// The command line.
 fn command<'a>(alloc: Global) -> Result<Command<'a>, Error>
     ensures { IfOk result (λ command. app_of command ≡ command_line) }
+{
+    Ok(talk_command(alloc)?.subcommand(look_command(alloc)?)?)
+}
+
+/// The words that answer line by line.
+fn talk_command<'a>(alloc: Global) -> Result<Command<'a>, Error>
+    ensures line { IfOk result (λ command. app_of command ≡ talk_line) }
+    ensures globals { IfOk result (λ command. (fields_of command).has_globals ≡ false) }
 {
     Ok(
         Command::new(alloc, "zxtt")
@@ -273,13 +304,16 @@ fn clients_word<'a>(alloc: Global) -> Arg<'a>
 }
 
 /// A word that tells what is done, with what is said of it and no words behind it.
-fn told_command<'a>(alloc: Global, name: &'a str, about: &'a str) -> Command<'a>
+pub fn told_command<'a>(
+    alloc: Global,
+    name: &'a str,
+    about: &'a str,
+    examples: &'a str,
+) -> Command<'a>
     ensures line { app_of result ≡ new_app name.entry.now }
     ensures globals { (fields_of result).has_globals ≡ false }
 {
-    Command::new(alloc, name)
-        .about(about)
-        .after_help(examples())
+    Command::new(alloc, name).about(about).after_help(examples)
 }
 
 /// The words behind `run`.
@@ -288,7 +322,7 @@ fn run_command<'a>(alloc: Global) -> Result<Command<'a>, Error>
     ensures globals { IfOk result (λ command. (fields_of command).has_globals ≡ false) }
 {
     Ok(
-        told_command(alloc, "run", run_about())
+        told_command(alloc, "run", run_about(), examples())
             .arg(file_word(alloc))?
             .arg(from_word(alloc))?
             .arg(save_word(alloc))?
@@ -302,7 +336,7 @@ fn serve_command<'a>(alloc: Global) -> Result<Command<'a>, Error>
     ensures globals { IfOk result (λ command. (fields_of command).has_globals ≡ false) }
 {
     Ok(
-        told_command(alloc, "serve", serve_about())
+        told_command(alloc, "serve", serve_about(), examples())
             .arg(port_word(alloc))?
             .arg(clients_word(alloc))?
             .arg(from_word(alloc))?

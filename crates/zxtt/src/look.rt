@@ -1,0 +1,331 @@
+//! One question about a session text, and its answer.
+
+ghost use Rattle.std.specs.Prelude.{◌≡◌};
+ghost use Rattle.zt_history.specs.HistoryRefusals.{moment_on};
+ghost use Rattle.zxtt.specs.LookedAt.{head_named, path_end};
+
+use crate::answer_lines::{AnswerLines, Stopped};
+use crate::faults::Fault;
+use crate::files::load;
+use crate::look_words::Look;
+use crate::question::Question;
+use std::alloc::Global;
+use zt_history::{BranchId, History};
+use zt_look::{
+    BranchLook, CallFilter, HappeningSet, ObjectEvent, ObjectLook, QueuedMessage, branches, calls,
+    changed, events, handles_at, messages, object_at, print_branch, print_call_count,
+    print_call_made, print_change, print_event, print_fate, print_handle, print_object,
+    print_queued_message, print_when, summary,
+};
+use zt_rows::{Call, Happening, Koid, Moment, Refusal};
+
+/// Answers what is asked, on standard output. Where nobody reads on, it ends at once, and all is well.
+pub fn look(rt: &HostRuntime, asked: &Look<'_>) -> Result<(), Fault> {
+    match load(rt, 1, asked.file) {
+        Ok(book) => {
+            let mut history = book.into_history();
+            match answer(rt, &mut history, asked) {
+                Ok(()) | Err(Stopped::Unread) => Ok(()),
+                Err(Stopped::By(refusal)) => Err(Fault::Refused(refusal)),
+            }
+        }
+        Err(fault) => Err(fault),
+    }
+}
+
+/// Answers what is asked of a history.
+fn answer(rt: &HostRuntime, history: &mut History, asked: &Look<'_>) -> Result<(), Stopped> {
+    let at = path_end(history, asked.at, asked.branch)?;
+    let mut lines = AnswerLines::new(rt)?;
+    answer_at(rt.alloc(), &mut lines, history, at, asked)?;
+    lines.finish()
+}
+
+/// The end of the path that is looked at.
+fn path_end(history: &History, at: Option<Moment>, branch: Option<&str>) -> Result<Moment, Refusal>
+    ensures { result ≡ path_end history.now.tree at branch.entry }
+{
+    match at {
+        Some(moment) => moment_there(history, moment),
+        None => match branch {
+            Some(name) => head_named(history, name),
+            None => head_named(history, "main"),
+        },
+    }
+}
+
+/// The moment, if it is there.
+fn moment_there(history: &History, moment: Moment) -> Result<Moment, Refusal>
+    ensures { result ≡ moment_on history.now.tree moment }
+{
+    if moment > history.last() {
+        Err(Refusal::NoMoment)
+    } else {
+        Ok(moment)
+    }
+}
+
+/// The head of the branch with this name, if it is there.
+fn head_named(history: &History, name: &str) -> Result<Moment, Refusal>
+    ensures { result ≡ head_named history.now.tree name.now }
+{
+    match history.find(name.as_bytes()) {
+        Some(branch) => Ok(history.head(branch)),
+        None => Err(Refusal::NoBranch),
+    }
+}
+
+/// Answers the question about the path to a moment.
+fn answer_at(
+    alloc: Global,
+    lines: &mut AnswerLines,
+    history: &mut History,
+    at: Moment,
+    asked: &Look<'_>,
+) -> Result<(), Stopped> {
+    let names = asked.names;
+    match asked.question {
+        Question::Calls(filter) => write_calls(alloc, lines, history, at, &filter, names),
+        Question::Changed(moment) => write_changes(alloc, lines, history, moment, names),
+        Question::Events(wanted) => write_events(alloc, lines, history, at, &wanted, names),
+        Question::Object(koid) => write_object(alloc, lines, history, at, koid, names),
+        Question::Handles(process) => write_handles(alloc, lines, history, at, process, names),
+        Question::Messages(koid) => write_messages(alloc, lines, history, at, koid, names),
+        Question::Branches => write_branches(alloc, lines, history),
+        Question::Summary => write_summary(alloc, lines, history, at),
+    }
+}
+
+/// Writes the calls of the path that are asked for.
+fn write_calls(
+    alloc: Global,
+    lines: &mut AnswerLines,
+    history: &mut History,
+    at: Moment,
+    filter: &CallFilter,
+    names: bool,
+) -> Result<(), Stopped> {
+    let list = calls(alloc, history, at, filter)?;
+    for made in &list {
+        lines.write(print_call_made(alloc, made, names)?)?;
+    }
+    Ok(())
+}
+
+/// Writes the rows that the call of a moment changed.
+fn write_changes(
+    alloc: Global,
+    lines: &mut AnswerLines,
+    history: &mut History,
+    moment: Moment,
+    names: bool,
+) -> Result<(), Stopped> {
+    let list = changed(alloc, history, moment)?;
+    for change in &list {
+        lines.write(print_change(alloc, change, names)?)?;
+    }
+    Ok(())
+}
+
+/// Writes what happened to objects on the path, of what is asked for.
+fn write_events(
+    alloc: Global,
+    lines: &mut AnswerLines,
+    history: &mut History,
+    at: Moment,
+    wanted: &HappeningSet,
+    names: bool,
+) -> Result<(), Stopped> {
+    let list = events(alloc, history, at, wanted)?;
+    for event in &list {
+        write_event(alloc, lines, history, event, names)?;
+    }
+    Ok(())
+}
+
+/// Writes one event, with the call of its moment.
+fn write_event(
+    alloc: Global,
+    lines: &mut AnswerLines,
+    history: &History,
+    event: &ObjectEvent,
+    names: bool,
+) -> Result<(), Stopped> {
+    match history.call_of(event.moment) {
+        Some((process, call)) => lines.write(print_event(alloc, event, process, call, names)?),
+        None => Ok(()),
+    }
+}
+
+/// Writes an object at the end of the path, and when each of the four happened to it.
+fn write_object(
+    alloc: Global,
+    lines: &mut AnswerLines,
+    history: &mut History,
+    at: Moment,
+    koid: Koid,
+    names: bool,
+) -> Result<(), Stopped> {
+    history.goto(at)?;
+    let object = object_at(alloc, history, koid)?;
+    lines.write(print_object(alloc, &object, names)?)?;
+    write_times(alloc, lines, history, &object, names)
+}
+
+/// Writes when each of the four happened to an object.
+fn write_times(
+    alloc: Global,
+    lines: &mut AnswerLines,
+    history: &History,
+    object: &ObjectLook,
+    names: bool,
+) -> Result<(), Stopped> {
+    write_time(alloc, lines, history, Happening::Made, object.made, names)?;
+    write_time(alloc, lines, history, Happening::Ended, object.ended, names)?;
+    write_time(
+        alloc,
+        lines,
+        history,
+        Happening::PeerClosed,
+        object.peer_closed,
+        names,
+    )?;
+    write_time(
+        alloc,
+        lines,
+        history,
+        Happening::Leaked,
+        object.leaked,
+        names,
+    )
+}
+
+/// Writes when one of the four happened.
+fn write_time(
+    alloc: Global,
+    lines: &mut AnswerLines,
+    history: &History,
+    what: Happening,
+    moment: Option<Moment>,
+    names: bool,
+) -> Result<(), Stopped> {
+    let found = call_at(history, moment);
+    lines.write(print_when(alloc, what, &found, names)?)
+}
+
+/// The call of a moment, if there is one.
+fn call_at(history: &History, moment: Option<Moment>) -> Option<(Moment, Koid, &Call)> {
+    match moment {
+        Some(moment) => match history.call_of(moment) {
+            Some((process, call)) => Some((moment, process, call)),
+            None => None,
+        },
+        None => None,
+    }
+}
+
+/// Writes the handles of a process at the end of the path.
+fn write_handles(
+    alloc: Global,
+    lines: &mut AnswerLines,
+    history: &mut History,
+    at: Moment,
+    process: Koid,
+    names: bool,
+) -> Result<(), Stopped> {
+    history.goto(at)?;
+    let list = handles_at(alloc, history, process)?;
+    for handle in &list {
+        lines.write(print_handle(alloc, handle, names)?)?;
+    }
+    Ok(())
+}
+
+/// Writes the messages that were queued at an endpoint on the path.
+fn write_messages(
+    alloc: Global,
+    lines: &mut AnswerLines,
+    history: &mut History,
+    at: Moment,
+    koid: Koid,
+    names: bool,
+) -> Result<(), Stopped> {
+    let list = messages(alloc, history, at, koid)?;
+    for queued in &list {
+        write_message(alloc, lines, history, queued, names)?;
+    }
+    Ok(())
+}
+
+/// Writes one message, with the calls that wrote and ended it.
+fn write_message(
+    alloc: Global,
+    lines: &mut AnswerLines,
+    history: &History,
+    queued: &QueuedMessage,
+    names: bool,
+) -> Result<(), Stopped> {
+    let ended = match queued.ended {
+        Some((moment, _)) => history.call_of(moment),
+        None => None,
+    };
+    match history.call_of(queued.written) {
+        Some((process, call)) => {
+            lines.write(print_queued_message(alloc, queued, process, call, &ended, names)?)
+        }
+        None => Ok(()),
+    }
+}
+
+/// Writes the branches of the tree.
+fn write_branches(
+    alloc: Global,
+    lines: &mut AnswerLines,
+    history: &History,
+) -> Result<(), Stopped> {
+    let list = branches(alloc, history)?;
+    for branch in &list {
+        write_branch(alloc, lines, history, branch)?;
+    }
+    Ok(())
+}
+
+/// Writes one branch.
+fn write_branch(
+    alloc: Global,
+    lines: &mut AnswerLines,
+    history: &History,
+    branch: &BranchLook,
+) -> Result<(), Stopped> {
+    let leaves = match branch.leaves {
+        Some((other, moment)) => Some((name_of(history, other), moment)),
+        None => None,
+    };
+    lines.write(print_branch(alloc, name_of(history, branch.id), branch.head, &leaves)?)
+}
+
+/// The name of a branch that is there.
+fn name_of(history: &History, id: BranchId) -> &[u8] {
+    if id.0 < history.branches() {
+        history.name(id)
+    } else {
+        &[]
+    }
+}
+
+/// Writes how the calls of the path were answered, and what became of the objects.
+fn write_summary(
+    alloc: Global,
+    lines: &mut AnswerLines,
+    history: &mut History,
+    at: Moment,
+) -> Result<(), Stopped> {
+    let told = summary(alloc, history, at)?;
+    for count in &told.calls {
+        lines.write(print_call_count(alloc, count)?)?;
+    }
+    for object in &told.objects {
+        lines.write(print_fate(alloc, object)?)?;
+    }
+    Ok(())
+}
