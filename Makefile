@@ -7,12 +7,14 @@
 #                  before it; PROGRAM=PATH installs that program, and builds nothing
 # make uninstall   takes them away
 # make edits       tries the edits of crates/NAME/edits, each of which the prover has to refuse
-# make try-program tries what users meet of bin/zxtt: exit statuses, pages, what is installed, worked runs, sockets, large traces
+# make try-program tries what users meet of bin/zxtt: exit statuses, pages, what is installed, worked runs, questions, sockets,
+#                  large traces
 # make cases       proves and runs the worked runs alone, and says of each whether it went as told
 # make statuses    meets each exit status of the program once
 # make tutorial    replays README, the tutorial, FORMATS, the call pages and the examples, and says where the program prints
 #                  something else
 # make installed   installs bin/zxtt in a folder of its own and tries what is there, completions and page too
+# make look        asks twenty random traces each question of `zxtt look`, and compares the answers with those of a slow way
 # make wrong-bodies  puts bodies that no contract refuses into a copy, and says whether a trial tells each
 # make refusals    refuses each request for memory in turn, in the tests that are to pass whichever it is
 # make times       what each crate costs the gate, in processor seconds
@@ -22,8 +24,8 @@ PROGRAM =
 SHARE = $(DESTDIR)$(PREFIX)/share
 EXAMPLES = $(notdir $(wildcard examples/*))
 
-.PHONY: all test quick try-cases run install uninstall edits try-program cases statuses tutorial installed wrong-bodies refusals \
-	times bench
+.PHONY: all test quick try-cases run install uninstall edits try-program cases statuses tutorial installed look wrong-bodies \
+	refusals times bench
 
 all:
 	tools/build zxtt
@@ -76,6 +78,9 @@ tutorial: all
 
 installed: all
 	tools/installed
+
+look: all
+	tools/look --whole
 
 wrong-bodies:
 	tools/wrong-bodies
