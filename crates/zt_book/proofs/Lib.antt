@@ -13,4 +13,5 @@ pub mod WrittenLaws
 pub mod SavedLaws
 pub mod ReplayLaws
 pub mod BookLaws
+pub mod RenewLaws
 mod WorkedSessions

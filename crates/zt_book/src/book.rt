@@ -1,15 +1,18 @@
-ghost use Rattle.std.specs.Prelude.{◌≡◌, ◌≢◌, ◌≤◌, ◌<◌, ◌↔◌, ◌++◌, ◌∷◌, [], None, Some, Ok, IfOk, IfErr, OnOk, OnErr, IsErrOf, IsSome, is_some, length};
+ghost use Rattle.std.specs.Prelude.{◌≡◌, ◌≢◌, ◌≤◌, ◌<◌, ◌↔◌, ◌++◌, ◌∷◌, [], None, Some, Ok, IfOk, IfErr, OnOk, OnErr, IsErrOf, IsSome, is_some, length, nat_lt};
 ghost use Rattle.zt_rows.specs.declared.calls.Command.TheVariants as command;
+ghost use Rattle.zt_history.specs.Timeline.{Timeline};
 ghost use Rattle.zt_history.specs.Tree.{Tree};
-ghost use Rattle.zt_book.specs.Session.{serve, position_of, IsCommandRefusal};
-ghost use Rattle.zt_book.specs.SavedSessions.{loaded_saved, saved_of_session};
+ghost use Rattle.zt_book.specs.Session.{serve, client_of, most_rows, position_of, IsCommandRefusal};
+ghost use Rattle.zt_book.specs.SavedSessions.{loaded_saved, saved_of_session, unanswered};
 ghost use Rattle.zt_book.specs.Log.{IsBegun, IsCounted, IsWholeLog, standing_of, first_book, book_at, book_over, loaded, snapshot_at, IsUnloaded};
 
 use crate::client::Client;
 use crate::clients::Clients;
+use crate::load_progress::{LoadProgress, Untold};
 use crate::loaded_clients::session_of;
 use crate::loaded_history::history_of;
 use crate::log::Log;
+use crate::tree_look::TreeLook;
 use std::alloc::Global;
 use std::marker::Model;
 use zt_history::History;
@@ -100,13 +103,29 @@ impl Book {
         ensures few { OnOk result (clients ≤ 4) }
         ensures refused { IfErr result (IsUnloaded clients (loaded_saved clients saved.now)) }
     {
+        Book::load_saved_told(alloc, clients, saved, &Untold)
+    }
+
+    /// As `load_saved`, which tells after each moment that is loaded how many are, of all of them.
+    pub fn load_saved_told<P: LoadProgress>(
+        alloc: Global,
+        clients: u8,
+        saved: &Saved,
+        told: &P,
+    ) -> Result<Book, (u64, Refusal)>
+        ensures ok { IfOk result (λ book. loaded_saved clients saved.now ≡ Ok book.session) }
+        ensures first { IfOk result (λ book. book ≡ book_at book.session) }
+        ensures clients { IfOk result (λ book. length book.session.clients ≡ clients) }
+        ensures few { OnOk result (clients ≤ 4) }
+        ensures refused { IfErr result (IsUnloaded clients (loaded_saved clients saved.now)) }
+    {
         if clients > CLIENTS {
             return Err((0, Refusal::TooManyClients));
         }
         let moments = saved.moments.as_slice();
         let branches = saved.branches.as_slice();
         let cursors = saved.cursors.as_slice();
-        match session_of(alloc, clients, moments, branches, cursors) {
+        match session_of(alloc, clients, moments, branches, cursors, told) {
             Ok(all_clients) => Ok(begin(alloc, all_clients)),
             Err(fault) => Err(fault),
         }
@@ -208,6 +227,37 @@ impl Book {
             last: _,
         } = self;
         all_clients.into_history()
+    }
+
+    /// What the looking one finds in the tree, over which it may move the store. Session and log are as before, and
+    /// nothing can be taken back.
+    pub fn look<L: TreeLook>(&mut self, asked: &L) -> L::Found
+        ensures standing { standing_of self.new ≡ standing_of self.old }
+        ensures found { (from : Timeline) × (to : Timeline) × (from.tree ≡ self.old.session.tree) × (to.tree ≡ from.tree) × L.looks asked.now from result to }
+        ensures nothing { self.new.before ≡ None }
+    {
+        self.last = None;
+        self.all_clients.look(asked)
+    }
+
+    /// Forgets what was answered: the log is empty, and no client has pinned anything or was answered a command. The
+    /// tree and where each client stands are as before. It takes no memory.
+    pub fn renew(&mut self)
+        ensures session { self.new.session ≡ unanswered self.old.session }
+        ensures fresh { self.new ≡ book_at self.new.session }
+    {
+        self.last = None;
+        self.log.clear();
+        self.all_clients.renew();
+    }
+
+    /// Whether the client can be answered one more command. It takes no memory.
+    pub fn has_room(&self, client: u8) -> bool
+        requires numbered { 1 ≤ client }
+        requires known { client ≤ length self.now.session.clients }
+        ensures { result ≡ nat_lt (client_of self.now.session client).rows most_rows }
+    {
+        self.all_clients.client(client).rows < CLIENT_ROWS
     }
 
     /// How many clients there are. It takes no memory.

@@ -1,10 +1,13 @@
-ghost use Rattle.std.specs.Prelude.{◌≡◌, ◌≤◌, ◌<◌, ◌-◌, All, IfOk, IfErr, OnOk, length};
+ghost use Rattle.std.specs.Prelude.{◌≡◌, ◌≤◌, ◌<◌, ◌-◌, All, IfOk, IfErr, OnOk, length, map};
+ghost use Rattle.zt_history.specs.Timeline.{Timeline};
 ghost use Rattle.zt_history.specs.TreeInvariant.{IsTree};
 ghost use Rattle.zt_book.specs.Session.{client_of, counted, position_of, session_over, with_client};
+ghost use Rattle.zt_book.specs.SavedSessions.{client_at, unanswered};
 ghost use Rattle.zt_book.specs.Log.{snapshot_at};
 ghost use Rattle.zt_book.specs.ProofsOnly.Clients.{IsClient, IsCursor, Stand, session_before};
 
 use crate::client::{Client, Cursor};
+use crate::tree_look::TreeLook;
 use std::alloc::{AllocError, Global};
 use std::marker::Model;
 use zt_history::{BranchId, History};
@@ -205,5 +208,34 @@ impl Clients {
             self.grown = false;
         }
         self.clients[client as usize - 1] = was;
+    }
+
+    /// Each client has pinned nothing then, and was answered nothing; it stands where it stood. It takes no memory.
+    pub(crate) fn renew(&mut self)
+        ensures { self.new.session ≡ unanswered self.old.session }
+    {
+        forget_answers(&mut self.clients);
+    }
+
+    /// What the looking one finds in the history.
+    pub(crate) fn look<L: TreeLook>(&mut self, asked: &L) -> L::Found
+        ensures session { self.new.session ≡ self.old.session }
+        ensures found { (from : Timeline) × (to : Timeline) × (from.tree ≡ self.old.session.tree) × (to.tree ≡ from.tree) × L.looks asked.now from result to }
+    {
+        self.grown = false;
+        asked.look(&mut self.history)
+    }
+}
+
+/// Each of the clients has pinned nothing then, and was answered nothing.
+fn forget_answers(clients: &mut Vec<Client>)
+    ensures { clients.new.items ≡ map (λ client. client_at client.cursor) clients.old.items }
+{
+    for client in clients.iter_mut() {
+        *client = Client {
+            cursor: client.cursor,
+            pinned: None,
+            rows: 0,
+        };
     }
 }

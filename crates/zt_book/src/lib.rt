@@ -7,12 +7,16 @@ mod client;
 mod clients;
 mod commands;
 pub mod laws;
+mod load_progress;
 mod loaded_clients;
 mod loaded_history;
 mod loaded_tree;
 mod log;
 mod saved_session;
+mod tree_look;
 
 pub use book::Book;
 pub use client::{Client, Cursor};
+pub use load_progress::{LoadProgress, Untold};
 pub use log::{Log, Recorded};
+pub use tree_look::TreeLook;

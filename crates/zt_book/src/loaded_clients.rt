@@ -6,6 +6,7 @@ ghost use Rattle.zt_book.specs.ProofsOnly.Clients.{IsCursor};
 
 use crate::client::{Client, Cursor};
 use crate::clients::Clients;
+use crate::load_progress::LoadProgress;
 use crate::loaded_history::{MAIN, fault};
 use crate::loaded_tree::tree_of;
 use std::alloc::{AllocError, Global};
@@ -13,18 +14,19 @@ use zt_history::History;
 use zt_rows::{Cursor as SavedCursor, Refusal, SavedBranch, SavedCall};
 
 /// So many clients over the tree of these moments and branches, where these cursors tell.
-pub(crate) fn session_of(
+pub(crate) fn session_of<P: LoadProgress>(
     alloc: Global,
     clients: u8,
     moments: &[SavedCall],
     branches: &[SavedBranch],
     cursors: &[SavedCursor],
+    told: &P,
 ) -> Result<Clients, (u64, Refusal)>
     requires { clients ≤ 4 }
     ensures ok { IfOk result (λ all_clients. loaded_saved clients (record { moments = moments.now; branches = branches.now; cursors = cursors.now }) ≡ Ok all_clients.session) }
     ensures refused { IfErr result (IsUnloadedBy false (loaded_saved clients (record { moments = moments.now; branches = branches.now; cursors = cursors.now }))) }
 {
-    let history = tree_of(alloc, moments, branches)?;
+    let history = tree_of(alloc, moments, branches, told)?;
     let number = moments.len() as u64 + branches.len() as u64;
     seat(alloc, clients, number, history, cursors)
 }

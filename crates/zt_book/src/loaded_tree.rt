@@ -4,16 +4,18 @@ ghost use Rattle.zt_book.specs.SavedSessions.{in_turn, loaded_tree, with_moment,
 ghost use Rattle.zt_book.specs.Log.{IsUnloadedBy};
 
 use crate::branch_name::is_name;
+use crate::load_progress::LoadProgress;
 use crate::loaded_history::{MAIN, fault};
 use std::alloc::Global;
 use zt_history::History;
 use zt_rows::{Refusal, SavedBranch, SavedCall};
 
 /// The history of these moments and branches.
-pub(crate) fn tree_of(
+pub(crate) fn tree_of<P: LoadProgress>(
     alloc: Global,
     moments: &[SavedCall],
     branches: &[SavedBranch],
+    told: &P,
 ) -> Result<History, (u64, Refusal)>
     ensures ok { IfOk result (λ history. loaded_tree (record { moments = moments.now; branches = branches.now; cursors = [] }) ≡ Ok history.tree) }
     ensures refused { IfErr result (IsUnloadedBy false (loaded_tree (record { moments = moments.now; branches = branches.now; cursors = [] }))) }
@@ -21,19 +23,23 @@ pub(crate) fn tree_of(
     let Ok(mut history) = History::new(alloc) else {
         return Err((0, Refusal::OutOfMemory));
     };
-    put_moments(&mut history, moments)?;
+    put_moments(&mut history, moments, told)?;
     put_branches(&mut history, moments.len() as u64, branches)?;
     Ok(history)
 }
 
-/// Makes each of these moments in turn.
-fn put_moments(history: &mut History, moments: &[SavedCall]) -> Result<(), (u64, Refusal)>
+/// Makes each of these moments in turn, and tells so.
+fn put_moments<P: LoadProgress>(
+    history: &mut History,
+    moments: &[SavedCall],
+    told: &P,
+) -> Result<(), (u64, Refusal)>
     ensures ok { OnOk result (in_turn with_moment 0 history.old.tree moments.now ≡ Ok history.new.tree) }
     ensures refused { IfErr result (IsUnloadedBy false (in_turn with_moment 0 history.old.tree moments.now)) }
 {
     for place in 0..moments.len() {
         match put_moment(history, &moments[place]) {
-            Ok(()) => {}
+            Ok(()) => told.loaded(place + 1, moments.len()),
             Err(reason) => return Err(fault(place as u64, reason)),
         }
     }

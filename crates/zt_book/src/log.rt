@@ -90,4 +90,11 @@ impl Log {
     {
         drop(self.rows.pop());
     }
+
+    /// Strikes all rows. It takes no memory.
+    pub(crate) fn clear(&mut self)
+        ensures { self.new ≡ [] }
+    {
+        self.rows.clear();
+    }
 }

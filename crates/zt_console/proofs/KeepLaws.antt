@@ -10,8 +10,10 @@ use Rattle.zt_console.specs.declared.conversation.Conversation.{Conversation}
 use Rattle.zt_console.specs.Conversations.{Given, Manner, Answers, Talk}
 use Rattle.zt_shared.specs.Sharing.{PassView}
 use Rattle.zt_console.specs.BookRun.{AsksBook}
+use Rattle.zt_console.specs.Explored.{explored, AsksExplored}
 use Rattle.zt_console.specs.Run.{HasTalked}
 use Rattle.zt_console.specs.Sessions.{AsksPass}
+use Rattle.zt_console.proofs.ExploredLaws.{explored-many}
 
 module _ {D X : Type 0} (Asks : Manner D) (f : D → X) (kept : (M : D) (asked : Command) (given : Given) (N : D) → Asks M asked given N → f N ≡ f M) where
   same-responder : (M N : Conversation D) → N ≡ M → f N.responder ≡ f M.responder
@@ -38,6 +40,13 @@ asks-keep M asked (Err reason) N (_, same) = ap (λ (S : Stood). length S.sessio
 
 pub talked_clients : (M N : BookView) (known before after : Option (List ℕ)) (done : Bool) → HasTalked AsksBook M N known before after done → length N.session.clients ≡ length M.session.clients
 talked_clients M N known before after done h = talk-keeps AsksBook (λ (b : BookView). length b.session.clients) asks-keep _ h.lines h.spoken.text _ h.spoken.talk
+
+-- so does a book that is explored
+explored-keep : (M : BookView) (asked : Command) (given : Given) (N : BookView) → AsksExplored M asked given N → length N.session.clients ≡ length M.session.clients
+explored-keep M asked given N h = asks-keep (explored M) asked given N h ∙ explored-many M
+
+pub explored_clients : (M N : BookView) (known before after : Option (List ℕ)) (done : Bool) → HasTalked AsksExplored M N known before after done → length N.session.clients ≡ length M.session.clients
+explored_clients M N known before after done h = talk-keeps AsksExplored (λ (b : BookView). length b.session.clients) explored-keep _ h.lines h.spoken.text _ h.spoken.talk
 
 -- a pass keeps its client, and where its log begins
 who-kept : (M : PassView) (asked : Command) (given : Given) (N : PassView) → AsksPass M asked given N → N.client ≡ M.client

@@ -1,5 +1,6 @@
 pub mod ConversationLaws
 pub mod LineFeedLaws
+pub mod ExploredLaws
 pub mod KeepLaws
 pub mod SaveLaws
 pub mod ServeLaws

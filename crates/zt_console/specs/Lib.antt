@@ -2,6 +2,7 @@
 pub mod CountedFaults
 pub mod Conversations
 pub mod BookRun
+pub mod Explored
 pub mod Run
 pub mod Sessions
 pub mod LoadedText

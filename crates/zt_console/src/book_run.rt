@@ -13,7 +13,7 @@ use zt_queries::Frozen;
 use zt_rows::{Answer, Command, Refusal};
 
 /// The client of a book that a run is for.
-const CLIENT: u8 = 1;
+pub(crate) const CLIENT: u8 = 1;
 
 impl Responder for Book {
     ghost use Rattle.std.specs.Prelude.{◌≤◌, length};

@@ -2,7 +2,7 @@ ghost use Rattle.std.specs.Prelude.{◌≡◌, ◌≤◌, length, IfOk, IfErr, O
 ghost use Rattle.zt_console.specs.LoadedText.{at_line, IsLoadedOf, IsNotLoaded};
 
 use std::alloc::Global;
-use zt_book::Book;
+use zt_book::{Book, LoadProgress, Untold};
 use zt_rows::Refusal;
 use zt_text::{line_of_call, read_saved};
 
@@ -14,11 +14,26 @@ pub fn load_text(alloc: Global, clients: u8, text: &[u8]) -> Result<Book, (u64, 
     ensures refused { IfErr result (IsNotLoaded clients text.now) }
     ensures few { OnOk result (clients ≤ 4) }
 {
+    load_text_told(alloc, clients, text, &Untold)
+}
+
+/// As `load_text`, which tells after each moment that is loaded how many are, of all of them.
+pub fn load_text_told<P: LoadProgress>(
+    alloc: Global,
+    clients: u8,
+    text: &[u8],
+    told: &P,
+) -> Result<Book, (u64, Refusal)>
+    ensures ok { IfOk result (IsLoadedOf clients text.now) }
+    ensures clients { IfOk result (λ book. length book.session.clients ≡ clients) }
+    ensures refused { IfErr result (IsNotLoaded clients text.now) }
+    ensures few { OnOk result (clients ≤ 4) }
+{
     let saved = match read_saved(alloc, text) {
         Ok(saved) => saved,
         Err(fault) => return Err(fault),
     };
-    match Book::load_saved(alloc, clients, &saved) {
+    match Book::load_saved_told(alloc, clients, &saved, told) {
         Ok(book) => Ok(book),
         Err(fault) => Err(at_line(text, fault)),
     }

@@ -7,7 +7,7 @@ use Rattle.zt_book.proofs.TurnLaws.{turn-refused-so-far}
 use Rattle.zt_book.proofs.loaded_tree.put_moments.Goals as goal
 
 pub returns-in-Err-clause-refused : goal.returns-in-Err-clause-refused
-returns-in-Err-clause-refused c =
+returns-in-Err-clause-refused g c =
     let place = c.loop-place.place in
     let moments = c.args.moments.now in
     subst (IsUnloadedBy false (in_turn with_moment 0 c.args.history.now.tree moments))

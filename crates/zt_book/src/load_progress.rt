@@ -1,0 +1,13 @@
+/// Who is told how far the moments of a saved tree are loaded.
+pub trait LoadProgress {
+    /// So many moments, of as many in all, are loaded.
+    fn loaded(&self, moments: usize, of: usize);
+}
+
+/// Tells no one.
+#[derive(Clone, Copy)]
+pub struct Untold;
+
+impl LoadProgress for Untold {
+    fn loaded(&self, _moments: usize, _of: usize) {}
+}
