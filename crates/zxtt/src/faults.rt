@@ -1,14 +1,16 @@
 //! What ends the program before it is done.
 
-ghost use Rattle.std.specs.Prelude.{◌≡◌};
+ghost use Rattle.std.specs.Prelude.{◌≡◌, ℕ};
 ghost use Rattle.zt_rows.specs.declared.refusals.Refusal.TheVariants as refusal;
 ghost use Rattle.zxtt.specs.declared.faults.Fault.TheVariants as fault;
 ghost use Rattle.zxtt.specs.Statuses.{fault_status, stopped_status};
+ghost use Rattle.zxtt.specs.Traces.{TellsOfSomeText};
 
 use crate::no_question::NoQuestion;
 use crate::trace_lines::TraceLine;
 use std::io;
 use thiserror::Error;
+use zt_files::FileFault;
 use zt_rows::Refusal;
 use zt_text::RefusalLine;
 
@@ -51,6 +53,16 @@ impl Fault {
         ensures { result ≡ fault.Refused refusal.OutOfMemory }
     {
         Fault::Refused(Refusal::OutOfMemory)
+    }
+
+    /// A file was not read or written. No session text is at fault.
+    pub fn of_file(fault: FileFault) -> Fault
+        ensures { (clients : ℕ) → TellsOfSomeText clients result }
+    {
+        match fault {
+            FileFault::Unopened { path, error } => Fault::Unopened { path, error },
+            FileFault::Refused(refusal) => Fault::Refused(refusal),
+        }
     }
 
     /// The exit status.

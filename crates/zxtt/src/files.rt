@@ -6,45 +6,59 @@ ghost use Rattle.zt_console.specs.LoadedText.{IsLoadedOf};
 ghost use Rattle.zxtt.specs.Traces.{IsFaultOfText, TellsOfSomeText};
 
 use crate::faults::Fault;
+use crate::progress::Progress;
 use crate::trace_lines::TraceLine;
-use crate::whole_file::write_whole;
 use std::alloc::Global;
 use std::fs::File;
-use std::io::Read;
-use std::{fs, io};
-use zt_console::{Book, load_text, main_text, tree_text};
-use zt_rows::Refusal;
+use zt_console::{Book, load_text_told, main_text, tree_text};
+use zt_files::{FileFault, read_whole, write_whole};
 
 /// Opens a file to be read.
 pub fn open(rt: &HostRuntime, path: &str) -> Result<File, Fault>
     ensures { (clients : ℕ) → IfErr result (TellsOfSomeText clients) }
 {
-    match fs::open(rt, path) {
+    match zt_files::open(rt, path) {
         Ok(file) => Ok(file),
-        Err(error) => Err(unopened(rt.alloc(), path, error)),
+        Err(fault) => Err(Fault::of_file(fault)),
     }
 }
 
-/// The book of so many clients over the tree of a session text that is read from a file.
+/// The book of so many clients over the tree of a session text that is read from a file. A person at a terminal is told how far
+/// the loading is.
 pub fn load(rt: &HostRuntime, clients: u8, path: &str) -> Result<Book, Fault>
     ensures loaded { IfOk result (λ book. (text : List ℕ) × IsLoadedOf clients text book) }
     ensures refused { IfErr result (TellsOfSomeText clients) }
     ensures clients { IfOk result (λ book. length book.session.clients ≡ clients) }
     ensures fresh { IfOk result (IsFresh clients) }
 {
-    match read(rt, path) {
-        Ok(text) => book_of(rt.alloc(), clients, path, text.as_slice()),
-        Err(fault) => Err(fault),
+    match read_whole(rt, path) {
+        Ok(text) => book_of(
+            rt.alloc(),
+            clients,
+            path,
+            text.as_slice(),
+            &Progress::new(rt),
+        ),
+        Err(fault) => Err(Fault::of_file(fault)),
     }
 }
 
-/// The book of so many clients over the tree of a session text, which was read from this file.
-fn book_of(alloc: Global, clients: u8, path: &str, text: &[u8]) -> Result<Book, Fault>
+/// The book of so many clients over the tree of a session text, which was read from this file. What was told of how far that is
+/// is wiped in the end.
+fn book_of(
+    alloc: Global,
+    clients: u8,
+    path: &str,
+    text: &[u8],
+    told: &Progress<'_>,
+) -> Result<Book, Fault>
     ensures loaded { IfOk result (IsLoadedOf clients text.now) }
     ensures refused { IfErr result (IsFaultOfText clients text.now) }
     ensures clients { IfOk result (λ book. length book.session.clients ≡ clients) }
 {
-    match load_text(alloc, clients, text) {
+    let loaded = load_text_told(alloc, clients, text, told);
+    told.wipe();
+    match loaded {
         Ok(book) => Ok(book),
         Err((line, refusal)) => {
             let place = TraceLine::of(alloc, path, text, line);
@@ -64,7 +78,7 @@ pub fn save(rt: &HostRuntime, book: &Book, to: Option<&str>) -> Result<(), Fault
         return Ok(());
     };
     let text = main_text(rt.alloc(), book)?;
-    write_whole(rt, path, text.as_slice())
+    written(write_whole(rt, path, text.as_slice()))
 }
 
 /// The same with the session text of the whole tree.
@@ -73,31 +87,13 @@ pub fn save_tree(rt: &HostRuntime, book: &Book, to: Option<&str>) -> Result<(), 
         return Ok(());
     };
     let text = tree_text(rt.alloc(), book)?;
-    write_whole(rt, path, text.as_slice())
+    written(write_whole(rt, path, text.as_slice()))
 }
 
-/// All bytes of a file.
-fn read(rt: &HostRuntime, path: &str) -> Result<Vec<u8>, Fault>
-    ensures { (clients : ℕ) → IfErr result (TellsOfSomeText clients) }
-{
-    let mut file = match open(rt, path) {
-        Ok(file) => file,
-        Err(fault) => return Err(fault),
-    };
-    let mut bytes = Vec::new(rt.alloc());
-    match file.read_to_end(&mut bytes) {
-        Ok(_) => Ok(bytes),
-        Err(error) if error.kind() == io::ErrorKind::OutOfMemory => Err(Fault::of_memory()),
-        Err(_) => Err(Fault::Refused(Refusal::ReadFault)),
-    }
-}
-
-/// The file of this path could not be opened.
-pub(crate) fn unopened(alloc: Global, path: &str, error: io::Error) -> Fault
-    ensures { (clients : ℕ) → TellsOfSomeText clients result }
-{
-    match String::from_str(alloc, path) {
-        Ok(path) => Fault::Unopened { path, error },
-        Err(_) => Fault::of_memory(),
+/// What ends the program where a file is not written.
+fn written(done: Result<(), FileFault>) -> Result<(), Fault> {
+    match done {
+        Ok(()) => Ok(()),
+        Err(fault) => Err(Fault::of_file(fault)),
     }
 }

@@ -13,7 +13,7 @@ use crate::question::{Options, Question, question_of};
 use crate::words::told_command;
 use clap::{Arg, ArgAction, ArgMatches, Command, Error, value_parser};
 use std::alloc::Global;
-use zt_rows::{Koid, Moment};
+use zt_rows::{Koid, LAST_MOMENT, Moment};
 
 /// What is to be looked at, and what is asked of it.
 #[derive(Clone, Copy)]
@@ -236,7 +236,7 @@ fn moment_word<'a>(alloc: Global) -> Arg<'a>
         .long("at")
         .value_name("MOMENT")
         .action(ArgAction::Set)
-        .value_parser(value_parser!(u32).range(0..=1_048_576))
+        .value_parser(value_parser!(u32).range(0..=i64::from(LAST_MOMENT)))
         .help(at_help())
 }
 

@@ -20,12 +20,12 @@ mod files;
 mod look;
 mod look_words;
 mod no_question;
+mod progress;
 mod question;
 mod service;
 mod terminal;
 mod trace_lines;
 mod wanted;
-mod whole_file;
 mod words;
 
 use attendant::{Attendant, show_trace_line};

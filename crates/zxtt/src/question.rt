@@ -8,10 +8,7 @@ ghost use Rattle.std.specs.Str.{bytes_eq};
 ghost use Rattle.zxtt.specs.Questions.{all_happenings, calls_question, first_of_calls, happenings_of, has_other_option, is_happening, is_named, is_of_path, koid_word, last_of_calls, moment_word, named_happenings, number_up_to, one_koid, one_moment, one_word, other_topic_named, plain_question, question_of, question_on, topic_named, without_words};
 
 use zt_look::{CallFilter, HappeningSet};
-use zt_rows::{Koid, Moment};
-
-/// The last moment that there can be.
-const LAST_MOMENT: u32 = 1_048_576;
+use zt_rows::{Koid, LAST_MOMENT, Moment};
 
 /// What is asked about.
 #[derive(Clone, Copy, Debug, PartialEq, Eq)]

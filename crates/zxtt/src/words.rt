@@ -69,9 +69,9 @@ fn examples<'a>() -> &'a str {
   pin                             keeps a copy, which `pinned leaks` and the like ask
 
 Exit statuses:
-  0  the input was answered to its end, refused lines included
+  0  the input or the question was answered to its end, refused lines included
   2  the words were not accepted, or help was asked for
-  3  a file could not be opened
+  3  a file could not be opened, or the port not be listened on
   4  a read failed            5  a write failed
   6  anything else was refused, as a line of a loaded trace"
 }

@@ -12,4 +12,4 @@ pub returns-in-Ok-clause-fresh : goal.returns-in-Ok-clause-fresh
 returns-in-Ok-clause-fresh c = fresh_loaded c.book_of.result c.args.clients _ c.book_of.ensures.clients c.book_of.ensures.loaded
 
 pub returns-in-Err-clause-refused : goal.returns-in-Err-clause-refused
-returns-in-Err-clause-refused c = c.in-Err.ensures c.args.clients
+returns-in-Err-clause-refused c = c.of_file.ensures c.args.clients

@@ -1,7 +1,6 @@
 //! A file that is written whole, or stays as it was.
 
-use crate::faults::Fault;
-use crate::files::unopened;
+use crate::fault::{FileFault, unopened};
 use std::alloc::{AllocError, Global};
 use std::fs::{File, Permissions};
 use std::io::Write;
@@ -14,7 +13,7 @@ const PART: &str = ".zxtt-part";
 /// Writes the text to a file. Where a file stands there, or nothing, it is written to a file beside that, which takes its place
 /// when it is whole, with the permissions of the old one: where something fails, what stood there stands there still. What
 /// is no file, as a pipe or a device, is written as it is, and so is a file beside which none can be made.
-pub fn write_whole(rt: &HostRuntime, path: &str, text: &[u8]) -> Result<(), Fault> {
+pub fn write_whole(rt: &HostRuntime, path: &str, text: &[u8]) -> Result<(), FileFault> {
     match place_of(rt, path)? {
         Some(place) => replace(rt, path, place.as_str(), text),
         None => write_through(rt, path, text),
@@ -22,7 +21,7 @@ pub fn write_whole(rt: &HostRuntime, path: &str, text: &[u8]) -> Result<(), Faul
 }
 
 /// The path of the file behind all links, or this path where nothing stands there; nothing for what is no file.
-fn place_of(rt: &HostRuntime, path: &str) -> Result<Option<String>, Fault> {
+fn place_of(rt: &HostRuntime, path: &str) -> Result<Option<String>, FileFault> {
     match fs::canonicalize(rt, path) {
         Ok(place) => {
             if is_file(rt, place.as_str()) {
@@ -31,7 +30,9 @@ fn place_of(rt: &HostRuntime, path: &str) -> Result<Option<String>, Fault> {
                 Ok(None)
             }
         }
-        Err(error) if error.kind() == io::ErrorKind::OutOfMemory => Err(Fault::of_memory()),
+        Err(error) if error.kind() == io::ErrorKind::OutOfMemory => Err(FileFault::Refused(
+            Refusal::OutOfMemory,
+        )),
         Err(_) => {
             if fs::symlink_metadata(rt, path).is_ok() {
                 Ok(None)
@@ -49,21 +50,21 @@ fn is_file(rt: &HostRuntime, place: &str) -> bool {
     }
 }
 
-fn owned(alloc: Global, path: &str) -> Result<Option<String>, Fault> {
+fn owned(alloc: Global, path: &str) -> Result<Option<String>, FileFault> {
     match String::from_str(alloc, path) {
         Ok(path) => Ok(Some(path)),
-        Err(_) => Err(Fault::of_memory()),
+        Err(_) => Err(FileFault::Refused(Refusal::OutOfMemory)),
     }
 }
 
 /// Writes the text to a file beside the one of this place, and puts it there.
-fn replace(rt: &HostRuntime, path: &str, place: &str, text: &[u8]) -> Result<(), Fault> {
+fn replace(rt: &HostRuntime, path: &str, place: &str, text: &[u8]) -> Result<(), FileFault> {
     let old = match old_permissions(rt, place) {
         Ok(old) => old,
         Err(error) => return Err(unopened(rt.alloc(), path, error)),
     };
     let Ok(part) = part_of(rt.alloc(), place) else {
-        return Err(Fault::of_memory());
+        return Err(FileFault::Refused(Refusal::OutOfMemory));
     };
     // (left by a run that was interrupted)
     let _ = fs::remove_file(rt, part.as_str());
@@ -75,7 +76,7 @@ fn replace(rt: &HostRuntime, path: &str, place: &str, text: &[u8]) -> Result<(),
         return Ok(());
     }
     let _ = fs::remove_file(rt, part.as_str());
-    Err(Fault::Refused(Refusal::WriteFault))
+    Err(FileFault::Refused(Refusal::WriteFault))
 }
 
 /// The permissions of the file that stands there, which may be written; nothing, where none stands there.
@@ -105,13 +106,13 @@ fn fill(file: File, permissions: Option<Permissions>, text: &[u8]) -> io::Result
 }
 
 /// Writes the text to what stands there.
-fn write_through(rt: &HostRuntime, path: &str, text: &[u8]) -> Result<(), Fault> {
+fn write_through(rt: &HostRuntime, path: &str, text: &[u8]) -> Result<(), FileFault> {
     let mut file = match fs::create(rt, path) {
         Ok(file) => file,
         Err(error) => return Err(unopened(rt.alloc(), path, error)),
     };
     match file.write_all(text) {
         Ok(()) => Ok(()),
-        Err(_) => Err(Fault::Refused(Refusal::WriteFault)),
+        Err(_) => Err(FileFault::Refused(Refusal::WriteFault)),
     }
 }
