@@ -121,6 +121,7 @@ class Chooser:
     def __init__(self, seed):
         self.any = random.Random(seed)
         self.wild = 0.14
+        self.kept = {(ROOT, 3)}  # handles that stay where they are, each with its process, which stays alive
 
     def pick(self, choices):
         return self.any.choice(choices) if choices else None
@@ -187,7 +188,7 @@ class Chooser:
 
     def close(self, now, process):
         handle = self.handle(now, process)
-        return None if process == ROOT and handle == 3 else f'handle_close {handle}'
+        return None if (process, handle) in self.kept else f'handle_close {handle}'
 
     def duplicate(self, now, process):
         handle = self.handle(now, process, DUPLICATE)
@@ -195,7 +196,7 @@ class Chooser:
 
     def replace(self, now, process):
         handle = self.handle(now, process)
-        if process == ROOT and handle == 3:
+        if (process, handle) in self.kept:
             return None
         return f'handle_replace {handle} {mask(self.rights(now, process, handle))}'
 
@@ -241,8 +242,7 @@ class Chooser:
             sent.append(self.pick(channels))
         if self.any.random() > 0.15:
             sent = [h for h in dict.fromkeys(sent) if h != over]
-        if process == ROOT:
-            sent = [h for h in sent if h != 3]
+        sent = [h for h in sent if (process, h) not in self.kept]
         return f"channel_write {over} {self.bytes()} {','.join(map(str, sent)) or '-'}"
 
     def read(self, now, process):
@@ -281,7 +281,7 @@ class Chooser:
         argument = 0 if self.any.random() < 0.2 else self.handle(now, process, TRANSFER)
         if channels and self.any.random() < 0.4:
             argument = self.pick(channels)
-        if process == ROOT and argument == 3:
+        if (process, argument) in self.kept:
             return None
         return f"spawn {self.handle(now, process, MANAGE_PROCESS, ('job',))} {argument}"
 
@@ -295,14 +295,18 @@ class Chooser:
             above = self.pick(own) if own and self.any.random() < 0.8 else above
         return f'job_set_critical {above} {child}'
 
+    def ends_one_kept(self, now, koid):
+        """Whether a process that stays alive would end where this job or process does."""
+        return not now.ends_with(koid).isdisjoint(process for process, _ in self.kept)
+
     def kill(self, now, process):
         handle = self.handle(now, process, DESTROY, ('job', 'process'))
-        if self.kind(now, process, handle) in ('job', 'process') and ROOT in now.ends_with(now.named(process, handle).koid):
+        if self.kind(now, process, handle) in ('job', 'process') and self.ends_one_kept(now, now.named(process, handle).koid):
             return None
         return f'task_kill {handle}'
 
     def exit(self, now, process):
-        if ROOT in now.ends_with(process):
+        if self.ends_one_kept(now, process):
             return None
         return f"process_exit {self.pick([0, 0, 1, -1, 7, -9223372036854775808, 9223372036854775807])}"
 
@@ -336,11 +340,15 @@ class Maker:
             raise Trouble(f'{line!r} was answered {answer!r}')
         self.now = Standing(self.talk.ask('show')[1])
 
+    def caller(self):
+        """Who makes the next call."""
+        processes = [p for p in self.now.processes() if p != ROOT and p not in self.left_alone]
+        return self.any.choice(processes) if processes and self.any.random() < 0.5 else ROOT
+
     def one_more(self):
         """Makes a call that the chooser chooses."""
         while True:
-            processes = [p for p in self.now.processes() if p != ROOT and p not in self.left_alone]
-            process = self.any.choice(processes) if processes and self.any.random() < 0.5 else ROOT
+            process = self.caller()
             if process != ROOT and not self.now.of(process) and self.any.random() < 0.7:
                 continue
             call = self.chooser.call(self.now, process)

@@ -1,0 +1,5 @@
+pub mod LoadedLaws
+pub mod TrailLaws
+pub mod ImportLaws
+pub mod ComparedLaws
+pub mod TextLaws

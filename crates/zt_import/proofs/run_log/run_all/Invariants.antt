@@ -1,0 +1,7 @@
+-- The calls so far were asked, and what differs of them is compared.
+use Rattle.zt_import.specs.Imports.{IsImportOf}
+use Rattle.zt_import.specs.ProofsOnly.TakenCalls.{import_of}
+use Rattle.zt_import.proofs.run_log.run_all.Given as goal
+
+abbrev pub invariant-loop-index : goal.invariant-loop-index
+invariant-loop-index l = IsImportOf l.calls l.index (import_of l.taken l.compared)

@@ -1,0 +1,102 @@
+-- When a reply is what a log has. Compared are the status, the number of handles and, where the log has them, the bytes of a
+-- message and the packet of a port; the values of handles are those of another system. This project's own.
+use Rattle.std.specs.Prelude.{ℕ, Bool, true, false, ◌==◌, ◌&&◌, List, length, Option, Some, None}
+use Rattle.std.specs.Cmp.Lexicographic.{pointwise}
+use Rattle.zt_bits.specs.declared.statuses.Status.{Status}
+use Rattle.zt_bits.specs.declared.statuses.Status.TheVariants as status
+use Rattle.zt_rows.specs.declared.calls.Call.{Call}
+use Rattle.zt_rows.specs.declared.calls.Call.TheVariants as call
+use Rattle.zt_rows.specs.declared.calls.Reply.{Reply}
+use Rattle.zt_rows.specs.declared.calls.Reply.TheVariants as reply
+use Rattle.zt_rows.specs.declared.rows.Packet.{Packet}
+use Rattle.zt_rows.specs.declared.rows.Packet.TheVariants as packet
+use Rattle.zt_logs.specs.declared.logged.LoggedCall.{LoggedCall}
+use Rattle.zt_logs.specs.declared.logged.LoggedPacket.{LoggedPacket}
+use Rattle.zt_logs.specs.declared.logged.LoggedPacket.TheVariants as logged
+use Rattle.zt_logs.specs.declared.logged.Recorded.{Recorded}
+
+-- ---- what a reply has
+
+abbrev pub status_of : Reply → Status
+status_of (reply.Status answered) = answered
+status_of (reply.TooSmall _ _) = status.BufferTooSmall
+status_of _ = status.Ok
+
+-- how many handles the caller got
+abbrev pub handle_count : Reply → ℕ
+handle_count (reply.Handle _) = 1
+handle_count (reply.Spawned _ _) = 1
+handle_count (reply.Handles _ _) = 2
+handle_count (reply.Message _ handles) = length handles
+handle_count _ = 0
+
+-- a packet as logs have it
+abbrev pub logged_packet : Packet → LoggedPacket
+logged_packet (packet.User key bytes) = logged.User key bytes
+logged_packet (packet.Signal key trigger observed _ _) = logged.Signal key trigger observed
+
+-- ---- when it is what the log has
+
+-- a number for each status
+abbrev pub status_number : Status → ℕ
+status_number status.Ok = 0
+status_number status.BadHandle = 1
+status_number status.WrongType = 2
+status_number status.AccessDenied = 3
+status_number status.InvalidArgs = 4
+status_number status.NotSupported = 5
+status_number status.PeerClosed = 6
+status_number status.ShouldWait = 7
+status_number status.BufferTooSmall = 8
+status_number status.TimedOut = 9
+status_number status.BadState = 10
+status_number status.OutOfRange = 11
+status_number status.NotFound = 12
+status_number status.AlreadyBound = 13
+
+abbrev pub is_status : Option Status → Status → Bool
+is_status None answered = false
+is_status (Some recorded) answered = status_number recorded == status_number answered
+
+abbrev pub same_bytes : List ℕ → List ℕ → Bool
+same_bytes bytes others = pointwise (λ x y. x == y) bytes others
+
+abbrev pub same_packet : LoggedPacket → LoggedPacket → Bool
+same_packet (logged.User key bytes) (logged.User other others) = (key == other) && same_bytes bytes others
+same_packet (logged.Signal key trigger observed) (logged.Signal other waited stood) =
+    (key == other) && (trigger.0 == waited.0) && (observed.0 == stood.0)
+same_packet _ _ = false
+
+abbrev pub bytes_agree : Option (List ℕ) → Reply → Bool
+bytes_agree None answered = true
+bytes_agree (Some bytes) (reply.Message read _) = same_bytes read bytes
+bytes_agree (Some bytes) _ = false
+
+abbrev pub packets_agree : Option LoggedPacket → Reply → Bool
+packets_agree None answered = true
+packets_agree (Some recorded) (reply.Packet got) = same_packet recorded (logged_packet got)
+packets_agree (Some recorded) _ = false
+
+-- a call that was not made has no reply, and none is what the log has
+abbrev pub agrees : Recorded → Option Reply → Bool
+agrees recorded None = false
+agrees recorded (Some answered) =
+    is_status recorded.status (status_of answered) && (length recorded.handles == handle_count answered)
+    && bytes_agree recorded.bytes answered && packets_agree recorded.packet answered
+
+-- ---- what may differ by the schedule
+
+abbrev pub is_wait : Call → Bool
+is_wait (call.PortWait _) = true
+is_wait _ = false
+
+-- a wait with this status got a packet, or timed out
+abbrev pub waited : Option Status → Bool
+waited (Some status.Ok) = true
+waited (Some status.TimedOut) = true
+waited _ = false
+
+-- a wait for a packet that got one or timed out, on both sides
+abbrev pub may_be_scheduled : LoggedCall → Option Reply → Bool
+may_be_scheduled made None = false
+may_be_scheduled made (Some answered) = is_wait made.call && waited made.recorded.status && waited (Some (status_of answered))

@@ -1,0 +1,32 @@
+-- How an import is seen: the tree of the calls that were made, the calls that were asked, and the differences that are told
+-- and counted. This project's own.
+use Rattle.std.specs.Prelude.{◌≡◌, ℕ, Bool, nat_lt, List, length, take, count_by, Ok}
+use Rattle.zt_history.specs.Tree.{Tree}
+use Rattle.zt_book.specs.Log.{loaded}
+use Rattle.zt_logs.specs.declared.logged.LoggedCall.{LoggedCall}
+use Rattle.zt_import.specs.declared.trail.Difference.{Difference}
+use Rattle.zt_import.specs.declared.trail.Step.{Step}
+use Rattle.zt_import.specs.Trails.{calls_of, numbers_in, moments_in, below, moments_to, differences_of}
+
+pub record Import : Type 0 where
+  pub tree : Tree
+  pub trail : List Step
+  pub told : List Difference
+  pub count : ℕ
+  pub by_schedule : ℕ
+
+-- a reply differs, and not by the schedule
+abbrev pub differs : Import → Bool
+differs it = nat_lt it.by_schedule it.count
+
+-- the calls that were made load as the tree, and each of its moments is that of one step, in their order
+pub record Loads (it : Import) : Type 0 where
+  pub loads : loaded (calls_of it.tree.made) ≡ Ok it.tree
+  pub moments : moments_in it.trail ≡ moments_to (length it.tree.made)
+
+-- the first calls of a log, so many, are steps in their order; all of them that differ are counted, and the first hundred told
+pub record IsImportOf (calls : List LoggedCall) (number : ℕ) (it : Import) : Type 0 where
+  pub numbers : numbers_in it.trail ≡ below number
+  pub told : it.told ≡ take 100 (differences_of calls it.tree.made it.trail)
+  pub count : it.count ≡ length (differences_of calls it.tree.made it.trail)
+  pub by_schedule : it.by_schedule ≡ count_by (λ difference. difference.by_schedule) (differences_of calls it.tree.made it.trail)

@@ -1,0 +1,3 @@
+-- Used by proofs only: no public clause depends on them.
+pub mod TakenCalls
+pub mod ReadTexts

@@ -1,0 +1,142 @@
+ghost use Rattle.std.specs.Prelude.{◌≡◌, ◌+◌, ◌-◌, ◌^◌, ◌<◌, [], ◌∷◌, ◌++◌, cond, nat_lt, if◌then◌else◌, length, OnOk};
+ghost use Rattle.std.specs.Option.{option_copied, option_to_list};
+ghost use Rattle.zt_import.specs.Trails.{difference_of};
+ghost use Rattle.zt_import.specs.ProofsOnly.TakenCalls.{ComparesMore, nothing_compared};
+
+use crate::comparison::{agrees, may_be_scheduled};
+use crate::trail::Difference;
+use std::alloc::{AllocError, Global};
+use std::marker::Model;
+use zt_logs::LoggedCall;
+use zt_rows::{Moment, Reply};
+
+/// The most differences that are told.
+pub const TOLD: usize = 100;
+
+/// The calls of a log whose replies differ from what the log has.
+#[derive(Drop)]
+pub(crate) struct Compared {
+    told: Vec<Difference>,
+    count: u64,
+    by_schedule: u64,
+}
+
+impl Model for Compared {
+    ghost use Rattle.zt_import.specs.ProofsOnly.TakenCalls.{ComparedView};
+
+    ghost Value = { ComparedView };
+
+    ghost view = { λ c. record { told = c.told.items; count = c.count; by_schedule = c.by_schedule } };
+}
+
+impl Compared {
+    /// None.
+    pub(crate) fn new(alloc: Global) -> Compared
+        ensures { result ≡ nothing_compared }
+    {
+        Compared {
+            told: Vec::new(alloc),
+            count: 0,
+            by_schedule: 0,
+        }
+    }
+
+    /// The first hundred.
+    pub(crate) fn told(&self) -> &[Difference]
+        ensures { result.now ≡ self.now.told }
+    {
+        self.told.as_slice()
+    }
+
+    /// How many there are.
+    pub(crate) fn count(&self) -> u64
+        ensures { result ≡ self.now.count }
+    {
+        self.count
+    }
+
+    /// How many of them may be by the schedule.
+    pub(crate) fn by_schedule(&self) -> u64
+        ensures { result ≡ self.now.by_schedule }
+    {
+        self.by_schedule
+    }
+
+    /// Compares the reply of one more call with what the log has.
+    pub(crate) fn add(
+        &mut self,
+        call: usize,
+        logged: &LoggedCall,
+        moment: Option<Moment>,
+        reply: Option<&Reply>,
+    ) -> Result<(), AllocError>
+        ensures { OnOk result (ComparesMore self.old self.new
+            (option_to_list (difference_of logged.now call moment (option_copied reply.entry)))) }
+    {
+        if agrees(&logged.recorded, reply) {
+            return Ok(());
+        }
+        let by_schedule = may_be_scheduled(logged, reply);
+        self.tell(call, moment, by_schedule)
+    }
+
+    /// One difference more.
+    fn tell(
+        &mut self,
+        call: usize,
+        moment: Option<Moment>,
+        by_schedule: bool,
+    ) -> Result<(), AllocError>
+        ensures { OnOk result (ComparesMore self.old self.new (record { call = call; moment = moment; by_schedule = by_schedule } ∷ [])) }
+    {
+        push_told(&mut self.told, call, moment, by_schedule)?;
+        let count = self.count;
+        self.count = counted(count, true);
+        let scheduled = self.by_schedule;
+        self.by_schedule = counted(scheduled, by_schedule);
+        Ok(())
+    }
+}
+
+/// Tells a difference, where fewer than a hundred are told.
+fn push_told(
+    told: &mut Vec<Difference>,
+    call: usize,
+    moment: Option<Moment>,
+    by_schedule: bool,
+) -> Result<(), AllocError>
+    ensures { OnOk result (told.new.items ≡ (if nat_lt (length told.old.items) 100
+        then told.old.items ++ record { call = call; moment = moment; by_schedule = by_schedule } ∷ [] else told.old.items)) }
+{
+    if told.len() < TOLD {
+        push_difference(told, call, moment, by_schedule)
+    } else {
+        Ok(())
+    }
+}
+
+/// One difference more is told.
+fn push_difference(
+    told: &mut Vec<Difference>,
+    call: usize,
+    moment: Option<Moment>,
+    by_schedule: bool,
+) -> Result<(), AllocError>
+    ensures { OnOk result (told.new.items ≡ told.old.items ++ record { call = call; moment = moment; by_schedule = by_schedule } ∷ []) }
+{
+    match told.push(Difference {
+        call,
+        moment,
+        by_schedule,
+    }) {
+        Ok(()) => Ok(()),
+        Err(_) => Err(AllocError),
+    }
+}
+
+/// One more, if it counts.
+fn counted(count: u64, one: bool) -> u64
+    ensures { count < 2 ^ 64 - 1 → result ≡ count + cond one 1 0 }
+{
+    if one { count.saturating_add(1) } else { count }
+}

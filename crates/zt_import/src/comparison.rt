@@ -1,0 +1,183 @@
+ghost use Rattle.std.specs.Prelude.{◌≡◌, Some};
+ghost use Rattle.std.specs.Option.{option_copied};
+ghost use Rattle.zt_import.specs.Comparison.{status_of, handle_count, logged_packet, status_number, is_status, same_packet, bytes_agree, packets_agree, agrees, is_wait, waited, may_be_scheduled};
+
+use zt_bits::Status;
+use zt_logs::{LoggedCall, LoggedPacket, Recorded};
+use zt_rows::{Call, Items, Packet, Reply};
+
+/// The status of a reply.
+pub fn status_of(reply: &Reply) -> Status
+    ensures { result ≡ status_of reply.now }
+{
+    match reply {
+        Reply::Status(status) => *status,
+        Reply::TooSmall(_, _) => Status::BufferTooSmall,
+        _ => Status::Ok,
+    }
+}
+
+/// How many handles the caller got.
+pub fn handle_count(reply: &Reply) -> usize
+    ensures { result ≡ handle_count reply.now }
+{
+    match reply {
+        Reply::Handle(_) | Reply::Spawned(_, _) => 1,
+        Reply::Handles(_, _) => 2,
+        Reply::Message(_, handles) => handles.len(),
+        _ => 0,
+    }
+}
+
+/// Whether a reply is what the log has, in all that the log tells of it. A call that was not made has no reply.
+pub fn agrees(recorded: &Recorded, reply: Option<&Reply>) -> bool
+    ensures { result ≡ agrees recorded.now (option_copied reply.entry) }
+{
+    match reply {
+        Some(reply) => reply_agrees(recorded, reply),
+        None => false,
+    }
+}
+
+/// Whether a reply is what the log has.
+fn reply_agrees(recorded: &Recorded, reply: &Reply) -> bool
+    ensures { result ≡ agrees recorded.now (Some reply.now) }
+{
+    is_status(recorded.status, status_of(reply))
+        && recorded.handles.len() == handle_count(reply)
+        && bytes_agree(&recorded.bytes, reply)
+        && packets_agree(recorded.packet, reply)
+}
+
+/// Whether this is the status that the log has.
+fn is_status(recorded: Option<Status>, status: Status) -> bool
+    ensures { result ≡ is_status recorded status }
+{
+    match recorded {
+        Some(recorded) => status_number(recorded) == status_number(status),
+        None => false,
+    }
+}
+
+/// A number for each status.
+fn status_number(status: Status) -> u8
+    ensures { result ≡ status_number status }
+{
+    match status {
+        Status::Ok => 0,
+        Status::BadHandle => 1,
+        Status::WrongType => 2,
+        Status::AccessDenied => 3,
+        Status::InvalidArgs => 4,
+        Status::NotSupported => 5,
+        Status::PeerClosed => 6,
+        Status::ShouldWait => 7,
+        Status::BufferTooSmall => 8,
+        Status::TimedOut => 9,
+        Status::BadState => 10,
+        Status::OutOfRange => 11,
+        Status::NotFound => 12,
+        Status::AlreadyBound => 13,
+    }
+}
+
+/// Whether the bytes of a message are those that the log has, if it has some.
+fn bytes_agree(recorded: &Option<Items<u8>>, reply: &Reply) -> bool
+    ensures { result ≡ bytes_agree recorded.now reply.now }
+{
+    match recorded {
+        Some(bytes) => match reply {
+            Reply::Message(read, _) => *read == *bytes,
+            _ => false,
+        },
+        None => true,
+    }
+}
+
+/// Whether a packet is the one that the log has, if it has one.
+fn packets_agree(recorded: Option<LoggedPacket>, reply: &Reply) -> bool
+    ensures { result ≡ packets_agree recorded reply.now }
+{
+    match recorded {
+        Some(packet) => match reply {
+            Reply::Packet(got) => same_packet(packet, logged_packet(*got)),
+            _ => false,
+        },
+        None => true,
+    }
+}
+
+/// Whether these are one packet.
+fn same_packet(packet: LoggedPacket, other: LoggedPacket) -> bool
+    ensures { result ≡ same_packet packet other }
+{
+    match (packet, other) {
+        (
+            LoggedPacket::User { key: a, bytes: one },
+            LoggedPacket::User {
+                key: b,
+                bytes: another,
+            },
+        ) => a == b && one == another,
+        (
+            LoggedPacket::Signal {
+                key: a,
+                trigger: t,
+                observed: o,
+            },
+            LoggedPacket::Signal {
+                key: b,
+                trigger: u,
+                observed: p,
+            },
+        ) => a == b && t.0 == u.0 && o.0 == p.0,
+        _ => false,
+    }
+}
+
+/// A packet as logs have it.
+pub fn logged_packet(packet: Packet) -> LoggedPacket
+    ensures { result ≡ logged_packet packet }
+{
+    match packet {
+        Packet::User { key, bytes } => LoggedPacket::User { key, bytes },
+        Packet::Signal {
+            key,
+            trigger,
+            observed,
+            ..
+        } => LoggedPacket::Signal {
+            key,
+            trigger,
+            observed,
+        },
+    }
+}
+
+/// Whether a call and its replies are such that they may differ by the schedule: a wait for a packet that got one or timed
+/// out, on both sides.
+pub fn may_be_scheduled(logged: &LoggedCall, reply: Option<&Reply>) -> bool
+    ensures { result ≡ may_be_scheduled logged.now (option_copied reply.entry) }
+{
+    match reply {
+        Some(reply) => {
+            is_wait(&logged.call)
+                && waited(logged.recorded.status)
+                && waited(Some(status_of(reply)))
+        }
+        None => false,
+    }
+}
+
+fn is_wait(call: &Call) -> bool
+    ensures { result ≡ is_wait call.now }
+{
+    matches!(call, Call::PortWait { .. })
+}
+
+/// Whether a wait for a packet with this status got one or timed out.
+fn waited(status: Option<Status>) -> bool
+    ensures { result ≡ waited status }
+{
+    matches!(status, Some(Status::Ok | Status::TimedOut))
+}

@@ -1,0 +1,465 @@
+use crate::seen_objects::{Hint, SeenObjects, Sent};
+use std::alloc::{AllocError, Global};
+use std::collections::HashMap;
+use zt_bits::Status;
+use zt_logs::{Cause, LogFault, LoggedCall};
+use zt_rows::{Call, HandleValue, Parcel};
+
+/// A process that makes calls and that nothing in the log made, with the objects of its handles that come from nowhere.
+#[derive(Drop)]
+pub(crate) struct AdoptedProcess {
+    pub(crate) number: u64,
+    pub(crate) objects: Vec<usize>,
+}
+
+/// A message that a call reads and that nothing in the log wrote: the end at which it is read, and the objects of its
+/// handles.
+#[derive(Drop)]
+pub(crate) struct OutsideMessage {
+    pub(crate) call: usize,
+    pub(crate) end: usize,
+    pub(crate) objects: Vec<usize>,
+}
+
+/// How a process comes into the log.
+#[derive(Clone, Copy)]
+enum Coming {
+    /// From nowhere, as the one of this place among those that do.
+    Adopted(usize),
+    /// By a call, which gave it a handle to this object, as long as no handle of it is known to be that.
+    Spawned(Option<usize>),
+}
+
+/// What a trace has to make that a log uses and never got, found in one pass over the log.
+#[derive(Drop)]
+pub(crate) struct Plan {
+    pub(crate) processes: Vec<AdoptedProcess>,
+    pub(crate) objects: SeenObjects,
+    /// In the order of their calls.
+    pub(crate) outside: Vec<OutsideMessage>,
+    /// By which handle a process has what it was given when it was spawned.
+    pub(crate) arguments: HashMap<u64, HandleValue>,
+    comings: HashMap<u64, Coming>,
+    /// What each handle of each process names.
+    known: HashMap<(u64, u32), usize>,
+    /// The ends whose peers may yet be found, by the bytes that were first written at them.
+    first_bytes: HashMap<Vec<u8>, usize>,
+}
+
+impl Plan {
+    pub(crate) fn of(alloc: Global, calls: &[LoggedCall]) -> Result<Plan, LogFault> {
+        let mut plan = Plan::new(alloc);
+        for index in 0..calls.len() {
+            let logged = &calls[index];
+            match plan.see(index, logged) {
+                Ok(()) => {}
+                Err(cause) => return Err(cause.at(logged.line)),
+            }
+        }
+        Ok(plan)
+    }
+
+    fn new(alloc: Global) -> Plan {
+        Plan {
+            processes: Vec::new(alloc),
+            objects: SeenObjects::new(alloc),
+            outside: Vec::new(alloc),
+            arguments: HashMap::new(alloc),
+            comings: HashMap::new(alloc),
+            known: HashMap::new(alloc),
+            first_bytes: HashMap::new(alloc),
+        }
+    }
+
+    /// Goes over a call of the log.
+    fn see(&mut self, index: usize, logged: &LoggedCall) -> Result<(), Cause> {
+        self.see_process(logged.process)?;
+        self.see_uses(logged)?;
+        if logged.recorded.status != Some(Status::Ok) {
+            return Ok(());
+        }
+        match &logged.call {
+            Call::ChannelWrite { handle, parcel } => {
+                self.see_write(index, logged.process, *handle, parcel)?;
+                Ok(())
+            }
+            Call::ChannelRead { handle, .. } => {
+                self.see_read(index, logged, *handle)?;
+                Ok(())
+            }
+            Call::Spawn { argument, .. } => self.see_spawn(logged, *argument),
+            Call::ChannelCreate => {
+                self.see_channel(logged)?;
+                Ok(())
+            }
+            Call::HandleDuplicate { handle, .. } | Call::HandleReplace { handle, .. } => {
+                self.see_second(logged, *handle)?;
+                Ok(())
+            }
+            _ => {
+                self.see_new(logged)?;
+                Ok(())
+            }
+        }
+    }
+
+    /// A process that nothing made before its first call comes from nowhere.
+    fn see_process(&mut self, process: u64) -> Result<(), AllocError> {
+        if self.comings.contains_key(&process) {
+            return Ok(());
+        }
+        let place = self.processes.len();
+        let objects = Vec::new(*self.processes.allocator());
+        self.processes.push(AdoptedProcess {
+            number: process,
+            objects,
+        })?;
+        self.comings.insert(process, Coming::Adopted(place))?;
+        Ok(())
+    }
+
+    /// Goes over the handles that a call uses.
+    fn see_uses(&mut self, logged: &LoggedCall) -> Result<(), AllocError> {
+        let process = logged.process;
+        let status = logged.recorded.status;
+        let first = status != Some(Status::BadHandle);
+        match &logged.call {
+            Call::HandleClose { handle }
+            | Call::HandleDuplicate { handle, .. }
+            | Call::HandleReplace { handle, .. }
+            | Call::ObjectSignal { handle, .. } => {
+                self.see_use(process, *handle, first, Hint::Nothing)
+            }
+            Call::ObjectSignalPeer { handle, .. } => {
+                self.see_use(process, *handle, first, told(status, Hint::Peer))
+            }
+            Call::ChannelWrite { handle, parcel } => {
+                self.see_use(process, *handle, first, told(status, Hint::Channel))?;
+                let is_there = matches!(status, Some(Status::Ok | Status::PeerClosed));
+                self.see_sent(process, parcel, is_there)
+            }
+            Call::ChannelRead { handle, .. } => {
+                self.see_use(process, *handle, first, told(status, Hint::Channel))
+            }
+            _ => self.see_other_uses(logged, first),
+        }
+    }
+
+    /// The same of calls on ports, jobs and processes.
+    fn see_other_uses(&mut self, logged: &LoggedCall, first: bool) -> Result<(), AllocError> {
+        let process = logged.process;
+        let status = logged.recorded.status;
+        match &logged.call {
+            Call::ObjectWaitAsync {
+                handle,
+                port,
+                signals,
+                ..
+            } => {
+                self.see_use(process, *handle, first, waited_for(signals.0))?;
+                let is_there = matches!(status, Some(Status::Ok | Status::WrongType));
+                self.see_use(process, *port, is_there, told(status, Hint::Port))
+            }
+            Call::PortQueue { port, .. } | Call::PortWait { port } => {
+                self.see_use(process, *port, first, told(status, Hint::Port))
+            }
+            Call::PortCancel { port, source, .. } => {
+                self.see_use(process, *port, first, told(status, Hint::Port))?;
+                let is_there = matches!(status, Some(Status::Ok | Status::NotFound));
+                self.see_use(process, *source, is_there, Hint::Nothing)
+            }
+            _ => self.see_task_uses(logged, first),
+        }
+    }
+
+    /// The same of calls on jobs and processes.
+    fn see_task_uses(&mut self, logged: &LoggedCall, first: bool) -> Result<(), AllocError> {
+        let process = logged.process;
+        let status = logged.recorded.status;
+        match &logged.call {
+            Call::JobCreate { job } => {
+                self.see_use(process, *job, first, told(status, Hint::Job))
+            }
+            Call::Spawn { job, argument } => {
+                self.see_use(process, *job, first, told(status, Hint::Job))?;
+                let is_there = matches!(status, Some(Status::Ok | Status::BadState));
+                self.see_use(process, *argument, is_there, Hint::Nothing)
+            }
+            Call::JobSetCritical { job, process: task } => {
+                self.see_use(process, *job, first, told(status, Hint::Job))?;
+                let is_there = matches!(
+                    status,
+                    Some(Status::Ok | Status::AlreadyBound | Status::InvalidArgs)
+                );
+                self.see_use(process, *task, is_there, Hint::Process)
+            }
+            Call::TaskKill { handle } => {
+                self.see_use(process, *handle, first, told(status, Hint::Process))
+            }
+            _ => Ok(()),
+        }
+    }
+
+    /// A call uses a handle; whether its status shows that it is there, and what the use tells of the kind.
+    fn see_use(
+        &mut self,
+        process: u64,
+        handle: HandleValue,
+        is_there: bool,
+        hint: Hint,
+    ) -> Result<(), AllocError> {
+        if handle.0 == 0 || !is_there {
+            return Ok(());
+        }
+        let object = match self.object_of(process, handle) {
+            Some(object) => Some(object),
+            None => self.from_nowhere(process, handle)?,
+        };
+        if let Some(object) = object {
+            self.objects.hint(object, hint);
+        }
+        Ok(())
+    }
+
+    /// A message has these handles.
+    fn see_sent(
+        &mut self,
+        process: u64,
+        parcel: &Parcel,
+        is_there: bool,
+    ) -> Result<(), AllocError> {
+        for handle in parcel.handles().as_slice() {
+            self.see_use(process, *handle, is_there, Hint::Nothing)?;
+        }
+        Ok(())
+    }
+
+    /// What a handle of a process names, where it is known.
+    fn object_of(&self, process: u64, handle: HandleValue) -> Option<usize> {
+        self.known.get(&(process, handle.0)).copied()
+    }
+
+    fn name(&mut self, process: u64, handle: HandleValue, object: usize) -> Result<(), AllocError> {
+        self.known.insert((process, handle.0), object)?;
+        Ok(())
+    }
+
+    /// The object of a handle that a process never got, where the trace can give it one.
+    fn from_nowhere(
+        &mut self,
+        process: u64,
+        handle: HandleValue,
+    ) -> Result<Option<usize>, AllocError> {
+        match self.comings.get(&process).copied() {
+            Some(Coming::Adopted(place)) => {
+                let object = self.objects.add(Some((process, handle)))?;
+                if let Some(adopted) = self.processes.get_mut(place) {
+                    adopted.objects.push(object)?;
+                }
+                self.name(process, handle, object)?;
+                Ok(Some(object))
+            }
+            Some(Coming::Spawned(Some(object))) => {
+                self.comings.insert(process, Coming::Spawned(None))?;
+                self.arguments.insert(process, handle)?;
+                self.name(process, handle, object)?;
+                Ok(Some(object))
+            }
+            _ => Ok(None),
+        }
+    }
+
+    /// A message was written.
+    fn see_write(
+        &mut self,
+        index: usize,
+        process: u64,
+        handle: HandleValue,
+        parcel: &Parcel,
+    ) -> Result<(), AllocError> {
+        let Some(end) = self.object_of(process, handle) else {
+            return Ok(());
+        };
+        let objects = self.objects_of(process, parcel)?;
+        let message = Sent {
+            call: index,
+            objects,
+        };
+        if self.objects.send(end, message)? {
+            let bytes = Vec::from_slice(*self.processes.allocator(), parcel.bytes().as_slice())?;
+            self.first_bytes.insert(bytes, end)?;
+        }
+        Ok(())
+    }
+
+    /// The objects of the handles of a message.
+    fn objects_of(&self, process: u64, parcel: &Parcel) -> Result<Vec<Option<usize>>, AllocError> {
+        let mut objects = Vec::new(*self.processes.allocator());
+        for handle in parcel.handles().as_slice() {
+            objects.push(self.object_of(process, *handle))?;
+        }
+        Ok(objects)
+    }
+
+    /// A message was read: what its handles name was in the message that was written, where the log has that.
+    fn see_read(
+        &mut self,
+        index: usize,
+        logged: &LoggedCall,
+        handle: HandleValue,
+    ) -> Result<(), AllocError> {
+        let Some(end) = self.object_of(logged.process, handle) else {
+            return self.see_new(logged);
+        };
+        self.find_peer(logged, end);
+        match self.objects.receive(end) {
+            Some(message) => self.see_received(logged, message.objects.as_slice()),
+            None => {
+                if self.objects.is_from_outside(end) {
+                    self.see_outside(index, logged, end)
+                } else {
+                    self.see_new(logged)
+                }
+            }
+        }
+    }
+
+    /// Finds the peer of an end at which a message is read: the end at which it was written as the first.
+    fn find_peer(&mut self, logged: &LoggedCall, end: usize) {
+        let Some(bytes) = &logged.recorded.bytes else {
+            return;
+        };
+        if !self.objects.is_open(end) {
+            return;
+        }
+        let Some(other) = self.first_bytes.get(bytes.as_slice()).copied() else {
+            return;
+        };
+        if other == end || !self.objects.is_open(other) {
+            return;
+        }
+        let is_it = match self.objects.first_sent(other) {
+            Some(sent) => sent.objects.len() == logged.recorded.handles.len(),
+            None => false,
+        };
+        if is_it {
+            self.objects.pair(other, end);
+        }
+    }
+
+    /// The handles of a message that was read name these objects.
+    fn see_received(
+        &mut self,
+        logged: &LoggedCall,
+        objects: &[Option<usize>],
+    ) -> Result<(), AllocError> {
+        let handles = logged.recorded.handles.as_slice();
+        for place in 0..handles.len() {
+            match objects.get(place).copied() {
+                Some(Some(object)) => self.name(logged.process, handles[place], object)?,
+                _ => self.see_new_one(logged.process, handles[place])?,
+            }
+        }
+        Ok(())
+    }
+
+    /// A message was read that comes from outside.
+    fn see_outside(
+        &mut self,
+        index: usize,
+        logged: &LoggedCall,
+        end: usize,
+    ) -> Result<(), AllocError> {
+        let mut objects = Vec::new(*self.processes.allocator());
+        for handle in logged.recorded.handles.as_slice() {
+            let object = self.objects.add(Some((logged.process, *handle)))?;
+            self.name(logged.process, *handle, object)?;
+            objects.push(object)?;
+        }
+        self.outside.push(OutsideMessage {
+            call: index,
+            end,
+            objects,
+        })?;
+        Ok(())
+    }
+
+    /// A process was made, and has the argument.
+    fn see_spawn(&mut self, logged: &LoggedCall, argument: HandleValue) -> Result<(), Cause> {
+        self.see_new(logged)?;
+        let Some(process) = logged.recorded.process else {
+            return Ok(());
+        };
+        if self.comings.contains_key(&process) {
+            return Err(Cause::SpawnedTwice(process));
+        }
+        let given = self.object_of(logged.process, argument);
+        self.see_coming(process, given)?;
+        Ok(())
+    }
+
+    fn see_coming(&mut self, process: u64, given: Option<usize>) -> Result<(), AllocError> {
+        self.comings.insert(process, Coming::Spawned(given))?;
+        Ok(())
+    }
+
+    /// Both ends of a channel were made.
+    fn see_channel(&mut self, logged: &LoggedCall) -> Result<(), AllocError> {
+        match logged.recorded.handles.as_slice() {
+            [first, second] => {
+                let one = self.objects.add(None)?;
+                let other = self.objects.add(None)?;
+                self.objects.pair(one, other);
+                self.name(logged.process, *first, one)?;
+                self.name(logged.process, *second, other)
+            }
+            _ => self.see_new(logged),
+        }
+    }
+
+    /// A second handle to the object of this one was got.
+    fn see_second(&mut self, logged: &LoggedCall, handle: HandleValue) -> Result<(), AllocError> {
+        match (
+            self.object_of(logged.process, handle),
+            logged.recorded.handles.as_slice(),
+        ) {
+            (Some(object), [second]) => self.name(logged.process, *second, object),
+            _ => self.see_new(logged),
+        }
+    }
+
+    /// The handles that a call got name new objects.
+    fn see_new(&mut self, logged: &LoggedCall) -> Result<(), AllocError> {
+        for handle in logged.recorded.handles.as_slice() {
+            self.see_new_one(logged.process, *handle)?;
+        }
+        Ok(())
+    }
+
+    fn see_new_one(&mut self, process: u64, handle: HandleValue) -> Result<(), AllocError> {
+        let object = self.objects.add(None)?;
+        self.name(process, handle, object)
+    }
+}
+
+/// What a use tells of the kind, where its status does not say that it is another.
+fn told(status: Option<Status>, hint: Hint) -> Hint {
+    if status == Some(Status::WrongType) {
+        Hint::Nothing
+    } else {
+        hint
+    }
+}
+
+/// What a wait for these signals tells of the kind of its object.
+fn waited_for(signals: u32) -> Hint {
+    if signals & 0x3 != 0 {
+        Hint::Channel
+    } else if signals & 0x30 != 0 {
+        Hint::Job
+    } else if signals & 0x4 != 0 {
+        Hint::Peer
+    } else {
+        Hint::Nothing
+    }
+}

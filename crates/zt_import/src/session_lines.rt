@@ -1,0 +1,129 @@
+ghost use Rattle.std.specs.Prelude.{◌≡◌, [], ◌∷◌, Ok, IfOk, OnOk, string_bytes};
+ghost use Rattle.std.specs.List.{list_all};
+ghost use Rattle.std.specs.Option.{option_to_list};
+ghost use Rattle.zt_history.specs.Tree.{call_at};
+ghost use Rattle.zt_text.specs.Session.{session_of};
+ghost use Rattle.zt_import.specs.Trails.{calls_of};
+ghost use Rattle.zt_import.specs.ProofsOnly.ReadTexts.{Writes, step_calls, calls_by, is_no_feed, fits};
+
+use crate::origin_lines::origin_line;
+use crate::run_log::Imported;
+use crate::trail::{Origin, Step};
+use std::alloc::{AllocError, Global};
+use zt_history::History;
+use zt_logs::LoggedCall;
+use zt_rows::{Call, Koid, Moment};
+use zt_text::laws::every_call_is_within;
+use zt_text::{LINE_BYTES, put_call};
+
+/// The session text of an import: ahead of each call a line that is skipped, which tells where it comes from.
+pub fn trace_text(
+    alloc: Global,
+    calls: &[LoggedCall],
+    imported: &Imported,
+) -> Result<Vec<u8>, AllocError>
+    ensures { IfOk result (λ text. session_of text.items ≡ Ok (calls_of imported.now.tree.made)) }
+{
+    let mut text = String::new(alloc);
+    put_steps(&mut text, calls, imported)?;
+    Ok(text.into_bytes())
+}
+
+/// The first line, and the lines of all steps.
+fn put_steps(text: &mut String, calls: &[LoggedCall], imported: &Imported) -> Result<(), AllocError>
+    requires { string_bytes text.old ≡ [] }
+    ensures { OnOk result (session_of (string_bytes text.new) ≡ Ok (calls_of imported.now.tree.made)) }
+{
+    text.push_str("zxtt 1\n")?;
+    put_trail(text, calls, imported.history(), imported.trail())?;
+    Ok(())
+}
+
+/// The lines of steps.
+fn put_trail(
+    text: &mut String,
+    calls: &[LoggedCall],
+    history: &History,
+    trail: &[Step],
+) -> Result<(), AllocError>
+    ensures { OnOk result (Writes (string_bytes text.old) (string_bytes text.new) (calls_by history.now.tree.made trail.now)) }
+{
+    for place in 0..trail.len() {
+        put_step(text, calls, history, &trail[place])?;
+    }
+    Ok(())
+}
+
+/// The lines of a step; none, where it made no moment.
+fn put_step(
+    text: &mut String,
+    calls: &[LoggedCall],
+    history: &History,
+    step: &Step,
+) -> Result<(), AllocError>
+    ensures { OnOk result (Writes (string_bytes text.old) (string_bytes text.new) (step_calls history.now.tree.made step.now)) }
+{
+    match step.moment {
+        Some(moment) => {
+            put_origin(text, calls, step.origin)?;
+            put_moment(text, history, moment)?;
+            Ok(())
+        }
+        None => Ok(()),
+    }
+}
+
+/// The line that tells where a call comes from.
+fn put_origin(text: &mut String, calls: &[LoggedCall], origin: Origin) -> Result<(), AllocError>
+    ensures { OnOk result (Writes (string_bytes text.old) (string_bytes text.new) []) }
+{
+    let line = origin_line(*text.allocator(), calls, origin)?;
+    put_comment(text, line.as_str())
+}
+
+/// A line that is skipped, if this makes one.
+fn put_comment(text: &mut String, comment: &str) -> Result<(), AllocError>
+    ensures { OnOk result (Writes (string_bytes text.old) (string_bytes text.new) []) }
+{
+    if !fits(comment) {
+        return Ok(());
+    }
+    text.push_str("#")?;
+    text.push_str(comment)?;
+    text.push_str("\n")?;
+    Ok(())
+}
+
+/// Whether this stands in one line behind a `#`.
+fn fits(comment: &str) -> bool
+    ensures { result ≡ fits comment.now }
+{
+    comment.len() < LINE_BYTES && has_no_feed(comment.as_bytes())
+}
+
+/// Whether no byte is a line feed.
+fn has_no_feed(bytes: &[u8]) -> bool
+    ensures { result ≡ list_all is_no_feed bytes.now }
+{
+    bytes.iter().all(|byte| *byte != b'\n')
+}
+
+/// The line of a moment's call.
+fn put_moment(text: &mut String, history: &History, moment: Moment) -> Result<(), AllocError>
+    ensures { OnOk result (Writes (string_bytes text.old) (string_bytes text.new) (option_to_list (call_at history.now.tree.made moment))) }
+{
+    match history.call_of(moment) {
+        Some((process, call)) => put_line(text, process, call),
+        None => Ok(()),
+    }
+}
+
+/// The line of a call.
+fn put_line(text: &mut String, process: Koid, call: &Call) -> Result<(), AllocError>
+    ensures { OnOk result (Writes (string_bytes text.old) (string_bytes text.new) ((process, call.now) ∷ [])) }
+{
+    every_call_is_within(process, call);
+    put_call(text, process, call)?;
+    text.push_str("\n")?;
+    Ok(())
+}

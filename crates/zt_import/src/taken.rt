@@ -1,0 +1,142 @@
+ghost use Rattle.std.specs.Prelude.{◌≡◌, ◌<◌, [], ◌∷◌, ◌++◌, None, IfOk, OnOk, OnErr, length, vec_len, vec_capacity};
+ghost use Rattle.std.specs.Option.{option_copied};
+ghost use Rattle.zt_history.specs.Tree.{opening_tree};
+ghost use Rattle.zt_import.specs.Trails.{answer_at, number_in};
+ghost use Rattle.zt_import.specs.ProofsOnly.TakenCalls.{IsTaken, IsOneMore, IsAside, IsCalled};
+
+use crate::trail::{Origin, Step};
+use std::alloc::{AllocError, Global};
+use std::marker::Model;
+use zt_history::{BranchId, History};
+use zt_logs::Cause;
+use zt_rows::{Call, Koid, Moment, Refusal, Reply};
+
+/// The branch on which all calls are made.
+const MAIN: BranchId = BranchId(0);
+
+/// The calls that were asked of a history, each at the head of `main`.
+pub(crate) struct Taken {
+    history: History,
+    trail: Vec<Step>,
+}
+
+impl Drop for Taken {
+    fn drop(self) {
+        let Taken {
+            history: _history,
+            trail: _trail,
+        } = self;
+    }
+}
+
+impl Model for Taken {
+    ghost use Rattle.zt_import.specs.ProofsOnly.TakenCalls.{TakenView, IsTaken};
+
+    ghost Value = { TakenView };
+
+    ghost view = { λ t. record { tree = t.history.tree; trail = t.trail.items } };
+
+    ghost invariant = { λ t. IsTaken t.history.tree t.trail.items };
+}
+
+impl Taken {
+    /// None.
+    pub(crate) fn new(alloc: Global) -> Result<Taken, AllocError>
+        ensures { IfOk result (λ taken. taken ≡ record { tree = opening_tree; trail = [] }) }
+    {
+        let history = History::new(alloc)?;
+        Ok(Taken {
+            history,
+            trail: Vec::new(alloc),
+        })
+    }
+
+    /// The history in which they were made.
+    pub(crate) fn history(&self) -> &History
+        ensures tree { result.now.tree ≡ self.now.tree }
+        ensures taken { IsTaken self.now.tree self.now.trail }
+    {
+        &self.history
+    }
+
+    /// The calls, in the order in which they were asked.
+    pub(crate) fn trail(&self) -> &[Step]
+        ensures { result.now ≡ self.now.trail }
+    {
+        self.trail.as_slice()
+    }
+
+    /// Asks a call of a process. Gives its moment; none, where the process is not alive. Refused, nothing is taken.
+    pub(crate) fn ask(
+        &mut self,
+        origin: Origin,
+        process: Koid,
+        call: &Call,
+    ) -> Result<Option<Moment>, Cause>
+        ensures { IfOk result (λ moment. IsOneMore self.old self.new (record { origin = origin; moment = moment })) }
+    {
+        self.trail.reserve(1)?;
+        match called(&mut self.history, process, call)? {
+            Some(moment) => {
+                push_kept(&mut self.trail, origin, Some(moment));
+                Ok(Some(moment))
+            }
+            None => {
+                push_kept(&mut self.trail, origin, None);
+                Ok(None)
+            }
+        }
+    }
+
+    /// The same of a call that the log does not have.
+    pub(crate) fn ask_aside(
+        &mut self,
+        origin: Origin,
+        process: Koid,
+        call: &Call,
+    ) -> Result<Option<Moment>, Cause>
+        requires { number_in origin ≡ None }
+        ensures { OnOk result (IsAside self.old self.new) }
+    {
+        self.ask(origin, process, call)
+    }
+
+    /// What the call of a moment answered.
+    pub(crate) fn reply(&self, moment: &Option<Moment>) -> Option<&Reply>
+        ensures { option_copied result ≡ answer_at self.now.tree.made moment.now }
+    {
+        match moment {
+            Some(moment) => self.history.reply_of(*moment),
+            None => None,
+        }
+    }
+}
+
+/// Makes a call at the head of `main`, where its process is alive.
+fn called(history: &mut History, process: Koid, call: &Call) -> Result<Option<Moment>, Cause>
+    requires { 0 < length history.old.tree.branches }
+    ensures ok { IfOk result (IsCalled history.old.tree history.new.tree) }
+    ensures err { OnErr result (history.new.tree ≡ history.old.tree) }
+{
+    match history.call(MAIN, process, call) {
+        Ok(made) => {
+            let (moment, _reply) = made;
+            Ok(Some(moment))
+        }
+        Err(refusal) => match refusal {
+            Refusal::NoProcess => Ok(None),
+            _ => Err(Cause::from(refusal)),
+        },
+    }
+}
+
+/// One step more, for which there is room.
+fn push_kept(trail: &mut Vec<Step>, origin: Origin, moment: Option<Moment>)
+    requires { vec_len trail.old < vec_capacity trail.old }
+    ensures { trail.new.items ≡ trail.old.items ++ record { origin = origin; moment = moment } ∷ [] }
+{
+    match trail.push(Step { origin, moment }) {
+        Ok(()) => {}
+        Err(_) => unreachable!(),
+    }
+}

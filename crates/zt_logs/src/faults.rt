@@ -1,0 +1,116 @@
+use crate::places::Place;
+use std::alloc::AllocError;
+use std::fmt;
+use zt_rows::Refusal;
+
+/// Why a log is not taken: the number of the line at fault, or 0 where none is, with the cause.
+#[derive(Clone, Copy, Debug)]
+pub struct LogFault {
+    pub line: u64,
+    pub cause: Cause,
+}
+
+/// What is wrong.
+#[derive(Clone, Copy, Debug)]
+pub enum Cause {
+    /// Memory was refused.
+    OutOfMemory,
+    /// The trace has as many calls as there can be.
+    Full,
+    /// The line is longer than lines can be.
+    TooLong,
+    /// The line is no JSON object.
+    NoObject,
+    /// A member of the object, or of one within it, has not the form wanted.
+    Member { place: Place, wanted: Wanted },
+    /// The process of this number is spawned, and was there before.
+    SpawnedTwice(u64),
+}
+
+/// What is wanted of a member.
+#[derive(Clone, Copy, Debug)]
+pub enum Wanted {
+    /// A number up to this one.
+    Number(u64),
+    SignedNumber,
+    Text,
+    Object,
+    List,
+    Flag,
+    /// Bytes as pairs of digits.
+    Digits,
+    /// The 32 bytes of a packet as digits.
+    PacketDigits,
+    PacketType,
+    /// So many bytes or items.
+    AtMost(usize),
+}
+
+impl From<AllocError> for Cause {
+    fn from(_refused: AllocError) -> Cause {
+        Cause::OutOfMemory
+    }
+}
+
+impl From<Refusal> for Cause {
+    fn from(refusal: Refusal) -> Cause {
+        match refusal {
+            Refusal::Full => Cause::Full,
+            _ => Cause::OutOfMemory,
+        }
+    }
+}
+
+impl Cause {
+    /// The fault of this cause at a line; want of memory is no line's fault.
+    pub fn at(self, line: u64) -> LogFault {
+        match self {
+            Cause::OutOfMemory => LogFault {
+                line: 0,
+                cause: self,
+            },
+            _ => LogFault { line, cause: self },
+        }
+    }
+}
+
+impl fmt::Display for LogFault {
+    fn fmt<W: fmt::Write>(&self, f: &mut fmt::Formatter<W>) -> fmt::Result {
+        if self.line != 0 {
+            write!(f, "line {}: ", self.line)?;
+        }
+        write!(f, "{}", self.cause)
+    }
+}
+
+impl fmt::Display for Cause {
+    fn fmt<W: fmt::Write>(&self, f: &mut fmt::Formatter<W>) -> fmt::Result {
+        match self {
+            Cause::OutOfMemory => write!(f, "out of memory"),
+            Cause::Full => write!(f, "no more than {} calls", zt_rows::LAST_MOMENT),
+            Cause::TooLong => write!(f, "longer than {} bytes", crate::json_lines::LINE_BYTES),
+            Cause::NoObject => write!(f, "no JSON object"),
+            Cause::Member { place, wanted } => write!(f, "{place}: {wanted}"),
+            Cause::SpawnedTwice(process) => {
+                write!(f, "process {process} is spawned and was there before")
+            }
+        }
+    }
+}
+
+impl fmt::Display for Wanted {
+    fn fmt<W: fmt::Write>(&self, f: &mut fmt::Formatter<W>) -> fmt::Result {
+        match self {
+            Wanted::Number(most) => write!(f, "a number to {most} is wanted"),
+            Wanted::SignedNumber => write!(f, "a signed number of 64 bits is wanted"),
+            Wanted::Text => write!(f, "a text is wanted"),
+            Wanted::Object => write!(f, "an object is wanted"),
+            Wanted::List => write!(f, "a list is wanted"),
+            Wanted::Flag => write!(f, "true or false is wanted"),
+            Wanted::Digits => write!(f, "an even number of hexadecimal digits is wanted"),
+            Wanted::PacketDigits => write!(f, "64 hexadecimal digits are wanted"),
+            Wanted::PacketType => write!(f, "user or signal is wanted"),
+            Wanted::AtMost(most) => write!(f, "at most {most} are wanted"),
+        }
+    }
+}

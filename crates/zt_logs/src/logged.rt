@@ -1,0 +1,53 @@
+use zt_bits::{Signals, Status};
+use zt_rows::{Call, HandleValue, Items};
+
+/// A line of a log: a call that returned, with what the real system answered.
+#[derive(Debug, Drop)]
+pub struct LoggedCall {
+    /// The number of the line, counted from 1.
+    pub line: u64,
+    /// The process that made the call, by its number in the log.
+    pub process: u64,
+    /// The call, whose handles are those of the log.
+    pub call: Call,
+    pub recorded: Recorded,
+}
+
+/// What a real system answered, as far as the log has it.
+#[derive(Debug, Drop)]
+pub struct Recorded {
+    /// Nothing where no call of the semantics has this status.
+    pub status: Option<Status>,
+    /// The handles that the caller got, in their order.
+    pub handles: Items<HandleValue>,
+    /// The bytes of a message that was read.
+    pub bytes: Option<Items<u8>>,
+    /// The packet of a port.
+    pub packet: Option<LoggedPacket>,
+    /// The number of a process that was made.
+    pub process: Option<u64>,
+}
+
+/// A packet, as a log has it.
+#[derive(Clone, Copy, Debug, PartialEq, Eq)]
+pub enum LoggedPacket {
+    User {
+        key: u64,
+        bytes: [u8; 32],
+    },
+    Signal {
+        key: u64,
+        trigger: Signals,
+        observed: Signals,
+    },
+}
+
+/// The calls of a log.
+#[derive(Debug, Drop)]
+pub struct Log {
+    pub calls: Vec<LoggedCall>,
+    /// How many lines there are, empty ones too.
+    pub lines: u64,
+    /// How many of them have a call that the semantics does not know.
+    pub skipped: u64,
+}

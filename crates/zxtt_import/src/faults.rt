@@ -1,0 +1,84 @@
+//! What ends the program before it is done.
+
+use std::alloc::AllocError;
+use std::io;
+use thiserror::Error;
+use zt_files::FileFault;
+use zt_logs::LogFault;
+use zt_rows::Refusal;
+
+/// What ends the program before it is done.
+#[derive(Debug, Drop, Error)]
+pub enum Fault {
+    /// The words were not accepted, or help was asked for.
+    #[error("{0}")]
+    Words(clap::Error),
+    /// The words are no text.
+    #[error("zxtt-import: the words cannot be read: {0}")]
+    Unread(io::Error),
+    /// A file could not be opened.
+    #[error("zxtt-import: {path}: {error}")]
+    Unopened { path: String, error: io::Error },
+    /// The log could not be read.
+    #[error("zxtt-import: the log cannot be read")]
+    Read,
+    /// The trace could not be written.
+    #[error("zxtt-import: the trace cannot be written")]
+    Write,
+    /// The log is not taken.
+    #[error("zxtt-import: {0}")]
+    Log(LogFault),
+    /// Memory was refused.
+    #[error("zxtt-import: out of memory")]
+    OutOfMemory,
+    /// A reply differs.
+    #[error("zxtt-import: a reply differs")]
+    Differs,
+}
+
+impl Fault {
+    /// Says on standard error what it is. Which reply differs is said before.
+    pub fn tell(&self, rt: &HostRuntime) {
+        match self {
+            Fault::Differs => {}
+            _ => {
+                let _ = eprintln!(rt; "{self}");
+            }
+        }
+    }
+
+    /// The exit status.
+    pub fn status(&self) -> u8 {
+        match self {
+            Fault::Words(_) | Fault::Unread(_) => 2,
+            Fault::Unopened { .. } => 3,
+            Fault::Read => 4,
+            Fault::Write => 5,
+            Fault::Log(_) | Fault::OutOfMemory => 6,
+            Fault::Differs => 7,
+        }
+    }
+}
+
+impl From<LogFault> for Fault {
+    fn from(fault: LogFault) -> Fault {
+        Fault::Log(fault)
+    }
+}
+
+impl From<FileFault> for Fault {
+    fn from(fault: FileFault) -> Fault {
+        match fault {
+            FileFault::Unopened { path, error } => Fault::Unopened { path, error },
+            FileFault::Refused(Refusal::ReadFault) => Fault::Read,
+            FileFault::Refused(Refusal::WriteFault) => Fault::Write,
+            FileFault::Refused(_) => Fault::OutOfMemory,
+        }
+    }
+}
+
+impl From<AllocError> for Fault {
+    fn from(_refused: AllocError) -> Fault {
+        Fault::OutOfMemory
+    }
+}

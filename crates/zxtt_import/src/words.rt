@@ -1,0 +1,131 @@
+//! The words of the command line.
+
+use crate::faults::Fault;
+use clap::{Arg, ArgAction, ArgMatches, Command, Error};
+use std::alloc::Global;
+use std::env;
+
+// No clause tells the texts that these functions give, so that who asks for one is proved without going over its bytes.
+
+/// What the program does.
+fn about() -> &'static str {
+    "Makes a trace for zxtt of a log of calls of a real system.
+
+Each line of the log is a JSON object: a call that returned, with what it answered. The
+calls are run by the written semantics of zxtt, and where it answers otherwise than the
+log says, that is told on standard error."
+}
+
+/// What the word `LOG` is.
+fn log_help() -> &'static str {
+    "The log; `-` is standard input"
+}
+
+/// What the word `to` does.
+fn to_help() -> &'static str {
+    "Writes the trace to a file; `-`, as without it, is standard output"
+}
+
+/// What the word `strict` does.
+fn strict_help() -> &'static str {
+    "Ends with status 7 at the first reply that differs, and writes nothing"
+}
+
+/// What is said behind the words.
+fn statuses<'a>() -> &'a str {
+    "Exit statuses:
+  0  the trace is written, where replies differ too
+  2  the words were not accepted, or help was asked for
+  3  a file could not be opened
+  4  the log could not be read        5  the trace could not be written
+  6  a line of the log is at fault, or memory was refused
+  7  with --strict, a reply differs"
+}
+
+/// The words that the program was started with.
+#[derive(Drop)]
+pub struct Words {
+    words: Vec<String>,
+}
+
+/// What the words ask for.
+#[derive(Clone, Copy)]
+pub struct Asked<'a> {
+    /// The log that is read.
+    pub log: &'a str,
+    /// Where the trace is written, if that is not standard output.
+    pub to: Option<&'a str>,
+    pub is_strict: bool,
+}
+
+impl Words {
+    /// The words, the program's own name among them.
+    pub fn of(rt: &HostRuntime) -> Result<Words, Fault> {
+        let words = match env::args(rt) {
+            Ok(words) => words,
+            Err(error) => return Err(Fault::Unread(error)),
+        };
+        match words.collect(rt.alloc()) {
+            Ok(words) => Ok(Words { words }),
+            Err(_) => Err(Fault::OutOfMemory),
+        }
+    }
+
+    /// What they ask for.
+    pub fn asked(&self, alloc: Global) -> Result<Asked<'_>, Fault> {
+        match self.met(alloc) {
+            Ok(matches) => Ok(asked_of(&matches)),
+            Err(error) => Err(Fault::Words(error)),
+        }
+    }
+
+    /// What is met of them.
+    fn met(&self, alloc: Global) -> Result<ArgMatches<'_>, Error> {
+        let matches = command(alloc)?.try_get_matches_from(self.words.as_slice())?;
+        Ok(matches)
+    }
+}
+
+/// What the words that were met ask for.
+fn asked_of<'a>(matches: &ArgMatches<'a>) -> Asked<'a> {
+    Asked {
+        log: matches.get_str("LOG").unwrap_or("-"),
+        to: matches.get_str("to"),
+        is_strict: matches.get_flag("strict"),
+    }
+}
+
+/// The command line.
+fn command<'a>(alloc: Global) -> Result<Command<'a>, Error> {
+    Ok(
+        Command::new(alloc, "zxtt-import")
+            .version("0.1")
+            .about(about())
+            .after_help(statuses())
+            .arg(log_word(alloc))?
+            .arg(to_word(alloc))?
+            .arg(strict_word(alloc))?,
+    )
+}
+
+fn log_word<'a>(alloc: Global) -> Arg<'a> {
+    Arg::new(alloc, "LOG")
+        .action(ArgAction::Set)
+        .required(true)
+        .help(log_help())
+}
+
+fn to_word<'a>(alloc: Global) -> Arg<'a> {
+    Arg::new(alloc, "to")
+        .long("to")
+        .value_name("TRACE")
+        .action(ArgAction::Set)
+        .help(to_help())
+}
+
+fn strict_word<'a>(alloc: Global) -> Arg<'a> {
+    Arg::new(alloc, "strict")
+        .long("strict")
+        .action(ArgAction::SetTrue)
+        .help(strict_help())
+}
