@@ -1,0 +1,99 @@
+-- How a request is answered, and what the history is then.
+use Rattle.std.specs.Prelude.{◌≡◌, ◌⊎◌, ℕ, Bool, true, List, [], Option, None, Some, Result, Ok, Err}
+use Rattle.http.specs.declared.request.Request.{Request}
+use Rattle.http.specs.Request.{body_of, head_of}
+use Rattle.http_uri.specs.Uri.{uri_path, uri_query}
+use Rattle.http_server.specs.declared.response.Response.{Response}
+use Rattle.zt_rows.specs.declared.refusals.Refusal.{Refusal}
+use Rattle.zt_text.specs.SavedTexts.{saved_text}
+use Rattle.zt_book.specs.Log.{BookView, standing_of}
+use Rattle.zt_book.specs.SavedSessions.{saved_of_session}
+use Rattle.zt_console.specs.Explored.{AsksExplored}
+use Rattle.zt_console.specs.Run.{HasTalked}
+use Rattle.zt_view.specs.declared.question.Question.{Question}
+use Rattle.zt_view.specs.declared.requests.Asked.{Asked}
+use Rattle.zt_view.specs.declared.requests.Asked.TheVariants as asked
+use Rattle.zt_view.specs.declared.view.View.{View}
+use Rattle.zt_view.specs.Guard.{IsAdmitted}
+use Rattle.zt_view.specs.Questions.{IsFound}
+use Rattle.zt_view.specs.Requests.{wish}
+use Rattle.zt_view.specs.Responses.{IsFailure, IsRefusal, Tells, TellsFound}
+
+-- the view holds this book, and all else is as before
+abbrev pub Holds : Option BookView → View → View → Type 0
+Holds book old new = (new.book ≡ book) × (new.own ≡ old.own) × (new.is_ended ≡ old.is_ended)
+
+-- the request is refused, and nothing is changed
+abbrev pub Refuses : View → Response → View → Type 0
+Refuses old response new = IsRefusal response × Holds old.book old new
+
+-- the view holds a book that stands as this one, and all else is as before
+abbrev pub Stands : BookView → View → View → Type 0
+Stands book old new = (next : BookView) × Holds (Some next) old new × (standing_of next ≡ standing_of book)
+
+-- a view that holds no book can answer nothing of it
+abbrev pub LacksBook : View → Response → View → Type 0
+LacksBook old response new = (old.book ≡ None) × Refuses old response new
+
+-- ---- lines
+
+-- the text is all that is written where these lines are answered over one book, which leaves the other
+abbrev pub IsTalk : BookView → BookView → List ℕ → List ℕ → Type 0
+IsTalk from to lines text = HasTalked AsksExplored from to (Some lines) (Some []) (Some text) true
+
+-- some first ones of the lines are answered over one book, which leaves the other
+abbrev pub IsPartOfTalk : BookView → BookView → List ℕ → Type 0
+IsPartOfTalk from to lines =
+    (written : List ℕ) × (done : Bool) × HasTalked AsksExplored from to (Some lines) (Some []) (Some written) done
+
+-- the body is all that is written for the lines; or some first ones were answered, and the server has failed
+abbrev pub TellsTalk : BookView → BookView → List ℕ → Response → Type 0
+TellsTalk from to lines response =
+    ((response.status ≡ 200) × IsTalk from to lines response.body.items) ⊎ (IsFailure response × IsPartOfTalk from to lines)
+
+abbrev pub AnswersLines : View → List ℕ → Response → View → Type 0
+AnswersLines old lines response new =
+    ((from : BookView) × (to : BookView) × (old.book ≡ Some from) × Holds (Some to) old new × TellsTalk from to lines response)
+    ⊎ LacksBook old response new
+
+-- ---- the tree, and questions about it
+
+abbrev pub AnswersTree : Option BookView → View → Response → View → Type 0
+AnswersTree None old response new = Refuses old response new
+AnswersTree (Some book) old response new =
+    Tells 200 (saved_text (saved_of_session book.session)) response × Holds old.book old new
+
+-- what is found of the question, or why nothing is, is told
+abbrev pub TellsOf : Question → BookView → Response → Type 0
+TellsOf question book response =
+    (found : Result (List ℕ) Refusal) × IsFound question book.session.tree found × TellsFound found response
+
+abbrev pub AnswersQuestion : Question → View → Response → View → Type 0
+AnswersQuestion question old response new =
+    ((book : BookView) × (old.book ≡ Some book) × TellsOf question book response × Stands book old new)
+    ⊎ LacksBook old response new
+
+-- ---- all requests
+
+-- what is asked for is answered, or its lack is told
+abbrev pub Answers : Result Asked ℕ → View → List ℕ → Response → View → Type 0
+Answers (Ok (asked.Page _)) old body response new = ((response.status ≡ 200) ⊎ IsFailure response) × Holds old.book old new
+Answers (Ok asked.Lines) old body response new = AnswersLines old body response new
+Answers (Ok asked.Tree) old body response new = AnswersTree old.book old response new
+Answers (Ok (asked.Answer question)) old body response new = AnswersQuestion question old response new
+Answers (Ok asked.End) old body response new =
+    ((response.status ≡ 200) ⊎ IsFailure response) × (new.book ≡ old.book) × (new.own ≡ old.own) × (new.is_ended ≡ true)
+Answers (Err status) old body response new = Refuses old response new
+
+-- what a request asks for
+abbrev pub wish_of : Request (List ℕ) → Result Asked ℕ
+wish_of request = wish (head_of request).method (uri_path (head_of request).uri) (uri_query (head_of request).uri)
+
+-- the request is for this server, and from nowhere else
+abbrev pub IsAdmittedTo : View → Request (List ℕ) → Type 0
+IsAdmittedTo view request = IsAdmitted view.own (head_of request).uri (head_of request).headers
+
+-- How a request is answered: what is let in by what it asks for, and what is not by a refusal.
+pub record IsAnswered (old : View) (request : Request (List ℕ)) (response : Response) (new : View) : Type 0 where
+  pub admitted : IsAdmittedTo old request → Answers (wish_of request) old (body_of request) response new
+  pub foreign : ¬ (IsAdmittedTo old request) → Refuses old response new

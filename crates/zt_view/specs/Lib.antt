@@ -1,0 +1,7 @@
+-- Definitions to believe: public clauses are stated in them.
+pub mod Cuts
+pub mod Guard
+pub mod Requests
+pub mod Questions
+pub mod Responses
+pub mod Answers

@@ -1,0 +1,153 @@
+-- What requests ask for, by their method, path and query.
+use Rattle.std.specs.Prelude.{ℕ, ◌==◌, length, Bool, true, false, List, [], ◌∷◌, Option, None, Some, Result, Ok, Err, if◌then◌else◌, codes, unwrap_or}
+use Rattle.std.specs.Str.{bytes_eq}
+use Rattle.zt_text.specs.Fields.{parts_of}
+use Rattle.zt_text.specs.Numbers.{koid_of, moment_of}
+use Rattle.zt_look.specs.declared.call_list.CallFilter.{CallFilter}
+use Rattle.zt_look.specs.declared.event_list.HappeningSet.{HappeningSet}
+use Rattle.zt_view.specs.declared.page.Part.TheVariants as part
+use Rattle.zt_view.specs.declared.question.Question.TheVariants as question
+use Rattle.zt_view.specs.declared.requests.Asked.{Asked}
+use Rattle.zt_view.specs.declared.requests.Asked.TheVariants as asked
+use Rattle.zt_view.specs.Cuts.{before, behind}
+
+infixl 10 ◌>>=◌
+abbrev pub ◌>>=◌ : {A B : Type 0} → Option A → (A → Option B) → Option B
+(Some x) >>= f = f x
+None >>= f = None
+
+-- ---- queries: words with `&` between
+
+-- of these calls those alone that the process made, or that are about the object
+unfoldable pub wanted_of : CallFilter → List ℕ → ℕ → Option CallFilter
+wanted_of wanted name koid =
+    if bytes_eq name (codes "process") then Some (record wanted { process = Some koid })
+    else (if bytes_eq name (codes "object") then Some (record wanted { object = Some koid })
+    else None)
+
+-- of these calls those alone that the word asks for, which may have a value
+abbrev pub wanted_if : CallFilter → List ℕ → Option (List ℕ) → Option CallFilter
+wanted_if wanted name None = if bytes_eq name (codes "failed") then Some (record wanted { failed = true }) else None
+wanted_if wanted name (Some value) = do
+  koid ← koid_of value
+  wanted_of wanted name koid
+
+unfoldable pub wanted_with : CallFilter → List ℕ → Option CallFilter
+wanted_with wanted word = wanted_if wanted (before 61 word) (behind 61 word)
+
+abbrev pub wanted_by : CallFilter → List (List ℕ) → Option CallFilter
+wanted_by wanted [] = Some wanted
+wanted_by wanted (word ∷ words) = do
+  next ← wanted_with wanted word
+  wanted_by next words
+
+-- of these calls those alone that a query asks for; an empty one asks for all
+abbrev pub calls_wanted : CallFilter → List ℕ → Option CallFilter
+calls_wanted all query = if length query == 0 then Some all else wanted_by all (parts_of 38 query)
+
+unfoldable pub happenings_with : HappeningSet → List ℕ → Option HappeningSet
+happenings_with wanted word =
+    if bytes_eq word (codes "made") then Some (record wanted { made = true })
+    else (if bytes_eq word (codes "ended") then Some (record wanted { ended = true })
+    else (if bytes_eq word (codes "peer_closed") then Some (record wanted { peer_closed = true })
+    else (if bytes_eq word (codes "leaked") then Some (record wanted { leaked = true })
+    else None)))
+
+abbrev pub happenings_by : HappeningSet → List (List ℕ) → Option HappeningSet
+happenings_by wanted [] = Some wanted
+happenings_by wanted (word ∷ words) = do
+  next ← happenings_with wanted word
+  happenings_by next words
+
+-- all happenings, or none
+abbrev pub each_happening : Bool → HappeningSet
+each_happening is = record { made = is; ended = is; peer_closed = is; leaked = is }
+
+-- the happenings that a query asks for; an empty one asks for all
+abbrev pub happenings_wanted : List ℕ → Option HappeningSet
+happenings_wanted query = if length query == 0 then Some (each_happening true) else happenings_by (each_happening false) (parts_of 38 query)
+
+-- ---- paths: words and numbers with `/` between
+
+unfoldable pub change_asked : List ℕ → Option Asked
+change_asked numbers = do
+  moment ← moment_of numbers
+  Some (asked.Answer (question.Change moment))
+
+unfoldable pub events_asked : List ℕ → List ℕ → Option Asked
+events_asked numbers query = do
+  at ← moment_of numbers
+  wanted ← happenings_wanted query
+  Some (asked.Answer (question.Events at wanted))
+
+-- `/object/KOID/MOMENT`
+unfoldable pub object_asked : List ℕ → Option Asked
+object_asked numbers = do
+  koid ← koid_of (before 47 numbers)
+  rest ← behind 47 numbers
+  at ← moment_of rest
+  Some (asked.Answer (question.Object koid at))
+
+-- all calls of the moments from the first to the last
+abbrev pub all_between : ℕ → ℕ → CallFilter
+all_between first last = record { first = first; last = last; failed = false; process = None; object = None }
+
+-- `/calls/MOMENT/FIRST/LAST`
+unfoldable pub calls_asked : List ℕ → List ℕ → Option Asked
+calls_asked numbers query = do
+  at ← moment_of (before 47 numbers)
+  range ← behind 47 numbers
+  first ← moment_of (before 47 range)
+  rest ← behind 47 range
+  last ← moment_of rest
+  wanted ← calls_wanted (all_between first last) query
+  Some (asked.Answer (question.Calls at wanted))
+
+-- what a word with numbers behind it asks for
+unfoldable pub of_numbers : List ℕ → List ℕ → List ℕ → Option Asked
+of_numbers word numbers query =
+    if bytes_eq word (codes "change") then change_asked numbers
+    else (if bytes_eq word (codes "events") then events_asked numbers query
+    else (if bytes_eq word (codes "object") then object_asked numbers
+    else (if bytes_eq word (codes "calls") then calls_asked numbers query
+    else None)))
+
+-- what a word alone asks for
+unfoldable pub named : List ℕ → Option Asked
+named word =
+    if bytes_eq word (codes "") then Some (asked.Page part.Index)
+    else (if bytes_eq word (codes "style.css") then Some (asked.Page part.Style)
+    else (if bytes_eq word (codes "script.js") then Some (asked.Page part.Script)
+    else (if bytes_eq word (codes "lines") then Some asked.Lines
+    else (if bytes_eq word (codes "tree") then Some asked.Tree
+    else (if bytes_eq word (codes "branches") then Some (asked.Answer question.Branches)
+    else (if bytes_eq word (codes "end") then Some asked.End
+    else None))))))
+
+abbrev pub named_with : List ℕ → Option (List ℕ) → List ℕ → Option Asked
+named_with word None query = named word
+named_with word (Some numbers) query = of_numbers word numbers query
+
+-- what is asked for by a path, which begins with `/`, and a query
+unfoldable pub asked_at : List ℕ → List ℕ → Option Asked
+asked_at path query = do
+  rest ← if bytes_eq (before 47 path) (codes "") then behind 47 path else None
+  named_with (before 47 rest) (behind 47 rest) query
+
+-- ---- methods
+
+-- the method by which it is asked for
+abbrev pub method_of : Asked → List ℕ
+method_of (asked.Page _) = codes "GET"
+method_of asked.Lines = codes "POST"
+method_of asked.Tree = codes "GET"
+method_of (asked.Answer _) = codes "GET"
+method_of asked.End = codes "POST"
+
+abbrev pub by_method : List ℕ → Option Asked → Result Asked ℕ
+by_method method None = Err 404
+by_method method (Some asked) = if bytes_eq method (method_of asked) then Ok asked else Err 405
+
+-- what a request asks for, or the status of its answer
+abbrev pub wish : List ℕ → List ℕ → Option (List ℕ) → Result Asked ℕ
+wish method path query = by_method method (asked_at path (unwrap_or query []))

@@ -1,0 +1,94 @@
+//! Which requests are let in: those alone that a page of this server, or a person's own program, sends to it by its own
+//! name. So no page from elsewhere can talk to it, whatever name it has made a browser resolve to this machine.
+
+ghost use Rattle.std.specs.Prelude.{◌≡◌, ◌≤◌, ◌↔◌, ◌++◌, ◌⊎◌, All, IfErr, IfOk, IsTrue, OnErr, OnOk, codes, string_bytes};
+ghost use Rattle.std.specs.Fmt.{decimal};
+ghost use Rattle.http_header.specs.HeaderMap.{get_all};
+
+use http::{HeaderMap, HeaderValue, StatusCode, Uri, header};
+use std::alloc::{AllocError, Global};
+
+/// What the server is called: its address and its name, each with its port.
+#[derive(Drop)]
+pub struct Own {
+    pub address: String,
+    pub name: String,
+}
+
+impl Own {
+    ghost use Rattle.zt_view.specs.Guard.{IsAdmitted, IsAskedOf, IsOwnHost, IsOwnOrigin};
+
+    /// What a server at this port is called.
+    pub fn new(alloc: Global, port: u16) -> Result<Own, AllocError>
+        ensures address { IfOk result (λ own. string_bytes own.address ≡ codes "127.0.0.1:" ++ decimal port) }
+        ensures name { IfOk result (λ own. string_bytes own.name ≡ codes "localhost:" ++ decimal port) }
+    {
+        Ok(Own {
+            address: format!(in alloc; "127.0.0.1:{port}")?,
+            name: format!(in alloc; "localhost:{port}")?,
+        })
+    }
+
+    /// Whether a request for this target with these headers is let in, or else the status of its answer.
+    pub fn admits(&self, target: &Uri, headers: &HeaderMap) -> Result<(), StatusCode>
+        ensures admitted { OnOk result (IsAdmitted self.now target.now headers.now) }
+        ensures foreign { OnErr result (¬ (IsAdmitted self.now target.now headers.now)) }
+        ensures status { IfErr result (λ status. 400 ≤ status) }
+    {
+        if target.scheme().is_some() || target.authority().is_some() {
+            return Err(StatusCode::BAD_REQUEST);
+        }
+        if !self.is_asked(headers) {
+            return Err(StatusCode::MISDIRECTED_REQUEST);
+        }
+        if self.is_asked_from_here(headers) {
+            Ok(())
+        } else {
+            Err(StatusCode::FORBIDDEN)
+        }
+    }
+
+    /// Whether there is one host in the headers, and it is this server.
+    fn is_asked(&self, headers: &HeaderMap) -> bool
+        ensures { IsTrue result ↔ IsAskedOf self.now (get_all headers.now (codes "host")) }
+    {
+        let mut hosts = headers.get_all(header::HOST).iter();
+        match hosts.next() {
+            Some(host) => match hosts.next() {
+                Some(_) => false,
+                None => self.is_host(host.as_bytes()),
+            },
+            None => false,
+        }
+    }
+
+    /// Whether each origin in the headers is this server.
+    fn is_asked_from_here(&self, headers: &HeaderMap) -> bool
+        ensures { IsTrue result ↔ All (λ origin. IsOwnOrigin self.now origin.bytes) (get_all headers.now (codes "origin")) }
+    {
+        for origin in headers.get_all(header::ORIGIN) {
+            if !self.is_origin(origin) {
+                return false;
+            }
+        }
+        true
+    }
+
+    /// Whether this origin is this server.
+    fn is_origin(&self, origin: &HeaderValue) -> bool
+        ensures { IsTrue result ↔ IsOwnOrigin self.now origin.now.bytes }
+    {
+        match origin.as_bytes().strip_prefix(b"http://".as_slice()) {
+            Some(host) => self.is_host(host),
+            None => false,
+        }
+    }
+
+    /// Whether this is the server's address or name with its port.
+    fn is_host(&self, host: &[u8]) -> bool
+        ensures { IsTrue result ↔ IsOwnHost self.now host.now }
+    {
+        host.eq_ignore_ascii_case(self.address.as_bytes())
+            || host.eq_ignore_ascii_case(self.name.as_bytes())
+    }
+}

@@ -1,0 +1,149 @@
+//! The history that the requests share, and how each is answered.
+
+ghost use Rattle.std.specs.Prelude.{◌≡◌, ◌≤◌, [], IfOk, IfSome, Some, Ok, false, length};
+ghost use Rattle.http_server.specs.Response.{IsBlank};
+
+use crate::guard::Own;
+use crate::question::{Question, found};
+use crate::requests::{Asked, wish};
+use crate::responses::{Content, fill, fill_found, fill_talk, refuse};
+use crate::talk::talk;
+use bytes::Bytes;
+use http::{Request, StatusCode};
+use http_server::{Response, Service};
+use std::alloc::{AllocError, Global};
+use zt_console::{Book, tree_text};
+
+/// The history that the requests share.
+#[derive(Drop)]
+pub struct View {
+    pub alloc: Global,
+    pub own: Own,
+    /// The history; it is elsewhere only while lines are answered.
+    pub book: Option<Book>,
+    /// Whether it was asked to end.
+    pub is_ended: bool,
+    ghost ready: { ∥ IfSome book (λ b. 1 ≤ length b.session.clients) ∥₁ },
+}
+
+impl View {
+    ghost use Rattle.zt_view.specs.Answers.{Answers, AnswersLines, AnswersQuestion, AnswersTree, IsAnswered, wish_of};
+    ghost use Rattle.zt_view.specs.declared.requests.Asked.TheVariants as asked;
+    ghost use Rattle.http.specs.Request.{body_of};
+
+    /// A book of a client or more that is viewed at a port.
+    pub fn new(alloc: Global, port: u16, book: Book) -> Result<View, AllocError>
+        requires { 1 ≤ length book.session.clients }
+        ensures book { IfOk result (λ view. view.book ≡ Some book) }
+        ensures goes_on { IfOk result (λ view. view.is_ended ≡ false) }
+    {
+        Ok(View {
+            alloc,
+            own: Own::new(alloc, port)?,
+            book: Some(book),
+            is_ended: false,
+        })
+    }
+
+    /// Answers a request.
+    pub fn answer(&mut self, request: &Request<Bytes>, response: &mut Response)
+        requires { IsBlank response.old }
+        ensures { IsAnswered self.old request.now response.new self.new }
+    {
+        match self.own.admits(request.uri(), request.headers()) {
+            Ok(()) => self.answer_admitted(request, response),
+            Err(status) => refuse(response, status),
+        }
+    }
+
+    /// Answers a request that is let in.
+    fn answer_admitted(&mut self, request: &Request<Bytes>, response: &mut Response)
+        requires { IsBlank response.old }
+        ensures { Answers (wish_of request.now) self.old (body_of request.now) response.new self.new }
+    {
+        let uri = request.uri();
+        match wish(request.method().as_str(), uri.path(), uri.query()) {
+            Ok(asked) => self.answer_asked(asked, request.body(), response),
+            Err(status) => refuse(response, status),
+        }
+    }
+
+    /// Answers what is asked for.
+    fn answer_asked(&mut self, asked: Asked, body: &Bytes, response: &mut Response)
+        requires { IsBlank response.old }
+        ensures { Answers (Ok asked) self.old body.now response.new self.new }
+    {
+        match asked {
+            Asked::Page(part) => {
+                let text = Bytes::from_static(part.text().as_bytes());
+                fill(response, StatusCode::OK, part.content(), text);
+            }
+            Asked::Lines => self.answer_lines(body.as_slice(), response),
+            Asked::Tree => self.answer_tree(response),
+            Asked::Answer(question) => self.answer_question(question, response),
+            Asked::End => self.answer_end(response),
+        }
+    }
+
+    /// Answers lines by what a run writes for them.
+    fn answer_lines(&mut self, lines: &[u8], response: &mut Response)
+        requires { IsBlank response.old }
+        ensures { AnswersLines self.old lines.now response.new self.new }
+    {
+        match self.book.take() {
+            Some(book) => {
+                let (book, told) = talk(self.alloc, book, lines);
+                self.book = Some(book);
+                fill_talk(self.alloc, response, told);
+            }
+            None => refuse(response, StatusCode::INTERNAL_SERVER_ERROR),
+        }
+    }
+
+    /// Answers with the session text of the whole tree.
+    fn answer_tree(&self, response: &mut Response)
+        requires { IsBlank response.old }
+        ensures { AnswersTree self.now.book self.now response.new self.now }
+    {
+        match &self.book {
+            Some(book) => fill_found(self.alloc, response, tree_text(self.alloc, book)),
+            None => refuse(response, StatusCode::INTERNAL_SERVER_ERROR),
+        }
+    }
+
+    /// Answers a question about the history.
+    fn answer_question(&mut self, question: Question, response: &mut Response)
+        requires { IsBlank response.old }
+        ensures { AnswersQuestion question self.old response.new self.new }
+    {
+        match &mut self.book {
+            Some(book) => fill_found(self.alloc, response, found(self.alloc, book, question)),
+            None => refuse(response, StatusCode::INTERNAL_SERVER_ERROR),
+        }
+    }
+
+    /// Answers that the server ends, and has it end.
+    fn answer_end(&mut self, response: &mut Response)
+        requires { IsBlank response.old }
+        ensures { Answers (Ok asked.End) self.old [] response.new self.new }
+    {
+        self.is_ended = true;
+        let text = Bytes::from_static(b"ended\n");
+        fill(response, StatusCode::OK, Content::Plain, text);
+    }
+}
+
+impl Service for View {
+    ghost use Rattle.zt_view.specs.Answers.{IsAnswered};
+
+    ghost answers = { IsAnswered };
+
+    fn call(
+        &mut self,
+        request: &Request<Bytes>,
+        response: &mut Response,
+    ) -> Result<(), AllocError> {
+        self.answer(request, response);
+        Ok(())
+    }
+}

@@ -1,0 +1,50 @@
+//! The session text that a history begins with, and the one that it leaves.
+
+ghost use Rattle.std.specs.Prelude.{◌≡◌, IfOk, List, length, ℕ};
+ghost use Rattle.zt_console.specs.LoadedText.{IsLoadedOf};
+
+use crate::faults::Fault;
+use std::alloc::Global;
+use zt_console::{Book, load_text, tree_text};
+use zt_files::{read_whole, write_whole};
+use zt_view::View;
+
+/// The book of one client over the tree of a session text that is read from a file.
+pub fn load(rt: &HostRuntime, path: &str) -> Result<Book, Fault>
+    ensures loaded { IfOk result (λ book. (text : List ℕ) × IsLoadedOf 1 text book) }
+    ensures clients { IfOk result (λ book. length book.session.clients ≡ 1) }
+{
+    match read_whole(rt, path) {
+        Ok(text) => book_of(rt.alloc(), text.as_slice()),
+        Err(fault) => Err(Fault::from(fault)),
+    }
+}
+
+/// The book of one client over the tree of a session text.
+fn book_of(alloc: Global, text: &[u8]) -> Result<Book, Fault>
+    ensures loaded { IfOk result (IsLoadedOf 1 text.now) }
+    ensures clients { IfOk result (λ book. length book.session.clients ≡ 1) }
+{
+    match load_text(alloc, 1, text) {
+        Ok(book) => Ok(book),
+        Err((line, refusal)) => Err(Fault::Trace { line, refusal }),
+    }
+}
+
+/// Writes the session text of the whole tree, if a file is named. Where it cannot be written, a file that stands there stays.
+pub fn save_tree(rt: &HostRuntime, view: &View, to: Option<&str>) -> Result<(), Fault> {
+    let Some(path) = to else {
+        return Ok(());
+    };
+    match &view.book {
+        Some(book) => save_book(rt, book, path),
+        None => Err(Fault::of_memory()),
+    }
+}
+
+/// Writes the session text of the whole tree of a book.
+fn save_book(rt: &HostRuntime, book: &Book, path: &str) -> Result<(), Fault> {
+    let text = tree_text(rt.alloc(), book)?;
+    write_whole(rt, path, text.as_slice())?;
+    Ok(())
+}

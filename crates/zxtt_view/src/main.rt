@@ -1,0 +1,92 @@
+//! `zxtt-view` shows a history in a browser: it serves a page on a port of 127.0.0.1, and answers what the page asks.
+#![tactic(auto)]
+
+ghost use Rattle.std.specs.Prelude.{◌≤◌, IfOk, length};
+
+mod faults;
+mod files;
+mod server;
+mod socket;
+mod words;
+
+use faults::Fault;
+use files::{load, save_tree};
+use mio::net::TcpListener;
+use server::{listen, serve};
+use std::io::Write;
+use std::process::ExitCode;
+use words::{Asked, Words};
+use zt_console::Book;
+use zt_rows::Refusal;
+use zt_view::View;
+
+fn main(rt: HostRuntime) -> ExitCode {
+    let words = match Words::of(&rt) {
+        Ok(words) => words,
+        Err(fault) => return ended(&rt, &Err(fault)),
+    };
+    let done = match words.asked(rt.alloc()) {
+        Ok(asked) => match begin(&rt, &asked) {
+            Ok((listener, view)) => save_viewed(&rt, serve(&rt, listener, view), asked.save_tree),
+            Err(fault) => Err(fault),
+        },
+        Err(fault) => Err(fault),
+    };
+    ended(&rt, &done)
+}
+
+/// Says what ended the program before it was done, if something did, and gives its status.
+fn ended(rt: &HostRuntime, done: &Result<(), Fault>) -> ExitCode {
+    match done {
+        Ok(()) => ExitCode::SUCCESS,
+        Err(fault) => {
+            let _ = eprintln!(rt; "{fault}");
+            ExitCode::from(fault.status())
+        }
+    }
+}
+
+/// Listens on a port, and says where the page is that shows the book which is asked for.
+fn begin(rt: &HostRuntime, asked: &Asked<'_>) -> Result<(TcpListener, View), Fault> {
+    let book = begun(rt, asked.from)?;
+    let (listener, port) = listen(rt, asked.port)?;
+    let view = match View::new(rt.alloc(), port, book) {
+        Ok(view) => view,
+        Err(_) => return Err(Fault::of_memory()),
+    };
+    say(rt, port)?;
+    Ok((listener, view))
+}
+
+/// Saves the whole tree of a book that was viewed, if a file is named.
+fn save_viewed(
+    rt: &HostRuntime,
+    viewed: Result<View, Fault>,
+    to: Option<&str>,
+) -> Result<(), Fault> {
+    let view = viewed?;
+    save_tree(rt, &view, to)
+}
+
+/// Says where the page is.
+fn say(rt: &HostRuntime, port: u16) -> Result<(), Fault> {
+    let said = println!(rt; "zxtt-view: http://127.0.0.1:{port}/");
+    if said.is_ok() && rt.stdout().flush().is_ok() {
+        Ok(())
+    } else {
+        Err(Fault::Refused(Refusal::WriteFault))
+    }
+}
+
+/// A book of one client at the opening, or over a trace if one is named.
+fn begun(rt: &HostRuntime, from: Option<&str>) -> Result<Book, Fault>
+    ensures { IfOk result (λ book. 1 ≤ length book.session.clients) }
+{
+    match from {
+        Some(path) => load(rt, path),
+        None => match Book::new(rt.alloc(), 1) {
+            Ok(book) => Ok(book),
+            Err(refusal) => Err(Fault::Refused(refusal)),
+        },
+    }
+}

@@ -1,0 +1,136 @@
+//! The words of the command line.
+
+use crate::faults::Fault;
+use clap::{Arg, ArgAction, ArgMatches, Command, Error, value_parser};
+use std::alloc::Global;
+use std::env;
+
+// No clause tells the texts that these functions give, so that who asks for one is proved without going over its bytes.
+
+/// What the program does.
+fn about() -> &'static str {
+    "Shows the history of Zircon's kernel objects in a browser.
+
+It listens on a port of 127.0.0.1, says there where the page is, and serves it until
+it is ended from the page. The page steps through the calls of a trace, back and
+forth, makes other futures on branches of their own, and shows what each call
+changed. `zxtt` answers the same lines without a browser."
+}
+
+/// What the word `from` does.
+fn from_help() -> &'static str {
+    "Begins with the calls or the whole tree of a session text"
+}
+
+/// What the word `port` does.
+fn port_help() -> &'static str {
+    "The port of 127.0.0.1 that is listened on; a free one where none is given"
+}
+
+/// What the word `save-tree` does.
+fn save_tree_help() -> &'static str {
+    "Writes the whole tree as a session text, once the page has ended the program; an interrupt saves nothing"
+}
+
+/// What is said behind the words.
+fn statuses() -> &'static str {
+    "Exit statuses:
+  0  it was ended from the page
+  2  the words were not accepted, or help was asked for
+  3  a file could not be opened, or the port could not be listened on
+  4  a read failed            5  a write failed
+  6  anything else was refused, as a line of a loaded trace"
+}
+
+/// The words that the program was started with.
+#[derive(Drop)]
+pub struct Words {
+    pub words: Vec<String>,
+}
+
+/// What the words ask for: a port, 0 for a free one, the session text that the history begins with, and the one that it
+/// leaves.
+#[derive(Clone, Copy)]
+pub struct Asked<'a> {
+    pub port: u16,
+    pub from: Option<&'a str>,
+    pub save_tree: Option<&'a str>,
+}
+
+impl Words {
+    /// The words, the program's own name among them.
+    pub fn of(rt: &HostRuntime) -> Result<Words, Fault> {
+        let words = match env::args(rt) {
+            Ok(words) => words,
+            Err(error) => return Err(Fault::Unread(error)),
+        };
+        match words.collect(rt.alloc()) {
+            Ok(words) => Ok(Words { words }),
+            Err(_) => Err(Fault::of_memory()),
+        }
+    }
+
+    /// What they ask for.
+    pub fn asked(&self, alloc: Global) -> Result<Asked<'_>, Fault> {
+        match self.met(alloc) {
+            Ok(matches) => Ok(asked_of(&matches)),
+            Err(error) => Err(Fault::Words(error)),
+        }
+    }
+
+    /// What is met of them.
+    fn met(&self, alloc: Global) -> Result<ArgMatches<'_>, Error> {
+        let matches = command(alloc)?.try_get_matches_from(self.words.as_slice())?;
+        Ok(matches)
+    }
+}
+
+/// What the words that were met ask for.
+fn asked_of<'a>(matches: &ArgMatches<'a>) -> Asked<'a> {
+    Asked {
+        port: matches.get_one("port").unwrap_or(0),
+        from: matches.get_str("from"),
+        save_tree: matches.get_str("save-tree"),
+    }
+}
+
+/// The command line.
+fn command<'a>(alloc: Global) -> Result<Command<'a>, Error> {
+    Ok(
+        Command::new(alloc, "zxtt-view")
+            .version("0.1")
+            .about(about())
+            .after_help(statuses())
+            .arg(from_word(alloc))?
+            .arg(port_word(alloc))?
+            .arg(save_tree_word(alloc))?,
+    )
+}
+
+/// The word of the session text that a history begins with.
+fn from_word<'a>(alloc: Global) -> Arg<'a> {
+    Arg::new(alloc, "from")
+        .long("from")
+        .value_name("TRACE")
+        .action(ArgAction::Set)
+        .help(from_help())
+}
+
+/// The word of the port that is listened on.
+fn port_word<'a>(alloc: Global) -> Arg<'a> {
+    Arg::new(alloc, "port")
+        .long("port")
+        .value_name("PORT")
+        .action(ArgAction::Set)
+        .value_parser(value_parser!(u16).range(1..=65_535))
+        .help(port_help())
+}
+
+/// The word of the session text of the whole tree that the program leaves.
+fn save_tree_word<'a>(alloc: Global) -> Arg<'a> {
+    Arg::new(alloc, "save-tree")
+        .long("save-tree")
+        .value_name("OUT")
+        .action(ArgAction::Set)
+        .help(save_tree_help())
+}
