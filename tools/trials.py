@@ -18,13 +18,13 @@ class Trouble(Exception):
     """What went otherwise than told."""
 
 
-def program_asked():
-    """The program to try: the one that is named, or bin/zxtt."""
+def program_asked(name='zxtt'):
+    """The program to try: the one that is named, or that of bin/."""
     if len(sys.argv) > 2 or sys.argv[1:] and sys.argv[1].startswith('-'):
         sys.exit(f'usage: tools/{os.path.basename(sys.argv[0])} [PROGRAM]')
-    program = os.path.abspath(sys.argv[1]) if len(sys.argv) == 2 else f'{TOP}/bin/zxtt'
+    program = os.path.abspath(sys.argv[1]) if len(sys.argv) == 2 else f'{TOP}/bin/{name}'
     if not os.path.isfile(program):
-        sys.exit(f'{sys.argv[1]} is not there' if len(sys.argv) == 2 else 'bin/zxtt is not there: run make first')
+        sys.exit(f'{sys.argv[1]} is not there' if len(sys.argv) == 2 else f'bin/{name} is not there: run make first')
     return program
 
 
