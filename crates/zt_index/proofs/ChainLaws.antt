@@ -8,18 +8,14 @@ use Rattle.std.proofs.lemmas.List.{length-map, get_or_past, map-set, set-get_or}
 use Rattle.zt_index.specs.declared.chains.BucketLink.{BucketLink}
 use Rattle.zt_index.specs.declared.chains.BucketEnds.{BucketEnds}
 use Rattle.zt_index.specs.Chains.{IsBehind, IsShortOf, IsNext, bucket_at}
-use Rattle.zt_index.specs.ProofsOnly.Chains.{IsPrevious, IsItemOf, IsBesides, IsChained, is_slot, is_bucket, is_in, buckets, next_of, before_of, no_link, no_ends}
+use Rattle.zt_index.specs.ProofsOnly.Chains.{IsPrevious, IsItemOf, IsAtOrBelow, IsBesides, IsChained, is_slot, is_bucket, is_in, buckets, next_of, before_of, no_link, no_ends}
 use Rattle.zt_index.proofs.ChainOrder.{IsSingle, IsLinked, ComesIn, GoesOut, linked-alike, linked-in, linked-out, rising, falling}
 
 -- ---- a search for the next item
 
-pub besides-next : (q : ℕ → Bool) (low next : Option ℕ) → IsNext q low next → IsBesides q low next
-besides-next q low None h = (tt, h.1)
-besides-next q low (Some n) h = (h.0.1, h.1)
-
-pub besides-first : (q : ℕ → Bool) (low next : Option ℕ) → IsNext q None next → IsBesides q low next
-besides-first q low None h = (tt, λ m behind short. h.1 m tt short)
-besides-first q low (Some n) h = (h.0.1, λ m behind short. h.1 m tt short)
+pub besides-from : (q : ℕ → Bool) (low from next : Option ℕ) → IsAtOrBelow q low from → IsNext q from next → IsBesides q low next
+besides-from q low from None below h = (tt, λ m behind short. h.1 m (below.1 m behind) short)
+besides-from q low from (Some n) below h = (h.0.1, λ m behind short. h.1 m (below.1 m behind) short)
 
 pub besides-more : (q : ℕ → Bool) (low : Option ℕ) (item : ℕ) (next : Option ℕ) → IsBesides q low (Some item) → (IsBehind (λ a b. a < b) low item → ⊥) → IsNext q (Some item) next → IsBesides q low next
 besides-more q None item next h not g = absurd (not tt)

@@ -1,6 +1,6 @@
 -- The waits on a handle, those for a port, those at an object and those of a process, and the live jobs and processes
 -- below a job, by the rows: and the buckets by which they are found.
-use Rattle.std.specs.Prelude.{◌≡◌, ◌+◌, ◌/◌, ◌%◌, ◌≤◌, ◌||◌, ⊤, ℕ, length, Option, None, Some, if◌then◌else◌}
+use Rattle.std.specs.Prelude.{◌≡◌, ◌+◌, ◌*◌, ◌/◌, ◌%◌, ◌≤◌, ◌||◌, ⊤, ℕ, length, Option, None, Some, if◌then◌else◌}
 use Rattle.std.specs.Option.{option_and_then, option_map}
 use Rattle.zt_rows.specs.declared.keys.RowKey.{RowKey}
 use Rattle.zt_rows.specs.declared.keys.RowKey.TheVariants as key
@@ -16,7 +16,7 @@ use Rattle.zt_index.specs.Chains.{bucket_at}
 -- ---- buckets
 
 abbrev pub handle_bucket : ℕ → ℕ → ℕ
-handle_bucket p h = (p % 16384 + h / 4) % 16384
+handle_bucket p h = (p % 16384 * 10127 + h / 4) % 16384
 
 abbrev pub koid_bucket : ℕ → ℕ
 koid_bucket x = x % 16384

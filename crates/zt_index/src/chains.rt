@@ -1,6 +1,6 @@
 ghost use Rattle.std.specs.Prelude.{◌≡◌, ◌≤◌, ◌<◌, ◌^◌, ◌↔◌, ℕ, List, true, false, length, slice_index_or, slice_set, vec_len, IfOk, OnOk, IfSome, IsTrue, Option, Some, None, if◌then◌else◌};
 ghost use Rattle.zt_index.specs.Chains.{IsBehind, IsNext, IsShortOf, bucket_at};
-ghost use Rattle.zt_index.specs.ProofsOnly.Chains.{IsBesides, IsChained, IsItemOf, IsPrevious, before_of, buckets, is_in, is_slot, next_of, no_ends, no_link};
+ghost use Rattle.zt_index.specs.ProofsOnly.Chains.{IsAtOrBelow, IsBesides, IsChained, IsItemOf, IsPrevious, before_of, buckets, is_in, is_slot, next_of, no_ends, no_link};
 ghost use Rattle.zt_index.specs.declared.chains.BucketEnds.{BucketEnds};
 
 use std::alloc::{AllocError, Global};
@@ -99,7 +99,7 @@ impl Chains {
     }
 
     /// The least item of the bucket above the low one, or the least of all. It takes no memory. Where the low one is in
-    /// the bucket, this is one look.
+    /// the bucket, or has just left it, this is one look.
     pub fn after(&self, bucket: u64, low: Option<u64>) -> Option<u64>
         ensures { IsNext (is_in self.now bucket) low result }
     {
@@ -172,14 +172,28 @@ fn after(links: &[BucketLink], ends: &[BucketEnds], bucket: u64, low: Option<u64
     None
 }
 
-/// Where a search for the least item above the low one begins: behind the low one, where it is in the bucket.
+/// Where a search for the least item above the low one begins.
 fn beside(links: &[BucketLink], ends: &[BucketEnds], bucket: u64, low: Option<u64>) -> Option<u64>
     requires { IsChained links.now ends.now }
     ensures { IsBesides (is_in (buckets links.now) bucket) low result }
 {
-    match low {
-        Some(item) if is_in(links, bucket, item) => next_of(links, ends, bucket, low),
-        _ => next_of(links, ends, bucket, None),
+    next_of(links, ends, bucket, at_or_below(links, bucket, low))
+}
+
+/// The low one, where it is in the bucket; or else the one that it stood behind when it left its bucket, where that is in this
+/// one. So what stood behind an item is found by one look after the item has gone, too.
+fn at_or_below(links: &[BucketLink], bucket: u64, low: Option<u64>) -> Option<u64>
+    ensures { IsAtOrBelow (is_in (buckets links.now) bucket) low result }
+{
+    let item = low?;
+    if is_in(links, bucket, item) {
+        return Some(item);
+    }
+    let before = links.get(item as usize)?.before?;
+    if before < item && is_in(links, bucket, before) {
+        Some(before)
+    } else {
+        None
     }
 }
 

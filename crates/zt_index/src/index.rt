@@ -434,13 +434,17 @@ fn held_in(row: &Option<Row>) -> Option<Held>
     }
 }
 
+/// How far the buckets of one process's handles lie from those of the next: odd, and near the golden section of the buckets, so
+/// that few handles of processes beside each other meet.
+const PROCESS_STEP: u64 = 10127;
+
 /// The bucket of waits on the handle.
 fn handle_bucket(process: Koid, handle: HandleValue) -> u64
     ensures bucket { result ≡ handle_bucket process handle }
     ensures few { result < 16384 }
 {
     let buckets = BUCKETS as u64;
-    (process.0 % buckets + u64::from(handle.0 / 4)) % buckets
+    (process.0 % buckets * PROCESS_STEP + u64::from(handle.0 / 4)) % buckets
 }
 
 /// The bucket of waits for the port, of those at the object, of those of the process, and of the live jobs and processes

@@ -62,6 +62,11 @@ pub record AreChains (links : List BucketLink) (ends : List BucketEnds) : Type 0
   pub chained : IsChained links ends
   pub ended : 0 < length links → 2 ^ 14 ≤ length ends
 
+-- none, or an item that passes and is not above the low one
+abbrev pub IsAtOrBelow : (ℕ → Bool) → Option ℕ → Option ℕ → Type 0
+IsAtOrBelow passes low found =
+    IsItemOf passes found × ((m : ℕ) → IsBehind (λ a b. a < b) low m → IsBehind (λ a b. a < b) found m)
+
 -- where a search begins: an item that passes or none, with nothing that passes between the low one and it
 abbrev pub IsBesides : (ℕ → Bool) → Option ℕ → Option ℕ → Type 0
 IsBesides passes low found =
