@@ -45,3 +45,7 @@ objects_where S test x = option_map_or test (object S x) false
 -- the process has an entry under this value
 abbrev pub has_entry : State → ℕ → ℕ → Bool
 has_entry S p h = is_some (row S (key.Entry p h))
+
+-- the port has a packet under this number
+abbrev pub has_packet : State → ℕ → ℕ → Bool
+has_packet S x n = is_some (row S (key.Packet x n))

@@ -1,40 +1,38 @@
 -- The next packet of a port, and the packets of a port as a column that is walked along.
-use Rattle.std.proofs.Common.{◌≡◌, ◌<◌, ℕ, Bool, true, false, Option, Some, None, is_some, refl, sym, ap, ◌∙◌, arith}
+use Rattle.std.proofs.Common.{◌≡◌, ◌<◌, ℕ, Bool, true, false, Option, Some, None, is_some, refl, ap}
 use Rattle.std.specs.Prelude.{◌==◌, ◌&&◌, ◌^◌, IsSome, if◌then◌else◌}
-use Rattle.std.specs.declared.cmp.Ordering.TheVariants.{Less, Equal, Greater}
 use Rattle.std.proofs.lemmas.Bool.{eqb-true, eq-eqb}
-use Rattle.std.proofs.lemmas.Bool.Decides.{nat_tests}
 use Rattle.zt_rows.specs.declared.keys.RowKey.{RowKey}
 use Rattle.zt_rows.specs.declared.keys.RowKey.TheVariants as key
 use Rattle.zt_rows.specs.declared.rows.Row.{Row}
 use Rattle.zt_rows.specs.declared.rows.Row.TheVariants as rows
-use Rattle.zt_rows.specs.Keys.{rowkey_cmp}
-use Rattle.zt_rows.specs.ProofsOnly.KeyOrder.{rowkey_cmp-equal}
 use Rattle.zt_rows.specs.State.{State, row}
-use Rattle.zt_rows.specs.Room.{is_above, next_key}
 use Rattle.zt_rows.specs.PortCalls.{is_user_packet_of}
 use Rattle.zt_rows.proofs.ReadLaws.{some_one}
-use Rattle.zt_cells.specs.FirstNumber.{IsFirst}
-use Rattle.zt_signals.specs.ProofsOnly.KeyWalk.{IsNextUnder}
-use Rattle.zt_signals.proofs.NextKeyLaws.{next-none, next-above, next-there, next-least}
+use Rattle.zt_index.specs.Chains.{IsBehind, IsNext}
+use Rattle.zt_index.specs.Criteria.{has_packet}
+use Rattle.zt_signals.specs.ProofsOnly.KeyWalk.{IsAfter, IsNextUnder}
 use Rattle.zt_signals.proofs.ColumnLaws.{IsColumn, numbers_after, numbers-fewer}
 use Rattle.zt_ports.specs.ProofsOnly.PacketWalk.{packet_key, packet_index}
 use Rattle.zt_ports.specs.ProofsOnly.CancelledWaits.{is_cancelled_packet}
 
 -- ---- keys of one port
 
-packet-above : (x l n : ℕ) → l < n → is_above (Some (key.Packet x l)) (key.Packet x n) ≡ true
-packet-above x l n h = grind (arith, nat_tests)
-
-above-packet : (x l n : ℕ) → is_above (Some (key.Packet x l)) (key.Packet x n) ≡ true → l < n
-above-packet x l n h = grind (arith, nat_tests)
-
-packet-less : (x m n : ℕ) → m < n → rowkey_cmp (key.Packet x m) (key.Packet x n) ≡ Less
-packet-less x m n h = grind (arith, nat_tests)
-
 is-some : (r : Option Row) → is_some r ≡ true → IsSome r
 is-some (Some r) e = refl
 is-some None e = cc
+
+none-there : (r : Option Row) → is_some r ≡ false → r ≡ None
+none-there (Some r) e = cc
+none-there None e = refl
+
+behind : (low : Option ℕ) (n : ℕ) → IsAfter low n → IsBehind (λ a b. a < b) low n
+behind None n h = tt
+behind (Some l) n h = h
+
+after : (low : Option ℕ) (n : ℕ) → IsBehind (λ a b. a < b) low n → IsAfter low n
+after None n h = tt
+after (Some l) n h = h
 
 number_of : (x y n m : ℕ) → (if y == x then Some n else None) ≡ Some m → (y ≡ x) × (n ≡ m)
 number_of x y n m e = elim (y == x) as (λ b. (y == x) ≡ b → (if b then Some n else None) ≡ Some m → (y ≡ x) × (n ≡ m)) [
@@ -49,56 +47,15 @@ key-of x _ n e = cc
 index-here : (x n : ℕ) → packet_index x (key.Packet x n) ≡ Some n
 index-here x n = ap (λ b. if b then Some n else None) (eq-eqb x x refl)
 
--- between two keys of the port there are only keys of the port
-same_port : (x y l m n : ℕ) → is_above (Some (key.Packet x l)) (key.Packet y m) ≡ true → rowkey_cmp (key.Packet x n) (key.Packet y m) ≡ Greater → (y == x) ≡ true
-same_port x y l m n above greater = grind (arith, nat_tests)
-
-between : (x l n : ℕ) (k : RowKey) → is_above (Some (key.Packet x l)) k ≡ true → packet_index x k ≡ None → rowkey_cmp (key.Packet x n) k ≡ Greater → ⊥
-between x l n key.Counters above out greater = cc
-between x l n (key.Object y) above out greater = cc
-between x l n (key.Entry p h) above out greater = cc
-between x l n (key.Msg y m) above out greater = cc
-between x l n (key.Packet y m) above out greater =
-    let there : packet_index x (key.Packet y m) ≡ Some m = ap (λ b. if b then Some m else None) (same_port x y l m n above greater) in
-    cc
-between x l n (key.Wait m) above out greater = cc
-
 -- ---- the next packet
 
-pub behind-none : (S : State) (x l : ℕ) → None ≡ next_key S (Some (key.Packet x l)) → IsNextUnder S (packet_key x) (Some l) None
-behind-none S x l h = λ n past. next-none S (Some (key.Packet x l)) (sym h) (key.Packet x n) (packet-above x l n past)
-
-module _ (S : State) (x l : ℕ) (k : RowKey) (next : Some k ≡ next_key S (Some (key.Packet x l))) where
-  abbrev low_key : Option RowKey
-  low_key = Some (key.Packet x l)
-
-  none_behind : packet_index x k ≡ None → (n : ℕ) → l < n → row S (key.Packet x n) ≡ None
-  none_behind out n past = elim (rowkey_cmp (key.Packet x n) k) as (λ o. rowkey_cmp (key.Packet x n) k ≡ o → row S (key.Packet x n) ≡ None) [
-    | Less ↦ λ less. next-least S low_key k (sym next) (key.Packet x n) (packet-above x l n past) less
-    | Equal ↦ λ tie.
-        let same : key.Packet x n ≡ k = rowkey_cmp-equal (key.Packet x n) k tie in
-        let there : packet_index x k ≡ Some n = ap (packet_index x) (sym same) ∙ index-here x n in
-        cc
-    | Greater ↦ λ greater. absurd (between x l n k (next-above S low_key k (sym next)) out greater)
-  ] refl
-
-  one_behind : (n : ℕ) → packet_index x k ≡ Some n → IsNextUnder S (packet_key x) (Some l) (Some n)
-  one_behind n in_it =
-      let is : k ≡ key.Packet x n = key-of x k n in_it in
-      let found : next_key S low_key ≡ Some (key.Packet x n) = sym next ∙ ap Some is in (
-        above-packet x l n (next-above S low_key (key.Packet x n) found),
-        is-some (row S (key.Packet x n)) (next-there S low_key (key.Packet x n) found),
-        λ m past less. next-least S low_key (key.Packet x n) found (key.Packet x m) (packet-above x l m past) (packet-less x m n less),
-      )
-
-  pub behind-found : (found : Option ℕ) → found ≡ packet_index x k → IsNextUnder S (packet_key x) (Some l) found
-  behind-found None e = none_behind (sym e)
-  behind-found (Some n) e = one_behind n (sym e)
-
--- the first packet is the next after none
-pub first-next : (S : State) (x : ℕ) (found : Option ℕ) → IsFirst S (λ n. key.Packet x n) found → IsNextUnder S (packet_key x) None found
-first-next S x None none = λ n past. none n
-first-next S x (Some n) is = (tt, is.0, λ m past less. is.1 m less)
+pub next-under : (S : State) (x : ℕ) (low found : Option ℕ) → IsNext (has_packet S x) low found → IsNextUnder S (packet_key x) low found
+next-under S x low None h = λ n past. none-there (row S (key.Packet x n)) (h.1 n (behind low n past) tt)
+next-under S x low (Some n) h = (
+  after low n h.0.0,
+  is-some (row S (key.Packet x n)) h.0.1,
+  λ m past less. none-there (row S (key.Packet x m)) (h.1 m (behind low m past) less),
+)
 
 -- ---- the column of a port's packets
 

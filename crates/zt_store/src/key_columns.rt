@@ -1,4 +1,4 @@
-ghost use Rattle.std.specs.Prelude.{◌≡◌, ◌≤◌, ◌<◌, ◌^◌, ◌↔◌, ℕ, IsTrue, IfSome, find, is_some};
+ghost use Rattle.std.specs.Prelude.{◌≡◌, ◌≤◌, ◌<◌, ◌^◌, ◌↔◌, ℕ, IsTrue, IfSome, Some, find, is_some};
 ghost use Rattle.std.specs.Option.{MatchOption};
 ghost use Rattle.zt_rows.specs.declared.keys.RowKey.TheVariants as key_variant;
 ghost use Rattle.zt_rows.specs.declared.rows.ObjectRow.{ObjectRow};
@@ -7,7 +7,7 @@ ghost use Rattle.zt_rows.specs.Reads.{object};
 ghost use Rattle.zt_rows.specs.Room.{HasRoom, NextFits, is_above, next_key};
 ghost use Rattle.zt_rows.specs.State.{row};
 ghost use Rattle.zt_index.specs.Chains.{IsBehind, IsNext};
-ghost use Rattle.zt_index.specs.Criteria.{has_entry};
+ghost use Rattle.zt_index.specs.Criteria.{has_entry, has_packet};
 ghost use Rattle.zt_store.specs.ProofsOnly.KeyColumns.{is_from, key_in, next_column, numbers_end};
 
 use zt_bits::Kind;
@@ -113,6 +113,33 @@ fn value_above(low: Option<HandleValue>) -> u64
         Some(low) => u64::from(low.0) + 1,
         None => 0,
     }
+}
+
+/// The least number above the low one, or of all, of a packet in the port. It looks at the places of this port alone, and at none
+/// below its first packet.
+pub(crate) fn packet_of(cells: &Cells, port: Koid, low: Option<u64>) -> Option<u64>
+    ensures { IsNext (has_packet cells.now.state port) low result }
+{
+    match low {
+        Some(number) => packet_behind(cells, port, number),
+        None => cells.first_packet(port),
+    }
+}
+
+/// The least number above this one of a packet in the port.
+fn packet_behind(cells: &Cells, port: Koid, number: u64) -> Option<u64>
+    ensures { IsNext (has_packet cells.now.state port) (Some number) result }
+{
+    let end = cells.packets_end(port);
+    if number >= end {
+        return None;
+    }
+    for behind in number + 1..end {
+        if stands(cells, RowKey::Packet(port, behind)) {
+            return Some(behind);
+        }
+    }
+    None
 }
 
 /// The first key of the column from this number on, which is then the least of all from there on.

@@ -11,13 +11,13 @@ ghost use Rattle.zt_rows.specs.Support.{support_count};
 ghost use Rattle.zt_rows.specs.Tests.{count_row};
 ghost use Rattle.zt_cells.specs.FirstNumber.{IsFirst};
 ghost use Rattle.zt_index.specs.Chains.{IsNext};
-ghost use Rattle.zt_index.specs.Criteria.{has_entry, is_at, is_below, is_by, is_for, is_on, objects_where, waits_where};
+ghost use Rattle.zt_index.specs.Criteria.{has_entry, has_packet, is_at, is_below, is_by, is_for, is_on, objects_where, waits_where};
 ghost use Rattle.zt_index.specs.ProofsOnly.KoidCounts.{keeps_itself, keeps_tasks};
 ghost use Rattle.zt_store.specs.Places.{Keeps, fits, fits_row, no_places};
 ghost use Rattle.zt_store.specs.StoreView.{Stored};
 ghost use Rattle.zt_store.specs.ProofsOnly.StoreView.{standing};
 
-use crate::key_columns::{handle_of, has_room, key_after};
+use crate::key_columns::{handle_of, has_room, key_after, packet_of};
 use crate::record::Record;
 use std::alloc::{AllocError, Global};
 use std::marker::Model;
@@ -277,6 +277,14 @@ impl Store {
         ensures { IsNext (has_entry self.now.state process) low result }
     {
         handle_of(&self.cells, process, low)
+    }
+
+    /// The least number above the low one, or of all, of a packet in the port. It takes no memory, and looks at the places
+    /// of this port alone, from its first packet on.
+    pub fn packet_of(&self, port: Koid, low: Option<u64>) -> Option<u64>
+        ensures { IsNext (has_packet self.now.state port) low result }
+    {
+        packet_of(&self.cells, port, low)
     }
 
     /// Whether every number that a call may raise leaves room for one more call. It takes no memory.
