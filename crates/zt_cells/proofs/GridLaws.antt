@@ -1,20 +1,11 @@
 -- Tables of places and tables by owner: what stands at a place after an exchange and after a growth.
-use Rattle.std.proofs.Common.{zero, suc, ◌≡◌, ◌≢◌, ◌≤◌, ◌<◌, ℕ, ◌+◌, false, List, [], ◌∷◌, ◌++◌, length, get_or, set, Option, Some, None, is_some, refl, ap, ◌∙◌, subst, arith, ⊎_elim, get_or-set_same, get_or-set_other}
-use Rattle.std.proofs.lemmas.Bool.{cases_eq, cases_lt}
+use Rattle.std.proofs.Common.{zero, suc, ◌≡◌, ◌≤◌, ◌<◌, ℕ, ◌+◌, List, [], ◌∷◌, ◌++◌, length, get_or, set, Option, refl, ap, ◌∙◌, arith, ⊎_elim}
+use Rattle.std.proofs.lemmas.Bool.{cases_lt}
 use Rattle.std.proofs.lemmas.List.{get_or_past, map-append}
 use Rattle.std.proofs.lemmas.List.Sums.{sum_by-set, sum_by_push, sum-map, get_or-le-sum_by}
 use Rattle.std.specs.List.{sum}
 use Rattle.zt_rows.specs.declared.rows.Row.{Row}
-use Rattle.zt_cells.specs.ProofsOnly.TablePlaces.{table, lengths, IsEmptyBelow, by_owner, entry_places}
-
-none_of : {A : Type 0} (o : Option A) → is_some o ≡ false → o ≡ None
-none_of None e = refl
-none_of (Some x) e = cc
-
--- what is put does not stand below the first place that can have a row
-pub empty_below-set : (places : List (Option Row)) (low later index : ℕ) (row : Option Row) → IsEmptyBelow places low → index < length places → ((n : ℕ) → n < later → n ≢ index → n < low) → (index < later → is_some row ≡ false) → IsEmptyBelow (set places index row) later
-empty_below-set places low later index row empty within others itself n h =
-    ⊎_elim (λ e. ap (λ k. get_or (set places index row) k None) e ∙ get_or-set_same places index row None within ∙ none_of row (itself (subst (λ k. k < later) e h))) (λ ne. get_or-set_other places index n row None ne ∙ empty n (others n h ne)) (cases_eq n index)
+use Rattle.zt_cells.specs.ProofsOnly.TablePlaces.{table, lengths, by_owner, entry_places}
 
 -- ---- tables by owner
 

@@ -1,6 +1,6 @@
-ghost use Rattle.std.specs.Prelude.{◌≡◌, ◌≤◌, ◌<◌, ℕ, length, IfOk, OnOk, OnErr, slice_set, is_some, false, ◌≢◌, []};
+ghost use Rattle.std.specs.Prelude.{◌≡◌, ◌≤◌, ◌<◌, ℕ, length, IfOk, OnOk, OnErr, slice_set, IsSome, None, []};
 ghost use Rattle.std.specs.Option.{option_copied};
-ghost use Rattle.zt_cells.specs.ProofsOnly.TablePlaces.{cell, IsFirstCell};
+ghost use Rattle.zt_cells.specs.ProofsOnly.TablePlaces.{cell, HasBounds, HasBoundsBut, IsFirstCell, IsWider};
 
 use std::alloc::{AllocError, Global};
 use std::marker::Model;
@@ -11,20 +11,27 @@ use zt_rows::Row;
 #[derive(Drop)]
 pub(crate) struct Table {
     places: Vec<Option<Row>>,
-    /// Below it all places are empty. A row that is taken out there raises it, and one that is put below lowers it.
+    bounds: Bounds,
+}
+
+/// Between which places rows stand: below `low` and from `end` on all places are empty, and where `low` is below `end` there
+/// is a row at `low`. So the first row is found by one look, also where many went from the middle, or all.
+#[derive(Clone, Copy)]
+struct Bounds {
     low: usize,
+    end: usize,
 }
 
 impl Model for Table {
     ghost use Rattle.std.specs.Prelude.{List, Option};
     ghost use Rattle.zt_rows.specs.declared.rows.Row.{Row};
-    ghost use Rattle.zt_cells.specs.ProofsOnly.TablePlaces.{IsEmptyBelow};
+    ghost use Rattle.zt_cells.specs.ProofsOnly.TablePlaces.{HasBounds};
 
     ghost Value = { List (Option Row) };
 
     ghost view = { λ t. t.places.items };
 
-    ghost invariant = { λ t. IsEmptyBelow t.places.items t.low };
+    ghost invariant = { λ t. HasBounds t.places.items t.bounds.low t.bounds.end };
 }
 
 impl Table {
@@ -34,7 +41,7 @@ impl Table {
     {
         Table {
             places: Vec::new(alloc),
-            low: 0,
+            bounds: Bounds { low: 0, end: 0 },
         }
     }
 
@@ -77,20 +84,19 @@ impl Table {
         ensures put { self.new ≡ slice_set self.old index kept.old }
         ensures was { kept.new ≡ cell self.old index }
     {
-        self.low = low_after(self.low, index, kept.is_some());
         mem::swap(&mut self.places[index], kept);
+        self.bounds = bounds_with(self.places.as_slice(), self.bounds, index);
     }
 
-    /// The first place with a row. It takes no memory.
+    /// The first place with a row, by one look. It takes no memory.
     pub fn first(&self) -> Option<u64>
         ensures { IsFirstCell self.now result }
     {
-        for index in self.low..self.places.len() {
-            if self.places[index].is_some() {
-                return Some(index as u64);
-            }
+        if self.bounds.low < self.bounds.end {
+            Some(self.bounds.low as u64)
+        } else {
+            None
         }
-        None
     }
 
     /// An equal table in memory of its own.
@@ -103,24 +109,77 @@ impl Table {
         }
         Ok(Table {
             places,
-            low: self.low,
+            bounds: self.bounds,
         })
     }
 }
 
-/// The place below which all are empty, after a row, or none, is put at the index.
-fn low_after(low: usize, index: usize, is_row: bool) -> usize
-    requires { index < usize.MAX }
-    ensures others { (n : ℕ) → n < result → n ≢ index → n < low }
-    ensures itself { index < result → is_row ≡ false }
+/// The bounds of these places, which had those but for the one at the index.
+fn bounds_with(places: &[Option<Row>], bounds: Bounds, index: usize) -> Bounds
+    requires there { index < length places.now }
+    requires but_one { HasBoundsBut places.now bounds.low bounds.end index }
+    ensures { HasBounds places.now result.low result.end }
 {
-    if is_row {
-        low.min(index)
-    } else if index == low {
-        low + 1
-    } else {
-        low
+    match &places[index] {
+        Some(_) => wider(bounds, index),
+        None => narrower(places, bounds, index),
     }
+}
+
+/// The bounds with a row at the index.
+fn wider(bounds: Bounds, index: usize) -> Bounds
+    requires { index < usize.MAX }
+    ensures { IsWider bounds.low bounds.end index result.low result.end }
+{
+    if bounds.low < bounds.end {
+        Bounds {
+            low: bounds.low.min(index),
+            end: bounds.end.max(index + 1),
+        }
+    } else {
+        Bounds {
+            low: index,
+            end: index + 1,
+        }
+    }
+}
+
+/// The bounds with no row at the index. Where the first row went it walks to the next, over what went from the middle.
+fn narrower(places: &[Option<Row>], bounds: Bounds, index: usize) -> Bounds
+    requires but_one { HasBoundsBut places.now bounds.low bounds.end index }
+    requires empty { cell places.now index ≡ None }
+    ensures { HasBounds places.now result.low result.end }
+{
+    let end = if bounds.end.checked_sub(1) == Some(index) {
+        index
+    } else {
+        bounds.end
+    };
+    if bounds.low == index {
+        Bounds {
+            low: first_from(places, index, end),
+            end,
+        }
+    } else {
+        Bounds {
+            low: bounds.low,
+            end,
+        }
+    }
+}
+
+/// The first place with a row from this one on and below the end, or the end, or this one, whichever is greater.
+fn first_from(places: &[Option<Row>], from: usize, end: usize) -> usize
+    ensures empty { (n : ℕ) → from ≤ n → n < result → cell places.now n ≡ None }
+    ensures first { result < end → IsSome (cell places.now result) }
+{
+    for index in from..end {
+        match places.get(index) {
+            Some(Some(_)) => return index,
+            _ => {}
+        }
+    }
+    from.max(end)
 }
 
 /// An equal row in memory of its own, or none.
