@@ -18,8 +18,6 @@ mod message_list;
 mod object_look;
 mod object_rows;
 mod path_summary;
-#[cfg(test)]
-mod tests;
 mod unleaked_search;
 mod unleaked_set;
 

@@ -7,6 +7,7 @@ mod copies;
 mod heads;
 mod history;
 mod loaded_texts;
+mod looks;
 mod queues;
 mod runs;
 mod saved_books;

@@ -1,8 +1,8 @@
 //! What is told of three calls in short: an event that is made, a handle that is not there, and the event's end.
 use super::three_calls;
-use crate::{CallCount, Fate, ObjectFate, summary};
 use std::alloc::Global;
 use zt_bits::Status;
+use zt_look::{CallCount, Fate, ObjectFate, summary};
 use zt_rows::{Koid, Moment};
 
 /// Whether two calls went well and one had a bad handle.

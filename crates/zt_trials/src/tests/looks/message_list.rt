@@ -1,7 +1,7 @@
 //! Messages of a history of few calls, where memory is ample.
-use crate::{MessageEnd, QueuedMessage, messages};
 use std::alloc::Global;
 use zt_history::History;
+use zt_look::{MessageEnd, QueuedMessage, messages};
 use zt_rows::{Call, HandleValue, Koid, Moment, Parcel};
 
 const ROOT: Koid = Koid(1025);

@@ -1,7 +1,7 @@
 //! Branches of a history of few moments, where memory is ample.
-use crate::{BranchLook, branches};
 use std::alloc::Global;
 use zt_history::{BranchId, History};
+use zt_look::{BranchLook, branches};
 use zt_rows::{Call, Koid, Moment};
 
 const ROOT: Koid = Koid(1025);

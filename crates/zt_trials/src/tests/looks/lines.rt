@@ -1,11 +1,11 @@
 //! The lines of answers, where memory is ample.
-use crate::{
+use std::alloc::{AllocError, Global};
+use zt_bits::{Kind, Rights, Signals, Status};
+use zt_look::{
     CallCount, CallMade, Change, Fate, Handle, MessageEnd, ObjectEvent, ObjectFate, ObjectLook,
     QueuedMessage, print_branch, print_call_count, print_call_made, print_change, print_event,
     print_fate, print_handle, print_object, print_queued_message, print_when,
 };
-use std::alloc::{AllocError, Global};
-use zt_bits::{Kind, Rights, Signals, Status};
 use zt_rows::{
     Call, HandleValue, Happening, Held, Items, Koid, Message, Moment, ObjectRow, Packet, Reply,
     Row, RowKey, Support,

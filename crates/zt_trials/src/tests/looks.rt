@@ -5,13 +5,13 @@ mod message_list;
 mod objects;
 mod summaries;
 
-use crate::{
-    CallFilter, CallMade, Change, Handle, HappeningSet, ObjectEvent, calls, changed, events,
-    handles_at,
-};
 use std::alloc::Global;
 use zt_bits::Kind;
 use zt_history::History;
+use zt_look::{
+    CallFilter, CallMade, Change, Handle, HappeningSet, ObjectEvent, calls, changed, events,
+    handles_at,
+};
 use zt_rows::{Call, HandleValue, Happening, Koid, Moment, Parcel, RowKey};
 
 const ROOT: Koid = Koid(1025);

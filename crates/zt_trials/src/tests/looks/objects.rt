@@ -1,8 +1,8 @@
 //! What is told of an event that is made, and closed in the third call.
 use super::three_calls;
-use crate::{ObjectLook, object_at};
 use std::alloc::Global;
 use zt_history::History;
+use zt_look::{ObjectLook, object_at};
 use zt_rows::{Koid, Moment};
 
 /// Whether it is there with one holder and no message, packet or wait, made at the first moment.
