@@ -6,12 +6,11 @@ ghost use Rattle.zt_console.specs.LoadedText.{IsLoadedOf};
 ghost use Rattle.zxtt.specs.Traces.{IsFaultOfText, TellsOfSomeText};
 
 use crate::faults::Fault;
-use crate::progress::Progress;
 use crate::trace_lines::TraceLine;
 use std::alloc::Global;
 use std::fs::File;
 use zt_console::{Book, load_text_told, main_text, tree_text};
-use zt_files::{FileFault, read_whole, write_whole};
+use zt_files::{FileFault, Progress, read_whole, write_whole};
 
 /// Opens a file to be read.
 pub fn open(rt: &HostRuntime, path: &str) -> Result<File, Fault>
@@ -37,7 +36,7 @@ pub fn load(rt: &HostRuntime, clients: u8, path: &str) -> Result<Book, Fault>
             clients,
             path,
             text.as_slice(),
-            &Progress::new(rt),
+            &Progress::new(rt, "zxtt"),
         ),
         Err(fault) => Err(Fault::of_file(fault)),
     }

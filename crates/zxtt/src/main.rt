@@ -20,7 +20,6 @@ mod files;
 mod look;
 mod look_words;
 mod no_question;
-mod progress;
 mod question;
 mod service;
 mod terminal;

@@ -5,27 +5,30 @@ ghost use Rattle.zt_console.specs.LoadedText.{IsLoadedOf};
 
 use crate::faults::Fault;
 use std::alloc::Global;
-use zt_console::{Book, load_text, tree_text};
-use zt_files::{read_whole, write_whole};
+use zt_console::{Book, load_text_told, tree_text};
+use zt_files::{Progress, read_whole, write_whole};
 use zt_view::View;
 
-/// The book of one client over the tree of a session text that is read from a file.
+/// The book of one client over the tree of a session text that is read from a file. A person at a terminal is told how far the
+/// loading is.
 pub fn load(rt: &HostRuntime, path: &str) -> Result<Book, Fault>
     ensures loaded { IfOk result (λ book. (text : List ℕ) × IsLoadedOf 1 text book) }
     ensures clients { IfOk result (λ book. length book.session.clients ≡ 1) }
 {
     match read_whole(rt, path) {
-        Ok(text) => book_of(rt.alloc(), text.as_slice()),
+        Ok(text) => book_of(rt.alloc(), text.as_slice(), &Progress::new(rt, "zxtt-view")),
         Err(fault) => Err(Fault::from(fault)),
     }
 }
 
-/// The book of one client over the tree of a session text.
-fn book_of(alloc: Global, text: &[u8]) -> Result<Book, Fault>
+/// The book of one client over the tree of a session text. What was told of how far that is is wiped in the end.
+fn book_of(alloc: Global, text: &[u8], told: &Progress<'_>) -> Result<Book, Fault>
     ensures loaded { IfOk result (IsLoadedOf 1 text.now) }
     ensures clients { IfOk result (λ book. length book.session.clients ≡ 1) }
 {
-    match load_text(alloc, 1, text) {
+    let loaded = load_text_told(alloc, 1, text, told);
+    told.wipe();
+    match loaded {
         Ok(book) => Ok(book),
         Err((line, refusal)) => Err(Fault::Trace { line, refusal }),
     }

@@ -2,7 +2,7 @@
 
 use std::cell::Cell;
 use std::io::IsTerminal;
-use zt_console::LoadProgress;
+use zt_book::LoadProgress;
 
 /// Of a session text with fewer calls nothing is said.
 const LONG: usize = 65_536;
@@ -15,6 +15,8 @@ const STEP: usize = 16_384;
 #[derive(Drop)]
 pub struct Progress<'a> {
     rt: &'a HostRuntime,
+    /// The program that says it.
+    program: &'a str,
     /// Whether standard error is a terminal.
     is_shown: bool,
     /// Whether the line has anything to be wiped.
@@ -23,9 +25,10 @@ pub struct Progress<'a> {
 
 impl<'a> Progress<'a> {
     /// Nothing is loaded yet.
-    pub fn new(rt: &'a HostRuntime) -> Progress<'a> {
+    pub fn new(rt: &'a HostRuntime, program: &'a str) -> Progress<'a> {
         Progress {
             rt,
+            program,
             is_shown: rt.stderr().is_terminal(),
             is_said: Cell::new(false),
         }
@@ -44,12 +47,12 @@ impl LoadProgress for Progress<'_> {
     fn loaded(&self, moments: usize, of: usize) {
         if self.is_shown && of >= LONG && (moments % STEP == 0 || moments == of) {
             self.is_said.set(true);
-            let _ = eprint!(self.rt; "\rzxtt: {moments} of {of} calls");
+            let _ = eprint!(self.rt; "\r{}: {moments} of {of} calls", self.program);
         }
     }
 }
 
 /// A line as long as the longest that is said, of spaces, and back to its beginning.
 fn blank() -> &'static str {
-    "\r                              \r"
+    "\r                                   \r"
 }
