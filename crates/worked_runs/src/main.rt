@@ -11,7 +11,7 @@ ghost use Rattle.zt_shared.specs.Sharing.{IsFresh};
 mod differences;
 mod served;
 
-use differences::{Difference, first_difference};
+use differences::{TextDifference, first_difference};
 use served::serve_lines;
 use std::alloc::{AllocError, Global};
 use std::fmt::{Display, Formatter, Write};
@@ -277,10 +277,10 @@ fn save(alloc: Global, book: &Book, ran: &mut Ran) -> Result<(), Refusal> {
 #[derive(Drop)]
 enum Verdict<'a> {
     AsTold,
-    Answers(Difference<'a>),
-    Saved(Difference<'a>),
-    Tree(Difference<'a>),
-    Session(Difference<'a>),
+    Answers(TextDifference<'a>),
+    Saved(TextDifference<'a>),
+    Tree(TextDifference<'a>),
+    Session(TextDifference<'a>),
 }
 
 /// How a case went, by what it had to tell and, where that is told, to save.
@@ -302,7 +302,7 @@ fn how_it_went<'a>(case: &'a Case, came: &'a Came) -> Verdict<'a> {
 }
 
 /// Where a text that was saved differs from the one of the case, if it has such.
-fn saved_otherwise<'a>(told: &'a Option<Vec<u8>>, saved: &'a [u8]) -> Option<Difference<'a>> {
+fn saved_otherwise<'a>(told: &'a Option<Vec<u8>>, saved: &'a [u8]) -> Option<TextDifference<'a>> {
     match told {
         Some(told) => first_difference(told.as_slice(), saved),
         None => None,

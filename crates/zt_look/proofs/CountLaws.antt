@@ -25,7 +25,7 @@ use Rattle.zt_rows.specs.declared.calls.Reply.{Reply}
 use Rattle.zt_history.specs.Tree.{Made, made_at, call_at, reply_at}
 use Rattle.zt_look.specs.declared.call_counts.CallCount.{CallCount}
 use Rattle.zt_look.specs.CallCounts.{AreCallCounts, AreCountsInOrder, CountsBefore, IsCallCount, answers, is_answered, is_count_of, made_along, status_number, status_of}
-use Rattle.zt_look.specs.ProofsOnly.CountedCalls.{IsCounted, answer_cmp, answer_of, count_told, counted, has_answer, status_at}
+use Rattle.zt_look.specs.ProofsOnly.CountedCalls.{AreCallsCounted, answer_cmp, answer_of, count_told, counted, has_answer, status_at}
 
 -- ---- the order of answers
 
@@ -90,9 +90,9 @@ one_more : (n : ℕ) → Some (unwrap_or (counted n) 0 + 1) ≡ counted (n + 1)
 one_more zero = refl
 one_more (suc n) = let e : suc n + 1 ≡ suc (suc n) = omega arith in ap Some e ∙ sym (ap counted e)
 
-counted-push : (es : List Made) (e : Made) (old new : BTreeMap (ℕ × ℕ) ℕ) → IsCounted es old
+counted-push : (es : List Made) (e : Made) (old new : BTreeMap (ℕ × ℕ) ℕ) → AreCallsCounted es old
     → ((k : ℕ × ℕ) → get answer_cmp new k ≡ (if is_eq (answer_cmp (answer_of e) k) then Some (unwrap_or (get answer_cmp old (answer_of e)) 0 + 1) else get answer_cmp old k))
-    → IsCounted (es ++ e ∷ []) new
+    → AreCallsCounted (es ++ e ∷ []) new
 counted-push es e old new was is k = is k ∙ by (has_answer k e) refl
   where
     by : (b : Bool) → has_answer k e ≡ b
@@ -117,7 +117,7 @@ module _ (made : List Made) (m : ℕ) where
   pub call-one : (process : ℕ) (call : Call) (answer : Reply) (old new : BTreeMap (ℕ × ℕ) ℕ) → call_at made m ≡ Some (process, call) → reply_at made m ≡ Some answer
       → ((k : ℕ × ℕ) → get answer_cmp new k
       ≡ (if is_eq (answer_cmp (process, status_number (status_of answer)) k) then Some (unwrap_or (get answer_cmp old (process, status_number (status_of answer))) 0 + 1) else get answer_cmp old k))
-      → (es : List Made) → IsCounted es old → IsCounted (es ++ made_along made (m ∷ [])) new
+      → (es : List Made) → AreCallsCounted es old → AreCallsCounted (es ++ made_along made (m ∷ [])) new
   call-one process call answer old new e r is es was = by (made_at made m) refl
     where
       no_call : made_at made m ≡ None → ⊥
@@ -126,14 +126,14 @@ module _ (made : List Made) (m : ℕ) where
       same : {A : Type 0} (x y : A) → Some x ≡ Some y → x ≡ y
       same x y e = cc
 
-      by : (o : Option Made) → made_at made m ≡ o → IsCounted (es ++ made_along made (m ∷ [])) new
+      by : (o : Option Made) → made_at made m ≡ o → AreCallsCounted (es ++ made_along made (m ∷ [])) new
       by None h = absurd (no_call h)
       by (Some x) h =
           let at : ◌≡◌ {A = ℕ × Call} (x.process, x.call) (process, call) = same (x.process, x.call) (process, call) (sym (ap (option_map (λ (e : Made). (e.process, e.call))) h) ∙ e) in
           let first : x.process ≡ process = ap (λ (p : ℕ × Call). p.0) at in
           let told : x.reply ≡ answer = same x.reply answer (sym (ap (option_map (λ (e : Made). e.reply)) h) ∙ r) in
           let key : ◌≡◌ {A = ℕ × ℕ} (process, status_number (status_of answer)) (answer_of x) = pair_of (process, status_number (status_of answer)) (answer_of x) (sym first) (ap (λ q. status_number (status_of q)) (sym told)) in
-          subst (λ l. IsCounted (es ++ l) new) (ap by_made (sym h))
+          subst (λ l. AreCallsCounted (es ++ l) new) (ap by_made (sym h))
           (counted-push es x old new was
           (λ k. is k ∙ ap (λ (a : ℕ × ℕ). if is_eq (answer_cmp a k) then Some (unwrap_or (get answer_cmp old a) 0 + 1) else get answer_cmp old k) key))
 
@@ -141,7 +141,7 @@ module _ (made : List Made) (m : ℕ) where
       → reply_at made m ≡ Some answer → s ≡ status_of answer
       → OnOk r ((k : ℕ × ℕ) → get answer_cmp new k
       ≡ (if is_eq (answer_cmp (process, status_number s) k) then Some (unwrap_or (get answer_cmp old (process, status_number s)) 0 + 1) else get answer_cmp old k))
-      → OnOk r ((es : List Made) → IsCounted es old → IsCounted (es ++ made_along made (m ∷ [])) new)
+      → OnOk r ((es : List Made) → AreCallsCounted es old → AreCallsCounted (es ++ made_along made (m ∷ [])) new)
   call-one-ok (Ok x) process call answer s old new e a is h =
       call-one process call answer old new e a
       (subst (λ s. (k : ℕ × ℕ) → get answer_cmp new k
@@ -215,7 +215,7 @@ module _ (made : List Made) (way : List ℕ) where
   abbrev Counts : (ℕ × ℕ) × ℕ → Type 0
   Counts e = (status_number (status_at e.0.1) ≡ e.0.1) × IsCallCount made way (count_told e)
 
-  counts-one : (counts : BTreeMap (ℕ × ℕ) ℕ) → IsCounted es counts → (k : ℕ × ℕ) (c : ℕ) → get answer_cmp counts k ≡ Some c → Counts (k, c)
+  counts-one : (counts : BTreeMap (ℕ × ℕ) ℕ) → AreCallsCounted es counts → (k : ℕ × ℕ) (c : ℕ) → get answer_cmp counts k ≡ Some c → Counts (k, c)
   counts-one counts is k c at =
       let told = counted-some (count_by (has_answer k) es) c (sym (is k) ∙ at) in
       let one = one_there (has_answer k) es (subst (λ n. 0 < n) (sym told.0) told.1) in
@@ -255,7 +255,7 @@ module _ (made : List Made) (way : List ℕ) where
   mapped-at f (y ∷ xs) zero x e = let same : y ≡ x = cc in ap (λ z. Some (f z)) same
   mapped-at f (y ∷ xs) (suc i) x e = mapped-at f xs i x e
 
-  all-told : (counts : BTreeMap (ℕ × ℕ) ℕ) → IsCounted es counts → (p : ℕ) (s : Status) → 0 < answers made way p s → list_any (is_count_of p s) (map count_told counts.entries) ≡ true
+  all-told : (counts : BTreeMap (ℕ × ℕ) ℕ) → AreCallsCounted es counts → (p : ℕ) (s : Status) → 0 < answers made way p s → list_any (is_count_of p s) (map count_told counts.entries) ≡ true
   all-told counts is p s h =
       let some : 0 < count_by (has_answer (p, status_number s)) es = subst (λ n. 0 < n) (answers-same p s) h in
       let found : get answer_cmp counts (p, status_number s) ≡ Some (count_by (has_answer (p, status_number s)) es) = is (p, status_number s) ∙ some-counted (count_by (has_answer (p, status_number s)) es) some in
@@ -269,7 +269,7 @@ module _ (made : List Made) (way : List ℕ) where
       both : {a b : Bool} → a ≡ true → b ≡ true → (a && b) ≡ true
       both {a} {b} x y = ap (λ c. c && b) x ∙ y
 
-  pub counts-told : (counts : BTreeMap (ℕ × ℕ) ℕ) (list : List CallCount) → IsCounted es counts → IsOrdered answer_cmp counts → list ≡ map count_told counts.entries
+  pub counts-told : (counts : BTreeMap (ℕ × ℕ) ℕ) (list : List CallCount) → AreCallsCounted es counts → IsOrdered answer_cmp counts → list ≡ map count_told counts.entries
       → AreCallCounts made way list
   counts-told counts list is ordered told =
       let all : AllByRecursion Counts counts.entries = each-at Counts counts.entries (λ i e at. counts-one counts is e.0 e.1 (btree_map_get_place answer_cmp_total counts i e.0 e.1 ordered at)) in
@@ -279,8 +279,8 @@ module _ (made : List Made) (way : List ℕ) where
         all = all-told counts is;
       })
 
-pub counted-more : (made : List Made) (way : List ℕ) (i x : ℕ) (old new : BTreeMap (ℕ × ℕ) ℕ) → i < length way → x ≡ get_or way i x → IsCounted (made_along made (take i way)) old
-    → ((es : List Made) → IsCounted es old → IsCounted (es ++ made_along made (x ∷ [])) new) → IsCounted (made_along made (take (i + 1) way)) new
+pub counted-more : (made : List Made) (way : List ℕ) (i x : ℕ) (old new : BTreeMap (ℕ × ℕ) ℕ) → i < length way → x ≡ get_or way i x → AreCallsCounted (made_along made (take i way)) old
+    → ((es : List Made) → AreCallsCounted es old → AreCallsCounted (es ++ made_along made (x ∷ [])) new) → AreCallsCounted (made_along made (take (i + 1) way)) new
 counted-more made way i x old new h at was more =
     let one : take (i + 1) way ≡ take i way ++ x ∷ [] = take_more way i x h ∙ ap (λ y. take i way ++ y ∷ []) (sym at) in
-    subst (λ l. IsCounted l new) (sym (ap (made_along made) one ∙ filter_map-append (made_at made) (take i way) (x ∷ []))) (more (made_along made (take i way)) was)
+    subst (λ l. AreCallsCounted l new) (sym (ap (made_along made) one ∙ filter_map-append (made_at made) (take i way) (x ∷ []))) (more (made_along made (take i way)) was)

@@ -21,7 +21,7 @@ use Rattle.zt_history.specs.Tree.{Tree, last_moment, state_at}
 use Rattle.zt_history.specs.TreeInvariant.{IsTree}
 use Rattle.zt_history.proofs.LawsOfTrees.{tree-consistent}
 use Rattle.zt_look.specs.declared.handle_list.Handle.{Handle}
-use Rattle.zt_look.specs.HandleList.{IsHandle, AreHandles, values}
+use Rattle.zt_look.specs.HandleList.{IsHandleOf, AreHandles, values}
 use Rattle.zt_look.specs.ProofsOnly.HandlesSoFar.{NamesObjects, AreHandlesBefore, handle_by, held_koid, with_handle, left_from}
 
 -- ---- lists
@@ -140,12 +140,12 @@ module _ (S : State) (p : ℕ) where
         ];
   }
 
-  handles-added : (v : ℕ) (next : Option ℕ) (list : List Handle) (line : Handle) → line.value ≡ v → IsHandle S p line → AreHandlesBefore S p (Some v) list
+  handles-added : (v : ℕ) (next : Option ℕ) (list : List Handle) (line : Handle) → line.value ≡ v → IsHandleOf S p line → AreHandlesBefore S p (Some v) list
       → IsNext (has_entry S p) (Some v) next → AreHandlesBefore S p next (list ++ line ∷ [])
   handles-added v next list line at is b n =
       let long : values (list ++ line ∷ []) ≡ values list ++ line.value ∷ [] = values-push list line in
       record {
-        each = all-append (IsHandle S p) list line b.each is;
+        each = all-append (IsHandleOf S p) list line b.each is;
         rising = subst IsStrictlyIncreasing (sym long) (rising-push (values list) line.value b.rising (all-map (λ y. y < v) (λ y. y < line.value) (λ y l. omega (arith, l, at)) (values list) b.short));
         short =
             subst (AllByRecursion (IsShortOf (λ a b. a < b) next)) (sym long)
@@ -170,7 +170,7 @@ module _ (S : State) (p : ℕ) where
       by (Some held) at =
           let there = object-there (object S held.koid) (named v held at) in
           let line : Handle = record { value = v; koid = held.koid; kind = there.0.kind; rights = held.rights } in
-          let is : IsHandle S p line = record { held = at; kind = ap (option_map (λ (o : ObjectRow). o.kind)) there.1 } in
+          let is : IsHandleOf S p line = record { held = at; kind = ap (option_map (λ (o : ObjectRow). o.kind)) there.1 } in
           subst (AreHandlesBefore S p next) (handle-put S p v held there.0 list at there.1 ∙ sym made) (handles-added v next list line refl is b n)
 
   pub handles-done : (next : Option ℕ) (list : List Handle) → ((v : ℕ) → next ≡ Some v → ⊥) → AreHandlesBefore S p next list → AreHandles S p list

@@ -32,7 +32,7 @@ use Rattle.zt_rows.proofs.RowLaws.{or_true, or_left, or_right, and_left, and_rig
 use Rattle.zt_rows.proofs.SoundLaws.{runs-some, some-runs}
 use Rattle.zt_queries.proofs.FollowLaws.{low-koid}
 use Rattle.zt_look.specs.declared.unleaked_search.Search.{Search}
-use Rattle.zt_look.specs.ProofsOnly.UnleakedSearch.{Adds, AreBetween, AreThere, Grows, IsClosed, IsLeast, IsNamedAt, IsNamedBetween, IsNamedBy, IsNamedHere, IsOpen, IsOwned, IsSearched, IsSeeded, WaitInside, begun_by, has_key, in_set, in_found, is_there_after, itself, koid_of, koids, koids_in, named_by, parents, waits}
+use Rattle.zt_look.specs.ProofsOnly.UnleakedSearch.{Adds, AreBetween, AreThere, Grows, HasAllNamed, IsLeast, IsNamedAt, IsNamedBetween, IsNamedBy, IsNamedHere, IsOpen, IsOwned, IsSearched, IsSeeded, WaitInside, begun_by, has_key, in_set, in_found, is_there_after, itself, koid_of, koids, koids_in, named_by, parents, waits}
 
 -- ---- numbers
 
@@ -235,11 +235,11 @@ has_key-more ks q k e = elim (or_true (has_key ks k) (rowkey_eq k q || false) (s
   | inr r ↦ inr (rowkey_eq-equal k q (elim (or_true (rowkey_eq k q) false r) [ inl s ↦ s | inr s ↦ no (sym s) ]))
 ]
 
-owned-kept : (S : State) (a : Search) (f : ℕ → Bool) (k : RowKey) → IsClosed S f → ((x : ℕ) → in_set a x ≡ true → f x ≡ true) → IsOwned S (in_set a) k → f (first_number k) ≡ true
+owned-kept : (S : State) (a : Search) (f : ℕ → Bool) (k : RowKey) → HasAllNamed S f → ((x : ℕ) → in_set a x ≡ true → f x ≡ true) → IsOwned S (in_set a) k → f (first_number k) ≡ true
 owned-kept S a f k closed inside (inl e) = inside (first_number k) e
 owned-kept S a f k closed inside (inr e) = closed.begun k (first_number k) e
 
-here-kept : (S : State) (a : Search) (f : ℕ → Bool) (k : RowKey) (x : ℕ) → IsClosed S f → ((x : ℕ) → in_set a x ≡ true → f x ≡ true) → IsNamedHere S (in_set a) k x → f x ≡ true
+here-kept : (S : State) (a : Search) (f : ℕ → Bool) (k : RowKey) (x : ℕ) → HasAllNamed S f → ((x : ℕ) → in_set a x ≡ true → f x ≡ true) → IsNamedHere S (in_set a) k x → f x ≡ true
 here-kept S a f k x closed inside (inl e) = closed.begun k x e
 here-kept S a f k x closed inside (inr w) = closed.named k x (owned-kept S a f k closed inside w.0) w.1
 
@@ -304,7 +304,7 @@ module _ (S : State) (R : List (RowKey × Option Row)) (start now taken new : Se
   grown : (x : ℕ) → in_set now x ≡ true → in_set new x ≡ true
   grown x e = adds.grows.kept x (has_set x ∙ e)
 
-  named_inside : (f : ℕ → Bool) → IsClosed S f → f y ≡ true → (x : ℕ) → IsNamedBy S y x → f x ≡ true
+  named_inside : (f : ℕ → Bool) → HasAllNamed S f → f y ≡ true → (x : ℕ) → IsNamedBy S y x → f x ≡ true
   named_inside f closed owner x w = closed.named w.0 x (subst (λ z. f z ≡ true) (sym w.1) owner) w.2
 
   searched-least : IsLeast S start new
@@ -411,7 +411,7 @@ module _ (S : State) (f : ℕ → Bool) (holds : Holds S f) where
   named_held (key.Packet p n) x owner e = no (sym e)
   named_held (key.Wait n) x owner e = no (sym e)
 
-  pub holds-closed : IsClosed S f
+  pub holds-closed : HasAllNamed S f
   holds-closed = record { begun = begun_held; named = named_held }
 
 pub task-no-endpoint : (k : Kind) → is_task k ≡ true → is_endpoint k ≡ false
@@ -430,7 +430,7 @@ linked-child S sound x o at task linked = by (has_parent x o) refl
     by true e = e
     by false e = absurd (linked ((sound.sound.of_objects x o at).alone (task-no-endpoint o.kind task) e))
 
-pub there-closed : (S : State) → IsConsistent S → IsClosed S (exists S)
+pub there-closed : (S : State) → IsConsistent S → HasAllNamed S (exists S)
 there-closed S sound = holds-closed S (exists S) (record {
   root = let w = kind_at-some S root_job kind.Job sound.sound.root in exists-some S root_job w.0 w.1;
   running = λ x e. let w = runs-some S x e in exists-some S x w.0 w.1;

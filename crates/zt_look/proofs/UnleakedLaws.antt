@@ -44,7 +44,7 @@ use Rattle.zt_queries.proofs.OnceLaws.{leaked-begins, leaked-goes-on}
 use Rattle.zt_queries.proofs.ReachLaws.{all-in, among-in, entry-reached, in-all, in-among, map-in, message-reached, reached-least}
 use Rattle.zt_queries.proofs.TreeTimes.{next-made}
 use Rattle.zt_look.specs.declared.unleaked_search.Search.{Search}
-use Rattle.zt_look.specs.ProofsOnly.UnleakedSearch.{AreThere, IsClosed, IsOpen, IsSearched, IsSeeded, WaitInside, begun_by, has_key, has_none, in_found, in_set, is_gone, is_object, is_there_after, itself, koid_of, koids, koids_in, named_by, parents, waits}
+use Rattle.zt_look.specs.ProofsOnly.UnleakedSearch.{AreThere, HasAllNamed, IsOpen, IsSearched, IsSeeded, WaitInside, begun_by, has_key, has_none, in_found, in_set, is_gone, is_object, is_there_after, itself, koid_of, koids, koids_in, named_by, parents, waits}
 use Rattle.zt_look.specs.ProofsOnly.UnleakedSet.{IsStart, IsCallOver, IsUnleakedSet, is_unleaked}
 use Rattle.zt_look.proofs.SearchLaws.{found_on, holds-closed, linked-child, task-no-endpoint, there-closed}
 
@@ -199,7 +199,7 @@ module _ (S : State) (sound : IsConsistent S) where
       unleaked-by o.link (exists-some S o.link c.parent c.there) (λ lost. unleaked-not x kept (lost-child x o at child lost))
 
   -- what is unleaked has all that rows name
-  pub unleaked-closed : IsClosed S (is_unleaked S)
+  pub unleaked-closed : HasAllNamed S (is_unleaked S)
   unleaked-closed = holds-closed S (is_unleaked S) (record {
     root =
         let w = kind_at-some S root_job kind.Job sound.sound.root in
@@ -212,7 +212,7 @@ module _ (S : State) (sound : IsConsistent S) where
 
 -- ---- and it is inside every set that has that
 
-module _ (S : State) (sound : IsConsistent S) (f : ℕ → Bool) (closed : IsClosed S f) where
+module _ (S : State) (sound : IsConsistent S) (f : ℕ → Bool) (closed : HasAllNamed S f) where
   self : (x : ℕ) → among (x ∷ []) x ≡ true
   self x = or_left (x == x) false (eq-eqb x x refl)
 
@@ -508,7 +508,7 @@ module _ (S T : State) (R : List (RowKey × Option Row)) (turn : IsCallOver S T 
       -- ---- where it ends
 
       module _ (c : Search) (searched : IsSearched S R b c) (ended : c.waiting.items ≡ []) where
-        end-closed : IsClosed S (in_set c)
+        end-closed : HasAllNamed S (in_set c)
         end-closed = record {
           begun = λ k x e. searched.kept x (seeded-begun k x e);
           named = λ k x owner e. elim (searched.opened k x owner e) [

@@ -9,7 +9,7 @@ use Rattle.zt_rows.specs.Tests.{among, kind_at}
 use Rattle.zt_look.specs.declared.handle_list.Handle.{Handle}
 
 -- the process holds so much of the object of this kind by the value
-pub record IsHandle (S : State) (p : ℕ) (h : Handle) : Type 0 where
+pub record IsHandleOf (S : State) (p : ℕ) (h : Handle) : Type 0 where
   pub held : entry S p h.value ≡ Some (record { koid = h.koid; rights = h.rights })
   pub kind : kind_at S h.koid ≡ Some h.kind
 
@@ -18,6 +18,6 @@ values list = map (λ h. h.value) list
 
 -- the list has the entries of the process and no others, each once, by rising value
 pub record AreHandles (S : State) (p : ℕ) (list : List Handle) : Type 0 where
-  pub each : AllByRecursion (IsHandle S p) list
+  pub each : AllByRecursion (IsHandleOf S p) list
   pub rising : IsStrictlyIncreasing (values list)
   pub all : (h : ℕ) (held : Held) → entry S p h ≡ Some held → among (values list) h ≡ true

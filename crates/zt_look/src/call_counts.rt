@@ -4,7 +4,7 @@ ghost use Rattle.std.specs.Option.{unwrap_or};
 ghost use Rattle.std.specs.Ordering.{is_eq};
 ghost use Rattle.zt_history.specs.Tree.{Made};
 ghost use Rattle.zt_look.specs.CallCounts.{AreCallCounts, made_along, status_number, status_of};
-ghost use Rattle.zt_look.specs.ProofsOnly.CountedCalls.{IsCounted, answer_cmp, count_told, status_at};
+ghost use Rattle.zt_look.specs.ProofsOnly.CountedCalls.{AreCallsCounted, answer_cmp, count_told, status_at};
 
 use std::alloc::{AllocError, Global};
 use std::collections::BTreeMap;
@@ -40,7 +40,7 @@ fn counted(
     history: &History,
     way: &[Moment],
 ) -> Result<BTreeMap<(u64, u8), u64>, AllocError>
-    ensures counted { IfOk result (IsCounted (made_along history.now.tree.made way.now)) }
+    ensures counted { IfOk result (AreCallsCounted (made_along history.now.tree.made way.now)) }
     ensures ordered { IfOk result (IsOrdered answer_cmp) }
 {
     let mut counts = BTreeMap::new(alloc);
@@ -57,7 +57,7 @@ fn count_call(
     history: &History,
     moment: Moment,
 ) -> Result<(), AllocError>
-    ensures { OnOk result ((es : List Made) → IsCounted es counts.old → IsCounted (es ++ made_along history.now.tree.made (moment ∷ [])) counts.new) }
+    ensures { OnOk result ((es : List Made) → AreCallsCounted es counts.old → AreCallsCounted (es ++ made_along history.now.tree.made (moment ∷ [])) counts.new) }
 {
     match history.call_of(moment) {
         Some(caller) => match history.reply_of(moment) {

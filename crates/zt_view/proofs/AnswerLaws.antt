@@ -4,7 +4,7 @@ use Rattle.std.specs.Prelude.{IfOk, IfErr, OnErr}
 use Rattle.zt_rows.specs.declared.refusals.Refusal.{Refusal}
 use Rattle.zt_book.specs.Log.{BookView}
 use Rattle.http_server.specs.declared.response.Response.{Response}
-use Rattle.zt_view.specs.declared.question.Question.{Question}
+use Rattle.zt_view.specs.declared.question.ViewQuestion.{ViewQuestion}
 use Rattle.zt_view.specs.Answers.{IsPartOfTalk, IsTalk, TellsOf, TellsTalk}
 use Rattle.zt_view.specs.Questions.{IsAnswer, IsUnanswered}
 use Rattle.zt_view.specs.Responses.{IsFailure, Tells, TellsFound}
@@ -14,6 +14,6 @@ told_talk items from to lines (Ok text) response whole part (inl (status, body))
 told_talk items from to lines (Ok text) response whole part (inr failed) stopped = inr (failed, (items text, true, whole))
 told_talk items from to lines (Err reason) response whole part tells stopped = inr (stopped, part)
 
-pub told_found : {X : Type 0} (items : X → List ℕ) (asked : Question) (book : BookView) (found : Result X Refusal) (response : Response) → IfOk found (λ text. IsAnswer asked book.session.tree (items text)) → IfErr found (IsUnanswered asked book.session.tree) → IfOk found (λ text. TellsFound (Ok (items text)) response) → IfErr found (λ reason. TellsFound (Err reason) response) → TellsOf asked book response
+pub told_found : {X : Type 0} (items : X → List ℕ) (asked : ViewQuestion) (book : BookView) (found : Result X Refusal) (response : Response) → IfOk found (λ text. IsAnswer asked book.session.tree (items text)) → IfErr found (IsUnanswered asked book.session.tree) → IfOk found (λ text. TellsFound (Ok (items text)) response) → IfErr found (λ reason. TellsFound (Err reason) response) → TellsOf asked book response
 told_found items asked book (Ok text) response answer none tells refused = (Ok (items text), answer, tells)
 told_found items asked book (Err reason) response answer none tells refused = (Err reason, none, refused)

@@ -10,9 +10,9 @@ use Rattle.zt_book.specs.Log.{BookView, standing_of}
 use Rattle.zt_book.specs.SavedSessions.{saved_of_session}
 use Rattle.zt_console.specs.Explored.{AsksExplored}
 use Rattle.zt_console.specs.Run.{HasTalked}
-use Rattle.zt_view.specs.declared.question.Question.{Question}
-use Rattle.zt_view.specs.declared.requests.Asked.{Asked}
-use Rattle.zt_view.specs.declared.requests.Asked.TheVariants as asked
+use Rattle.zt_view.specs.declared.question.ViewQuestion.{ViewQuestion}
+use Rattle.zt_view.specs.declared.requests.ViewRequest.{ViewRequest}
+use Rattle.zt_view.specs.declared.requests.ViewRequest.TheVariants as asked
 use Rattle.zt_view.specs.declared.view.View.{View}
 use Rattle.zt_view.specs.Guard.{IsAdmitted}
 use Rattle.zt_view.specs.Questions.{IsFound}
@@ -64,11 +64,11 @@ AnswersTree (Some book) old response new =
     Tells 200 (saved_text (saved_of_session book.session)) response × Holds old.book old new
 
 -- what is found of the question, or why nothing is, is told
-abbrev pub TellsOf : Question → BookView → Response → Type 0
+abbrev pub TellsOf : ViewQuestion → BookView → Response → Type 0
 TellsOf question book response =
     (found : Result (List ℕ) Refusal) × IsFound question book.session.tree found × TellsFound found response
 
-abbrev pub AnswersQuestion : Question → View → Response → View → Type 0
+abbrev pub AnswersQuestion : ViewQuestion → View → Response → View → Type 0
 AnswersQuestion question old response new =
     ((book : BookView) × (old.book ≡ Some book) × TellsOf question book response × Stands book old new)
     ⊎ LacksBook old response new
@@ -76,17 +76,17 @@ AnswersQuestion question old response new =
 -- ---- all requests
 
 -- what is asked for is answered, or its lack is told
-abbrev pub Answers : Result Asked ℕ → View → List ℕ → Response → View → Type 0
-Answers (Ok (asked.Page _)) old body response new = ((response.status ≡ 200) ⊎ IsFailure response) × Holds old.book old new
-Answers (Ok asked.Lines) old body response new = AnswersLines old body response new
-Answers (Ok asked.Tree) old body response new = AnswersTree old.book old response new
-Answers (Ok (asked.Answer question)) old body response new = AnswersQuestion question old response new
-Answers (Ok asked.End) old body response new =
+abbrev pub AnswersWish : Result ViewRequest ℕ → View → List ℕ → Response → View → Type 0
+AnswersWish (Ok (asked.Page _)) old body response new = ((response.status ≡ 200) ⊎ IsFailure response) × Holds old.book old new
+AnswersWish (Ok asked.Lines) old body response new = AnswersLines old body response new
+AnswersWish (Ok asked.Tree) old body response new = AnswersTree old.book old response new
+AnswersWish (Ok (asked.Answer question)) old body response new = AnswersQuestion question old response new
+AnswersWish (Ok asked.End) old body response new =
     ((response.status ≡ 200) ⊎ IsFailure response) × (new.book ≡ old.book) × (new.own ≡ old.own) × (new.is_ended ≡ true)
-Answers (Err status) old body response new = Refuses old response new
+AnswersWish (Err status) old body response new = Refuses old response new
 
 -- what a request asks for
-abbrev pub wish_of : Request (List ℕ) → Result Asked ℕ
+abbrev pub wish_of : Request (List ℕ) → Result ViewRequest ℕ
 wish_of request = wish (head_of request).method (uri_path (head_of request).uri) (uri_query (head_of request).uri)
 
 -- the request is for this server, and from nowhere else
@@ -95,5 +95,5 @@ IsAdmittedTo view request = IsAdmitted view.own (head_of request).uri (head_of r
 
 -- How a request is answered: what is let in by what it asks for, and what is not by a refusal.
 pub record IsAnswered (old : View) (request : Request (List ℕ)) (response : Response) (new : View) : Type 0 where
-  pub admitted : IsAdmittedTo old request → Answers (wish_of request) old (body_of request) response new
+  pub admitted : IsAdmittedTo old request → AnswersWish (wish_of request) old (body_of request) response new
   pub foreign : ¬ (IsAdmittedTo old request) → Refuses old response new

@@ -18,8 +18,8 @@ use Rattle.zt_look.specs.Changes.{changed_on}
 use Rattle.zt_look.specs.EventList.{AreEvents}
 use Rattle.zt_look.specs.Lines.{branch_line, call_made_line, change_lines, event_line, object_lines, when_line}
 use Rattle.zt_look.specs.ObjectLook.{IsObjectLook}
-use Rattle.zt_view.specs.declared.question.Question.{Question}
-use Rattle.zt_view.specs.declared.question.Question.TheVariants as question
+use Rattle.zt_view.specs.declared.question.ViewQuestion.{ViewQuestion}
+use Rattle.zt_view.specs.declared.question.ViewQuestion.TheVariants as question
 
 -- ---- lines
 
@@ -49,7 +49,7 @@ branch_text t branch =
 -- ---- answers
 
 -- the text answers the question about the tree
-abbrev pub IsAnswer : Question → Tree → List ℕ → Type 0
+abbrev pub IsAnswer : ViewQuestion → Tree → List ℕ → Type 0
 IsAnswer (question.Change moment) t text = (list : List _) × (changed_on t moment ≡ Ok list) × (text ≡ flat_map (change_lines false) list)
 IsAnswer (question.Calls at wanted) t text = (list : List _) × (calls_on t at wanted ≡ Ok list) × (text ≡ flat_map (call_made_line false) list)
 IsAnswer (question.Events at wanted) t text =
@@ -59,7 +59,7 @@ IsAnswer (question.Object koid at) t text =
 IsAnswer question.Branches t text = text ≡ flat_map (branch_text t) (branches_of t)
 
 -- the question has no answer of the tree for this reason, or memory was refused
-abbrev pub IsUnanswered : Question → Tree → Refusal → Type 0
+abbrev pub IsUnanswered : ViewQuestion → Tree → Refusal → Type 0
 IsUnanswered (question.Change moment) t reason = IsHistoryRefusal (changed_on t moment) reason
 IsUnanswered (question.Calls at wanted) t reason = IsHistoryRefusal (calls_on t at wanted) reason
 IsUnanswered (question.Events at wanted) t reason = IsHistoryRefusal (moment_on t at) reason
@@ -68,6 +68,6 @@ IsUnanswered (question.Object koid at) t reason =
 IsUnanswered question.Branches t reason = reason ≡ refusal.OutOfMemory
 
 -- what is found, or why nothing is
-abbrev pub IsFound : Question → Tree → Result (List ℕ) Refusal → Type 0
+abbrev pub IsFound : ViewQuestion → Tree → Result (List ℕ) Refusal → Type 0
 IsFound asked t (Ok text) = IsAnswer asked t text
 IsFound asked t (Err reason) = IsUnanswered asked t reason

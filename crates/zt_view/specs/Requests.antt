@@ -6,9 +6,9 @@ use Rattle.zt_text.specs.Numbers.{koid_of, moment_of}
 use Rattle.zt_look.specs.declared.call_list.CallFilter.{CallFilter}
 use Rattle.zt_look.specs.declared.event_list.HappeningSet.{HappeningSet}
 use Rattle.zt_view.specs.declared.page.Part.TheVariants as part
-use Rattle.zt_view.specs.declared.question.Question.TheVariants as question
-use Rattle.zt_view.specs.declared.requests.Asked.{Asked}
-use Rattle.zt_view.specs.declared.requests.Asked.TheVariants as asked
+use Rattle.zt_view.specs.declared.question.ViewQuestion.TheVariants as question
+use Rattle.zt_view.specs.declared.requests.ViewRequest.{ViewRequest}
+use Rattle.zt_view.specs.declared.requests.ViewRequest.TheVariants as asked
 use Rattle.zt_view.specs.Cuts.{before, behind}
 
 infixl 10 ◌>>=◌
@@ -69,19 +69,19 @@ happenings_wanted query = if length query == 0 then Some (each_happening true) e
 
 -- ---- paths: words and numbers with `/` between
 
-unfoldable pub change_asked : List ℕ → Option Asked
+unfoldable pub change_asked : List ℕ → Option ViewRequest
 change_asked numbers = do
   moment ← moment_of numbers
   Some (asked.Answer (question.Change moment))
 
-unfoldable pub events_asked : List ℕ → List ℕ → Option Asked
+unfoldable pub events_asked : List ℕ → List ℕ → Option ViewRequest
 events_asked numbers query = do
   at ← moment_of numbers
   wanted ← happenings_wanted query
   Some (asked.Answer (question.Events at wanted))
 
 -- `/object/KOID/MOMENT`
-unfoldable pub object_asked : List ℕ → Option Asked
+unfoldable pub object_asked : List ℕ → Option ViewRequest
 object_asked numbers = do
   koid ← koid_of (before 47 numbers)
   rest ← behind 47 numbers
@@ -93,7 +93,7 @@ abbrev pub all_between : ℕ → ℕ → CallFilter
 all_between first last = record { first = first; last = last; failed = false; process = None; object = None }
 
 -- `/calls/MOMENT/FIRST/LAST`
-unfoldable pub calls_asked : List ℕ → List ℕ → Option Asked
+unfoldable pub calls_asked : List ℕ → List ℕ → Option ViewRequest
 calls_asked numbers query = do
   at ← moment_of (before 47 numbers)
   range ← behind 47 numbers
@@ -104,7 +104,7 @@ calls_asked numbers query = do
   Some (asked.Answer (question.Calls at wanted))
 
 -- what a word with numbers behind it asks for
-unfoldable pub of_numbers : List ℕ → List ℕ → List ℕ → Option Asked
+unfoldable pub of_numbers : List ℕ → List ℕ → List ℕ → Option ViewRequest
 of_numbers word numbers query =
     if bytes_eq word (codes "change") then change_asked numbers
     else (if bytes_eq word (codes "events") then events_asked numbers query
@@ -113,7 +113,7 @@ of_numbers word numbers query =
     else None)))
 
 -- what a word alone asks for
-unfoldable pub named : List ℕ → Option Asked
+unfoldable pub named : List ℕ → Option ViewRequest
 named word =
     if bytes_eq word (codes "") then Some (asked.Page part.Index)
     else (if bytes_eq word (codes "style.css") then Some (asked.Page part.Style)
@@ -124,12 +124,12 @@ named word =
     else (if bytes_eq word (codes "end") then Some asked.End
     else None))))))
 
-abbrev pub named_with : List ℕ → Option (List ℕ) → List ℕ → Option Asked
+abbrev pub named_with : List ℕ → Option (List ℕ) → List ℕ → Option ViewRequest
 named_with word None query = named word
 named_with word (Some numbers) query = of_numbers word numbers query
 
 -- what is asked for by a path, which begins with `/`, and a query
-unfoldable pub asked_at : List ℕ → List ℕ → Option Asked
+unfoldable pub asked_at : List ℕ → List ℕ → Option ViewRequest
 asked_at path query = do
   rest ← if bytes_eq (before 47 path) (codes "") then behind 47 path else None
   named_with (before 47 rest) (behind 47 rest) query
@@ -137,17 +137,17 @@ asked_at path query = do
 -- ---- methods
 
 -- the method by which it is asked for
-abbrev pub method_of : Asked → List ℕ
+abbrev pub method_of : ViewRequest → List ℕ
 method_of (asked.Page _) = codes "GET"
 method_of asked.Lines = codes "POST"
 method_of asked.Tree = codes "GET"
 method_of (asked.Answer _) = codes "GET"
 method_of asked.End = codes "POST"
 
-abbrev pub by_method : List ℕ → Option Asked → Result Asked ℕ
+abbrev pub by_method : List ℕ → Option ViewRequest → Result ViewRequest ℕ
 by_method method None = Err 404
 by_method method (Some asked) = if bytes_eq method (method_of asked) then Ok asked else Err 405
 
 -- what a request asks for, or the status of its answer
-abbrev pub wish : List ℕ → List ℕ → Option (List ℕ) → Result Asked ℕ
+abbrev pub wish : List ℕ → List ℕ → Option (List ℕ) → Result ViewRequest ℕ
 wish method path query = by_method method (asked_at path (unwrap_or query []))

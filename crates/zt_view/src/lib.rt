@@ -13,6 +13,6 @@ mod view;
 
 pub use guard::Own;
 pub use page::Part;
-pub use question::Question;
-pub use requests::Asked;
+pub use question::ViewQuestion;
+pub use requests::ViewRequest;
 pub use view::View;

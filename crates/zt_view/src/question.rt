@@ -8,7 +8,7 @@ ghost use Rattle.zt_book.specs.Log.{standing_of};
 ghost use Rattle.zt_history.specs.Tree.{name_at};
 ghost use Rattle.zt_look.specs.Lines.{call_made_line, change_lines, when_line};
 ghost use Rattle.zt_view.specs.Questions.{IsAnswer, IsUnanswered, branch_text, event_text, found_at, times_text};
-ghost use Rattle.zt_view.specs.declared.question.Question.TheVariants as question;
+ghost use Rattle.zt_view.specs.declared.question.ViewQuestion.TheVariants as question;
 
 use std::alloc::{AllocError, Global};
 use zt_book::{Book, TreeLook};
@@ -22,7 +22,7 @@ use zt_rows::{Call, Happening, Koid, Moment, Refusal};
 
 /// What is asked of a history. None of it shows rights and signals by their names.
 #[derive(Clone, Copy)]
-pub enum Question {
+pub enum ViewQuestion {
     /// What the call of a moment changed.
     Change(Moment),
     /// The calls on the path to a moment that are asked for.
@@ -39,7 +39,7 @@ pub enum Question {
 #[derive(Clone, Copy)]
 struct Asking {
     alloc: Global,
-    question: Question,
+    question: ViewQuestion,
 }
 
 impl TreeLook for Asking {
@@ -57,7 +57,7 @@ impl TreeLook for Asking {
 }
 
 /// What a book has for an answer to a question; its history, its clients and its log are as before.
-pub fn found(alloc: Global, book: &mut Book, question: Question) -> Result<Vec<u8>, Refusal>
+pub fn found(alloc: Global, book: &mut Book, question: ViewQuestion) -> Result<Vec<u8>, Refusal>
     requires { 1 ≤ length book.old.session.clients }
     ensures answer { IfOk result (λ text. IsAnswer question book.old.session.tree text.items) }
     ensures none { IfErr result (IsUnanswered question book.old.session.tree) }
@@ -68,17 +68,17 @@ pub fn found(alloc: Global, book: &mut Book, question: Question) -> Result<Vec<u
 }
 
 /// The lines that answer a question about a history.
-fn lines_of(alloc: Global, history: &mut History, asked: &Question) -> Result<Vec<u8>, Refusal>
+fn lines_of(alloc: Global, history: &mut History, asked: &ViewQuestion) -> Result<Vec<u8>, Refusal>
     ensures answer { IfOk result (λ text. IsAnswer asked.now history.old.tree text.items) }
     ensures none { IfErr result (IsUnanswered asked.now history.old.tree) }
     ensures tree { history.new.tree ≡ history.old.tree }
 {
     match asked {
-        Question::Change(moment) => change_lines(alloc, history, *moment),
-        Question::Calls(at, wanted) => call_lines(alloc, history, *at, wanted),
-        Question::Events(at, wanted) => event_lines(alloc, history, *at, wanted),
-        Question::Object(koid, at) => object_lines(alloc, history, *koid, *at),
-        Question::Branches => branch_lines(alloc, history),
+        ViewQuestion::Change(moment) => change_lines(alloc, history, *moment),
+        ViewQuestion::Calls(at, wanted) => call_lines(alloc, history, *at, wanted),
+        ViewQuestion::Events(at, wanted) => event_lines(alloc, history, *at, wanted),
+        ViewQuestion::Object(koid, at) => object_lines(alloc, history, *koid, *at),
+        ViewQuestion::Branches => branch_lines(alloc, history),
     }
 }
 

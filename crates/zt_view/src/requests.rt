@@ -6,13 +6,13 @@ ghost use Rattle.zt_view.specs.Requests.{asked_at, calls_asked, change_asked, ev
 use crate::cuts::{cut, is, koid, moment};
 use crate::page::Part;
 use crate::query::{calls_wanted, happenings_wanted};
-use crate::question::Question;
+use crate::question::ViewQuestion;
 use http::StatusCode;
 use zt_look::CallFilter;
 
 /// What a request asks for.
 #[derive(Clone, Copy)]
-pub enum Asked {
+pub enum ViewRequest {
     /// A part of the page.
     Page(Part),
     /// That the lines of its body are answered.
@@ -20,13 +20,13 @@ pub enum Asked {
     /// The session text of the whole tree.
     Tree,
     /// The answer to a question about the history.
-    Answer(Question),
+    Answer(ViewQuestion),
     /// That the server ends.
     End,
 }
 
 /// What a request of this method, path and query asks for, or else the status of its answer.
-pub fn wish(method: &str, path: &str, query: Option<&str>) -> Result<Asked, StatusCode>
+pub fn wish(method: &str, path: &str, query: Option<&str>) -> Result<ViewRequest, StatusCode>
     ensures asked { result ≡ wish method.now path.now (option_copied query.entry) }
     ensures status { IfErr result (λ status. 400 ≤ status) }
 {
@@ -47,18 +47,18 @@ pub fn wish(method: &str, path: &str, query: Option<&str>) -> Result<Asked, Stat
 }
 
 /// The method by which it is asked for.
-fn method_of(asked: &Asked) -> &'static str
+fn method_of(asked: &ViewRequest) -> &'static str
     ensures { result.now ≡ method_of asked.now }
 {
     match asked {
-        Asked::Lines | Asked::End => "POST",
-        Asked::Page(_) | Asked::Tree | Asked::Answer(_) => "GET",
+        ViewRequest::Lines | ViewRequest::End => "POST",
+        ViewRequest::Page(_) | ViewRequest::Tree | ViewRequest::Answer(_) => "GET",
     }
 }
 
 /// What is asked for by a path, which begins with `/`, and a query.
 #[tactic(auto, unfolding(crate::specs::Requests::asked_at))]
-fn asked_at(path: &[u8], query: &[u8]) -> Option<Asked>
+fn asked_at(path: &[u8], query: &[u8]) -> Option<ViewRequest>
     ensures { result ≡ asked_at path.now query.now }
 {
     let (before, rest) = cut(path, b'/');
@@ -74,23 +74,23 @@ fn asked_at(path: &[u8], query: &[u8]) -> Option<Asked>
 
 /// What a word alone asks for.
 #[tactic(auto, unfolding(crate::specs::Requests::named))]
-fn named(word: &[u8]) -> Option<Asked>
+fn named(word: &[u8]) -> Option<ViewRequest>
     ensures { result ≡ named word.now }
 {
     if is(word, "") {
-        Some(Asked::Page(Part::Index))
+        Some(ViewRequest::Page(Part::Index))
     } else if is(word, "style.css") {
-        Some(Asked::Page(Part::Style))
+        Some(ViewRequest::Page(Part::Style))
     } else if is(word, "script.js") {
-        Some(Asked::Page(Part::Script))
+        Some(ViewRequest::Page(Part::Script))
     } else if is(word, "lines") {
-        Some(Asked::Lines)
+        Some(ViewRequest::Lines)
     } else if is(word, "tree") {
-        Some(Asked::Tree)
+        Some(ViewRequest::Tree)
     } else if is(word, "branches") {
-        Some(Asked::Answer(Question::Branches))
+        Some(ViewRequest::Answer(ViewQuestion::Branches))
     } else if is(word, "end") {
-        Some(Asked::End)
+        Some(ViewRequest::End)
     } else {
         None
     }
@@ -98,7 +98,7 @@ fn named(word: &[u8]) -> Option<Asked>
 
 /// What a word with numbers behind it asks for.
 #[tactic(auto, unfolding(crate::specs::Requests::of_numbers))]
-fn of_numbers(word: &[u8], numbers: &[u8], query: &[u8]) -> Option<Asked>
+fn of_numbers(word: &[u8], numbers: &[u8], query: &[u8]) -> Option<ViewRequest>
     ensures { result ≡ of_numbers word.now numbers.now query.now }
 {
     if is(word, "change") {
@@ -116,37 +116,37 @@ fn of_numbers(word: &[u8], numbers: &[u8], query: &[u8]) -> Option<Asked>
 
 /// What a moment changed.
 #[tactic(auto, unfolding(crate::specs::Requests::change_asked))]
-fn change_asked(numbers: &[u8]) -> Option<Asked>
+fn change_asked(numbers: &[u8]) -> Option<ViewRequest>
     ensures { result ≡ change_asked numbers.now }
 {
     let moment = moment(numbers)?;
-    Some(Asked::Answer(Question::Change(moment)))
+    Some(ViewRequest::Answer(ViewQuestion::Change(moment)))
 }
 
 /// The events on the path to a moment.
 #[tactic(auto, unfolding(crate::specs::Requests::events_asked))]
-fn events_asked(numbers: &[u8], query: &[u8]) -> Option<Asked>
+fn events_asked(numbers: &[u8], query: &[u8]) -> Option<ViewRequest>
     ensures { result ≡ events_asked numbers.now query.now }
 {
     let at = moment(numbers)?;
     let wanted = happenings_wanted(query)?;
-    Some(Asked::Answer(Question::Events(at, wanted)))
+    Some(ViewRequest::Answer(ViewQuestion::Events(at, wanted)))
 }
 
 /// An object at a moment.
 #[tactic(auto, unfolding(crate::specs::Requests::object_asked))]
-fn object_asked(numbers: &[u8]) -> Option<Asked>
+fn object_asked(numbers: &[u8]) -> Option<ViewRequest>
     ensures { result ≡ object_asked numbers.now }
 {
     let (first, rest) = cut(numbers, b'/');
     let koid = koid(first)?;
     let at = moment(rest?)?;
-    Some(Asked::Answer(Question::Object(koid, at)))
+    Some(ViewRequest::Answer(ViewQuestion::Object(koid, at)))
 }
 
 /// The calls on the path to a moment, of the moments from one to another.
 #[tactic(auto, unfolding(crate::specs::Requests::calls_asked))]
-fn calls_asked(numbers: &[u8], query: &[u8]) -> Option<Asked>
+fn calls_asked(numbers: &[u8], query: &[u8]) -> Option<ViewRequest>
     ensures { result ≡ calls_asked numbers.now query.now }
 {
     let (end, range) = cut(numbers, b'/');
@@ -162,5 +162,5 @@ fn calls_asked(numbers: &[u8], query: &[u8]) -> Option<Asked>
         object: None,
     };
     let wanted = calls_wanted(all, query)?;
-    Some(Asked::Answer(Question::Calls(at, wanted)))
+    Some(ViewRequest::Answer(ViewQuestion::Calls(at, wanted)))
 }

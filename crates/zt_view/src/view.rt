@@ -4,8 +4,8 @@ ghost use Rattle.std.specs.Prelude.{◌≡◌, ◌≤◌, [], IfOk, IfSome, Some
 ghost use Rattle.http_server.specs.Response.{IsBlank};
 
 use crate::guard::Own;
-use crate::question::{Question, found};
-use crate::requests::{Asked, wish};
+use crate::question::{ViewQuestion, found};
+use crate::requests::{ViewRequest, wish};
 use crate::responses::{Content, fill, fill_found, fill_talk, refuse};
 use crate::talk::talk;
 use bytes::Bytes;
@@ -27,8 +27,8 @@ pub struct View {
 }
 
 impl View {
-    ghost use Rattle.zt_view.specs.Answers.{Answers, AnswersLines, AnswersQuestion, AnswersTree, IsAnswered, wish_of};
-    ghost use Rattle.zt_view.specs.declared.requests.Asked.TheVariants as asked;
+    ghost use Rattle.zt_view.specs.Answers.{AnswersWish, AnswersLines, AnswersQuestion, AnswersTree, IsAnswered, wish_of};
+    ghost use Rattle.zt_view.specs.declared.requests.ViewRequest.TheVariants as asked;
     ghost use Rattle.http.specs.Request.{body_of};
 
     /// A book of a client or more that is viewed at a port.
@@ -59,7 +59,7 @@ impl View {
     /// Answers a request that is let in.
     fn answer_admitted(&mut self, request: &Request<Bytes>, response: &mut Response)
         requires { IsBlank response.old }
-        ensures { Answers (wish_of request.now) self.old (body_of request.now) response.new self.new }
+        ensures { AnswersWish (wish_of request.now) self.old (body_of request.now) response.new self.new }
     {
         let uri = request.uri();
         match wish(request.method().as_str(), uri.path(), uri.query()) {
@@ -69,19 +69,19 @@ impl View {
     }
 
     /// Answers what is asked for.
-    fn answer_asked(&mut self, asked: Asked, body: &Bytes, response: &mut Response)
+    fn answer_asked(&mut self, asked: ViewRequest, body: &Bytes, response: &mut Response)
         requires { IsBlank response.old }
-        ensures { Answers (Ok asked) self.old body.now response.new self.new }
+        ensures { AnswersWish (Ok asked) self.old body.now response.new self.new }
     {
         match asked {
-            Asked::Page(part) => {
+            ViewRequest::Page(part) => {
                 let text = Bytes::from_static(part.text().as_bytes());
                 fill(response, StatusCode::OK, part.content(), text);
             }
-            Asked::Lines => self.answer_lines(body.as_slice(), response),
-            Asked::Tree => self.answer_tree(response),
-            Asked::Answer(question) => self.answer_question(question, response),
-            Asked::End => self.answer_end(response),
+            ViewRequest::Lines => self.answer_lines(body.as_slice(), response),
+            ViewRequest::Tree => self.answer_tree(response),
+            ViewRequest::Answer(question) => self.answer_question(question, response),
+            ViewRequest::End => self.answer_end(response),
         }
     }
 
@@ -112,7 +112,7 @@ impl View {
     }
 
     /// Answers a question about the history.
-    fn answer_question(&mut self, question: Question, response: &mut Response)
+    fn answer_question(&mut self, question: ViewQuestion, response: &mut Response)
         requires { IsBlank response.old }
         ensures { AnswersQuestion question self.old response.new self.new }
     {
@@ -125,7 +125,7 @@ impl View {
     /// Answers that the server ends, and has it end.
     fn answer_end(&mut self, response: &mut Response)
         requires { IsBlank response.old }
-        ensures { Answers (Ok asked.End) self.old [] response.new self.new }
+        ensures { AnswersWish (Ok asked.End) self.old [] response.new self.new }
     {
         self.is_ended = true;
         let text = Bytes::from_static(b"ended\n");

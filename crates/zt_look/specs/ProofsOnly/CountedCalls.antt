@@ -26,8 +26,8 @@ counted zero = None
 counted (suc n) = Some (suc n)
 
 -- the map has how often each answer was given
-abbrev pub IsCounted : List Made → BTreeMap (ℕ × ℕ) ℕ → Type 0
-IsCounted es counts = (k : ℕ × ℕ) → get answer_cmp counts k ≡ counted (count_by (has_answer k) es)
+abbrev pub AreCallsCounted : List Made → BTreeMap (ℕ × ℕ) ℕ → Type 0
+AreCallsCounted es counts = (k : ℕ × ℕ) → get answer_cmp counts k ≡ counted (count_by (has_answer k) es)
 
 -- the status of this place
 abbrev pub status_at : ℕ → Status

@@ -9,7 +9,7 @@ use Rattle.zt_rows.specs.State.{State}
 use Rattle.zt_rows.specs.Tests.{among, exists, kind_at}
 use Rattle.zt_index.specs.Chains.{IsShortOf}
 use Rattle.zt_look.specs.declared.handle_list.Handle.{Handle}
-use Rattle.zt_look.specs.HandleList.{IsHandle, values}
+use Rattle.zt_look.specs.HandleList.{IsHandleOf, values}
 
 -- what the entries of the process name is there
 abbrev pub NamesObjects : State → ℕ → Type 0
@@ -30,7 +30,7 @@ with_handle S p h list = list ++ handle_by h (entry S p h) (kind_at S (held_koid
 
 -- the list has the entries of the process before the next one
 pub record AreHandlesBefore (S : State) (p : ℕ) (next : Option ℕ) (list : List Handle) : Type 0 where
-  pub each : AllByRecursion (IsHandle S p) list
+  pub each : AllByRecursion (IsHandleOf S p) list
   pub rising : IsStrictlyIncreasing (values list)
   pub short : AllByRecursion (IsShortOf (λ a b. a < b) next) (values list)
   pub all : (h : ℕ) (held : Held) → IsShortOf (λ a b. a < b) next h → entry S p h ≡ Some held → among (values list) h ≡ true

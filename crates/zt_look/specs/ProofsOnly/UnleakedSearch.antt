@@ -60,7 +60,7 @@ named_by S (key.Packet p n) = []
 named_by S (key.Wait n) = []
 
 -- the set has all that rows name
-pub record IsClosed (S : State) (set : ℕ → Bool) : Type 0 where
+pub record HasAllNamed (S : State) (set : ℕ → Bool) : Type 0 where
   pub begun : (k : RowKey) (x : ℕ) → among (begun_by S k) x ≡ true → set x ≡ true
   pub named : (k : RowKey) (x : ℕ) → set (first_number k) ≡ true → among (named_by S k) x ≡ true → set x ≡ true
 
@@ -143,7 +143,7 @@ pub record Adds (which : ℕ → Type 0) (R : List (RowKey × Option Row)) (old 
 
 -- every closed set that has the one has the other
 abbrev pub IsLeast : State → Search → Search → Type 0
-IsLeast S old new = (f : ℕ → Bool) → IsClosed S f → ((x : ℕ) → in_set old x ≡ true → f x ≡ true) → (x : ℕ) → in_set new x ≡ true → f x ≡ true
+IsLeast S old new = (f : ℕ → Bool) → HasAllNamed S f → ((x : ℕ) → in_set old x ≡ true → f x ≡ true) → (x : ℕ) → in_set new x ≡ true → f x ≡ true
 
 abbrev pub has_key : List RowKey → RowKey → Bool
 has_key ks k = list_any (rowkey_eq k) ks
