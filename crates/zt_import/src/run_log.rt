@@ -160,7 +160,7 @@ fn run_one(
     ensures { OnOk result (IsImportOf calls.now (suc index) (import_of taken.new compared.new)) }
 {
     let logged = &calls[index];
-    adoption.write_outside(taken, plan, index, logged)?;
+    adoption.write_outside(taken, plan, calls, index)?;
     let moment = run_call(taken, numbers, index, logged)?;
     learn(numbers, plan, logged, taken.reply(&moment))?;
     compare(taken, compared, index, logged, moment)?;
