@@ -7,7 +7,7 @@ use Rattle.zt_logs.specs.declared.logged.LoggedCall.{LoggedCall}
 use Rattle.zt_import.specs.declared.trail.Origin.TheVariants as origin
 use Rattle.zt_import.specs.declared.trail.Difference.{Difference}
 use Rattle.zt_import.specs.declared.trail.Step.{Step}
-use Rattle.zt_import.specs.Trails.{number_in, numbers_in, answer_at, difference_of, difference_for, difference_at, differences_of}
+use Rattle.zt_import.specs.Trails.{number_in, numbers_in, answer_at, difference_of, difference_for, difference_at, differences_of, IsMadeOf, IsMadeFor, AreMadeBy}
 use Rattle.zt_import.specs.Imports.{IsImportOf}
 use Rattle.zt_import.specs.ProofsOnly.TakenCalls.{TakenView, ComparedView, IsOneMore, IsAside, IsComparedAs, ComparesMore, import_of, nothing_compared}
 use Rattle.zt_import.proofs.TrailLaws.{filter_map-push, differences-few, length-below}
@@ -58,3 +58,16 @@ pub none-compared : (calls : List LoggedCall) (old new : TakenView) (compared : 
     → compared ≡ nothing_compared → IsAside old new → IsImportOf calls 0 (import_of new compared)
 none-compared calls old new compared opening none aside =
     let P : ComparedView → Type 0 = λ view. IsImportOf calls 0 (import_of new view) in subst P (sym none) (none-yet calls old new opening aside)
+
+-- ---- what is called is the log's call
+
+pub one-call-made : (calls : List LoggedCall) (number : ℕ) (logged : LoggedCall) (a b d : TakenView) (moment : Option ℕ)
+    → slice_get calls number ≡ Some logged → AreMadeBy calls a.tree.made a.trail → IsAside a b → IsOneMore b d (step_at number moment)
+    → IsMadeOf d.tree.made moment logged.call → AreMadeBy calls d.tree.made d.trail
+one-call-made calls number logged a b d moment found are aside more here =
+    more.made calls (aside.made calls are) (subst (IsMadeFor d.tree.made moment) (sym found) here)
+
+pub none-made : (calls : List LoggedCall) (old new : TakenView) → old ≡ record { tree = opening_tree; trail = [] } → IsAside old new
+    → AreMadeBy calls new.tree.made new.trail
+none-made calls old new opening aside =
+    let P : TakenView → Type 0 = λ view. AreMadeBy calls view.tree.made view.trail in aside.made calls (subst P (sym opening) tt)

@@ -17,7 +17,7 @@ use Rattle.zt_import.specs.Trails.{calls_of}
 
 -- ---- what a call gives
 
-abbrev made_on : Tree → ℕ → Call → Made
+abbrev pub made_on : Tree → ℕ → Call → Made
 made_on t process call = made_by t.made (head_at t.branches 0) process call
 
 abbrev given_on : Tree → ℕ → Call → Answer × Tree

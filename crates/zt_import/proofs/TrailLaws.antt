@@ -6,17 +6,19 @@ use Rattle.std.specs.List.{filter_map, cons_option}
 use Rattle.std.specs.Option.{option_map, option_to_list}
 use Rattle.std.specs.Prelude.{slice_get, IfOk, OnOk}
 use Rattle.zt_rows.specs.declared.calls.Answer.TheVariants as answer
-use Rattle.zt_history.specs.Tree.{Made, Tree}
+use Rattle.zt_rows.specs.declared.calls.Call.{Call}
+use Rattle.zt_history.specs.Tree.{Made, Tree, call_at}
 use Rattle.zt_history.proofs.GrownLaws.{length-push}
+use Rattle.zt_history.proofs.ListLaws.{get-last}
 use Rattle.zt_history.proofs.MoreLaws.{made_at-more}
 use Rattle.zt_book.proofs.LoadLaws.{branches-called}
 use Rattle.zt_logs.specs.declared.logged.LoggedCall.{LoggedCall}
 use Rattle.zt_import.specs.declared.trail.Difference.{Difference}
 use Rattle.zt_import.specs.declared.trail.Origin.{Origin}
 use Rattle.zt_import.specs.declared.trail.Step.{Step}
-use Rattle.zt_import.specs.Trails.{number_in, numbers_in, moments_in, below, moments_to, answer_at, difference_of, difference_for, difference_by, difference_at, differences_of}
+use Rattle.zt_import.specs.Trails.{number_in, numbers_in, moments_in, below, moments_to, answer_at, difference_of, difference_for, difference_by, difference_at, differences_of, bare, IsMadeOf, IsMadeFor, IsMadeBy, AreMadeBy}
 use Rattle.zt_import.specs.ProofsOnly.TakenCalls.{TakenView, IsTaken, IsOneMore, IsAside, IsCalled}
-use Rattle.zt_import.proofs.LoadedLaws.{called-moment, called-made, loaded-called}
+use Rattle.zt_import.proofs.LoadedLaws.{made_on, called-moment, called-made, loaded-called}
 
 -- ---- one element more
 
@@ -76,6 +78,43 @@ differences-more calls made more (step ∷ trail) are =
     ∙ ap (cons_option (difference_at calls made step))
     (differences-more calls made more trail (within-rest (length made) step.moment (moments_in trail) are))
 
+-- ---- what was the log's call before is it still
+
+of-more : (made more : List Made) (o : Option ℕ) (ms : List ℕ) (c : Call) → AreWithin (length made) (cons_option o ms)
+    → IsMadeOf made o c → IsMadeOf (made ++ more) o c
+of-more made more None ms c are is = tt
+of-more made more (Some m) ms c are is =
+    ap (λ (e : Option Made). option_map (λ (called : ℕ × Call). bare called.1) (option_map (λ (e : Made). (e.process, e.call)) e))
+    (made_at-more made more m are.0) ∙ is
+
+for-more : (made more : List Made) (o : Option ℕ) (ms : List ℕ) (found : Option LoggedCall) → AreWithin (length made) (cons_option o ms)
+    → IsMadeFor made o found → IsMadeFor (made ++ more) o found
+for-more made more o ms None are is = tt
+for-more made more o ms (Some logged) are is = of-more made more o ms logged.call are is
+
+by-more : (calls : List LoggedCall) (made more : List Made) (n o : Option ℕ) (ms : List ℕ) → AreWithin (length made) (cons_option o ms)
+    → IsMadeBy calls made n o → IsMadeBy calls (made ++ more) n o
+by-more calls made more None o ms are is = tt
+by-more calls made more (Some number) o ms are is = for-more made more o ms (slice_get calls number) are is
+
+pub made-more : (calls : List LoggedCall) (made more : List Made) (trail : List Step) → AreWithin (length made) (moments_in trail)
+    → AreMadeBy calls made trail → AreMadeBy calls (made ++ more) trail
+made-more calls made more [] are is = tt
+made-more calls made more (step ∷ trail) are is = (
+  by-more calls made more (number_in step.origin) step.moment (moments_in trail) are is.0,
+  made-more calls made more trail (within-rest (length made) step.moment (moments_in trail) are) is.1,
+)
+
+pub made-push : (calls : List LoggedCall) (made : List Made) (trail : List Step) (step : Step) → AreMadeBy calls made trail
+    → IsMadeBy calls made (number_in step.origin) step.moment → AreMadeBy calls made (trail ++ step ∷ [])
+made-push calls made [] step is here = (here, tt)
+made-push calls made (first ∷ trail) step is here = (is.0, made-push calls made trail step is.1 here)
+
+-- the same of another call that is this one but for its handles
+pub made-bare : (made : List Made) (o : Option ℕ) (c d : Call) → bare c ≡ bare d → IsMadeOf made o c → IsMadeOf made o d
+made-bare made None c d same is = tt
+made-bare made (Some m) c d same is = is ∙ ap Some same
+
 -- ---- no more differ than calls of the log are asked
 
 longer : {A : Type 0} (o : Option A) (xs : List A) (n : ℕ) → length xs ≤ n → length (cons_option o xs) ≤ suc n
@@ -102,24 +141,34 @@ abbrev pub step_of : Origin → Option ℕ → Step
 step_of origin o = record { origin = origin; moment = o }
 
 -- the moments before it are those of the tree before it
-grown : (t u : Tree) (o : Option ℕ) → IsCalled t u o → (more : List Made) × (u.made ≡ t.made ++ more)
-grown t u None e = ([], ap (λ (v : Tree). v.made) e ∙ sym (append-nil t.made))
-grown t u (Some moment) (process, call, reply, h) = (_, called-made t u process moment call reply h)
+grown : (t u : Tree) (call : Call) (o : Option ℕ) → IsCalled t u call o → (more : List Made) × (u.made ≡ t.made ++ more)
+grown t u call None e = ([], ap (λ (v : Tree). v.made) e ∙ sym (append-nil t.made))
+grown t u call (Some moment) (process, reply, h) = (_, called-made t u process moment call reply h)
+
+-- the call that was made is this
+pub made-called : (t u : Tree) (call : Call) (o : Option ℕ) → IsCalled t u call o → IsMadeOf u.made o call
+made-called t u call None e = tt
+made-called t u call (Some moment) (process, reply, h) =
+    ap (λ made. option_map (λ (called : ℕ × Call). bare called.1) (call_at made moment)) (called-made t u process moment call reply h)
+    ∙ ap (λ m. option_map (λ (called : ℕ × Call). bare called.1) (call_at (t.made ++ made_on t process call ∷ []) m))
+    (called-moment t u process moment call reply h)
+    ∙ ap (λ (e : Option Made). option_map (λ (called : ℕ × Call). bare called.1) (option_map (λ (e : Made). (e.process, e.call)) e))
+    (get-last t.made (made_on t process call) (length t.made) refl)
 
 moments-push : (trail : List Step) (origin : Origin) (o : Option ℕ)
     → moments_in (trail ++ step_of origin o ∷ []) ≡ moments_in trail ++ option_to_list o
 moments-push trail origin o = filter_map-push (λ (step : Step). step.moment) trail (step_of origin o)
 
-pub taken-more : (t u : Tree) (trail : List Step) (origin : Origin) (o : Option ℕ) → IsTaken t trail → IsCalled t u o
+pub taken-more : (t u : Tree) (trail : List Step) (origin : Origin) (call : Call) (o : Option ℕ) → IsTaken t trail → IsCalled t u call o
     → IsTaken u (trail ++ step_of origin o ∷ [])
-taken-more t u trail origin None taken same =
+taken-more t u trail origin call None taken same =
     let P : Tree → Type 0 = λ v. IsTaken v (trail ++ step_of origin None ∷ []) in
     subst P (sym same) (record {
       loads = taken.loads;
       main = taken.main;
       moments = moments-push trail origin None ∙ append-nil (moments_in trail) ∙ taken.moments;
     })
-taken-more t u trail origin (Some moment) taken (process, call, reply, h) =
+taken-more t u trail origin call (Some moment) taken (process, reply, h) =
     let next : moment ≡ suc (length t.made) = called-moment t u process moment call reply h in
     let long : length u.made ≡ suc (length t.made) = ap length (called-made t u process moment call reply h) ∙ length-push t.made _ in
     record {
@@ -129,10 +178,10 @@ taken-more t u trail origin (Some moment) taken (process, call, reply, h) =
           ∙ ap (λ m. moments_to (length t.made) ++ m ∷ []) next ∙ sym (ap moments_to long);
     }
 
-pub one-more : (t u : Tree) (trail : List Step) (origin : Origin) (o : Option ℕ) → IsTaken t trail → IsCalled t u o
+pub one-more : (t u : Tree) (trail : List Step) (origin : Origin) (call : Call) (o : Option ℕ) → IsTaken t trail → IsCalled t u call o
     → IsOneMore (record { tree = t; trail = trail }) (record { tree = u; trail = trail ++ step_of origin o ∷ [] }) (step_of origin o)
-one-more t u trail origin o taken called =
-    let more = grown t u o called in
+one-more t u trail origin call o taken called =
+    let more = grown t u call o called in
     let are : AreWithin (length t.made) (moments_in trail) =
     subst (AreWithin (length t.made)) (sym taken.moments) (within-moments (length t.made)) in
     record {
@@ -141,26 +190,33 @@ one-more t u trail origin o taken called =
           filter_map-push (difference_at calls u.made) trail (step_of origin o)
           ∙ ap (λ ds. ds ++ option_to_list (difference_at calls u.made (step_of origin o)))
           (ap (λ made. differences_of calls made trail) more.1 ∙ differences-more calls t.made more.0 trail are);
+      made = λ calls before here.
+          let P : List Made → Type 0 = λ made. AreMadeBy calls made trail in
+          made-push calls u.made trail (step_of origin o) (subst P (sym more.1) (made-more calls t.made more.0 trail are before)) here;
     }
 
 -- the same, of lists that are these
-pub taken-pushed : (t u : Tree) (before kept after : List Step) (origin : Origin) (o found : Option ℕ) → IsTaken t before → IsCalled t u found
+pub taken-pushed : (t u : Tree) (before kept after : List Step) (origin : Origin) (call : Call) (o found : Option ℕ) → IsTaken t before
+    → IsCalled t u call found
     → found ≡ o → kept ≡ before → after ≡ kept ++ step_of origin o ∷ [] → IsTaken u after
-taken-pushed t u before kept after origin o found taken called is same pushed =
+taken-pushed t u before kept after origin call o found taken called is same pushed =
     let P : List Step → Type 0 = λ trail. IsTaken u trail in
     subst P (sym (pushed ∙ ap (λ trail. trail ++ step_of origin o ∷ []) same))
-    (taken-more t u before origin o taken (subst (IsCalled t u) is called))
+    (taken-more t u before origin call o taken (subst (IsCalled t u call) is called))
 
-pub one-more-pushed : (t u : Tree) (before kept after : List Step) (origin : Origin) (o found : Option ℕ) (old : TakenView)
-    → ◌≡◌ {A = TakenView} (record { tree = t; trail = before }) old → IsTaken t before → IsCalled t u found
+pub one-more-pushed : (t u : Tree) (before kept after : List Step) (origin : Origin) (call : Call) (o found : Option ℕ) (old : TakenView)
+    → ◌≡◌ {A = TakenView} (record { tree = t; trail = before }) old → IsTaken t before → IsCalled t u call found
     → found ≡ o → kept ≡ before → after ≡ kept ++ step_of origin o ∷ []
     → IsOneMore old (record { tree = u; trail = after }) (step_of origin o)
-one-more-pushed t u before kept after origin o found old view taken called is same pushed =
+one-more-pushed t u before kept after origin call o found old view taken called is same pushed =
     let P : TakenView → Type 0 = λ v. IsOneMore v (record { tree = u; trail = after }) (step_of origin o) in
     let Q : List Step → Type 0 = λ trail. IsOneMore (record { tree = t; trail = before }) (record { tree = u; trail = trail }) (step_of origin o) in
     subst P view
     (subst Q (sym (pushed ∙ ap (λ trail. trail ++ step_of origin o ∷ []) same))
-    (one-more t u before origin o taken (subst (IsCalled t u) is called)))
+    (one-more t u before origin call o taken (subst (IsCalled t u call) is called)))
+
+pub made-pushed : (t u : Tree) (call : Call) (o found : Option ℕ) → IsCalled t u call found → found ≡ o → IsMadeOf u.made o call
+made-pushed t u call o found called is = made-called t u call o (subst (IsCalled t u call) is called)
 
 -- ---- steps that are no calls of the log
 
@@ -173,16 +229,23 @@ aside_one old new origin o none more = record {
   differences = λ calls.
       let before = differences_of calls old.tree.made old.trail in
       more.differences calls ∙ ap (λ n. before ++ option_to_list (difference_by calls new.tree.made n o)) none ∙ append-nil before;
+  made = λ calls before.
+      let P : Option ℕ → Type 0 = λ n. IsMadeBy calls new.tree.made n o in more.made calls before (subst P (sym none) tt);
 }
 
 pub aside_none : (view : TakenView) → IsAside view view
-aside_none view = record { numbers = refl; differences = λ calls. refl }
+aside_none view = record { numbers = refl; differences = λ calls. refl; made = λ calls are. are }
 
 pub aside_both : (old mid new : TakenView) → IsAside old mid → IsAside mid new → IsAside old new
 aside_both old mid new first second = record {
   numbers = second.numbers ∙ first.numbers;
   differences = λ calls. second.differences calls ∙ first.differences calls;
+  made = λ calls are. second.made calls (first.made calls are);
 }
+
+pub aside_after : {A E : Type 0} (r : Result A E) (old mid new : TakenView) → IsAside old mid → OnOk r (IsAside mid new) → OnOk r (IsAside old new)
+aside_after (Ok a) old mid new first second = aside_both old mid new first second
+aside_after (Err e) old mid new first second = tt
 
 -- of a call that is asked and found no memory nothing is said
 pub aside_ok : {E : Type 0} (r : Result (Option ℕ) E) (old new : TakenView) (origin : Origin) → number_in origin ≡ None

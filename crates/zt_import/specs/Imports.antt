@@ -6,7 +6,7 @@ use Rattle.zt_book.specs.Log.{loaded}
 use Rattle.zt_logs.specs.declared.logged.LoggedCall.{LoggedCall}
 use Rattle.zt_import.specs.declared.trail.Difference.{Difference}
 use Rattle.zt_import.specs.declared.trail.Step.{Step}
-use Rattle.zt_import.specs.Trails.{calls_of, numbers_in, moments_in, below, moments_to, differences_of}
+use Rattle.zt_import.specs.Trails.{calls_of, numbers_in, moments_in, below, moments_to, differences_of, AreMadeBy}
 
 pub record Import : Type 0 where
   pub tree : Tree
@@ -30,3 +30,7 @@ pub record IsImportOf (calls : List LoggedCall) (number : ℕ) (it : Import) : T
   pub told : it.told ≡ take 100 (differences_of calls it.tree.made it.trail)
   pub count : it.count ≡ length (differences_of calls it.tree.made it.trail)
   pub by_schedule : it.by_schedule ≡ count_by (λ difference. difference.by_schedule) (differences_of calls it.tree.made it.trail)
+
+-- what is called at the moment of a step is the log's call of its number, but for handles
+abbrev pub AreTheLogsCalls : List LoggedCall → Import → Type 0
+AreTheLogsCalls calls it = AreMadeBy calls it.tree.made it.trail

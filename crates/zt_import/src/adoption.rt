@@ -3,7 +3,7 @@ ghost use Rattle.zt_import.specs.Trails.{number_in};
 ghost use Rattle.zt_import.specs.ProofsOnly.TakenCalls.{IsAside};
 
 use crate::numbers::{NO_HANDLE, Numbers};
-use crate::plan::{AdoptedProcess, OutsideMessage, Plan};
+use crate::plan::{AdoptedProcess, OutsideContent, OutsideMessage, Plan};
 use crate::taken::Taken;
 use crate::trail::Origin;
 use std::alloc::{AllocError, Global};
@@ -29,8 +29,6 @@ pub(crate) struct Adoption {
     ends: HashMap<usize, HandleValue>,
     /// The other ends of ends whose peers the log does not have, by the objects of those.
     others: HashMap<usize, HandleValue>,
-    /// How many messages from outside are written.
-    written: usize,
 }
 
 impl Adoption {
@@ -39,7 +37,6 @@ impl Adoption {
             alloc,
             ends: HashMap::new(alloc),
             others: HashMap::new(alloc),
-            written: 0,
         }
     }
 
@@ -185,45 +182,50 @@ impl Adoption {
         Ok(())
     }
 
-    /// Writes the message that this call of the log reads, where it comes from outside.
+    /// Writes the message that this call of the log is the first to come upon, where it comes from outside.
     pub(crate) fn write_outside(
         &mut self,
         taken: &mut Taken,
         plan: &Plan,
+        calls: &[LoggedCall],
         index: usize,
-        logged: &LoggedCall,
     ) -> Result<(), Cause>
         ensures { OnOk result (IsAside taken.old taken.new) }
     {
-        let Some(message) = plan.outside.get(self.written) else {
+        let Some(message) = plan.outside.get(&index) else {
             return Ok(());
         };
-        if message.call != index {
-            return Ok(());
-        }
-        self.written = self.written.saturating_add(1);
         match self.others.get(&message.end).copied() {
-            Some(other) => self.write_message(taken, plan, message, other, logged),
+            Some(other) => {
+                let bytes = bytes_of(self.alloc, calls, message)?;
+                let handles = self.made(taken, plan, message.objects.as_slice())?;
+                write(taken, Origin::Outside(index), other, bytes, handles)
+            }
             None => Ok(()),
         }
     }
+}
 
-    fn write_message(
-        &mut self,
-        taken: &mut Taken,
-        plan: &Plan,
-        message: &OutsideMessage,
-        other: HandleValue,
-        logged: &LoggedCall,
-    ) -> Result<(), Cause>
-        ensures { OnOk result (IsAside taken.old taken.new) }
-    {
-        let handles = self.made(taken, plan, message.objects.as_slice())?;
-        let bytes = match &logged.recorded.bytes {
-            Some(bytes) => bytes.copy()?.into_vec(),
-            None => Vec::new(self.alloc),
-        };
-        write(taken, Origin::Outside(message.call), other, bytes, handles)
+/// The bytes of a message from outside. What no call reads are zeros.
+fn bytes_of(
+    alloc: Global,
+    calls: &[LoggedCall],
+    message: &OutsideMessage,
+) -> Result<Vec<u8>, AllocError> {
+    match message.content {
+        OutsideContent::Unread(size) => vec![in alloc; 0u8; size],
+        OutsideContent::Read(index) => match calls.get(index) {
+            Some(logged) => recorded_bytes(alloc, logged),
+            None => Ok(Vec::new(alloc)),
+        },
+    }
+}
+
+/// The bytes that a call read, as far as the log has them.
+fn recorded_bytes(alloc: Global, logged: &LoggedCall) -> Result<Vec<u8>, AllocError> {
+    match &logged.recorded.bytes {
+        Some(bytes) => Ok(bytes.copy()?.into_vec()),
+        None => Ok(Vec::new(alloc)),
     }
 }
 

@@ -6,6 +6,8 @@ mod adoption;
 mod compared;
 mod comparison;
 mod difference_lines;
+mod first_messages;
+mod kind_signs;
 mod numbers;
 mod origin_lines;
 mod plan;

@@ -1,3 +1,6 @@
+ghost use Rattle.std.specs.Prelude.{◌≡◌, suc, IfOk, OnOk, length, vec_len};
+ghost use Rattle.zt_import.specs.Trails.{bare};
+
 use std::alloc::{AllocError, Global};
 use std::collections::HashMap;
 use zt_rows::{Call, HandleValue, Koid, Parcel};
@@ -77,65 +80,66 @@ impl Numbers {
     }
 
     /// The call of a process of the log, with the handles that it names in the trace.
-    pub(crate) fn call(&self, process: u64, call: &Call) -> Result<Call, AllocError> {
-        Ok(match *call {
-            Call::EventCreate => Call::EventCreate,
-            Call::EventPairCreate => Call::EventPairCreate,
-            Call::ChannelCreate => Call::ChannelCreate,
-            Call::PortCreate => Call::PortCreate,
-            Call::ProcessExit { code } => Call::ProcessExit { code },
-            Call::ChannelWrite { handle, ref parcel } => {
-                let parcel = self.parcel(process, parcel)?;
-                Call::ChannelWrite {
-                    handle: self.handle(process, handle),
-                    parcel,
-                }
-            }
-            _ => self.call_on_handles(process, call),
-        })
+    pub(crate) fn call(&self, process: u64, call: &Call) -> Result<Call, AllocError>
+        ensures { IfOk result (λ named. bare named ≡ bare call.now) }
+    {
+        match *call {
+            Call::HandleClose { handle } => Ok(Call::HandleClose {
+                handle: self.handle(process, handle),
+            }),
+            Call::HandleDuplicate { handle, rights } => Ok(Call::HandleDuplicate {
+                handle: self.handle(process, handle),
+                rights,
+            }),
+            Call::HandleReplace { handle, rights } => Ok(Call::HandleReplace {
+                handle: self.handle(process, handle),
+                rights,
+            }),
+            Call::ObjectSignal { handle, clear, set } => Ok(Call::ObjectSignal {
+                handle: self.handle(process, handle),
+                clear,
+                set,
+            }),
+            Call::ObjectSignalPeer { handle, clear, set } => Ok(Call::ObjectSignalPeer {
+                handle: self.handle(process, handle),
+                clear,
+                set,
+            }),
+            _ => self.call_on_channels(process, call),
+        }
     }
 
-    /// The same of a call that names single handles.
-    fn call_on_handles(&self, process: u64, call: &Call) -> Call {
+    /// The same of a call that names a channel, or of one that the functions below take.
+    fn call_on_channels(&self, process: u64, call: &Call) -> Result<Call, AllocError>
+        ensures { IfOk result (λ named. bare named ≡ bare call.now) }
+    {
         match *call {
-            Call::HandleClose { handle } => Call::HandleClose {
-                handle: self.handle(process, handle),
-            },
-            Call::HandleDuplicate { handle, rights } => Call::HandleDuplicate {
-                handle: self.handle(process, handle),
-                rights,
-            },
-            Call::HandleReplace { handle, rights } => Call::HandleReplace {
-                handle: self.handle(process, handle),
-                rights,
-            },
-            Call::ObjectSignal { handle, clear, set } => Call::ObjectSignal {
-                handle: self.handle(process, handle),
-                clear,
-                set,
-            },
-            Call::ObjectSignalPeer { handle, clear, set } => Call::ObjectSignalPeer {
-                handle: self.handle(process, handle),
-                clear,
-                set,
-            },
+            Call::ChannelWrite { handle, ref parcel } => {
+                let parcel = self.parcel(process, parcel)?;
+                Ok(Call::ChannelWrite {
+                    handle: self.handle(process, handle),
+                    parcel,
+                })
+            }
             Call::ChannelRead {
                 handle,
                 bytes,
                 handles,
                 discard,
-            } => Call::ChannelRead {
+            } => Ok(Call::ChannelRead {
                 handle: self.handle(process, handle),
                 bytes,
                 handles,
                 discard,
-            },
-            _ => self.call_on_ports_and_tasks(process, call),
+            }),
+            _ => self.call_on_ports(process, call),
         }
     }
 
-    /// The same of a call that names a port, a job or a process.
-    fn call_on_ports_and_tasks(&self, process: u64, call: &Call) -> Call {
+    /// The same of a call that names a port, or of one that the function below takes.
+    fn call_on_ports(&self, process: u64, call: &Call) -> Result<Call, AllocError>
+        ensures { IfOk result (λ named. bare named ≡ bare call.now) }
+    {
         match *call {
             Call::ObjectWaitAsync {
                 handle,
@@ -143,55 +147,91 @@ impl Numbers {
                 key,
                 signals,
                 edge,
-            } => Call::ObjectWaitAsync {
+            } => Ok(Call::ObjectWaitAsync {
                 handle: self.handle(process, handle),
                 port: self.handle(process, port),
                 key,
                 signals,
                 edge,
-            },
-            Call::PortQueue { port, key, bytes } => Call::PortQueue {
+            }),
+            Call::PortQueue { port, key, bytes } => Ok(Call::PortQueue {
                 port: self.handle(process, port),
                 key,
                 bytes,
-            },
-            Call::PortWait { port } => Call::PortWait {
+            }),
+            Call::PortWait { port } => Ok(Call::PortWait {
                 port: self.handle(process, port),
-            },
-            Call::PortCancel { port, source, key } => Call::PortCancel {
+            }),
+            Call::PortCancel { port, source, key } => Ok(Call::PortCancel {
                 port: self.handle(process, port),
                 source: self.handle(process, source),
                 key,
-            },
-            Call::JobCreate { job } => Call::JobCreate {
+            }),
+            _ => self.call_on_tasks(process, call),
+        }
+    }
+
+    /// The same of a call that names a job or a process, or no handle.
+    fn call_on_tasks(&self, process: u64, call: &Call) -> Result<Call, AllocError>
+        ensures { IfOk result (λ named. bare named ≡ bare call.now) }
+    {
+        match *call {
+            Call::JobCreate { job } => Ok(Call::JobCreate {
                 job: self.handle(process, job),
-            },
-            Call::Spawn { job, argument } => Call::Spawn {
+            }),
+            Call::Spawn { job, argument } => Ok(Call::Spawn {
                 job: self.handle(process, job),
                 argument: self.handle(process, argument),
-            },
-            Call::JobSetCritical { job, process: task } => Call::JobSetCritical {
+            }),
+            Call::JobSetCritical { job, process: task } => Ok(Call::JobSetCritical {
                 job: self.handle(process, job),
                 process: self.handle(process, task),
-            },
-            Call::TaskKill { handle } => Call::TaskKill {
+            }),
+            Call::TaskKill { handle } => Ok(Call::TaskKill {
                 handle: self.handle(process, handle),
-            },
-            _ => Call::EventCreate,
+            }),
+            _ => call.copy(),
         }
     }
 
     /// A parcel of a process of the log, with the handles that it names in the trace.
-    fn parcel(&self, process: u64, parcel: &Parcel) -> Result<Parcel, AllocError> {
+    fn parcel(&self, process: u64, parcel: &Parcel) -> Result<Parcel, AllocError>
+        ensures bytes { IfOk result (λ named. named.bytes ≡ parcel.now.bytes) }
+        ensures handles { IfOk result (λ named. length named.handles ≡ length parcel.now.handles) }
+    {
         let alloc = parcel.bytes().allocator();
         let bytes = Vec::from_slice(alloc, parcel.bytes().as_slice())?;
-        let mut handles = Vec::new(alloc);
-        for handle in parcel.handles().as_slice() {
-            handles.push(self.handle(process, *handle))?;
-        }
+        let handles = self.named(alloc, process, parcel.handles().as_slice())?;
+        parcel.limits();
         match Parcel::new(bytes, handles) {
             Some(parcel) => Ok(parcel),
-            None => parcel.copy(),
+            None => unreachable!(),
         }
+    }
+
+    /// What handles of the process are in the trace.
+    fn named(
+        &self,
+        alloc: Global,
+        process: u64,
+        handles: &[HandleValue],
+    ) -> Result<Vec<HandleValue>, AllocError>
+        ensures { IfOk result (λ named. vec_len named ≡ length handles.now) }
+    {
+        let mut named = Vec::new(alloc);
+        for place in 0..handles.len() {
+            push_handle(&mut named, self.handle(process, handles[place]))?;
+        }
+        Ok(named)
+    }
+}
+
+/// One handle more.
+fn push_handle(handles: &mut Vec<HandleValue>, handle: HandleValue) -> Result<(), AllocError>
+    ensures { OnOk result (vec_len handles.new ≡ suc (vec_len handles.old)) }
+{
+    match handles.push(handle) {
+        Ok(()) => Ok(()),
+        Err(_) => Err(AllocError),
     }
 }

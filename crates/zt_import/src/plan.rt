@@ -1,4 +1,6 @@
-use crate::seen_objects::{Hint, SeenObjects, Sent};
+use crate::first_messages::FirstMessages;
+use crate::kind_signs::Sign;
+use crate::seen_objects::{SeenObjects, Sent, Unread};
 use std::alloc::{AllocError, Global};
 use std::collections::HashMap;
 use zt_bits::Status;
@@ -12,13 +14,23 @@ pub(crate) struct AdoptedProcess {
     pub(crate) objects: Vec<usize>,
 }
 
-/// A message that a call reads and that nothing in the log wrote: the end at which it is read, and the objects of its
-/// handles.
+/// A message that calls come upon and that nothing in the log wrote.
 #[derive(Drop)]
 pub(crate) struct OutsideMessage {
-    pub(crate) call: usize,
+    /// At which end.
     pub(crate) end: usize,
+    pub(crate) content: OutsideContent,
+    /// Those of its handles.
     pub(crate) objects: Vec<usize>,
+}
+
+/// The bytes of a message from outside.
+#[derive(Clone, Copy)]
+pub(crate) enum OutsideContent {
+    /// Those that the call of this number reads.
+    Read(usize),
+    /// So many, since no call reads them.
+    Unread(usize),
 }
 
 /// How a process comes into the log.
@@ -35,15 +47,14 @@ enum Coming {
 pub(crate) struct Plan {
     pub(crate) processes: Vec<AdoptedProcess>,
     pub(crate) objects: SeenObjects,
-    /// In the order of their calls.
-    pub(crate) outside: Vec<OutsideMessage>,
+    /// By the first call that comes upon it, which has to find it there.
+    pub(crate) outside: HashMap<usize, OutsideMessage>,
     /// By which handle a process has what it was given when it was spawned.
     pub(crate) arguments: HashMap<u64, HandleValue>,
     comings: HashMap<u64, Coming>,
     /// What each handle of each process names.
     known: HashMap<(u64, u32), usize>,
-    /// The ends whose peers may yet be found, by the bytes that were first written at them.
-    first_bytes: HashMap<Vec<u8>, usize>,
+    first_messages: FirstMessages,
 }
 
 impl Plan {
@@ -56,18 +67,21 @@ impl Plan {
                 Err(cause) => return Err(cause.at(logged.line)),
             }
         }
-        Ok(plan)
+        match plan.leave_unread() {
+            Ok(()) => Ok(plan),
+            Err(_) => Err(Cause::OutOfMemory.at(0)),
+        }
     }
 
     fn new(alloc: Global) -> Plan {
         Plan {
             processes: Vec::new(alloc),
             objects: SeenObjects::new(alloc),
-            outside: Vec::new(alloc),
+            outside: HashMap::new(alloc),
             arguments: HashMap::new(alloc),
             comings: HashMap::new(alloc),
             known: HashMap::new(alloc),
-            first_bytes: HashMap::new(alloc),
+            first_messages: FirstMessages::new(alloc),
         }
     }
 
@@ -76,11 +90,12 @@ impl Plan {
         self.see_process(logged.process)?;
         self.see_uses(logged)?;
         if logged.recorded.status != Some(Status::Ok) {
+            self.see_too_large(index, logged)?;
             return Ok(());
         }
         match &logged.call {
             Call::ChannelWrite { handle, parcel } => {
-                self.see_write(index, logged.process, *handle, parcel)?;
+                self.see_write(logged.process, *handle, parcel)?;
                 Ok(())
             }
             Call::ChannelRead { handle, .. } => {
@@ -128,18 +143,18 @@ impl Plan {
             | Call::HandleDuplicate { handle, .. }
             | Call::HandleReplace { handle, .. }
             | Call::ObjectSignal { handle, .. } => {
-                self.see_use(process, *handle, first, Hint::Nothing)
+                self.see_use(process, *handle, first, Sign::Nothing)
             }
             Call::ObjectSignalPeer { handle, .. } => {
-                self.see_use(process, *handle, first, told(status, Hint::Peer))
+                self.see_use(process, *handle, first, told(status, Sign::Peer))
             }
             Call::ChannelWrite { handle, parcel } => {
-                self.see_use(process, *handle, first, told(status, Hint::Channel))?;
+                self.see_use(process, *handle, first, told(status, Sign::Channel))?;
                 let is_there = matches!(status, Some(Status::Ok | Status::PeerClosed));
                 self.see_sent(process, parcel, is_there)
             }
             Call::ChannelRead { handle, .. } => {
-                self.see_use(process, *handle, first, told(status, Hint::Channel))
+                self.see_use(process, *handle, first, told(status, Sign::Channel))
             }
             _ => self.see_other_uses(logged, first),
         }
@@ -156,17 +171,17 @@ impl Plan {
                 signals,
                 ..
             } => {
-                self.see_use(process, *handle, first, waited_for(signals.0))?;
+                self.see_wait(process, *handle, first, signals.0)?;
                 let is_there = matches!(status, Some(Status::Ok | Status::WrongType));
-                self.see_use(process, *port, is_there, told(status, Hint::Port))
+                self.see_use(process, *port, is_there, told(status, Sign::Port))
             }
             Call::PortQueue { port, .. } | Call::PortWait { port } => {
-                self.see_use(process, *port, first, told(status, Hint::Port))
+                self.see_use(process, *port, first, told(status, Sign::Port))
             }
             Call::PortCancel { port, source, .. } => {
-                self.see_use(process, *port, first, told(status, Hint::Port))?;
+                self.see_use(process, *port, first, told(status, Sign::Port))?;
                 let is_there = matches!(status, Some(Status::Ok | Status::NotFound));
-                self.see_use(process, *source, is_there, Hint::Nothing)
+                self.see_use(process, *source, is_there, Sign::Nothing)
             }
             _ => self.see_task_uses(logged, first),
         }
@@ -178,23 +193,23 @@ impl Plan {
         let status = logged.recorded.status;
         match &logged.call {
             Call::JobCreate { job } => {
-                self.see_use(process, *job, first, told(status, Hint::Job))
+                self.see_use(process, *job, first, told(status, Sign::Job))
             }
             Call::Spawn { job, argument } => {
-                self.see_use(process, *job, first, told(status, Hint::Job))?;
+                self.see_use(process, *job, first, told(status, Sign::Job))?;
                 let is_there = matches!(status, Some(Status::Ok | Status::BadState));
-                self.see_use(process, *argument, is_there, Hint::Nothing)
+                self.see_use(process, *argument, is_there, Sign::Nothing)
             }
             Call::JobSetCritical { job, process: task } => {
-                self.see_use(process, *job, first, told(status, Hint::Job))?;
+                self.see_use(process, *job, first, told(status, Sign::Job))?;
                 let is_there = matches!(
                     status,
                     Some(Status::Ok | Status::AlreadyBound | Status::InvalidArgs)
                 );
-                self.see_use(process, *task, is_there, Hint::Process)
+                self.see_use(process, *task, is_there, Sign::Process)
             }
             Call::TaskKill { handle } => {
-                self.see_use(process, *handle, first, told(status, Hint::Process))
+                self.see_use(process, *handle, first, told(status, Sign::Task))
             }
             _ => Ok(()),
         }
@@ -206,19 +221,42 @@ impl Plan {
         process: u64,
         handle: HandleValue,
         is_there: bool,
-        hint: Hint,
+        sign: Sign,
     ) -> Result<(), AllocError> {
-        if handle.0 == 0 || !is_there {
-            return Ok(());
-        }
-        let object = match self.object_of(process, handle) {
-            Some(object) => Some(object),
-            None => self.from_nowhere(process, handle)?,
-        };
-        if let Some(object) = object {
-            self.objects.hint(object, hint);
+        if let Some(object) = self.used(process, handle, is_there)? {
+            self.objects.add_call(object, sign);
         }
         Ok(())
+    }
+
+    /// The same of a wait for signals on what a handle names.
+    fn see_wait(
+        &mut self,
+        process: u64,
+        handle: HandleValue,
+        is_there: bool,
+        signals: u32,
+    ) -> Result<(), AllocError> {
+        if let Some(object) = self.used(process, handle, is_there)? {
+            self.objects.add_wait(object, waited_for(signals));
+        }
+        Ok(())
+    }
+
+    /// The object of a handle that a call uses, where that is there.
+    fn used(
+        &mut self,
+        process: u64,
+        handle: HandleValue,
+        is_there: bool,
+    ) -> Result<Option<usize>, AllocError> {
+        if handle.0 == 0 || !is_there {
+            return Ok(None);
+        }
+        match self.object_of(process, handle) {
+            Some(object) => Ok(Some(object)),
+            None => self.from_nowhere(process, handle),
+        }
     }
 
     /// A message has these handles.
@@ -229,7 +267,7 @@ impl Plan {
         is_there: bool,
     ) -> Result<(), AllocError> {
         for handle in parcel.handles().as_slice() {
-            self.see_use(process, *handle, is_there, Hint::Nothing)?;
+            self.see_use(process, *handle, is_there, Sign::Nothing)?;
         }
         Ok(())
     }
@@ -272,7 +310,6 @@ impl Plan {
     /// A message was written.
     fn see_write(
         &mut self,
-        index: usize,
         process: u64,
         handle: HandleValue,
         parcel: &Parcel,
@@ -281,13 +318,10 @@ impl Plan {
             return Ok(());
         };
         let objects = self.objects_of(process, parcel)?;
-        let message = Sent {
-            call: index,
-            objects,
-        };
-        if self.objects.send(end, message)? {
-            let bytes = Vec::from_slice(*self.processes.allocator(), parcel.bytes().as_slice())?;
-            self.first_bytes.insert(bytes, end)?;
+        let handles = objects.len();
+        if self.objects.send(end, Sent { objects })? {
+            let bytes = parcel.bytes().as_slice();
+            self.first_messages.add(bytes, handles, end)?;
         }
         Ok(())
     }
@@ -311,11 +345,11 @@ impl Plan {
         let Some(end) = self.object_of(logged.process, handle) else {
             return self.see_new(logged);
         };
-        self.find_peer(logged, end);
+        self.find_peer(logged, end)?;
         match self.objects.receive(end) {
             Some(message) => self.see_received(logged, message.objects.as_slice()),
             None => {
-                if self.objects.is_from_outside(end) {
+                if self.objects.is_alone(end) {
                     self.see_outside(index, logged, end)
                 } else {
                     self.see_new(logged)
@@ -324,27 +358,105 @@ impl Plan {
         }
     }
 
+    /// A message was larger than there was room for. Where that was asked for it was discarded.
+    fn see_too_large(&mut self, index: usize, logged: &LoggedCall) -> Result<(), AllocError> {
+        if logged.recorded.status != Some(Status::BufferTooSmall) {
+            return Ok(());
+        }
+        let Call::ChannelRead {
+            handle,
+            bytes,
+            handles,
+            discard,
+        } = &logged.call
+        else {
+            return Ok(());
+        };
+        let Some(end) = self.object_of(logged.process, *handle) else {
+            return Ok(());
+        };
+        let found = Unread {
+            call: index,
+            process: logged.process,
+            bytes: *bytes as usize,
+            handles: *handles as usize,
+        };
+        self.see_unread(end, found, *discard)
+    }
+
+    /// The first message at this end is not read by a call that came upon it.
+    fn see_unread(
+        &mut self,
+        end: usize,
+        found: Unread,
+        is_discarded: bool,
+    ) -> Result<(), AllocError> {
+        if self.objects.is_alone(end) {
+            self.objects.add_unread(end, found);
+            if is_discarded {
+                self.objects.set_outside(end);
+                self.write_unread(end)?;
+            }
+        } else if is_discarded {
+            let _message = self.objects.receive(end);
+        }
+        Ok(())
+    }
+
+    /// What calls came upon and none reads comes from outside, where no peer was found.
+    fn leave_unread(&mut self) -> Result<(), AllocError> {
+        for end in 0..self.objects.count() {
+            self.write_unread(end)?;
+        }
+        Ok(())
+    }
+
+    /// A message from outside is the first at this end, for which calls had too little room, if they had.
+    fn write_unread(&mut self, end: usize) -> Result<(), AllocError> {
+        let Some(unread) = self.objects.take_unread(end) else {
+            return Ok(());
+        };
+        let mut objects = Vec::new(*self.processes.allocator());
+        for _ in 0..unread.handle_count() {
+            let object = self.objects.add(Some((unread.process, HandleValue(0))))?;
+            objects.push(object)?;
+        }
+        let content = OutsideContent::Unread(unread.size());
+        self.write_outside(unread.call, end, content, objects)
+    }
+
+    fn write_outside(
+        &mut self,
+        call: usize,
+        end: usize,
+        content: OutsideContent,
+        objects: Vec<usize>,
+    ) -> Result<(), AllocError> {
+        let message = OutsideMessage {
+            end,
+            content,
+            objects,
+        };
+        self.outside.insert(call, message)?;
+        Ok(())
+    }
+
     /// Finds the peer of an end at which a message is read: the end at which it was written as the first.
-    fn find_peer(&mut self, logged: &LoggedCall, end: usize) {
+    fn find_peer(&mut self, logged: &LoggedCall, end: usize) -> Result<(), AllocError> {
         let Some(bytes) = &logged.recorded.bytes else {
-            return;
+            return Ok(());
         };
         if !self.objects.is_open(end) {
-            return;
+            return Ok(());
         }
-        let Some(other) = self.first_bytes.get(bytes.as_slice()).copied() else {
-            return;
-        };
-        if other == end || !self.objects.is_open(other) {
-            return;
-        }
-        let is_it = match self.objects.first_sent(other) {
-            Some(sent) => sent.objects.len() == logged.recorded.handles.len(),
-            None => false,
-        };
-        if is_it {
+        let handles = logged.recorded.handles.len();
+        let found = self
+            .first_messages
+            .take(bytes.as_slice(), handles, &self.objects, end)?;
+        if let Some(other) = found {
             self.objects.pair(other, end);
         }
+        Ok(())
     }
 
     /// The handles of a message that was read name these objects.
@@ -376,12 +488,12 @@ impl Plan {
             self.name(logged.process, *handle, object)?;
             objects.push(object)?;
         }
-        self.outside.push(OutsideMessage {
-            call: index,
-            end,
-            objects,
-        })?;
-        Ok(())
+        self.objects.set_outside(end);
+        let call = match self.objects.take_unread(end) {
+            Some(unread) => unread.call,
+            None => index,
+        };
+        self.write_outside(call, end, OutsideContent::Read(index), objects)
     }
 
     /// A process was made, and has the argument.
@@ -443,23 +555,23 @@ impl Plan {
 }
 
 /// What a use tells of the kind, where its status does not say that it is another.
-fn told(status: Option<Status>, hint: Hint) -> Hint {
-    if status == Some(Status::WrongType) {
-        Hint::Nothing
-    } else {
-        hint
+fn told(status: Option<Status>, sign: Sign) -> Sign {
+    match status {
+        Some(Status::WrongType) => Sign::Nothing,
+        Some(Status::NotSupported) if sign == Sign::Peer => Sign::Nothing,
+        _ => sign,
     }
 }
 
 /// What a wait for these signals tells of the kind of its object.
-fn waited_for(signals: u32) -> Hint {
+fn waited_for(signals: u32) -> Sign {
     if signals & 0x3 != 0 {
-        Hint::Channel
+        Sign::Channel
     } else if signals & 0x30 != 0 {
-        Hint::Job
+        Sign::Job
     } else if signals & 0x4 != 0 {
-        Hint::Peer
+        Sign::Peer
     } else {
-        Hint::Nothing
+        Sign::Nothing
     }
 }

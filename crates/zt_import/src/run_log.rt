@@ -1,8 +1,8 @@
 ghost use Rattle.std.specs.Prelude.{◌≡◌, ◌^◌, ◌<◌, ◌≤◌, ◌&&◌, suc, ℕ, [], false, IfOk, OnOk, length};
 ghost use Rattle.zt_history.specs.Tree.{opening_tree};
-ghost use Rattle.zt_import.specs.Imports.{Loads, IsImportOf, differs};
+ghost use Rattle.zt_import.specs.Imports.{Loads, IsImportOf, AreTheLogsCalls, differs};
 ghost use Rattle.std.specs.Option.{option_to_list};
-ghost use Rattle.zt_import.specs.Trails.{numbers_in, below, answer_at, difference_of};
+ghost use Rattle.zt_import.specs.Trails.{numbers_in, below, answer_at, difference_of, IsMadeOf, AreMadeBy};
 ghost use Rattle.zt_import.specs.ProofsOnly.TakenCalls.{IsOneMore, ComparesMore, nothing_compared, import_of};
 ghost use Rattle.zt_import.specs.declared.trail.Origin.TheVariants as origin;
 
@@ -93,6 +93,7 @@ pub fn import(alloc: Global, calls: &[LoggedCall], is_strict: bool) -> Result<Im
     ensures loads { IfOk result Loads }
     ensures differences { IfOk result (λ it. (number : ℕ) × (number ≤ length calls.now) × IsImportOf calls.now number it) }
     ensures whole { IfOk result (λ it. (is_strict && differs it) ≡ false → numbers_in it.trail ≡ below (length calls.now)) }
+    ensures calls { IfOk result (λ it. AreTheLogsCalls calls.now it) }
 {
     let plan = Plan::of(alloc, calls)?;
     let Ok(mut taken) = Taken::new(alloc) else {
@@ -117,6 +118,7 @@ fn run_all(
     requires compared { compared.old ≡ nothing_compared }
     ensures differences { OnOk result ((number : ℕ) × (number ≤ length calls.now) × IsImportOf calls.now number (import_of taken.new compared.new)) }
     ensures whole { OnOk result ((is_strict && differs (import_of taken.new compared.new)) ≡ false → numbers_in taken.new.trail ≡ below (length calls.now)) }
+    ensures calls { OnOk result (AreMadeBy calls.now taken.new.tree.made taken.new.trail) }
 {
     let mut numbers = Numbers::new(alloc);
     let mut adoption = Adoption::new(alloc);
@@ -157,10 +159,12 @@ fn run_one(
     requires within { index < length calls.now }
     requires few { length calls.now < 2 ^ 64 }
     requires so_far { IsImportOf calls.now index (import_of taken.old compared.old) }
-    ensures { OnOk result (IsImportOf calls.now (suc index) (import_of taken.new compared.new)) }
+    requires made { AreMadeBy calls.now taken.old.tree.made taken.old.trail }
+    ensures one { OnOk result (IsImportOf calls.now (suc index) (import_of taken.new compared.new)) }
+    ensures made { OnOk result (AreMadeBy calls.now taken.new.tree.made taken.new.trail) }
 {
     let logged = &calls[index];
-    adoption.write_outside(taken, plan, index, logged)?;
+    adoption.write_outside(taken, plan, calls, index)?;
     let moment = run_call(taken, numbers, index, logged)?;
     learn(numbers, plan, logged, taken.reply(&moment))?;
     compare(taken, compared, index, logged, moment)?;
@@ -189,7 +193,8 @@ fn run_call(
     index: usize,
     logged: &LoggedCall,
 ) -> Result<Option<Moment>, Cause>
-    ensures { IfOk result (λ moment. IsOneMore taken.old taken.new (record { origin = origin.Logged index; moment = moment })) }
+    ensures one { IfOk result (λ moment. IsOneMore taken.old taken.new (record { origin = origin.Logged index; moment = moment })) }
+    ensures made { IfOk result (λ moment. IsMadeOf taken.new.tree.made moment logged.now.call) }
 {
     let call = numbers.call(logged.process, &logged.call)?;
     taken.ask(

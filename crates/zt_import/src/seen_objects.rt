@@ -1,82 +1,45 @@
+use crate::kind_signs::{KindSigns, Sign};
 use std::alloc::{AllocError, Global};
 use std::collections::VecDeque;
 use zt_bits::Kind;
-use zt_rows::HandleValue;
+use zt_rows::{HandleValue, MESSAGE_BYTES, MESSAGE_HANDLES};
 
-/// What a use of a handle tells of the kind of its object.
-#[derive(Clone, Copy, Debug, PartialEq, Eq)]
-pub(crate) enum Hint {
-    Nothing,
-    Channel,
-    Port,
-    Job,
-    Process,
-    /// A kind that has a peer.
-    Peer,
-}
-
-/// What the uses of an object tell of its kind.
-#[derive(Clone, Copy)]
-pub(crate) struct Hints {
-    channel: bool,
-    port: bool,
-    job: bool,
-    process: bool,
-    peer: bool,
-}
-
-impl Hints {
-    pub(crate) fn none() -> Hints {
-        Hints {
-            channel: false,
-            port: false,
-            job: false,
-            process: false,
-            peer: false,
-        }
-    }
-
-    pub(crate) fn add(&mut self, hint: Hint) {
-        match hint {
-            Hint::Nothing => {}
-            Hint::Channel => self.channel = true,
-            Hint::Port => self.port = true,
-            Hint::Job => self.job = true,
-            Hint::Process => self.process = true,
-            Hint::Peer => self.peer = true,
-        }
-    }
-
-    /// The kind, and whether a use tells it. Where none does it is an event.
-    pub(crate) fn kind(self) -> (Kind, bool) {
-        if self.channel {
-            (Kind::Channel, true)
-        } else if self.port {
-            (Kind::Port, true)
-        } else if self.job {
-            (Kind::Job, true)
-        } else if self.process {
-            (Kind::Process, true)
-        } else if self.peer {
-            (Kind::EventPair, true)
-        } else {
-            (Kind::Event, false)
-        }
-    }
-}
-
-/// A message that the log has as written: the number of the call, and the objects of its handles; nothing for one that is
-/// not known.
+/// A message that the log has as written: the objects of its handles; nothing for one that is not known.
 #[derive(Drop)]
 pub(crate) struct Sent {
-    pub(crate) call: usize,
     pub(crate) objects: Vec<Option<usize>>,
+}
+
+/// A message that calls came upon and had too little room for: the first of these calls with its process, and for how many
+/// bytes and handles one of them had room.
+#[derive(Clone, Copy)]
+pub(crate) struct Unread {
+    pub(crate) call: usize,
+    pub(crate) process: u64,
+    pub(crate) bytes: usize,
+    pub(crate) handles: usize,
+}
+
+impl Unread {
+    /// How many bytes it has, which is one more than there was room for, or the most that a message has.
+    pub(crate) fn size(&self) -> usize {
+        self.bytes.saturating_add(1).min(MESSAGE_BYTES)
+    }
+
+    /// How many handles: none, unless there was room for the bytes of every message.
+    pub(crate) fn handle_count(&self) -> usize {
+        if self.bytes < MESSAGE_BYTES {
+            0
+        } else {
+            self.handles.saturating_add(1).min(MESSAGE_HANDLES)
+        }
+    }
 }
 
 /// An object, as the log tells of it.
 #[derive(Drop)]
 pub(crate) struct SeenObject {
-    pub(crate) hints: Hints,
+    pub(crate) signs: KindSigns,
     /// By which handle of which process the log has it first, where it comes from nowhere.
     pub(crate) adopted: Option<(u64, HandleValue)>,
     /// The other end of a channel, where it is known.
@@ -87,6 +50,8 @@ pub(crate) struct SeenObject {
     pub(crate) queue: VecDeque<Sent>,
     /// The messages written at this end, while its peer is not known.
     pub(crate) sent: VecDeque<Sent>,
+    /// The message that is the first at this end, while its peer is not known.
+    pub(crate) unread: Option<Unread>,
 }
 
 /// The objects of a log, each under a number of its own.
@@ -107,12 +72,13 @@ impl SeenObjects {
         let alloc = *self.objects.allocator();
         let number = self.objects.len();
         self.objects.push(SeenObject {
-            hints: Hints::none(),
+            signs: KindSigns::none(),
             adopted,
             peer: None,
             is_outside: false,
             queue: VecDeque::new(alloc),
             sent: VecDeque::new(alloc),
+            unread: None,
         })?;
         Ok(number)
     }
@@ -125,17 +91,29 @@ impl SeenObjects {
         }
     }
 
-    /// A use tells this of the object's kind.
-    pub(crate) fn hint(&mut self, number: usize, hint: Hint) {
+    /// How many there are.
+    pub(crate) fn count(&self) -> usize {
+        self.objects.len()
+    }
+
+    /// A use by a call tells this of the object's kind.
+    pub(crate) fn add_call(&mut self, number: usize, sign: Sign) {
         if let Some(object) = self.objects.get_mut(number) {
-            object.hints.add(hint);
+            object.signs.add_call(sign);
+        }
+    }
+
+    /// What is waited for at it tells this of the object's kind.
+    pub(crate) fn add_wait(&mut self, number: usize, sign: Sign) {
+        if let Some(object) = self.objects.get_mut(number) {
+            object.signs.add_wait(sign);
         }
     }
 
     /// The kind of an object, and whether a use tells it.
     pub(crate) fn kind(&self, number: usize) -> (Kind, bool) {
         match self.objects.get(number) {
-            Some(object) => object.hints.kind(),
+            Some(object) => object.signs.kind(),
             None => (Kind::Event, false),
         }
     }
@@ -162,6 +140,7 @@ impl SeenObjects {
         match self.objects.get_mut(number) {
             Some(object) => {
                 object.peer = Some(peer);
+                object.unread = None;
                 Some(std::mem::replace(&mut object.sent, VecDeque::new(alloc)))
             }
             None => None,
@@ -209,14 +188,6 @@ impl SeenObjects {
         }
     }
 
-    /// The first message that was written at an end whose peer is not known.
-    pub(crate) fn first_sent(&self, number: usize) -> Option<&Sent> {
-        match self.objects.get(number) {
-            Some(object) => object.sent.front(),
-            None => None,
-        }
-    }
-
     /// Takes the first message that waits at this end.
     pub(crate) fn receive(&mut self, number: usize) -> Option<Sent> {
         match self.objects.get_mut(number) {
@@ -225,15 +196,41 @@ impl SeenObjects {
         }
     }
 
-    /// Whether the peer of this end is none of the log's, which is so from here on where it could yet be found.
-    pub(crate) fn is_from_outside(&mut self, number: usize) -> bool {
-        match self.objects.get_mut(number) {
-            Some(object) => {
-                let is_outside = object.adopted.is_some() && object.peer.is_none();
-                object.is_outside = is_outside;
-                is_outside
-            }
+    /// Whether no message can come to an end but from outside, as far as is known.
+    pub(crate) fn is_alone(&self, number: usize) -> bool {
+        match self.objects.get(number) {
+            Some(object) => object.adopted.is_some() && object.peer.is_none(),
             None => false,
+        }
+    }
+
+    /// The peer of this end is none of the log's, where it could yet be found.
+    pub(crate) fn set_outside(&mut self, number: usize) {
+        if let Some(object) = self.objects.get_mut(number) {
+            object.is_outside = true;
+        }
+    }
+
+    /// A call came upon the first message at this end and had too little room for it, as calls before it may have had.
+    pub(crate) fn add_unread(&mut self, number: usize, found: Unread) {
+        if let Some(object) = self.objects.get_mut(number) {
+            object.unread = Some(match object.unread {
+                Some(unread) => Unread {
+                    call: unread.call,
+                    process: unread.process,
+                    bytes: unread.bytes.max(found.bytes),
+                    handles: unread.handles.max(found.handles),
+                },
+                None => found,
+            });
+        }
+    }
+
+    /// Takes the message that is the first at this end, if calls had too little room for it.
+    pub(crate) fn take_unread(&mut self, number: usize) -> Option<Unread> {
+        match self.objects.get_mut(number) {
+            Some(object) => std::mem::replace(&mut object.unread, None),
+            None => None,
         }
     }
 }

@@ -1,7 +1,7 @@
 ghost use Rattle.std.specs.Prelude.{◌≡◌, ◌<◌, [], ◌∷◌, ◌++◌, None, IfOk, OnOk, OnErr, length, vec_len, vec_capacity};
 ghost use Rattle.std.specs.Option.{option_copied};
 ghost use Rattle.zt_history.specs.Tree.{opening_tree};
-ghost use Rattle.zt_import.specs.Trails.{answer_at, number_in};
+ghost use Rattle.zt_import.specs.Trails.{answer_at, number_in, IsMadeOf};
 ghost use Rattle.zt_import.specs.ProofsOnly.TakenCalls.{IsTaken, IsOneMore, IsAside, IsCalled};
 
 use crate::trail::{Origin, Step};
@@ -73,7 +73,8 @@ impl Taken {
         process: Koid,
         call: &Call,
     ) -> Result<Option<Moment>, Cause>
-        ensures { IfOk result (λ moment. IsOneMore self.old self.new (record { origin = origin; moment = moment })) }
+        ensures one { IfOk result (λ moment. IsOneMore self.old self.new (record { origin = origin; moment = moment })) }
+        ensures made { IfOk result (λ moment. IsMadeOf self.new.tree.made moment call.now) }
     {
         self.trail.reserve(1)?;
         match called(&mut self.history, process, call)? {
@@ -115,7 +116,7 @@ impl Taken {
 /// Makes a call at the head of `main`, where its process is alive.
 fn called(history: &mut History, process: Koid, call: &Call) -> Result<Option<Moment>, Cause>
     requires { 0 < length history.old.tree.branches }
-    ensures ok { IfOk result (IsCalled history.old.tree history.new.tree) }
+    ensures ok { IfOk result (IsCalled history.old.tree history.new.tree call.now) }
     ensures err { OnErr result (history.new.tree ≡ history.old.tree) }
 {
     match history.call(MAIN, process, call) {

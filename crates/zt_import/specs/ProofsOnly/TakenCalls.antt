@@ -11,7 +11,7 @@ use Rattle.zt_logs.specs.declared.logged.LoggedCall.{LoggedCall}
 use Rattle.zt_import.specs.declared.trail.Difference.{Difference}
 use Rattle.zt_import.specs.declared.trail.Step.{Step}
 use Rattle.zt_import.specs.Imports.{Import}
-use Rattle.zt_import.specs.Trails.{calls_of, numbers_in, moments_in, moments_to, difference_at, differences_of}
+use Rattle.zt_import.specs.Trails.{calls_of, number_in, numbers_in, moments_in, moments_to, difference_at, differences_of, IsMadeBy, AreMadeBy}
 
 pub record TakenView : Type 0 where
   pub tree : Tree
@@ -27,18 +27,20 @@ pub record IsOneMore (old new : TakenView) (step : Step) : Type 0 where
   pub trail : new.trail ≡ old.trail ++ step ∷ []
   pub differences : (calls : List LoggedCall) → differences_of calls new.tree.made new.trail
       ≡ differences_of calls old.tree.made old.trail ++ option_to_list (difference_at calls new.tree.made step)
+  pub made : (calls : List LoggedCall) → AreMadeBy calls old.tree.made old.trail
+      → IsMadeBy calls new.tree.made (number_in step.origin) step.moment → AreMadeBy calls new.tree.made new.trail
 
 -- steps more, none of which is a call of the log
 pub record IsAside (old new : TakenView) : Type 0 where
   pub numbers : numbers_in new.trail ≡ numbers_in old.trail
   pub differences : (calls : List LoggedCall) → differences_of calls new.tree.made new.trail
       ≡ differences_of calls old.tree.made old.trail
+  pub made : (calls : List LoggedCall) → AreMadeBy calls old.tree.made old.trail → AreMadeBy calls new.tree.made new.trail
 
--- a call was made at this moment, or none
-abbrev pub IsCalled : Tree → Tree → Option ℕ → Type 0
-IsCalled old new None = new ≡ old
-IsCalled old new (Some moment) =
-    (process : ℕ) × (call : Call) × (reply : Reply) × (call_on old 0 process call ≡ Ok (answer.Called moment reply, new))
+-- this call was made at this moment, or none
+abbrev pub IsCalled : Tree → Tree → Call → Option ℕ → Type 0
+IsCalled old new call None = new ≡ old
+IsCalled old new call (Some moment) = (process : ℕ) × (reply : Reply) × (call_on old 0 process call ≡ Ok (answer.Called moment reply, new))
 
 -- ---- what is compared
 
