@@ -6,13 +6,13 @@ use Rattle.zt_history.specs.Tree.{opening_tree}
 use Rattle.zt_logs.specs.declared.logged.LoggedCall.{LoggedCall}
 use Rattle.zt_import.specs.declared.trail.Origin.TheVariants as origin
 use Rattle.zt_import.specs.declared.trail.Difference.{Difference}
-use Rattle.zt_import.specs.declared.trail.Step.{Step}
+use Rattle.zt_import.specs.declared.trail.TrailStep.{TrailStep}
 use Rattle.zt_import.specs.Trails.{number_in, numbers_in, answer_at, difference_of, difference_for, difference_at, differences_of, IsMadeOf, IsMadeFor, AreMadeBy}
 use Rattle.zt_import.specs.Imports.{IsImportOf}
-use Rattle.zt_import.specs.ProofsOnly.TakenCalls.{TakenView, ComparedView, IsOneMore, IsAside, IsComparedAs, ComparesMore, import_of, nothing_compared}
+use Rattle.zt_import.specs.ProofsOnly.TakenCalls.{TakenView, ComparedView, IsOneStepMore, IsAside, IsComparedAs, ComparesMore, import_of, nothing_compared}
 use Rattle.zt_import.proofs.TrailLaws.{filter_map-push, differences-few, length-below}
 
-abbrev step_at : ℕ → Option ℕ → Step
+abbrev step_at : ℕ → Option ℕ → TrailStep
 step_at number moment = record { origin = origin.Logged number; moment = moment }
 
 -- nothing is compared before the first
@@ -30,7 +30,7 @@ none-yet calls old new opening aside =
 -- and one call more
 pub one-call-more : (calls : List LoggedCall) (number : ℕ) (logged : LoggedCall) (a b d : TakenView) (moment : Option ℕ) (old new : ComparedView)
     → slice_get calls number ≡ Some logged → suc number < 2 ^ 64 → IsImportOf calls number (import_of a old) → IsAside a b
-    → IsOneMore b d (step_at number moment)
+    → IsOneStepMore b d (step_at number moment)
     → ComparesMore old new (option_to_list (difference_of logged number moment (answer_at d.tree.made moment)))
     → IsImportOf calls (suc number) (import_of d new)
 one-call-more calls number logged a b d moment old new found small so aside more compares =
@@ -47,7 +47,7 @@ one-call-more calls number logged a b d moment old new found small so aside more
     let whole : P (differences_of calls d.tree.made d.trail) = subst P (sym after) compared in
     record {
       numbers =
-          ap numbers_in more.trail ∙ filter_map-push (λ (step : Step). number_in step.origin) b.trail (step_at number moment)
+          ap numbers_in more.trail ∙ filter_map-push (λ (step : TrailStep). number_in step.origin) b.trail (step_at number moment)
           ∙ ap (λ ns. ns ++ number ∷ []) (aside.numbers ∙ so.numbers);
       told = whole.told;
       count = whole.count;
@@ -62,7 +62,7 @@ none-compared calls old new compared opening none aside =
 -- ---- what is called is the log's call
 
 pub one-call-made : (calls : List LoggedCall) (number : ℕ) (logged : LoggedCall) (a b d : TakenView) (moment : Option ℕ)
-    → slice_get calls number ≡ Some logged → AreMadeBy calls a.tree.made a.trail → IsAside a b → IsOneMore b d (step_at number moment)
+    → slice_get calls number ≡ Some logged → AreMadeBy calls a.tree.made a.trail → IsAside a b → IsOneStepMore b d (step_at number moment)
     → IsMadeOf d.tree.made moment logged.call → AreMadeBy calls d.tree.made d.trail
 one-call-made calls number logged a b d moment found are aside more here =
     more.made calls (aside.made calls are) (subst (IsMadeFor d.tree.made moment) (sym found) here)

@@ -17,7 +17,7 @@ use Rattle.zt_text.specs.ReadLines.{fields_in}
 use Rattle.zt_text.specs.Session.{call_in, calls_in, session_of}
 use Rattle.zt_text.proofs.LineLemmas.{line_written}
 use Rattle.zt_text.proofs.ShownCalls.{call_line_free, call_line_kept, call_line_made}
-use Rattle.zt_import.specs.declared.trail.Step.{Step}
+use Rattle.zt_import.specs.declared.trail.TrailStep.{TrailStep}
 use Rattle.zt_import.specs.Imports.{Import, Loads}
 use Rattle.zt_import.specs.Trails.{calls_of, moments_in, moments_to}
 use Rattle.zt_import.specs.ProofsOnly.ReadTexts.{Writes, moment_calls, step_calls, calls_by, is_no_feed, fits}
@@ -127,7 +127,7 @@ moment-calls : (made : List Made) (o : Option ℕ) (ms : List ℕ)
 moment-calls made None ms = refl
 moment-calls made (Some moment) ms = in_front (call_at made moment) (filter_map (call_at made) ms)
 
-pub calls-by : (made : List Made) (trail : List Step) → calls_by made trail ≡ filter_map (call_at made) (moments_in trail)
+pub calls-by : (made : List Made) (trail : List TrailStep) → calls_by made trail ≡ filter_map (call_at made) (moments_in trail)
 calls-by made [] = refl
 calls-by made (step ∷ trail) =
     ap (λ calls. step_calls made step ++ calls) (calls-by made trail) ∙ moment-calls made step.moment (moments_in trail)
@@ -159,18 +159,18 @@ calls-to made (suc k) h =
     ∙ sym (ap (map call_in_made) (take-next made k there.0 there.1) ∙ map-append call_in_made (take k made) (there.0 ∷ []))
 
 -- all moments of a tree, each once, in their order, have its calls
-pub calls-of : (made : List Made) (trail : List Step) → moments_in trail ≡ moments_to (length made) → calls_by made trail ≡ calls_of made
+pub calls-of : (made : List Made) (trail : List TrailStep) → moments_in trail ≡ moments_to (length made) → calls_by made trail ≡ calls_of made
 calls-of made trail all =
     calls-by made trail ∙ ap (filter_map (call_at made)) all ∙ calls-to made (length made) (omega arith)
     ∙ ap (map call_in_made) (take-length made)
 
 -- ---- step by step
 
-pub trail-none : (made : List Made) (trail : List Step) (text : List ℕ) → Writes text text (calls_by made (take 0 trail))
+pub trail-none : (made : List Made) (trail : List TrailStep) (text : List ℕ) → Writes text text (calls_by made (take 0 trail))
 trail-none made trail text =
-    let P : List Step → Type 0 = λ steps. Writes text text (calls_by made steps) in subst P (sym (take-none trail)) (writes-none text)
+    let P : List TrailStep → Type 0 = λ steps. Writes text text (calls_by made steps) in subst P (sym (take-none trail)) (writes-none text)
 
-pub trail-more : (made : List Made) (trail : List Step) (k j : ℕ) (step : Step) (old mid new : List ℕ) → k < length trail → step ≡ get_or trail k step
+pub trail-more : (made : List Made) (trail : List TrailStep) (k j : ℕ) (step : TrailStep) (old mid new : List ℕ) → k < length trail → step ≡ get_or trail k step
     → j ≡ suc k → Writes old mid (calls_by made (take k trail)) → Writes mid new (step_calls made step) → Writes old new (calls_by made (take j trail))
 trail-more made trail k j step old mid new there is next first second =
     let found : slice_get trail k ≡ Some step = slice_get_read trail (length trail) k step refl there is in
@@ -181,12 +181,12 @@ trail-more made trail k j step old mid new there is next first second =
     let P : List (ℕ × Call) → Type 0 = λ calls. Writes old new calls in
     subst P (sym more) (writes-both old mid new (calls_by made (take k trail)) (step_calls made step) first second)
 
-pub trail-whole : (made : List Made) (trail : List Step) (k : ℕ) (old new : List ℕ) → length trail ≤ k → Writes old new (calls_by made (take k trail))
+pub trail-whole : (made : List Made) (trail : List TrailStep) (k : ℕ) (old new : List ℕ) → length trail ≤ k → Writes old new (calls_by made (take k trail))
     → Writes old new (calls_by made trail)
 trail-whole made trail k old new whole so =
-    let P : List Step → Type 0 = λ steps. Writes old new (calls_by made steps) in subst P (take-all k trail whole) so
+    let P : List TrailStep → Type 0 = λ steps. Writes old new (calls_by made steps) in subst P (take-all k trail whole) so
 
-pub session-put : (old mid new : List ℕ) (it : Import) (t : Tree) (trail : List Step) → old ≡ [] → mid ≡ old ++ codes "zxtt 1\n" → t ≡ it.tree
+pub session-put : (old mid new : List ℕ) (it : Import) (t : Tree) (trail : List TrailStep) → old ≡ [] → mid ≡ old ++ codes "zxtt 1\n" → t ≡ it.tree
     → trail ≡ it.trail → Loads it → Writes mid new (calls_by t.made trail) → session_of new ≡ Ok (calls_of it.tree.made)
 session-put old mid new it t trail none first same steps loads written =
     let begun : mid ≡ codes "zxtt 1\n" = first ∙ ap (λ bytes. bytes ++ codes "zxtt 1\n") none in

@@ -15,9 +15,9 @@ use Rattle.zt_book.proofs.LoadLaws.{branches-called}
 use Rattle.zt_logs.specs.declared.logged.LoggedCall.{LoggedCall}
 use Rattle.zt_import.specs.declared.trail.Difference.{Difference}
 use Rattle.zt_import.specs.declared.trail.Origin.{Origin}
-use Rattle.zt_import.specs.declared.trail.Step.{Step}
+use Rattle.zt_import.specs.declared.trail.TrailStep.{TrailStep}
 use Rattle.zt_import.specs.Trails.{number_in, numbers_in, moments_in, below, moments_to, answer_at, difference_of, difference_for, difference_by, difference_at, differences_of, bare, IsMadeOf, IsMadeFor, IsMadeBy, AreMadeBy}
-use Rattle.zt_import.specs.ProofsOnly.TakenCalls.{TakenView, IsTaken, IsOneMore, IsAside, IsCalled}
+use Rattle.zt_import.specs.ProofsOnly.TakenCalls.{TakenView, IsTakenTrail, IsOneStepMore, IsAside, IsCallAt}
 use Rattle.zt_import.proofs.LoadedLaws.{made_on, called-moment, called-made, loaded-called}
 
 -- ---- one element more
@@ -68,7 +68,7 @@ by-same : (calls : List LoggedCall) (made more : List Made) (n o : Option ℕ) �
 by-same calls made more None o e = refl
 by-same calls made more (Some number) o e = for-same made more (slice_get calls number) number o e
 
-pub differences-more : (calls : List LoggedCall) (made more : List Made) (trail : List Step) → AreWithin (length made) (moments_in trail)
+pub differences-more : (calls : List LoggedCall) (made more : List Made) (trail : List TrailStep) → AreWithin (length made) (moments_in trail)
     → differences_of calls (made ++ more) trail ≡ differences_of calls made trail
 differences-more calls made more [] are = refl
 differences-more calls made more (step ∷ trail) are =
@@ -97,7 +97,7 @@ by-more : (calls : List LoggedCall) (made more : List Made) (n o : Option ℕ) (
 by-more calls made more None o ms are is = tt
 by-more calls made more (Some number) o ms are is = for-more made more o ms (slice_get calls number) are is
 
-pub made-more : (calls : List LoggedCall) (made more : List Made) (trail : List Step) → AreWithin (length made) (moments_in trail)
+pub made-more : (calls : List LoggedCall) (made more : List Made) (trail : List TrailStep) → AreWithin (length made) (moments_in trail)
     → AreMadeBy calls made trail → AreMadeBy calls (made ++ more) trail
 made-more calls made more [] are is = tt
 made-more calls made more (step ∷ trail) are is = (
@@ -105,7 +105,7 @@ made-more calls made more (step ∷ trail) are is = (
   made-more calls made more trail (within-rest (length made) step.moment (moments_in trail) are) is.1,
 )
 
-pub made-push : (calls : List LoggedCall) (made : List Made) (trail : List Step) (step : Step) → AreMadeBy calls made trail
+pub made-push : (calls : List LoggedCall) (made : List Made) (trail : List TrailStep) (step : TrailStep) → AreMadeBy calls made trail
     → IsMadeBy calls made (number_in step.origin) step.moment → AreMadeBy calls made (trail ++ step ∷ [])
 made-push calls made [] step is here = (here, tt)
 made-push calls made (first ∷ trail) step is here = (is.0, made-push calls made trail step is.1 here)
@@ -126,7 +126,7 @@ by-few : (calls : List LoggedCall) (made : List Made) (n o : Option ℕ) (ds : L
 by-few calls made None o ds ns h = h
 by-few calls made (Some number) o ds ns h = longer (difference_for made (slice_get calls number) number o) ds (length ns) h
 
-pub differences-few : (calls : List LoggedCall) (made : List Made) (trail : List Step) → length (differences_of calls made trail) ≤ length (numbers_in trail)
+pub differences-few : (calls : List LoggedCall) (made : List Made) (trail : List TrailStep) → length (differences_of calls made trail) ≤ length (numbers_in trail)
 differences-few calls made [] = omega arith
 differences-few calls made (step ∷ trail) =
     by-few calls made (number_in step.origin) step.moment (differences_of calls made trail) (numbers_in trail) (differences-few calls made trail)
@@ -137,16 +137,16 @@ length-below (suc n) = length-push (below n) n ∙ ap suc (length-below n)
 
 -- ---- a step more
 
-abbrev pub step_of : Origin → Option ℕ → Step
+abbrev pub step_of : Origin → Option ℕ → TrailStep
 step_of origin o = record { origin = origin; moment = o }
 
 -- the moments before it are those of the tree before it
-grown : (t u : Tree) (call : Call) (o : Option ℕ) → IsCalled t u call o → (more : List Made) × (u.made ≡ t.made ++ more)
+grown : (t u : Tree) (call : Call) (o : Option ℕ) → IsCallAt t u call o → (more : List Made) × (u.made ≡ t.made ++ more)
 grown t u call None e = ([], ap (λ (v : Tree). v.made) e ∙ sym (append-nil t.made))
 grown t u call (Some moment) (process, reply, h) = (_, called-made t u process moment call reply h)
 
 -- the call that was made is this
-pub made-called : (t u : Tree) (call : Call) (o : Option ℕ) → IsCalled t u call o → IsMadeOf u.made o call
+pub made-called : (t u : Tree) (call : Call) (o : Option ℕ) → IsCallAt t u call o → IsMadeOf u.made o call
 made-called t u call None e = tt
 made-called t u call (Some moment) (process, reply, h) =
     ap (λ made. option_map (λ (called : ℕ × Call). bare called.1) (call_at made moment)) (called-made t u process moment call reply h)
@@ -155,14 +155,14 @@ made-called t u call (Some moment) (process, reply, h) =
     ∙ ap (λ (e : Option Made). option_map (λ (called : ℕ × Call). bare called.1) (option_map (λ (e : Made). (e.process, e.call)) e))
     (get-last t.made (made_on t process call) (length t.made) refl)
 
-moments-push : (trail : List Step) (origin : Origin) (o : Option ℕ)
+moments-push : (trail : List TrailStep) (origin : Origin) (o : Option ℕ)
     → moments_in (trail ++ step_of origin o ∷ []) ≡ moments_in trail ++ option_to_list o
-moments-push trail origin o = filter_map-push (λ (step : Step). step.moment) trail (step_of origin o)
+moments-push trail origin o = filter_map-push (λ (step : TrailStep). step.moment) trail (step_of origin o)
 
-pub taken-more : (t u : Tree) (trail : List Step) (origin : Origin) (call : Call) (o : Option ℕ) → IsTaken t trail → IsCalled t u call o
-    → IsTaken u (trail ++ step_of origin o ∷ [])
+pub taken-more : (t u : Tree) (trail : List TrailStep) (origin : Origin) (call : Call) (o : Option ℕ) → IsTakenTrail t trail → IsCallAt t u call o
+    → IsTakenTrail u (trail ++ step_of origin o ∷ [])
 taken-more t u trail origin call None taken same =
-    let P : Tree → Type 0 = λ v. IsTaken v (trail ++ step_of origin None ∷ []) in
+    let P : Tree → Type 0 = λ v. IsTakenTrail v (trail ++ step_of origin None ∷ []) in
     subst P (sym same) (record {
       loads = taken.loads;
       main = taken.main;
@@ -178,8 +178,8 @@ taken-more t u trail origin call (Some moment) taken (process, reply, h) =
           ∙ ap (λ m. moments_to (length t.made) ++ m ∷ []) next ∙ sym (ap moments_to long);
     }
 
-pub one-more : (t u : Tree) (trail : List Step) (origin : Origin) (call : Call) (o : Option ℕ) → IsTaken t trail → IsCalled t u call o
-    → IsOneMore (record { tree = t; trail = trail }) (record { tree = u; trail = trail ++ step_of origin o ∷ [] }) (step_of origin o)
+pub one-more : (t u : Tree) (trail : List TrailStep) (origin : Origin) (call : Call) (o : Option ℕ) → IsTakenTrail t trail → IsCallAt t u call o
+    → IsOneStepMore (record { tree = t; trail = trail }) (record { tree = u; trail = trail ++ step_of origin o ∷ [] }) (step_of origin o)
 one-more t u trail origin call o taken called =
     let more = grown t u call o called in
     let are : AreWithin (length t.made) (moments_in trail) =
@@ -196,35 +196,35 @@ one-more t u trail origin call o taken called =
     }
 
 -- the same, of lists that are these
-pub taken-pushed : (t u : Tree) (before kept after : List Step) (origin : Origin) (call : Call) (o found : Option ℕ) → IsTaken t before
-    → IsCalled t u call found
-    → found ≡ o → kept ≡ before → after ≡ kept ++ step_of origin o ∷ [] → IsTaken u after
+pub taken-pushed : (t u : Tree) (before kept after : List TrailStep) (origin : Origin) (call : Call) (o found : Option ℕ) → IsTakenTrail t before
+    → IsCallAt t u call found
+    → found ≡ o → kept ≡ before → after ≡ kept ++ step_of origin o ∷ [] → IsTakenTrail u after
 taken-pushed t u before kept after origin call o found taken called is same pushed =
-    let P : List Step → Type 0 = λ trail. IsTaken u trail in
+    let P : List TrailStep → Type 0 = λ trail. IsTakenTrail u trail in
     subst P (sym (pushed ∙ ap (λ trail. trail ++ step_of origin o ∷ []) same))
-    (taken-more t u before origin call o taken (subst (IsCalled t u call) is called))
+    (taken-more t u before origin call o taken (subst (IsCallAt t u call) is called))
 
-pub one-more-pushed : (t u : Tree) (before kept after : List Step) (origin : Origin) (call : Call) (o found : Option ℕ) (old : TakenView)
-    → ◌≡◌ {A = TakenView} (record { tree = t; trail = before }) old → IsTaken t before → IsCalled t u call found
+pub one-more-pushed : (t u : Tree) (before kept after : List TrailStep) (origin : Origin) (call : Call) (o found : Option ℕ) (old : TakenView)
+    → ◌≡◌ {A = TakenView} (record { tree = t; trail = before }) old → IsTakenTrail t before → IsCallAt t u call found
     → found ≡ o → kept ≡ before → after ≡ kept ++ step_of origin o ∷ []
-    → IsOneMore old (record { tree = u; trail = after }) (step_of origin o)
+    → IsOneStepMore old (record { tree = u; trail = after }) (step_of origin o)
 one-more-pushed t u before kept after origin call o found old view taken called is same pushed =
-    let P : TakenView → Type 0 = λ v. IsOneMore v (record { tree = u; trail = after }) (step_of origin o) in
-    let Q : List Step → Type 0 = λ trail. IsOneMore (record { tree = t; trail = before }) (record { tree = u; trail = trail }) (step_of origin o) in
+    let P : TakenView → Type 0 = λ v. IsOneStepMore v (record { tree = u; trail = after }) (step_of origin o) in
+    let Q : List TrailStep → Type 0 = λ trail. IsOneStepMore (record { tree = t; trail = before }) (record { tree = u; trail = trail }) (step_of origin o) in
     subst P view
     (subst Q (sym (pushed ∙ ap (λ trail. trail ++ step_of origin o ∷ []) same))
-    (one-more t u before origin call o taken (subst (IsCalled t u call) is called)))
+    (one-more t u before origin call o taken (subst (IsCallAt t u call) is called)))
 
-pub made-pushed : (t u : Tree) (call : Call) (o found : Option ℕ) → IsCalled t u call found → found ≡ o → IsMadeOf u.made o call
-made-pushed t u call o found called is = made-called t u call o (subst (IsCalled t u call) is called)
+pub made-pushed : (t u : Tree) (call : Call) (o found : Option ℕ) → IsCallAt t u call found → found ≡ o → IsMadeOf u.made o call
+made-pushed t u call o found called is = made-called t u call o (subst (IsCallAt t u call) is called)
 
 -- ---- steps that are no calls of the log
 
-pub aside_one : (old new : TakenView) (origin : Origin) (o : Option ℕ) → number_in origin ≡ None → IsOneMore old new (step_of origin o)
+pub aside_one : (old new : TakenView) (origin : Origin) (o : Option ℕ) → number_in origin ≡ None → IsOneStepMore old new (step_of origin o)
     → IsAside old new
 aside_one old new origin o none more = record {
   numbers =
-      ap numbers_in more.trail ∙ filter_map-push (λ (step : Step). number_in step.origin) old.trail (step_of origin o)
+      ap numbers_in more.trail ∙ filter_map-push (λ (step : TrailStep). number_in step.origin) old.trail (step_of origin o)
       ∙ ap (λ n. numbers_in old.trail ++ option_to_list n) none ∙ append-nil (numbers_in old.trail);
   differences = λ calls.
       let before = differences_of calls old.tree.made old.trail in
@@ -249,6 +249,6 @@ aside_after (Err e) old mid new first second = tt
 
 -- of a call that is asked and found no memory nothing is said
 pub aside_ok : {E : Type 0} (r : Result (Option ℕ) E) (old new : TakenView) (origin : Origin) → number_in origin ≡ None
-    → IfOk r (λ o. IsOneMore old new (step_of origin o)) → OnOk r (IsAside old new)
+    → IfOk r (λ o. IsOneStepMore old new (step_of origin o)) → OnOk r (IsAside old new)
 aside_ok (Ok o) old new origin none more = aside_one old new origin o none more
 aside_ok (Err e) old new origin none more = tt

@@ -13,7 +13,7 @@ use Rattle.zt_rows.specs.declared.rows.Packet.TheVariants as packet
 use Rattle.zt_logs.specs.declared.logged.LoggedCall.{LoggedCall}
 use Rattle.zt_logs.specs.declared.logged.LoggedPacket.{LoggedPacket}
 use Rattle.zt_logs.specs.declared.logged.LoggedPacket.TheVariants as logged
-use Rattle.zt_logs.specs.declared.logged.Recorded.{Recorded}
+use Rattle.zt_logs.specs.declared.logged.RecordedReply.{RecordedReply}
 
 -- ---- what a reply has
 
@@ -78,7 +78,7 @@ packets_agree (Some recorded) (reply.Packet got) = same_packet recorded (logged_
 packets_agree (Some recorded) _ = false
 
 -- a call that was not made has no reply, and none is what the log has
-abbrev pub agrees : Recorded → Option Reply → Bool
+abbrev pub agrees : RecordedReply → Option Reply → Bool
 agrees recorded None = false
 agrees recorded (Some answered) =
     is_status recorded.status (status_of answered) && (length recorded.handles == handle_count answered)

@@ -5,12 +5,12 @@ use Rattle.zt_history.specs.Tree.{Tree}
 use Rattle.zt_book.specs.Log.{loaded}
 use Rattle.zt_logs.specs.declared.logged.LoggedCall.{LoggedCall}
 use Rattle.zt_import.specs.declared.trail.Difference.{Difference}
-use Rattle.zt_import.specs.declared.trail.Step.{Step}
+use Rattle.zt_import.specs.declared.trail.TrailStep.{TrailStep}
 use Rattle.zt_import.specs.Trails.{calls_of, numbers_in, moments_in, below, moments_to, differences_of, AreMadeBy}
 
 pub record Import : Type 0 where
   pub tree : Tree
-  pub trail : List Step
+  pub trail : List TrailStep
   pub told : List Difference
   pub count : ℕ
   pub by_schedule : ℕ

@@ -11,7 +11,7 @@ use Rattle.zt_logs.specs.declared.logged.LoggedCall.{LoggedCall}
 use Rattle.zt_import.specs.declared.trail.Difference.{Difference}
 use Rattle.zt_import.specs.declared.trail.Origin.{Origin}
 use Rattle.zt_import.specs.declared.trail.Origin.TheVariants as origin
-use Rattle.zt_import.specs.declared.trail.Step.{Step}
+use Rattle.zt_import.specs.declared.trail.TrailStep.{TrailStep}
 use Rattle.zt_import.specs.Comparison.{agrees, may_be_scheduled}
 
 -- the calls of moments, each with its process
@@ -26,11 +26,11 @@ number_in (origin.Logged number) = Some number
 number_in _ = None
 
 -- the calls of the log among the steps
-abbrev pub numbers_in : List Step → List ℕ
+abbrev pub numbers_in : List TrailStep → List ℕ
 numbers_in trail = filter_map (λ step. number_in step.origin) trail
 
 -- the moments that the steps made
-abbrev pub moments_in : List Step → List ℕ
+abbrev pub moments_in : List TrailStep → List ℕ
 moments_in trail = filter_map (λ step. step.moment) trail
 
 -- the numbers below this one, in their order
@@ -65,11 +65,11 @@ difference_by calls made None moment = None
 difference_by calls made (Some number) moment = difference_for made (slice_get calls number) number moment
 
 -- what differs at a step; a call that the log does not have differs from nothing
-abbrev pub difference_at : List LoggedCall → List Made → Step → Option Difference
+abbrev pub difference_at : List LoggedCall → List Made → TrailStep → Option Difference
 difference_at calls made step = difference_by calls made (number_in step.origin) step.moment
 
 -- all that differ, in the order of the log
-abbrev pub differences_of : List LoggedCall → List Made → List Step → List Difference
+abbrev pub differences_of : List LoggedCall → List Made → List TrailStep → List Difference
 differences_of calls made trail = filter_map (difference_at calls made) trail
 
 -- ---- the calls of the log, but for handles
@@ -112,6 +112,6 @@ IsMadeBy calls made None moment = ⊤
 IsMadeBy calls made (Some number) moment = IsMadeFor made moment (slice_get calls number)
 
 -- so is, at each step that is a call of the log, that call
-abbrev pub AreMadeBy : List LoggedCall → List Made → List Step → Type 0
+abbrev pub AreMadeBy : List LoggedCall → List Made → List TrailStep → Type 0
 AreMadeBy calls made [] = ⊤
 AreMadeBy calls made (step ∷ trail) = IsMadeBy calls made (number_in step.origin) step.moment × AreMadeBy calls made trail

@@ -3,7 +3,7 @@ ghost use Rattle.std.specs.Option.{option_copied};
 ghost use Rattle.zt_import.specs.Comparison.{status_of, handle_count, logged_packet, status_number, is_status, same_packet, bytes_agree, packets_agree, agrees, is_wait, waited, may_be_scheduled};
 
 use zt_bits::Status;
-use zt_logs::{LoggedCall, LoggedPacket, Recorded};
+use zt_logs::{LoggedCall, LoggedPacket, RecordedReply};
 use zt_rows::{Call, Items, Packet, Reply};
 
 /// The status of a reply.
@@ -30,7 +30,7 @@ pub fn handle_count(reply: &Reply) -> usize
 }
 
 /// Whether a reply is what the log has, in all that the log tells of it. A call that was not made has no reply.
-pub fn agrees(recorded: &Recorded, reply: Option<&Reply>) -> bool
+pub fn agrees(recorded: &RecordedReply, reply: Option<&Reply>) -> bool
     ensures { result ≡ agrees recorded.now (option_copied reply.entry) }
 {
     match reply {
@@ -40,7 +40,7 @@ pub fn agrees(recorded: &Recorded, reply: Option<&Reply>) -> bool
 }
 
 /// Whether a reply is what the log has.
-fn reply_agrees(recorded: &Recorded, reply: &Reply) -> bool
+fn reply_agrees(recorded: &RecordedReply, reply: &Reply) -> bool
     ensures { result ≡ agrees recorded.now (Some reply.now) }
 {
     is_status(recorded.status, status_of(reply))

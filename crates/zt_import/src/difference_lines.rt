@@ -2,7 +2,7 @@ use crate::comparison::{handle_count, logged_packet, status_of};
 use crate::run_log::Imported;
 use crate::trail::Difference;
 use std::alloc::{AllocError, Global};
-use zt_logs::{LoggedCall, LoggedPacket, Recorded};
+use zt_logs::{LoggedCall, LoggedPacket, RecordedReply};
 use zt_rows::{Items, Reply};
 use zt_text::{put_bytes, put_mask};
 
@@ -38,7 +38,7 @@ pub fn print_difference(
 }
 
 /// What the log has.
-fn put_recorded(text: &mut String, recorded: &Recorded) -> Result<(), AllocError> {
+fn put_recorded(text: &mut String, recorded: &RecordedReply) -> Result<(), AllocError> {
     let status = match recorded.status {
         Some(status) => status.word(),
         None => "another_status",

@@ -22,4 +22,4 @@ pub use compared::TOLD;
 pub use difference_lines::print_difference;
 pub use run_log::{Imported, import};
 pub use session_lines::trace_text;
-pub use trail::{Difference, Origin, Step};
+pub use trail::{Difference, Origin, TrailStep};

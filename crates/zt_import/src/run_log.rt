@@ -3,7 +3,7 @@ ghost use Rattle.zt_history.specs.Tree.{opening_tree};
 ghost use Rattle.zt_import.specs.Imports.{Loads, IsImportOf, AreTheLogsCalls, differs};
 ghost use Rattle.std.specs.Option.{option_to_list};
 ghost use Rattle.zt_import.specs.Trails.{numbers_in, below, answer_at, difference_of, IsMadeOf, AreMadeBy};
-ghost use Rattle.zt_import.specs.ProofsOnly.TakenCalls.{IsOneMore, ComparesMore, nothing_compared, import_of};
+ghost use Rattle.zt_import.specs.ProofsOnly.TakenCalls.{IsOneStepMore, ComparesMore, nothing_compared, import_of};
 ghost use Rattle.zt_import.specs.declared.trail.Origin.TheVariants as origin;
 
 use crate::adoption::Adoption;
@@ -11,7 +11,7 @@ use crate::compared::Compared;
 use crate::numbers::Numbers;
 use crate::plan::Plan;
 use crate::taken::Taken;
-use crate::trail::{Difference, Origin, Step};
+use crate::trail::{Difference, Origin, TrailStep};
 use std::alloc::{AllocError, Global};
 use std::marker::Model;
 use zt_history::History;
@@ -52,7 +52,7 @@ impl Imported {
     }
 
     /// The calls that were asked of the history, in their order.
-    pub fn trail(&self) -> &[Step]
+    pub fn trail(&self) -> &[TrailStep]
         ensures { result.now ≡ self.now.trail }
     {
         self.taken.trail()
@@ -193,7 +193,7 @@ fn run_call(
     index: usize,
     logged: &LoggedCall,
 ) -> Result<Option<Moment>, Cause>
-    ensures one { IfOk result (λ moment. IsOneMore taken.old taken.new (record { origin = origin.Logged index; moment = moment })) }
+    ensures one { IfOk result (λ moment. IsOneStepMore taken.old taken.new (record { origin = origin.Logged index; moment = moment })) }
     ensures made { IfOk result (λ moment. IsMadeOf taken.new.tree.made moment logged.now.call) }
 {
     let call = numbers.call(logged.process, &logged.call)?;

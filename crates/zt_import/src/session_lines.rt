@@ -8,7 +8,7 @@ ghost use Rattle.zt_import.specs.ProofsOnly.ReadTexts.{Writes, step_calls, calls
 
 use crate::origin_lines::origin_line;
 use crate::run_log::Imported;
-use crate::trail::{Origin, Step};
+use crate::trail::{Origin, TrailStep};
 use std::alloc::{AllocError, Global};
 use zt_history::History;
 use zt_logs::LoggedCall;
@@ -44,7 +44,7 @@ fn put_trail(
     text: &mut String,
     calls: &[LoggedCall],
     history: &History,
-    trail: &[Step],
+    trail: &[TrailStep],
 ) -> Result<(), AllocError>
     ensures { OnOk result (Writes (string_bytes text.old) (string_bytes text.new) (calls_by history.now.tree.made trail.now)) }
 {
@@ -59,7 +59,7 @@ fn put_step(
     text: &mut String,
     calls: &[LoggedCall],
     history: &History,
-    step: &Step,
+    step: &TrailStep,
 ) -> Result<(), AllocError>
     ensures { OnOk result (Writes (string_bytes text.old) (string_bytes text.new) (step_calls history.now.tree.made step.now)) }
 {

@@ -2,9 +2,9 @@ ghost use Rattle.std.specs.Prelude.{◌≡◌, ◌<◌, [], ◌∷◌, ◌++◌,
 ghost use Rattle.std.specs.Option.{option_copied};
 ghost use Rattle.zt_history.specs.Tree.{opening_tree};
 ghost use Rattle.zt_import.specs.Trails.{answer_at, number_in, IsMadeOf};
-ghost use Rattle.zt_import.specs.ProofsOnly.TakenCalls.{IsTaken, IsOneMore, IsAside, IsCalled};
+ghost use Rattle.zt_import.specs.ProofsOnly.TakenCalls.{IsTakenTrail, IsOneStepMore, IsAside, IsCallAt};
 
-use crate::trail::{Origin, Step};
+use crate::trail::{Origin, TrailStep};
 use std::alloc::{AllocError, Global};
 use std::marker::Model;
 use zt_history::{BranchId, History};
@@ -17,7 +17,7 @@ const MAIN: BranchId = BranchId(0);
 /// The calls that were asked of a history, each at the head of `main`.
 pub(crate) struct Taken {
     history: History,
-    trail: Vec<Step>,
+    trail: Vec<TrailStep>,
 }
 
 impl Drop for Taken {
@@ -30,13 +30,13 @@ impl Drop for Taken {
 }
 
 impl Model for Taken {
-    ghost use Rattle.zt_import.specs.ProofsOnly.TakenCalls.{TakenView, IsTaken};
+    ghost use Rattle.zt_import.specs.ProofsOnly.TakenCalls.{TakenView, IsTakenTrail};
 
     ghost Value = { TakenView };
 
     ghost view = { λ t. record { tree = t.history.tree; trail = t.trail.items } };
 
-    ghost invariant = { λ t. IsTaken t.history.tree t.trail.items };
+    ghost invariant = { λ t. IsTakenTrail t.history.tree t.trail.items };
 }
 
 impl Taken {
@@ -54,13 +54,13 @@ impl Taken {
     /// The history in which they were made.
     pub(crate) fn history(&self) -> &History
         ensures tree { result.now.tree ≡ self.now.tree }
-        ensures taken { IsTaken self.now.tree self.now.trail }
+        ensures taken { IsTakenTrail self.now.tree self.now.trail }
     {
         &self.history
     }
 
     /// The calls, in the order in which they were asked.
-    pub(crate) fn trail(&self) -> &[Step]
+    pub(crate) fn trail(&self) -> &[TrailStep]
         ensures { result.now ≡ self.now.trail }
     {
         self.trail.as_slice()
@@ -73,7 +73,7 @@ impl Taken {
         process: Koid,
         call: &Call,
     ) -> Result<Option<Moment>, Cause>
-        ensures one { IfOk result (λ moment. IsOneMore self.old self.new (record { origin = origin; moment = moment })) }
+        ensures one { IfOk result (λ moment. IsOneStepMore self.old self.new (record { origin = origin; moment = moment })) }
         ensures made { IfOk result (λ moment. IsMadeOf self.new.tree.made moment call.now) }
     {
         self.trail.reserve(1)?;
@@ -116,7 +116,7 @@ impl Taken {
 /// Makes a call at the head of `main`, where its process is alive.
 fn called(history: &mut History, process: Koid, call: &Call) -> Result<Option<Moment>, Cause>
     requires { 0 < length history.old.tree.branches }
-    ensures ok { IfOk result (IsCalled history.old.tree history.new.tree call.now) }
+    ensures ok { IfOk result (IsCallAt history.old.tree history.new.tree call.now) }
     ensures err { OnErr result (history.new.tree ≡ history.old.tree) }
 {
     match history.call(MAIN, process, call) {
@@ -132,11 +132,11 @@ fn called(history: &mut History, process: Koid, call: &Call) -> Result<Option<Mo
 }
 
 /// One step more, for which there is room.
-fn push_kept(trail: &mut Vec<Step>, origin: Origin, moment: Option<Moment>)
+fn push_kept(trail: &mut Vec<TrailStep>, origin: Origin, moment: Option<Moment>)
     requires { vec_len trail.old < vec_capacity trail.old }
     ensures { trail.new.items ≡ trail.old.items ++ record { origin = origin; moment = moment } ∷ [] }
 {
-    match trail.push(Step { origin, moment }) {
+    match trail.push(TrailStep { origin, moment }) {
         Ok(()) => {}
         Err(_) => unreachable!(),
     }

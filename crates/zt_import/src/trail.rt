@@ -22,7 +22,7 @@ pub enum Origin {
 
 /// A call that was asked of the history, with the moment that it made; none, where its process was not alive.
 #[derive(Clone, Copy, Debug)]
-pub struct Step {
+pub struct TrailStep {
     pub origin: Origin,
     pub moment: Option<Moment>,
 }

@@ -22,14 +22,14 @@ pub enum Cause {
     /// The line is no JSON object.
     NoObject,
     /// A member of the object, or of one within it, has not the form wanted.
-    Member { place: Place, wanted: Wanted },
+    Member { place: Place, wanted: WantedValue },
     /// The process of this number is spawned, and was there before.
     SpawnedTwice(u64),
 }
 
 /// What is wanted of a member.
 #[derive(Clone, Copy, Debug)]
-pub enum Wanted {
+pub enum WantedValue {
     /// A number up to this one.
     Number(u64),
     SignedNumber,
@@ -98,19 +98,19 @@ impl fmt::Display for Cause {
     }
 }
 
-impl fmt::Display for Wanted {
+impl fmt::Display for WantedValue {
     fn fmt<W: fmt::Write>(&self, f: &mut fmt::Formatter<W>) -> fmt::Result {
         match self {
-            Wanted::Number(most) => write!(f, "a number to {most} is wanted"),
-            Wanted::SignedNumber => write!(f, "a signed number of 64 bits is wanted"),
-            Wanted::Text => write!(f, "a text is wanted"),
-            Wanted::Object => write!(f, "an object is wanted"),
-            Wanted::List => write!(f, "a list is wanted"),
-            Wanted::Flag => write!(f, "true or false is wanted"),
-            Wanted::Digits => write!(f, "an even number of hexadecimal digits is wanted"),
-            Wanted::PacketDigits => write!(f, "64 hexadecimal digits are wanted"),
-            Wanted::PacketType => write!(f, "user or signal is wanted"),
-            Wanted::AtMost(most) => write!(f, "at most {most} are wanted"),
+            WantedValue::Number(most) => write!(f, "a number to {most} is wanted"),
+            WantedValue::SignedNumber => write!(f, "a signed number of 64 bits is wanted"),
+            WantedValue::Text => write!(f, "a text is wanted"),
+            WantedValue::Object => write!(f, "an object is wanted"),
+            WantedValue::List => write!(f, "a list is wanted"),
+            WantedValue::Flag => write!(f, "true or false is wanted"),
+            WantedValue::Digits => write!(f, "an even number of hexadecimal digits is wanted"),
+            WantedValue::PacketDigits => write!(f, "64 hexadecimal digits are wanted"),
+            WantedValue::PacketType => write!(f, "user or signal is wanted"),
+            WantedValue::AtMost(most) => write!(f, "at most {most} are wanted"),
         }
     }
 }

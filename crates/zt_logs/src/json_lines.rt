@@ -2,7 +2,7 @@ ghost use Rattle.std.specs.Prelude.{◌<◌, length};
 
 use crate::call_names::CallName;
 use crate::faults::{Cause, LogFault};
-use crate::logged::{Log, LoggedCall};
+use crate::logged::{CallLog, LoggedCall};
 use crate::logged_calls::call_of;
 use crate::members::Members;
 use crate::places::{LineObject, Member};
@@ -15,8 +15,8 @@ pub const LINE_BYTES: usize = 1_048_576;
 
 /// The calls of a log, a JSON object in each line. Lines that are empty are passed by, and lines of other calls than those
 /// of the semantics are skipped and counted.
-pub fn read_log(alloc: Global, text: &[u8]) -> Result<Log, LogFault> {
-    let mut log = Log {
+pub fn read_log(alloc: Global, text: &[u8]) -> Result<CallLog, LogFault> {
+    let mut log = CallLog {
         calls: Vec::new(alloc),
         lines: 0,
         skipped: 0,
@@ -47,7 +47,7 @@ fn next_line(bytes: &[u8]) -> (&[u8], &[u8])
 }
 
 /// Puts the call of the line of this number behind those before it, unless it is passed by or skipped.
-fn take_line(alloc: Global, log: &mut Log, number: u64, line: &[u8]) -> Result<(), Cause> {
+fn take_line(alloc: Global, log: &mut CallLog, number: u64, line: &[u8]) -> Result<(), Cause> {
     if line.len() > LINE_BYTES {
         return Err(Cause::TooLong);
     }

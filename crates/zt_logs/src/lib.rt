@@ -11,7 +11,7 @@ mod members;
 mod places;
 mod recorded;
 
-pub use faults::{Cause, LogFault, Wanted};
+pub use faults::{Cause, LogFault, WantedValue};
 pub use json_lines::{LINE_BYTES, read_log};
-pub use logged::{Log, LoggedCall, LoggedPacket, Recorded};
+pub use logged::{CallLog, LoggedCall, LoggedPacket, RecordedReply};
 pub use places::{LineObject, Member, Place};

@@ -10,12 +10,12 @@ pub struct LoggedCall {
     pub process: u64,
     /// The call, whose handles are those of the log.
     pub call: Call,
-    pub recorded: Recorded,
+    pub recorded: RecordedReply,
 }
 
 /// What a real system answered, as far as the log has it.
 #[derive(Debug, Drop)]
-pub struct Recorded {
+pub struct RecordedReply {
     /// Nothing where no call of the semantics has this status.
     pub status: Option<Status>,
     /// The handles that the caller got, in their order.
@@ -44,7 +44,7 @@ pub enum LoggedPacket {
 
 /// The calls of a log.
 #[derive(Debug, Drop)]
-pub struct Log {
+pub struct CallLog {
     pub calls: Vec<LoggedCall>,
     /// How many lines there are, empty ones too.
     pub lines: u64,

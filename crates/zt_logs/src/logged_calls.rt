@@ -1,5 +1,5 @@
 use crate::call_names::CallName;
-use crate::faults::{Cause, Wanted};
+use crate::faults::{Cause, WantedValue};
 use crate::members::Members;
 use crate::places::{LineObject, Member, Place};
 use std::alloc::Global;
@@ -70,7 +70,7 @@ fn too_many_bytes() -> Cause {
         member: Member::Bytes,
         item: None,
     };
-    let wanted = Wanted::AtMost(MESSAGE_BYTES);
+    let wanted = WantedValue::AtMost(MESSAGE_BYTES);
     Cause::Member { place, wanted }
 }
 

@@ -1,6 +1,6 @@
 //! The members of a JSON object, each as what it has to be.
 
-use crate::faults::{Cause, Wanted};
+use crate::faults::{Cause, WantedValue};
 use crate::places::{LineObject, Member, Place};
 use hex::{FromHex, FromHexError};
 use serde_json::Value;
@@ -32,7 +32,7 @@ impl<'a> Members<'a> {
         let value = self.member(name);
         if let Some(value) = value {
             if !value.is_object() {
-                return Err(self.fault(name, Wanted::Object));
+                return Err(self.fault(name, WantedValue::Object));
             }
         }
         Ok(Members { object, value })
@@ -51,7 +51,7 @@ impl<'a> Members<'a> {
     }
 
     /// A member that has not the form wanted.
-    pub(crate) fn fault(&self, name: Member, wanted: Wanted) -> Cause {
+    pub(crate) fn fault(&self, name: Member, wanted: WantedValue) -> Cause {
         let place = Place {
             object: self.object,
             member: name,
@@ -64,7 +64,7 @@ impl<'a> Members<'a> {
     pub(crate) fn text(&self, name: Member) -> Result<&'a str, Cause> {
         match self.member(name) {
             Some(Value::String(text)) => Ok(text.as_str()),
-            _ => Err(self.fault(name, Wanted::Text)),
+            _ => Err(self.fault(name, WantedValue::Text)),
         }
     }
 
@@ -72,7 +72,7 @@ impl<'a> Members<'a> {
     pub(crate) fn wide(&self, name: Member) -> Result<u64, Cause> {
         match number_in(self.member(name)) {
             Some(number) => Ok(number),
-            None => Err(self.fault(name, Wanted::Number(u64::MAX))),
+            None => Err(self.fault(name, WantedValue::Number(u64::MAX))),
         }
     }
 
@@ -88,7 +88,7 @@ impl<'a> Members<'a> {
     pub(crate) fn narrow(&self, name: Member) -> Result<u32, Cause> {
         match narrow_in(self.member(name)) {
             Some(number) => Ok(number),
-            None => Err(self.fault(name, Wanted::Number(u64::from(u32::MAX)))),
+            None => Err(self.fault(name, WantedValue::Number(u64::from(u32::MAX)))),
         }
     }
 
@@ -114,7 +114,7 @@ impl<'a> Members<'a> {
     pub(crate) fn signed(&self, name: Member) -> Result<i64, Cause> {
         match signed_in(self.member(name)) {
             Some(number) => Ok(number),
-            None => Err(self.fault(name, Wanted::SignedNumber)),
+            None => Err(self.fault(name, WantedValue::SignedNumber)),
         }
     }
 
@@ -123,7 +123,7 @@ impl<'a> Members<'a> {
         match self.member(name) {
             None => Ok(false),
             Some(Value::Bool(flag)) => Ok(*flag),
-            Some(_) => Err(self.fault(name, Wanted::Flag)),
+            Some(_) => Err(self.fault(name, WantedValue::Flag)),
         }
     }
 
@@ -149,26 +149,26 @@ impl<'a> Members<'a> {
 
     fn bytes(&self, alloc: Global, name: Member) -> Result<Vec<u8>, Cause> {
         let Some(Value::String(text)) = self.member(name) else {
-            return Err(self.fault(name, Wanted::Digits));
+            return Err(self.fault(name, WantedValue::Digits));
         };
         if text.len() / 2 > MESSAGE_BYTES {
-            return Err(self.fault(name, Wanted::AtMost(MESSAGE_BYTES)));
+            return Err(self.fault(name, WantedValue::AtMost(MESSAGE_BYTES)));
         }
         match hex::decode(alloc, text.as_bytes()) {
             Ok(bytes) => Ok(bytes),
             Err(FromHexError::OutOfMemory) => Err(Cause::OutOfMemory),
-            Err(_) => Err(self.fault(name, Wanted::Digits)),
+            Err(_) => Err(self.fault(name, WantedValue::Digits)),
         }
     }
 
     /// The bytes of a user packet.
     pub(crate) fn packet_bytes(&self, name: Member) -> Result<[u8; 32], Cause> {
         let Some(Value::String(text)) = self.member(name) else {
-            return Err(self.fault(name, Wanted::PacketDigits));
+            return Err(self.fault(name, WantedValue::PacketDigits));
         };
         match <[u8; 32] as FromHex>::from_hex(text.as_bytes()) {
             Ok(bytes) => Ok(bytes),
-            Err(_) => Err(self.fault(name, Wanted::PacketDigits)),
+            Err(_) => Err(self.fault(name, WantedValue::PacketDigits)),
         }
     }
 
@@ -179,10 +179,10 @@ impl<'a> Members<'a> {
             return Ok(handles);
         };
         let Value::Array(list) = value else {
-            return Err(self.fault(name, Wanted::List));
+            return Err(self.fault(name, WantedValue::List));
         };
         if list.len() > MESSAGE_HANDLES {
-            return Err(self.fault(name, Wanted::AtMost(MESSAGE_HANDLES)));
+            return Err(self.fault(name, WantedValue::AtMost(MESSAGE_HANDLES)));
         }
         for item in 0..list.len() {
             let handle = self.handle_in(name, item, &list[item])?;
@@ -201,7 +201,7 @@ impl<'a> Members<'a> {
                     member: name,
                     item: Some(item),
                 };
-                let wanted = Wanted::Number(u64::from(u32::MAX));
+                let wanted = WantedValue::Number(u64::from(u32::MAX));
                 Err(Cause::Member { place, wanted })
             }
         }

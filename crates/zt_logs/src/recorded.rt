@@ -1,6 +1,6 @@
 use crate::call_names::CallName;
-use crate::faults::{Cause, Wanted};
-use crate::logged::{LoggedPacket, Recorded};
+use crate::faults::{Cause, WantedValue};
+use crate::logged::{LoggedPacket, RecordedReply};
 use crate::members::Members;
 use crate::places::{LineObject, Member};
 use std::alloc::Global;
@@ -12,11 +12,11 @@ pub(crate) fn recorded_of(
     alloc: Global,
     name: CallName,
     line: &Members<'_>,
-) -> Result<Recorded, Cause> {
+) -> Result<RecordedReply, Cause> {
     let status = status_of(line.text(Member::Status)?);
     let out = line.object(Member::Out, LineObject::Out)?;
     if status != Some(Status::Ok) {
-        return Ok(Recorded {
+        return Ok(RecordedReply {
             status,
             handles: Items::new(Vec::new(alloc)),
             bytes: None,
@@ -37,7 +37,7 @@ pub(crate) fn recorded_of(
         CallName::ChannelRead => out.bytes_if_any(alloc, Member::Bytes)?,
         _ => None,
     };
-    Ok(Recorded {
+    Ok(RecordedReply {
         status,
         handles: Items::new(handles),
         bytes,
@@ -67,7 +67,7 @@ fn packet_of(out: &Members<'_>) -> Result<Option<LoggedPacket>, Cause> {
                 observed,
             }))
         }
-        _ => Err(packet.fault(Member::Type, Wanted::PacketType)),
+        _ => Err(packet.fault(Member::Type, WantedValue::PacketType)),
     }
 }
 

@@ -11,7 +11,7 @@ use files::{read, write};
 use std::process::ExitCode;
 use words::{Asked, Words};
 use zt_import::{Imported, import, print_difference, trace_text};
-use zt_logs::{Log, read_log};
+use zt_logs::{CallLog, read_log};
 
 fn main(rt: HostRuntime) -> ExitCode {
     let words = match Words::of(&rt) {
@@ -52,7 +52,7 @@ fn make_trace(rt: &HostRuntime, asked: &Asked<'_>) -> Result<(), Fault> {
 }
 
 /// Tells the differences, a line each.
-fn tell_differences(rt: &HostRuntime, log: &Log, imported: &Imported) -> Result<(), Fault> {
+fn tell_differences(rt: &HostRuntime, log: &CallLog, imported: &Imported) -> Result<(), Fault> {
     for difference in imported.differences() {
         let line = print_difference(rt.alloc(), log.calls.as_slice(), imported, difference)?;
         let _ = eprintln!(rt; "{line}");
@@ -61,7 +61,7 @@ fn tell_differences(rt: &HostRuntime, log: &Log, imported: &Imported) -> Result<
 }
 
 /// Tells how many lines and calls there were, and how many replies differ.
-fn tell_counts(rt: &HostRuntime, log: &Log, imported: &Imported) {
+fn tell_counts(rt: &HostRuntime, log: &CallLog, imported: &Imported) {
     let calls = log.calls.len();
     let lines = log.lines;
     let skipped = log.skipped;

@@ -6,7 +6,7 @@ use Rattle.zt_rows.specs.declared.calls.Call.{Call}
 use Rattle.zt_history.specs.Tree.{Made, call_at}
 use Rattle.zt_text.specs.Lines.{lines_of}
 use Rattle.zt_text.specs.Session.{calls_in}
-use Rattle.zt_import.specs.declared.trail.Step.{Step}
+use Rattle.zt_import.specs.declared.trail.TrailStep.{TrailStep}
 
 -- these bytes read as these calls, and behind them what follows
 abbrev pub ReadsAs : List ℕ → List (ℕ × Call) → Type 0
@@ -25,10 +25,10 @@ abbrev pub moment_calls : List Made → Option ℕ → List (ℕ × Call)
 moment_calls made None = []
 moment_calls made (Some moment) = option_to_list (call_at made moment)
 
-abbrev pub step_calls : List Made → Step → List (ℕ × Call)
+abbrev pub step_calls : List Made → TrailStep → List (ℕ × Call)
 step_calls made step = moment_calls made step.moment
 
-abbrev pub calls_by : List Made → List Step → List (ℕ × Call)
+abbrev pub calls_by : List Made → List TrailStep → List (ℕ × Call)
 calls_by made trail = flat_map (step_calls made) trail
 
 -- it stands in one line behind a `#`

@@ -9,21 +9,21 @@ use Rattle.zt_history.specs.Tree.{Tree}
 use Rattle.zt_book.specs.Log.{loaded}
 use Rattle.zt_logs.specs.declared.logged.LoggedCall.{LoggedCall}
 use Rattle.zt_import.specs.declared.trail.Difference.{Difference}
-use Rattle.zt_import.specs.declared.trail.Step.{Step}
+use Rattle.zt_import.specs.declared.trail.TrailStep.{TrailStep}
 use Rattle.zt_import.specs.Imports.{Import}
 use Rattle.zt_import.specs.Trails.{calls_of, number_in, numbers_in, moments_in, moments_to, difference_at, differences_of, IsMadeBy, AreMadeBy}
 
 pub record TakenView : Type 0 where
   pub tree : Tree
-  pub trail : List Step
+  pub trail : List TrailStep
 
-pub record IsTaken (tree : Tree) (trail : List Step) : Type 0 where
+pub record IsTakenTrail (tree : Tree) (trail : List TrailStep) : Type 0 where
   pub loads : loaded (calls_of tree.made) ≡ Ok tree
   pub main : 0 < length tree.branches
   pub moments : moments_in trail ≡ moments_to (length tree.made)
 
 -- one step more, by which what differed before differs still
-pub record IsOneMore (old new : TakenView) (step : Step) : Type 0 where
+pub record IsOneStepMore (old new : TakenView) (step : TrailStep) : Type 0 where
   pub trail : new.trail ≡ old.trail ++ step ∷ []
   pub differences : (calls : List LoggedCall) → differences_of calls new.tree.made new.trail
       ≡ differences_of calls old.tree.made old.trail ++ option_to_list (difference_at calls new.tree.made step)
@@ -38,9 +38,9 @@ pub record IsAside (old new : TakenView) : Type 0 where
   pub made : (calls : List LoggedCall) → AreMadeBy calls old.tree.made old.trail → AreMadeBy calls new.tree.made new.trail
 
 -- this call was made at this moment, or none
-abbrev pub IsCalled : Tree → Tree → Call → Option ℕ → Type 0
-IsCalled old new call None = new ≡ old
-IsCalled old new call (Some moment) = (process : ℕ) × (reply : Reply) × (call_on old 0 process call ≡ Ok (answer.Called moment reply, new))
+abbrev pub IsCallAt : Tree → Tree → Call → Option ℕ → Type 0
+IsCallAt old new call None = new ≡ old
+IsCallAt old new call (Some moment) = (process : ℕ) × (reply : Reply) × (call_on old 0 process call ≡ Ok (answer.Called moment reply, new))
 
 -- ---- what is compared
 
