@@ -9,7 +9,7 @@ ghost use Rattle.zt_cascade.specs.PacketRoom.{HasRoomToFire};
 ghost use Rattle.zt_cascade.specs.ProofsOnly.NearObjects.{near, near_touched};
 
 use crate::fired_waits::fire_all;
-use crate::worklist::first_link;
+use crate::worklist::{AT_FIRST, first_link};
 use std::alloc::{AllocError, Global};
 use zt_rows::{Koid, RowKey};
 use zt_store::Step;
@@ -63,7 +63,7 @@ fn near_touched(step: &Step, alloc: Global) -> Result<Vec<Koid>, AllocError>
     ensures near { IfOk result (λ list. list.items ≡ near_touched step.now) }
     ensures differs { OnOk result (DiffersAtTouched step.now) }
 {
-    let mut list = Vec::new(alloc);
+    let mut list = Vec::with_capacity(alloc, AT_FIRST)?;
     for i in 0..usize::MAX {
         let Some(key) = step.touched(i) else {
             return Ok(list);

@@ -18,6 +18,9 @@ use std::alloc::{AllocError, Global};
 use zt_rows::{Held, Koid, ObjectRow, RowKey};
 use zt_store::Step;
 
+/// For how many objects a list has room at first: more than most calls touch.
+pub(crate) const AT_FIRST: usize = 16;
+
 /// Takes out all objects that nothing supports, with what they own, and what goes after them: "releasing is
 /// collecting". Each object that may go has to be told of, by a handle in the list or by a row put in this step. The
 /// work grows with what goes and with the keys that the step put, and not with the rows that there are: the waits for an
@@ -52,7 +55,7 @@ fn list_all(step: &Step, alloc: Global, released: &[Held]) -> Result<Vec<Koid>, 
     requires { IsCovered step.now released.now }
     ensures { IfOk result (λ list. Covers list.items step.now.current) }
 {
-    let mut list = Vec::new(alloc);
+    let mut list = Vec::with_capacity(alloc, AT_FIRST)?;
     add_touched(step, &mut list)?;
     add_koids(&mut list, released)?;
     Ok(list)

@@ -16,7 +16,10 @@ mod supports;
 pub use calls::{Answer, Call, Command, Event, Happening, Parcel, Reply};
 pub use items::Items;
 pub use keys::RowKey;
-pub use limits::{CLIENT_ROWS, CLIENTS, LAST_MOMENT, MESSAGE_BYTES, MESSAGE_HANDLES, ROOT_JOB};
+pub use limits::{
+    CLIENT_ROWS, CLIENTS, FIRST_HANDLE, LAST_MOMENT, MESSAGE_BYTES, MESSAGE_HANDLES, ROOT_JOB,
+    ROOT_PROCESS,
+};
 pub use numbers::{HandleValue, Koid, Moment};
 pub use refusals::Refusal;
 pub use rows::{Counters, Held, Life, Message, ObjectRow, Packet, Row, Wait};

@@ -1,7 +1,13 @@
-use crate::numbers::Koid;
+use crate::numbers::{HandleValue, Koid};
 
 /// The koid of the root job, which keeps itself and is never leaked.
 pub const ROOT_JOB: Koid = Koid(1024);
+
+/// The koid of the root process, which is there at the opening, under the root job.
+pub const ROOT_PROCESS: Koid = Koid(1025);
+
+/// The first handle that a process can have: the root process's to the root job, and that of another to what it was handed.
+pub const FIRST_HANDLE: HandleValue = HandleValue(3);
 
 /// The most bytes that a message carries.
 pub const MESSAGE_BYTES: usize = 65_536;

@@ -5,11 +5,12 @@ use Rattle.std.specs.declared.cmp.Ordering.TheVariants.{Less, Equal, Greater}
 use Rattle.std.specs.Ordering.{is_lt, ordering_index, ordering_reverse}
 use Rattle.std.specs.Cmp.{tied_itself}
 use Rattle.std.specs.FinMap.Entries as entries
-use Rattle.std.specs.List.{HoldsAt}
+use Rattle.std.specs.List.{HoldsAt, zip}
 use Rattle.std.specs.List.Sorted.{IsNonDecreasingBy, IsPartitionPoint}
 use Rattle.std.proofs.lemmas.Bool.{cases_lt}
-use Rattle.std.proofs.lemmas.List.{get_or_default, get_or-map}
+use Rattle.std.proofs.lemmas.List.{get_or-map}
 use Rattle.std.proofs.lemmas.List.Sorted.{searchable_from_sorted}
+use Rattle.std.proofs.lemmas.Slice.Zip.{get_or-zip}
 use Rattle.std.proofs.lemmas.Map.Views.{Contains-from_lookup, lookup-from_Contains}
 use Rattle.zt_rows.specs.declared.keys.RowKey.{RowKey}
 use Rattle.zt_rows.specs.declared.rows.Row.{Row}
@@ -19,7 +20,7 @@ use Rattle.zt_store.specs.RecordLook.{held}
 use Rattle.zt_store.specs.ProofsOnly.RecordRows.{IsRecord}
 use Rattle.zt_store.proofs.Fitting.{Rows}
 use Rattle.zt_store.proofs.Exchanges.{keys_of, key_equality, find-lookup}
-use Rattle.zt_store.proofs.RecordLaws.{distinct-sorted}
+use Rattle.zt_store.proofs.RecordLaws.{distinct-record, listed-record}
 
 first : (a b : Bool) → T (a && b) → T a
 first true b p = tt
@@ -39,14 +40,14 @@ key-at R i d e h at = get_or-map (λ (q : RowKey × Option Row). q.0) R i e d h 
 
 -- ---- a key that was found
 
-pub held-found : (ks : List RowKey) (R : Rows) (k : RowKey) (i : ℕ) (e : RowKey × Option Row) → IsRecord ks R → i < length ks
-    → HoldsAt (λ y. rowkey_cmp y k ≡ Equal) ks i → e ≡ get_or R i e → Some e.1 ≡ held R k
-held-found ks R k i e is within tied at =
-    let h : i < length R = omega (arith, within, ap length is.listed, length-keys R) in
-    let here : get_or ks i e.0 ≡ e.0 = ap (λ l. get_or l i e.0) is.listed ∙ key-at R i e.0 e h (sym at) in
-    let same : e.0 ≡ k = rowkey_cmp-equal e.0 k (subst (λ y. rowkey_cmp y k ≡ Equal) here (tied e.0)) in
-    let there : get_or R i (k, e.1) ≡ (k, e.1) = get_or_default R i (k, e.1) e h ∙ sym at ∙ ap (λ q. (q, e.1)) same in
-    sym (find-lookup k R ∙ lookup-from_Contains key_equality k e.1 R (distinct-sorted R is.ordered) (i, h, there))
+pub held-found : (ks : List RowKey) (rs : List (Option Row)) (k : RowKey) (i : ℕ) (v : Option Row) → IsRecord ks rs → i < length ks
+    → HoldsAt (λ y. rowkey_cmp y k ≡ Equal) ks i → v ≡ get_or rs i v → Some v ≡ held (zip ks rs) k
+held-found ks rs k i v is within tied at =
+    let h : i < length rs = omega (arith, within, is.even) in
+    let z : i < length (zip ks rs) = omega (arith, within, length-keys (zip ks rs), ap length (listed-record ks rs is)) in
+    let same : get_or ks i k ≡ k = rowkey_cmp-equal (get_or ks i k) k (tied k) in
+    let there : ◌≡◌ {A = RowKey × Option Row} (get_or (zip ks rs) i (k, v)) (k, v) = get_or-zip ks rs i (k, v) within h ∙ (λ j. (same j, sym at j)) in
+    sym (find-lookup k (zip ks rs) ∙ lookup-from_Contains key_equality k v (zip ks rs) (distinct-record ks rs is) (i, z, there))
 
 -- ---- a key that was not found
 
@@ -79,13 +80,19 @@ searchable R k h =
         sym (ap (λ n. rowkey_cmp (get_or (keys_of R) j d) (get_or (keys_of R) n d)) next) ∙ rising R h j d (omega (arith, l)) in
         not_less _ _ up (rowkey_cmp_total.antisymm (get_or (keys_of R) j d) (get_or (keys_of R) (j + 1) d))
 
-pub held-missing : (ks : List RowKey) (R : Rows) (k : RowKey) (i : ℕ) → IsRecord ks R
+pub held-missing : (ks : List RowKey) (rs : List (Option Row)) (k : RowKey) (i : ℕ) → IsRecord ks rs
     → (IsNonDecreasingBy (λ y. ordering_index (rowkey_cmp y k)) ks → IsPartitionPoint (λ y. rowkey_cmp y k ≡ Less) (λ y. rowkey_cmp y k ≡ Greater) ks i)
-    → None ≡ held R k
-held-missing ks R k i is parts = at (entries.find rowkey_cmp k R) refl
+    → None ≡ held (zip ks rs) k
+held-missing ks rs k i is parts = at (entries.find rowkey_cmp k R) refl
   where
+    R : Rows
+    R = zip ks rs
+
+    keys_are : ks ≡ keys_of R
+    keys_are = listed-record ks rs is
+
     sides : IsPartitionPoint (λ y. rowkey_cmp y k ≡ Less) (λ y. rowkey_cmp y k ≡ Greater) ks i
-    sides = parts (subst (IsNonDecreasingBy (λ y. ordering_index (rowkey_cmp y k))) (sym is.listed) (searchable R k is.ordered))
+    sides = parts (subst (IsNonDecreasingBy (λ y. ordering_index (rowkey_cmp y k))) (sym keys_are) (searchable R k is.ordered))
 
     apart : (j : ℕ) → j < length ks → rowkey_cmp (get_or ks j k) k ≡ Equal → ⊥
     apart j l e =
@@ -98,5 +105,5 @@ held-missing ks R k i is parts = at (entries.find rowkey_cmp k R) refl
     at None e = sym e
     at (Some v) e =
         let there = Contains-from_lookup rowkey_eq-equal k v R (sym (find-lookup k R) ∙ e) in
-        let key : get_or ks there.0 k ≡ k = ap (λ l. get_or l there.0 k) is.listed ∙ key-at R there.0 k (k, v) there.1 there.2 in
-        absurd (apart there.0 (omega (arith, there.1, ap length is.listed, length-keys R)) (ap (λ y. rowkey_cmp y k) key ∙ tied_itself rowkey_cmp_total k))
+        let key : get_or ks there.0 k ≡ k = ap (λ l. get_or l there.0 k) keys_are ∙ key-at R there.0 k (k, v) there.1 there.2 in
+        absurd (apart there.0 (omega (arith, there.1, ap length keys_are, length-keys R)) (ap (λ y. rowkey_cmp y k) key ∙ tied_itself rowkey_cmp_total k))

@@ -6,6 +6,7 @@ pub mod Exchanges
 pub mod Undoing
 pub mod Touches
 pub mod RecordLaws
+pub mod SideBySide
 pub mod Endings
 pub mod HeldLaws
 pub mod StoreLaws

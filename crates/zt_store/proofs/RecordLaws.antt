@@ -1,12 +1,14 @@
 -- What holds of a record: its keys are distinct, and an exchange keeps their order.
-use Rattle.std.proofs.Common.{◌≡◌, ℕ, suc, Bool, true, false, ◌&&◌, T, List, [], ◌∷◌, ◌++◌, take, drop, length, refl, sym, ap, ◌∙◌, subst, arith}
+use Rattle.std.proofs.Common.{◌≡◌, ℕ, Bool, true, false, ◌&&◌, T, List, [], ◌∷◌, ◌++◌, ◌+◌, ◌<◌, map, take, drop, get_or, set, length, Option, refl, sym, ap, ◌∙◌, subst, arith}
 use Rattle.std.specs.declared.cmp.Ordering.{Ordering}
 use Rattle.std.specs.declared.cmp.Ordering.TheVariants.{Less, Equal, Greater}
 use Rattle.std.specs.Ordering.{is_lt, is_eq}
 use Rattle.std.specs.FinMap.Entries as entries
-use Rattle.std.specs.List.{AllByRecursion, IsDistinct}
-use Rattle.std.proofs.lemmas.List.{drop_all, take_all, append-nil}
+use Rattle.std.specs.List.{AllByRecursion, IsDistinct, zip}
+use Rattle.std.proofs.lemmas.List.{append-nil, drop-set-lt, drop_all, drop_more, length-map, length-set, map-append, take_all, take_more}
+use Rattle.std.proofs.lemmas.Slice.Zip.{firsts-zip}
 use Rattle.zt_rows.specs.declared.keys.RowKey.{RowKey}
+use Rattle.zt_rows.specs.declared.rows.Row.{Row}
 use Rattle.zt_rows.specs.Keys.{rowkey_cmp, rowkey_eq}
 use Rattle.zt_rows.specs.ProofsOnly.KeyOrder.{rowkey_eq-cmp}
 use Rattle.zt_rows.specs.State.{State}
@@ -15,7 +17,7 @@ use Rattle.zt_rows.proofs.ChangeLaws.{sorted-before}
 use Rattle.zt_store.specs.ProofsOnly.RecordRows.{IsRecord}
 use Rattle.zt_store.specs.ProofsOnly.StoreView.{AllSuit}
 use Rattle.zt_store.proofs.Fitting.{Rows}
-use Rattle.zt_store.proofs.Exchanges.{keys_of, keys-rows_at}
+use Rattle.zt_store.proofs.Exchanges.{keys_of}
 
 both : (a b : Bool) → T a → T b → T (a && b)
 both true b p q = q
@@ -45,8 +47,12 @@ unfolding IsDistinct
 distinct-sorted [] h = tt
 distinct-sorted (e ∷ es) h = (below-apart e.0 es (first _ _ h), distinct-sorted es (second _ _ h))
 
-pub distinct-record : (ks : List RowKey) (R Q : Rows) → IsRecord ks R → Q ≡ R → IsDistinct rowkey_eq (keys_of Q)
-distinct-record ks R Q is same = subst (λ es. IsDistinct rowkey_eq (keys_of es)) (sym same) (distinct-sorted R is.ordered)
+pub distinct-record : (ks : List RowKey) (rs : List (Option Row)) → IsRecord ks rs → IsDistinct rowkey_eq (keys_of (zip ks rs))
+distinct-record ks rs is = distinct-sorted (zip ks rs) is.ordered
+
+-- the keys of a record are those of its pairs
+pub listed-record : (ks : List RowKey) (rs : List (Option Row)) → IsRecord ks rs → ks ≡ keys_of (zip ks rs)
+listed-record ks rs is = sym (firsts-zip ks rs is.even)
 
 -- ---- the other rows under the same keys
 
@@ -58,35 +64,51 @@ sorted-rows_at : (S : State) (R : Rows) → T (entries.is_sorted rowkey_cmp R) �
 sorted-rows_at S [] h = tt
 sorted-rows_at S (e ∷ es) h = both _ _ (below-rows_at S e.0 es (first _ _ h)) (sorted-rows_at S es (second _ _ h))
 
-length-rows_at : (S : State) (R : Rows) → length (rows_at S R) ≡ length R
-length-rows_at S [] = refl
-length-rows_at S (e ∷ es) = ap suc (length-rows_at S es)
-
--- where the exchanged rows stand in the place of all
-exchanged-whole : (S : State) (R Q : Rows) (n : ℕ) → Q ≡ rows_at S R → length R ≡ n → take n (Q ++ drop (length Q) R) ≡ rows_at S R
-exchanged-whole S R Q n is len =
-    let size : length Q ≡ length R = ap length is ∙ length-rows_at S R in
-    ap (λ es. take n (Q ++ es)) (drop_all (length Q) R (omega arith)) ∙ ap (take n) (append-nil Q) ∙ take_all n Q (omega arith) ∙ is
-
-pub record-exchanged : (S : State) (T : State) (ks : List RowKey) (R was Q : Rows) (n : ℕ) → IsRecord ks R → was ≡ R → length was ≡ n → ◌≡◌ {A = State × Rows} (T, Q) (exchange S was) → AllSuit Q
-    → IsRecord ks (take n (Q ++ drop (length Q) R))
-record-exchanged S T ks R was Q n is same len exchanged suited =
-    let rows : Q ≡ rows_at S R = ap (λ (x : State × Rows). x.1) exchanged ∙ ap (rows_at S) same in
-    let there : IsRecord ks (rows_at S R) = record {
-      listed = is.listed ∙ sym (keys-rows_at S R);
-      suited = subst AllSuit rows suited;
-      ordered = sorted-rows_at S R is.ordered;
-    } in
-    subst (IsRecord ks) (sym (exchanged-whole S R Q n rows (ap length (sym same) ∙ len))) there
-
--- ---- a record of what was before
-
 abbrev pub IsSorted : Rows → Type 0
 IsSorted R = T (entries.is_sorted rowkey_cmp R)
 
-pub record-before : (S U : State) (ks : List RowKey) (R Q : Rows) → ks ≡ keys_of Q → Q ≡ R → R ≡ before S U → AllSuit R → IsRecord ks R
-record-before S U ks R Q keys same is suited = record {
-  listed = keys ∙ ap keys_of same;
-  suited = suited;
-  ordered = subst IsSorted (sym is) (sorted-before S U);
+-- where the exchanged rows stand in the place of all
+pub exchanged-whole : {A : Type 0} (R Q : List A) (n : ℕ) → length Q ≡ length R → length R ≡ n → take n (Q ++ drop (length Q) R) ≡ Q
+exchanged-whole R Q n size len =
+    ap (λ es. take n (Q ++ es)) (drop_all (length Q) R (omega (arith, size))) ∙ ap (take n) (append-nil Q) ∙ take_all n Q (omega (arith, size, len))
+
+-- the rows that came by an exchange stand under the same keys
+pub record-exchanged : (S T : State) (ks : List RowKey) (rs qs : List (Option Row)) → IsRecord ks rs → length qs ≡ length ks → ◌≡◌ {A = State × Rows} (T, zip ks qs) (exchange S (zip ks rs)) → AllSuit (zip ks qs)
+    → IsRecord ks qs
+record-exchanged S T ks rs qs is size exchanged suited =
+    let rows : zip ks qs ≡ rows_at S (zip ks rs) = ap (λ (x : State × Rows). x.1) exchanged in
+    record {
+      even = size;
+      suited = suited;
+      ordered = subst IsSorted (sym rows) (sorted-rows_at S (zip ks rs) is.ordered);
+    }
+
+-- ---- a record of what was before
+
+zip-unzipped : (R : Rows) → zip (keys_of R) (map (λ e. e.1) R) ≡ R
+zip-unzipped [] = refl
+zip-unzipped (e ∷ es) = ap (λ R. e ∷ R) (zip-unzipped es)
+
+pub record-before : (S U : State) (R : Rows) → R ≡ before S U → AllSuit R → IsRecord (keys_of R) (map (λ e. e.1) R)
+record-before S U R is suited = record {
+  even = length-map R (λ (e : RowKey × Option Row). e.1) ∙ sym (length-map R (λ (e : RowKey × Option Row). e.0));
+  suited = subst AllSuit (sym (zip-unzipped R)) suited;
+  ordered = subst IsSorted (sym (zip-unzipped R ∙ is)) (sorted-before S U);
 }
+
+pub record-filled : (R : Rows) (ks : List RowKey) (rs : List (Option Row)) → ks ≡ keys_of R → rs ≡ map (λ e. e.1) R → zip ks rs ≡ R
+record-filled R ks rs keys rows = (λ i. zip (keys i) (rows i)) ∙ zip-unzipped R
+
+-- one row more is taken out of the list, where d stands for what is read beyond its end
+pub taken-next : (F R : Rows) (rs more : List (Option Row)) (i : ℕ) (d : RowKey × Option Row) (took left : Option Row) → rs ≡ map (λ x. x.1) (take i F) → drop i R ≡ drop i F → length R ≡ length F
+    → i < length R → took ≡ (get_or R i d).1 → more ≡ rs ++ took ∷ []
+    → (more ≡ map (λ x. x.1) (take (i + 1) F)) × (drop (i + 1) (set R i ((get_or R i d).0, left)) ≡ drop (i + 1) F) × (length (set R i ((get_or R i d).0, left)) ≡ length F)
+taken-next F R rs more i d took left so_far rest size within is pushed =
+    let there : i < length F = omega (arith, within, size) in
+    let both_rest : get_or R i d ∷ drop (i + 1) R ≡ get_or F i d ∷ drop (i + 1) F = sym (drop_more R i d within) ∙ rest ∙ drop_more F i d there in
+    let same : took ≡ (get_or F i d).1 = is ∙ ap (λ es. (get_or es 0 d).1) both_rest in
+    let less : i < i + 1 = omega arith in (
+      pushed ∙ (λ j. so_far j ++ same j ∷ []) ∙ sym (map-append (λ (x : RowKey × Option Row). x.1) (take i F) (get_or F i d ∷ [])) ∙ ap (map (λ (x : RowKey × Option Row). x.1)) (sym (take_more F i d there)),
+      drop-set-lt (i + 1) R i ((get_or R i d).0, left) less ∙ ap (drop 1) both_rest,
+      length-set R i ((get_or R i d).0, left) ∙ size,
+    )

@@ -1,11 +1,12 @@
 ghost use Rattle.std.specs.Prelude.{◌≡◌, true, List, map};
-ghost use Rattle.std.specs.List.{IsDistinct};
+ghost use Rattle.std.specs.List.{IsDistinct, zip};
 ghost use Rattle.zt_rows.specs.Change.{exchange};
 ghost use Rattle.zt_rows.specs.Keys.{rowkey_eq};
 ghost use Rattle.zt_rows.specs.Path.{end_of, exchange_back, records_of};
 ghost use Rattle.zt_rows.specs.State.{State};
 ghost use Rattle.zt_store.specs.Places.{fits};
 ghost use Rattle.zt_store.specs.RecordRows.{all_fit};
+ghost use Rattle.zt_store.specs.ProofsOnly.RecordRows.{IsRecord};
 ghost use Rattle.zt_store.specs.ProofsOnly.StoreView.{AllSuit};
 
 use crate::record::Record;
@@ -20,7 +21,21 @@ pub fn swap(store: &mut Store, kept: &mut Record)
     ensures places { store.new.places ≡ store.old.places }
     ensures fits { fits store.new.places kept.new ≡ true }
 {
-    exchange_rows(store, kept.rows.as_mut_slice());
+    exchange_under(store, kept.keys.as_slice(), kept.rows.as_mut_slice());
+}
+
+/// Exchanges the rows with the store's, each under the key at its place. It takes no memory.
+fn exchange_under(store: &mut Store, keys: &[RowKey], rows: &mut [Option<Row>])
+    requires recorded { IsRecord keys.now rows.old }
+    requires placed { fits store.old.places (zip keys.now rows.old) ≡ true }
+    ensures exchanged { (store.new.state, zip keys.now rows.new) ≡ exchange store.old.state (zip keys.now rows.old) }
+    ensures recorded { IsRecord keys.now rows.new }
+    ensures places { store.new.places ≡ store.old.places }
+    ensures fits { fits store.new.places (zip keys.now rows.new) ≡ true }
+{
+    for place in 0..rows.len() {
+        store.exchange(keys[place], &mut rows[place]);
+    }
 }
 
 /// Exchanges the rows with the store's under their keys, of which each is listed once. It takes no memory.

@@ -1,4 +1,4 @@
-ghost use Rattle.std.specs.Prelude.{◌≡◌, ◌<◌, ◌+◌, ◌^◌, ◌↔◌, true, IsTrue, IfOk, OnOk, Option, if◌then◌else◌};
+ghost use Rattle.std.specs.Prelude.{◌≡◌, ◌<◌, ◌+◌, ◌^◌, ◌↔◌, [], true, IsTrue, IfOk, OnOk, Option, if◌then◌else◌};
 ghost use Rattle.std.specs.Option.{option_copied};
 ghost use Rattle.zt_rows.specs.declared.keys.RowKey.{RowKey};
 ghost use Rattle.zt_rows.specs.declared.keys.RowKey.TheVariants as key_variant;
@@ -21,19 +21,14 @@ use crate::key_columns::{handle_of, has_room, key_after, packet_of};
 use crate::record::Record;
 use std::alloc::{AllocError, Global};
 use std::marker::Model;
+use std::mem::replace;
 use zt_bits::{Kind, Rights, Signals};
 use zt_cells::Cells;
 use zt_index::{Index, KoidCounts, SupportCounts};
 use zt_rows::{
-    Counters, HandleValue, Held, Koid, Life, Message, ObjectRow, Packet, ROOT_JOB, Row, RowKey,
-    Wait,
+    Counters, FIRST_HANDLE, HandleValue, Held, Koid, Life, Message, ObjectRow, Packet, ROOT_JOB,
+    ROOT_PROCESS, Row, RowKey, Wait,
 };
-
-/// The koid of the first process.
-const FIRST_KOID: Koid = Koid(1025);
-
-/// The handle that the first process has.
-const FIRST_HANDLE: HandleValue = HandleValue(3);
 
 const FIRST_COUNTERS: Counters = Counters {
     next_koid: Koid(1026),
@@ -68,6 +63,8 @@ pub struct Store {
     cells: Cells,
     support_counts: SupportCounts,
     index: Index,
+    /// What a step lists its first rows in, kept from step to step.
+    spare: Vec<(RowKey, Option<Row>)>,
 }
 
 /// Lets all parts go in one call, so that a function that owns a store is proved without going through them at each of its
@@ -78,6 +75,7 @@ impl Drop for Store {
             cells: _cells,
             support_counts: _support_counts,
             index: _index,
+            spare: _spare,
         } = self;
     }
 }
@@ -106,6 +104,7 @@ impl Store {
             cells: Cells::hollow(alloc),
             support_counts: SupportCounts::new(alloc),
             index: Index::new(alloc),
+            spare: Vec::new(alloc),
         }
     }
 
@@ -125,9 +124,9 @@ impl Store {
     {
         self.keep(RowKey::Counters, Row::Counters(FIRST_COUNTERS))?;
         self.keep(RowKey::Object(ROOT_JOB), Row::Object(FIRST_JOB))?;
-        self.keep(RowKey::Object(FIRST_KOID), Row::Object(FIRST_PROCESS))?;
+        self.keep(RowKey::Object(ROOT_PROCESS), Row::Object(FIRST_PROCESS))?;
         self.keep(
-            RowKey::Entry(FIRST_KOID, FIRST_HANDLE),
+            RowKey::Entry(ROOT_PROCESS, FIRST_HANDLE),
             Row::Entry(TO_ROOT_JOB),
         )
     }
@@ -299,8 +298,10 @@ impl Store {
     pub fn fits(&self, kept: &Record) -> bool
         ensures { result ≡ fits self.now.places kept.now }
     {
-        for (key, row) in kept.rows() {
-            if !self.fits_row(*key, row) {
+        let keys = kept.keys.as_slice();
+        let rows = kept.rows.as_slice();
+        for i in 0..keys.len() {
+            if !self.fits_row(keys[i], &rows[i]) {
                 return false;
             }
         }
@@ -323,11 +324,31 @@ impl Store {
             cells: self.cells.copy()?,
             support_counts: self.support_counts.copy()?,
             index: self.index.copy()?,
+            spare: Vec::new(self.alloc()),
         })
     }
 
     pub(crate) fn alloc(&self) -> Global {
         self.cells.alloc()
+    }
+
+    /// An empty list of rows for a step, in memory that an earlier step left.
+    pub(crate) fn take_spare(&mut self) -> Vec<(RowKey, Option<Row>)>
+        ensures same { self.new ≡ self.old }
+        ensures empty { result.items ≡ [] }
+    {
+        let fresh = Vec::new(self.alloc());
+        let mut spare = replace(&mut self.spare, fresh);
+        spare.clear();
+        spare
+    }
+
+    /// Keeps the memory of a list for later steps.
+    pub(crate) fn keep_spare(&mut self, spare: Vec<(RowKey, Option<Row>)>)
+        ensures { self.new ≡ self.old }
+    {
+        self.spare = spare;
+        self.spare.clear();
     }
 
     /// What holds of the rows: each suits its key.

@@ -11,6 +11,13 @@ returns-in_err-make_place-clause-kept c = rw (← c.self.view_is) (keeps-grown _
 pub returns-clause-kept : goal.returns-clause-kept
 returns-clause-kept c = rw (← c.self.view_is) (keeps-grown _ _ c.make_place.ensures.kept c.grow_if.ensures.kept)
 
+pub invariant_of-self : goal.invariant_of-self
+invariant_of-self c = record {
+  koid_counts = c.self.invariant.koid_counts;
+  few = c.self.invariant.few;
+  indexed = c.grow_for.ensures.same c.self.inside.cells c.self.invariant.indexed;
+}
+
 pub invariant_of-self-in_err-make_place : goal.invariant_of-self-in_err-make_place
 invariant_of-self-in_err-make_place c = record {
   koid_counts = subst (λ (S : State). AreKoidCounts S c.self.inside.support_counts) (sym c.make_place.ensures.state) c.self.invariant.koid_counts;
