@@ -2,10 +2,7 @@
 
 use crate::histories::{does, makes};
 use zt_history::History;
-use zt_rows::{Call, HandleValue};
-
-/// The first process's handle to the root job.
-pub(crate) const ROOT_JOB: HandleValue = HandleValue(3);
+use zt_rows::{Call, FIRST_HANDLE, HandleValue};
 
 /// Its handle to the job above all others but that.
 const ABOVE: HandleValue = HandleValue(7);
@@ -60,7 +57,7 @@ pub(crate) fn makes_critical(history: &mut History, count: u32) -> bool {
         job: ABOVE,
         process: last_before(jobs),
     };
-    makes(history, &Ok(Call::JobCreate { job: ROOT_JOB }))
+    makes(history, &Ok(Call::JobCreate { job: FIRST_HANDLE }))
         && makes_jobs(history, jobs)
         && does(history, critical)
 }

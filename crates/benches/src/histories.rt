@@ -5,9 +5,7 @@ use crate::calls::{leak, mixed};
 use std::alloc::{AllocError, Global};
 use zt_bits::Status;
 use zt_history::{BranchId, History};
-use zt_rows::{Call, Koid, Reply};
-
-const ROOT: Koid = Koid(1025);
+use zt_rows::{Call, ROOT_PROCESS, Reply};
 
 /// The branch `main`.
 #[tactic(auto, using(crate::proofs::Branches::named_within))]
@@ -23,7 +21,7 @@ pub(crate) fn makes(history: &mut History, call: &Result<Call, AllocError>) -> b
         return false;
     };
     match call {
-        Ok(call) => history.call(id, ROOT, call).is_ok(),
+        Ok(call) => history.call(id, ROOT_PROCESS, call).is_ok(),
         Err(_) => false,
     }
 }

@@ -1,14 +1,13 @@
 //! Processes under the job of the process that makes them.
 
-use crate::critical_jobs::ROOT_JOB;
 use crate::histories::makes;
 use zt_history::History;
-use zt_rows::{Call, HandleValue};
+use zt_rows::{Call, FIRST_HANDLE, HandleValue};
 
 /// Makes so many processes under the caller's own job, and an event behind each.
 pub(crate) fn makes_siblings(history: &mut History, count: u32) -> bool {
     let spawn = Ok(Call::Spawn {
-        job: ROOT_JOB,
+        job: FIRST_HANDLE,
         argument: HandleValue(0),
     });
     for _ in 0..count {

@@ -17,7 +17,7 @@ use Rattle.zt_console.specs.declared.client_sessions.Served.{Served}
 use Rattle.zt_console.specs.declared.client_threads.ClientThread.{ClientThread}
 use Rattle.zt_console.specs.declared.client_threads.ClientThread.TheVariants.{Running, Unserved}
 use Rattle.zt_console.specs.declared.run_loop.End.TheVariants.{Stopped}
-use Rattle.zt_console.specs.ProofsOnly.ClientSessions.{place_of, served_at, pass_at, IsToBeServed, HasServed, IsGivenBack, IsStartedFor, IsJoined}
+use Rattle.zt_console.specs.ProofsOnly.ClientSessions.{place_of, served_at, pass_at, IsToBeServed, HasServed, IsGivenBack, IsStartedFor, IsJoinedTo}
 use Rattle.zt_console.specs.Run.{at_responder}
 use Rattle.zt_console.specs.Sessions.{AsksPass, Caller, IsCountable, IsServed, told_in}
 use Rattle.zt_console.proofs.LineFeedLaws.{talked_nothing}
@@ -169,7 +169,7 @@ module _ {I O A B C D : Type 0} (remaining : I → Option (List ℕ)) (contents 
 
   -- all whose threads were started and joined were served
   pub all_joined : (olds : List (ClientSession I O A B C D)) (threads : List (ClientThread I O A B C D)) (news : List (ClientSession I O A B C D)) → AllZip (IsStartedFor remaining contents) olds threads
-      → AllZip (IsJoined remaining contents) threads news → All IsToBeServed olds → AllZip (HasServed remaining contents) olds news
+      → AllZip (IsJoinedTo remaining contents) threads news → All IsToBeServed olds → AllZip (HasServed remaining contents) olds news
   all_joined [] [] [] s j h = tt
   all_joined [] [] (new ∷ news) s j h = absurd j
   all_joined [] (thread ∷ threads) news s j h = absurd s
@@ -178,7 +178,7 @@ module _ {I O A B C D : Type 0} (remaining : I → Option (List ℕ)) (contents 
   all_joined (old ∷ olds) (thread ∷ threads) (new ∷ news) (s, ss) (j, js) h =
       (one thread s j (All-head IsToBeServed old olds h), all_joined olds threads news ss js (All-tail IsToBeServed old olds h))
     where
-      one : (t : ClientThread I O A B C D) → IsStartedFor remaining contents old t → IsJoined remaining contents t new → IsToBeServed old → HasServed remaining contents old new
+      one : (t : ClientThread I O A B C D) → IsStartedFor remaining contents old t → IsJoinedTo remaining contents t new → IsToBeServed old → HasServed remaining contents old new
       one (Running t) started joined to_serve = subst (λ p. IsGivenBack remaining contents p new) started joined to_serve
       one (Unserved place) started joined to_serve = subst (HasServed remaining contents old) (sym joined) (started to_serve)
 

@@ -1,7 +1,7 @@
 //! The threads of the clients of a shared book: one for each, all started before the first is joined.
 ghost use Rattle.std.specs.Prelude.{◌≡◌, ◌≤◌, [], length, vec_capacity};
 ghost use Rattle.std.specs.List.{AllZip};
-ghost use Rattle.zt_console.specs.ProofsOnly.ClientSessions.{CanBeServed, HasServed, IsGivenBack, IsStartedFor, IsJoined};
+ghost use Rattle.zt_console.specs.ProofsOnly.ClientSessions.{CanBeServed, HasServed, IsGivenBack, IsStartedFor, IsJoinedTo};
 
 use crate::client_sessions::ClientSession;
 use crate::pass_session::session;
@@ -289,7 +289,7 @@ fn join_all<
 ) -> Vec<ClientSession<I, O, A, B, C, D>>
     requires empty { places.items ≡ [] }
     requires room { length threads.items ≤ vec_capacity places }
-    ensures { AllZip (IsJoined I.remaining O.contents) threads.items result.items }
+    ensures { AllZip (IsJoinedTo I.remaining O.contents) threads.items result.items }
 {
     for thread in threads {
         places.push_reserved(join(rt, thread));
@@ -307,7 +307,7 @@ fn join<
     C: Naming,
     D: Naming,
 >(rt: &R, thread: ClientThread<I, O, A, B, C, D>) -> ClientSession<I, O, A, B, C, D>
-    ensures { IsJoined I.remaining O.contents thread result }
+    ensures { IsJoinedTo I.remaining O.contents thread result }
 {
     match thread {
         ClientThread::Running(running) => running.join(rt),

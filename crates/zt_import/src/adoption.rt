@@ -10,16 +10,9 @@ use std::alloc::{AllocError, Global};
 use std::collections::HashMap;
 use zt_bits::Kind;
 use zt_logs::{Cause, LoggedCall};
-use zt_rows::{Call, HandleValue, Koid, MESSAGE_HANDLES, Parcel, Reply};
-
-/// The root process, which makes what is adopted.
-const ROOT: Koid = Koid(1025);
-
-/// Its handle to the root job.
-const ROOT_JOB_HANDLE: HandleValue = HandleValue(3);
-
-/// The first handle of a process that is spawned with one.
-const ARGUMENT: HandleValue = HandleValue(3);
+use zt_rows::{
+    Call, FIRST_HANDLE, HandleValue, Koid, MESSAGE_HANDLES, Parcel, ROOT_PROCESS, Reply,
+};
 
 /// Makes what a log uses and never got, and knows which handles of the root process are left of it.
 #[derive(Drop)]
@@ -68,10 +61,10 @@ impl Adoption {
         let number = process.number;
         let (near, far) = ask_two(taken, Origin::Process(number), &Call::ChannelCreate)?;
         let spawn = Call::Spawn {
-            job: ROOT_JOB_HANDLE,
+            job: FIRST_HANDLE,
             argument: far,
         };
-        let moment = taken.ask_aside(Origin::Process(number), ROOT, &spawn)?;
+        let moment = taken.ask_aside(Origin::Process(number), ROOT_PROCESS, &spawn)?;
         numbers.set_process(number, spawned(taken.reply(&moment)))?;
         for batch in process.objects.as_slice().chunks(MESSAGE_HANDLES) {
             self.give(taken, numbers, plan, number, near, batch)?;
@@ -95,7 +88,7 @@ impl Adoption {
         let bytes = Vec::new(self.alloc);
         write(taken, Origin::Process(process), near, bytes, handles)?;
         let read = Call::ChannelRead {
-            handle: ARGUMENT,
+            handle: FIRST_HANDLE,
             bytes: 0,
             handles: 64,
             discard: false,
@@ -133,14 +126,12 @@ impl Adoption {
             Kind::Channel => self.make_end(taken, plan, object, origin),
             Kind::Port => ask_one(taken, origin, &Call::PortCreate),
             Kind::Job => {
-                let call = Call::JobCreate {
-                    job: ROOT_JOB_HANDLE,
-                };
+                let call = Call::JobCreate { job: FIRST_HANDLE };
                 ask_one(taken, origin, &call)
             }
             Kind::Process => {
                 let call = Call::Spawn {
-                    job: ROOT_JOB_HANDLE,
+                    job: FIRST_HANDLE,
                     argument: HandleValue(0),
                 };
                 ask_one(taken, origin, &call)
@@ -257,7 +248,7 @@ fn write(
 {
     match Parcel::new(bytes, handles) {
         Some(parcel) => {
-            taken.ask_aside(origin, ROOT, &Call::ChannelWrite { handle, parcel })?;
+            taken.ask_aside(origin, ROOT_PROCESS, &Call::ChannelWrite { handle, parcel })?;
             Ok(())
         }
         None => Ok(()),
@@ -287,7 +278,7 @@ fn ask_one(taken: &mut Taken, origin: Origin, call: &Call) -> Result<HandleValue
     requires { number_in origin ≡ None }
     ensures { OnOk result (IsAside taken.old taken.new) }
 {
-    let moment = taken.ask_aside(origin, ROOT, call)?;
+    let moment = taken.ask_aside(origin, ROOT_PROCESS, call)?;
     match taken.reply(&moment) {
         Some(Reply::Handle(handle)) => Ok(*handle),
         Some(Reply::Spawned(handle, _)) => Ok(*handle),
@@ -304,7 +295,7 @@ fn ask_two(
     requires { number_in origin ≡ None }
     ensures { OnOk result (IsAside taken.old taken.new) }
 {
-    let moment = taken.ask_aside(origin, ROOT, call)?;
+    let moment = taken.ask_aside(origin, ROOT_PROCESS, call)?;
     match taken.reply(&moment) {
         Some(Reply::Handles(first, second)) => Ok((*first, *second)),
         _ => Ok((NO_HANDLE, NO_HANDLE)),

@@ -16,7 +16,7 @@ use std::alloc::{AllocError, Global};
 use std::marker::Model;
 use zt_history::History;
 use zt_logs::{Cause, LogFault, LoggedCall};
-use zt_rows::{Call, HandleValue, Moment, Reply};
+use zt_rows::{Call, FIRST_HANDLE, Moment, Reply};
 
 /// What became of a log: the history of its calls, and the calls whose replies differ.
 pub struct Imported {
@@ -247,7 +247,7 @@ fn learn_argument(
         return Ok(());
     }
     match plan.arguments.get(&child).copied() {
-        Some(handle) => numbers.set_handle(child, handle, HandleValue(3)),
+        Some(handle) => numbers.set_handle(child, handle, FIRST_HANDLE),
         None => Ok(()),
     }
 }

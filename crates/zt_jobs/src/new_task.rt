@@ -8,7 +8,7 @@ ghost use Rattle.zt_store.specs.StepView.{Advanced, AsBegun};
 
 use std::alloc::AllocError;
 use zt_bits::Kind;
-use zt_rows::{Counters, HandleValue, Held, Koid, ObjectRow, Row, RowKey};
+use zt_rows::{Counters, FIRST_HANDLE, Held, Koid, ObjectRow, Row, RowKey};
 use zt_store::Step;
 
 /// A new live job under the parent, at the next koid.
@@ -34,10 +34,7 @@ pub fn make_process(step: &mut Step, job: Koid, given: Option<Held>) -> Result<K
 {
     let process = make(step, child(given.is_some(), job))?;
     if let Some(held) = given {
-        step.put(
-            RowKey::Entry(process, HandleValue(3)),
-            Some(Row::Entry(held)),
-        )?;
+        step.put(RowKey::Entry(process, FIRST_HANDLE), Some(Row::Entry(held)))?;
     }
     Ok(process)
 }

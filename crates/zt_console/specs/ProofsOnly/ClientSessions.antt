@@ -56,6 +56,6 @@ module _ {I O A B C D : Type 0} where
   IsStartedFor remaining contents old (Unserved place) = IsGivenBack remaining contents old place
 
   -- what a thread gave back
-  abbrev pub IsJoined : (I → Option (List ℕ)) → (O → Option (List ℕ)) → ClientThread I O A B C D → ClientSession I O A B C D → Type 0
-  IsJoined remaining contents (Running thread) new = IsGivenBack remaining contents thread.promise.place.value new
-  IsJoined remaining contents (Unserved place) new = new ≡ place
+  abbrev pub IsJoinedTo : (I → Option (List ℕ)) → (O → Option (List ℕ)) → ClientThread I O A B C D → ClientSession I O A B C D → Type 0
+  IsJoinedTo remaining contents (Running thread) new = IsGivenBack remaining contents thread.promise.place.value new
+  IsJoinedTo remaining contents (Unserved place) new = new ≡ place

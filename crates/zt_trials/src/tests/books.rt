@@ -8,10 +8,8 @@ use std::test::Fail;
 use zt_bits::Signals;
 use zt_console::Book;
 use zt_rows::{
-    Answer, Call, Command, HandleValue, Items, Koid, Moment, Refusal, Reply, Row, RowKey,
+    Answer, Call, Command, HandleValue, Items, Moment, ROOT_PROCESS, Refusal, Reply, Row, RowKey,
 };
-
-const ROOT: Koid = Koid(1025);
 
 const NEAR: HandleValue = HandleValue(7);
 
@@ -28,7 +26,7 @@ fn handle_of(answer: &Answer) -> Option<HandleValue> {
 fn made(book: &mut Book) -> Option<HandleValue>
     requires { 1 ≤ length book.old.session.clients }
 {
-    match book.serve(1, &Command::Call(ROOT, Call::EventCreate)) {
+    match book.serve(1, &Command::Call(ROOT_PROCESS, Call::EventCreate)) {
         Ok(answer) => handle_of(&answer),
         Err(_) => None,
     }
@@ -145,7 +143,7 @@ fn ask_calls(rt: &impl Abort, book: &mut Book)
     requires { 1 ≤ length book.old.session.clients }
 {
     for n in 0..CALLS {
-        ask(rt, book, &Command::Call(ROOT, nth_call(n)));
+        ask(rt, book, &Command::Call(ROOT_PROCESS, nth_call(n)));
     }
     ask(rt, book, &Command::Back(4));
 }
@@ -162,7 +160,7 @@ fn refused_memory_leaves_the_book(rt: HostRuntime) {
 fn ask_branch(rt: &impl Abort, book: &mut Book, name: Items<u8>)
     requires { 1 ≤ length book.old.session.clients }
 {
-    let call = Command::Call(ROOT, Call::EventCreate);
+    let call = Command::Call(ROOT_PROCESS, Call::EventCreate);
     ask(rt, book, &call);
     ask(rt, book, &call);
     ask(rt, book, &call);
@@ -194,8 +192,8 @@ fn refused_memory_makes_no_branch(rt: HostRuntime) {
 /// Whether two calls are loaded.
 fn are_loaded(alloc: Global) -> bool {
     let calls = [
-        (ROOT, Call::EventCreate),
-        (ROOT, Call::HandleClose { handle: NEAR }),
+        (ROOT_PROCESS, Call::EventCreate),
+        (ROOT_PROCESS, Call::HandleClose { handle: NEAR }),
     ];
     match Book::load(alloc, 1, calls.as_slice()) {
         Ok(book) => book.history().last() == Moment(2),

@@ -11,9 +11,7 @@ use std::io::Write;
 use std::process::Abort;
 use zt_bits::Signals;
 use zt_console::Book;
-use zt_rows::{Call, Command, HandleValue, Items, Koid, Refusal, Row, RowKey};
-
-const ROOT: Koid = Koid(1025);
+use zt_rows::{Call, Command, HandleValue, Items, ROOT_PROCESS, Refusal, Row, RowKey};
 
 /// The book that these lines leave.
 fn book_after(alloc: Global, lines: &[u8]) -> Result<Book, Refusal>
@@ -28,7 +26,7 @@ fn book_after(alloc: Global, lines: &[u8]) -> Result<Book, Refusal>
 /// it is served when asked again; taken back, all rows are as before.
 fn check_taken_back(rt: &(impl Abort + AllocGlobal), lines: &[u8], call: Call) {
     if let Ok(mut book) = book_after(rt.alloc(), lines) {
-        check_command(rt, &mut book, &Command::Call(ROOT, call));
+        check_command(rt, &mut book, &Command::Call(ROOT_PROCESS, call));
     }
 }
 

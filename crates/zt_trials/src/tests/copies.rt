@@ -2,7 +2,9 @@
 use super::checks::check;
 use std::alloc::{AllocError, Global};
 use zt_bits::Signals;
-use zt_rows::{Call, Event, HandleValue, Items, Koid, Message, Moment, Parcel, Reply, Row, Wait};
+use zt_rows::{
+    Call, Event, HandleValue, Items, Koid, Message, Moment, Parcel, ROOT_PROCESS, Reply, Row, Wait,
+};
 
 /// The bytes of what is copied. No clause tells them, so that who asks for them is proved without going over them.
 fn hi() -> &'static [u8] {
@@ -79,7 +81,7 @@ fn messages_are_copied(rt: HostRuntime) {
 #[test]
 fn rows_are_copied(rt: HostRuntime) {
     let wait = Wait {
-        process: Koid(1025),
+        process: ROOT_PROCESS,
         handle: HandleValue(7),
         port: Koid(1027),
         key: 9,
@@ -124,7 +126,7 @@ fn is_event_copied(event: &Event) -> Result<bool, AllocError> {
 fn events_are_copied(rt: HostRuntime) {
     let event = Event {
         moment: Moment(2),
-        process: Koid(1025),
+        process: ROOT_PROCESS,
         call: Call::HandleClose {
             handle: HandleValue(7),
         },

@@ -1,9 +1,7 @@
 //! A call at a moment that is no head, and a head that moves, over one history each.
 use std::alloc::Global;
 use zt_history::History;
-use zt_rows::{Call, HandleValue, Koid, Moment, Reply};
-
-const ROOT: Koid = Koid(1025);
+use zt_rows::{Call, HandleValue, Moment, ROOT_PROCESS, Reply};
 
 /// Whether the store stands at the last moment, which is this one, with this handle for its reply.
 fn tells(history: &History, moment: u32, handle: u32) -> bool {
@@ -20,7 +18,8 @@ fn tells(history: &History, moment: u32, handle: u32) -> bool {
 fn tells_on_main(history: &mut History, moment: u32, handle: u32) -> bool {
     match history.find(b"main") {
         Some(id) => {
-            history.call(id, ROOT, &Call::EventCreate).is_ok() && tells(history, moment, handle)
+            history.call(id, ROOT_PROCESS, &Call::EventCreate).is_ok()
+                && tells(history, moment, handle)
         }
         None => false,
     }
@@ -29,7 +28,7 @@ fn tells_on_main(history: &mut History, moment: u32, handle: u32) -> bool {
 /// Whether an event that it makes at a moment is told so.
 fn tells_at(history: &mut History, parent: u32, moment: u32, handle: u32) -> bool {
     history
-        .call_at(Moment(parent), ROOT, &Call::EventCreate)
+        .call_at(Moment(parent), ROOT_PROCESS, &Call::EventCreate)
         .is_ok()
         && tells(history, moment, handle)
 }

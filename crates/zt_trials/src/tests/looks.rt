@@ -12,9 +12,7 @@ use zt_look::{
     CallFilter, CallMade, Change, Handle, HappeningSet, ObjectEvent, calls, changed, events,
     handles_at,
 };
-use zt_rows::{Call, HandleValue, Happening, Koid, Moment, Parcel, RowKey};
-
-const ROOT: Koid = Koid(1025);
+use zt_rows::{Call, HandleValue, Happening, Koid, Moment, Parcel, ROOT_JOB, ROOT_PROCESS, RowKey};
 
 /// The history in which the first process makes an event.
 fn one_event(alloc: Global) -> Option<History> {
@@ -22,7 +20,7 @@ fn one_event(alloc: Global) -> Option<History> {
         return None;
     };
     match history.find(b"main") {
-        Some(main) => match history.call(main, ROOT, &Call::EventCreate) {
+        Some(main) => match history.call(main, ROOT_PROCESS, &Call::EventCreate) {
             Ok(_) => Some(history),
             Err(_) => None,
         },
@@ -35,11 +33,11 @@ fn are_of_an_event(list: &[Change]) -> bool {
     match list {
         [counters, process, event, entry] => {
             counters.key == RowKey::Counters
-                && process.key == RowKey::Object(ROOT)
+                && process.key == RowKey::Object(ROOT_PROCESS)
                 && event.key == RowKey::Object(Koid(1026))
                 && event.before.is_none()
                 && event.after.is_some()
-                && entry.key == RowKey::Entry(ROOT, HandleValue(7))
+                && entry.key == RowKey::Entry(ROOT_PROCESS, HandleValue(7))
         }
         _ => false,
     }
@@ -49,7 +47,7 @@ fn are_of_an_event(list: &[Change]) -> bool {
 fn are_both(list: &[Handle]) -> bool {
     match list {
         [job, event] => {
-            job.koid == Koid(1024) && event.koid == Koid(1026) && event.value == HandleValue(7)
+            job.koid == ROOT_JOB && event.koid == Koid(1026) && event.value == HandleValue(7)
         }
         _ => false,
     }
@@ -59,7 +57,7 @@ fn are_both(list: &[Handle]) -> bool {
 fn is_told(alloc: Global) -> bool {
     match one_event(alloc) {
         Some(mut history) => match changed(alloc, &mut history, Moment(1)) {
-            Ok(list) => match handles_at(alloc, &history, ROOT) {
+            Ok(list) => match handles_at(alloc, &history, ROOT_PROCESS) {
                 Ok(handles) => are_of_an_event(list.as_slice()) && are_both(handles.as_slice()),
                 Err(_) => false,
             },
@@ -84,7 +82,7 @@ fn closing(handle: u32) -> Call {
 /// Whether the first process calls this on `main`.
 fn is_called(history: &mut History, call: &Call) -> bool {
     match history.find(b"main") {
-        Some(main) => history.call(main, ROOT, call).is_ok(),
+        Some(main) => history.call(main, ROOT_PROCESS, call).is_ok(),
         None => false,
     }
 }

@@ -1,7 +1,5 @@
 //! Queues of a channel's ends, with each request for memory refused in turn.
 ghost use Rattle.std.specs.Prelude.{◌≡◌, ◌<◌, ◌+◌, ◌^◌, ◌↔◌, IsTrue};
-ghost use Rattle.std.specs.Option.{option_copied};
-ghost use Rattle.zt_rows.specs.Reads.{as_object};
 ghost use Rattle.zt_rows.specs.Tests.{next_at, object_next};
 
 use super::checks::check;
@@ -10,7 +8,7 @@ use std::process::Abort;
 use std::test::Fail;
 use zt_bits::{Kind, Rights, Signals};
 use zt_queues::{front, pop, push, take_all};
-use zt_rows::{Held, Items, Koid, Life, Message, ObjectRow, Row, RowKey};
+use zt_rows::{Held, Items, Koid, Life, Message, ObjectRow, ROOT_JOB, Row, RowKey};
 use zt_store::{Step, Store};
 
 const NEAR: Koid = Koid(1026);
@@ -18,7 +16,7 @@ const NEAR: Koid = Koid(1026);
 const FAR: Koid = Koid(1027);
 
 const FIRST: Held = Held {
-    koid: Koid(1024),
+    koid: ROOT_JOB,
     rights: Rights(3),
 };
 
@@ -69,15 +67,15 @@ fn message(alloc: Global, bytes: &[u8], handles: &[Held]) -> Result<Message, All
 fn has_room(step: &Step, endpoint: Koid) -> bool
     ensures { IsTrue result ↔ (next_at step.now.current endpoint + 1 < 2 ^ 64) }
 {
-    next_in(step.row(RowKey::Object(endpoint))) < u64::MAX
+    next_in(step.object(endpoint)) < u64::MAX
 }
 
-fn next_in(row: Option<&Row>) -> u64
-    ensures { result ≡ object_next (as_object (option_copied row.entry)) }
+fn next_in(object: Option<ObjectRow>) -> u64
+    ensures { result ≡ object_next object }
 {
-    match row {
-        Some(Row::Object(object)) => object.next,
-        _ => 0,
+    match object {
+        Some(object) => object.next,
+        None => 0,
     }
 }
 
@@ -119,10 +117,10 @@ fn is_pushed(rt: &(impl Abort + AllocGlobal), step: &mut Step) -> bool {
 fn check_push(rt: &(impl Abort + AllocGlobal), step: &mut Step) {
     if !is_pushed(rt, step) {
         check(rt, is_first(step, 0, first()));
-        check(rt, step.row(RowKey::Msg(NEAR, 2)).is_none());
+        check(rt, step.message(NEAR, 2).is_none());
         check(rt, is_pushed(rt, step));
     }
-    check(rt, step.row(RowKey::Msg(NEAR, 2)).is_some());
+    check(rt, step.message(NEAR, 2).is_some());
 }
 
 #[test]

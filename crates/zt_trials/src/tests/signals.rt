@@ -4,7 +4,7 @@ use std::alloc::{AllocError, Global};
 use std::process::Abort;
 use std::test::Fail;
 use zt_bits::{Kind, Signals};
-use zt_rows::{HandleValue, Koid, Life, ObjectRow, Row, RowKey, Wait};
+use zt_rows::{FIRST_HANDLE, Koid, Life, ObjectRow, ROOT_PROCESS, Row, RowKey, Wait};
 use zt_signals::{drop_waits_of_port, refresh, set_bits};
 use zt_store::{Step, Store};
 
@@ -27,7 +27,7 @@ fn channel(signals: u32) -> ObjectRow {
 }
 
 fn has_channel(step: &Step, signals: u32) -> bool {
-    step.row(RowKey::Object(MADE)) == Some(&Row::Object(channel(signals)))
+    step.object(MADE) == Some(channel(signals))
 }
 
 /// A step over a channel.
@@ -81,8 +81,8 @@ fn refused_memory_refreshes_nothing(rt: HostRuntime) {
 /// A wait of the first process on its first handle.
 fn wait_for(port: Koid) -> Wait {
     Wait {
-        process: Koid(1025),
-        handle: HandleValue(3),
+        process: ROOT_PROCESS,
+        handle: FIRST_HANDLE,
         port,
         key: 5,
         signals: Signals(8),
@@ -102,9 +102,9 @@ fn over_waits(alloc: Global) -> Result<Step, AllocError> {
 /// Whether the waits for the port go, and the one for the other port stays as it was.
 fn are_dropped(step: &mut Step) -> bool {
     drop_waits_of_port(step, PORT).is_ok()
-        && step.row(RowKey::Wait(0)).is_none()
-        && step.row(RowKey::Wait(1)) == Some(&Row::Wait(wait_for(OTHER_PORT)))
-        && step.row(RowKey::Wait(2)).is_none()
+        && step.wait(0).is_none()
+        && step.wait(1) == Some(wait_for(OTHER_PORT))
+        && step.wait(2).is_none()
 }
 
 #[test]

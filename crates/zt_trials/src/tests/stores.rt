@@ -9,11 +9,10 @@ use std::process::Abort;
 use std::test::Fail;
 use zt_bits::{Kind, Rights, Signals};
 use zt_rows::{
-    Counters, HandleValue, Held, Items, Koid, Life, Message, ObjectRow, Packet, Row, RowKey, Wait,
+    Counters, HandleValue, Held, Items, Koid, Life, Message, ObjectRow, Packet, ROOT_PROCESS, Row,
+    RowKey, Wait,
 };
 use zt_store::{Record, Step, Store, swap};
-
-const PROCESS: Koid = Koid(1025);
 
 const EVENT: Koid = Koid(1026);
 
@@ -85,7 +84,7 @@ fn put_packet(step: &mut Step, number: u64) -> Result<(), AllocError> {
 
 fn put_wait(step: &mut Step, number: u64) -> Result<(), AllocError> {
     let wait = Wait {
-        process: PROCESS,
+        process: ROOT_PROCESS,
         handle: HandleValue(7),
         port: PORT,
         key: 5,
@@ -102,8 +101,8 @@ fn put_one(alloc: Global, step: &mut Step, n: u8) -> Result<(), AllocError> {
         1 => put_object(step, EVENT, Kind::Event, 0, 0),
         2 => put_object(step, PORT, Kind::Port, 0, 1),
         3 => put_object(step, CHILD, Kind::Job, 1024, 0),
-        4 => put_entry(step, PROCESS, 7, EVENT),
-        5 => put_entry(step, PROCESS, 6, CHILD),
+        4 => put_entry(step, ROOT_PROCESS, 7, EVENT),
+        5 => put_entry(step, ROOT_PROCESS, 6, CHILD),
         6 => put_object(step, NEAR_END, Kind::Channel, 1029, 1),
         7 => put_message(step, 2, message(alloc, &[EVENT, PORT, EVENT])?),
         8 => put_packet(step, 0),
@@ -125,7 +124,7 @@ fn put_over_one(alloc: Global, step: &mut Step, n: u8) -> Result<(), AllocError>
         0 => put_counters(step, 1036),
         1 => step.put(RowKey::Object(EVENT), None),
         2 => put_object(step, CHILD, Kind::Process, 1024, 0),
-        3 => put_entry(step, PROCESS, 7, PORT),
+        3 => put_entry(step, ROOT_PROCESS, 7, PORT),
         4 => put_entry(step, Koid(1100), 999, Koid(1200)),
         5 => put_message(step, 2, message(alloc, &[PORT])?),
         6 => put_message(step, 1, message(alloc, &[PORT])?),

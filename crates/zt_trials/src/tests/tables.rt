@@ -1,20 +1,14 @@
 //! The table of the first process, with each request for memory refused in turn.
 ghost use Rattle.std.specs.Prelude.{◌≡◌, ◌<◌, ◌^◌, ◌↔◌, IsTrue};
-ghost use Rattle.std.specs.Option.{option_copied};
-ghost use Rattle.zt_rows.specs.Reads.{as_object};
 ghost use Rattle.zt_rows.specs.Tests.{next_at, object_next};
 
 use super::checks::check;
 use std::alloc::{AllocError, Global};
 use std::process::Abort;
 use zt_bits::Rights;
-use zt_rows::{HandleValue, Held, Koid, Row, RowKey};
+use zt_rows::{FIRST_HANDLE, HandleValue, Held, Koid, ObjectRow, ROOT_PROCESS};
 use zt_store::{Step, Store};
 use zt_tables::{duplicate, find, install, remove};
-
-const ROOT: Koid = Koid(1025);
-
-const FIRST: HandleValue = HandleValue(3);
 
 const SECOND: HandleValue = HandleValue(7);
 
@@ -34,26 +28,26 @@ const DUPLICATE: Held = Held {
 fn has_room(step: &Step) -> bool
     ensures { IsTrue result ↔ (next_at step.now.current 1025 < 2 ^ 30) }
 {
-    next_in(step.row(RowKey::Object(ROOT))) < 1 << 30
+    next_in(step.object(ROOT_PROCESS)) < 1 << 30
 }
 
-fn next_in(row: Option<&Row>) -> u64
-    ensures { result ≡ object_next (as_object (option_copied row.entry)) }
+fn next_in(object: Option<ObjectRow>) -> u64
+    ensures { result ≡ object_next object }
 {
-    match row {
-        Some(Row::Object(object)) => object.next,
-        _ => 0,
+    match object {
+        Some(object) => object.next,
+        None => 0,
     }
 }
 
 fn installed(rt: &impl Abort, step: &mut Step) -> Result<HandleValue, AllocError> {
     assert!(rt; has_room(step));
-    install(step, ROOT, TO_EVENT)
+    install(step, ROOT_PROCESS, TO_EVENT)
 }
 
 fn duplicated(rt: &impl Abort, step: &mut Step) -> Result<HandleValue, AllocError> {
     assert!(rt; has_room(step));
-    duplicate(step, ROOT, TO_EVENT, Rights(1))
+    duplicate(step, ROOT_PROCESS, TO_EVENT, Rights(1))
 }
 
 fn opened(alloc: Global) -> Result<Step, AllocError> {
@@ -62,15 +56,15 @@ fn opened(alloc: Global) -> Result<Step, AllocError> {
 
 /// Whether the first process has its first handle alone, and gives out the second next.
 fn is_as_begun(step: &Step) -> bool {
-    next_in(step.row(RowKey::Object(ROOT))) == 1
-        && step.row(RowKey::Entry(ROOT, FIRST)).is_some()
-        && step.row(RowKey::Entry(ROOT, SECOND)).is_none()
+    next_in(step.object(ROOT_PROCESS)) == 1
+        && step.entry(ROOT_PROCESS, FIRST_HANDLE).is_some()
+        && step.entry(ROOT_PROCESS, SECOND).is_none()
 }
 
 /// What the store after the step has at the second handle.
 fn second_of(step: Step) -> Option<Held> {
     let (store, _) = step.finish();
-    find(&store, ROOT, SECOND)
+    find(&store, ROOT_PROCESS, SECOND)
 }
 
 fn check_install(rt: &impl Abort, step: &mut Step) {
@@ -109,13 +103,13 @@ fn refused_memory_duplicates_nothing(rt: HostRuntime) {
 }
 
 fn check_remove(rt: &impl Abort, step: &mut Step) {
-    let mut taken = remove(step, ROOT, FIRST);
+    let mut taken = remove(step, ROOT_PROCESS, FIRST_HANDLE);
     if taken.is_err() {
         check(rt, is_as_begun(step));
-        taken = remove(step, ROOT, FIRST);
+        taken = remove(step, ROOT_PROCESS, FIRST_HANDLE);
     }
     check(rt, matches!(&taken, Ok(Some(_))));
-    check(rt, step.row(RowKey::Entry(ROOT, FIRST)).is_none());
+    check(rt, step.entry(ROOT_PROCESS, FIRST_HANDLE).is_none());
 }
 
 #[test]

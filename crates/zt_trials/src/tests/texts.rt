@@ -4,11 +4,10 @@ use std::alloc::{AllocError, Global};
 use std::test::Fail;
 use zt_bits::{Kind, Rights, Signals};
 use zt_rows::{
-    Call, Counters, HandleValue, Held, Koid, Life, ObjectRow, Packet, Reply, Row, RowKey,
+    Call, Counters, FIRST_HANDLE, HandleValue, Held, Koid, Life, ObjectRow, Packet, ROOT_JOB,
+    ROOT_PROCESS, Reply, Row, RowKey,
 };
 use zt_text::{print_call, print_reply, print_rows};
-
-const ROOT: Koid = Koid(1025);
 
 /// The line of the call. No clause tells it, so that who asks for it is proved without going over its bytes.
 fn call_line() -> &'static [u8] {
@@ -20,7 +19,7 @@ fn is_call_printed(alloc: Global) -> Result<bool, AllocError> {
         handle: HandleValue(7),
         rights: 0x8000_0000,
     };
-    let text = print_call(alloc, ROOT, &call)?;
+    let text = print_call(alloc, ROOT_PROCESS, &call)?;
     Ok(text.as_slice() == call_line())
 }
 
@@ -40,7 +39,7 @@ fn is_reply_printed(alloc: Global) -> Result<bool, AllocError> {
         key: 5,
         trigger: Signals(4),
         observed: Signals(6),
-        process: ROOT,
+        process: ROOT_PROCESS,
         handle: HandleValue(7),
     });
     let text = print_reply(alloc, &reply)?;
@@ -68,7 +67,7 @@ const EXITED: ObjectRow = ObjectRow {
 };
 
 const TO_ROOT_JOB: Held = Held {
-    koid: Koid(1024),
+    koid: ROOT_JOB,
     rights: Rights(0x3d203),
 };
 
@@ -85,8 +84,11 @@ fn are_rows_printed(alloc: Global, rows: &[(RowKey, Row)]) -> Result<bool, Alloc
 fn rows_are_printed(rt: HostRuntime) {
     let rows = [
         (RowKey::Counters, Row::Counters(COUNTERS)),
-        (RowKey::Object(ROOT), Row::Object(EXITED)),
-        (RowKey::Entry(ROOT, HandleValue(3)), Row::Entry(TO_ROOT_JOB)),
+        (RowKey::Object(ROOT_PROCESS), Row::Object(EXITED)),
+        (
+            RowKey::Entry(ROOT_PROCESS, FIRST_HANDLE),
+            Row::Entry(TO_ROOT_JOB),
+        ),
     ];
     check(
         &rt,

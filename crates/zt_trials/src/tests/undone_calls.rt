@@ -9,7 +9,7 @@ use super::stores::is_same;
 use std::alloc::Global;
 use zt_calls::apply;
 use zt_rows::laws::opening_is_consistent;
-use zt_rows::{Call, HandleValue, Koid, Reply, RowKey};
+use zt_rows::{Call, FIRST_HANDLE, Koid, ROOT_JOB, ROOT_PROCESS, Reply, RowKey};
 use zt_store::{Record, Store, undo};
 use zt_text::{print_reply, read_session};
 
@@ -94,9 +94,9 @@ fn are_made(
 /// The keys of the opening.
 const FIRST: [RowKey; 4] = [
     RowKey::Counters,
-    RowKey::Object(Koid(1024)),
-    RowKey::Object(Koid(1025)),
-    RowKey::Entry(Koid(1025), HandleValue(3)),
+    RowKey::Object(ROOT_JOB),
+    RowKey::Object(ROOT_PROCESS),
+    RowKey::Entry(ROOT_PROCESS, FIRST_HANDLE),
 ];
 
 /// How many rows of the opening are there as they were.

@@ -4,9 +4,7 @@ ghost use Rattle.std.specs.Prelude.{◌<◌, length, IfSome};
 use std::alloc::{AllocError, Global};
 use zt_bits::{Signals, Status};
 use zt_history::{BranchId, History};
-use zt_rows::{Call, HandleValue, Koid, Moment, Parcel, Refusal, Reply};
-
-pub(super) const ROOT: Koid = Koid(1025);
+use zt_rows::{Call, HandleValue, Moment, Parcel, ROOT_PROCESS, Refusal, Reply};
 
 pub(super) const MAIN: &[u8] = b"main";
 
@@ -22,7 +20,7 @@ fn branch_of(history: &History, name: &[u8]) -> Option<BranchId>
 /// Why the call at the head of the branch of the name is refused, if it is.
 pub(super) fn refusal_on(history: &mut History, name: &[u8], call: &Call) -> Option<Refusal> {
     match branch_of(history, name) {
-        Some(id) => history.call(id, ROOT, call).err(),
+        Some(id) => history.call(id, ROOT_PROCESS, call).err(),
         None => Some(Refusal::NoBranch),
     }
 }

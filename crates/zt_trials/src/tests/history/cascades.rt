@@ -9,7 +9,7 @@ use crate::tests::commands::mark;
 use std::alloc::Global;
 use zt_bits::Status;
 use zt_history::History;
-use zt_rows::{Call, Koid, Moment, RowKey};
+use zt_rows::{Call, Koid, Moment, ROOT_JOB, RowKey};
 
 /// Puts the far end of each of three channels into the queue of the next.
 fn nests_three(alloc: Global, history: &mut History) -> bool {
@@ -60,7 +60,7 @@ fn spawns_forty(history: &mut History) -> bool {
 /// for the port, and the wait.
 fn killed_key(place: u64, objects: u64, port: Koid) -> RowKey {
     if place == 0 {
-        RowKey::Object(Koid(1024))
+        RowKey::Object(ROOT_JOB)
     } else if place < objects {
         RowKey::Object(Koid(place.saturating_add(1025)))
     } else if place == objects {

@@ -1,10 +1,10 @@
 //! Two histories that were made by the same calls. One is asked, and where memory is refused to it, it has to be as the
 //! other, and to answer when it is asked again.
-use super::branch_calls::{FIX, MAIN, ROOT, answers, head_of};
+use super::branch_calls::{FIX, MAIN, answers, head_of};
 use super::same::is_same;
 use std::alloc::Global;
 use zt_history::History;
-use zt_rows::{Call, Moment};
+use zt_rows::{Call, Moment, ROOT_PROCESS};
 
 fn goes(history: &mut History, moment: Moment) -> bool {
     history.goto(moment).is_ok()
@@ -62,7 +62,7 @@ pub(super) fn fork_both(tried: &mut History, other: &mut History) -> bool {
 
 /// Makes a call of the first process at the moment.
 fn makes(history: &mut History, at: Moment, call: &Call) -> bool {
-    history.call_at(at, ROOT, call).is_ok()
+    history.call_at(at, ROOT_PROCESS, call).is_ok()
 }
 
 /// Whether a history that refused a call at a moment is as the other, once that stands there or where it stood.

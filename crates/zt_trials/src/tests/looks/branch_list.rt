@@ -2,9 +2,7 @@
 use std::alloc::Global;
 use zt_history::{BranchId, History};
 use zt_look::{BranchLook, branches};
-use zt_rows::{Call, Koid, Moment};
-
-const ROOT: Koid = Koid(1025);
+use zt_rows::{Call, Moment, ROOT_PROCESS};
 
 /// Whether a branch of this name is made at the moment, and a call on it.
 fn is_branched(history: &mut History, name: &[u8], at: Moment) -> bool {
@@ -12,7 +10,7 @@ fn is_branched(history: &mut History, name: &[u8], at: Moment) -> bool {
         return false;
     }
     match history.find(name) {
-        Some(id) => history.call(id, ROOT, &Call::EventCreate).is_ok(),
+        Some(id) => history.call(id, ROOT_PROCESS, &Call::EventCreate).is_ok(),
         None => false,
     }
 }

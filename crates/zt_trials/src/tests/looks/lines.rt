@@ -7,11 +7,9 @@ use zt_look::{
     print_fate, print_handle, print_object, print_queued_message, print_when,
 };
 use zt_rows::{
-    Call, HandleValue, Happening, Held, Items, Koid, Message, Moment, ObjectRow, Packet, Reply,
-    Row, RowKey, Support,
+    Call, HandleValue, Happening, Held, Items, Koid, Message, Moment, ObjectRow, Packet, ROOT_JOB,
+    ROOT_PROCESS, Reply, Row, RowKey, Support,
 };
-
-const ROOT: Koid = Koid(1025);
 
 /// Whether this text was printed.
 fn is_text(printed: Result<Vec<u8>, AllocError>, wanted: &[u8]) -> bool {
@@ -32,7 +30,7 @@ fn closing() -> Call {
 fn calls_are_printed(rt: HostRuntime) {
     let made = CallMade {
         moment: Moment(3),
-        process: ROOT,
+        process: ROOT_PROCESS,
         call: closing(),
         reply: Reply::Status(Status::Ok),
     };
@@ -44,7 +42,7 @@ fn calls_are_printed(rt: HostRuntime) {
     );
     let fired = CallMade {
         moment: Moment(4),
-        process: ROOT,
+        process: ROOT_PROCESS,
         call: Call::HandleReplace {
             handle: HandleValue(7),
             rights: 0x80000000,
@@ -53,7 +51,7 @@ fn calls_are_printed(rt: HostRuntime) {
             key: 4,
             trigger: Signals(0x8),
             observed: Signals(0x1000009),
-            process: ROOT,
+            process: ROOT_PROCESS,
             handle: HandleValue(7),
         }),
     };
@@ -67,7 +65,7 @@ fn calls_are_printed(rt: HostRuntime) {
 
 /// A process as a row.
 fn process_row() -> ObjectRow {
-    let mut row = ObjectRow::new(Kind::Process, Koid(1024));
+    let mut row = ObjectRow::new(Kind::Process, ROOT_JOB);
     row.signals = Signals(0x8);
     row
 }
@@ -75,8 +73,8 @@ fn process_row() -> ObjectRow {
 #[test]
 fn changes_are_printed(rt: HostRuntime) {
     let change = Change {
-        key: RowKey::Object(ROOT),
-        before: Some(Row::Object(ObjectRow::new(Kind::Process, Koid(1024)))),
+        key: RowKey::Object(ROOT_PROCESS),
+        before: Some(Row::Object(ObjectRow::new(Kind::Process, ROOT_JOB))),
         after: Some(Row::Object(process_row())),
     };
     assert!(rt;
@@ -119,7 +117,7 @@ fn events_are_printed(rt: HostRuntime) {
     };
     assert!(rt;
         is_text(
-            print_event(rt.alloc(), &event, ROOT, &Call::EventCreate, false),
+            print_event(rt.alloc(), &event, ROOT_PROCESS, &Call::EventCreate, false),
             b"8 made 1030 event 1025 event_create\n"
         )
     );
@@ -129,7 +127,7 @@ fn events_are_printed(rt: HostRuntime) {
             print_when(
                 rt.alloc(),
                 Happening::Leaked,
-                &Some((Moment(9), ROOT, &call)),
+                &Some((Moment(9), ROOT_PROCESS, &call)),
                 false
             ),
             b"leaked 9 1025 handle_close 7\n"
@@ -168,7 +166,14 @@ fn is_message_printed(alloc: Global) -> bool {
     let call = closing();
     match queued(alloc, Some((Moment(6), MessageEnd::Lost))) {
         Some(message) => is_text(
-            print_queued_message(alloc, &message, ROOT, &call, &Some((ROOT, &call)), true),
+            print_queued_message(
+                alloc,
+                &message,
+                ROOT_PROCESS,
+                &call,
+                &Some((ROOT_PROCESS, &call)),
+                true,
+            ),
             b"2 message - 1027:DUPLICATE|TRANSFER\n2 written 4 1025 handle_close 7\n2 lost 6 1025 handle_close 7\n",
         ),
         None => false,
@@ -207,7 +212,7 @@ fn is_object_printed(alloc: Global) -> bool {
         return false;
     };
     let object = ObjectLook {
-        koid: ROOT,
+        koid: ROOT_PROCESS,
         row: Some(process_row()),
         holders: Items::new(holders),
         messages: Vec::new(alloc),
@@ -232,7 +237,7 @@ fn objects_are_printed(rt: HostRuntime) {
 #[test]
 fn counts_are_printed(rt: HostRuntime) {
     let count = CallCount {
-        process: ROOT,
+        process: ROOT_PROCESS,
         status: Status::BadHandle,
         count: 3,
     };
@@ -243,7 +248,7 @@ fn counts_are_printed(rt: HostRuntime) {
         )
     );
     let fate = ObjectFate {
-        koid: Koid(1024),
+        koid: ROOT_JOB,
         kind: Kind::Job,
         fate: Fate::Alive,
         since: Moment(0),

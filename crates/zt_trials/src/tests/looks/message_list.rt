@@ -2,16 +2,15 @@
 use std::alloc::Global;
 use zt_history::History;
 use zt_look::{MessageEnd, QueuedMessage, messages};
-use zt_rows::{Call, HandleValue, Koid, Moment, Parcel};
+use zt_rows::{Call, HandleValue, Koid, Moment, Parcel, ROOT_PROCESS};
 
-const ROOT: Koid = Koid(1025);
 /// The second end of the channel, at which the messages are queued.
 const END: Koid = Koid(1027);
 
 /// Whether the first process calls this on `main`.
 fn is_called(history: &mut History, call: &Call) -> bool {
     match history.find(b"main") {
-        Some(main) => history.call(main, ROOT, call).is_ok(),
+        Some(main) => history.call(main, ROOT_PROCESS, call).is_ok(),
         None => false,
     }
 }

@@ -3,13 +3,15 @@ use super::three_calls;
 use std::alloc::Global;
 use zt_bits::Status;
 use zt_look::{CallCount, Fate, ObjectFate, summary};
-use zt_rows::{Koid, Moment};
+use zt_rows::{Koid, Moment, ROOT_PROCESS};
 
 /// Whether two calls went well and one had a bad handle.
 fn are_counted(calls: &[CallCount]) -> bool {
     match calls {
         [well, missed] => {
-            let first = well.process == Koid(1025) && well.status == Status::Ok && well.count == 2;
+            let first = well.process == ROOT_PROCESS
+                && well.status == Status::Ok
+                && well.count == 2;
             first && missed.status == Status::BadHandle && missed.count == 1
         }
         _ => false,

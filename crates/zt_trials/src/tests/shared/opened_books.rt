@@ -6,7 +6,7 @@ ghost use Rattle.zt_shared.specs.Sharing.{IsFresh};
 use super::twins::Twins;
 use std::alloc::Global;
 use zt_book::Book;
-use zt_rows::{Call, HandleValue, Koid};
+use zt_rows::{Call, HandleValue, ROOT_PROCESS};
 use zt_shared::account::Naming;
 use zt_shared::{Beginning, Blanks, Pass, Shared, open, open_book};
 
@@ -15,9 +15,9 @@ fn loaded(alloc: Global) -> Option<Book>
     ensures { IfSome result (IsFresh 2) }
 {
     let calls = [
-        (Koid(1025), Call::EventCreate),
+        (ROOT_PROCESS, Call::EventCreate),
         (
-            Koid(1025),
+            ROOT_PROCESS,
             Call::HandleClose {
                 handle: HandleValue(7),
             },

@@ -4,7 +4,7 @@ use super::twins::Twins;
 use std::sync::Wait;
 use std::thread::{Threads, join};
 use zt_book::{Book, Log, Recorded};
-use zt_rows::{Call, Command, Koid};
+use zt_rows::{Call, Command, ROOT_PROCESS};
 use zt_shared::account::Naming;
 use zt_shared::{Beginning, Pass, Shared};
 
@@ -18,7 +18,7 @@ fn makes_events<A: Naming + Beginning, B: Naming, C: Naming, D: Naming, R: Wait>
     pass: &mut Pass<A, B, C, D>,
 ) -> bool {
     for _ in 0..TIMES {
-        let event = Command::Call(Koid(1025), Call::EventCreate);
+        let event = Command::Call(ROOT_PROCESS, Call::EventCreate);
         if shared.ask(rt, pass, event).is_err() {
             return false;
         }
