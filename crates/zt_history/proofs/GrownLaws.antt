@@ -25,10 +25,10 @@ length-push xs x = omega (arith, length-append xs (x ∷ []))
 
 module _ (made : List Made) (e : Made) (falls : Falls made) (within : e.parent ≤ length made) where
   -- the last moment of the longer list, and those before it
-  made_at-end : made_at (made ++ e ∷ []) (suc (length made)) ≡ Some e
+  pub made_at-end : made_at (made ++ e ∷ []) (suc (length made)) ≡ Some e
   made_at-end = get-last made e (length made) refl
 
-  state-end : state_at (made ++ e ∷ []) (suc (length made)) ≡ (step (state_at made e.parent) e.process e.call).0
+  pub state-end : state_at (made ++ e ∷ []) (suc (length made)) ≡ (step (state_at made e.parent) e.process e.call).0
   state-end =
       state-step (made ++ e ∷ []) (falls-push made e falls within) (length made) e made_at-end
       ∙ ap (λ S. (step S e.process e.call).0) (state-more made (e ∷ []) falls (falls-push made e falls within) e.parent within)

@@ -10,6 +10,9 @@ pub mod NodeLaws
 pub mod KeptLaws
 pub mod WayLaws
 pub mod TreeLaws
+pub mod NoteListLaws
+pub mod NotedLaws
+pub mod WholeLaws
 pub mod ChangedLaws
 pub mod LawsOfTrees
 mod WorkedTrees

@@ -3,5 +3,6 @@ pub mod Tree
 pub mod HistoryRefusals
 pub mod Timeline
 pub mod TreeInvariant
+pub mod RowHappenings
 -- Used by proofs only: no public clause depends on them.
 pub mod ProofsOnly

@@ -4,3 +4,4 @@ pub mod TreeInvariant
 pub mod KeptHistory
 pub mod Branches
 pub mod MomentNodes
+pub mod ObjectNotes

@@ -1,15 +1,19 @@
 ghost use Rattle.std.specs.Prelude.{◌≡◌, ◌<◌, ◌≤◌, ◌-◌, ◌↔◌, Option, Some, None, Ok, IsTrue, IfOk, IfErr, IfSome, OnOk, OnErr, length, take, slice_get, is_some};
 ghost use Rattle.std.specs.Option.{option_copied, option_map};
 ghost use Rattle.zt_rows.specs.declared.calls.Reply.{Reply};
+ghost use Rattle.zt_rows.specs.Handles.{next_koid};
 ghost use Rattle.zt_rows.specs.Opening.{opening};
 ghost use Rattle.zt_rows.specs.Step.{run};
 ghost use Rattle.zt_history.specs.Tree.{call_at, reply_at, parent_at, path, end_of, state_at, calls_to, replies_to, head_at, name_at, branch_named};
 ghost use Rattle.zt_history.specs.HistoryRefusals.{IsHistoryRefusal, moment_on};
+ghost use Rattle.zt_history.specs.RowHappenings.{last_shown};
 ghost use Rattle.zt_history.specs.TreeInvariant.{recorded_at, Falls, IsTree};
 ghost use Rattle.zt_history.specs.Timeline.{at_opening, moved_to, unmoved, IsPath};
 
 use crate::branches::{BranchId, Branches};
 use crate::moments::Moments;
+use crate::object_notes::ObjectNotes;
+use crate::row_happenings::RowHappening;
 use std::alloc::{AllocError, Global};
 use std::marker::Model;
 use zt_rows::{Call, Koid, Moment, Refusal, Reply};
@@ -30,6 +34,7 @@ pub(crate) enum Undo {
 pub struct History {
     pub(crate) store: Store,
     pub(crate) moments: Moments,
+    pub(crate) notes: ObjectNotes,
     pub(crate) branches: Branches,
     pub(crate) position: Moment,
     pub(crate) undo: Undo,
@@ -42,6 +47,7 @@ impl Drop for History {
         let History {
             store: _store,
             moments: _moments,
+            notes: _notes,
             branches: _branches,
             position: _position,
             undo: _undo,
@@ -51,13 +57,13 @@ impl Drop for History {
 
 impl Model for History {
     ghost use Rattle.zt_history.specs.Timeline.{Timeline};
-    ghost use Rattle.zt_history.specs.ProofsOnly.KeptHistory.{timeline_of, IsKept};
+    ghost use Rattle.zt_history.specs.ProofsOnly.KeptHistory.{timeline_of, IsWhole};
 
     ghost Value = { Timeline };
 
     ghost view = { λ h. timeline_of (record { made = h.moments.made; branches = h.branches }) h.position h.undo };
 
-    ghost invariant = { λ h. IsKept h.store h.moments h.branches h.position h.undo };
+    ghost invariant = { λ h. IsWhole h.store h.moments h.notes h.branches h.position h.undo };
 }
 
 impl History {
@@ -65,9 +71,12 @@ impl History {
     pub fn new(alloc: Global) -> Result<History, AllocError>
         ensures { IfOk result (λ history. history ≡ at_opening) }
     {
+        let store = Store::opening(alloc)?;
+        let notes = ObjectNotes::new(alloc, &store)?;
         Ok(History {
-            store: Store::opening(alloc)?,
+            store,
             moments: Moments::new(alloc),
+            notes,
             branches: Branches::new(alloc)?,
             position: Moment(0),
             undo: Undo::Nothing,
@@ -190,6 +199,23 @@ impl History {
         ensures { result ≡ length (path self.now.tree.made moment) }
     {
         self.moments.depth(moment)
+    }
+
+    /// The next koid at a moment: each koid below it, from the root job's on, was given out by then. It takes no memory.
+    pub fn next_koid_at(&self, moment: Moment) -> Koid
+        requires { moment ≤ length self.now.tree.made }
+        ensures { result ≡ next_koid (state_at self.now.tree.made moment) }
+    {
+        self.notes.next_koid(moment)
+    }
+
+    /// The last moment on the path to one at which it happened to the object. It takes no memory, and a look at each change
+    /// of the object and at each parent on the path down to the moment that is found.
+    pub fn last_shown(&self, what: RowHappening, koid: Koid, at: Moment) -> Option<Moment>
+        requires { at ≤ length self.now.tree.made }
+        ensures { result ≡ last_shown what koid self.now.tree.made at }
+    {
+        self.notes.find(&self.moments, what, koid, at)
     }
 
     /// The moments after the opening up to a moment: what `along` is to be given to go there. It takes memory for the

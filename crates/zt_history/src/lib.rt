@@ -8,8 +8,11 @@ mod history;
 pub mod laws;
 mod moments;
 mod new_moment;
+mod object_notes;
+mod row_happenings;
 mod tree_changes;
 
 pub use branches::BranchId;
 pub use copied_calls::push_call;
 pub use history::History;
+pub use row_happenings::RowHappening;

@@ -1,17 +1,20 @@
-ghost use Rattle.std.specs.Prelude.{◌≡◌, ◌<◌, ◌≤◌, ◌+◌, ◌-◌, ◌++◌, ◌∷◌, [], true, IfOk, OnOk, OnErr, IfSome, length, slice_get};
+ghost use Rattle.std.specs.Prelude.{◌≡◌, ◌<◌, ◌≤◌, ◌+◌, ◌-◌, ◌++◌, ◌∷◌, [], ℕ, true, IfOk, OnOk, OnErr, IfSome, length, slice_get};
 ghost use Rattle.std.specs.Option.{option_map};
 ghost use Rattle.zt_rows.specs.Change.{before};
 ghost use Rattle.zt_rows.specs.Consistent.{IsConsistent};
 ghost use Rattle.zt_rows.specs.Reads.{runs};
 ghost use Rattle.zt_rows.specs.Room.{HasRoom};
 ghost use Rattle.zt_rows.specs.Step.{step};
+ghost use Rattle.zt_rows.specs.Tests.{among};
 ghost use Rattle.zt_store.specs.Places.{Keeps, fits};
 ghost use Rattle.zt_store.specs.RecordRows.{all_fit};
 ghost use Rattle.zt_history.specs.ProofsOnly.Branches.{without_last};
 ghost use Rattle.zt_history.specs.ProofsOnly.MomentNodes.{IsTurned, made_as, run_at};
+ghost use Rattle.zt_history.specs.ProofsOnly.ObjectNotes.{noted};
 ghost use Rattle.zt_history.specs.TreeInvariant.{Falls};
 ghost use Rattle.zt_history.specs.Tree.{made_at, parent_at, path};
 
+use crate::object_notes::ObjectNotes;
 use std::alloc::{AllocError, Global};
 use std::marker::Model;
 use zt_calls::apply;
@@ -127,6 +130,19 @@ impl Moments {
         Ok(way)
     }
 
+    /// The last moment on the path to one that is no later than a limit, or else the opening.
+    pub(crate) fn no_later(&self, from: Moment, limit: Moment) -> Moment
+        ensures early { result ≤ limit }
+        ensures same { (m : ℕ) → m ≤ limit → among (path self.now.made result) m ≡ among (path self.now.made from) m }
+    {
+        self.limits();
+        let mut at = from;
+        while at > limit {
+            at = self.parent(at);
+        }
+        at
+    }
+
     /// Exchanges the rows of a moment's record with the store's. It takes no memory.
     pub(crate) fn turn(&mut self, store: &mut Store, moment: Moment)
         requires some { 0 < moment }
@@ -138,11 +154,12 @@ impl Moments {
         swap(store, &mut node.change);
     }
 
-    /// Runs a call of a process at a moment, where the store stands, and keeps what it made. Where memory is refused,
-    /// the store's rows and the moments are as before.
+    /// Runs a call of a process at a moment, where the store stands, keeps what it made and notes what it did to each
+    /// object. Where memory is refused, the store's rows, the moments and the notes are as before.
     pub(crate) fn run(
         &mut self,
         store: &mut Store,
+        notes: &mut ObjectNotes,
         at: Moment,
         process: Koid,
         call: &Call,
@@ -156,16 +173,19 @@ impl Moments {
         ensures made { OnOk result (self.new.made ≡ self.old.made ++ run_at at store.old.state process call.now ∷ []) }
         ensures recorded { OnOk result (self.new.records ≡ self.old.records ++ before store.old.state store.new.state ∷ []) }
         ensures fits { OnOk result (fits store.new.places (before store.old.state store.new.state) ≡ true) }
+        ensures noted { OnOk result (notes.new ≡ noted notes.old (length self.old.made + 1) (before store.old.state store.new.state) store.new.state) }
         ensures err { OnErr result (store.new.state ≡ store.old.state) }
         ensures err_moments { OnErr result (self.new ≡ self.old) }
+        ensures err_notes { OnErr result (notes.new ≡ notes.old) }
         ensures kept { Keeps store.old.places store.new.places }
     {
         self.limits();
         let depth = self.depth(at) + 1;
+        let moment = Moment(self.last().0 + 1);
         self.nodes.reserve(1)?;
         self.parents.reserve(1)?;
         let alloc = *self.nodes.allocator();
-        let run = carried_out(alloc, store, process, call)?;
+        let run = carried_out(alloc, store, notes, moment, process, call)?;
         self.parents.push_reserved(at);
         self.nodes.push_reserved(MomentNode {
             parent: at,
@@ -198,10 +218,13 @@ struct AnsweredCall {
     change: Record,
 }
 
-/// Runs a call of a process. Where memory is refused, also for a copy of the reply, the store's rows are as before.
+/// Runs a call of a process, and notes what it did to each object as that of a moment. Where memory is refused, also for
+/// the notes or for a copy of the reply, the store's rows and the notes are as before.
 fn carried_out(
     alloc: Global,
     store: &mut Store,
+    notes: &mut ObjectNotes,
+    moment: Moment,
     process: Koid,
     call: &Call,
 ) -> Result<AnsweredCall, AllocError>
@@ -213,14 +236,16 @@ fn carried_out(
     ensures answer { IfOk result (λ run. run.answer ≡ run.reply) }
     ensures recorded { IfOk result (λ run. run.change ≡ before store.old.state store.new.state) }
     ensures fits { IfOk result (λ run. fits store.new.places run.change ≡ true) }
+    ensures noted { OnOk result (notes.new ≡ noted notes.old moment (before store.old.state store.new.state) store.new.state) }
     ensures err { OnErr result (store.new.state ≡ store.old.state) }
+    ensures err_notes { OnErr result (notes.new ≡ notes.old) }
     ensures kept { Keeps store.old.places store.new.places }
 {
     let copied = call.copy()?;
     let Ok((reply, mut change)) = apply(alloc, store, process, call) else {
         return Err(AllocError);
     };
-    match reply.copy() {
+    match copied_and_noted(&reply, notes, moment, &change, store) {
         Ok(answer) => Ok(AnsweredCall {
             call: copied,
             reply,
@@ -232,4 +257,21 @@ fn carried_out(
             Err(e)
         }
     }
+}
+
+/// A copy of the reply, once what the call did is noted. Where memory is refused nothing is.
+fn copied_and_noted(
+    reply: &Reply,
+    notes: &mut ObjectNotes,
+    moment: Moment,
+    change: &Record,
+    store: &Store,
+) -> Result<Reply, AllocError>
+    ensures copied { IfOk result (λ copied. copied ≡ reply.now) }
+    ensures noted { OnOk result (notes.new ≡ noted notes.old moment change.now store.now.state) }
+    ensures err { OnErr result (notes.new ≡ notes.old) }
+{
+    let copied = reply.copy()?;
+    notes.note(moment, change, store)?;
+    Ok(copied)
 }

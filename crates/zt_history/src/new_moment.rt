@@ -38,7 +38,9 @@ impl History {
         call.limits();
         self.undo = Undo::Nothing;
         let position = self.position;
-        let reply = self.moments.run(&mut self.store, position, process, call)?;
+        let reply = self
+            .moments
+            .run(&mut self.store, &mut self.notes, position, process, call)?;
         self.position = self.moments.last();
         Ok(reply)
     }

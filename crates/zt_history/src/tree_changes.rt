@@ -112,6 +112,7 @@ impl History {
                 let head = self.moments.parent(last);
                 self.moments.turn(&mut self.store, last);
                 self.moments.drop_last();
+                self.notes.drop_last(last);
                 self.branches.set_head(id, head);
                 self.position = head;
                 self.undo = Undo::Nothing;

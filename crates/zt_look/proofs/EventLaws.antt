@@ -37,7 +37,8 @@ use Rattle.zt_history.proofs.ListLaws.{get-within}
 use Rattle.zt_history.proofs.PathLaws.{among-early, among-parent, by_parents, path-opening, path-step}
 use Rattle.zt_history.proofs.WayLaws.{way-later, way-within}
 use Rattle.zt_queries.specs.HappeningTimes.{at_moment, happens}
-use Rattle.zt_queries.specs.Happenings.{is_cut_off, lacks_peer, leaked, lives}
+use Rattle.zt_history.specs.RowHappenings.{is_cut_off}
+use Rattle.zt_queries.specs.Happenings.{lacks_peer, leaked, lives}
 use Rattle.zt_queries.specs.Leaks.{is_leaked}
 use Rattle.zt_queries.proofs.OnceLaws.{leaked-exists}
 use Rattle.zt_queries.proofs.WayLaws.{way-end, way-parent}

@@ -9,7 +9,7 @@ ghost use Rattle.zt_history.specs.Tree.{end_of, parent_at, path, state_at};
 ghost use Rattle.zt_look.specs.EventList.{AreEvents, is_asked};
 ghost use Rattle.zt_look.specs.ProofsOnly.EventsSoFar.{AddsMoment, AreLeaked, event_shown, events_shown, is_object, kind_shown, object_over, shows, change_over};
 ghost use Rattle.zt_look.specs.ProofsOnly.UnleakedSet.{IsUnleakedSet};
-ghost use Rattle.zt_queries.specs.Happenings.{is_cut_off};
+ghost use Rattle.zt_history.specs.RowHappenings.{is_cut_off};
 ghost use Rattle.zt_rows.specs.Reads.{as_object, is_live, on_object};
 
 use crate::limits::limits;

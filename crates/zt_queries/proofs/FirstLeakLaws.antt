@@ -35,7 +35,8 @@ use Rattle.zt_queries.specs.Happenings.{leaked, IsCallStep}
 use Rattle.zt_queries.specs.Leaks.{is_leaked}
 use Rattle.zt_queries.specs.Reachability.{reached}
 use Rattle.zt_queries.specs.HappeningTimes.{at_moment}
-use Rattle.zt_queries.specs.ProofsOnly.RowHappenings.{row_over, AreWays, is_there}
+use Rattle.zt_history.specs.RowHappenings.{is_there}
+use Rattle.zt_queries.specs.ProofsOnly.RowHappenings.{row_over, AreWays}
 use Rattle.zt_queries.specs.ProofsOnly.FirstLeak.{state_after, IsLast, IsFirstLeak, keeps_itself, is_sure, entry_names, names_object, names_in, has_none, HoldsRowsOf}
 use Rattle.zt_queries.proofs.LeakLaws.{leaked-lost}
 use Rattle.zt_queries.proofs.OnceLaws.{has_leaked, leaked-begins, leaked-goes-on, next-consistent, leaked-exists}

@@ -17,3 +17,4 @@ pub mod ForkLaws
 pub mod SinceLaws
 pub mod FirstLeakLaws
 pub mod StayLaws
+pub mod NeverLaws

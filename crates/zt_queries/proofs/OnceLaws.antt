@@ -21,7 +21,8 @@ use Rattle.zt_rows.proofs.ReadLaws.{some_one, exists-some, some-exists}
 use Rattle.zt_rows.proofs.CallLaws.{step-consistent}
 use Rattle.zt_queries.specs.Reachability.{reached}
 use Rattle.zt_queries.specs.Leaks.{is_leaked}
-use Rattle.zt_queries.specs.Happenings.{lives, is_cut_off, lacks_peer, made, ended, peer_closed, leaked, IsCallStep, IsCallPath, moments, last_moment}
+use Rattle.zt_history.specs.RowHappenings.{is_cut_off}
+use Rattle.zt_queries.specs.Happenings.{lives, lacks_peer, made, ended, peer_closed, leaked, IsCallStep, IsCallPath, moments, last_moment}
 use Rattle.zt_queries.proofs.ReachLaws.{reached-least}
 use Rattle.zt_queries.proofs.FollowLaws.{Aged, Was, is_new, is_old, Follows, low-koid}
 use Rattle.zt_queries.proofs.LeakLaws.{leaked-lost, lost-leaked, lost-follows, follows-step}
@@ -73,7 +74,7 @@ last-only (m ∷ k ∷ ms) n few e = absurd (omega arith)
 
 -- ---- an object of before
 
-off : (b : Bool) → not b ≡ true → b ≡ false
+pub off : (b : Bool) → not b ≡ true → b ≡ false
 off true e = cc
 off false e = refl
 
@@ -81,7 +82,7 @@ off false e = refl
 abbrev given : ℕ → State → Type 0
 given x S = x < next_koid S
 
-given-stays : (S T : State) (x : ℕ) → Follows S T → given x S → given x T
+pub given-stays : (S T : State) (x : ℕ) → Follows S T → given x S → given x T
 given-stays S T x f g = let k : next_koid S ≤ next_koid T = f.koids in let l : x < next_koid S = g in omega arith
 
 -- an object that is there, of a koid that was given out before, was there
@@ -92,7 +93,7 @@ was-old S T x f g q e = by_was (f.objects x q e)
     by_was (is_new above fresh) = absurd (omega arith)
     by_was (is_old o h a) = (o, h, a)
 
-exists-old : (S T : State) (x : ℕ) → Follows S T → given x S → exists T x ≡ true → exists S x ≡ true
+pub exists-old : (S T : State) (x : ℕ) → Follows S T → given x S → exists T x ≡ true → exists S x ≡ true
 exists-old S T x f g e = let w = some-exists T x e in let o = was-old S T x f g w.0 w.1 in exists-some S x o.0 o.1
 
 -- ---- made
@@ -106,7 +107,7 @@ made-passes x = record {
 
 -- ---- ended
 
-of_object : (test : ObjectRow → Bool) (r : Option ObjectRow) → on_object test r ≡ true → (o : ObjectRow) × (r ≡ Some o) × (test o ≡ true)
+pub of_object : (test : ObjectRow → Bool) (r : Option ObjectRow) → on_object test r ≡ true → (o : ObjectRow) × (r ≡ Some o) × (test o ≡ true)
 of_object test (Some o) e = (o, refl, e)
 of_object test None e = cc
 

@@ -31,7 +31,7 @@ module _ (made : List Made) (falls : Falls made) where
   none-before : (q : ℕ) → among (path made 0) q ≡ true → ⊥
   none-before q on = true≢false (among (path made 0) q) on (ap (λ l. among l q) (path-opening made))
 
-  on-parent : (i q : ℕ) → q < suc i → among (path made (suc i)) q ≡ true → among (path made (parent_at made (suc i))) q ≡ true
+  pub on-parent : (i q : ℕ) → q < suc i → among (path made (suc i)) q ≡ true → among (path made (parent_at made (suc i))) q ≡ true
   on-parent i q low on = sym (among-other made falls i q (λ e. omega (arith, e, low))) ∙ on
 
   on-child : (i q : ℕ) → among (path made (parent_at made (suc i))) q ≡ true → among (path made (suc i)) q ≡ true
@@ -41,7 +41,7 @@ module _ (made : List Made) (falls : Falls made) where
   itself i q up on = omega (arith, up, among-early made falls (suc i) q on)
 
   -- the path to a moment on a path has those of that path that are not later
-  earlier-on : (q m : ℕ) → q ≤ m → (n : ℕ) → among (path made n) q ≡ true → among (path made n) m ≡ true → among (path made m) q ≡ true
+  pub earlier-on : (q m : ℕ) → q ≤ m → (n : ℕ) → among (path made n) q ≡ true → among (path made n) m ≡ true → among (path made m) q ≡ true
   earlier-on q m up = by_parents made falls (λ n. among (path made n) q ≡ true → among (path made n) m ≡ true → among (path made m) q ≡ true) base step
     where
       base : among (path made 0) q ≡ true → among (path made 0) m ≡ true → among (path made m) q ≡ true
@@ -71,7 +71,7 @@ module _ (made : List Made) (falls : Falls made) where
 -- ---- what a call keeps
 
 module _ (made : List Made) (are : AreMoments made) (Kept : State → Type 0) (keeps : (S T : State) → IsConsistent S → IsCallStep S T → Kept S → Kept T) where
-  kept-on : (m : ℕ) → Kept (state_at made m) → (n : ℕ) → n ≤ length made → among (path made n) m ≡ true → Kept (state_at made n)
+  pub kept-on : (m : ℕ) → Kept (state_at made m) → (n : ℕ) → n ≤ length made → among (path made n) m ≡ true → Kept (state_at made n)
   kept-on m kept = by_parents made are.falls (λ n. n ≤ length made → among (path made n) m ≡ true → Kept (state_at made n)) base step
     where
       base : 0 ≤ length made → among (path made 0) m ≡ true → Kept (state_at made 0)

@@ -1,17 +1,14 @@
 -- Rows along two paths of a history: over a moment's call by its record, back from the position to the moments that both
 -- share, and forth from there.
-use Rattle.std.proofs.Common.{◌≡◌, ◌≤◌, ◌<◌, ℕ, zero, suc, ◌+◌, ◌-◌, Bool, true, false, cond, ◌||◌, List, [], ◌∷◌, ◌++◌, length, take, get_or, Option, Some, None, refl, sym, ap, ◌∙◌, arith, unwrap_or}
-use Rattle.std.specs.Prelude.{if◌then◌else◌, filter, slice_get, ◌==◌}
-use Rattle.std.specs.List.{last_or}
+use Rattle.std.proofs.Common.{◌≡◌, ◌≤◌, ◌<◌, ℕ, zero, suc, ◌+◌, ◌-◌, Bool, true, false, ◌||◌, List, [], ◌∷◌, length, take, get_or, Option, Some, refl, sym, ap, ◌∙◌, arith, unwrap_or}
+use Rattle.std.specs.Prelude.{if◌then◌else◌, slice_get, ◌==◌}
 use Rattle.std.specs.Option.{option_map}
 use Rattle.std.proofs.lemmas.Bool.{eqb-true, eq-eqb, true≢false}
 use Rattle.std.proofs.lemmas.List.{length-take}
-use Rattle.std.proofs.lemmas.List.Elements.{filter_more}
 use Rattle.std.proofs.lemmas.Map.Keys.{any_passes_from_place}
 use Rattle.std.proofs.lemmas.Option.{slice_get_within, slice_get_read}
 use Rattle.std.proofs.Math.Seq.{take-length}
 use Rattle.zt_rows.specs.declared.keys.RowKey.{RowKey}
-use Rattle.zt_rows.specs.declared.keys.RowKey.TheVariants as key
 use Rattle.zt_rows.specs.declared.rows.Row.{Row}
 use Rattle.zt_rows.specs.Change.{before}
 use Rattle.zt_rows.specs.State.{State, row}
@@ -25,10 +22,7 @@ use Rattle.zt_history.specs.Tree.{Made, made_at, parent_at, path, end_of, state_
 use Rattle.zt_history.proofs.ListLaws.{get-within}
 use Rattle.zt_history.proofs.PathLaws.{path-opening, path-end}
 use Rattle.zt_history.proofs.WayLaws as ways
-use Rattle.zt_queries.specs.declared.happening_times.RowHappening.{RowHappening}
-use Rattle.zt_queries.specs.declared.happening_times.RowHappening.TheVariants as turn
-use Rattle.zt_queries.specs.HappeningTimes.{at_moment, happens}
-use Rattle.zt_queries.specs.ProofsOnly.RowHappenings.{shows, happening_of, row_over, AreWays}
+use Rattle.zt_queries.specs.ProofsOnly.RowHappenings.{row_over, AreWays}
 
 -- ---- the row on the other side of a call
 
@@ -39,14 +33,14 @@ module _ (made : List Made) (position q : ℕ) (e : Made) (there : made_at made 
   recorded : recorded_at made position q ≡ Some (record_of made position q)
   recorded = ap (option_map (λ _. record_of made position q)) there
 
-  row-back : among (path made position) q ≡ true → row_over (recorded_at made position q) k (row (state_at made q) k) ≡ row (state_at made (parent_at made q)) k
+  pub row-back : among (path made position) q ≡ true → row_over (recorded_at made position q) k (row (state_at made q) k) ≡ row (state_at made (parent_at made q)) k
   unfolding record_of
   row-back on =
       ap (λ R. row_over R k (row (state_at made q) k)) recorded
       ∙ ap (λ b. unwrap_or (held (if b then before (state_at made (parent_at made q)) (state_at made q) else before (state_at made q) (state_at made (parent_at made q))) k) (row (state_at made q) k)) on
       ∙ row-turned (state_at made (parent_at made q)) (state_at made q) k
 
-  row-forth : among (path made position) q ≡ false → row_over (recorded_at made position q) k (row (state_at made (parent_at made q)) k) ≡ row (state_at made q) k
+  pub row-forth : among (path made position) q ≡ false → row_over (recorded_at made position q) k (row (state_at made (parent_at made q)) k) ≡ row (state_at made q) k
   unfolding record_of
   row-forth off =
       ap (λ R. row_over R k (row (state_at made (parent_at made q)) k)) recorded
@@ -68,15 +62,6 @@ among-place (x ∷ xs) q h = by (x == q) refl (λ g. among-place xs q g)
     by : (b : Bool) → (x == q) ≡ b → (among xs q ≡ true → (j : ℕ) × (slice_get xs j ≡ Some q)) → (j : ℕ) × (slice_get (x ∷ xs) j ≡ Some q)
     by true e rest = (0, ap Some (eqb-true x q e))
     by false e rest = let there = rest (sym (ap (λ b. b || among xs q) e) ∙ h) in (suc there.0, there.1)
-
-get-read : (xs : List ℕ) (i q d : ℕ) → slice_get xs i ≡ Some q → get_or xs i d ≡ q
-get-read [] i q d h = cc
-get-read (x ∷ xs) zero q d h = cc
-get-read (x ∷ xs) (suc i) q d h = get-read xs i q d h
-
-last-append : {A : Type 0} (o : Option A) (xs ys : List A) → last_or o (xs ++ ys) ≡ last_or (last_or o xs) ys
-last-append o [] ys = refl
-last-append o (x ∷ xs) ys = last-append (Some x) xs ys
 
 -- ---- a path, moment by moment
 
@@ -101,37 +86,6 @@ module _ (made : List Made) (falls : Falls made) (way : List ℕ) (is : IsPath m
       by : (q : ℕ) → 0 < q → q ≤ length made → (e : Made) × (made_at made q ≡ Some e)
       by zero h g = absurd (omega (arith, h))
       by (suc j) h g = get-within made j (omega (arith, g))
-
-  -- what happens at a moment shows in the rows before and after it
-  way-shows : (t : RowHappening) (x i q : ℕ) (r s : Option Row) → slice_get way i ≡ Some q → r ≡ row (state_at made (end_of (take i way))) (key.Object x)
-      → s ≡ row (state_at made (end_of (take (suc i) way))) (key.Object x) → shows t r s ≡ at_moment (happens (happening_of t) x) made q
-  way-shows t x i q r s at was is_now =
-      ap (λ r. shows t r s) (was ∙ ap (λ m. row (state_at made m) (key.Object x)) (sym (way-parent i q at)))
-      ∙ ap (shows t (row (state_at made (parent_at made q)) (key.Object x))) (is_now ∙ ap (λ m. row (state_at made m) (key.Object x)) (way-end i q at))
-      ∙ told t
-    where
-      told : (t : RowHappening) → shows t (row (state_at made (parent_at made q)) (key.Object x)) (row (state_at made q) (key.Object x)) ≡ at_moment (happens (happening_of t) x) made q
-      told turn.Made = refl
-      told turn.Ended = refl
-      told turn.PeerClosed = refl
-
--- ---- the last moment so far
-
-module _ (test : ℕ → Bool) (xs : List ℕ) (i q : ℕ) (at : slice_get xs i ≡ Some q) where
-  more : filter test (take (i + 1) xs) ≡ filter test (take i xs) ++ cond (test q) (q ∷ []) []
-  more =
-      filter_more test xs i q (slice_get_within xs i q at)
-      ∙ ap (λ m. filter test (take i xs) ++ cond (test m) (m ∷ []) []) (get-read xs i q q at)
-
-  pub last-here : test q ≡ true → last_or None (filter test (take (i + 1) xs)) ≡ Some q
-  last-here passes =
-      ap (last_or None) (more ∙ ap (λ b. filter test (take i xs) ++ cond b (q ∷ []) []) passes)
-      ∙ last-append None (filter test (take i xs)) (q ∷ [])
-
-  pub last-before : test q ≡ false → last_or None (filter test (take (i + 1) xs)) ≡ last_or None (filter test (take i xs))
-  last-before none =
-      ap (last_or None) (more ∙ ap (λ b. filter test (take i xs) ++ cond b (q ∷ []) []) none)
-      ∙ last-append None (filter test (take i xs)) []
 
 -- ---- two paths
 
@@ -208,16 +162,6 @@ module _ (h : Timeline) (way here : List ℕ) (shared : ℕ) (w : AreWays h way 
   pub from-fork : (k : RowKey) (i : ℕ) (r : Option Row) → i ≡ shared → r ≡ row (state_at h.tree.made (end_of (take shared way))) k → r ≡ row (state_at h.tree.made (end_of (take i here))) k
   from-fork k i r there is = is ∙ ap (λ l. row (state_at h.tree.made (end_of l)) k) w.fork.same ∙ ap (λ n. row (state_at h.tree.made (end_of (take n here))) k) (sym there)
 
-  pub here-shows : (t : RowHappening) (x i q : ℕ) (r s : Option Row) → slice_get here i ≡ Some q → r ≡ row (state_at h.tree.made (end_of (take i here))) (key.Object x)
-      → s ≡ row (state_at h.tree.made (end_of (take (i + 1) here))) (key.Object x) → shows t r s ≡ at_moment (happens (happening_of t) x) h.tree.made q
-  here-shows t x i q r s at was is =
-      way-shows h.tree.made falls here stands t x i q r s at was (is ∙ ap (λ n. row (state_at h.tree.made (end_of (take n here))) (key.Object x)) (sym (next i)))
-
-  pub there-shows : (t : RowHappening) (x i q : ℕ) (r s : Option Row) → slice_get way i ≡ Some q → r ≡ row (state_at h.tree.made (end_of (take i way))) (key.Object x)
-      → s ≡ row (state_at h.tree.made (end_of (take (i + 1) way))) (key.Object x) → shows t r s ≡ at_moment (happens (happening_of t) x) h.tree.made q
-  there-shows t x i q r s at was is =
-      way-shows h.tree.made falls way w.asked t x i q r s at was (is ∙ ap (λ n. row (state_at h.tree.made (end_of (take n way))) (key.Object x)) (sym (next i)))
-
   -- ---- one step of a loop
 
   pub back-down : (k : RowKey) (i q : ℕ) (r s : Option Row) → 0 < i → i ≤ length here → q ≡ get_or here (i - 1) q → r ≡ row (state_at h.tree.made (end_of (take i here))) k
@@ -229,37 +173,3 @@ module _ (h : Timeline) (way here : List ℕ) (shared : ℕ) (w : AreWays h way 
   pub forth-up : (k : RowKey) (i q : ℕ) (r s : Option Row) → shared ≤ i → i < length way → q ≡ get_or way i q → r ≡ row (state_at h.tree.made (end_of (take i way))) k
       → s ≡ row_over (recorded_at h.tree.made h.position q) k r → s ≡ row (state_at h.tree.made (end_of (take (i + 1) way))) k
   forth-up k i q r s far inside read was turned = forth-over k i q r s far (slice_get_read way (length way) i q refl inside read) was turned
-
-  pub shows-down : (t : RowHappening) (x i q : ℕ) (r s : Option Row) → 0 < i → i ≤ length here → q ≡ get_or here (i - 1) q → r ≡ row (state_at h.tree.made (end_of (take i here))) (key.Object x)
-      → s ≡ row_over (recorded_at h.tree.made h.position q) (key.Object x) r → at_moment (happens (happening_of t) x) h.tree.made q ≡ shows t s r
-  shows-down t x i q r s some inside read was turned =
-      let up : i ≡ i - 1 + 1 = omega arith in
-      let at : slice_get here (i - 1) ≡ Some q = slice_get_read here (length here) (i - 1) q refl (omega arith) read in
-      sym (here-shows t x (i - 1) q s r at (back-down (key.Object x) i q r s some inside read was turned) (was ∙ ap (λ n. row (state_at h.tree.made (end_of (take n here))) (key.Object x)) up))
-
-  pub shows-up : (t : RowHappening) (x i q : ℕ) (r s : Option Row) → shared ≤ i → i < length way → q ≡ get_or way i q → r ≡ row (state_at h.tree.made (end_of (take i way))) (key.Object x)
-      → s ≡ row_over (recorded_at h.tree.made h.position q) (key.Object x) r → at_moment (happens (happening_of t) x) h.tree.made q ≡ shows t r s
-  shows-up t x i q r s far inside read was turned =
-      let at : slice_get way i ≡ Some q = slice_get_read way (length way) i q refl inside read in
-      sym (there-shows t x i q r s at was (forth-up (key.Object x) i q r s far inside read was turned))
-
--- ---- the last of a list so far, as a loop meets it
-
-module _ (test : ℕ → Bool) (xs : List ℕ) (i q : ℕ) where
-  pub down-here : 0 < i → i ≤ length xs → q ≡ get_or xs (i - 1) q → test q ≡ true → last_or None (filter test (take i xs)) ≡ Some q
-  down-here some inside read passes =
-      let up : i ≡ i - 1 + 1 = omega arith in
-      ap (λ n. last_or None (filter test (take n xs))) up
-      ∙ last-here test xs (i - 1) q (slice_get_read xs (length xs) (i - 1) q refl (omega arith) read) passes
-
-  pub down-before : 0 < i → i ≤ length xs → q ≡ get_or xs (i - 1) q → test q ≡ false → last_or None (filter test (take i xs)) ≡ last_or None (filter test (take (i - 1) xs))
-  down-before some inside read none =
-      let up : i ≡ i - 1 + 1 = omega arith in
-      ap (λ n. last_or None (filter test (take n xs))) up
-      ∙ last-before test xs (i - 1) q (slice_get_read xs (length xs) (i - 1) q refl (omega arith) read) none
-
-  pub up-here : i < length xs → q ≡ get_or xs i q → test q ≡ true → last_or None (filter test (take (i + 1) xs)) ≡ Some q
-  up-here inside read passes = last-here test xs i q (slice_get_read xs (length xs) i q refl inside read) passes
-
-  pub up-before : i < length xs → q ≡ get_or xs i q → test q ≡ false → last_or None (filter test (take (i + 1) xs)) ≡ last_or None (filter test (take i xs))
-  up-before inside read none = last-before test xs i q (slice_get_read xs (length xs) i q refl inside read) none

@@ -4,11 +4,11 @@
 use Rattle.std.specs.Prelude.{◌≡◌, ℕ, Bool, true, not, ◌&&◌, if◌then◌else◌, ⊤, List, [], ◌∷◌, Option, None}
 use Rattle.std.specs.List.{last_or}
 use Rattle.zt_rows.specs.declared.calls.Call.{Call}
-use Rattle.zt_rows.specs.declared.rows.ObjectRow.{ObjectRow}
 use Rattle.zt_rows.specs.State.{State}
 use Rattle.zt_rows.specs.Reads.{object, is_live, on_object, runs}
-use Rattle.zt_rows.specs.Tests.{exists, is_endpoint, has_all}
+use Rattle.zt_rows.specs.Tests.{exists}
 use Rattle.zt_rows.specs.Step.{IsCall, step}
+use Rattle.zt_history.specs.RowHappenings.{is_cut_off}
 use Rattle.zt_queries.specs.Leaks.{is_leaked}
 
 -- ---- tests of one state
@@ -17,10 +17,7 @@ use Rattle.zt_queries.specs.Leaks.{is_leaked}
 abbrev pub lives : State → ℕ → Bool
 lives S x = on_object (λ o. is_live o.life) (object S x)
 
--- an endpoint on which the signal stands that its peer is closed
-abbrev pub is_cut_off : ObjectRow → Bool
-is_cut_off o = is_endpoint o.kind && has_all o.signals.0 0x4
-
+-- it is an endpoint on which the signal stands that its peer is closed
 abbrev pub lacks_peer : State → ℕ → Bool
 lacks_peer S x = on_object is_cut_off (object S x)
 

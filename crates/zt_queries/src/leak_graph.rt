@@ -5,5 +5,6 @@ pub mod first_leak;
 pub(crate) mod graph;
 pub mod leak_list;
 pub(crate) mod moved_graph;
+pub(crate) mod never_leaked;
 pub(crate) mod reachability;
 pub(crate) mod unleaked_signs;

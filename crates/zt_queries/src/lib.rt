@@ -5,6 +5,7 @@ mod frozen;
 mod happening_times;
 pub mod laws;
 mod leak_graph;
+mod path_pair;
 mod shown_rows;
 mod support_list;
 

@@ -10,6 +10,7 @@ use Rattle.zt_history.specs.Timeline.{Point, Timeline}
 use Rattle.zt_history.specs.TreeInvariant.{AreMoments, AreBranches}
 use Rattle.zt_history.specs.ProofsOnly.TreeInvariant.{IsHistory}
 use Rattle.zt_history.specs.ProofsOnly.MomentNodes.{Chronicle}
+use Rattle.zt_history.specs.ProofsOnly.ObjectNotes.{AreNoted, NotedChanges}
 
 -- the tree before the last moment, which a call on this branch made
 abbrev pub uncalled : Tree → ℕ → Tree
@@ -41,3 +42,8 @@ pub record IsKept (store : Stored) (moments : Chronicle) (branches : List Branch
   pub branches_stand : AreBranches (length moments.made) branches
   pub history : IsHistory moments.made position store moments.records
   pub undo : IsUndo last (record { made = moments.made; branches = branches }) position
+
+-- the same, and what is noted of the objects
+pub record IsWhole (store : Stored) (moments : Chronicle) (changes : NotedChanges) (branches : List Branch) (position : ℕ) (last : Undo) : Type 0 where
+  pub kept : IsKept store moments branches position last
+  pub noted : AreNoted moments.made changes

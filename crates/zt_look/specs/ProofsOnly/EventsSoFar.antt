@@ -13,7 +13,8 @@ use Rattle.zt_rows.specs.declared.rows.Row.{Row}
 use Rattle.zt_rows.specs.Reads.{as_object, is_live, object, on_object}
 use Rattle.zt_rows.specs.State.{State, row}
 use Rattle.zt_history.specs.Tree.{Made, parent_at, state_at}
-use Rattle.zt_queries.specs.Happenings.{is_cut_off, leaked}
+use Rattle.zt_history.specs.RowHappenings.{is_cut_off}
+use Rattle.zt_queries.specs.Happenings.{leaked}
 use Rattle.zt_look.specs.declared.event_list.HappeningSet.{HappeningSet}
 use Rattle.zt_look.specs.declared.event_list.ObjectEvent.{ObjectEvent}
 use Rattle.zt_look.specs.declared.event_list.ObjectChange.{ObjectChange}

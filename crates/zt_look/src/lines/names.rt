@@ -7,10 +7,10 @@ use zt_bits::{Kind, Signals};
 use zt_text::put_mask;
 
 /// The mask of a bit, and the bit's name.
-type Name = (u32, &'static str);
+type BitName = (u32, &'static str);
 
 /// The rights, as a handle has them and as they are asked for.
-static RIGHTS: [Name; 12] = [
+static RIGHTS: [BitName; 12] = [
     (0x1, "DUPLICATE"),
     (0x2, "TRANSFER"),
     (0x4, "READ"),
@@ -26,7 +26,7 @@ static RIGHTS: [Name; 12] = [
 ];
 
 /// The signals of an object, where it is not known to be a job or a process.
-static SIGNALS: [Name; 14] = [
+static SIGNALS: [BitName; 14] = [
     (0x1, "READABLE"),
     (0x2, "WRITABLE"),
     (0x4, "PEER_CLOSED"),
@@ -44,7 +44,7 @@ static SIGNALS: [Name; 14] = [
 ];
 
 /// The signals of a job or a process.
-static TASK_SIGNALS: [Name; 14] = [
+static TASK_SIGNALS: [BitName; 14] = [
     (0x1, "READABLE"),
     (0x2, "WRITABLE"),
     (0x4, "PEER_CLOSED"),
@@ -91,14 +91,14 @@ pub(crate) fn put_signals(
 }
 
 /// The rights.
-fn right_names() -> &'static [Name]
+fn right_names() -> &'static [BitName]
     ensures { map (λ e. (e.0, e.1.now)) result.now ≡ right_names }
 {
     &RIGHTS
 }
 
 /// The signals of an object of a kind, if it is known.
-fn signal_names(kind: Option<Kind>) -> &'static [Name]
+fn signal_names(kind: Option<Kind>) -> &'static [BitName]
     ensures { map (λ e. (e.0, e.1.now)) result.now ≡ signal_names kind }
 {
     match kind {
@@ -108,7 +108,7 @@ fn signal_names(kind: Option<Kind>) -> &'static [Name]
 }
 
 /// The bits of a mask by their names with a bar between, and behind them those that have no name.
-fn put_bits(text: &mut String, names: &[Name], bits: u32) -> Result<(), AllocError>
+fn put_bits(text: &mut String, names: &[BitName], bits: u32) -> Result<(), AllocError>
     ensures { OnOk result (string_bytes text.new ≡ string_bytes text.old ++ shown_bits (map (λ e. (e.0, e.1.now)) names.now) bits) }
 {
     if bits == 0 {

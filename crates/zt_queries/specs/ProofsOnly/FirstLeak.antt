@@ -1,13 +1,15 @@
 -- The states along a path, the place from which on an object is leaked, and signs by which a row or a record tells that it
 -- is not. This project's own. Used by proofs only.
 use Rattle.std.specs.Prelude.{◌≡◌, ℕ, ◌≤◌, ◌<◌, ◌+◌, Bool, true, false, ◌==◌, ◌||◌, List, length, take, Option, None, Some}
+use Rattle.zt_bits.specs.declared.kinds.Kind.{Kind}
+use Rattle.zt_bits.specs.declared.kinds.Kind.TheVariants as kind
 use Rattle.zt_rows.specs.declared.keys.RowKey.{RowKey}
 use Rattle.zt_rows.specs.declared.keys.RowKey.TheVariants as key
 use Rattle.zt_rows.specs.declared.rows.Held.{Held}
 use Rattle.zt_rows.specs.declared.rows.ObjectRow.{ObjectRow}
 use Rattle.zt_rows.specs.declared.rows.Row.{Row}
 use Rattle.zt_rows.specs.State.{State, row}
-use Rattle.zt_rows.specs.Reads.{as_object, as_entry, is_live_process}
+use Rattle.zt_rows.specs.Reads.{as_object, as_entry, is_live_process, object, on_object}
 use Rattle.zt_rows.specs.Support.{root_job}
 use Rattle.zt_rows.specs.Tests.{exists}
 use Rattle.zt_history.specs.Tree.{Made, end_of, state_at}
@@ -64,6 +66,22 @@ names_in k None x = false
 abbrev pub has_none : Option (Option Row) → Bool
 has_none (Some None) = true
 has_none _ = false
+
+-- objects of the kind are gone when they end: it is neither a process nor a job
+abbrev pub is_passing_kind : Kind → Bool
+is_passing_kind kind.Job = false
+is_passing_kind kind.Process = false
+is_passing_kind _ = true
+
+-- the record has an object of such a kind
+abbrev pub is_passing_in : Option (Option Row) → Bool
+is_passing_in (Some r) = on_object (λ o. is_passing_kind o.kind) (as_object r)
+is_passing_in None = false
+
+-- there is an object of such a kind that is not leaked
+pub record PassesUnleaked (S : State) (x : ℕ) : Type 0 where
+  pub passing : on_object (λ o. is_passing_kind o.kind) (object S x) ≡ true
+  pub unleaked : is_leaked S x ≡ false
 
 -- the record, if there is one, has rows of this state
 pub record HoldsRowsOf (R : Option (List (RowKey × Option Row))) (S : State) : Type 0 where

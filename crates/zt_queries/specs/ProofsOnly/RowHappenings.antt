@@ -1,37 +1,19 @@
--- What happens to an object as its row tells it; the row on the other side of a call, as the call's record tells it;
+-- What shows in the row of an object, as a happening; the row on the other side of a call, as the call's record tells it;
 -- and two paths with the moments that they share. This project's own. Used by proofs only.
-use Rattle.std.specs.Prelude.{◌≡◌, ℕ, ◌≤◌, Bool, not, ◌&&◌, List, length, take, Option, None, Some, is_some, slice_get}
+use Rattle.std.specs.Prelude.{◌≡◌, ℕ, ◌≤◌, List, length, take, Option, None, Some, slice_get}
 use Rattle.std.specs.Option.{unwrap_or}
 use Rattle.zt_rows.specs.declared.calls.Happening.{Happening}
 use Rattle.zt_rows.specs.declared.calls.Happening.TheVariants as happening
 use Rattle.zt_rows.specs.declared.keys.RowKey.{RowKey}
 use Rattle.zt_rows.specs.declared.rows.Row.{Row}
-use Rattle.zt_rows.specs.Reads.{as_object, is_live, on_object}
 use Rattle.zt_store.specs.RecordLook.{held}
 use Rattle.zt_history.specs.TreeInvariant.{IsTree}
 use Rattle.zt_history.specs.Timeline.{Timeline, IsPath}
 use Rattle.zt_history.specs.Tree.{path}
-use Rattle.zt_queries.specs.declared.happening_times.RowHappening.{RowHappening}
-use Rattle.zt_queries.specs.declared.happening_times.RowHappening.TheVariants as turn
-use Rattle.zt_queries.specs.Happenings.{is_cut_off}
+use Rattle.zt_history.specs.declared.row_happenings.RowHappening.{RowHappening}
+use Rattle.zt_history.specs.declared.row_happenings.RowHappening.TheVariants as turn
 
--- ---- what shows in the row of an object
-
-abbrev pub is_there : Option Row → Bool
-is_there r = is_some (as_object r)
-
-abbrev pub is_living : Option Row → Bool
-is_living r = on_object (λ o. is_live o.life) (as_object r)
-
-abbrev pub is_alone : Option Row → Bool
-is_alone r = on_object is_cut_off (as_object r)
-
--- by the row before and the row after
-abbrev pub shows : RowHappening → Option Row → Option Row → Bool
-shows turn.Made r s = not (is_there r) && is_there s
-shows turn.Ended r s = is_living r && not (is_living s)
-shows turn.PeerClosed r s = not (is_alone r) && is_alone s
-
+-- what a row shows, as a happening
 abbrev pub happening_of : RowHappening → Happening
 happening_of turn.Made = happening.Made
 happening_of turn.Ended = happening.Ended

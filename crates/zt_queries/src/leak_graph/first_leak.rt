@@ -12,12 +12,14 @@ ghost use Rattle.zt_queries.specs.ProofsOnly.RowHappenings.{AreWays};
 ghost use Rattle.zt_queries.specs.ProofsOnly.LeakGraph.{IsGraph};
 ghost use Rattle.zt_queries.specs.ProofsOnly.FirstLeak.{state_after, IsLast, IsFirstLeak};
 
-use crate::happening_times::{PathPair, is_known, ways_to};
+use crate::happening_times::is_known;
 use crate::leak_graph::graph::{Graph, GraphNode, copy_of, node_of};
 use crate::leak_graph::leak_list::{is_leaked, reachability_of};
 use crate::leak_graph::moved_graph::{go_back, go_forth, graph_at};
+use crate::leak_graph::never_leaked::is_never_leaked;
 use crate::leak_graph::reachability::entered;
 use crate::leak_graph::unleaked_signs::{is_unleaked_at, last_there, unleaked_before};
+use crate::path_pair::{PathPair, ways_to};
 use std::alloc::{AllocError, Global};
 use zt_bits::Kind;
 use zt_history::History;
@@ -27,10 +29,11 @@ use zt_rows::{Koid, Moment, ROOT_JOB, Refusal};
 /// at none before it, and from it on no process reaches the object, which is leaked or gone; where none is answered, it is
 /// leaked at none of them.
 ///
-/// Where the object's own row, the store or the records show that it was not leaked when it was there last, it never was,
-/// and this reads no more than `made`. Else it is found in a graph that the records of the path move, without a store: since
-/// what is leaked stays so, half of the moments that are left are passed over by each look at what is reached. It takes
-/// memory for two such graphs.
+/// Where the object went by a call that took away an entry that names it, or is there at the position and shows there that it
+/// is not leaked, it never was, and this reads no more than `ended` and takes no memory. The same is told, behind the lists of
+/// two paths, by what the object's own row or the records show of the moment at which it was there last. Else it is found in a
+/// graph that the records of the path move, without a store: since what is leaked stays so, half of the moments that are left
+/// are passed over by each look at what is reached. It takes memory for two such graphs.
 pub fn leaked_since(
     alloc: Global,
     history: &History,
@@ -42,10 +45,13 @@ pub fn leaked_since(
     ensures tells { IfOk result (TellsWhenLeaked history.now.tree.made at koid) }
     ensures refused { IfErr result (IsRefusedWhen (when_on happening.Leaked history.now.tree.made at koid)) }
 {
-    let ways = ways_to(history, at)?;
-    if !is_known(history, &ways, koid) {
+    if !is_known(history, at, koid) {
         return Err(Refusal::NoObject);
     }
+    if is_never_leaked(history, at, koid) {
+        return Ok(None);
+    }
+    let ways = ways_to(history, at)?;
     match last_leaked(alloc, history, &ways, koid) {
         Ok(found) => Ok(found),
         Err(_) => Err(Refusal::OutOfMemory),

@@ -10,8 +10,8 @@ ghost use Rattle.zt_queries.specs.ProofsOnly.LeakGraph.{IsGraph, held_over, grap
 ghost use Rattle.zt_queries.specs.ProofsOnly.FirstLeak.{state_after};
 ghost use Rattle.zt_queries.specs.ProofsOnly.RowHappenings.{AreWays, row_over};
 
-use crate::happening_times::PathPair;
 use crate::leak_graph::graph::{Graph, graph_of, graph_row_of, place};
+use crate::path_pair::PathPair;
 use std::alloc::{AllocError, Global};
 use zt_history::History;
 use zt_rows::{Moment, RowKey};

@@ -11,7 +11,7 @@ ghost use Rattle.zt_queries.specs.Leaks.{is_leaked};
 ghost use Rattle.zt_queries.specs.ProofsOnly.FirstLeak.{state_after, IsLast, is_sure, names_object, names_in, has_none, HoldsRowsOf};
 ghost use Rattle.zt_queries.specs.ProofsOnly.RowHappenings.{AreWays};
 
-use crate::happening_times::{PathPair, is_there, object_in, row_at_fork, row_over};
+use crate::path_pair::{PathPair, is_there, object_in, row_at_fork, row_over};
 use crate::support_list::is_live_process;
 use zt_history::History;
 use zt_rows::{Koid, Moment, ROOT_JOB, Row, RowKey};
@@ -71,7 +71,7 @@ fn last_shared_there(history: &History, ways: &PathPair, koid: Koid) -> PathPlac
 }
 
 /// Whether the row tells that the object is not there, or keeps itself.
-fn is_sure(row: Option<&Row>, koid: Koid) -> bool
+pub(crate) fn is_sure(row: Option<&Row>, koid: Koid) -> bool
     ensures { result ≡ is_sure (option_copied row.entry) koid }
 {
     match object_in(row) {
@@ -112,7 +112,7 @@ pub(crate) fn unleaked_before(history: &History, ways: &PathPair, koid: Koid, pl
 }
 
 /// Whether the store has an entry that names the object.
-fn is_entered(store: &Store, koid: Koid) -> bool
+pub(crate) fn is_entered(store: &Store, koid: Koid) -> bool
     ensures { result ≡ true → is_leaked store.now.state koid ≡ false }
 {
     let mut next = store.after(Some(RowKey::Object(Koid(u64::MAX))));
@@ -149,7 +149,7 @@ fn shows_unleaked(history: &History, moment: Moment, koid: Koid) -> bool
 }
 
 /// Whether the record has that the object is not there, or an entry that names it.
-fn tells_unleaked(change: &Record, koid: Koid) -> bool
+pub(crate) fn tells_unleaked(change: &Record, koid: Koid) -> bool
     ensures { result ≡ true → (S : State) → HoldsRowsOf (Some change.now) S → is_leaked S koid ≡ false }
 {
     if has_none(change, koid) {

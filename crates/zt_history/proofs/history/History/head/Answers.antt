@@ -6,4 +6,4 @@ use Rattle.zt_history.proofs.history.History.head.Goals as goal
 
 pub returns-clause-within : goal.returns-clause-within
 returns-clause-within c =
-    omega (arith, c.head.ensures, ap (λ (h : Timeline). length h.tree.made) c.self.view_is, head-within (length c.self.inside.moments.made) c.self.inside.branches c.self.invariant.branches_stand.heads c.args.id)
+    omega (arith, c.head.ensures, ap (λ (h : Timeline). length h.tree.made) c.self.view_is, head-within (length c.self.inside.moments.made) c.self.inside.branches c.self.invariant.kept.branches_stand.heads c.args.id)

@@ -1,21 +1,25 @@
--- Found where the object is known at the end of the path, and refused where it is not; what was found tells when the object
--- is leaked.
-use Rattle.std.proofs.Common.{sym, ◌∙◌}
+-- Found where the object is known at the moment, and refused where it is not; what was found tells when the object is leaked.
+use Rattle.std.proofs.Common.{None, sym, ◌∙◌}
 use Rattle.zt_rows.specs.declared.calls.Happening.TheVariants as happening
 use Rattle.zt_queries.proofs.StayLaws.{found-tells}
-use Rattle.zt_queries.proofs.WhenLaws.{when-known, when-unknown}
+use Rattle.zt_queries.proofs.WhenLaws.{last-on, when-known, when-unknown}
 use Rattle.zt_queries.proofs.leak_graph.first_leak.leaked_since.Goals as goal
 
 pub returns-then-not-is_known-clause-refused : goal.returns-then-not-is_known-clause-refused
 returns-then-not-is_known-clause-refused c =
-    when-unknown c.args.history.now.tree.made c.in_ok-ways.ensures.ways.tree.moments.falls c.args.at c.args.koid happening.Leaked c.in_ok-ways.ways.way.items
-    c.in_ok-ways.ensures.way (sym c.is_known.ensures ∙ c.if-not-is_known.true)
+    when-unknown c.args.history.now.tree.made c.args.at c.args.koid happening.Leaked (sym c.is_known.ensures ∙ c.if-not-is_known.true)
 
 pub returns-in-Ok-clause-ok : goal.returns-in-Ok-clause-ok
 returns-in-Ok-clause-ok c =
-    when-known c.args.history.now.tree.made c.in_ok-ways.ensures.ways.tree.moments.falls c.args.at c.args.koid happening.Leaked c.in_ok-ways.ways.way.items
-    c.in_ok-ways.ensures.way c.in-Ok.found (sym c.is_known.ensures ∙ c.if-not-is_known.false) c.in-Ok.ensures
+    when-known c.args.history.now.tree.made c.args.at c.args.koid happening.Leaked c.in-Ok.found (sym c.is_known.ensures ∙ c.if-not-is_known.false)
+    (c.in-Ok.ensures ∙ last-on c.args.history.now.tree.made c.args.at c.args.koid happening.Leaked c.in_ok-ways.ways.way.items c.in_ok-ways.ensures.way)
 
 pub returns-in-Ok-clause-tells : goal.returns-in-Ok-clause-tells
 returns-in-Ok-clause-tells c =
     found-tells c.args.history.now.tree.made c.args.at c.args.koid c.in-Ok.found c.in_ok-ways.ensures.ways.tree.moments c.requires.there (returns-in-Ok-clause-ok c)
+
+pub returns-then-is_never_leaked-clause-tells : goal.returns-then-is_never_leaked-clause-tells
+returns-then-is_never_leaked-clause-tells c =
+    found-tells c.args.history.now.tree.made c.args.at c.args.koid None c.is_never_leaked.ensures.tree.moments c.requires.there
+    (when-known c.args.history.now.tree.made c.args.at c.args.koid happening.Leaked None (sym c.is_known.ensures ∙ c.if-not-is_known.false)
+    (sym (c.is_never_leaked.ensures.never c.if-is_never_leaked.true)))

@@ -7,7 +7,7 @@ use Rattle.zt_rows.specs.State.{row}
 use Rattle.zt_rows.specs.Tests.{exists}
 use Rattle.zt_rows.proofs.RowLaws.{true≢false}
 use Rattle.zt_queries.specs.ProofsOnly.FirstLeak.{state_after, is_sure}
-use Rattle.zt_queries.specs.ProofsOnly.RowHappenings.{is_there}
+use Rattle.zt_history.specs.RowHappenings.{is_there}
 use Rattle.zt_queries.proofs.FirstLeakLaws.{sure-unleaked}
 use Rattle.zt_queries.proofs.WayLaws.{forth-up}
 use Rattle.zt_queries.proofs.leak_graph.unleaked_signs.last_there.Goals as goal

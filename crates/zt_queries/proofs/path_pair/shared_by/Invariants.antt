@@ -1,6 +1,6 @@
 -- So many moments both paths have.
 use Rattle.std.proofs.Common.{length, ◌-◌, ◌≡◌, ◌≤◌, take}
-use Rattle.zt_queries.proofs.happening_times.shared_by.Given as goal
+use Rattle.zt_queries.proofs.path_pair.shared_by.Given as goal
 
 abbrev pub invariant-loop-shared : goal.invariant-loop-shared
 invariant-loop-shared l = record {

@@ -2,7 +2,7 @@
 use Rattle.std.proofs.Common.{arith}
 use Rattle.std.specs.Option.{option_copied}
 use Rattle.zt_queries.proofs.WayLaws.{at-position, at-fork, back-down}
-use Rattle.zt_queries.proofs.happening_times.row_at_fork.Goals as goal
+use Rattle.zt_queries.proofs.path_pair.row_at_fork.Goals as goal
 
 pub loop-i-init : goal.loop-i-init
 loop-i-init c = record {

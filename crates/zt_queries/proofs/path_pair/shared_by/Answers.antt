@@ -3,7 +3,7 @@ use Rattle.std.proofs.Common.{◌≡◌, get_or, refl, sym, ap, ◌∙◌, arith
 use Rattle.std.proofs.lemmas.Bool.{eqb-true}
 use Rattle.std.proofs.lemmas.List.{take_more_same}
 use Rattle.zt_queries.proofs.ForkLaws.{fork-apart, fork-past, fork-whole}
-use Rattle.zt_queries.proofs.happening_times.shared_by.Goals as goal
+use Rattle.zt_queries.proofs.path_pair.shared_by.Goals as goal
 
 pub loop-shared-init : goal.loop-shared-init
 loop-shared-init c = record { in_way = omega arith; in_here = omega arith; same = refl }

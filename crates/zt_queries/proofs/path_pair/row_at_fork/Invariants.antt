@@ -3,7 +3,7 @@ use Rattle.std.proofs.Common.{◌≡◌, ◌≤◌, take}
 use Rattle.std.specs.Option.{option_copied}
 use Rattle.zt_rows.specs.State.{row}
 use Rattle.zt_history.specs.Tree.{end_of, state_at}
-use Rattle.zt_queries.proofs.happening_times.row_at_fork.Given as goal
+use Rattle.zt_queries.proofs.path_pair.row_at_fork.Given as goal
 
 abbrev pub invariant-loop-i : goal.invariant-loop-i
 invariant-loop-i l = record {

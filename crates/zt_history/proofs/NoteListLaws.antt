@@ -1,0 +1,409 @@
+-- Changes as they are listed and chained: one more, one less, the last ones of a moment dropped, and the chain of an object
+-- gone along from its last change.
+use Rattle.std.proofs.Common.{◌≡◌, ℕ, zero, suc, ◌+◌, ◌-◌, ◌≤◌, ◌<◌, Bool, true, false, ◌&&◌, List, [], ◌∷◌, ◌⊎◌, ◌++◌, length, map, set, take, get_or, Option, Some, None, refl, sym, ◌∙◌, ap, subst, inl, inr, arith, append-nil, length-append}
+use Rattle.std.specs.Prelude.{◌==◌, if◌then◌else◌, slice_get}
+use Rattle.std.specs.List.{AllByRecursion}
+use Rattle.std.specs.Option.{option_map}
+use Rattle.std.proofs.lemmas.Bool.{cases_lt, eqb-true, eqb-false, eq-eqb, ne_eqb, true≢false}
+use Rattle.std.proofs.lemmas.List.{append_assoc, flat_map_more, get_or-set_same, get_or-set_other, get_or_past, map-append, take_more}
+use Rattle.std.proofs.lemmas.Option.{get_or_from_slice_get, none-some, same_Some, slice_get-map, slice_get_past, slice_get_read, slice_get_within}
+use Rattle.std.proofs.Math.Seq.{take-length}
+use Rattle.zt_rows.specs.declared.keys.RowKey.{RowKey}
+use Rattle.zt_rows.specs.declared.keys.RowKey.TheVariants as key
+use Rattle.zt_rows.specs.State.{State}
+use Rattle.zt_rows.specs.Tests.{among}
+use Rattle.zt_rows.proofs.ChangeLaws.{Rows}
+use Rattle.zt_history.specs.declared.object_notes.ObjectNote.{ObjectNote}
+use Rattle.zt_history.specs.declared.row_happenings.RowHappening.{RowHappening}
+use Rattle.zt_history.specs.Tree.{Made, path}
+use Rattle.zt_history.specs.TreeInvariant.{Falls}
+use Rattle.zt_history.specs.ProofsOnly.Branches.{without_last}
+use Rattle.zt_history.specs.ProofsOnly.ObjectNotes.{AreChained, AreLinked, AreRising, ChangeNote, Covers, HasNoneFrom, IsCovered, IsCut, IsLastFound, IsSameEnd, end_at, ends_at, is_at, is_found, is_of, last_of, note_as, note_under, notes_in, notes_under, tells}
+use Rattle.zt_history.proofs.GrownLaws.{length-push}
+use Rattle.zt_history.proofs.ListLaws.{get-left, get-last, length-mapped, place}
+use Rattle.zt_history.proofs.PathLaws.{among-early, among-self, path-opening}
+use Rattle.zt_history.proofs.TreeLaws.{last_apart}
+
+-- ---- the last change of an object among the first n
+
+module _ (x : ℕ) (list : List ObjectNote) where
+  pub last_of-early : (n : ℕ) → last_of x list n ≤ n
+  last_of-early zero = omega arith
+  last_of-early (suc n) =
+      let rest = last_of-early n in
+      elim (is_of x (slice_get list n)) as (λ b. (if b then suc n else last_of x list n) ≤ suc n) [
+        | true ↦ omega arith
+        | false ↦ omega (arith, rest)
+      ]
+
+  pub last_of-more : (more : List ObjectNote) (n : ℕ) → n ≤ length list → last_of x (list ++ more) n ≡ last_of x list n
+  last_of-more more zero h = refl
+  last_of-more more (suc n) h =
+      let rest = last_of-more more n (omega (arith, h)) in
+      let here = get-left list more n (omega (arith, h)) in
+      λ j. if is_of x (here j) then suc n else rest j
+
+  -- it is one of the object
+  pub last_of-its : (n i : ℕ) → last_of x list n ≡ suc i → (i < n) × (is_of x (slice_get list i) ≡ true)
+  last_of-its zero i e = absurd (omega (arith, e))
+  last_of-its (suc n) i e = by (is_of x (slice_get list n)) refl e (λ e. last_of-its n i e)
+    where
+      by : (b : Bool) → is_of x (slice_get list n) ≡ b → (if b then suc n else last_of x list n) ≡ suc i → (last_of x list n ≡ suc i → (i < n) × (is_of x (slice_get list i) ≡ true))
+          → (i < suc n) × (is_of x (slice_get list i) ≡ true)
+      by true is e rest = let same : n ≡ i = omega (arith, e) in (omega (arith, same), ap (λ i. is_of x (slice_get list i)) (sym same) ∙ is)
+      by false is e rest = let r = rest e in (omega (arith, r.0), r.1)
+
+  -- and none behind it is
+  pub last_of-last : (n j : ℕ) → last_of x list n ≤ j → j < n → is_of x (slice_get list j) ≡ false
+  last_of-last zero j low high = absurd (omega (arith, high))
+  last_of-last (suc n) j low high = by (is_of x (slice_get list n)) refl low (λ low l. last_of-last n j low l)
+    where
+      by : (b : Bool) → is_of x (slice_get list n) ≡ b → (if b then suc n else last_of x list n) ≤ j → (last_of x list n ≤ j → j < n → is_of x (slice_get list j) ≡ false)
+          → is_of x (slice_get list j) ≡ false
+      by true is low rest = absurd (omega (arith, low, high))
+      by false is low rest = elim (cases_lt j n) [
+        | inl l ↦ rest low l
+        | inr past ↦ let same : j ≡ n = omega (arith, past, high) in ap (λ j. is_of x (slice_get list j)) same ∙ is
+      ]
+
+-- ---- one more, and one less
+
+module _ (list : List ObjectNote) (c : ObjectNote) where
+  end_is : (x : ℕ) → last_of x (list ++ c ∷ []) (suc (length list)) ≡ (if c.koid == x then suc (length list) else last_of x list (length list))
+  end_is x =
+      let here = get-last list c (length list) refl in
+      let rest = last_of-more x list (c ∷ []) (length list) (omega arith) in
+      λ j. if is_of x (here j) then suc (length list) else rest j
+
+  whole : (x : ℕ) → last_of x (list ++ c ∷ []) (length (list ++ c ∷ [])) ≡ (if c.koid == x then suc (length list) else last_of x list (length list))
+  whole x = ap (last_of x (list ++ c ∷ [])) (length-push list c) ∙ end_is x
+
+  pub chained-push : (last : List ℕ) → AreChained list last → c.koid < length last → c.earlier ≡ end_at last c.koid → AreChained (list ++ c ∷ []) (set last c.koid (suc (length list)))
+  chained-push last are within linked = record {
+    earlier = λ i d at. elim (place list c i) [
+      | inl l ↦
+          are.earlier i d (sym (get-left list (c ∷ []) i l) ∙ at)
+          ∙ sym (last_of-more d.koid list (c ∷ []) i (omega (arith, l)))
+      | inr r ↦ elim r [
+        | inl e ↦
+            let same : c ≡ d = same_Some c d (sym (get-last list c i e) ∙ at) in
+            ap (λ (d : ObjectNote). d.earlier) (sym same) ∙ linked ∙ are.ends c.koid
+            ∙ sym (last_of-more c.koid list (c ∷ []) (length list) (omega arith))
+            ∙ (λ j. last_of (same j).koid (list ++ c ∷ []) (sym e j))
+        | inr past ↦ absurd (none-some d (sym (slice_get_past (list ++ c ∷ []) i past) ∙ at))
+      ]
+    ];
+    ends = λ x. by x (c.koid == x) refl;
+  }
+    where
+      by : (x : ℕ) (b : Bool) → (c.koid == x) ≡ b → end_at (set last c.koid (suc (length list))) x ≡ last_of x (list ++ c ∷ []) (length (list ++ c ∷ []))
+      by x true is =
+          let same : c.koid ≡ x = eqb-true c.koid x is in
+          ap (λ x. get_or (set last c.koid (suc (length list))) x 0) (sym same)
+          ∙ get_or-set_same last c.koid (suc (length list)) 0 within
+          ∙ sym (whole x ∙ ap (λ b. if b then suc (length list) else last_of x list (length list)) is)
+      by x false is =
+          let other = eqb-false c.koid x is in
+          get_or-set_other last c.koid x (suc (length list)) 0 (λ e. other (sym e))
+          ∙ are.ends x
+          ∙ sym (whole x ∙ ap (λ b. if b then suc (length list) else last_of x list (length list)) is)
+
+  module _ (last : List ℕ) (are : AreChained (list ++ c ∷ []) last) where
+    end_here : end_at last c.koid ≡ suc (length list)
+    end_here = are.ends c.koid ∙ whole c.koid ∙ ap (λ b. if b then suc (length list) else last_of c.koid list (length list)) (eq-eqb c.koid c.koid refl)
+
+    pub popped-within : c.koid < length last
+    popped-within = elim (cases_lt c.koid (length last)) [
+      | inl l ↦ l
+      | inr past ↦ absurd (omega (arith, end_here, get_or_past last c.koid 0 past))
+    ]
+
+    pub chained-pop : AreChained list (set last c.koid c.earlier)
+    chained-pop = record {
+      earlier = λ i d at.
+          let l : i < length list = slice_get_within list i d at in
+          are.earlier i d (get-left list (c ∷ []) i l ∙ at) ∙ last_of-more d.koid list (c ∷ []) i (omega (arith, l));
+      ends = λ x. by x (c.koid == x) refl;
+    }
+      where
+        by : (x : ℕ) (b : Bool) → (c.koid == x) ≡ b → end_at (set last c.koid c.earlier) x ≡ last_of x list (length list)
+        by x true is =
+            let same : c.koid ≡ x = eqb-true c.koid x is in
+            ap (λ x. get_or (set last c.koid c.earlier) x 0) (sym same)
+            ∙ get_or-set_same last c.koid c.earlier 0 popped-within
+            ∙ are.earlier (length list) c (get-last list c (length list) refl)
+            ∙ last_of-more c.koid list (c ∷ []) (length list) (omega arith)
+            ∙ ap (λ x. last_of x list (length list)) same
+        by x false is =
+            let other = eqb-false c.koid x is in
+            get_or-set_other last c.koid x c.earlier 0 (λ e. other (sym e))
+            ∙ are.ends x ∙ whole x ∙ ap (λ b. if b then suc (length list) else last_of x list (length list)) is
+
+-- as a vector meets them
+
+pub chained-pushed : (list new : List ObjectNote) (c : ObjectNote) (last : List ℕ) (k j n : ℕ) → new ≡ list ++ c ∷ [] → k ≡ c.koid → j ≡ c.koid → n ≡ length new
+    → c.koid < length last → c.earlier ≡ get_or last k c.earlier → AreChained list last → AreChained new (set last j n)
+chained-pushed list new c last k j n pushed here there len within read are =
+    let e : c.earlier ≡ end_at last c.koid =
+    sym (get_or_from_slice_get last c.koid c.earlier 0 (slice_get_read last (length last) c.koid c.earlier refl within (read ∙ ap (λ k. get_or last k c.earlier) here))) in
+    let size : suc (length list) ≡ n = sym (length-push list c) ∙ ap length (sym pushed) ∙ sym len in
+    subst (λ xs. AreChained xs (set last j n)) (sym pushed)
+    (subst (AreChained (list ++ c ∷ [])) (λ i. set last (sym there i) (size i)) (chained-push list c last are within e))
+
+pub chained-popped : (list new : List ObjectNote) (c : ObjectNote) (last : List ℕ) (j e : ℕ) → list ≡ new ++ c ∷ [] → j ≡ c.koid → e ≡ c.earlier → AreChained list last
+    → (j < length last) × AreChained new (set last j e)
+chained-popped list new c last j e apart here linked are =
+    let all : AreChained (new ++ c ∷ []) last = subst (λ xs. AreChained xs last) apart are in (
+      omega (arith, here, popped-within new c last all),
+      subst (AreChained new) (λ i. set last (sym here i) (sym linked i)) (chained-pop new c last all),
+    )
+
+-- ---- the last ones of a moment
+
+all-append : {A : Type 0} (P : A → Type 0) (xs ys : List A) → AllByRecursion P (xs ++ ys) → AllByRecursion P xs
+all-append P [] ys all = tt
+all-append P (x ∷ xs) ys all = (all.0, all-append P xs ys all.1)
+
+ends-next : (m : ℕ) (n k : ChangeNote) (notes : List ChangeNote) → ends_at (n ∷ k ∷ notes) m ≡ ends_at (k ∷ notes) m
+ends-next m n k notes =
+    let e : length (n ∷ k ∷ notes) - 1 ≡ suc (length (k ∷ notes) - 1) = omega arith in
+    ap (λ i. is_at m (slice_get (n ∷ k ∷ notes) i)) e
+
+-- of what is all of one moment, the last is
+ends-all : (m : ℕ) (n : ChangeNote) (notes : List ChangeNote) → AllByRecursion (λ n. n.moment ≡ m) (n ∷ notes) → ends_at (n ∷ notes) m ≡ true
+ends-all m n [] all = eq-eqb n.moment m all.0
+ends-all m n (k ∷ notes) all = ends-next m n k notes ∙ ends-all m k notes all.1
+
+-- what is cut off of a front of other moments and an end of one moment is that end
+pub cut-front : (m : ℕ) (front end new gone : List ChangeNote) → front ++ end ≡ new ++ gone → AllByRecursion (λ n. n.moment ≡ m → ⊥) front → AllByRecursion (λ n. n.moment ≡ m) end
+    → AllByRecursion (λ n. n.moment ≡ m) gone → ends_at new m ≡ false → new ≡ front
+cut-front m [] end [] gone same others ends went left = refl
+cut-front m [] end (n ∷ new) gone same others ends went left =
+    let all = all-append (λ n. n.moment ≡ m) (n ∷ new) gone (subst (AllByRecursion (λ n. n.moment ≡ m)) same ends) in
+    absurd (true≢false (sym (ends-all m n new all) ∙ left))
+cut-front m (f ∷ front) end [] gone same others ends went left =
+    absurd (others.0 ((subst (AllByRecursion (λ n. n.moment ≡ m)) (sym same) went).0))
+cut-front m (f ∷ front) end (n ∷ new) gone same others ends went left =
+    let heads : n ≡ f = ap (λ xs. get_or xs 0 f) (sym same) in
+    let tails : front ++ end ≡ new ++ gone = ap (λ (xs : List ChangeNote). tail xs) same in
+    λ j. heads j ∷ cut-front m front end new gone tails others.1 ends went (left_of new left) j
+  where
+    tail : List ChangeNote → List ChangeNote
+    tail [] = []
+    tail (x ∷ xs) = xs
+
+    left_of : (new : List ChangeNote) → ends_at (n ∷ new) m ≡ false → ends_at new m ≡ false
+    left_of [] e = refl
+    left_of (k ∷ new) e = sym (ends-next m n k new) ∙ e
+
+ends-push : (m : ℕ) (notes : List ChangeNote) (n : ChangeNote) → ends_at (notes ++ n ∷ []) m ≡ (n.moment == m)
+ends-push m notes n =
+    let e : length (notes ++ n ∷ []) - 1 ≡ length notes = omega (arith, length-push notes n) in
+    ap (λ i. is_at m (slice_get (notes ++ n ∷ []) i)) e ∙ ap (is_at m) (get-last notes n (length notes) refl)
+
+pub ends-some : (m : ℕ) (list : List ObjectNote) → ends_at (notes_in list) m ≡ true → 0 < length list
+ends-some m [] e = absurd (true≢false (sym e))
+ends-some m (c ∷ list) e = omega arith
+
+-- so far these changes went, all of one moment
+pub record AreGone (old now : List ChangeNote) (m : ℕ) : Type 0 where
+  pub gone : List ChangeNote
+  pub apart : old ≡ now ++ gone
+  pub each : AllByRecursion (λ n. n.moment ≡ m) gone
+
+pub gone-none : (old : List ChangeNote) (m : ℕ) → AreGone old old m
+gone-none old m = record { gone = []; apart = sym (append-nil old); each = tt }
+
+pub gone-next : (old : List ChangeNote) (list less : List ObjectNote) (m : ℕ) → ends_at (notes_in list) m ≡ true → less ≡ without_last list → AreGone old (notes_in list) m
+    → AreGone old (notes_in less) m
+gone-next old list less m ends fewer is =
+    let apart = last_apart list (ends-some m list ends) in
+    let c : ObjectNote = apart.0 in
+    let whole : notes_in list ≡ notes_in (without_last list) ++ note_as c ∷ [] = ap notes_in apart.1 ∙ map-append note_as (without_last list) (c ∷ []) in
+    let of_m : c.moment ≡ m = eqb-true c.moment m (sym (ends-push m (notes_in (without_last list)) (note_as c)) ∙ sym (ap (λ notes. ends_at notes m) whole) ∙ ends) in
+    record {
+      gone = note_as c ∷ is.gone;
+      apart =
+          is.apart ∙ ap (λ notes. notes ++ is.gone) whole
+          ∙ append_assoc (notes_in (without_last list)) (note_as c ∷ []) is.gone
+          ∙ ap (λ front. notes_in front ++ note_as c ∷ is.gone) (sym fewer);
+      each = (of_m, is.each);
+    }
+
+pub gone-cut : (old now : List ChangeNote) (m : ℕ) → AreGone old now m → ends_at now m ≡ false → IsCut old now m
+gone-cut old now m is ends = record { gone = is.gone; apart = is.apart; each = is.each; ends = ends }
+
+-- ---- places for koids
+
+end-padded : (last : List ℕ) (x : ℕ) → end_at (last ++ 0 ∷ []) x ≡ end_at last x
+end-padded [] zero = refl
+end-padded [] (suc x) = refl
+end-padded (e ∷ last) zero = refl
+end-padded (e ∷ last) (suc x) = end-padded last x
+
+pub same-padded : (old last new : List ℕ) → new ≡ last ++ 0 ∷ [] → IsSameEnd old last → IsSameEnd old new
+same-padded old last new pushed same x = ap (λ xs. end_at xs x) pushed ∙ end-padded last x ∙ same x
+
+pub same-chained : (list : List ObjectNote) (old new : List ℕ) → IsSameEnd old new → AreChained list old → AreChained list new
+same-chained list old new same are = record { earlier = are.earlier; ends = λ x. same x ∙ are.ends x }
+
+covered-more : (n m : ℕ) (k : RowKey) → n ≤ m → IsCovered n k → IsCovered m k
+covered-more n m (key.Object x) h is = omega (arith, h, is)
+covered-more n m key.Counters h is = tt
+covered-more n m (key.Entry p e) h is = tt
+covered-more n m (key.Msg e i) h is = tt
+covered-more n m (key.Packet p i) h is = tt
+covered-more n m (key.Wait i) h is = tt
+
+pub covered-next : (keys : List RowKey) (n old new : ℕ) (q : RowKey) → n < length keys → q ≡ get_or keys n q → old ≤ new → IsCovered new q
+    → ((i : ℕ) (k : RowKey) → i < n → slice_get keys i ≡ Some k → IsCovered old k) → (i : ℕ) (k : RowKey) → i < n + 1 → slice_get keys i ≡ Some k → IsCovered new k
+covered-next keys n old new q within read more here before i k early at = elim (cases_lt i n) [
+  | inl l ↦ covered-more old new k more (before i k l at)
+  | inr h ↦
+      let same : i ≡ n = omega (arith, early, h) in
+      let k_is : q ≡ k = same_Some q k (sym (slice_get_read keys (length keys) n q refl within read) ∙ ap (slice_get keys) (sym same) ∙ at) in
+      subst (IsCovered new) k_is here
+]
+
+pub covered-all : (keys : List RowKey) (n m : ℕ) (last : List ℕ) → length keys ≤ n → m ≡ length last → ((i : ℕ) (k : RowKey) → i < n → slice_get keys i ≡ Some k → IsCovered m k) → Covers last keys
+covered-all keys n m last past size before i k at = subst (λ m. IsCovered m k) size (before i k (omega (arith, past, slice_get_within keys i k at)) at)
+
+pub covered-at : (last : List ℕ) (keys : List RowKey) (n m : ℕ) (k : RowKey) → Covers last keys → m ≡ length last → n < length keys → k ≡ get_or keys n k → IsCovered m k
+covered-at last keys n m k covers size within read = subst (λ m. IsCovered m k) (sym size) (covers n k (slice_get_read keys (length keys) n k refl within read))
+
+-- ---- what a loop over keys notes
+
+pub notes-next : (m : ℕ) (R : Rows) (T : State) (keys : List RowKey) (i : ℕ) (q : RowKey) (start now new : List ChangeNote) → i < length keys → q ≡ get_or keys i q
+    → now ≡ start ++ notes_under m R T (take i keys) → new ≡ now ++ note_under m R T q → new ≡ start ++ notes_under m R T (take (i + 1) keys)
+notes-next m R T keys i q start now new within read now_is new_is =
+    new_is ∙ ap (λ xs. xs ++ note_under m R T q) now_is ∙ flat_map_more (note_under m R T) start (take i keys) q
+    ∙ ap (λ ks. start ++ notes_under m R T ks) (sym (take_more keys i q within ∙ ap (λ k. take i keys ++ k ∷ []) (sym read)))
+
+pub notes-all : (m : ℕ) (R : Rows) (T : State) (keys : List RowKey) (i : ℕ) (start now : List ChangeNote) → i ≡ length keys → now ≡ start ++ notes_under m R T (take i keys)
+    → now ≡ start ++ notes_under m R T keys
+notes-all m R T keys i start now whole is = is ∙ ap (λ ks. start ++ notes_under m R T ks) (ap (λ i. take i keys) whole ∙ take-length keys)
+
+-- ---- gone along the chain of an object
+
+-- from the place before `next` on, of the object x, for a moment on the path to `at`: the changes behind were none that is
+-- looked for, and what stands before them is on that path where it is on the path to `stand`
+pub record IsSearched (list : List ObjectNote) (made : List Made) (what : RowHappening) (x at next stand : ℕ) : Type 0 where
+  pub n : ℕ
+  pub within : n ≤ length list
+  pub next_is : next ≡ last_of x list n
+  pub none : HasNoneFrom (notes_in list) made what x at n
+  pub same : (j : ℕ) (c : ObjectNote) → j < n → slice_get list j ≡ Some c → among (path made stand) c.moment ≡ among (path made at) c.moment
+
+pub searched-start : (list : List ObjectNote) (made : List Made) (what : RowHappening) (x at next : ℕ) → next ≡ last_of x list (length list) → IsSearched list made what x at next at
+searched-start list made what x at next is = record {
+  n = length list;
+  within = omega arith;
+  next_is = is;
+  none = λ j n past there. absurd (none-some n (sym (slice_get_past (notes_in list) j (omega (arith, past, length-mapped note_as list))) ∙ there));
+  same = λ j c early there. refl;
+}
+
+-- nothing is left, so there is none
+pub searched-none : (list : List ObjectNote) (made : List Made) (what : RowHappening) (x at stand : ℕ) → IsSearched list made what x at 0 stand → HasNoneFrom (notes_in list) made what x at 0
+searched-none list made what x at stand is = λ j n low there. elim (cases_lt j is.n) [
+  | inl l ↦
+      let c = noted_there j n there in
+      let other : is_of x (slice_get list j) ≡ false = last_of-last x list is.n j (omega (arith, is.next_is)) l in
+      ap (λ n. is_found made what x at n) (sym c.2) ∙ ap (λ b. b && (tells what (note_as c.0) && among (path made at) c.0.moment)) (sym (ap (is_of x) c.1) ∙ other)
+  | inr past ↦ is.none j n past there
+]
+  where
+    noted_there : (j : ℕ) (n : ChangeNote) → slice_get (notes_in list) j ≡ Some n → (c : ObjectNote) × (slice_get list j ≡ Some c) × (note_as c ≡ n)
+    noted_there j n there = by (slice_get list j) refl
+      where
+        by : (o : Option ObjectNote) → slice_get list j ≡ o → (c : ObjectNote) × (slice_get list j ≡ Some c) × (note_as c ≡ n)
+        by None e = absurd (none-some n (sym (slice_get-map note_as list j ∙ ap (option_map note_as) e) ∙ there))
+        by (Some c) e = (c, e, same_Some (note_as c) n (sym (slice_get-map note_as list j ∙ ap (option_map note_as) e) ∙ there))
+
+-- ---- one step along it
+
+module _ (list : List ObjectNote) (made : List Made) (falls : Falls made) (what : RowHappening) (x at next stand : ℕ)
+    (linked : AreLinked list) (rising : AreRising (notes_in list)) (is : IsSearched list made what x at next stand)
+    (i : ℕ) (c : ObjectNote) (place_is : next ≡ suc i) (there : slice_get list i ≡ Some c) (nearer : ℕ) (early : nearer ≤ c.moment)
+    (near : (m : ℕ) → m ≤ c.moment → among (path made nearer) m ≡ among (path made stand) m) where
+  its : (i < is.n) × (is_of x (slice_get list i) ≡ true)
+  its = last_of-its x list is.n i (sym is.next_is ∙ place_is)
+
+  its_koid : (c.koid == x) ≡ true
+  its_koid = sym (ap (is_of x) there) ∙ its.1
+
+  noted : slice_get (notes_in list) i ≡ Some (note_as c)
+  noted = slice_get-map note_as list i ∙ ap (option_map note_as) there
+
+  -- it is on the path where the search stands at it
+  on_path : among (path made at) c.moment ≡ (nearer == c.moment)
+  on_path = sym (near c.moment (omega arith) ∙ is.same i c its.0 there) ∙ stands nearer refl (cases_lt nearer c.moment)
+    where
+      stands : (m : ℕ) → nearer ≡ m → (nearer < c.moment) ⊎ (c.moment ≤ nearer) → among (path made nearer) c.moment ≡ (nearer == c.moment)
+      stands m e (inl l) = off (among (path made nearer) c.moment) refl ∙ sym (ne_eqb nearer c.moment (λ e. omega (arith, e, l)))
+        where
+          off : (b : Bool) → among (path made nearer) c.moment ≡ b → among (path made nearer) c.moment ≡ false
+          off true on = absurd (omega (arith, among-early made falls nearer c.moment on, l))
+          off false on = on
+      stands zero e (inr g) = absurd (omega (arith, e, g, rising.some i (note_as c) noted))
+      stands (suc k) e (inr g) =
+          let same : c.moment ≡ suc k = omega (arith, e, g, early) in
+          (λ j. among (path made (e j)) (same j)) ∙ among-self made falls k ∙ sym (eq-eqb nearer c.moment (e ∙ sym same))
+
+  found_is : is_found made what x at (note_as c) ≡ ((nearer == c.moment) && tells what (note_as c))
+  found_is = ap (λ b. b && (tells what (note_as c) && among (path made at) c.moment)) its_koid ∙ ap (λ b. tells what (note_as c) && b) on_path ∙ turned (tells what (note_as c)) (nearer == c.moment)
+    where
+      turned : (a b : Bool) → (a && b) ≡ (b && a)
+      turned true true = refl
+      turned true false = refl
+      turned false true = refl
+      turned false false = refl
+
+  behind : HasNoneFrom (notes_in list) made what x at (suc i)
+  behind j n low at_j = elim (cases_lt j is.n) [
+    | inl l ↦ other l (slice_get list j) refl
+    | inr past ↦ is.none j n past at_j
+  ]
+    where
+      other : j < is.n → (o : Option ObjectNote) → slice_get list j ≡ o → is_found made what x at n ≡ false
+      other l None e = absurd (none-some n (sym (slice_get-map note_as list j ∙ ap (option_map note_as) e) ∙ at_j))
+      other l (Some d) e =
+          let same : note_as d ≡ n = same_Some (note_as d) n (sym (slice_get-map note_as list j ∙ ap (option_map note_as) e) ∙ at_j) in
+          let no : is_of x (slice_get list j) ≡ false = last_of-last x list is.n j (omega (arith, is.next_is, place_is, low)) l in
+          ap (λ n. is_found made what x at n) (sym same)
+          ∙ ap (λ b. b && (tells what (note_as d) && among (path made at) d.moment)) (sym (ap (is_of x) e) ∙ no)
+
+  pub searched-found : ((nearer == c.moment) && tells what (note_as c)) ≡ true → IsLastFound (notes_in list) made what x at nearer
+  searched-found both = record {
+    place = i;
+    note = note_as c;
+    there = noted;
+    at_moment = sym (eqb-true nearer c.moment (left_true (nearer == c.moment) (tells what (note_as c)) both));
+    found = found_is ∙ both;
+    last = behind;
+  }
+    where
+      left_true : (a b : Bool) → (a && b) ≡ true → a ≡ true
+      left_true true b e = refl
+      left_true false b e = e
+
+  pub searched-next : ((nearer == c.moment) && tells what (note_as c)) ≡ false → IsSearched list made what x at c.earlier nearer
+  searched-next not_both = record {
+    n = i;
+    within = omega (arith, its.0, is.within);
+    next_is = linked i c there ∙ ap (λ x. last_of x list i) (eqb-true c.koid x its_koid);
+    none = λ j n low at_j. elim (cases_lt i j) [
+      | inl l ↦ behind j n l at_j
+      | inr h ↦
+          let same : j ≡ i = omega (arith, low, h) in
+          let k : note_as c ≡ n = same_Some (note_as c) n (sym noted ∙ ap (slice_get (notes_in list)) (sym same) ∙ at_j) in
+          ap (λ n. is_found made what x at n) (sym k) ∙ found_is ∙ not_both
+    ];
+    same = λ j d l at_j.
+        let at_note : slice_get (notes_in list) j ≡ Some (note_as d) = slice_get-map note_as list j ∙ ap (option_map note_as) at_j in
+        let low : d.moment ≤ c.moment = rising.later j i (note_as d) (note_as c) (omega (arith, l)) at_note noted in
+        near d.moment low ∙ is.same j d (omega (arith, l, its.0)) at_j;
+  }
+
+  pub searched-less : c.earlier < next
+  searched-less = omega (arith, linked i c there, last_of-early c.koid list i, place_is)

@@ -1,0 +1,65 @@
+-- Each change of the object is looked at once, the last first.
+use Rattle.std.proofs.Common.{◌≡◌, ◌-◌, ◌<◌, ◌&&◌, false, suc, length, refl, sym, ap, subst, ◌∙◌, arith}
+use Rattle.std.specs.Prelude.{slice_get, ◌==◌, Some}
+use Rattle.std.proofs.lemmas.Option.{slice_get_read}
+use Rattle.zt_history.specs.ProofsOnly.ObjectNotes.{note_as, notes_in, tells}
+use Rattle.zt_history.proofs.NoteListLaws.{IsSearched, last_of-early, searched-found, searched-less, searched-next, searched-none, searched-start}
+use Rattle.zt_history.proofs.object_notes.found.Goals as goal
+use Rattle.zt_history.proofs.object_notes.found.Goals.{else-eq-via-then-eq+else-tells, else-eq-via-else-eq}
+
+pub loop-next-init : goal.loop-next-init
+loop-next-init c = searched-start c.args.list.now.items c.args.moments.now.made c.args.what c.args.koid c.args.at c.args.end c.requires.end
+
+pub index-change-requires : goal.index-change-requires
+index-change-requires c =
+    omega (
+      arith,
+      c.loop-next-test.true,
+      c.loop-next.invariant.next_is,
+      c.loop-next.invariant.within,
+      last_of-early c.args.koid c.args.list.now.items c.loop-next.invariant.n,
+      c.args.list.now.ok,
+    )
+
+pub returns-then-tells : goal.returns-then-tells
+returns-then-tells c =
+    let within : c.loop-next.next - 1 < length c.args.list.now.items =
+    omega (arith, c.loop-next-test.true, c.loop-next.invariant.next_is, c.loop-next.invariant.within, last_of-early c.args.koid c.args.list.now.items c.loop-next.invariant.n) in
+    let place : c.loop-next.next ≡ suc (c.loop-next.next - 1) = omega (arith, c.loop-next-test.true) in
+    let there : slice_get c.args.list.now.items (c.loop-next.next - 1) ≡ Some c.index-change.result.now =
+    slice_get_read c.args.list.now.items (length c.args.list.now.items) (c.loop-next.next - 1) c.index-change.result.now refl within c.index-change.ensures in
+    searched-found c.args.list.now.items c.args.moments.now.made c.limits.ensures.falls c.args.what c.args.koid c.args.at c.loop-next.next c.loop-next.stand c.requires.linked c.requires.rising
+    c.loop-next.invariant (c.loop-next.next - 1) c.index-change.result.now place there c.no_later-stand.result c.no_later-stand.ensures.early c.no_later-stand.ensures.same
+    (λ i. (sym c.eq.ensures ∙ c.if-eq.true) i && (sym c.tells.ensures ∙ c.if-tells.true) i)
+
+pub loop-next-preserved : goal.loop-next-preserved
+loop-next-preserved c =
+    let within : c.loop-next.next - 1 < length c.args.list.now.items =
+    omega (arith, c.loop-next-test.true, c.loop-next.invariant.next_is, c.loop-next.invariant.within, last_of-early c.args.koid c.args.list.now.items c.loop-next.invariant.n) in
+    let place : c.loop-next.next ≡ suc (c.loop-next.next - 1) = omega (arith, c.loop-next-test.true) in
+    let there : slice_get c.args.list.now.items (c.loop-next.next - 1) ≡ Some c.index-change.result.now =
+    slice_get_read c.args.list.now.items (length c.args.list.now.items) (c.loop-next.next - 1) c.index-change.result.now refl within c.index-change.ensures in
+    let passed : ((c.no_later-stand.result == c.index-change.result.now.moment) && tells c.args.what (note_as c.index-change.result.now)) ≡ false =
+    elim c.else-eq.branch [
+      | else-eq-via-then-eq+else-tells w ↦ (λ i. (sym c.eq.ensures ∙ w.if-eq.true) i && (sym w.tells.ensures ∙ w.if-tells.false) i)
+      | else-eq-via-else-eq w ↦ ap (λ b. b && tells c.args.what (note_as c.index-change.result.now)) (sym c.eq.ensures ∙ w.if-eq.false)
+    ] in
+    searched-next c.args.list.now.items c.args.moments.now.made c.limits.ensures.falls c.args.what c.args.koid c.args.at c.loop-next.next c.loop-next.stand c.requires.linked c.requires.rising
+    c.loop-next.invariant (c.loop-next.next - 1) c.index-change.result.now place there c.no_later-stand.result c.no_later-stand.ensures.early c.no_later-stand.ensures.same
+    passed
+
+pub loop-next-smaller : goal.loop-next-smaller
+loop-next-smaller c =
+    let within : c.loop-next.next - 1 < length c.args.list.now.items =
+    omega (arith, c.loop-next-test.true, c.loop-next.invariant.next_is, c.loop-next.invariant.within, last_of-early c.args.koid c.args.list.now.items c.loop-next.invariant.n) in
+    let place : c.loop-next.next ≡ suc (c.loop-next.next - 1) = omega (arith, c.loop-next-test.true) in
+    let there : slice_get c.args.list.now.items (c.loop-next.next - 1) ≡ Some c.index-change.result.now =
+    slice_get_read c.args.list.now.items (length c.args.list.now.items) (c.loop-next.next - 1) c.index-change.result.now refl within c.index-change.ensures in
+    searched-less c.args.list.now.items c.args.moments.now.made c.limits.ensures.falls c.args.what c.args.koid c.args.at c.loop-next.next c.loop-next.stand c.requires.linked c.requires.rising
+    c.loop-next.invariant (c.loop-next.next - 1) c.index-change.result.now place there c.no_later-stand.result c.no_later-stand.ensures.early c.no_later-stand.ensures.same
+
+pub returns : goal.returns
+returns c =
+    let none : c.loop-next.next ≡ 0 = omega (arith, c.loop-next-test.false) in
+    searched-none c.args.list.now.items c.args.moments.now.made c.args.what c.args.koid c.args.at c.loop-next.stand
+    (subst (λ n. IsSearched c.args.list.now.items c.args.moments.now.made c.args.what c.args.koid c.args.at n c.loop-next.stand) none c.loop-next.invariant)

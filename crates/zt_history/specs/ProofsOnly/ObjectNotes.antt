@@ -1,0 +1,169 @@
+-- What is noted of the objects beside the moments: what each call did to them, chained for each object, and the next koid.
+-- Used by proofs only.
+use Rattle.std.specs.Prelude.{◌≡◌, ℕ, zero, suc, ◌==◌, ◌-◌, ◌≤◌, ◌<◌, Bool, true, false, ◌&&◌, ◌||◌, if◌then◌else◌, ⊤, List, [], ◌∷◌, ◌++◌, length, map, Option, None, Some, slice_get, slice_index_or}
+use Rattle.std.specs.List.{AllByRecursion, flat_map}
+use Rattle.zt_rows.specs.declared.keys.RowKey.{RowKey}
+use Rattle.zt_rows.specs.declared.keys.RowKey.TheVariants as key
+use Rattle.zt_rows.specs.declared.rows.Row.{Row}
+use Rattle.zt_rows.specs.Change.{before}
+use Rattle.zt_rows.specs.Handles.{next_koid}
+use Rattle.zt_rows.specs.State.{State, row}
+use Rattle.zt_rows.specs.Tests.{among}
+use Rattle.zt_store.specs.RecordLook.{held}
+use Rattle.zt_history.specs.declared.object_notes.ObjectNote.{ObjectNote}
+use Rattle.zt_history.specs.declared.row_happenings.RowHappening.{RowHappening}
+use Rattle.zt_history.specs.declared.row_happenings.RowHappening.TheVariants as happening
+use Rattle.zt_history.specs.RowHappenings.{shows}
+use Rattle.zt_history.specs.Tree.{Made, parent_at, path, state_at}
+
+-- what a moment's call did to an object
+pub record ChangeNote : Type 0 where
+  pub moment : ℕ
+  pub koid : ℕ
+  pub made : Bool
+  pub ended : Bool
+  pub peer_closed : Bool
+
+pub record NotedChanges : Type 0 where
+  pub notes : List ChangeNote
+  pub next_koids : List ℕ
+
+abbrev pub note_as : ObjectNote → ChangeNote
+note_as c = record { moment = c.moment; koid = c.koid; made = c.made; ended = c.ended; peer_closed = c.peer_closed }
+
+abbrev pub notes_in : List ObjectNote → List ChangeNote
+notes_in list = map note_as list
+
+abbrev pub tells : RowHappening → ChangeNote → Bool
+tells happening.Made n = n.made
+tells happening.Ended n = n.ended
+tells happening.PeerClosed n = n.peer_closed
+
+-- ---- what is noted of a moment
+
+-- of an object, by its row before the call and after it; nothing where nothing shows
+abbrev pub note_of : ℕ → ℕ → Option Row → Option Row → List ChangeNote
+note_of m x r s =
+    if shows happening.Made r s || (shows happening.Ended r s || shows happening.PeerClosed r s)
+    then record {
+      moment = m;
+      koid = x;
+      made = shows happening.Made r s;
+      ended = shows happening.Ended r s;
+      peer_closed = shows happening.PeerClosed r s;
+    } ∷ []
+    else []
+
+-- the same where a record has the row before it
+abbrev pub note_over : ℕ → ℕ → Option (Option Row) → Option Row → List ChangeNote
+note_over m x None s = []
+note_over m x (Some r) s = note_of m x r s
+
+-- of what stands under a key of the record R of the call, which led to T
+abbrev pub note_under : ℕ → List (RowKey × Option Row) → State → RowKey → List ChangeNote
+note_under m R T (key.Object x) = note_over m x (held R (key.Object x)) (row T (key.Object x))
+note_under m R T _ = []
+
+abbrev pub notes_under : ℕ → List (RowKey × Option Row) → State → List RowKey → List ChangeNote
+notes_under m R T keys = flat_map (note_under m R T) keys
+
+abbrev pub notes_of : ℕ → List (RowKey × Option Row) → State → List ChangeNote
+notes_of m R T = notes_under m R T (map (λ e. e.0) R)
+
+abbrev pub noted : NotedChanges → ℕ → List (RowKey × Option Row) → State → NotedChanges
+noted c m R T = record { notes = c.notes ++ notes_of m R T; next_koids = c.next_koids ++ next_koid T ∷ [] }
+
+-- ---- what is noted of all moments
+
+abbrev pub notes_at : List Made → ℕ → List ChangeNote
+notes_at made m = notes_of m (before (state_at made (parent_at made m)) (state_at made m)) (state_at made m)
+
+-- up to so many
+abbrev pub notes_to : List Made → ℕ → List ChangeNote
+notes_to made zero = []
+notes_to made (suc i) = notes_to made i ++ notes_at made (suc i)
+
+abbrev pub next_koids_to : List Made → ℕ → List ℕ
+next_koids_to made zero = next_koid (state_at made 0) ∷ []
+next_koids_to made (suc i) = next_koids_to made i ++ next_koid (state_at made (suc i)) ∷ []
+
+pub record AreNoted (made : List Made) (c : NotedChanges) : Type 0 where
+  pub notes : c.notes ≡ notes_to made (length made)
+  pub next_koids : c.next_koids ≡ next_koids_to made (length made)
+
+-- ---- the chains of the objects
+
+abbrev pub is_of : ℕ → Option ObjectNote → Bool
+is_of x None = false
+is_of x (Some c) = c.koid == x
+
+-- the place behind that of the last change of the object among the first n, 0 where there is none
+abbrev pub last_of : ℕ → List ObjectNote → ℕ → ℕ
+last_of x list zero = 0
+last_of x list (suc n) = if is_of x (slice_get list n) then suc n else last_of x list n
+
+abbrev pub end_at : List ℕ → ℕ → ℕ
+end_at last x = slice_index_or last x 0
+
+-- each change has the place behind that of the object's earlier one
+abbrev pub AreLinked : List ObjectNote → Type 0
+AreLinked list = (i : ℕ) (c : ObjectNote) → slice_get list i ≡ Some c → c.earlier ≡ last_of c.koid list i
+
+pub record AreChained (list : List ObjectNote) (last : List ℕ) : Type 0 where
+  pub earlier : AreLinked list
+  pub ends : (x : ℕ) → end_at last x ≡ last_of x list (length list)
+
+abbrev pub IsSameEnd : List ℕ → List ℕ → Type 0
+IsSameEnd old new = (x : ℕ) → end_at new x ≡ end_at old x
+
+-- there is a place for the koid of the key
+abbrev pub IsCovered : ℕ → RowKey → Type 0
+IsCovered n (key.Object x) = x < n
+IsCovered n _ = ⊤
+
+abbrev pub Covers : List ℕ → List RowKey → Type 0
+Covers last keys = (i : ℕ) (k : RowKey) → slice_get keys i ≡ Some k → IsCovered (length last) k
+
+-- ---- changes that are dropped
+
+abbrev pub is_at : ℕ → Option ChangeNote → Bool
+is_at m None = false
+is_at m (Some n) = n.moment == m
+
+abbrev pub ends_at : List ChangeNote → ℕ → Bool
+ends_at notes m = is_at m (slice_get notes (length notes - 1))
+
+-- new is old without its last ones, all of one moment, of which none is left at the end
+pub record IsCut (old new : List ChangeNote) (m : ℕ) : Type 0 where
+  pub gone : List ChangeNote
+  pub apart : old ≡ new ++ gone
+  pub each : AllByRecursion (λ n. n.moment ≡ m) gone
+  pub ends : ends_at new m ≡ false
+
+-- ---- changes that are looked for
+
+-- later ones stand behind earlier ones, and none is the opening's
+pub record AreRising (notes : List ChangeNote) : Type 0 where
+  pub some : (i : ℕ) (n : ChangeNote) → slice_get notes i ≡ Some n → 0 < n.moment
+  pub later : (i j : ℕ) (n k : ChangeNote) → i ≤ j → slice_get notes i ≡ Some n → slice_get notes j ≡ Some k → n.moment ≤ k.moment
+
+-- it is noted of the object at a moment on the path to `at`
+abbrev pub is_found : List Made → RowHappening → ℕ → ℕ → ChangeNote → Bool
+is_found made what x at n = (n.koid == x) && (tells what n && among (path made at) n.moment)
+
+-- of the changes from the i-th on, none is it
+abbrev pub HasNoneFrom : List ChangeNote → List Made → RowHappening → ℕ → ℕ → ℕ → Type 0
+HasNoneFrom notes made what x at i = (j : ℕ) (n : ChangeNote) → i ≤ j → slice_get notes j ≡ Some n → is_found made what x at n ≡ false
+
+-- the i-th is it, at this moment, and none behind it
+pub record IsLastFound (notes : List ChangeNote) (made : List Made) (what : RowHappening) (x at moment : ℕ) : Type 0 where
+  pub place : ℕ
+  pub note : ChangeNote
+  pub there : slice_get notes place ≡ Some note
+  pub at_moment : note.moment ≡ moment
+  pub found : is_found made what x at note ≡ true
+  pub last : HasNoneFrom notes made what x at (suc place)
+
+abbrev pub TellsLast : List ChangeNote → List Made → RowHappening → ℕ → ℕ → Option ℕ → Type 0
+TellsLast notes made what x at (Some moment) = IsLastFound notes made what x at moment
+TellsLast notes made what x at None = HasNoneFrom notes made what x at 0
