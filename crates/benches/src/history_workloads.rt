@@ -70,7 +70,7 @@ fn time_of_calls(
     time_since(rt, start, count)
 }
 
-/// The time in which what is leaked among so many objects is told.
+/// The time of one of so many objects, where it is told what is leaked among all of them.
 fn time_of_leaks(
     rt: &impl Clock,
     alloc: Global,
@@ -84,7 +84,7 @@ fn time_of_leaks(
     if !asks_leaks(alloc, history) {
         return None;
     }
-    time_since(rt, start, 1)
+    time_since(rt, start, count)
 }
 
 /// The time of one call that changes an event beside another at which so many waits are.

@@ -9,7 +9,7 @@ ghost use Rattle.zt_book.specs.Log.{IsBegun, IsCounted, IsWholeLog, standing_of,
 use crate::client::Client;
 use crate::clients::Clients;
 use crate::load_progress::{LoadProgress, Untold};
-use crate::loaded_clients::session_of;
+use crate::loaded_clients::{session_of, session_of_all};
 use crate::loaded_history::history_of;
 use crate::log::Log;
 use crate::tree_look::TreeLook;
@@ -126,6 +126,35 @@ impl Book {
         let branches = saved.branches.as_slice();
         let cursors = saved.cursors.as_slice();
         match session_of(alloc, clients, moments, branches, cursors, told) {
+            Ok(all_clients) => Ok(begin(alloc, all_clients)),
+            Err(fault) => Err(fault),
+        }
+    }
+
+    /// As `load_saved_told`, of a tree that is not needed any more: its moments are let go one by one as they are loaded, so that
+    /// it and the book are never there both as a whole.
+    pub fn load_all_told<P: LoadProgress>(
+        alloc: Global,
+        clients: u8,
+        saved: Saved,
+        told: &P,
+    ) -> Result<Book, (u64, Refusal)>
+        ensures ok { IfOk result (λ book. loaded_saved clients saved ≡ Ok book.session) }
+        ensures first { IfOk result (λ book. book ≡ book_at book.session) }
+        ensures clients { IfOk result (λ book. length book.session.clients ≡ clients) }
+        ensures few { OnOk result (clients ≤ 4) }
+        ensures refused { IfErr result (IsUnloaded clients (loaded_saved clients saved)) }
+    {
+        if clients > CLIENTS {
+            return Err((0, Refusal::TooManyClients));
+        }
+        let Saved {
+            moments,
+            branches,
+            cursors,
+        } = saved;
+        let (branches, cursors) = (branches.as_slice(), cursors.as_slice());
+        match session_of_all(alloc, clients, moments.into_vec(), branches, cursors, told) {
             Ok(all_clients) => Ok(begin(alloc, all_clients)),
             Err(fault) => Err(fault),
         }

@@ -8,7 +8,7 @@ use crate::client::{Client, Cursor};
 use crate::clients::Clients;
 use crate::load_progress::LoadProgress;
 use crate::loaded_history::{MAIN, fault};
-use crate::loaded_tree::tree_of;
+use crate::loaded_tree::{tree_of, tree_of_all};
 use std::alloc::{AllocError, Global};
 use zt_history::History;
 use zt_rows::{Cursor as SavedCursor, Refusal, SavedBranch, SavedCall};
@@ -28,6 +28,24 @@ pub(crate) fn session_of<P: LoadProgress>(
 {
     let history = tree_of(alloc, moments, branches, told)?;
     let number = moments.len() as u64 + branches.len() as u64;
+    seat(alloc, clients, number, history, cursors)
+}
+
+/// The same of moments that are not needed any more, whose memory is given back as they are made.
+pub(crate) fn session_of_all<P: LoadProgress>(
+    alloc: Global,
+    clients: u8,
+    moments: Vec<SavedCall>,
+    branches: &[SavedBranch],
+    cursors: &[SavedCursor],
+    told: &P,
+) -> Result<Clients, (u64, Refusal)>
+    requires { clients ≤ 4 }
+    ensures ok { IfOk result (λ all_clients. loaded_saved clients (record { moments = moments.items; branches = branches.now; cursors = cursors.now }) ≡ Ok all_clients.session) }
+    ensures refused { IfErr result (IsUnloadedBy false (loaded_saved clients (record { moments = moments.items; branches = branches.now; cursors = cursors.now }))) }
+{
+    let number = moments.len() as u64 + branches.len() as u64;
+    let history = tree_of_all(alloc, moments, branches, told)?;
     seat(alloc, clients, number, history, cursors)
 }
 

@@ -28,6 +28,60 @@ pub(crate) fn tree_of<P: LoadProgress>(
     Ok(history)
 }
 
+/// The same of moments that are not needed any more: as one is made, it is let go, and of its list what is no more used.
+pub(crate) fn tree_of_all<P: LoadProgress>(
+    alloc: Global,
+    moments: Vec<SavedCall>,
+    branches: &[SavedBranch],
+    told: &P,
+) -> Result<History, (u64, Refusal)>
+    ensures ok { IfOk result (λ history. loaded_tree (record { moments = moments.items; branches = branches.now; cursors = [] }) ≡ Ok history.tree) }
+    ensures refused { IfErr result (IsUnloadedBy false (loaded_tree (record { moments = moments.items; branches = branches.now; cursors = [] }))) }
+{
+    let Ok(mut history) = History::new(alloc) else {
+        return Err((0, Refusal::OutOfMemory));
+    };
+    let number = moments.len() as u64;
+    put_all_moments(&mut history, moments, told)?;
+    put_branches(&mut history, number, branches)?;
+    Ok(history)
+}
+
+/// Makes each of these moments in turn, lets it go, and tells so.
+fn put_all_moments<P: LoadProgress>(
+    history: &mut History,
+    moments: Vec<SavedCall>,
+    told: &P,
+) -> Result<(), (u64, Refusal)>
+    ensures ok { OnOk result (in_turn with_moment 0 history.old.tree moments.items ≡ Ok history.new.tree) }
+    ensures refused { IfErr result (IsUnloadedBy false (in_turn with_moment 0 history.old.tree moments.items)) }
+{
+    let count = moments.len();
+    let mut left = moments;
+    // The next one is the last, so that it is taken out alone.
+    left.as_mut_slice().reverse();
+    for place in 0..count {
+        let Some(saved) = left.pop() else {
+            return Ok(());
+        };
+        give_back(&mut left);
+        match put_moment(history, &saved) {
+            Ok(()) => told.loaded(place + 1, count),
+            Err(reason) => return Err(fault(place as u64, reason)),
+        }
+    }
+    Ok(())
+}
+
+/// Gives back the memory of a list of which no more than half is used.
+fn give_back(list: &mut Vec<SavedCall>)
+    ensures { list.new.items ≡ list.old.items }
+{
+    if list.len() <= list.capacity() / 2 {
+        list.shrink_to_fit();
+    }
+}
+
 /// Makes each of these moments in turn, and tells so.
 fn put_moments<P: LoadProgress>(
     history: &mut History,

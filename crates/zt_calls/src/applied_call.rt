@@ -71,11 +71,11 @@ pub fn apply(
     }
 }
 
-/// Puts the store in the place of what stands there.
+/// Puts the store in the place of a hollow one, which has no memory to be given back.
 fn put_in_place(place: &mut Store, store: Store)
     ensures { place.new ≡ store }
 {
-    *place = store;
+    mem::forget(mem::replace(place, store));
 }
 
 /// The call itself, then the removal of what nothing supports, the derived signals and the firing of waits.

@@ -1,7 +1,7 @@
 -- Derived signals follow from rows near their object: where a step that began consistent put nothing near an object,
 -- its signals agree with the rows still, and so it is enough to write those of what is near.
 use Rattle.std.proofs.Common.{◌≡◌, ℕ, ◌-◌, Bool, true, false, not, List, [], ◌∷◌, ◌⊎◌, inl, inr, refl, sym, ap, ◌∙◌, subst}
-use Rattle.std.specs.Prelude.{Option, None, Some, option_and_then, ◌==◌, bit_and, bit_or}
+use Rattle.std.specs.Prelude.{Option, None, Some, option_and_then, ◌==◌, bit_and, bit_or, if◌then◌else◌}
 use Rattle.std.specs.List.{flat_map, fold}
 use Rattle.std.specs.Int.Bits.{and_self}
 use Rattle.std.proofs.lemmas.Nat.{and_assoc, and_or_apart}
@@ -26,7 +26,7 @@ use Rattle.zt_rows.proofs.ReadLaws.{object-row, some_one}
 use Rattle.zt_rows.proofs.SettleLaws.{derived-out, renew, row-refresh}
 use Rattle.zt_store.specs.StepView.{Stepping, listed, DiffersAtTouched}
 use Rattle.zt_signals.specs.ObjectSignals.{refreshed_object, refreshed_object_of}
-use Rattle.zt_cascade.specs.ProofsOnly.NearObjects.{near, near_touched}
+use Rattle.zt_cascade.specs.ProofsOnly.NearObjects.{both, near, near_touched}
 use Rattle.zt_cascade.proofs.TakingLaws.{among-left, among-right}
 
 -- ---- derived signals of states whose rows near the object are the same
@@ -51,6 +51,20 @@ any_row-same test C D of_C of_D =
 
 -- ---- what is near a key that was put
 
+both-first : (y z x : ℕ) → y ≡ x → among (both y z) x ≡ true
+both-first y z x same = by (y == z)
+  where
+    by : (b : Bool) → among (if b then y ∷ [] else y ∷ z ∷ []) x ≡ true
+    by true = or_left (y == x) _ (eq-eqb y x same)
+    by false = or_left (y == x) _ (eq-eqb y x same)
+
+both-second : (y z x : ℕ) → z ≡ x → among (both y z) x ≡ true
+both-second y z x same = by (y == z) refl
+  where
+    by : (b : Bool) → (y == z) ≡ b → among (if b then y ∷ [] else y ∷ z ∷ []) x ≡ true
+    by true e = or_left (y == x) _ (eq-eqb y x (eqb-true y z e ∙ same))
+    by false e = or_right (y == x) _ (or_left (z == x) _ (eq-eqb z x same))
+
 module _ (s : Stepping) (x : ℕ) (apart : among (near_touched s) x ≡ false) where
   near-among : (ks : List RowKey) (k : RowKey) → listed ks k ≡ true → among (near s.beginning s.current k) x ≡ true → among (flat_map (near s.beginning s.current) ks) x ≡ true
   near-among [] k l e = cc
@@ -67,10 +81,10 @@ module _ (s : Stepping) (x : ℕ) (apart : among (near_touched s) x ≡ false) w
   near-itself = or_left (x == x) _ (eq-eqb x x refl)
 
   near-link_then : (y : ℕ) → link_at s.beginning y ≡ x → among (near s.beginning s.current (key.Object y)) x ≡ true
-  near-link_then y e = or_right (y == x) _ (or_left (link_at s.beginning y == x) _ (eq-eqb (link_at s.beginning y) x e))
+  near-link_then y e = or_right (y == x) _ (both-first (link_at s.beginning y) (link_at s.current y) x e)
 
   near-link_now : (y : ℕ) → link_at s.current y ≡ x → among (near s.beginning s.current (key.Object y)) x ≡ true
-  near-link_now y e = or_right (y == x) _ (or_right (link_at s.beginning y == x) _ (or_left (link_at s.current y == x) _ (eq-eqb (link_at s.current y) x e)))
+  near-link_now y e = or_right (y == x) _ (both-second (link_at s.beginning y) (link_at s.current y) x e)
 
   near-endpoint : (e n : ℕ) → e ≡ x → among (near s.beginning s.current (key.Msg e n)) x ≡ true
   near-endpoint e n same = or_left (e == x) _ (eq-eqb e x same)

@@ -6,7 +6,7 @@ ghost use Rattle.zt_store.specs.Places.{Keeps};
 ghost use Rattle.zt_store.specs.StepView.{Advanced, AsBegun, DiffersAtTouched};
 ghost use Rattle.zt_store.specs.ProofsOnly.StepView.{IsAhead};
 ghost use Rattle.zt_cascade.specs.PacketRoom.{HasRoomToFire};
-ghost use Rattle.zt_cascade.specs.ProofsOnly.NearObjects.{near, near_touched};
+ghost use Rattle.zt_cascade.specs.ProofsOnly.NearObjects.{both, near, near_touched};
 
 use crate::fired_waits::fire_all;
 use crate::worklist::{AT_FIRST, first_link};
@@ -81,11 +81,21 @@ fn add_near(step: &Step, key: RowKey, list: &mut Vec<Koid>) -> Result<(), AllocE
     match key {
         RowKey::Object(koid) => {
             list.push(koid)?;
-            list.push(first_link(step, koid))?;
-            list.push(link(step, koid))?;
+            add_both(list, first_link(step, koid), link(step, koid))?;
         }
         RowKey::Msg(endpoint, _) => list.push(endpoint)?,
         _ => {}
+    }
+    Ok(())
+}
+
+/// Adds both to the list, or one where they are the same.
+fn add_both(list: &mut Vec<Koid>, first: Koid, second: Koid) -> Result<(), AllocError>
+    ensures { OnOk result (list.new.items ≡ list.old.items ++ both first second) }
+{
+    list.push(first)?;
+    if first != second {
+        list.push(second)?;
     }
     Ok(())
 }

@@ -33,7 +33,7 @@ pub fn load_text_told<P: LoadProgress>(
         Ok(saved) => saved,
         Err(fault) => return Err(fault),
     };
-    match Book::load_saved_told(alloc, clients, &saved, told) {
+    match Book::load_all_told(alloc, clients, saved, told) {
         Ok(book) => Ok(book),
         Err(fault) => Err(at_line(text, fault)),
     }

@@ -1,6 +1,6 @@
 -- Changes as they are listed and chained: one more, one less, the last ones of a moment dropped, and the chain of an object
 -- gone along from its last change.
-use Rattle.std.proofs.Common.{◌≡◌, ℕ, zero, suc, ◌+◌, ◌-◌, ◌≤◌, ◌<◌, Bool, true, false, ◌&&◌, List, [], ◌∷◌, ◌⊎◌, ◌++◌, length, map, set, take, get_or, Option, Some, None, refl, sym, ◌∙◌, ap, subst, inl, inr, arith, append-nil, length-append}
+use Rattle.std.proofs.Common.{◌≡◌, ℕ, zero, suc, ◌+◌, ◌-◌, ◌≤◌, ◌<◌, Bool, true, false, ◌&&◌, List, [], ◌∷◌, ◌⊎◌, ◌++◌, length, set, take, get_or, Option, Some, None, refl, sym, ◌∙◌, ap, subst, inl, inr, arith, append-nil}
 use Rattle.std.specs.Prelude.{◌==◌, if◌then◌else◌, slice_get}
 use Rattle.std.specs.List.{AllByRecursion}
 use Rattle.std.specs.Option.{option_map}
@@ -21,7 +21,7 @@ use Rattle.zt_history.specs.ProofsOnly.Branches.{without_last}
 use Rattle.zt_history.specs.ProofsOnly.ObjectNotes.{AreChained, AreLinked, AreRising, ChangeNote, Covers, HasNoneFrom, IsCovered, IsCut, IsLastFound, IsSameEnd, end_at, ends_at, is_at, is_found, is_of, last_of, note_as, note_under, notes_in, notes_under, tells}
 use Rattle.zt_history.proofs.GrownLaws.{length-push}
 use Rattle.zt_history.proofs.ListLaws.{get-left, get-last, length-mapped, place}
-use Rattle.zt_history.proofs.PathLaws.{among-early, among-self, path-opening}
+use Rattle.zt_history.proofs.PathLaws.{among-early, among-self}
 use Rattle.zt_history.proofs.TreeLaws.{last_apart}
 
 -- ---- the last change of an object among the first n

@@ -1,10 +1,10 @@
 -- What is noted of the objects beside a tree: with one moment more and one less, true of each moment, and all that shows.
-use Rattle.std.proofs.Common.{◌≡◌, ℕ, zero, suc, ◌+◌, ◌-◌, ◌≤◌, ◌<◌, ◌⊎◌, Bool, true, false, not, ◌&&◌, ◌||◌, cond, List, [], ◌∷◌, ◌++◌, length, map, filter, get_or, Option, Some, None, refl, sym, ◌∙◌, ap, subst, inl, inr, arith, append-nil, length-append}
+use Rattle.std.proofs.Common.{◌≡◌, ℕ, zero, suc, ◌+◌, ◌-◌, ◌≤◌, ◌<◌, ◌⊎◌, Bool, true, false, not, ◌&&◌, ◌||◌, cond, List, [], ◌∷◌, ◌++◌, length, map, filter, Option, Some, None, refl, sym, ◌∙◌, ap, subst, inl, inr, arith, append-nil}
 use Rattle.std.specs.Prelude.{◌==◌, if◌then◌else◌, slice_get}
 use Rattle.std.specs.List.{AllByRecursion, flat_map, last_or, list_any}
 use Rattle.std.proofs.lemmas.Bool.{cases_lt, eqb-true, eq-eqb, true≢false}
 use Rattle.std.proofs.lemmas.List.Elements.{filter-append}
-use Rattle.std.proofs.lemmas.Option.{none-some, same_Some, slice_get_past, slice_get_within}
+use Rattle.std.proofs.lemmas.Option.{none-some, same_Some, slice_get_within}
 use Rattle.zt_rows.specs.declared.keys.RowKey.{RowKey}
 use Rattle.zt_rows.specs.declared.keys.RowKey.TheVariants as key
 use Rattle.zt_rows.specs.declared.rows.Row.{Row}
@@ -16,7 +16,7 @@ use Rattle.zt_rows.specs.Opening.{opening}
 use Rattle.zt_rows.specs.State.{State, row}
 use Rattle.zt_rows.specs.Step.{step}
 use Rattle.zt_rows.specs.Tests.{among}
-use Rattle.zt_rows.proofs.ChangeLaws.{Rows, among-changed, find-before, same_where_not_differ}
+use Rattle.zt_rows.proofs.ChangeLaws.{among-changed, find-before, same_where_not_differ}
 use Rattle.zt_store.specs.RecordLook.{held}
 use Rattle.zt_history.specs.declared.row_happenings.RowHappening.{RowHappening}
 use Rattle.zt_history.specs.declared.row_happenings.RowHappening.TheVariants as happening
@@ -24,11 +24,11 @@ use Rattle.zt_history.specs.RowHappenings.{is_alone, is_living, is_there, last_s
 use Rattle.zt_history.specs.Tree.{Made, parent_of, parent_at, path, state_at}
 use Rattle.zt_history.specs.TreeInvariant.{Falls}
 use Rattle.zt_history.specs.ProofsOnly.Branches.{without_last}
-use Rattle.zt_history.specs.ProofsOnly.ObjectNotes.{AreNoted, AreRising, ChangeNote, HasNoneFrom, IsCut, IsLastFound, NotedChanges, TellsLast, is_found, next_koids_to, note_of, note_over, note_under, noted, notes_at, notes_of, notes_to, notes_under, tells}
+use Rattle.zt_history.specs.ProofsOnly.ObjectNotes.{AreNoted, AreRising, ChangeNote, IsCut, NotedChanges, TellsLast, is_found, next_koids_to, note_of, note_over, note_under, noted, notes_at, notes_of, notes_to, tells}
 use Rattle.zt_history.proofs.NoteListLaws.{cut-front}
 use Rattle.zt_history.proofs.GrownLaws.{length-push, made_at-end, state-end}
-use Rattle.zt_history.proofs.ListLaws.{get-left, get-last, place}
-use Rattle.zt_history.proofs.MoreLaws.{falls-left, falls-push, parent-early, parent-more, state-more}
+use Rattle.zt_history.proofs.ListLaws.{get-left, get-last}
+use Rattle.zt_history.proofs.MoreLaws.{falls-push, parent-early, parent-more, state-more}
 use Rattle.zt_history.proofs.PathLaws.{among-early, among-other, among-self, among-step, by_parents, path-opening, path-step}
 use Rattle.zt_history.proofs.RunLaws.{state-opening}
 use Rattle.zt_history.proofs.TreeLaws.{without_last-push}

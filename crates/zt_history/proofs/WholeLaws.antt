@@ -8,7 +8,7 @@ use Rattle.zt_rows.specs.Opening.{opening}
 use Rattle.zt_rows.specs.State.{State}
 use Rattle.zt_rows.specs.Step.{step}
 use Rattle.zt_store.specs.StoreView.{Stored}
-use Rattle.zt_history.specs.Tree.{Made, Branch, opening_tree, parent_of, parent_at}
+use Rattle.zt_history.specs.Tree.{Made, Branch, opening_tree, parent_of}
 use Rattle.zt_history.specs.declared.history.Undo.{Undo}
 use Rattle.zt_history.specs.declared.history.Undo.TheVariants as undo
 use Rattle.zt_history.specs.ProofsOnly.Branches.{without_last}
@@ -20,7 +20,7 @@ use Rattle.zt_history.proofs.GrownLaws.{length-push, moments-left}
 use Rattle.zt_history.proofs.KeptLaws.{kept-opening}
 use Rattle.zt_history.proofs.ListLaws.{get-last}
 use Rattle.zt_history.proofs.NotedLaws.{noted-dropped, noted-opening, noted-push}
-use Rattle.zt_history.proofs.TreeLaws.{last_apart, without_last-push}
+use Rattle.zt_history.proofs.TreeLaws.{last_apart}
 
 -- the same moments, and the same changes
 pub noted-same : (made same : List Made) (old new : NotedChanges) → same ≡ made → new ≡ old → AreNoted made old → AreNoted same new

@@ -16,9 +16,9 @@ use zt_store::{Record, Store};
 /// What a moment's call did to an object, and the place behind that of the object's earlier change, 0 where it has none.
 #[derive(Clone, Copy)]
 pub(crate) struct ObjectNote {
-    pub(crate) moment: Moment,
     pub(crate) koid: Koid,
     pub(crate) earlier: usize,
+    pub(crate) moment: Moment,
     pub(crate) made: bool,
     pub(crate) ended: bool,
     pub(crate) peer_closed: bool,

@@ -26,9 +26,22 @@ impl PartialEq for RowKey {
 
     ghost laws = { rowkey_eq-laws };
 
-    #[tactic(auto, using(crate::specs::ProofsOnly::KeyOrder::key_ties))]
     fn eq(&self, other: &RowKey) -> bool {
-        self.cmp(other).is_eq()
+        match (self, other) {
+            (RowKey::Counters, RowKey::Counters) => true,
+            (RowKey::Object(koid), RowKey::Object(other_koid)) => koid == other_koid,
+            (RowKey::Entry(process, handle), RowKey::Entry(other_process, other_handle)) => {
+                process == other_process && handle == other_handle
+            }
+            (RowKey::Msg(endpoint, number), RowKey::Msg(other_endpoint, other_number)) => {
+                endpoint == other_endpoint && number == other_number
+            }
+            (RowKey::Packet(port, number), RowKey::Packet(other_port, other_number)) => {
+                port == other_port && number == other_number
+            }
+            (RowKey::Wait(number), RowKey::Wait(other_number)) => number == other_number,
+            _ => false,
+        }
     }
 }
 

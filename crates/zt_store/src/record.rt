@@ -1,10 +1,11 @@
 ghost use Rattle.std.specs.Option.{option_copied, option_map};
-ghost use Rattle.std.specs.Prelude.{◌≡◌, ◌≤◌, length, map, min, OnOk, vec_capacity};
+ghost use Rattle.std.specs.Prelude.{◌≡◌, ◌≤◌, length, map, min, IfOk, OnOk, vec_capacity};
 ghost use Rattle.zt_store.specs.ProofsOnly.RecordRows.{IsRecord};
 ghost use Rattle.zt_store.specs.RecordLook.{held};
 
 use std::alloc::{AllocError, Global};
 use std::marker::Model;
+use std::mem::replace;
 use zt_rows::{Row, RowKey};
 
 /// The rows under some keys at an earlier moment, or that there was none, in the order of the keys. Each row stands at the
@@ -49,7 +50,8 @@ impl Record {
     }
 }
 
-/// Room for a record that is still to be made: the lists of its keys and of its rows, empty as yet.
+/// Room for a record that is still to be made, for where memory is refused when it is: the lists of its keys and of its rows,
+/// empty as yet.
 #[derive(Drop)]
 pub(crate) struct RecordLists {
     keys: Vec<RowKey>,
@@ -83,13 +85,36 @@ impl RecordLists {
         Ok(())
     }
 
-    /// The record of these rows, in lists that have room for no others. It takes no memory.
-    pub(crate) fn filled(self, firsts: &mut [(RowKey, Option<Row>)]) -> Record
-        requires room { length firsts.old ≤ self }
+    /// Room for just so many rows.
+    fn of_size(alloc: Global, count: usize) -> Result<RecordLists, AllocError>
+        ensures { IfOk result (λ lists. count ≤ lists) }
+    {
+        Ok(RecordLists {
+            keys: Vec::with_capacity(alloc, count)?,
+            rows: Vec::with_capacity(alloc, count)?,
+        })
+    }
+
+    /// New lists for so many rows, or, where memory is refused, these, in whose place there is then room for no row.
+    fn lent(&mut self, count: usize) -> RecordLists
+        requires { count ≤ self.old }
+        ensures { count ≤ result }
+    {
+        let alloc = *self.keys.allocator();
+        match RecordLists::of_size(alloc, count) {
+            Ok(lists) => lists,
+            Err(_) => replace(self, RecordLists::new(alloc)),
+        }
+    }
+
+    /// The record of these rows, in lists that have room for no others. It asks for memory, and takes that of these lists where it
+    /// is refused.
+    pub(crate) fn filled(&mut self, firsts: &mut [(RowKey, Option<Row>)]) -> Record
+        requires room { length firsts.old ≤ self.old }
         requires recorded { IsRecord (map (λ e. e.0) firsts.old) (map (λ e. e.1) firsts.old) }
         ensures { result ≡ firsts.old }
     {
-        let RecordLists { keys, rows } = self;
+        let RecordLists { keys, rows } = self.lent(firsts.len());
         let keys = keys_of(keys, firsts);
         let rows = rows_of(rows, firsts);
         Record { keys, rows }

@@ -18,7 +18,7 @@ ghost use Rattle.zt_store.specs.StoreView.{Stored};
 ghost use Rattle.zt_store.specs.ProofsOnly.StoreView.{standing};
 
 use crate::key_columns::{handle_of, has_room, key_after, packet_of};
-use crate::record::Record;
+use crate::record::{Record, RecordLists};
 use std::alloc::{AllocError, Global};
 use std::marker::Model;
 use std::mem::replace;
@@ -65,6 +65,8 @@ pub struct Store {
     index: Index,
     /// What a step lists its first rows in, kept from step to step.
     spare: Vec<(RowKey, Option<Row>)>,
+    /// Room for a step's record, kept from step to step.
+    lists: RecordLists,
 }
 
 /// Lets all parts go in one call, so that a function that owns a store is proved without going through them at each of its
@@ -76,6 +78,7 @@ impl Drop for Store {
             support_counts: _support_counts,
             index: _index,
             spare: _spare,
+            lists: _lists,
         } = self;
     }
 }
@@ -105,6 +108,7 @@ impl Store {
             support_counts: SupportCounts::new(alloc),
             index: Index::new(alloc),
             spare: Vec::new(alloc),
+            lists: RecordLists::new(alloc),
         }
     }
 
@@ -325,6 +329,7 @@ impl Store {
             support_counts: self.support_counts.copy()?,
             index: self.index.copy()?,
             spare: Vec::new(self.alloc()),
+            lists: RecordLists::new(self.alloc()),
         })
     }
 
@@ -343,12 +348,21 @@ impl Store {
         spare
     }
 
-    /// Keeps the memory of a list for later steps.
-    pub(crate) fn keep_spare(&mut self, spare: Vec<(RowKey, Option<Row>)>)
+    /// Room for a record, which an earlier step left.
+    pub(crate) fn take_lists(&mut self) -> RecordLists
+        ensures { self.new ≡ self.old }
+    {
+        let fresh = RecordLists::new(self.alloc());
+        replace(&mut self.lists, fresh)
+    }
+
+    /// Keeps the memory of a step's lists for later steps.
+    pub(crate) fn keep_spare(&mut self, spare: Vec<(RowKey, Option<Row>)>, lists: RecordLists)
         ensures { self.new ≡ self.old }
     {
         self.spare = spare;
         self.spare.clear();
+        self.lists = lists;
     }
 
     /// What holds of the rows: each suits its key.

@@ -7,6 +7,7 @@ ghost use Rattle.zxtt.specs.LookedAt.{head_named, path_end};
 use crate::answer_lines::{AnswerLines, Stopped};
 use crate::faults::Fault;
 use crate::files::load;
+use crate::leave;
 use crate::look_words::Look;
 use crate::question::Question;
 use std::alloc::Global;
@@ -24,7 +25,9 @@ pub fn look(rt: &HostRuntime, asked: &Look<'_>) -> Result<(), Fault> {
     match load(rt, 1, asked.file) {
         Ok(book) => {
             let mut history = book.into_history();
-            match answer(rt, &mut history, asked) {
+            let done = answer(rt, &mut history, asked);
+            leave(history);
+            match done {
                 Ok(()) | Err(Stopped::Unread) => Ok(()),
                 Err(Stopped::By(refusal)) => Err(Fault::Refused(refusal)),
             }

@@ -33,6 +33,7 @@ use files::{load, open, save, save_tree};
 use look::look;
 use service::serve;
 use std::io::Read;
+use std::mem::forget;
 use std::process::ExitCode;
 use terminal::Attended;
 use words::{Asked, Words};
@@ -93,8 +94,25 @@ fn run_asked(
 ) -> Result<(), Fault> {
     let book = begin(rt, 1, from)?;
     let book = run_file(rt, book, file)?;
-    save(rt, &book, to)?;
-    save_tree(rt, &book, tree_to)
+    let saved = save_asked(rt, &book, to, tree_to);
+    leave(book);
+    saved
+}
+
+/// Saves the history of `main`, and then the whole tree, if files are named.
+fn save_asked(
+    rt: &HostRuntime,
+    book: &Book,
+    to: Option<&str>,
+    tree_to: Option<&str>,
+) -> Result<(), Fault> {
+    save(rt, book, to)?;
+    save_tree(rt, book, tree_to)
+}
+
+/// Leaves the memory of what a program has until it ends to the system, which takes it back all at once.
+pub(crate) fn leave<T: Drop>(kept: T) {
+    forget(kept);
 }
 
 /// Saves the whole tree of a book that was served, if a file is named.
@@ -104,7 +122,9 @@ fn save_served(
     tree_to: Option<&str>,
 ) -> Result<(), Fault> {
     let book = served?;
-    save_tree(rt, &book, tree_to)
+    let saved = save_tree(rt, &book, tree_to);
+    leave(book);
+    saved
 }
 
 /// A book of so many clients at the opening, or over a trace if one is named.

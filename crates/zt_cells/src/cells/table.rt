@@ -62,7 +62,7 @@ impl Table {
         }
     }
 
-    /// Makes empty places until there are so many. Memory is asked for once.
+    /// Makes empty places until there are so many. Memory is asked for once; at first for just these, since most queues stay short.
     pub fn grow(&mut self, len: usize) -> Result<(), AllocError>
         requires { length self.old ≤ len }
         ensures cells { (n : ℕ) → cell self.new n ≡ cell self.old n }
@@ -71,7 +71,11 @@ impl Table {
         ensures ok { OnOk result (length self.new ≡ len) }
         ensures err { OnErr result (self.new ≡ self.old) }
     {
-        self.places.reserve(len - self.places.len())?;
+        if self.places.is_empty() {
+            self.places.reserve_exact(len)?;
+        } else {
+            self.places.reserve(len - self.places.len())?;
+        }
         while self.places.len() < len {
             self.places.push(None)?;
         }

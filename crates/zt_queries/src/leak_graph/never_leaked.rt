@@ -12,7 +12,7 @@ ghost use Rattle.zt_queries.specs.HappeningTimes.{happens, is_known, last_on};
 ghost use Rattle.zt_queries.specs.Leaks.{is_leaked};
 ghost use Rattle.zt_queries.specs.ProofsOnly.FirstLeak.{HoldsRowsOf, PassesUnleaked, is_passing_kind, is_passing_in};
 
-use crate::leak_graph::unleaked_signs::{is_entered, is_sure, tells_unleaked};
+use crate::leak_graph::unleaked_signs::{is_entered, is_sure, names, tells_unleaked};
 use crate::path_pair::is_there;
 use zt_bits::Kind;
 use zt_history::{History, RowHappening};
@@ -29,17 +29,50 @@ pub(crate) fn is_never_leaked(history: &History, at: Moment, koid: Koid) -> bool
     let position = history.position();
     match history.last_shown(RowHappening::Ended, koid, at) {
         Some(moment) => went_unleaked(history, moment, koid),
-        None => at == position && stands_unleaked(history.store(), koid),
+        None => at == position && stands_unleaked(history, koid),
     }
 }
 
-/// Whether the store has the object, and shows that it is not leaked.
-fn stands_unleaked(store: &Store, koid: Koid) -> bool
-    ensures there { result ≡ true → exists store.now.state koid ≡ true }
-    ensures unleaked { result ≡ true → is_leaked store.now.state koid ≡ false }
+/// Whether the object is there at the position, and it shows that it is not leaked there.
+fn stands_unleaked(history: &History, koid: Koid) -> bool
+    ensures there { result ≡ true → exists (state_at history.now.tree.made history.now.position) koid ≡ true }
+    ensures unleaked { result ≡ true → is_leaked (state_at history.now.tree.made history.now.position) koid ≡ false }
 {
-    let row = store.row(RowKey::Object(koid));
-    is_there(row) && (is_sure(row, koid) || is_entered(store, koid))
+    let row = history.store().row(RowKey::Object(koid));
+    is_there(row) && (is_sure(row, koid) || is_entered_here(history, koid))
+}
+
+/// Whether there is at the position an entry that names the object.
+fn is_entered_here(history: &History, koid: Koid) -> bool
+    ensures { result ≡ true → is_leaked (state_at history.now.tree.made history.now.position) koid ≡ false }
+{
+    is_entered_as_made(history, koid) || is_entered(history.store(), koid)
+}
+
+/// Whether there is at the position an entry that names the object and was put by the call that made it: mostly there is.
+fn is_entered_as_made(history: &History, koid: Koid) -> bool
+    ensures { result ≡ true → is_leaked (state_at history.now.tree.made history.now.position) koid ≡ false }
+{
+    let Some(moment) = history.last_shown(RowHappening::Made, koid, history.position()) else {
+        return false;
+    };
+    match history.record_of(moment) {
+        Some(record) => is_entered_among(record.keys(), history.store(), koid),
+        None => false,
+    }
+}
+
+/// Whether the store has an entry under one of the keys that names the object.
+fn is_entered_among(keys: &[RowKey], store: &Store, koid: Koid) -> bool
+    ensures { result ≡ true → is_leaked store.now.state koid ≡ false }
+{
+    for key in keys {
+        let (asked, named) = (*key, *key);
+        if names(store.row(asked), named, koid) {
+            return true;
+        }
+    }
+    false
 }
 
 /// Whether the record of a moment has the object, of a kind that is gone when it ends, and shows that the object was not leaked

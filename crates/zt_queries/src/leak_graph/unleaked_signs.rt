@@ -185,7 +185,7 @@ fn names_under(change: &Record, key: RowKey, koid: Koid) -> bool
 }
 
 /// Whether the row is an entry that names the object.
-fn names(row: Option<&Row>, key: RowKey, koid: Koid) -> bool
+pub(crate) fn names(row: Option<&Row>, key: RowKey, koid: Koid) -> bool
     ensures { result ≡ names_object key (option_copied row.entry) koid }
 {
     let RowKey::Entry(_, _) = key else {

@@ -1,5 +1,5 @@
 -- So far there are places for the koids of the keys that were gone over.
-use Rattle.std.proofs.Common.{ℕ, ◌≡◌, ◌<◌, ◌≤◌, length}
+use Rattle.std.proofs.Common.{ℕ, ◌≡◌, ◌<◌, length}
 use Rattle.std.specs.Prelude.{slice_get, Some}
 use Rattle.zt_rows.specs.declared.keys.RowKey.{RowKey}
 use Rattle.zt_history.specs.ProofsOnly.ObjectNotes.{IsCovered, IsSameEnd}

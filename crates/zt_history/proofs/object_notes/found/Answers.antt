@@ -2,7 +2,7 @@
 use Rattle.std.proofs.Common.{◌≡◌, ◌-◌, ◌<◌, ◌&&◌, false, suc, length, refl, sym, ap, subst, ◌∙◌, arith}
 use Rattle.std.specs.Prelude.{slice_get, ◌==◌, Some}
 use Rattle.std.proofs.lemmas.Option.{slice_get_read}
-use Rattle.zt_history.specs.ProofsOnly.ObjectNotes.{note_as, notes_in, tells}
+use Rattle.zt_history.specs.ProofsOnly.ObjectNotes.{note_as, tells}
 use Rattle.zt_history.proofs.NoteListLaws.{IsSearched, last_of-early, searched-found, searched-less, searched-next, searched-none, searched-start}
 use Rattle.zt_history.proofs.object_notes.found.Goals as goal
 use Rattle.zt_history.proofs.object_notes.found.Goals.{else-eq-via-then-eq+else-tells, else-eq-via-else-eq}

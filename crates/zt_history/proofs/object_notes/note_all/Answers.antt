@@ -1,5 +1,5 @@
 -- What is under one key more is noted.
-use Rattle.std.proofs.Common.{◌≡◌, ◌<◌, length, ◌∙◌, refl, arith}
+use Rattle.std.proofs.Common.{◌≡◌, ◌<◌, length, ◌∙◌, arith}
 use Rattle.zt_history.specs.ProofsOnly.ObjectNotes.{notes_in}
 use Rattle.zt_history.proofs.NoteListLaws.{covered-at, notes-all, notes-next}
 use Rattle.zt_history.proofs.object_notes.note_all.Goals as goal

@@ -17,6 +17,6 @@ returns-in-Some-clause-never c = λ t.
 pub returns-then-eq-clause-never : goal.returns-then-eq-clause-never
 returns-then-eq-clause-never c = λ t.
     let here : c.args.at ≡ c.args.history.now.position = eqb-true c.args.at c.position-position.result (sym c.eq.ensures ∙ c.if-eq.true) ∙ c.position-position.ensures.position in
-    let state : state_at c.args.history.now.tree.made c.args.at ≡ c.store.result.now.state = ap (state_at c.args.history.now.tree.made) here ∙ sym c.store.ensures.state in
+    let state : state_at c.args.history.now.tree.made c.args.at ≡ state_at c.args.history.now.tree.made c.args.history.now.position = ap (state_at c.args.history.now.tree.made) here in
     stands-never c.args.history.now.tree.made c.position-position.ensures.tree.moments c.args.at c.args.koid c.requires.there
     (ap (λ S. exists S c.args.koid) state ∙ c.stands_unleaked.ensures.there t) (ap (λ S. is_leaked S c.args.koid) state ∙ c.stands_unleaked.ensures.unleaked t)
