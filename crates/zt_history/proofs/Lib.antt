@@ -9,6 +9,7 @@ pub mod BranchLaws
 pub mod NodeLaws
 pub mod KeptLaws
 pub mod WayLaws
+pub mod ForkLaws
 pub mod TreeLaws
 pub mod NoteListLaws
 pub mod NotedLaws

@@ -21,7 +21,7 @@ use Rattle.zt_history.specs.TreeInvariant.{Falls}
 use Rattle.zt_history.specs.ProofsOnly.MomentNodes.{Chronicle, AreNodes, AreListed, IsTurned, made_as, made_in, records_in, parents_in}
 use Rattle.zt_history.proofs.ListLaws.{length-mapped, get-within, get-left, get-last, get-set_same, get-set_other, place}
 use Rattle.zt_history.proofs.MoreLaws.{path-more, falls-push, falls-left}
-use Rattle.zt_history.proofs.PathLaws.{path-opening, path-step, length-path, opening-path}
+use Rattle.zt_history.proofs.PathLaws.{path-opening, path-step, length-path}
 
 -- ---- looking at one
 
@@ -96,7 +96,7 @@ pub record IsGathered (made : List Made) (end at : ℕ) (way : List ℕ) (depth 
   pub rest : path made end ≡ path made at ++ reverse way
   pub many : length way ≡ depth
 
-gathered-left : (made : List Made) (end at : ℕ) (way : List ℕ) (depth : ℕ) → IsGathered made end at way depth → length (path made end) ≡ length (path made at) + depth
+pub gathered-left : (made : List Made) (end at : ℕ) (way : List ℕ) (depth : ℕ) → IsGathered made end at way depth → length (path made end) ≡ length (path made at) + depth
 gathered-left made end at way depth is = ap length is.rest ∙ omega (arith, length-append (path made at) (reverse way), length-reverse way, is.many)
 
 pub gathered-step : (made : List Made) → Falls made → (end at : ℕ) (way longer : List ℕ) (depth next : ℕ) → IsGathered made end at way depth → depth < length (path made end)
@@ -110,11 +110,6 @@ gathered-step made falls end (suc i) way longer depth next is more pushed up = r
       ∙ (λ j. path made (sym up j) ++ (sym (ap reverse pushed ∙ reverse-append way (suc i ∷ [])) j));
   many = ap length pushed ∙ omega (arith, length-append way (suc i ∷ []), is.many);
 }
-
-pub gathered-all : (made : List Made) → Falls made → (end at : ℕ) (way : List ℕ) (depth : ℕ) → IsGathered made end at way depth → depth ≡ length (path made end) → reverse way ≡ path made end
-gathered-all made falls end at way depth is whole =
-    let top : at ≡ 0 = opening-path made falls at (omega (arith, gathered-left made end at way depth is, whole)) in
-    sym (is.rest ∙ ap (λ p. p ++ reverse way) (ap (path made) top ∙ path-opening made))
 
 -- ---- nodes that stay, one that changes, and one more
 

@@ -5,3 +5,4 @@ pub mod KeptHistory
 pub mod Branches
 pub mod MomentNodes
 pub mod ObjectNotes
+pub mod Forks

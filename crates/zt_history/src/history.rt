@@ -1,4 +1,4 @@
-ghost use Rattle.std.specs.Prelude.{◌≡◌, ◌<◌, ◌≤◌, ◌-◌, ◌↔◌, Option, Some, None, Ok, IsTrue, IfOk, IfErr, IfSome, OnOk, OnErr, length, take, slice_get, is_some};
+ghost use Rattle.std.specs.Prelude.{◌≡◌, ◌<◌, ◌≤◌, ◌-◌, ◌++◌, ◌↔◌, Option, Some, None, Ok, IsTrue, IfOk, IfErr, IfSome, OnOk, OnErr, length, reverse, take, slice_get, is_some};
 ghost use Rattle.std.specs.Option.{option_copied, option_map};
 ghost use Rattle.zt_rows.specs.declared.calls.Reply.{Reply};
 ghost use Rattle.zt_rows.specs.Handles.{next_koid};
@@ -6,6 +6,7 @@ ghost use Rattle.zt_rows.specs.Opening.{opening};
 ghost use Rattle.zt_rows.specs.Step.{run};
 ghost use Rattle.zt_history.specs.Tree.{call_at, reply_at, parent_at, path, end_of, state_at, calls_to, replies_to, head_at, name_at, branch_named};
 ghost use Rattle.zt_history.specs.HistoryRefusals.{IsHistoryRefusal, moment_on};
+ghost use Rattle.zt_history.specs.ProofsOnly.Forks.{IsAbove};
 ghost use Rattle.zt_history.specs.RowHappenings.{last_shown};
 ghost use Rattle.zt_history.specs.TreeInvariant.{recorded_at, Falls, IsTree};
 ghost use Rattle.zt_history.specs.Timeline.{at_opening, moved_to, unmoved, IsPath};
@@ -249,8 +250,8 @@ impl History {
         }
     }
 
-    /// Moves the store to a moment, at the cost of the list of its path and of the records on the way. Refused, it
-    /// stays where it is.
+    /// Moves the store to a moment, at the cost of the records on the way and of a list of the moments beyond the fork of
+    /// both paths. Refused, it stays where it is.
     pub fn goto(&mut self, moment: Moment) -> Result<(), Refusal>
         ensures ok { OnOk result (self.new ≡ moved_to self.old moment) }
         ensures within { OnOk result (moment_on self.old.tree moment ≡ Ok moment) }
@@ -258,8 +259,13 @@ impl History {
         ensures err { OnErr result (self.new ≡ unmoved self.old) }
     {
         self.forget();
-        let way = self.path(moment)?;
-        self.along(way.as_slice());
+        if moment > self.last() {
+            return Err(Refusal::NoMoment);
+        }
+        let fork = self.moments.fork(self.position, moment);
+        let beyond = self.moments.beyond(fork, moment)?;
+        self.retreat(fork);
+        self.advance(beyond);
         Ok(())
     }
 
@@ -285,6 +291,29 @@ impl History {
             depth -= 1;
         }
         depth
+    }
+
+    /// Moves the store back to a moment on the path to the position.
+    fn retreat(&mut self, moment: Moment)
+        requires { IsAbove self.old.tree.made moment self.old.position }
+        ensures { self.new ≡ moved_to self.old moment }
+    {
+        self.forget();
+        while self.position() != moment {
+            self.back();
+        }
+    }
+
+    /// Moves the store forth over the moments of a list, the last of it first.
+    fn advance(&mut self, mut beyond: Vec<Moment>)
+        requires { IsPath self.old.tree.made (path self.old.tree.made self.old.position ++ reverse beyond.items) }
+        ensures { self.new ≡ moved_to self.old (end_of (path self.old.tree.made self.old.position ++ reverse beyond.items)) }
+    {
+        self.moments.limits();
+        self.forget();
+        while let Some(next) = beyond.pop() {
+            self.forth(next);
+        }
     }
 
     /// How many moments there are on the path to the position.

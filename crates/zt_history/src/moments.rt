@@ -1,4 +1,4 @@
-ghost use Rattle.std.specs.Prelude.{◌≡◌, ◌<◌, ◌≤◌, ◌+◌, ◌-◌, ◌++◌, ◌∷◌, [], ℕ, true, IfOk, OnOk, OnErr, IfSome, length, slice_get};
+ghost use Rattle.std.specs.Prelude.{◌≡◌, ◌<◌, ◌≤◌, ◌+◌, ◌-◌, ◌++◌, ◌∷◌, [], ℕ, true, IfOk, OnOk, OnErr, IfSome, length, reverse, slice_get};
 ghost use Rattle.std.specs.Option.{option_map};
 ghost use Rattle.zt_rows.specs.Change.{before};
 ghost use Rattle.zt_rows.specs.Consistent.{IsConsistent};
@@ -9,6 +9,7 @@ ghost use Rattle.zt_rows.specs.Tests.{among};
 ghost use Rattle.zt_store.specs.Places.{Keeps, fits};
 ghost use Rattle.zt_store.specs.RecordRows.{all_fit};
 ghost use Rattle.zt_history.specs.ProofsOnly.Branches.{without_last};
+ghost use Rattle.zt_history.specs.ProofsOnly.Forks.{IsAbove};
 ghost use Rattle.zt_history.specs.ProofsOnly.MomentNodes.{IsTurned, made_as, run_at};
 ghost use Rattle.zt_history.specs.ProofsOnly.ObjectNotes.{noted};
 ghost use Rattle.zt_history.specs.TreeInvariant.{Falls};
@@ -118,16 +119,46 @@ impl Moments {
         requires { moment ≤ length self.now.made }
         ensures { IfOk result (λ way. way.items ≡ path self.now.made moment) }
     {
+        let mut way = self.beyond(Moment(0), moment)?;
+        way.as_mut_slice().reverse();
+        Ok(way)
+    }
+
+    /// The moments beyond one on the path to another, the last first. It takes memory for the list alone, in one
+    /// request, and none for an empty one.
+    pub(crate) fn beyond(&self, from: Moment, moment: Moment) -> Result<Vec<Moment>, AllocError>
+        requires there { moment ≤ length self.now.made }
+        requires above { IsAbove self.now.made from moment }
+        ensures { IfOk result (λ way. path self.now.made moment ≡ path self.now.made from ++ reverse way.items) }
+    {
         self.limits();
-        let depth = self.depth(moment) as usize;
-        let mut way = Vec::with_capacity(*self.nodes.allocator(), depth)?;
+        let count = (self.depth(moment) - self.depth(from)) as usize;
+        let mut way = Vec::with_capacity(*self.nodes.allocator(), count)?;
         let mut at = moment;
-        for _ in 0..depth {
+        for _ in 0..count {
             way.push_reserved(at);
             at = self.parent(at);
         }
-        way.as_mut_slice().reverse();
         Ok(way)
+    }
+
+    /// Where the paths to two moments part: the last moment that both have, or else the opening. It takes a look at
+    /// each moment of either that the other has not.
+    pub(crate) fn fork(&self, one: Moment, other: Moment) -> Moment
+        ensures one { IsAbove self.now.made result one }
+        ensures other { IsAbove self.now.made result other }
+    {
+        self.limits();
+        let mut near = one;
+        let mut far = other;
+        while near != far {
+            if near > far {
+                near = self.parent(near);
+            } else {
+                far = self.parent(far);
+            }
+        }
+        near
     }
 
     /// The last moment on the path to one that is no later than a limit, or else the opening.
