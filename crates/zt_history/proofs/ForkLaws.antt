@@ -4,11 +4,12 @@ use Rattle.std.specs.Prelude.{slice_get, Some, true, not, ◌==◌}
 use Rattle.std.proofs.lemmas.Bool.{cases_lt, true≢false, eq-eqb}
 use Rattle.std.proofs.lemmas.List.{append-nil, append_assoc, length-reverse, length-take, reverse-append, take-append-le, take-take}
 use Rattle.std.proofs.Math.Seq.{take-append_seam, take-length}
+use Rattle.zt_rows.specs.Tests.{among}
 use Rattle.zt_history.specs.Tree.{Made, parent_at, path, end_of}
 use Rattle.zt_history.specs.TreeInvariant.{Falls}
 use Rattle.zt_history.specs.Timeline.{Timeline, IsPath, moved_to, unmoved}
 use Rattle.zt_history.specs.ProofsOnly.Forks.{IsAbove}
-use Rattle.zt_history.proofs.PathLaws.{path-opening, path-step, path-end, length-path, by_parents}
+use Rattle.zt_history.proofs.PathLaws.{among-other, path-opening, path-step, path-end, length-path, by_parents}
 use Rattle.zt_history.proofs.ListLaws.{get-seam}
 use Rattle.zt_history.proofs.NodeLaws.{IsGathered, gathered-left}
 use Rattle.zt_history.proofs.WayLaws.{way-next, way-within, way-later}
@@ -80,6 +81,25 @@ module _ (made : List Made) (falls : Falls made) where
                 let r : a ≤ parent_at made (suc i) = rest (above-next a (suc i) is (λ e. omega (arith, e, later))).1 in
                 omega (arith, r, falls i)
             | inr g ↦ g
+          ]
+
+  -- what is no later is on the one path where it is on the other
+  pub above-among : (a k m : ℕ) → k ≤ a → IsAbove made a m → among (path made a) k ≡ among (path made m) k
+  above-among a k m low = by_parents made falls (λ m. IsAbove made a m → among (path made a) k ≡ among (path made m) k) base step m
+    where
+      base : IsAbove made a 0 → among (path made a) k ≡ among (path made 0) k
+      base is = ap (λ a. among (path made a) k) (above-whole a 0 is (omega (arith, ap length (path-opening made))))
+
+      step : (i : ℕ) → (IsAbove made a (parent_at made (suc i)) → among (path made a) k ≡ among (path made (parent_at made (suc i))) k)
+          → IsAbove made a (suc i) → among (path made a) k ≡ among (path made (suc i)) k
+      step i rest is =
+          elim (cases_lt a (suc i)) [
+            | inl early ↦
+                rest (above-next a (suc i) is (λ e. omega (arith, e, early))).1
+                ∙ sym (among-other made falls i k (λ e. omega (arith, e, low, early)))
+            | inr late ↦
+                let same : a ≡ suc i = omega (arith, late, above-early a (suc i) is) in
+                ap (λ a. among (path made a) k) same
           ]
 
   -- as many moments of a path gathered as there are beyond one of it: the rest is the path to that one

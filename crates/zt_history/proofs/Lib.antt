@@ -10,6 +10,7 @@ pub mod NodeLaws
 pub mod KeptLaws
 pub mod WayLaws
 pub mod ForkLaws
+pub mod ListedLaws
 pub mod TreeLaws
 pub mod NoteListLaws
 pub mod NotedLaws

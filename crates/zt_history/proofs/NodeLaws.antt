@@ -1,10 +1,10 @@
 -- Moments as they are kept: look-ups, depths, a record that changes, one more and one less.
-use Rattle.std.proofs.Common.{◌≡◌, ℕ, zero, suc, ◌+◌, ◌-◌, ◌≤◌, ◌<◌, Bool, true, false, eqb, inl, inr, List, [], ◌∷◌, ◌++◌, length, reverse, set, take, get_or, Option, Some, None, refl, sym, ◌∙◌, ap, subst, arith, Bor}
+use Rattle.std.proofs.Common.{◌≡◌, ℕ, zero, suc, ◌+◌, ◌-◌, ◌≤◌, ◌<◌, Bool, true, false, eqb, inl, inr, List, [], ◌∷◌, ◌++◌, length, reverse, set, get_or, Option, Some, None, refl, sym, ◌∙◌, ap, subst, arith, Bor}
 use Rattle.std.specs.Prelude.{slice_get, IfSome}
 use Rattle.std.specs.Option.{option_copied, option_map}
 use Rattle.std.specs.Slice.{IsItemAt}
 use Rattle.std.proofs.lemmas.Bool.{eqb-true, eqb-false}
-use Rattle.std.proofs.lemmas.List.{reverse-append, append_assoc, length-append, length-reverse, length-set, map-append, map-set, take-map}
+use Rattle.std.proofs.lemmas.List.{reverse-append, append_assoc, length-append, length-reverse, length-set, map-append, map-set}
 use Rattle.std.proofs.Math.Seq.{map-set_same}
 use Rattle.std.proofs.lemmas.Option.{slice_get-map, slice_get-get_or, get_or_from_slice_get, slice_get_past, slice_get_within, none-some, same_Some}
 use Rattle.zt_rows.specs.Change.{exchange}
@@ -18,14 +18,14 @@ use Rattle.zt_history.specs.declared.moments.MomentNode.{MomentNode}
 use Rattle.zt_history.specs.Tree.{Made, made_at, parent_of, parent_at, path}
 use Rattle.zt_history.specs.HistoryRefusals.{most_moments}
 use Rattle.zt_history.specs.TreeInvariant.{Falls}
-use Rattle.zt_history.specs.ProofsOnly.MomentNodes.{Chronicle, AreNodes, AreListed, IsTurned, made_as, made_in, records_in, parents_in}
+use Rattle.zt_history.specs.ProofsOnly.MomentNodes.{Chronicle, AreNodes, IsTurned, made_as, made_in, records_in, parents_in}
 use Rattle.zt_history.proofs.ListLaws.{length-mapped, get-within, get-left, get-last, get-set_same, get-set_other, place}
 use Rattle.zt_history.proofs.MoreLaws.{path-more, falls-push, falls-left}
 use Rattle.zt_history.proofs.PathLaws.{path-opening, path-step, length-path}
 
 -- ---- looking at one
 
-got : {X : Type 0} (xs : List X) (i : ℕ) (r : Option (Bor X)) → IsItemAt xs i r → option_copied r ≡ slice_get xs i
+pub got : {X : Type 0} (xs : List X) (i : ℕ) (r : Option (Bor X)) → IsItemAt xs i r → option_copied r ≡ slice_get xs i
 got xs i None h = sym (slice_get_past xs i h.3)
 got xs i (Some x) h = ap Some h.1 ∙ sym (slice_get-get_or xs i x.now h.3.0)
 
@@ -74,10 +74,10 @@ parent_in None = refl
 parent_in (Some n) = refl
 
 -- the parent of a moment, as it is read from the list of the parents
-pub parent-listed : (nodes : List MomentNode) (parents xs : List ℕ) (h : Chronicle) (i m : ℕ) (r : Option (Bor ℕ)) → IsItemAt xs i r → xs ≡ parents → AreListed nodes parents
+pub parent-listed : (nodes : List MomentNode) (parents xs : List ℕ) (h : Chronicle) (i m : ℕ) (r : Option (Bor ℕ)) → IsItemAt xs i r → xs ≡ parents → parents ≡ parents_in nodes
     → seen nodes ≡ h → m ≡ suc i → or_opening (option_copied r) ≡ parent_at h.made m
-parent-listed nodes parents xs h i m r at all are is place =
-    ap or_opening (got xs i r at ∙ ap (λ xs. slice_get xs i) (all ∙ are.listed) ∙ slice_get-map (λ n. n.parent) nodes i)
+parent-listed nodes parents xs h i m r at all listed is place =
+    ap or_opening (got xs i r at ∙ ap (λ xs. slice_get xs i) (all ∙ listed) ∙ slice_get-map (λ n. n.parent) nodes i)
     ∙ parent_in (slice_get nodes i)
     ∙ ap parent_of (sym (slice_get-map made_as nodes i))
     ∙ (λ j. parent_at (is j).made (sym place j))
@@ -114,7 +114,7 @@ gathered-step made falls end (suc i) way longer depth next is more pushed up = r
 -- ---- nodes that stay, one that changes, and one more
 
 module _ (nodes more : List MomentNode) where
-  made_in-more : made_in (nodes ++ more) ≡ made_in nodes ++ made_in more
+  pub made_in-more : made_in (nodes ++ more) ≡ made_in nodes ++ made_in more
   made_in-more = map-append made_as nodes more
 
 pub length-made_in : (nodes : List MomentNode) → length (made_in nodes) ≡ length nodes
@@ -190,27 +190,6 @@ nodes-push nodes n there deep few are = record {
         ∙ omega (arith, length-path longer still (length nodes), ap length above)
         ∙ ap (λ made. length (path made (suc (length nodes)))) (sym all)
 
--- ---- nodes with the list of their parents
-
-pub length-parents : (nodes : List MomentNode) (parents : List ℕ) → AreListed nodes parents → length parents ≡ length nodes
-length-parents nodes parents are = ap length are.listed ∙ length-mapped (λ (n : MomentNode). n.parent) nodes
-
-pub listed-left : (nodes fewer more : List MomentNode) (parents left : List ℕ) (n k : ℕ) → nodes ≡ fewer ++ more → fewer ≡ take n nodes → left ≡ take k parents → k ≡ n
-    → AreListed nodes parents → AreListed fewer left
-listed-left nodes fewer more parents left n k apart first others same are = record {
-  stand = nodes-left fewer more (subst AreNodes apart are.stand);
-  listed =
-      others ∙ (λ i. take (same i) (are.listed i))
-      ∙ take-map (λ (n : MomentNode). n.parent) n nodes
-      ∙ ap parents_in (sym first);
-}
-
-pub listed-set : (nodes : List MomentNode) (parents : List ℕ) (i : ℕ) (n d : MomentNode) → i < length nodes → d ≡ get_or nodes i d → made_as n ≡ made_as d → n.depth ≡ d.depth → AreListed nodes parents → AreListed (set nodes i n) parents
-listed-set nodes parents i n d within is same deep are = record {
-  stand = nodes-set nodes i n d within is same deep are.stand;
-  listed = are.listed ∙ sym (map-set_same (λ (n : MomentNode). n.parent) nodes i n d (ap (λ (e : Made). e.parent) same ∙ ap (λ (n : MomentNode). n.parent) is));
-}
-
 -- ---- a record that changes
 
 pub record_fits : (p : Places) (nodes : List MomentNode) (i : ℕ) (n : MomentNode) → i < length nodes → n ≡ get_or nodes i n → all_fit p (records_in nodes) ≡ true → fits p n.change ≡ true
@@ -245,13 +224,3 @@ nodes-pushed nodes middle new n h pushed kept is there deep few are =
     let many : length (made_in nodes) ≡ length h.made = ap length made in
     subst AreNodes (sym (pushed ∙ ap (λ xs. xs ++ n ∷ []) kept))
     (nodes-push nodes n (omega (arith, there, many, length-made_in nodes)) (deep ∙ ap (λ made. length (path made n.parent) + 1) (sym made)) (omega (arith, few, many, length-made_in nodes)) are)
-
-pub listed-pushed : (nodes middle new : List MomentNode) (parents room longer : List ℕ) (n : MomentNode) (h : Chronicle) → new ≡ middle ++ n ∷ [] → middle ≡ nodes
-    → longer ≡ room ++ n.parent ∷ [] → room ≡ parents → seen nodes ≡ h
-    → n.parent ≤ length h.made → n.depth ≡ length (path h.made n.parent) + 1 → length h.made < most_moments → AreListed nodes parents → AreListed new longer
-listed-pushed nodes middle new parents room longer n h pushed kept grown held is there deep few are = record {
-  stand = nodes-pushed nodes middle new n h pushed kept is there deep few are.stand;
-  listed =
-      grown ∙ ap (λ xs. xs ++ n.parent ∷ []) (held ∙ are.listed)
-      ∙ sym (ap parents_in (pushed ∙ ap (λ xs. xs ++ n ∷ []) kept) ∙ map-append (λ (n : MomentNode). n.parent) nodes (n ∷ []));
-}

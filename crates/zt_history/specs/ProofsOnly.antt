@@ -3,6 +3,6 @@ pub mod Timeline
 pub mod TreeInvariant
 pub mod KeptHistory
 pub mod Branches
+pub mod Forks
 pub mod MomentNodes
 pub mod ObjectNotes
-pub mod Forks

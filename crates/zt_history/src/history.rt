@@ -211,7 +211,7 @@ impl History {
     }
 
     /// The last moment on the path to one at which it happened to the object. It takes no memory, and a look at each change
-    /// of the object and at each parent on the path down to the moment that is found.
+    /// of the object, with as many at parents and jumps for each as the logarithm of the path's length.
     pub fn last_shown(&self, what: RowHappening, koid: Koid, at: Moment) -> Option<Moment>
         requires { at ≤ length self.now.tree.made }
         ensures { result ≡ last_shown what koid self.now.tree.made at }

@@ -9,7 +9,7 @@ ghost use Rattle.zt_rows.specs.Tests.{among};
 ghost use Rattle.zt_store.specs.Places.{Keeps, fits};
 ghost use Rattle.zt_store.specs.RecordRows.{all_fit};
 ghost use Rattle.zt_history.specs.ProofsOnly.Branches.{without_last};
-ghost use Rattle.zt_history.specs.ProofsOnly.Forks.{IsAbove};
+ghost use Rattle.zt_history.specs.ProofsOnly.Forks.{IsAbove, IsJump};
 ghost use Rattle.zt_history.specs.ProofsOnly.MomentNodes.{IsTurned, made_as, run_at};
 ghost use Rattle.zt_history.specs.ProofsOnly.ObjectNotes.{noted};
 ghost use Rattle.zt_history.specs.TreeInvariant.{Falls};
@@ -34,11 +34,13 @@ pub(crate) struct MomentNode {
 }
 
 /// The moments after the opening in the order in which they were made. The parents stand in a list of their own
-/// as well, so that a path is read from few bytes.
+/// as well, so that a path is read from few bytes, and so do the jumps: each leads further up its moment's path, and they
+/// lie so that any moment of a path is come to by as many jumps and parents as the logarithm of the path's length.
 #[derive(Drop)]
 pub(crate) struct Moments {
     nodes: Vec<MomentNode>,
     parents: Vec<Moment>,
+    jumps: Vec<Moment>,
 }
 
 impl Model for Moments {
@@ -48,7 +50,7 @@ impl Model for Moments {
 
     ghost view = { λ m. record { made = made_in m.nodes.items; records = records_in m.nodes.items } };
 
-    ghost invariant = { λ m. AreListed m.nodes.items m.parents.items };
+    ghost invariant = { λ m. AreListed m.nodes.items m.parents.items m.jumps.items };
 }
 
 impl Moments {
@@ -59,6 +61,7 @@ impl Moments {
         Moments {
             nodes: Vec::new(alloc),
             parents: Vec::new(alloc),
+            jumps: Vec::new(alloc),
         }
     }
 
@@ -100,6 +103,36 @@ impl Moments {
         match self.parents.get((moment.0 - 1) as usize) {
             Some(parent) => *parent,
             None => Moment(0),
+        }
+    }
+
+    /// A moment further up the path to a moment; the opening's is itself.
+    fn jump(&self, moment: Moment) -> Moment
+        ensures { IsJump self.now.made result moment }
+    {
+        if moment.0 == 0 {
+            return Moment(0);
+        }
+        match self.jumps.get((moment.0 - 1) as usize) {
+            Some(jump) => *jump,
+            None => Moment(0),
+        }
+    }
+
+    /// The jump of a moment that is made at this one: over the next two jumps where they go up equally far, else to this
+    /// one.
+    fn jump_beyond(&self, parent: Moment) -> Moment
+        requires { parent ≤ length self.now.made }
+        ensures { IsAbove self.now.made result parent }
+    {
+        self.limits();
+        let near = self.jump(parent);
+        let far = self.jump(near);
+        let depth = self.depth(near);
+        if self.depth(parent) - depth == depth - self.depth(far) {
+            far
+        } else {
+            parent
         }
     }
 
@@ -161,7 +194,8 @@ impl Moments {
         near
     }
 
-    /// The last moment on the path to one that is no later than a limit, or else the opening.
+    /// The last moment on the path to one that is no later than a limit, or else the opening. It takes as many jumps and
+    /// parents as the logarithm of the path's length.
     pub(crate) fn no_later(&self, from: Moment, limit: Moment) -> Moment
         ensures early { result ≤ limit }
         ensures same { (m : ℕ) → m ≤ limit → among (path self.now.made result) m ≡ among (path self.now.made from) m }
@@ -169,7 +203,8 @@ impl Moments {
         self.limits();
         let mut at = from;
         while at > limit {
-            at = self.parent(at);
+            let jump = self.jump(at);
+            at = if jump >= limit { jump } else { self.parent(at) };
         }
         at
     }
@@ -212,12 +247,15 @@ impl Moments {
     {
         self.limits();
         let depth = self.depth(at) + 1;
+        let jump = self.jump_beyond(at);
         let moment = Moment(self.last().0 + 1);
         self.nodes.reserve(1)?;
         self.parents.reserve(1)?;
+        self.jumps.reserve(1)?;
         let alloc = *self.nodes.allocator();
         let run = carried_out(alloc, store, notes, moment, process, call)?;
         self.parents.push_reserved(at);
+        self.jumps.push_reserved(jump);
         self.nodes.push_reserved(MomentNode {
             parent: at,
             depth,
@@ -237,6 +275,7 @@ impl Moments {
     {
         self.nodes.pop();
         self.parents.pop();
+        self.jumps.pop();
     }
 }
 

@@ -9,7 +9,8 @@ use zt_history::{History, RowHappening};
 use zt_rows::{Koid, Moment, ROOT_JOB, Refusal};
 
 /// The moment on the path to `at` at which the object was made; none where it was there at the opening. It takes no memory,
-/// and costs a look at what was noted of the object, and at each parent from `at` down to the moment that is found.
+/// and costs a look at each change that was noted of the object, with as many at parents and jumps for each as the
+/// logarithm of the path's length.
 pub fn made(
     _alloc: Global,
     history: &History,

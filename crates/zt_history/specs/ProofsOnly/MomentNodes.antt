@@ -13,6 +13,7 @@ use Rattle.zt_history.specs.declared.moments.MomentNode.{MomentNode}
 use Rattle.zt_history.specs.Tree.{Made, path}
 use Rattle.zt_history.specs.HistoryRefusals.{most_moments}
 use Rattle.zt_history.specs.TreeInvariant.{Falls}
+use Rattle.zt_history.specs.ProofsOnly.Forks.{AreJumps}
 
 abbrev pub made_as : MomentNode → Made
 made_as n = record { parent = n.parent; process = n.process; call = n.call; reply = n.reply }
@@ -36,10 +37,12 @@ pub record AreNodes (nodes : List MomentNode) : Type 0 where
 abbrev pub parents_in : List MomentNode → List ℕ
 parents_in nodes = map (λ n. n.parent) nodes
 
--- such nodes, and beside them the list of their parents
-pub record AreListed (nodes : List MomentNode) (parents : List ℕ) : Type 0 where
+-- such nodes, and beside them the list of their parents, and that of their jumps
+pub record AreListed (nodes : List MomentNode) (parents jumps : List ℕ) : Type 0 where
   pub stand : AreNodes nodes
   pub listed : parents ≡ parents_in nodes
+  pub many : length jumps ≡ length nodes
+  pub jumped : AreJumps (made_in nodes) jumps
 
 -- what a call makes at a moment, in whose state the store stands
 abbrev pub run_at : ℕ → State → ℕ → Call → Made

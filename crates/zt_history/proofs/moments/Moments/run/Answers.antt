@@ -1,7 +1,7 @@
--- The depth is one more than the parent's; the new node is a node, and its parent is listed.
+-- The depth is one more than the parent's; the new node is a node, and its parent and its jump are listed.
 use Rattle.std.proofs.Common.{◌+◌, ap, arith}
 use Rattle.zt_history.proofs.PathLaws.{short-path}
-use Rattle.zt_history.proofs.NodeLaws.{listed-pushed}
+use Rattle.zt_history.proofs.ListedLaws.{listed-pushed}
 use Rattle.zt_history.proofs.moments.Moments.run.Goals as goal
 
 pub overflow_add-depth : goal.overflow_add-depth
@@ -10,7 +10,9 @@ overflow_add-depth c =
 
 pub invariant_of-self-2 : goal.invariant_of-self-2
 invariant_of-self-2 c =
-    listed-pushed c.self.inside.nodes.items c.reserve.new.self.items c.push_reserved-2.new.self.items
-    c.self.inside.parents.items c.reserve-2.new.self.items c.push_reserved.new.self.items _ c.args.self.now
-    c.push_reserved-2.ensures.items c.reserve.ensures.items c.push_reserved.ensures.items c.reserve-2.ensures.items c.self.view_is
-    c.requires.there (ap (λ n. n + 1) c.depth-depth.ensures) c.requires.few c.self.invariant
+    listed-pushed c.self.inside.nodes.items c.reserve.new.self.items c.push_reserved-3.new.self.items _
+    c.self.inside.parents.items c.reserve-2.new.self.items c.push_reserved.new.self.items
+    c.self.inside.jumps.items c.reserve-3.new.self.items c.push_reserved-2.new.self.items c.jump_beyond-jump.result c.args.self.now
+    c.push_reserved-3.ensures.items c.reserve.ensures.items c.push_reserved.ensures.items c.reserve-2.ensures.items
+    c.push_reserved-2.ensures.items c.reserve-3.ensures.items c.self.view_is
+    c.requires.there (ap (λ n. n + 1) c.depth-depth.ensures) c.jump_beyond-jump.ensures c.requires.few c.self.invariant

@@ -2,7 +2,8 @@
 use Rattle.std.proofs.Common.{◌<◌, ◌-◌, length, refl, ◌∙◌, ap, arith}
 use Rattle.zt_store.specs.RecordRows.{all_fit}
 use Rattle.zt_history.specs.ProofsOnly.MomentNodes.{Chronicle}
-use Rattle.zt_history.proofs.NodeLaws.{length-made_in, listed-set, record_fits, turned_at}
+use Rattle.zt_history.proofs.NodeLaws.{length-made_in, record_fits, turned_at}
+use Rattle.zt_history.proofs.ListedLaws.{listed-set}
 use Rattle.zt_history.proofs.moments.Moments.turn.Goals as goal
 
 pub swap-requires : goal.swap-requires
@@ -17,7 +18,7 @@ within c = omega (arith, c.moment.view_is, c.requires.some, c.requires.there, ap
 
 pub invariant_of-self : goal.invariant_of-self
 invariant_of-self c =
-    listed-set c.self.inside.nodes.items c.self.inside.parents.items (c.moment.inside.0 - 1) _ c.index_mut-node.result.now (within c) c.index_mut-node.ensures.value refl refl c.self.invariant
+    listed-set c.self.inside.nodes.items c.self.inside.parents.items c.self.inside.jumps.items (c.moment.inside.0 - 1) _ c.index_mut-node.result.now (within c) c.index_mut-node.ensures.value refl refl c.self.invariant
 
 pub returns : goal.returns
 returns c =
