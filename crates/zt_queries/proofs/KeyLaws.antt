@@ -1,5 +1,5 @@
 -- The keys of a state one after another: each is followed by the least above it.
-use Rattle.std.proofs.Common.{◌≡◌, ℕ, zero, suc, ◌<◌, Bool, true, false, cond, ◌&&◌, T, List, [], ◌∷◌, ◌++◌, map, length, take, find, Option, Some, None, IsSome, IfSome, ◌-◌, refl, sym, ◌∙◌, ap, subst, arith, length-append}
+use Rattle.std.proofs.Common.{◌≡◌, ℕ, zero, suc, ◌<◌, Bool, true, false, cond, ◌&&◌, T, List, [], ◌∷◌, ◌++◌, map, length, take, drop, find, Option, Some, None, IsSome, IfSome, ◌-◌, refl, sym, ◌∙◌, ap, subst, arith, length-append}
 use Rattle.std.specs.List.{slice_get}
 use Rattle.std.specs.declared.cmp.Ordering.{Ordering}
 use Rattle.std.specs.declared.cmp.Ordering.TheVariants.{Less, Equal, Greater}
@@ -14,6 +14,7 @@ use Rattle.zt_rows.specs.Room.{is_above, next_key}
 use Rattle.zt_rows.specs.Change.{keys}
 use Rattle.zt_rows.specs.State.{State, row}
 use Rattle.zt_rows.proofs.StateLaws.{row-rows}
+use Rattle.zt_queries.specs.ProofsOnly.Holders.{keys_from, keys_left}
 
 abbrev keys_of : List (RowKey × Row) → List RowKey
 keys_of es = map (λ e. e.0) es
@@ -168,3 +169,56 @@ pub none_left : (S : State) (xs : List (RowKey × Row)) (next : Option RowKey) �
     → ((k : RowKey) → next ≡ Some k → ⊥) → xs ≡ S.rows
 none_left S xs next t n f =
     take_all_of (λ (e : RowKey × Row). e.0) S.rows xs t (sym n ∙ not_some next f)
+
+-- ---- the keys from one on
+
+abbrev from_next : Option RowKey → List RowKey → List RowKey
+from_next (Some k) ks = keys_from k ks
+from_next None ks = []
+
+none_behind : {A : Type 0} (xs : List A) (n : ℕ) → slice_get xs n ≡ None → [] ≡ drop n xs
+none_behind [] zero h = refl
+none_behind [] (suc n) h = refl
+none_behind (x ∷ xs) zero h = cc
+none_behind (x ∷ xs) (suc n) h = none_behind xs n h
+
+from_in : (es : List (RowKey × Row)) (n : ℕ) (k : RowKey) → T (entries.is_sorted rowkey_cmp es) → slice_get (keys_of es) n ≡ Some k → keys_from k (keys_of es) ≡ drop n (keys_of es)
+from_in [] n k s h = cc
+from_in (e ∷ es) zero k s h =
+    let same : e.0 ≡ k = some_one e.0 k h in
+    let tied : is_eq (rowkey_cmp k e.0) ≡ true = ap is_eq (ap (rowkey_cmp k) same ∙ itself k) in
+    ap (λ b. cond b (e.0 ∷ keys_of es) (keys_from k (keys_of es))) tied
+from_in (e ∷ es) (suc n) k s h =
+    let below : T (entries.below_all rowkey_cmp e.0 es) = subst T (sym (left_of (entries.below_all rowkey_cmp e.0 es) (entries.is_sorted rowkey_cmp es) s)) tt in
+    let apart : is_eq (rowkey_cmp k e.0) ≡ false = ap is_eq (not_below e.0 k (below_at e.0 es n k below h)) in
+    ap (λ b. cond b (e.0 ∷ keys_of es) (keys_from k (keys_of es))) apart
+    ∙ from_in es n k (right_of (entries.below_all rowkey_cmp e.0 es) (entries.is_sorted rowkey_cmp es) s) h
+
+-- from the key at a place on there are the keys behind that place
+left-drop : (S : State) (n : ℕ) (next : Option RowKey) → next ≡ slice_get (keys S) n → keys_left S next ≡ drop n (keys S)
+left-drop S n (Some k) h = from_in S.rows n k S.sorted (sym h)
+left-drop S n None h = none_behind (keys S) n (sym h)
+
+one_left : {A : Type 0} (xs : List A) (n : ℕ) (x : A) → slice_get xs n ≡ Some x → drop n xs ≡ x ∷ drop (suc n) xs
+one_left [] n x h = cc
+one_left (y ∷ ys) zero x h = ap (λ z. z ∷ ys) (some_one y x h)
+one_left (y ∷ ys) (suc n) x h = one_left ys n x h
+
+-- the next key stands at some place of the keys, or none is left
+abbrev pub IsWalkedTo : State → Option RowKey → Type 0
+IsWalkedTo S next = (n : ℕ) × (next ≡ slice_get (keys S) n)
+
+pub walked-first : (S : State) (next : Option RowKey) → next ≡ next_key S None → IsWalkedTo S next
+walked-first S next h = (0, h ∙ next_key-first S)
+
+pub walked-on : (S : State) (k : RowKey) (next : Option RowKey) → IsWalkedTo S (Some k) → next ≡ next_key S (Some k) → IsWalkedTo S next
+walked-on S k next w h = (suc w.0, h ∙ next_key-after S w.0 k (sym w.1))
+
+pub left-first : (S : State) (next : Option RowKey) → next ≡ next_key S None → keys_left S next ≡ keys S
+left-first S next h = left-drop S 0 next (h ∙ next_key-first S)
+
+pub left-on : (S : State) (k : RowKey) (next : Option RowKey) → IsWalkedTo S (Some k) → next ≡ next_key S (Some k) → keys_left S (Some k) ≡ k ∷ keys_left S next
+left-on S k next w h =
+    left-drop S w.0 (Some k) w.1
+    ∙ one_left (keys S) w.0 k (sym w.1)
+    ∙ ap (λ l. k ∷ l) (sym (left-drop S (suc w.0) next (h ∙ next_key-after S w.0 k (sym w.1))))

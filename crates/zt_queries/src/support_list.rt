@@ -1,13 +1,13 @@
-ghost use Rattle.std.specs.Prelude.{◌≡◌, ◌==◌, ◌++◌, ◌∷◌, [], Some, Ok, IfOk, IfErr, OnOk, if◌then◌else◌};
+ghost use Rattle.std.specs.Prelude.{◌≡◌, ◌==◌, ◌||◌, ◌-◌, ◌++◌, ◌∷◌, [], Some, Ok, IfOk, IfErr, OnOk, length, if◌then◌else◌};
 ghost use Rattle.std.specs.List.{cons_option};
 ghost use Rattle.zt_rows.specs.Change.{keys};
 ghost use Rattle.zt_rows.specs.Reads.{object, is_live_job, is_live_process};
 ghost use Rattle.zt_rows.specs.State.{row};
-ghost use Rattle.zt_rows.specs.Support.{entry_support, child_support, message_supports, places, children, itself, supports};
+ghost use Rattle.zt_rows.specs.Support.{entry_support, child_support, message_supports, places, children, itself, root_job, supports};
 ghost use Rattle.zt_history.specs.HistoryRefusals.{IsHistoryRefusal};
 ghost use Rattle.zt_history.specs.Tree.{state_at};
 ghost use Rattle.zt_queries.specs.FrozenCopy.{holders_on};
-ghost use Rattle.zt_queries.specs.ProofsOnly.Holders.{supports_by, supports_at, supports_in};
+ghost use Rattle.zt_queries.specs.ProofsOnly.Holders.{AddsUpTo, supports_by, supports_at, supports_in};
 
 use crate::frozen::Frozen;
 use std::alloc::{AllocError, Global};
@@ -53,7 +53,8 @@ fn holders_in(alloc: Global, store: &Store, koid: Koid) -> Result<Items<Support>
     Ok(Items::new(found))
 }
 
-/// What keeps the object of the koid, of which this is the row.
+/// What keeps the object of the koid, of which this is the row. Each kind is looked for until there are as many as the store
+/// counts.
 fn supports_of(
     alloc: Global,
     store: &Store,
@@ -63,13 +64,29 @@ fn supports_of(
     requires { object store.now.state koid ≡ Some found.now }
     ensures { IfOk result (λ list. list.items ≡ supports store.now.state koid) }
 {
-    let keys = keys_of(alloc, store)?;
+    let others = store
+        .count(koid)
+        .saturating_sub(u64::from(keeps_itself(koid, found)));
+    let named = without_children(others, store, koid, found);
     let mut list = Vec::new(alloc);
-    add_supports(&mut list, store, keys.as_slice(), Source::Entries, koid)?;
-    add_supports(&mut list, store, keys.as_slice(), Source::Messages, koid)?;
-    add_children(&mut list, store, keys.as_slice(), koid, found)?;
+    add_supports(&mut list, store, Source::Entries, koid, named)?;
+    add_supports(&mut list, store, Source::Messages, koid, named)?;
+    add_children(&mut list, store, koid, found, others)?;
     add_itself(&mut list, koid, found)?;
     Ok(list)
+}
+
+/// So many without the live children that keep the object.
+fn without_children(others: u64, store: &Store, koid: Koid, found: &ObjectRow) -> u64
+    ensures { result ≡ others - length (children (Some found.now) koid store.now.state.rows) }
+{
+    if is_live_job(found) {
+        others
+            .saturating_sub(store.child_jobs(koid))
+            .saturating_sub(store.child_processes(koid))
+    } else {
+        others
+    }
 }
 
 /// The keys of the store, in their order.
@@ -86,20 +103,19 @@ pub(crate) fn keys_of(alloc: Global, store: &Store) -> Result<Vec<RowKey>, Alloc
     Ok(list)
 }
 
-/// Puts the live children of a live job behind the others.
+/// Puts the live children of a live job behind the others, until there are so many.
 #[tactic(auto, using(crate::proofs::HoldLaws::children_in))]
 fn add_children(
     list: &mut Vec<Support>,
     store: &Store,
-    all: &[RowKey],
     koid: Koid,
     found: &ObjectRow,
+    most: u64,
 ) -> Result<(), AllocError>
-    requires { all.now ≡ keys store.now.state }
-    ensures { OnOk result (list.new.items ≡ list.old.items ++ children (Some found.now) koid store.now.state.rows) }
+    ensures { OnOk result (AddsUpTo list.old.items (children (Some found.now) koid store.now.state.rows) most list.new.items) }
 {
     if is_live_job(found) {
-        add_supports(list, store, all, Source::Children, koid)?;
+        add_supports(list, store, Source::Children, koid, most)?;
     }
     Ok(())
 }
@@ -108,25 +124,38 @@ fn add_children(
 fn add_itself(list: &mut Vec<Support>, koid: Koid, found: &ObjectRow) -> Result<(), AllocError>
     ensures { OnOk result (list.new.items ≡ list.old.items ++ itself (Some found.now) koid) }
 {
-    if is_live_process(found) || koid == ROOT_JOB {
+    if keeps_itself(koid, found) {
         list.push(Support::Itself)?;
     }
     Ok(())
 }
 
-/// Puts the supports that come from one part of the rows behind the others, in the order of their rows.
+/// Whether the object keeps itself.
+fn keeps_itself(koid: Koid, found: &ObjectRow) -> bool
+    ensures { result ≡ (is_live_process found.now || (koid == root_job)) }
+{
+    is_live_process(found) || koid == ROOT_JOB
+}
+
+/// Puts the supports that come from one part of the rows behind the others, in the order of their rows, until there are so
+/// many.
 fn add_supports(
     list: &mut Vec<Support>,
     store: &Store,
-    all: &[RowKey],
     part: Source,
     koid: Koid,
+    most: u64,
 ) -> Result<(), AllocError>
-    requires { all.now ≡ keys store.now.state }
-    ensures { OnOk result (list.new.items ≡ list.old.items ++ supports_in part koid store.now.state) }
+    ensures { OnOk result (AddsUpTo list.old.items (supports_in part koid store.now.state) most list.new.items) }
 {
-    for key in all {
-        add_under(list, store, *key, part, koid)?;
+    let mut next = store.after(None);
+    while let Some(key) = next {
+        if list.len() as u64 >= most {
+            return Ok(());
+        }
+        let asked = key;
+        add_under(list, store, asked, part, koid)?;
+        next = store.after(Some(key));
     }
     Ok(())
 }

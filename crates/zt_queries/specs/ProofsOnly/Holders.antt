@@ -1,10 +1,13 @@
 -- What keeps an object, as it is gathered: row by row, each kind of support for itself. This project's own.
 -- Used by proofs only.
-use Rattle.std.specs.Prelude.{ℕ, List, [], ◌∷◌, Option, None, Some}
+use Rattle.std.specs.Prelude.{◌≡◌, ◌<◌, ◌++◌, ℕ, List, [], ◌∷◌, Option, None, Some, cond, length}
 use Rattle.std.specs.List.{filter_map, flat_map}
+use Rattle.std.specs.Ordering.{is_eq}
 use Rattle.zt_rows.specs.declared.keys.RowKey.{RowKey}
 use Rattle.zt_rows.specs.declared.rows.Row.{Row}
 use Rattle.zt_rows.specs.declared.supports.Support.{Support}
+use Rattle.zt_rows.specs.Change.{keys}
+use Rattle.zt_rows.specs.Keys.{rowkey_cmp}
 use Rattle.zt_rows.specs.State.{State}
 use Rattle.zt_rows.specs.Support.{entry_support, message_supports, child_support}
 use Rattle.zt_queries.specs.declared.support_list.Source.{Source}
@@ -24,3 +27,19 @@ supports_at which x k None = []
 -- the supports of this kind that all rows give x
 abbrev pub supports_in : Source → ℕ → State → List Support
 supports_in which x S = flat_map (supports_by which x) S.rows
+
+-- the supports were put behind the old ones, all of them or at least so many that there are `most`
+pub record AddsUpTo (old part : List Support) (most : ℕ) (new : List Support) : Type 0 where
+  pub left : List Support
+  pub whole : new ++ left ≡ old ++ part
+  pub ended : length new < most → left ≡ []
+
+-- the keys from this one on
+abbrev pub keys_from : RowKey → List RowKey → List RowKey
+keys_from k [] = []
+keys_from k (q ∷ qs) = cond (is_eq (rowkey_cmp k q)) (q ∷ qs) (keys_from k qs)
+
+-- the keys of S from the next one on
+abbrev pub keys_left : State → Option RowKey → List RowKey
+keys_left S (Some k) = keys_from k (keys S)
+keys_left S None = []
