@@ -1,5 +1,8 @@
 pub mod NumberLemmas
 pub mod CutLemmas
+pub mod Places
+pub mod Spelled
+pub mod CallNames
 pub mod ByteLemmas
 pub mod ListLemmas
 pub mod FieldLemmas

@@ -47,6 +47,23 @@ refused bs i n low e out (all, fits) =
 pub all_more : (p : ℕ → Bool) (bs : List ℕ) (i : ℕ) → i < length bs → list_all p (take i bs) ≡ true → p (get_or bs i 0) ≡ true → list_all p (take (i + 1) bs) ≡ true
 all_more p bs i low all here = rw (list_all_more p bs i 0 low, all) here
 
+-- a digit stands for nine at most
+pub digit_small : (b : ℕ) → is_ascii_digit b ≡ true → b - 48 ≤ 9
+digit_small b d = grind (arith, nat_tests)
+
+-- one digit more
+pub room_more : (i n d : ℕ) → n < 10 ^ i → d ≤ 9 → n * 10 + d < 10 ^ (i + 1)
+room_more i n d small digit =
+    let e : 10 ^ (i + 1) ≡ 10 ^ i * 10 = pow_more 10 i in
+    omega arith
+
+-- nineteen of them fit 64 bits
+pub few_fit : (i n : ℕ) → i ≤ 19 → n < 10 ^ i → n < 2 ^ 64
+few_fit i n low small = let most : 10 ^ i ≤ 10 ^ 19 = pow-le-pow_right (lit< tt) low in omega arith
+
+pub next_fits : (i n d : ℕ) → i < 19 → n < 10 ^ i → d ≤ 9 → n * 10 + d < 2 ^ 64
+next_fits i n d low small digit = few_fit (i + 1) (n * 10 + d) (omega arith) (room_more i n d small digit)
+
 -- the value of a hexadecimal digit
 pub hex_small : (b : ℕ) → is_hex_digit b ≡ true → digit_value b < 16
 hex_small b h = grind (arith, nat_tests)

@@ -3,3 +3,4 @@ pub mod Calls
 pub mod Session
 pub mod Cut
 pub mod SavedTexts
+pub mod CallNames

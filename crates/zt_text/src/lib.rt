@@ -2,6 +2,7 @@
 #![tactic(auto)]
 
 mod bytes;
+mod call_names;
 mod fields;
 pub mod laws;
 mod lists;

@@ -5,6 +5,9 @@ ghost use Rattle.std.specs.List.{list_all};
 ghost use Rattle.std.specs.Str.Parse.{digits_value};
 ghost use Rattle.zt_text.specs.Numbers.{has_leading_zero, decimal_of, negative, code_of, mask_of, is_hex_digit};
 
+/// The most digits of which each number has 64 bits.
+const DIGITS_THAT_FIT: usize = 19;
+
 /// The number that the bytes write in decimal digits, without leading zeros and up to `most`.
 #[tactic(auto, unfolding(crate::specs::Numbers::decimal_of))]
 pub fn decimal(bytes: &[u8], most: u64) -> Option<u64>
@@ -32,6 +35,32 @@ fn digits(bytes: &[u8]) -> Option<u64>
     ensures { SomeIff result (IsTrue (list_all is_ascii_digit bytes.now) × (digits_value 10 bytes.now < 2 ^ 64))
         (digits_value 10 bytes.now) }
 {
+    if bytes.len() <= DIGITS_THAT_FIT {
+        few_digits(bytes)
+    } else {
+        many_digits(bytes)
+    }
+}
+
+/// The same, of so few digits that each number of them fits.
+fn few_digits(bytes: &[u8]) -> Option<u64>
+    requires { length bytes.now ≤ 19 }
+    ensures { SomeIff result (IsTrue (list_all is_ascii_digit bytes.now) × (digits_value 10 bytes.now < 2 ^ 64))
+        (digits_value 10 bytes.now) }
+{
+    let mut number = 0u64;
+    for byte in bytes {
+        let digit = digit(*byte)?;
+        number = number * 10 + digit;
+    }
+    Some(number)
+}
+
+/// The same, of more digits.
+fn many_digits(bytes: &[u8]) -> Option<u64>
+    ensures { SomeIff result (IsTrue (list_all is_ascii_digit bytes.now) × (digits_value 10 bytes.now < 2 ^ 64))
+        (digits_value 10 bytes.now) }
+{
     let mut number = 0u64;
     for byte in bytes {
         number = with_digit(number, *byte)?;
@@ -39,15 +68,23 @@ fn digits(bytes: &[u8]) -> Option<u64>
     Some(number)
 }
 
+/// What a digit stands for.
+fn digit(byte: u8) -> Option<u64>
+    ensures { SomeIff result (IsTrue (is_ascii_digit byte)) (byte - 48) }
+{
+    if byte.is_ascii_digit() {
+        Some(u64::from(byte - b'0'))
+    } else {
+        None
+    }
+}
+
 /// The number that one digit more makes.
 fn with_digit(number: u64, byte: u8) -> Option<u64>
     ensures { SomeIff result (IsTrue (is_ascii_digit byte) × (number * 10 + (byte - 48) < 2 ^ 64))
         (number * 10 + (byte - 48)) }
 {
-    if !byte.is_ascii_digit() {
-        return None;
-    }
-    number.checked_mul(10)?.checked_add(u64::from(byte - b'0'))
+    number.checked_mul(10)?.checked_add(digit(byte)?)
 }
 
 /// The code that the bytes write in decimal digits, with `-` before one below zero.

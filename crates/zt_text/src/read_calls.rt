@@ -1,120 +1,54 @@
 ghost use Rattle.std.specs.Prelude.{◌≡◌, IfOk, IfErr};
 ghost use Rattle.zt_text.specs.ReadLines.{IsUnread, has_parcel};
-ghost use Rattle.zt_text.specs.ReadCalls.{call, any_call_named, call_named, handle_call_named, channel_call_named, channel_create, channel_write, channel_read, port_call_named, port_create, object_wait_async, port_queue, port_wait, port_cancel, task_call_named, job_create, spawn, job_set_critical, task_kill, process_exit, event_create, eventpair_create, handle_close, handle_duplicate, handle_replace, object_signal, object_signal_peer};
+ghost use Rattle.zt_text.specs.ProofsOnly.CallNames.{call_with};
+ghost use Rattle.zt_text.specs.ReadCalls.{call, channel_create, channel_write, channel_read, port_create, object_wait_async, port_queue, port_wait, port_cancel, job_create, spawn, job_set_critical, task_kill, process_exit, event_create, eventpair_create, handle_close, handle_duplicate, handle_replace, object_signal, object_signal_peer};
 
-use crate::fields::{Field, Fields};
+use crate::call_names::CallName;
+use crate::fields::Fields;
 use crate::write_arguments::Write;
 use std::alloc::Global;
 use zt_rows::{Call, Refusal};
 
 /// The call that the fields behind the process write.
-#[tactic(auto, unfolding(crate::specs::ReadCalls::call))]
+#[tactic(auto, using(crate::proofs::CallNames::named), unfolding(crate::specs::ReadCalls::call))]
 pub fn call(alloc: Global, fields: Fields<'_>) -> Result<Call, Refusal>
     ensures read { IfOk result (λ made. call fields.entry ≡ Ok made) }
     ensures refused { IfErr result (λ refusal. IsUnread has_parcel (call fields.entry) refusal) }
 {
     let (name, rest) = fields.next()?;
-    any_call_named(alloc, &name, rest)
-}
-
-/// The call of this name, with the arguments behind it.
-#[tactic(auto, unfolding(crate::specs::ReadCalls::any_call_named))]
-fn any_call_named(alloc: Global, name: &Field<'_>, rest: Fields<'_>) -> Result<Call, Refusal>
-    ensures read { IfOk result (λ made. any_call_named name.now rest.entry ≡ Ok made) }
-    ensures refused { IfErr result (λ refusal. IsUnread has_parcel (any_call_named name.now rest.entry) refusal) }
-{
-    if name.is("channel_write") {
-        channel_write(rest)?.to_call(alloc)
-    } else {
-        call_named(name, rest)
+    match CallName::of(name.bytes()) {
+        Some(named) => call_named(alloc, named, rest),
+        None => Err(name.fault()),
     }
 }
 
 /// The call of this name, with the arguments behind it.
-#[tactic(auto, unfolding(crate::specs::ReadCalls::call_named))]
-fn call_named(name: &Field<'_>, rest: Fields<'_>) -> Result<Call, Refusal>
-    ensures { result ≡ call_named name.now rest.entry }
+#[tactic(auto, unfolding(crate::specs::ProofsOnly::CallNames::call_with))]
+fn call_named(alloc: Global, name: CallName, rest: Fields<'_>) -> Result<Call, Refusal>
+    ensures read { IfOk result (λ made. call_with name rest.entry ≡ Ok made) }
+    ensures refused { IfErr result (λ refusal. IsUnread has_parcel (call_with name rest.entry) refusal) }
 {
-    if name.is("event_create") {
-        event_create(rest)
-    } else if name.is("eventpair_create") {
-        eventpair_create(rest)
-    } else if name.is("object_signal") {
-        object_signal(rest)
-    } else if name.is("object_signal_peer") {
-        object_signal_peer(rest)
-    } else {
-        handle_call_named(name, rest)
-    }
-}
-
-/// The call of this name, of those on handles, with the arguments behind it.
-#[tactic(auto, unfolding(crate::specs::ReadCalls::handle_call_named))]
-fn handle_call_named(name: &Field<'_>, rest: Fields<'_>) -> Result<Call, Refusal>
-    ensures { result ≡ handle_call_named name.now rest.entry }
-{
-    if name.is("handle_close") {
-        handle_close(rest)
-    } else if name.is("handle_duplicate") {
-        handle_duplicate(rest)
-    } else if name.is("handle_replace") {
-        handle_replace(rest)
-    } else {
-        channel_call_named(name, rest)
-    }
-}
-
-/// The call of this name, of those on channels that carry no parcel, with the arguments behind it.
-#[tactic(auto, unfolding(crate::specs::ReadCalls::channel_call_named))]
-fn channel_call_named(name: &Field<'_>, rest: Fields<'_>) -> Result<Call, Refusal>
-    ensures { result ≡ channel_call_named name.now rest.entry }
-{
-    if name.is("channel_create") {
-        channel_create(rest)
-    } else if name.is("channel_read") {
-        channel_read(rest)
-    } else {
-        port_call_named(name, rest)
-    }
-}
-
-/// The call of this name, of those on ports, with the arguments behind it.
-#[tactic(auto, unfolding(crate::specs::ReadCalls::port_call_named))]
-fn port_call_named(name: &Field<'_>, rest: Fields<'_>) -> Result<Call, Refusal>
-    ensures { result ≡ port_call_named name.now rest.entry }
-{
-    if name.is("port_create") {
-        port_create(rest)
-    } else if name.is("object_wait_async") {
-        object_wait_async(rest)
-    } else if name.is("port_queue") {
-        port_queue(rest)
-    } else if name.is("port_wait") {
-        port_wait(rest)
-    } else if name.is("port_cancel") {
-        port_cancel(rest)
-    } else {
-        task_call_named(name, rest)
-    }
-}
-
-/// The call of this name, of those on jobs and processes, with the arguments behind it.
-#[tactic(auto, unfolding(crate::specs::ReadCalls::task_call_named))]
-fn task_call_named(name: &Field<'_>, rest: Fields<'_>) -> Result<Call, Refusal>
-    ensures { result ≡ task_call_named name.now rest.entry }
-{
-    if name.is("job_create") {
-        job_create(rest)
-    } else if name.is("spawn") {
-        spawn(rest)
-    } else if name.is("job_set_critical") {
-        job_set_critical(rest)
-    } else if name.is("task_kill") {
-        task_kill(rest)
-    } else if name.is("process_exit") {
-        process_exit(rest)
-    } else {
-        Err(name.fault())
+    match name {
+        CallName::ChannelWrite => write_call(alloc, rest),
+        CallName::EventCreate => event_create(rest),
+        CallName::EventPairCreate => eventpair_create(rest),
+        CallName::ObjectSignal => object_signal(rest),
+        CallName::ObjectSignalPeer => object_signal_peer(rest),
+        CallName::HandleClose => handle_close(rest),
+        CallName::HandleDuplicate => handle_duplicate(rest),
+        CallName::HandleReplace => handle_replace(rest),
+        CallName::ChannelCreate => channel_create(rest),
+        CallName::ChannelRead => channel_read(rest),
+        CallName::PortCreate => port_create(rest),
+        CallName::ObjectWaitAsync => object_wait_async(rest),
+        CallName::PortQueue => port_queue(rest),
+        CallName::PortWait => port_wait(rest),
+        CallName::PortCancel => port_cancel(rest),
+        CallName::JobCreate => job_create(rest),
+        CallName::Spawn => spawn(rest),
+        CallName::JobSetCritical => job_set_critical(rest),
+        CallName::TaskKill => task_kill(rest),
+        CallName::ProcessExit => process_exit(rest),
     }
 }
 
@@ -239,6 +173,16 @@ fn channel_write(fields: Fields<'_>) -> Result<Write<'_>, Refusal>
     let (handles, rest) = rest.handles()?;
     rest.end()?;
     Ok(Write::new(handle, bytes, handles))
+}
+
+/// The call of a `channel_write`. It is a function of its own that is not taken into its caller, since the handles that
+/// it lists have room on the stack, which no other call is to pay for.
+#[inline(never)]
+fn write_call(alloc: Global, fields: Fields<'_>) -> Result<Call, Refusal>
+    ensures read { IfOk result (λ made. channel_write fields.entry ≡ Ok made) }
+    ensures refused { IfErr result (λ refusal. IsUnread has_parcel (channel_write fields.entry) refusal) }
+{
+    channel_write(fields)?.to_call(alloc)
 }
 
 #[tactic(auto, unfolding(crate::specs::ReadCalls::channel_read))]

@@ -1,5 +1,5 @@
 -- Cutting bytes at a separator, and what is left of a line as the fields that are to be read. Used by proofs only.
-use Rattle.std.specs.Prelude.{◌≡◌, ℕ, ◌+◌, ◌-◌, ◌^◌, ◌<◌, ◌≤◌, List, [], ◌∷◌, length, Option, Some, None}
+use Rattle.std.specs.Prelude.{◌≡◌, ℕ, ◌+◌, ◌-◌, ◌^◌, ◌<◌, ◌≤◌, ◌==◌, false, List, [], ◌∷◌, length, slice_index, Option, Some, None}
 use Rattle.std.specs.Option.{ForSome}
 use denote.Ref.{Bor}
 use Rattle.zt_text.specs.Fields.{Unread, placed, fields_of, parts_of}
@@ -19,6 +19,10 @@ abbrev pub IsCut : ℕ → List ℕ → List ℕ → Option (Bor (List ℕ)) →
 IsCut separator bytes first None = (parts_of separator bytes ≡ first ∷ []) × (length first ≡ length bytes)
 IsCut separator bytes first (Some left) =
     (parts_of separator bytes ≡ first ∷ parts_of separator left.now) × (length first + 1 + length left.now ≡ length bytes)
+
+-- none of the bytes from one place up to another is the separator
+abbrev pub IsClear : ℕ → List ℕ → ℕ → ℕ → Type 0
+IsClear separator bytes from to = (k : ℕ) → from ≤ k → k < to → (slice_index bytes k == separator) ≡ false
 
 -- the parts of what is left; none where no separator was left
 abbrev pub parts_left : ℕ → Option (Bor (List ℕ)) → List (List ℕ)

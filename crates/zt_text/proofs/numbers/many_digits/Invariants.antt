@@ -2,7 +2,7 @@ use Rattle.std.proofs.Common.{◌≡◌, ◌<◌, ◌^◌, true, take}
 use Rattle.std.specs.Char.{is_ascii_digit}
 use Rattle.std.specs.List.{list_all}
 use Rattle.std.specs.Str.Parse.{digits_value}
-use Rattle.zt_text.proofs.numbers.digits.Given as goal
+use Rattle.zt_text.proofs.numbers.many_digits.Given as goal
 
 -- the bytes so far are digits, and the number is what they write
 abbrev pub invariant-loop-byte : goal.invariant-loop-byte

@@ -1,7 +1,7 @@
 use Rattle.std.proofs.Common.{◌∙◌, arith}
 use Rattle.std.specs.Char.{is_ascii_digit}
 use Rattle.zt_text.proofs.NumberLemmas.{refused, value_more, all_more, whole}
-use Rattle.zt_text.proofs.numbers.digits.Goals as goal
+use Rattle.zt_text.proofs.numbers.many_digits.Goals as goal
 
 pub returns-in_err-number : goal.returns-in_err-number
 returns-in_err-number c =
