@@ -1,11 +1,11 @@
 ghost use Rattle.std.specs.Prelude.{◌≡◌, ◌++◌, IfOk, OnOk};
-ghost use Rattle.zt_rows.specs.State.{row};
+ghost use Rattle.std.specs.Option.{option_copied};
 ghost use Rattle.zt_store.specs.StepView.{DiffersAtTouched};
 ghost use Rattle.zt_cascade.specs.ToldObjects.{NamesLost};
 ghost use Rattle.zt_calls.specs.ProofsOnly.LostObjects.{named_by};
 
 use std::alloc::{AllocError, Global};
-use zt_rows::{Held, Row, RowKey};
+use zt_rows::{Held, Row};
 use zt_store::Step;
 
 /// What the entries and messages that were put in this step held at its beginning: all that those of them held
@@ -16,19 +16,19 @@ pub(crate) fn lost(alloc: Global, step: &Step) -> Result<Vec<Held>, AllocError>
 {
     let mut list = Vec::new(alloc);
     for i in 0..usize::MAX {
-        let Some(key) = step.touched(i) else {
+        let Some(_) = step.touched(i) else {
             return Ok(list);
         };
-        add_named(step, key, &mut list)?;
+        add_named(step.touched_was(i), &mut list)?;
     }
     Err(AllocError)
 }
 
-/// Adds to the list what the entry or the message under the key held at the beginning of the step.
-fn add_named(step: &Step, key: RowKey, list: &mut Vec<Held>) -> Result<(), AllocError>
-    ensures { OnOk result (list.new.items ≡ list.old.items ++ named_by (row step.now.beginning key)) }
+/// Adds to the list what the entry or the message held.
+fn add_named(first: Option<&Row>, list: &mut Vec<Held>) -> Result<(), AllocError>
+    ensures { OnOk result (list.new.items ≡ list.old.items ++ named_by (option_copied first.entry)) }
 {
-    match step.was(key) {
+    match first {
         Some(Row::Entry(held)) => list.push(*held)?,
         Some(Row::Msg(message)) => list.extend_from_slice(message.handles().as_slice())?,
         _ => {}

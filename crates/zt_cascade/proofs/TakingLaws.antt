@@ -26,8 +26,6 @@ use Rattle.zt_cascade.specs.OneByOne.{is_named, IsLetGo, by_message, by_link}
 use Rattle.zt_cascade.specs.JoinedLinks.{IsJoined}
 use Rattle.zt_index.specs.Chains.{IsNext}
 use Rattle.zt_index.specs.Criteria.{is_for, waits_where}
-use Rattle.zt_store.specs.StepView.{Stepping}
-use Rattle.zt_store.specs.ProofsOnly.StepView.{IsAhead}
 use Rattle.zt_store.specs.KoidSets.{only}
 use Rattle.zt_cascade.specs.ProofsOnly.RemovedObject.{left_at, left_behind, IsLeft, weighs, weight, IsPartly, koids, handles_in, AreHandlesListed}
 use Rattle.zt_cascade.proofs.LeavingLaws.{left-none, left-object, left-wait, left-stays, behind-left, behind-lighter, behind-gone, partly-behind, partly-more, partly-then, partly-end, all-left, suited-partly}

@@ -1,4 +1,4 @@
-ghost use Rattle.std.specs.Prelude.{◌≡◌, ◌++◌, IfOk, OnErr, OnOk};
+ghost use Rattle.std.specs.Prelude.{◌≡◌, ◌++◌, [], IfOk, OnErr, OnOk};
 ghost use Rattle.zt_rows.specs.Consistent.{IsConsistent};
 ghost use Rattle.zt_rows.specs.Settle.{refresh, settle};
 ghost use Rattle.zt_rows.specs.Tests.{link_at};
@@ -9,7 +9,7 @@ ghost use Rattle.zt_cascade.specs.PacketRoom.{HasRoomToFire};
 ghost use Rattle.zt_cascade.specs.ProofsOnly.NearObjects.{both, near, near_touched};
 
 use crate::fired_waits::fire_all;
-use crate::worklist::{AT_FIRST, first_link};
+use crate::worklist::first_link;
 use std::alloc::{AllocError, Global};
 use zt_rows::{Koid, RowKey};
 use zt_store::Step;
@@ -40,30 +40,32 @@ fn settle_all(step: &mut Step, alloc: Global) -> Result<(), AllocError>
     ensures ahead { IsAhead step.old step.new }
     ensures ok { OnOk result (step.new.current ≡ settle step.old.beginning step.old.current) }
 {
-    renew_near(step, alloc)?;
+    renew_near(step)?;
     fire_all(step, alloc)
 }
 
 /// Writes the derived signals anew of all that is near a key that was put in this step.
-fn renew_near(step: &mut Step, alloc: Global) -> Result<(), AllocError>
+fn renew_near(step: &mut Step) -> Result<(), AllocError>
     requires { IsConsistent step.old.beginning }
     ensures ahead { IsAhead step.old step.new }
     ensures ok { OnOk result (step.new.current ≡ refresh step.old.current) }
 {
     // All are gathered before the first is renewed, since renewing puts rows.
-    let near = near_touched(step, alloc)?;
+    let list = step.take_koids();
+    let near = near_touched(step, list)?;
     for koid in &near {
         zt_signals::refresh(step, *koid)?;
     }
+    step.keep_koids(near);
     Ok(())
 }
 
-/// The objects near the keys that were put in this step. It differs from its beginning under these keys alone.
-fn near_touched(step: &Step, alloc: Global) -> Result<Vec<Koid>, AllocError>
+/// The objects near the keys that were put in this step, in the empty list. It differs from its beginning under these keys alone.
+fn near_touched(step: &Step, mut list: Vec<Koid>) -> Result<Vec<Koid>, AllocError>
+    requires { list.items ≡ [] }
     ensures near { IfOk result (λ list. list.items ≡ near_touched step.now) }
     ensures differs { OnOk result (DiffersAtTouched step.now) }
 {
-    let mut list = Vec::with_capacity(alloc, AT_FIRST)?;
     for i in 0..usize::MAX {
         let Some(key) = step.touched(i) else {
             return Ok(list);

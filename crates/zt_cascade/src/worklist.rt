@@ -18,21 +18,18 @@ use std::alloc::{AllocError, Global};
 use zt_rows::{Held, Koid, ObjectRow, RowKey};
 use zt_store::Step;
 
-/// For how many objects a list has room at first: more than most calls touch.
-pub(crate) const AT_FIRST: usize = 16;
-
 /// Takes out all objects that nothing supports, with what they own, and what goes after them: "releasing is
 /// collecting". Each object that may go has to be told of, by a handle in the list or by a row put in this step. The
 /// work grows with what goes and with the keys that the step put, and not with the rows that there are: the waits for an
 /// object that goes are found by it. Refused for memory, the step is as it was begun.
-pub fn release(step: &mut Step, alloc: Global, released: Vec<Held>) -> Result<(), AllocError>
+pub fn release(step: &mut Step, _alloc: Global, released: Vec<Held>) -> Result<(), AllocError>
     requires joined { IsJoined step.old.current }
     requires covered { IsCovered step.old released.items }
     ensures ok { OnOk result (Advanced step.old step.new (collect step.old.current)) }
     ensures err { OnErr result (AsBegun step.old step.new) }
     ensures kept { Keeps step.old.places step.new.places }
 {
-    let done = release_all(step, alloc, released.as_slice());
+    let done = release_all(step, released.as_slice());
     if done.is_err() {
         step.reset();
     }
@@ -40,25 +37,27 @@ pub fn release(step: &mut Step, alloc: Global, released: Vec<Held>) -> Result<()
 }
 
 /// Takes out what goes. Refused, the step stands in the middle of it.
-fn release_all(step: &mut Step, alloc: Global, released: &[Held]) -> Result<(), AllocError>
+fn release_all(step: &mut Step, released: &[Held]) -> Result<(), AllocError>
     requires joined { IsJoined step.old.current }
     requires covered { IsCovered step.old released.now }
     ensures ahead { IsAhead step.old step.new }
     ensures ok { OnOk result (step.new.current ≡ collect step.old.current) }
 {
-    let list = list_all(step, alloc, released)?;
-    follow(step, list)
+    let mut list = step.take_koids();
+    list_all(step, &mut list, released)?;
+    follow(step, &mut list)?;
+    step.keep_koids(list);
+    Ok(())
 }
 
-/// The list of all that the step tells of.
-fn list_all(step: &Step, alloc: Global, released: &[Held]) -> Result<Vec<Koid>, AllocError>
+/// Lists all that the step tells of.
+fn list_all(step: &Step, list: &mut Vec<Koid>, released: &[Held]) -> Result<(), AllocError>
     requires { IsCovered step.now released.now }
-    ensures { IfOk result (λ list. Covers list.items step.now.current) }
+    ensures { OnOk result (Covers list.new.items step.now.current) }
 {
-    let mut list = Vec::with_capacity(alloc, AT_FIRST)?;
-    add_touched(step, &mut list)?;
-    add_koids(&mut list, released)?;
-    Ok(list)
+    add_touched(step, list)?;
+    add_koids(list, released)?;
+    Ok(())
 }
 
 /// Adds to the list the objects whose rows were put in this step, and their links at its beginning.
@@ -98,15 +97,14 @@ pub(crate) fn first_link(step: &Step, koid: Koid) -> Koid
 }
 
 /// Takes out the objects of the list that nothing supports, and what goes after them, until nothing goes.
-fn follow(step: &mut Step, list: Vec<Koid>) -> Result<(), AllocError>
+fn follow(step: &mut Step, list: &mut Vec<Koid>) -> Result<(), AllocError>
     requires joined { IsJoined step.old.current }
-    requires covered { Covers list.items step.old.current }
+    requires covered { Covers list.old.items step.old.current }
     ensures ahead { IsAhead step.old step.new }
     ensures ok { OnOk result (step.new.current ≡ collect step.old.current) }
 {
-    let mut list = list;
     while let Some(koid) = list.pop() {
-        look_at(step, koid, &mut list)?;
+        look_at(step, koid, list)?;
     }
     Ok(())
 }

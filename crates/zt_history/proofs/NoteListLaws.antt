@@ -1,6 +1,6 @@
 -- Changes as they are listed and chained: one more, one less, the last ones of a moment dropped, and the chain of an object
 -- gone along from its last change.
-use Rattle.std.proofs.Common.{◌≡◌, ℕ, zero, suc, ◌+◌, ◌-◌, ◌≤◌, ◌<◌, Bool, true, false, ◌&&◌, List, [], ◌∷◌, ◌⊎◌, ◌++◌, length, set, take, get_or, Option, Some, None, refl, sym, ◌∙◌, ap, subst, inl, inr, arith, append-nil}
+use Rattle.std.proofs.Common.{◌≡◌, ℕ, zero, suc, ◌+◌, ◌-◌, ◌≤◌, ◌<◌, Bool, true, false, ◌&&◌, List, [], ◌∷◌, ◌⊎◌, ◌++◌, length, map, set, take, get_or, Option, Some, None, refl, sym, ◌∙◌, ap, subst, inl, inr, arith, append-nil}
 use Rattle.std.specs.Prelude.{◌==◌, if◌then◌else◌, slice_get}
 use Rattle.std.specs.List.{AllByRecursion}
 use Rattle.std.specs.Option.{option_map}
@@ -10,7 +10,9 @@ use Rattle.std.proofs.lemmas.Option.{get_or_from_slice_get, none-some, same_Some
 use Rattle.std.proofs.Math.Seq.{take-length}
 use Rattle.zt_rows.specs.declared.keys.RowKey.{RowKey}
 use Rattle.zt_rows.specs.declared.keys.RowKey.TheVariants as key
-use Rattle.zt_rows.specs.State.{State}
+use Rattle.zt_rows.specs.declared.rows.Row.{Row}
+use Rattle.zt_rows.specs.State.{State, row}
+use Rattle.zt_store.specs.RecordLook.{held}
 use Rattle.zt_rows.specs.Tests.{among}
 use Rattle.zt_rows.proofs.ChangeLaws.{Rows}
 use Rattle.zt_history.specs.declared.object_notes.ObjectNote.{ObjectNote}
@@ -18,7 +20,7 @@ use Rattle.zt_history.specs.declared.row_happenings.RowHappening.{RowHappening}
 use Rattle.zt_history.specs.Tree.{Made, path}
 use Rattle.zt_history.specs.TreeInvariant.{Falls}
 use Rattle.zt_history.specs.ProofsOnly.Branches.{without_last}
-use Rattle.zt_history.specs.ProofsOnly.ObjectNotes.{AreChained, AreLinked, AreRising, ChangeNote, Covers, HasNoneFrom, IsCovered, IsCut, IsLastFound, IsSameEnd, end_at, ends_at, is_at, is_found, is_of, last_of, note_as, note_under, notes_in, notes_under, tells}
+use Rattle.zt_history.specs.ProofsOnly.ObjectNotes.{AreChained, AreLinked, AreRising, ChangeNote, Covers, HasNoneFrom, IsCovered, IsCut, IsLastFound, IsSameEnd, end_at, ends_at, is_at, is_found, is_of, last_of, note_as, note_before, note_over, note_under, notes_in, notes_under, tells}
 use Rattle.zt_history.proofs.GrownLaws.{length-push}
 use Rattle.zt_history.proofs.ListLaws.{get-left, get-last, length-mapped, place}
 use Rattle.zt_history.proofs.PathLaws.{among-early, among-self}
@@ -272,6 +274,19 @@ pub covered-at : (last : List ℕ) (keys : List RowKey) (n m : ℕ) (k : RowKey)
 covered-at last keys n m k covers size within read = subst (λ m. IsCovered m k) (sym size) (covers n k (slice_get_read keys (length keys) n k refl within read))
 
 -- ---- what a loop over keys notes
+
+pub key-there : (R : Rows) (i : ℕ) (q : RowKey) → i < length (map (λ e. e.0) R) → q ≡ get_or (map (λ e. e.0) R) i q → option_map (λ e. e.0) (slice_get R i) ≡ Some q
+key-there R i q within read =
+    sym (slice_get-map (λ (e : RowKey × Option Row). e.0) R i) ∙ slice_get_read (map (λ e. e.0) R) (length (map (λ e. e.0) R)) i q refl within read
+
+-- what is noted of a key is by the row that the record has under it
+pub by-row : (m : ℕ) (R : Rows) (T : State) (q : RowKey) (r : Option Row) → held R q ≡ Some r → note_before m r T q ≡ note_under m R T q
+by-row m R T (key.Object x) r e = ap (λ h. note_over m x h (row T (key.Object x))) (sym e)
+by-row m R T key.Counters r e = refl
+by-row m R T (key.Entry _ _) r e = refl
+by-row m R T (key.Msg _ _) r e = refl
+by-row m R T (key.Packet _ _) r e = refl
+by-row m R T (key.Wait _) r e = refl
 
 pub notes-next : (m : ℕ) (R : Rows) (T : State) (keys : List RowKey) (i : ℕ) (q : RowKey) (start now new : List ChangeNote) → i < length keys → q ≡ get_or keys i q
     → now ≡ start ++ notes_under m R T (take i keys) → new ≡ now ++ note_under m R T q → new ≡ start ++ notes_under m R T (take (i + 1) keys)

@@ -4,7 +4,7 @@ ghost use Rattle.std.specs.Prelude.{◌≡◌, ◌≤◌, ◌<◌, ◌+◌, ◌+
 ghost use Rattle.std.specs.Option.{option_copied, option_map};
 ghost use Rattle.zt_rows.specs.Handles.{next_koid};
 ghost use Rattle.zt_history.specs.ProofsOnly.Branches.{without_last};
-ghost use Rattle.zt_history.specs.ProofsOnly.ObjectNotes.{AreChained, AreLinked, AreRising, Covers, IsCovered, IsCut, IsSameEnd, TellsLast, end_at, ends_at, last_of, note_as, note_of, note_under, noted, notes_in, notes_of, notes_under, tells};
+ghost use Rattle.zt_history.specs.ProofsOnly.ObjectNotes.{AreChained, AreLinked, AreRising, Covers, IsCovered, IsCut, IsSameEnd, TellsLast, end_at, ends_at, last_of, note_as, note_before, note_of, noted, notes_in, notes_of, tells};
 
 use crate::moments::Moments;
 use crate::row_happenings::{RowHappening, shows};
@@ -79,7 +79,7 @@ impl ObjectNotes {
         self.next_koids.reserve(1)?;
         self.list.reserve(keys.len())?;
         cover_all(&mut self.last, keys)?;
-        note_all(&mut self.list, &mut self.last, moment, change, store, keys);
+        note_all(&mut self.list, &mut self.last, moment, change, store);
         self.next_koids.push_reserved(store.counters().next_koid);
         Ok(())
     }
@@ -183,52 +183,56 @@ fn cover(last: &mut Vec<usize>, koid: Koid) -> Result<(), AllocError>
     Ok(())
 }
 
-/// Notes what a moment's call did to each object of these keys of its record, in room that is there.
+/// Notes what a moment's call did to each object of its record, in room that is there.
 fn note_all(
     list: &mut Vec<ObjectNote>,
     last: &mut Vec<usize>,
     moment: Moment,
     change: &Record,
     store: &Store,
-    keys: &[RowKey],
 )
-    requires room { length list.old.items + length keys.now ≤ vec_capacity list.old }
-    requires covered { Covers last.old.items keys.now }
+    requires room { length list.old.items + length change.now ≤ vec_capacity list.old }
+    requires covered { Covers last.old.items (map (λ e. e.0) change.now) }
     requires chained { AreChained list.old.items last.old.items }
-    ensures notes { notes_in list.new.items ≡ notes_in list.old.items ++ notes_under moment change.now store.now.state keys.now }
+    ensures notes { notes_in list.new.items ≡ notes_in list.old.items ++ notes_of moment change.now store.now.state }
     ensures chained { AreChained list.new.items last.new.items }
 {
-    for key in keys {
-        note_under(list, last, moment, change, store, *key);
+    let keys = change.keys();
+    for place in 0..keys.len() {
+        note_under(
+            list,
+            last,
+            moment,
+            keys[place],
+            change.held_at(place),
+            store,
+        );
     }
 }
 
-/// Notes what a moment's call did to the object of a key of its record, if it is an object's.
+/// Notes what a moment's call did to the object of a key, if it is an object's, by the row before it.
 fn note_under(
     list: &mut Vec<ObjectNote>,
     last: &mut Vec<usize>,
     moment: Moment,
-    change: &Record,
-    store: &Store,
     key: RowKey,
+    before: Option<&Row>,
+    store: &Store,
 )
     requires room { length list.old.items < vec_capacity list.old }
     requires covered { IsCovered (length last.old.items) key }
     requires chained { AreChained list.old.items last.old.items }
-    ensures notes { notes_in list.new.items ≡ notes_in list.old.items ++ note_under moment change.now store.now.state key }
+    ensures notes { notes_in list.new.items ≡ notes_in list.old.items ++ note_before moment (option_copied before.entry) store.now.state key }
     ensures few { length list.new.items ≤ length list.old.items + 1 }
     ensures room { vec_capacity list.new ≡ vec_capacity list.old }
     ensures covered { length last.new.items ≡ length last.old.items }
     ensures chained { AreChained list.new.items last.new.items }
 {
+    let asked = key;
     let RowKey::Object(koid) = key else {
         return;
     };
-    let asked = key;
-    match change.held(key) {
-        Some(before) => note_one(list, last, moment, koid, before, store.row(asked)),
-        None => {}
-    }
+    note_one(list, last, moment, koid, before, store.row(asked));
 }
 
 /// Notes what a moment's call did to an object, by its row before it and behind it, where it did anything.

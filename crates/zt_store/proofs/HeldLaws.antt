@@ -5,22 +5,27 @@ use Rattle.std.specs.declared.cmp.Ordering.TheVariants.{Less, Equal, Greater}
 use Rattle.std.specs.Ordering.{is_lt, ordering_index, ordering_reverse}
 use Rattle.std.specs.Cmp.{tied_itself}
 use Rattle.std.specs.FinMap.Entries as entries
-use Rattle.std.specs.List.{HoldsAt, zip}
+use Rattle.std.specs.List.{HoldsAt, IsDistinct, slice_get, zip}
 use Rattle.std.specs.List.Sorted.{IsNonDecreasingBy, IsPartitionPoint}
+use Rattle.std.specs.Option.{option_map}
 use Rattle.std.proofs.lemmas.Bool.{cases_lt}
 use Rattle.std.proofs.lemmas.List.{get_or-map}
 use Rattle.std.proofs.lemmas.List.Sorted.{searchable_from_sorted}
-use Rattle.std.proofs.lemmas.Slice.Zip.{get_or-zip}
+use Rattle.std.proofs.lemmas.Option.{slice_get-get_or, slice_get-map}
+use Rattle.std.proofs.lemmas.Slice.Zip.{get_or-zip, length-zip, seconds-zip}
 use Rattle.std.proofs.lemmas.Map.Views.{Contains-from_lookup, lookup-from_Contains}
 use Rattle.zt_rows.specs.declared.keys.RowKey.{RowKey}
 use Rattle.zt_rows.specs.declared.rows.Row.{Row}
-use Rattle.zt_rows.specs.Keys.{rowkey_cmp}
+use Rattle.zt_rows.specs.Keys.{rowkey_cmp, rowkey_eq}
 use Rattle.zt_rows.specs.ProofsOnly.KeyOrder.{rowkey_cmp_total, rowkey_cmp-equal, rowkey_eq-equal}
 use Rattle.zt_store.specs.RecordLook.{held}
 use Rattle.zt_store.specs.ProofsOnly.RecordRows.{IsRecord}
 use Rattle.zt_store.proofs.Fitting.{Rows}
 use Rattle.zt_store.proofs.Exchanges.{keys_of, key_equality, find-lookup}
 use Rattle.zt_store.proofs.RecordLaws.{distinct-record, listed-record}
+
+some_same : {A : Type 0} (x y : A) → Some x ≡ Some y → x ≡ y
+some_same x y e = cc
 
 first : (a b : Bool) → T (a && b) → T a
 first true b p = tt
@@ -48,6 +53,29 @@ held-found ks rs k i v is within tied at =
     let same : get_or ks i k ≡ k = rowkey_cmp-equal (get_or ks i k) k (tied k) in
     let there : ◌≡◌ {A = RowKey × Option Row} (get_or (zip ks rs) i (k, v)) (k, v) = get_or-zip ks rs i (k, v) within h ∙ (λ j. (same j, sym at j)) in
     sym (find-lookup k (zip ks rs) ∙ lookup-from_Contains key_equality k v (zip ks rs) (distinct-record ks rs is) (i, z, there))
+
+both_there : (R : Rows) (i : ℕ) (k : RowKey) (v : Option Row) → option_map (λ e. e.0) (slice_get R i) ≡ Some k → option_map (λ e. e.1) (slice_get R i) ≡ Some v
+    → ◌≡◌ {A = RowKey × Option Row} (get_or R i (k, v)) (k, v)
+both_there [] i k v at_k at_v = cc
+both_there (e ∷ R) zero k v at_k at_v = λ j. (some_same e.0 k at_k j, some_same e.1 v at_v j)
+both_there (e ∷ R) (suc i) k v at_k at_v = both_there R i k v at_k at_v
+
+-- ---- the row at a place
+
+module _ (ks : List RowKey) (rs : List (Option Row)) (R : Rows) (is : IsRecord ks rs) (seen : zip ks rs ≡ R) (i : ℕ) (within : i < length R) where
+  pub place-rows : i < length rs
+  place-rows = omega (arith, ap length seen, length-zip ks rs)
+
+  pub held-at : (v : Option Row) → v ≡ get_or rs i v → option_map (λ e. e.1) (slice_get R i) ≡ Some v
+  held-at v at =
+      ap (λ Q. option_map (λ e. e.1) (slice_get Q i)) (sym seen) ∙ sym (slice_get-map (λ (e : RowKey × Option Row). e.1) (zip ks rs) i)
+      ∙ ap (λ xs. slice_get xs i) (seconds-zip ks rs is.even) ∙ slice_get-get_or rs i v place-rows ∙ ap Some (sym at)
+
+  -- under the key at a place the record has the row at that place
+  pub held-under : (v : Option Row) → option_map (λ e. e.1) (slice_get R i) ≡ Some v → (k : RowKey) → option_map (λ e. e.0) (slice_get R i) ≡ Some k → held R k ≡ Some v
+  held-under v at_v k at_k =
+      let there : ◌≡◌ {A = RowKey × Option Row} (get_or R i (k, v)) (k, v) = both_there R i k v at_k at_v in
+      find-lookup k R ∙ lookup-from_Contains key_equality k v R (subst (λ Q. IsDistinct rowkey_eq (keys_of Q)) seen (distinct-record ks rs is)) (i, within, there)
 
 -- ---- a key that was not found
 

@@ -1,5 +1,5 @@
 -- What a step's parts say of the step: which keys were put, what stood under them, and what one more put makes of it.
-use Rattle.std.proofs.Common.{◌≡◌, ℕ, ◌+◌, ◌<◌, ◌≤◌, zero, suc, inl, inr, Bool, true, false, cond, ◌||◌, ◌⊎◌, List, [], ◌∷◌, ◌++◌, take, drop, get_or, length, min, Option, Some, None, is_some, refl, sym, ap, ◌∙◌, subst, unwrap_or, arith}
+use Rattle.std.proofs.Common.{◌≡◌, ℕ, ◌+◌, ◌<◌, ◌≤◌, zero, suc, inl, inr, Bool, true, false, cond, ◌||◌, ◌⊎◌, List, [], ◌∷◌, ◌++◌, take, drop, get_or, set, length, min, Option, Some, None, is_some, refl, sym, ap, ◌∙◌, subst, unwrap_or, arith}
 use Rattle.std.specs.Prelude.{slice_get}
 use Rattle.std.specs.BTreeMap.{BTreeMap, get, Updates, is_at}
 use Rattle.std.specs.FinMap.Entries as entries
@@ -137,6 +137,9 @@ module _ (store : Stored) (firsts : Rows) (index : BTreeMap RowKey ℕ) (room : 
       let b : i < length (keys_of firsts) = slice_get_within (keys_of firsts) i k (subst (IsPlaceOf (keys_of firsts) k) some (placed_here k found at)) in
       omega (arith, length-map firsts (λ (e : RowKey × Option Row). e.0))
 
+  pub first_bound : (i : ℕ) → i < length step.touched → i < length firsts
+  first_bound i within = omega (arith, within, ap (λ s. length s.touched) seen, length-map firsts (λ (e : RowKey × Option Row). e.0))
+
   pub was-first : (k : RowKey) (found : Option ℕ) (i : ℕ) (e : RowKey × Option Row) (r : Option Row) → IsPlaceOf step.touched k found → found ≡ Some i → e ≡ get_or firsts i e → r ≡ e.1 → r ≡ row step.beginning k
   was-first k found i e r is_place some at first =
       let within : i < length firsts = place_bound k found i is_place some in
@@ -146,6 +149,9 @@ module _ (store : Stored) (firsts : Rows) (index : BTreeMap RowKey ℕ) (room : 
       let pair : ◌≡◌ {A = Option (RowKey × Option Row)} (slice_get firsts i) (Some (k, e.1)) = here ∙ ap (λ x. Some (x, e.1)) key_is in
       let found_row : entries.find rowkey_cmp k firsts ≡ Some e.1 = find-lookup k firsts ∙ lookup_from_place key_equality firsts i k e.1 is.distinct pair in
       first ∙ sym (row-with_rows store.state firsts k ∙ ap (λ o. unwrap_or o (row store.state k)) found_row) ∙ ap (λ s. row s.beginning k) seen
+
+  pub was-touched : (k : RowKey) (i : ℕ) (e : RowKey × Option Row) (r : Option Row) → slice_get step.touched i ≡ Some k → e ≡ get_or firsts i e → r ≡ e.1 → r ≡ row step.beginning k
+  was-touched k i e r there at first = was-first k (Some i) i e r there refl at first
 
 -- ---- one more put
 
@@ -259,6 +265,23 @@ touching-push old new firsts more index more_index room more_room k v n is kept 
     }
 
 -- one more behind the list that was reserved
+set-last : (R : Rows) (e f : RowKey × Option Row) → set (R ++ e ∷ []) (length R) f ≡ R ++ f ∷ []
+set-last [] e f = refl
+set-last (x ∷ xs) e f = ap (λ ys. x ∷ ys) (set-last xs e f)
+
+get_or-last : (R : Rows) (e d : RowKey × Option Row) → get_or (R ++ e ∷ []) (length R) d ≡ e
+get_or-last [] e d = refl
+get_or-last (x ∷ xs) e d = get_or-last xs e d
+
+module _ (firsts pushed : Rows) (n : ℕ) (k : RowKey) (r : Option Row) (e : RowKey × Option Row) (behind : pushed ≡ firsts ++ (k, r) ∷ []) (counted : n ≡ length firsts) (at : e ≡ get_or pushed n e) where
+  -- what stands where a row was put behind the others
+  pub found_behind : ◌≡◌ {A = RowKey × Option Row} e (k, r)
+  found_behind = at ∙ (λ i. get_or (behind i) (counted i) e) ∙ get_or-last firsts (k, r) e
+
+  -- and the rows where it was exchanged there
+  pub exchanged_behind : (v : Option Row) → set pushed n (e.0, v) ≡ firsts ++ (k, v) ∷ []
+  exchanged_behind v = (λ i. set (behind i) (counted i) ((found_behind i).0, v)) ∙ set-last firsts (k, r) (k, v)
+
 pub pushed_behind : {A : Type 0} (xs ys zs : List A) (x : A) → zs ≡ ys ++ x ∷ [] → ys ≡ xs → zs ≡ xs ++ x ∷ []
 pushed_behind xs ys zs x pushed same = pushed ∙ ap (λ es. es ++ x ∷ []) same
 

@@ -1,5 +1,5 @@
 ghost use Rattle.std.specs.Option.{option_copied, option_map};
-ghost use Rattle.std.specs.Prelude.{◌≡◌, ◌≤◌, length, map, min, IfOk, OnOk, vec_capacity};
+ghost use Rattle.std.specs.Prelude.{◌≡◌, ◌<◌, ◌≤◌, Some, length, map, min, slice_get, IfOk, OnOk, vec_capacity};
 ghost use Rattle.zt_store.specs.ProofsOnly.RecordRows.{IsRecord};
 ghost use Rattle.zt_store.specs.RecordLook.{held};
 
@@ -47,6 +47,16 @@ impl Record {
             Ok(place) => Some(self.rows[place].as_ref()),
             Err(_) => None,
         }
+    }
+
+    /// The row, or that there was none, under the key at the place. It takes no memory.
+    pub fn held_at(&self, place: usize) -> Option<&Row>
+        requires { place < length self.now }
+        ensures row { option_map (λ e. e.1) (slice_get self.now place) ≡ Some (option_copied result) }
+        ensures held { (key : RowKey) → option_map (λ e. e.0) (slice_get self.now place) ≡ Some key → held self.now key ≡ Some (option_copied result) }
+    {
+        let row = &self.rows[place];
+        row.as_ref()
     }
 }
 

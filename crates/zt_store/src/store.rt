@@ -10,6 +10,7 @@ ghost use Rattle.zt_rows.specs.State.{row, put};
 ghost use Rattle.zt_rows.specs.Support.{support_count};
 ghost use Rattle.zt_rows.specs.Tests.{count_row};
 ghost use Rattle.zt_cells.specs.FirstNumber.{IsFirst};
+ghost use Rattle.zt_cells.specs.TableSizes.{has_place};
 ghost use Rattle.zt_index.specs.Chains.{IsNext};
 ghost use Rattle.zt_index.specs.Criteria.{has_entry, has_packet, is_at, is_below, is_by, is_for, is_on, objects_where, waits_where};
 ghost use Rattle.zt_index.specs.ProofsOnly.KoidCounts.{keeps_itself, keeps_tasks};
@@ -21,7 +22,7 @@ use crate::key_columns::{handle_of, has_room, key_after, packet_of};
 use crate::record::{Record, RecordLists};
 use std::alloc::{AllocError, Global};
 use std::marker::Model;
-use std::mem::replace;
+use std::mem::{forget, replace};
 use zt_bits::{Kind, Rights, Signals};
 use zt_cells::Cells;
 use zt_index::{Index, KoidCounts, SupportCounts};
@@ -67,6 +68,8 @@ pub struct Store {
     spare: Vec<(RowKey, Option<Row>)>,
     /// Room for a step's record, kept from step to step.
     lists: RecordLists,
+    /// A list of koids for a step, kept from step to step.
+    koids: Vec<Koid>,
 }
 
 /// Lets all parts go in one call, so that a function that owns a store is proved without going through them at each of its
@@ -79,6 +82,7 @@ impl Drop for Store {
             index: _index,
             spare: _spare,
             lists: _lists,
+            koids: _koids,
         } = self;
     }
 }
@@ -109,6 +113,7 @@ impl Store {
             index: Index::new(alloc),
             spare: Vec::new(alloc),
             lists: RecordLists::new(alloc),
+            koids: Vec::new(alloc),
         }
     }
 
@@ -330,6 +335,7 @@ impl Store {
             index: self.index.copy()?,
             spare: Vec::new(self.alloc()),
             lists: RecordLists::new(self.alloc()),
+            koids: Vec::new(self.alloc()),
         })
     }
 
@@ -356,13 +362,28 @@ impl Store {
         replace(&mut self.lists, fresh)
     }
 
-    /// Keeps the memory of a step's lists for later steps.
-    pub(crate) fn keep_spare(&mut self, spare: Vec<(RowKey, Option<Row>)>, lists: RecordLists)
+    /// A list of koids, in memory that an earlier step left.
+    pub(crate) fn take_koids(&mut self) -> Vec<Koid>
         ensures { self.new ≡ self.old }
     {
-        self.spare = spare;
+        let fresh = Vec::new(self.alloc());
+        replace(&mut self.koids, fresh)
+    }
+
+    /// Keeps the memory of a step's lists for later steps, in the place of the empty ones that the step left, which have no
+    /// memory to be given back.
+    pub(crate) fn keep_spare(
+        &mut self,
+        spare: Vec<(RowKey, Option<Row>)>,
+        lists: RecordLists,
+        koids: Vec<Koid>,
+    )
+        ensures { self.new ≡ self.old }
+    {
+        forget(replace(&mut self.spare, spare));
         self.spare.clear();
-        self.lists = lists;
+        forget(replace(&mut self.lists, lists));
+        forget(replace(&mut self.koids, koids));
     }
 
     /// What holds of the rows: each suits its key.
@@ -379,10 +400,23 @@ impl Store {
         ensures kept { Keeps self.old.places self.new.places }
         ensures made { OnOk result (fits_row self.new.places key (option_copied row.entry) ≡ true) }
     {
+        let asked = key;
+        self.make_place(asked)?;
+        self.support_counts.grow_if(key, row)
+    }
+
+    /// Makes the place of the key, if there is none yet.
+    fn make_place(&mut self, key: RowKey) -> Result<(), AllocError>
+        ensures state { self.new.state ≡ self.old.state }
+        ensures kept { Keeps self.old.places self.new.places }
+        ensures made { OnOk result (has_place self.new.places.sizes key ≡ true) }
+    {
         let (asked, indexed) = (key, key);
+        if self.cells.has_place(asked) {
+            return Ok(());
+        }
         self.index.grow_for(indexed)?;
-        self.cells.make_place(key)?;
-        self.support_counts.grow_if(asked, row)
+        self.cells.make_place(key)
     }
 
     /// Exchanges the row, or none, with what stands under the key. It takes no memory.

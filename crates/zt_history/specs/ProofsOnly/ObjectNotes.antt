@@ -64,6 +64,11 @@ abbrev pub note_under : ℕ → List (RowKey × Option Row) → State → RowKey
 note_under m R T (key.Object x) = note_over m x (held R (key.Object x)) (row T (key.Object x))
 note_under m R T _ = []
 
+-- the same of a key, by the row before the call
+abbrev pub note_before : ℕ → Option Row → State → RowKey → List ChangeNote
+note_before m r T (key.Object x) = note_of m x r (row T (key.Object x))
+note_before m r T _ = []
+
 abbrev pub notes_under : ℕ → List (RowKey × Option Row) → State → List RowKey → List ChangeNote
 notes_under m R T keys = flat_map (note_under m R T) keys
 

@@ -1,33 +1,15 @@
-use Rattle.std.proofs.Common.{ap, arith, sym, ◌∙◌, subst}
-use Rattle.zt_rows.specs.State.{State}
-use Rattle.zt_index.specs.ProofsOnly.KoidCounts.{numbers_of, AreKoidCounts, NamesFew}
-use Rattle.zt_index.proofs.IndexLaws.{indexed-made}
+use Rattle.std.proofs.Common.{◌∙◌}
 use Rattle.zt_store.proofs.Fitting.{keeps-grown}
 use Rattle.zt_store.proofs.store.Store.make_room.Goals as goal
 
-pub returns-in_err-make_place-clause-kept : goal.returns-in_err-make_place-clause-kept
-returns-in_err-make_place-clause-kept c = rw (← c.self.view_is) (keeps-grown _ _ c.make_place.ensures.kept (omega arith))
-
 pub returns-clause-kept : goal.returns-clause-kept
-returns-clause-kept c = rw (← c.self.view_is) (keeps-grown _ _ c.make_place.ensures.kept c.grow_if.ensures.kept)
+returns-clause-kept c =
+    let placed = rw (← c.self.view_is) at c.make_place.ensures.kept in
+    λ R h. keeps-grown _ _ (λ k there. there) c.grow_if.ensures.kept R (placed R h)
 
 pub invariant_of-self : goal.invariant_of-self
 invariant_of-self c = record {
-  koid_counts = c.self.invariant.koid_counts;
+  koid_counts = λ x. c.grow_if.ensures.same x ∙ c.self.invariant.koid_counts x;
   few = c.self.invariant.few;
-  indexed = c.grow_for.ensures.same c.self.inside.cells c.self.invariant.indexed;
-}
-
-pub invariant_of-self-in_err-make_place : goal.invariant_of-self-in_err-make_place
-invariant_of-self-in_err-make_place c = record {
-  koid_counts = subst (λ (S : State). AreKoidCounts S c.self.inside.support_counts) (sym c.make_place.ensures.state) c.self.invariant.koid_counts;
-  few = subst (λ (S : State). NamesFew S) (sym c.make_place.ensures.state) c.self.invariant.few;
-  indexed = indexed-made c.args.key c.self.inside.cells c.make_place.new.self c.grow_for.new.self (c.grow_for.ensures.same c.self.inside.cells c.self.invariant.indexed) c.in_ok-grow_for.ensures.made c.make_place.ensures.state c.make_place.ensures.waits c.make_place.ensures.objects;
-}
-
-pub invariant_of-self-2 : goal.invariant_of-self-2
-invariant_of-self-2 c = record {
-  koid_counts = λ x. c.grow_if.ensures.same x ∙ c.self.invariant.koid_counts x ∙ ap (λ (S : State). numbers_of S x) (sym c.make_place.ensures.state);
-  few = subst (λ (S : State). NamesFew S) (sym c.make_place.ensures.state) c.self.invariant.few;
-  indexed = indexed-made c.args.key c.self.inside.cells c.make_place.new.self c.grow_for.new.self (c.grow_for.ensures.same c.self.inside.cells c.self.invariant.indexed) c.in_ok-grow_for.ensures.made c.make_place.ensures.state c.make_place.ensures.waits c.make_place.ensures.objects;
+  indexed = c.self.invariant.indexed;
 }
