@@ -79,30 +79,45 @@ impl Ord for RowKey {
     ghost matches_eq = { rowkey_eq-matches };
 
     fn cmp(&self, other: &RowKey) -> Ordering {
-        let (variant, first, second) = self.place();
-        let (other_variant, other_first, other_second) = other.place();
-        variant
-            .cmp(&other_variant)
-            .then(first.cmp(&other_first).then(second.cmp(&other_second)))
+        let (variant, other_variant) = (self.variant(), other.variant());
+        if variant != other_variant {
+            return variant.cmp(&other_variant);
+        }
+        let (first, second) = self.numbers();
+        let (other_first, other_second) = other.numbers();
+        first.cmp(&other_first).then(second.cmp(&other_second))
     }
 }
 
 impl RowKey {
     ghost use Rattle.zt_rows.specs.Keys.{variant, first_number, second_number};
 
-    /// The number of the variant in their list, and the numbers of the key.
-    fn place(self) -> (u8, u64, u64)
-        ensures variant { result.0 ≡ variant self }
-        ensures first { result.1 ≡ first_number self }
-        ensures second { result.2 ≡ second_number self }
+    /// The number of the variant in their list.
+    fn variant(self) -> u8
+        ensures { result ≡ variant self }
     {
         match self {
-            RowKey::Counters => (0, 0, 0),
-            RowKey::Object(koid) => (1, koid.0, 0),
-            RowKey::Entry(process, handle) => (2, process.0, u64::from(handle.0)),
-            RowKey::Msg(endpoint, number) => (3, endpoint.0, number),
-            RowKey::Packet(port, number) => (4, port.0, number),
-            RowKey::Wait(number) => (5, number, 0),
+            RowKey::Counters => 0,
+            RowKey::Object(_) => 1,
+            RowKey::Entry(_, _) => 2,
+            RowKey::Msg(_, _) => 3,
+            RowKey::Packet(_, _) => 4,
+            RowKey::Wait(_) => 5,
+        }
+    }
+
+    /// The numbers of the key.
+    fn numbers(self) -> (u64, u64)
+        ensures first { result.0 ≡ first_number self }
+        ensures second { result.1 ≡ second_number self }
+    {
+        match self {
+            RowKey::Counters => (0, 0),
+            RowKey::Object(koid) => (koid.0, 0),
+            RowKey::Entry(process, handle) => (process.0, u64::from(handle.0)),
+            RowKey::Msg(endpoint, number) => (endpoint.0, number),
+            RowKey::Packet(port, number) => (port.0, number),
+            RowKey::Wait(number) => (number, 0),
         }
     }
 }
