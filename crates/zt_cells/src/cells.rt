@@ -71,6 +71,14 @@ impl Cells {
     pub fn row(&self, key: RowKey) -> Option<&Row>
         ensures { option_copied result ≡ row self.now.state key }
     {
+        self.look(key)
+    }
+
+    /// The same, made part of its caller: one who knows the variant of the key looks at one table.
+    #[inline(always)]
+    fn look(&self, key: RowKey) -> Option<&Row>
+        ensures { option_copied result ≡ row self.now.state key }
+    {
         self.tables.row(key)
     }
 
@@ -78,7 +86,7 @@ impl Cells {
     pub fn counters(&self) -> Counters
         ensures { result ≡ counters self.now.state }
     {
-        match self.row(RowKey::Counters) {
+        match self.look(RowKey::Counters) {
             Some(Row::Counters(counters)) => *counters,
             _ => Counters {
                 next_koid: Koid(0),
@@ -91,7 +99,7 @@ impl Cells {
     pub fn object(&self, koid: Koid) -> Option<ObjectRow>
         ensures { result ≡ object self.now.state koid }
     {
-        match self.row(RowKey::Object(koid)) {
+        match self.look(RowKey::Object(koid)) {
             Some(Row::Object(object)) => Some(*object),
             _ => None,
         }
@@ -101,7 +109,7 @@ impl Cells {
     pub fn entry(&self, process: Koid, handle: HandleValue) -> Option<Held>
         ensures { result ≡ entry self.now.state process handle }
     {
-        match self.row(RowKey::Entry(process, handle)) {
+        match self.look(RowKey::Entry(process, handle)) {
             Some(Row::Entry(held)) => Some(*held),
             _ => None,
         }
@@ -111,7 +119,7 @@ impl Cells {
     pub fn message(&self, endpoint: Koid, number: u64) -> Option<&Message>
         ensures { option_copied result ≡ message self.now.state endpoint number }
     {
-        match self.row(RowKey::Msg(endpoint, number)) {
+        match self.look(RowKey::Msg(endpoint, number)) {
             Some(Row::Msg(message)) => Some(message),
             _ => None,
         }
@@ -121,7 +129,7 @@ impl Cells {
     pub fn packet(&self, port: Koid, number: u64) -> Option<Packet>
         ensures { result ≡ packet self.now.state port number }
     {
-        match self.row(RowKey::Packet(port, number)) {
+        match self.look(RowKey::Packet(port, number)) {
             Some(Row::Packet(packet)) => Some(*packet),
             _ => None,
         }
@@ -131,7 +139,7 @@ impl Cells {
     pub fn wait(&self, number: u64) -> Option<Wait>
         ensures { result ≡ wait self.now.state number }
     {
-        match self.row(RowKey::Wait(number)) {
+        match self.look(RowKey::Wait(number)) {
             Some(Row::Wait(wait)) => Some(*wait),
             _ => None,
         }
@@ -149,11 +157,12 @@ impl Cells {
     }
 
     /// Whether the key has its place. It takes no memory.
+    #[inline(always)]
     pub fn has_place(&self, key: RowKey) -> bool
         ensures { result ≡ has_place self.now.sizes key }
     {
-        let asked = key;
-        place_of(asked) < self.tables.len_at(key)
+        let row_tables = self.tables.row_tables();
+        row_tables.has_place(key)
     }
 
     /// Makes the place of the key, and those below it in its table. Each table that grows asks once for all that it
@@ -180,6 +189,7 @@ impl Cells {
     }
 
     /// Exchanges the row with the one in the place of the key. It takes no memory.
+    #[inline(always)]
     pub fn exchange(&mut self, key: RowKey, kept: &mut Option<Row>)
         requires placed { has_place self.old.sizes key ≡ true }
         requires suited { SuitsKey key kept.old }

@@ -1,4 +1,4 @@
-ghost use Rattle.std.specs.Prelude.{◌≡◌, ◌≤◌, ◌<◌, ◌+◌, ◌-◌, ◌/◌, ◌%◌, ◌*◌, ◌^◌, ℕ, List, [], ◌∷◌, length, IfOk, OnOk, OnErr, None};
+ghost use Rattle.std.specs.Prelude.{◌≡◌, ◌≤◌, ◌<◌, ◌+◌, ◌-◌, ◌/◌, ◌%◌, ◌*◌, ◌^◌, ℕ, List, [], ◌∷◌, length, IfOk, OnOk, OnErr, None, nat_lt};
 ghost use Rattle.std.specs.Option.{option_copied};
 ghost use Rattle.zt_cells.specs.ProofsOnly.TablePlaces.{entry, entry_places, entry_table, set_entry, by_owner, table};
 
@@ -66,6 +66,13 @@ impl Entries {
     {
         let by_owner = &self.sizes[remainder(value)];
         by_owner.len_of(process.0 as usize)
+    }
+
+    /// Whether the process has the place of the value.
+    pub fn has(&self, process: Koid, value: HandleValue) -> bool
+        ensures { result ≡ nat_lt (value / 4) (length (entry_table self.now process value)) }
+    {
+        quotient(value) < self.len_of(process, value)
     }
 
     /// Makes empty places for the process, up to that of the value.

@@ -1,7 +1,7 @@
 ghost use Rattle.std.specs.Prelude.{◌≡◌, ◌≤◌, ◌<◌, ◌+◌, ◌^◌, length, IfOk, OnOk, OnErr};
 ghost use Rattle.std.specs.Option.{option_copied};
 ghost use Rattle.zt_cells.specs.ProofsOnly.RowTables.{row_tables_in, row_tables_of, look, places_in, sizes_of, Exchanged, MadeFor, Widened};
-ghost use Rattle.zt_cells.specs.TableSizes.{objects_after, waits_after, length_at, place_of};
+ghost use Rattle.zt_cells.specs.TableSizes.{objects_after, waits_after, has_place, length_at, place_of};
 
 use crate::cells::handle_tables::Entries;
 use crate::cells::table::{Table, copy_place};
@@ -51,6 +51,7 @@ impl RowTables {
     }
 
     /// The row in the place of the key. It takes no memory.
+    #[inline(always)]
     #[tactic(auto, unfolding(crate::specs::ProofsOnly::RowTables::look))]
     pub fn row(&self, key: RowKey) -> Option<&Row>
         ensures { option_copied result ≡ look self.now key }
@@ -80,7 +81,28 @@ impl RowTables {
         }
     }
 
+    /// Whether the key has its place.
+    #[inline(always)]
+    #[tactic(auto, using(crate::proofs::RowTableLaws::length_laws), unfolding(crate::specs::ProofsOnly::RowTables::sizes_of, crate::specs::TableSizes::has_place))]
+    pub fn has_place(&self, key: RowKey) -> bool
+        ensures { result ≡ has_place (sizes_of self.now) key }
+    {
+        match key {
+            RowKey::Counters => true,
+            RowKey::Object(koid) => (koid.0 as usize) < self.objects.len(),
+            RowKey::Entry(process, value) => self.entries.has(process, value),
+            RowKey::Msg(owner, number) => {
+                (number as usize) < self.messages.len_of(owner.0 as usize)
+            }
+            RowKey::Packet(owner, number) => {
+                (number as usize) < self.packets.len_of(owner.0 as usize)
+            }
+            RowKey::Wait(number) => (number as usize) < self.waits.len(),
+        }
+    }
+
     /// Exchanges the row, or none, with what stands in the place of the key. It takes no memory.
+    #[inline(always)]
     #[tactic(auto, using(crate::proofs::RowTableLaws::length_laws), unfolding(crate::specs::ProofsOnly::RowTables::sizes_of))]
     pub fn exchange(&mut self, key: RowKey, kept: &mut Option<Row>)
         requires { place_of key < length_at (sizes_of self.old) key }
@@ -151,6 +173,7 @@ impl OwnedTables {
     }
 
     /// The row in the place of the key. It takes no memory.
+    #[inline(always)]
     pub fn row(&self, key: RowKey) -> Option<&Row>
         ensures { option_copied result ≡ look (row_tables_in self.now) key }
     {
@@ -169,6 +192,7 @@ impl OwnedTables {
     }
 
     /// Exchanges the row, or none, with what stands in the place of the key. It takes no memory.
+    #[inline(always)]
     pub fn exchange(&mut self, key: RowKey, kept: &mut Option<Row>)
         requires { place_of key < length_at (sizes_of (row_tables_in self.old)) key }
         ensures { Exchanged (row_tables_in self.old) (row_tables_in self.new) key kept.old kept.new }

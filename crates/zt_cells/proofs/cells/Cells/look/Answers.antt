@@ -1,7 +1,7 @@
 use Rattle.std.proofs.Common.{sym, ◌∙◌}
 use Rattle.zt_cells.specs.ProofsOnly.RowTables.{row_tables_in}
 use Rattle.zt_cells.proofs.CellsLaws.{row-seen}
-use Rattle.zt_cells.proofs.cells.Cells.row.Goals as goal
+use Rattle.zt_cells.proofs.cells.Cells.look.Goals as goal
 
 pub returns : goal.returns
 returns c =
