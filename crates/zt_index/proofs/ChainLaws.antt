@@ -34,6 +34,11 @@ found-besides q low item h behind = ((behind, h.0), h.1)
 pub none-besides : (q : ℕ → Bool) (low : Option ℕ) → IsBesides q low None → IsNext q low None
 none-besides q low h = (tt, h.1)
 
+-- where nothing is the first that passes, nothing passes
+pub bare-by : (q : ℕ → Bool) (first : Option ℕ) → IsNext q None first → is_some first ≡ false → (n : ℕ) → q n ≡ false
+bare-by q None h e n = h.1 n tt tt
+bare-by q (Some x) h e n = cc
+
 -- ---- an item goes behind a lower one of its bucket, where what is linked behind that one is above it
 
 short-of : (next : Option ℕ) (n m : ℕ) → IsShortOf (λ a b. a < b) next n → m < n → IsShortOf (λ a b. a < b) next m

@@ -181,6 +181,10 @@ outside q r h m e = by (q m) refl
     by true t = let a : true ≡ false = sym (h m t) ∙ e in cc
     by false t = t
 
+-- where nothing is in the bucket, nothing is found
+pub none-bare : (q r : ℕ → Bool) (low : Option ℕ) → ((n : ℕ) → q n ≡ true → r n ≡ true) → ((n : ℕ) → r n ≡ false) → IsNext q low None
+none-bare q r low in_r bare = (tt, λ m behind short. outside q r in_r m (bare m))
+
 behind-or : (low : Option ℕ) (m : ℕ) → (IsBehind (λ a b. a < b) low m) ⊎ (IsBehind (λ a b. a < b) low m → ⊥)
 behind-or None m = inl tt
 behind-or (Some a) m = elim (cases_lt a m) [ inl h ↦ inl h | inr h ↦ inr (λ g. omega arith) ]

@@ -90,12 +90,21 @@ impl Chains {
 
     /// Puts the item into the bucket, or into none. It takes no memory. An item that is there already stays where it is; one
     /// that is put back behind the item that it stood behind, or as the greatest of the bucket, is put there at once.
+    #[inline(always)]
     pub fn set(&mut self, item: u64, bucket: Option<u64>)
         requires item { item < length self.old }
         requires bucket { IfSome bucket (λ b. b < 2 ^ 14) }
         ensures { self.new ≡ slice_set self.old item bucket }
     {
         place(&mut self.links, &mut self.ends, item, bucket);
+    }
+
+    /// Whether no item is in the bucket. It is one look.
+    #[inline(always)]
+    pub fn is_bare(&self, bucket: u64) -> bool
+        ensures { IsTrue result → (n : ℕ) → is_in self.now bucket n ≡ false }
+    {
+        is_bare(&self.links, &self.ends, bucket)
     }
 
     /// The least item of the bucket above the low one, or the least of all. It takes no memory. Where the low one is in
@@ -139,6 +148,7 @@ fn make_links(links: &mut Vec<BucketLink>, len: usize) -> Result<(), AllocError>
 }
 
 /// Puts the item into the bucket, or into none; it stays where it is, if that is there.
+#[inline(always)]
 fn place(links: &mut [BucketLink], ends: &mut [BucketEnds], item: u64, bucket: Option<u64>)
     requires item { item < length links.old }
     requires bucket { IfSome bucket (λ b. b < length ends.old) }
@@ -150,11 +160,32 @@ fn place(links: &mut [BucketLink], ends: &mut [BucketEnds], item: u64, bucket: O
     if link.bucket == bucket {
         return;
     }
+    move_to(links, ends, item, bucket);
+}
+
+/// Takes the item out of its bucket, if it is in one, and puts it into the bucket, or into none.
+#[inline(never)]
+fn move_to(links: &mut [BucketLink], ends: &mut [BucketEnds], item: u64, bucket: Option<u64>)
+    requires item { item < length links.old }
+    requires bucket { IfSome bucket (λ b. b < length ends.old) }
+    requires chained { IsChained links.old ends.old }
+    ensures chained { IsChained links.new ends.new }
+    ensures buckets { buckets links.new ≡ slice_set (buckets links.old) item bucket }
+{
     remove(links, ends, item);
     if let Some(bucket) = bucket {
         remind(links, item);
         insert(links, ends, item, bucket);
     }
+}
+
+/// Whether no item is in the bucket.
+#[inline(always)]
+fn is_bare(links: &[BucketLink], ends: &[BucketEnds], bucket: u64) -> bool
+    requires { IsChained links.now ends.now }
+    ensures { IsTrue result → (n : ℕ) → is_in (buckets links.now) bucket n ≡ false }
+{
+    next_of(links, ends, bucket, None).is_none()
 }
 
 /// The least item of the bucket above the low one, or the least of all.

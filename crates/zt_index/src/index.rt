@@ -118,6 +118,7 @@ impl RowChains {
 
     /// Follows the exchange of a row with what stands under the key, ahead of it. It takes no memory. Where an entry
     /// changes, the waits on its handle are looked at.
+    #[inline(always)]
     pub fn follow(&mut self, cells: &Cells, key: RowKey, row: &Option<Row>)
         requires placed { has_place cells.now.sizes key ≡ true }
         requires indexed { IsIndexed cells.now self.old }
@@ -217,6 +218,7 @@ impl OwnedChains {
     }
 
     /// Follows the exchange of a row with what stands under the key, ahead of it. It takes no memory.
+    #[inline(always)]
     pub fn follow(&mut self, cells: &Cells, key: RowKey, row: &Option<Row>)
         requires placed { has_place cells.now.sizes key ≡ true }
         requires indexed { IsIndexed cells.now (row_chains_in self.old) }
@@ -280,6 +282,7 @@ impl Index {
     }
 
     /// Follows the exchange of a row with what stands under the key, ahead of it. It takes no memory.
+    #[inline(always)]
     pub fn follow(&mut self, cells: &Cells, key: RowKey, row: &Option<Row>)
         requires placed { has_place cells.now.sizes key ≡ true }
         requires indexed { IsIndexed cells.now self.old }
@@ -589,8 +592,29 @@ fn is_below(object: &Option<ObjectRow>, parent: Koid) -> bool
     }
 }
 
-/// The least number above the low one under which there is what is looked for. All such numbers are in the bucket.
+/// The least number above the low one under which there is what is looked for. All such numbers are in the bucket. Most
+/// buckets are bare, which is one look.
+#[inline(always)]
 fn next_by_criterion(
+    cells: &Cells,
+    chain: &Chains,
+    bucket: u64,
+    criterion: Criterion,
+    low: Option<u64>,
+) -> Option<u64>
+    requires { (n : ℕ) → meets_criterion cells.now.state criterion n ≡ true → is_in chain.now bucket n ≡ true }
+    ensures { IsNext (meets_criterion cells.now.state criterion) low result }
+{
+    if chain.is_bare(bucket) {
+        None
+    } else {
+        next_in_bucket(cells, chain, bucket, criterion, low)
+    }
+}
+
+/// The same, along the bucket.
+#[inline(never)]
+fn next_in_bucket(
     cells: &Cells,
     chain: &Chains,
     bucket: u64,

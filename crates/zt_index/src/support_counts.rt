@@ -158,6 +158,7 @@ impl SupportCounts {
     }
 
     /// Makes numbers for each koid that the row counts for. Koids from 2^48 on are refused.
+    #[inline(always)]
     fn grow_for(&mut self, key: RowKey, row: &Row) -> Result<(), AllocError>
         ensures same { (x : ℕ) → numbers_at self.new x ≡ numbers_at self.old x }
         ensures kept { length self.old ≤ length self.new }
@@ -171,6 +172,7 @@ impl SupportCounts {
     }
 
     /// Makes numbers for each koid that the row, if there is one, counts for. Koids from 2^48 on are refused.
+    #[inline(always)]
     pub fn grow_if(&mut self, key: RowKey, row: Option<&Row>) -> Result<(), AllocError>
         ensures same { (x : ℕ) → numbers_at self.new x ≡ numbers_at self.old x }
         ensures kept { length self.old ≤ length self.new }
@@ -195,14 +197,27 @@ impl SupportCounts {
     }
 
     /// Makes numbers for the koid.
+    #[inline(always)]
     fn grow_to(&mut self, koid: Koid) -> Result<(), AllocError>
         ensures same { (x : ℕ) → numbers_at self.new x ≡ numbers_at self.old x }
         ensures kept { length self.old ≤ length self.new }
         ensures made { OnOk result (nat_lt koid (length self.new) ≡ true) }
     {
         if self.has(koid) {
-            return Ok(());
+            Ok(())
+        } else {
+            self.add_to(koid)
         }
+    }
+
+    /// Makes numbers for the koid, which has none.
+    #[inline(never)]
+    fn add_to(&mut self, koid: Koid) -> Result<(), AllocError>
+        requires { length self.old ≤ koid }
+        ensures same { (x : ℕ) → numbers_at self.new x ≡ numbers_at self.old x }
+        ensures kept { length self.old ≤ length self.new }
+        ensures made { OnOk result (nat_lt koid (length self.new) ≡ true) }
+    {
         if koid.0 >= MOST_PLACES {
             return Err(AllocError);
         }
@@ -210,6 +225,7 @@ impl SupportCounts {
     }
 
     /// Adds what the row gives.
+    #[inline(always)]
     fn raise(&mut self, key: RowKey, row: &Row)
         requires within { counts_within (length self.old) key row.now ≡ true }
         requires small { (x : ℕ) → (numbers_at self.old x).named < 2 ^ 63 }
@@ -227,6 +243,7 @@ impl SupportCounts {
     }
 
     /// Takes off what the row gives.
+    #[inline(always)]
     fn lower(&mut self, key: RowKey, row: &Row)
         requires within { counts_within (length self.old) key row.now ≡ true }
         requires there { (x : ℕ) → (given x key row.now).named ≤ (numbers_at self.old x).named }
@@ -243,6 +260,7 @@ impl SupportCounts {
     }
 
     /// Adds what the row, if there is one, gives.
+    #[inline(always)]
     pub fn raise_if(&mut self, key: RowKey, row: &Option<Row>)
         requires within { counts_within_if (length self.old) key row.now ≡ true }
         requires small { (x : ℕ) → (numbers_at self.old x).named < 2 ^ 63 }
@@ -258,6 +276,7 @@ impl SupportCounts {
     }
 
     /// Takes off what the row, if there is one, gives.
+    #[inline(always)]
     pub fn lower_if(&mut self, key: RowKey, row: &Option<Row>)
         requires within { counts_within_if (length self.old) key row.now ≡ true }
         requires there { (x : ℕ) → (given_if x key row.now).named ≤ (numbers_at self.old x).named }
@@ -281,6 +300,7 @@ impl SupportCounts {
 }
 
 /// What the row under the key counts for.
+#[inline(always)]
 fn counted_by(key: RowKey, row: &Row) -> CountedRow<'_>
     ensures given { (x : ℕ) → given x key row.now ≡ counted_for x result }
     ensures within { (n : ℕ) → counts_within n key row.now ≡ counted_within n result }
