@@ -1,5 +1,5 @@
 -- What a step's parts say of the step: which keys were put, what stood under them, and what one more put makes of it.
-use Rattle.std.proofs.Common.{◌≡◌, ℕ, ◌+◌, ◌<◌, ◌≤◌, zero, suc, inl, inr, Bool, true, false, cond, ◌||◌, ◌⊎◌, List, [], ◌∷◌, ◌++◌, take, drop, get_or, set, length, min, Option, Some, None, is_some, refl, sym, ap, ◌∙◌, subst, unwrap_or, arith}
+use Rattle.std.proofs.Common.{◌≡◌, ℕ, ◌+◌, ◌<◌, ◌≤◌, zero, suc, inl, inr, Bool, true, false, cond, ◌||◌, ◌⊎◌, List, [], ◌∷◌, ◌++◌, take, drop, get_or, length, min, Option, Some, None, is_some, refl, sym, ap, ◌∙◌, subst, unwrap_or, arith}
 use Rattle.std.specs.Prelude.{slice_get}
 use Rattle.std.specs.BTreeMap.{BTreeMap, get, Updates, is_at}
 use Rattle.std.specs.FinMap.Entries as entries
@@ -265,23 +265,6 @@ touching-push old new firsts more index more_index room more_room k v n is kept 
     }
 
 -- one more behind the list that was reserved
-set-last : (R : Rows) (e f : RowKey × Option Row) → set (R ++ e ∷ []) (length R) f ≡ R ++ f ∷ []
-set-last [] e f = refl
-set-last (x ∷ xs) e f = ap (λ ys. x ∷ ys) (set-last xs e f)
-
-get_or-last : (R : Rows) (e d : RowKey × Option Row) → get_or (R ++ e ∷ []) (length R) d ≡ e
-get_or-last [] e d = refl
-get_or-last (x ∷ xs) e d = get_or-last xs e d
-
-module _ (firsts pushed : Rows) (n : ℕ) (k : RowKey) (r : Option Row) (e : RowKey × Option Row) (behind : pushed ≡ firsts ++ (k, r) ∷ []) (counted : n ≡ length firsts) (at : e ≡ get_or pushed n e) where
-  -- what stands where a row was put behind the others
-  pub found_behind : ◌≡◌ {A = RowKey × Option Row} e (k, r)
-  found_behind = at ∙ (λ i. get_or (behind i) (counted i) e) ∙ get_or-last firsts (k, r) e
-
-  -- and the rows where it was exchanged there
-  pub exchanged_behind : (v : Option Row) → set pushed n (e.0, v) ≡ firsts ++ (k, v) ∷ []
-  exchanged_behind v = (λ i. set (behind i) (counted i) ((found_behind i).0, v)) ∙ set-last firsts (k, r) (k, v)
-
 pub pushed_behind : {A : Type 0} (xs ys zs : List A) (x : A) → zs ≡ ys ++ x ∷ [] → ys ≡ xs → zs ≡ xs ++ x ∷ []
 pushed_behind xs ys zs x pushed same = pushed ∙ ap (λ es. es ++ x ∷ []) same
 

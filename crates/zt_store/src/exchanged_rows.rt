@@ -34,7 +34,7 @@ fn exchange_under(store: &mut Store, keys: &[RowKey], rows: &mut [Option<Row>])
     ensures fits { fits store.new.places (zip keys.now rows.new) ≡ true }
 {
     for place in 0..rows.len() {
-        store.exchange(keys[place], &mut rows[place]);
+        store.exchange(&keys[place], &mut rows[place]);
     }
 }
 
@@ -50,7 +50,7 @@ pub(crate) fn exchange_rows(store: &mut Store, rows: &mut [(RowKey, Option<Row>)
 {
     for i in 0..rows.len() {
         let entry = &mut rows[i];
-        store.exchange(entry.0, &mut entry.1);
+        store.exchange(&entry.0, &mut entry.1);
     }
 }
 

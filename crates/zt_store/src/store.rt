@@ -395,32 +395,68 @@ impl Store {
 
     /// Makes what the row needs under the key: the place of the key, and the numbers of the koids that it counts
     /// for. The rows stay as they are, also where memory is refused. Koids from 2^48 on are refused.
-    pub(crate) fn make_room(&mut self, key: RowKey, row: Option<&Row>) -> Result<(), AllocError>
+    #[inline(always)]
+    pub(crate) fn make_room(&mut self, key: &RowKey, row: Option<&Row>) -> Result<(), AllocError>
         ensures state { self.new.state ≡ self.old.state }
         ensures kept { Keeps self.old.places self.new.places }
-        ensures made { OnOk result (fits_row self.new.places key (option_copied row.entry) ≡ true) }
+        ensures made { OnOk result (fits_row self.new.places key.now (option_copied row.entry) ≡ true) }
     {
-        let asked = key;
-        self.make_place(asked)?;
-        self.support_counts.grow_if(key, row)
+        self.make_place(*key)?;
+        self.support_counts.grow_if(*key, row)
     }
 
     /// Makes the place of the key, if there is none yet.
+    #[inline(always)]
     fn make_place(&mut self, key: RowKey) -> Result<(), AllocError>
         ensures state { self.new.state ≡ self.old.state }
         ensures kept { Keeps self.old.places self.new.places }
         ensures made { OnOk result (has_place self.new.places.sizes key ≡ true) }
     {
-        let (asked, indexed) = (key, key);
+        let asked = key;
         if self.cells.has_place(asked) {
             return Ok(());
         }
+        self.add_place(key)
+    }
+
+    /// Makes the place of the key.
+    #[inline(never)]
+    fn add_place(&mut self, key: RowKey) -> Result<(), AllocError>
+        ensures state { self.new.state ≡ self.old.state }
+        ensures kept { Keeps self.old.places self.new.places }
+        ensures made { OnOk result (has_place self.new.places.sizes key ≡ true) }
+    {
+        let indexed = key;
         self.index.grow_for(indexed)?;
         self.cells.make_place(key)
     }
 
     /// Exchanges the row, or none, with what stands under the key. It takes no memory.
-    pub(crate) fn exchange(&mut self, key: RowKey, kept: &mut Option<Row>)
+    pub(crate) fn exchange(&mut self, key: &RowKey, kept: &mut Option<Row>)
+        requires placed { fits_row self.old.places key.now kept.old ≡ true }
+        requires suited { SuitsKey key.now kept.old }
+        ensures put { self.new ≡ standing self.old (put self.old.state key.now kept.old) }
+        ensures was { kept.new ≡ row self.old.state key.now }
+        ensures fit { fits_row self.new.places key.now kept.new ≡ true }
+        ensures suited { SuitsKey key.now kept.new }
+    {
+        match *key {
+            RowKey::Counters => self.exchange_under(RowKey::Counters, kept),
+            RowKey::Object(koid) => self.exchange_under(RowKey::Object(koid), kept),
+            RowKey::Entry(process, value) => {
+                self.exchange_under(RowKey::Entry(process, value), kept);
+            }
+            RowKey::Msg(owner, number) => self.exchange_under(RowKey::Msg(owner, number), kept),
+            RowKey::Packet(owner, number) => {
+                self.exchange_under(RowKey::Packet(owner, number), kept);
+            }
+            RowKey::Wait(number) => self.exchange_under(RowKey::Wait(number), kept),
+        }
+    }
+
+    /// The same, made part of its caller, who knows the variant of the key, so that what it means is asked once.
+    #[inline(always)]
+    fn exchange_under(&mut self, key: RowKey, kept: &mut Option<Row>)
         requires placed { fits_row self.old.places key kept.old ≡ true }
         requires suited { SuitsKey key kept.old }
         ensures put { self.new ≡ standing self.old (put self.old.state key kept.old) }
@@ -441,10 +477,9 @@ impl Store {
         requires { SuitsKey key (Option.Some row) }
         ensures { OnOk result (self.new.state ≡ put self.old.state key (Option.Some row)) }
     {
-        let asked = key;
-        self.make_room(key, Some(&row))?;
+        self.make_room(&key, Some(&row))?;
         let mut kept = Some(row);
-        self.exchange(asked, &mut kept);
+        self.exchange(&key, &mut kept);
         discard(kept);
         Ok(())
     }

@@ -3,7 +3,7 @@ use Rattle.zt_rows.specs.State.{State}
 use Rattle.zt_index.specs.ProofsOnly.KoidCounts.{AreKoidCounts, NamesFew}
 use Rattle.zt_index.proofs.IndexLaws.{indexed-made}
 use Rattle.zt_store.proofs.Fitting.{keeps-grown}
-use Rattle.zt_store.proofs.store.Store.make_place.Goals as goal
+use Rattle.zt_store.proofs.store.Store.add_place.Goals as goal
 
 pub returns-clause-kept : goal.returns-clause-kept
 returns-clause-kept c = rw (← c.self.view_is) (keeps-grown _ _ c.make_place.ensures.kept (omega arith))

@@ -4,7 +4,7 @@ use Rattle.zt_index.specs.IndexInvariant.{IsIndexed}
 use Rattle.zt_index.specs.KoidCounts.{numbers_at}
 use Rattle.zt_index.proofs.SupportCountLaws.{small-at, stands-within, went-there, koid_counts-exchanged, names_few-exchanged}
 use Rattle.zt_store.proofs.StoreLaws.{place-there, went-fits}
-use Rattle.zt_store.proofs.store.Store.exchange.Goals as goal
+use Rattle.zt_store.proofs.store.Store.exchange_under.Goals as goal
 
 pub raise_if-requires-clause-small : goal.raise_if-requires-clause-small
 raise_if-requires-clause-small c = λ x. let small = (small-at c.self.inside.cells.state c.self.inside.support_counts x (numbers_at c.self.inside.support_counts x) refl c.self.invariant.koid_counts c.self.invariant.few c.limits.ensures.few) in omega (arith, small.named)
