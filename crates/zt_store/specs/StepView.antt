@@ -41,3 +41,7 @@ AsBegun old new = new ≡ begun old.beginning new.places
 -- under other keys than those that were put, the rows are as at the beginning
 abbrev pub DiffersAtTouched : Stepping → Type 0
 DiffersAtTouched s = (k : RowKey) → listed s.touched k ≡ false → row s.current k ≡ row s.beginning k
+
+-- nothing is put yet: the step is as it was begun over the state that it has
+abbrev pub IsAtRest : Stepping → Type 0
+IsAtRest s = s ≡ begun s.current s.places
