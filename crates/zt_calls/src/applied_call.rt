@@ -5,7 +5,7 @@ ghost use Rattle.zt_rows.specs.Step.{IsCall, direct, completed, step};
 ghost use Rattle.zt_rows.specs.Change.{before};
 ghost use Rattle.zt_rows.specs.Consistent.{IsSound, IsConsistent};
 ghost use Rattle.zt_store.specs.Places.{Keeps, fits};
-ghost use Rattle.zt_store.specs.StepView.{AsBegun};
+ghost use Rattle.zt_store.specs.StepView.{AsBegun, IsAtRest};
 ghost use Rattle.zt_calls.specs.ProofsOnly.CallOutcomes.{Does};
 
 use crate::channel_calls::{channel_create, channel_read, channel_write};
@@ -35,7 +35,6 @@ pub fn runs(store: &Store, process: Koid) -> bool
 /// Runs one call of a process: the store's rows after it, its reply, and the record by which it is undone,
 /// which fits the store. Refused, the store's rows are as before: `NoProcess` where the caller is not a live process, and
 /// `OutOfMemory` where memory was refused on the way.
-#[tactic(auto, unfolding(zt_rows::specs::Step::step))]
 pub fn apply(
     alloc: Global,
     store: &mut Store,
@@ -53,19 +52,41 @@ pub fn apply(
     ensures consistent { IsConsistent store.new.state }
     ensures kept { Keeps store.old.places store.new.places }
 {
-    if !runs(store, process) {
+    let mut step = Step::begin(mem::replace(store, Store::hollow(alloc)));
+    let done = apply_to(alloc, &mut step, process, call);
+    put_in_place(store, step.abandon());
+    done
+}
+
+/// Runs one call of a process as `apply` does, on the store of a step that has put nothing yet; so has the step that it leaves.
+#[tactic(auto, unfolding(zt_rows::specs::Step::step))]
+pub fn apply_to(
+    alloc: Global,
+    resting: &mut Step,
+    process: Koid,
+    call: &Call,
+) -> Result<(Reply, Record), Refusal>
+    requires rest { IsAtRest resting.old }
+    requires room { HasRoom resting.old.current }
+    requires consistent { IsConsistent resting.old.current }
+    ensures rest { IsAtRest resting.new }
+    ensures ok { IfOk result (λ answer. (resting.new.current, answer.0) ≡ step resting.old.current process call.now) }
+    ensures recorded { IfOk result (λ answer. answer.1 ≡ before resting.old.current resting.new.current) }
+    ensures fits { IfOk result (λ answer. fits resting.new.places answer.1 ≡ true) }
+    ensures no_process { IsErrOf result Refusal.NoProcess ↔ (runs resting.old.current process ≡ false) }
+    ensures refusals { IfErr result (λ refusal. (refusal ≡ Refusal.NoProcess) ⊎ (refusal ≡ Refusal.OutOfMemory)) }
+    ensures err { OnErr result (resting.new.current ≡ resting.old.current) }
+    ensures consistent { IsConsistent resting.new.current }
+    ensures kept { Keeps resting.old.places resting.new.places }
+{
+    if !runs(resting.store(), process) {
         return Err(Refusal::NoProcess);
     }
     call.limits();
-    let mut step = Step::begin(mem::replace(store, Store::hollow(alloc)));
-    match carried_out(alloc, &mut step, process, call) {
-        Ok(reply) => {
-            let (after, record) = step.finish();
-            put_in_place(store, after);
-            Ok((reply, record))
-        }
+    match carried_out(alloc, resting, process, call) {
+        Ok(reply) => Ok((reply, resting.take_record())),
         Err(_) => {
-            put_in_place(store, step.abandon());
+            resting.reset();
             Err(Refusal::OutOfMemory)
         }
     }

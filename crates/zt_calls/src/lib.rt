@@ -15,4 +15,4 @@ mod received_message;
 mod sent_message;
 mod taken_handles;
 
-pub use applied_call::{apply, runs};
+pub use applied_call::{apply, apply_to, runs};
