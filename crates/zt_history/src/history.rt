@@ -14,6 +14,7 @@ ghost use Rattle.zt_history.specs.Timeline.{at_opening, moved_to, unmoved, IsPat
 use crate::branches::{BranchId, Branches};
 use crate::moments::Moments;
 use crate::object_notes::ObjectNotes;
+use crate::resting_store::RestingStore;
 use crate::row_happenings::RowHappening;
 use std::alloc::{AllocError, Global};
 use std::marker::Model;
@@ -33,7 +34,7 @@ pub(crate) enum Undo {
 /// The tree of moments, with a store at one of them, the position. Each moment has the record by which the store goes
 /// over the call that made it: back where the moment is on the path to the position, and forth where it is not.
 pub struct History {
-    pub(crate) store: Store,
+    pub(crate) store: RestingStore,
     pub(crate) moments: Moments,
     pub(crate) notes: ObjectNotes,
     pub(crate) branches: Branches,
@@ -72,8 +73,8 @@ impl History {
     pub fn new(alloc: Global) -> Result<History, AllocError>
         ensures { IfOk result (λ history. history ≡ at_opening) }
     {
-        let store = Store::opening(alloc)?;
-        let notes = ObjectNotes::new(alloc, &store)?;
+        let store = RestingStore::opening(alloc)?;
+        let notes = ObjectNotes::new(alloc, store.store())?;
         Ok(History {
             store,
             moments: Moments::new(alloc),
@@ -139,7 +140,7 @@ impl History {
         ensures state { result.now.state ≡ state_at self.now.tree.made self.now.position }
         ensures run { (result.now.state, replies_to self.now.tree.made self.now.position) ≡ run opening (calls_to self.now.tree.made self.now.position) }
     {
-        &self.store
+        self.store.store()
     }
 
     /// What a moment's call answered; nothing for the opening, nor beyond the last moment. It takes no memory.

@@ -9,6 +9,7 @@ pub mod laws;
 mod moments;
 mod new_moment;
 mod object_notes;
+mod resting_store;
 mod row_happenings;
 mod tree_changes;
 

@@ -16,11 +16,11 @@ ghost use Rattle.zt_history.specs.TreeInvariant.{Falls};
 ghost use Rattle.zt_history.specs.Tree.{made_at, parent_at, path};
 
 use crate::object_notes::ObjectNotes;
+use crate::resting_store::RestingStore;
 use std::alloc::{AllocError, Global};
 use std::marker::Model;
-use zt_calls::apply;
 use zt_rows::{Call, Koid, Moment, Reply};
-use zt_store::{Record, Store, swap};
+use zt_store::{Record, Store};
 
 /// How a moment was made, how long its path is, and the record by which a store goes over it.
 #[derive(Drop)]
@@ -210,21 +210,21 @@ impl Moments {
     }
 
     /// Exchanges the rows of a moment's record with the store's. It takes no memory.
-    pub(crate) fn turn(&mut self, store: &mut Store, moment: Moment)
+    pub(crate) fn turn(&mut self, store: &mut RestingStore, moment: Moment)
         requires some { 0 < moment }
         requires there { moment ≤ length self.old.made }
         requires fit { all_fit store.old.places self.old.records ≡ true }
         ensures { IsTurned self.old self.new store.old store.new (moment - 1) }
     {
         let node = &mut self.nodes[(moment.0 - 1) as usize];
-        swap(store, &mut node.change);
+        store.swap(&mut node.change);
     }
 
     /// Runs a call of a process at a moment, where the store stands, keeps what it made and notes what it did to each
     /// object. Where memory is refused, the store's rows, the moments and the notes are as before.
     pub(crate) fn run(
         &mut self,
-        store: &mut Store,
+        store: &mut RestingStore,
         notes: &mut ObjectNotes,
         at: Moment,
         process: Koid,
@@ -292,7 +292,7 @@ struct AnsweredCall {
 /// the notes or for a copy of the reply, the store's rows and the notes are as before.
 fn carried_out(
     alloc: Global,
-    store: &mut Store,
+    store: &mut RestingStore,
     notes: &mut ObjectNotes,
     moment: Moment,
     process: Koid,
@@ -312,10 +312,10 @@ fn carried_out(
     ensures kept { Keeps store.old.places store.new.places }
 {
     let copied = call.copy()?;
-    let Ok((reply, mut change)) = apply(alloc, store, process, call) else {
+    let Ok((reply, mut change)) = store.apply(alloc, process, call) else {
         return Err(AllocError);
     };
-    match copied_and_noted(&reply, notes, moment, &change, store) {
+    match copied_and_noted(&reply, notes, moment, &change, store.store()) {
         Ok(answer) => Ok(AnsweredCall {
             call: copied,
             reply,
@@ -323,7 +323,7 @@ fn carried_out(
             change,
         }),
         Err(e) => {
-            swap(store, &mut change);
+            store.swap(&mut change);
             Err(e)
         }
     }

@@ -22,6 +22,6 @@ invariant_of-self c =
 
 pub returns : goal.returns
 returns c =
-    turned_at c.self.inside.nodes.items c.index_mut-node.result.now _ c.args.self.now _ c.args.store.now c.swap.new.store (c.moment.inside.0 - 1) (c.args.moment - 1)
+    turned_at c.self.inside.nodes.items c.index_mut-node.result.now _ c.args.self.now _ c.args.store.now c.swap.new.self (c.moment.inside.0 - 1) (c.args.moment - 1)
     (within c) c.index_mut-node.ensures.value refl c.self.view_is refl (ap (λ n. n - 1) c.moment.view_is)
     c.swap.ensures.exchanged c.swap.ensures.places c.swap.ensures.fits

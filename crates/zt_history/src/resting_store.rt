@@ -1,0 +1,81 @@
+ghost use Rattle.std.specs.Prelude.{◌≡◌, ◌↔◌, ◌⊎◌, true, false, IfOk, IfErr, OnErr, IsErrOf};
+ghost use Rattle.zt_rows.specs.Change.{before, exchange};
+ghost use Rattle.zt_rows.specs.Consistent.{IsConsistent};
+ghost use Rattle.zt_rows.specs.Opening.{opening};
+ghost use Rattle.zt_rows.specs.Reads.{runs};
+ghost use Rattle.zt_rows.specs.Room.{HasRoom};
+ghost use Rattle.zt_rows.specs.Step.{step};
+ghost use Rattle.zt_store.specs.Places.{Keeps, fits};
+
+use std::alloc::{AllocError, Global};
+use std::marker::Model;
+use zt_calls::apply_to;
+use zt_rows::{Call, Koid, Refusal, Reply};
+use zt_store::{Record, Step, Store};
+
+/// A store that calls are run on where it stands: it is that of a step which has put nothing yet, each time that a call is over.
+#[derive(Drop)]
+pub(crate) struct RestingStore {
+    step: Step,
+}
+
+impl Model for RestingStore {
+    ghost use Rattle.zt_store.specs.StepView.{IsAtRest};
+    ghost use Rattle.zt_store.specs.StoreView.{Stored};
+
+    ghost Value = { Stored };
+
+    ghost view = { λ s. record { state = s.step.current; places = s.step.places } };
+
+    ghost invariant = { λ s. IsAtRest s.step };
+}
+
+impl RestingStore {
+    /// The store that a history begins with.
+    pub(crate) fn opening(alloc: Global) -> Result<RestingStore, AllocError>
+        ensures { IfOk result (λ store. store.state ≡ opening) }
+    {
+        let store = Store::opening(alloc)?;
+        Ok(RestingStore {
+            step: Step::begin(store),
+        })
+    }
+
+    /// The store itself.
+    pub(crate) fn store(&self) -> &Store
+        ensures { result.now ≡ self.now }
+    {
+        self.step.store()
+    }
+
+    /// Exchanges the record's rows with the store's, as `swap` of the store does.
+    pub(crate) fn swap(&mut self, kept: &mut Record)
+        requires { fits self.old.places kept.old ≡ true }
+        ensures exchanged { (self.new.state, kept.new) ≡ exchange self.old.state kept.old }
+        ensures places { self.new.places ≡ self.old.places }
+        ensures fits { fits self.new.places kept.new ≡ true }
+    {
+        self.step.swap(kept);
+    }
+
+    /// Runs one call of a process, as `apply` of the calls does.
+    pub(crate) fn apply(
+        &mut self,
+        alloc: Global,
+        process: Koid,
+        call: &Call,
+    ) -> Result<(Reply, Record), Refusal>
+        requires room { HasRoom self.old.state }
+        requires consistent { IsConsistent self.old.state }
+        ensures ok { IfOk result (λ answer. (self.new.state, answer.0) ≡ step self.old.state process call.now) }
+        ensures recorded { IfOk result (λ answer. answer.1 ≡ before self.old.state self.new.state) }
+        ensures fits { IfOk result (λ answer. fits self.new.places answer.1 ≡ true) }
+        ensures no_process { IsErrOf result Refusal.NoProcess ↔ (runs self.old.state process ≡ false) }
+        ensures refusals { IfErr result (λ refusal. (refusal ≡ Refusal.NoProcess) ⊎ (refusal ≡ Refusal.OutOfMemory)) }
+        ensures err { OnErr result (self.new.state ≡ self.old.state) }
+        ensures consistent { IsConsistent self.new.state }
+        ensures kept { Keeps self.old.places self.new.places }
+    {
+        apply_to(alloc, &mut self.step, process, call)
+    }
+}
