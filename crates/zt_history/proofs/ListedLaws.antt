@@ -1,23 +1,25 @@
--- Moments with the lists of their parents and of their jumps: one that changes, one more and one less.
-use Rattle.std.proofs.Common.{◌≡◌, ℕ, suc, ◌+◌, ◌≤◌, ◌<◌, List, [], ◌∷◌, ◌++◌, length, set, take, get_or, Option, Some, None, inl, inr, refl, sym, ◌∙◌, ap, subst, arith, Bor}
-use Rattle.std.specs.Prelude.{slice_get}
+-- Moments with the lists of their parents, of their shortcuts and of their records: one more and one less.
+use Rattle.std.proofs.Common.{◌≡◌, ℕ, suc, ◌+◌, ◌-◌, ◌≤◌, ◌<◌, List, [], ◌∷◌, ◌++◌, length, set, take, Option, Some, None, inl, inr, refl, sym, ◌∙◌, ap, subst, arith, Bor}
+use Rattle.std.specs.Prelude.{slice_get, IfSome}
 use Rattle.std.specs.Option.{option_copied}
 use Rattle.std.specs.Slice.{IsItemAt}
+use Rattle.std.proofs.lemmas.Bool.{cases_lt}
 use Rattle.std.proofs.lemmas.List.{length-append, length-set, length-take, map-append, take-map}
 use Rattle.std.proofs.lemmas.Option.{none-some, same_Some, slice_get_past, slice_get_within}
-use Rattle.std.proofs.Math.Seq.{map-set_same}
+use Rattle.zt_rows.proofs.ChangeLaws.{Rows}
 use Rattle.zt_history.specs.declared.moments.MomentNode.{MomentNode}
+use Rattle.zt_history.specs.declared.moments.Shortcut.{Shortcut}
 use Rattle.zt_history.specs.HistoryRefusals.{most_moments}
 use Rattle.zt_history.specs.Tree.{Made, parent_of, parent_at, path}
 use Rattle.zt_history.specs.TreeInvariant.{Falls}
-use Rattle.zt_history.specs.ProofsOnly.Forks.{IsAbove, IsJump, AreJumps}
+use Rattle.zt_history.specs.ProofsOnly.Forks.{IsAbove, IsRunBeyond, IsShortcut, AreShortcuts}
 use Rattle.zt_history.specs.ProofsOnly.MomentNodes.{Chronicle, AreNodes, AreListed, made_as, made_in, parents_in}
-use Rattle.zt_history.proofs.ForkLaws.{above-above, above-early, above-opening, above-parent}
+use Rattle.zt_history.proofs.ForkLaws.{above-above, above-early, above-opening, above-parent, above-self}
 use Rattle.zt_history.proofs.ListLaws.{length-mapped, get-left, get-last, place}
 use Rattle.zt_history.proofs.MoreLaws.{falls-push, path-more}
-use Rattle.zt_history.proofs.NodeLaws.{got, length-made_in, made_in-more, nodes-left, nodes-pushed, nodes-set, or_opening, seen}
+use Rattle.zt_history.proofs.NodeLaws.{got, length-made_in, made_in-more, nodes-left, nodes-pushed, seen}
 
--- ---- jumps while moments are made or dropped
+-- ---- shortcuts while moments are made or dropped
 
 module _ (made more : List Made) (falls : Falls made) (up moment : ℕ) (earlier : up ≤ length made) (there : moment ≤ length made) where
   above-more : IsAbove made up moment → IsAbove (made ++ more) up moment
@@ -36,117 +38,181 @@ module _ (made more : List Made) (falls : Falls made) (up moment : ℕ) (earlier
         ∙ (λ i. take (length (path-more made more falls up earlier i)) (path-more made more falls moment there i));
   }
 
-jumps-fewer : (made more : List Made) → Falls made → (jumps fewer gone : List ℕ) → jumps ≡ fewer ++ gone → length fewer ≡ length made → AreJumps (made ++ more) jumps → AreJumps made fewer
-jumps-fewer made more falls jumps fewer gone apart many are i up at =
-    let within : i < length fewer = slice_get_within fewer i up at in
-    let was : IsJump (made ++ more) up (suc i) = are i up (ap (λ xs. slice_get xs i) apart ∙ get-left fewer gone i within ∙ at) in
-    record {
-      earlier = was.earlier;
-      above = above-fewer made more falls up (suc i) (omega (arith, was.earlier, within, many)) (omega (arith, within, many)) was.above;
-    }
+module _ (made more : List Made) (falls : Falls made) (s : Shortcut) (moment : ℕ) (there : moment ≤ length made) where
+  shortcut-more : IsShortcut made s moment → IsShortcut (made ++ more) s moment
+  shortcut-more is = record {
+    jump = record {
+      earlier = is.jump.earlier;
+      above = above-more made more falls s.jump moment (omega (arith, is.jump.earlier, there)) there is.jump.above;
+    };
+    run = record {
+      within = is.run.within;
+      above = λ m later early. above-more made more falls m moment (omega (arith, early, there)) there (is.run.above m later early);
+    };
+  }
+
+  shortcut-fewer : IsShortcut (made ++ more) s moment → IsShortcut made s moment
+  shortcut-fewer is = record {
+    jump = record {
+      earlier = is.jump.earlier;
+      above = above-fewer made more falls s.jump moment (omega (arith, is.jump.earlier, there)) there is.jump.above;
+    };
+    run = record {
+      within = is.run.within;
+      above = λ m later early. above-fewer made more falls m moment (omega (arith, early, there)) there (is.run.above m later early);
+    };
+  }
+
+shortcuts-fewer : (made more : List Made) → Falls made → (shortcuts fewer gone : List Shortcut) → shortcuts ≡ fewer ++ gone → length fewer ≡ length made → AreShortcuts (made ++ more) shortcuts → AreShortcuts made fewer
+shortcuts-fewer made more falls shortcuts fewer gone apart many are i s at =
+    let within : i < length fewer = slice_get_within fewer i s at in
+    shortcut-fewer made more falls s (suc i) (omega (arith, within, many)) (are i s (ap (λ xs. slice_get xs i) apart ∙ get-left fewer gone i within ∙ at))
 
 -- one more, whose jump leads to its parent or to a moment above that
-jumps-push : (made : List Made) (e : Made) → Falls made → (jumps : List ℕ) (jump : ℕ) → length jumps ≡ length made → e.parent ≤ length made → IsAbove made jump e.parent
-    → AreJumps made jumps → AreJumps (made ++ e ∷ []) (jumps ++ jump ∷ [])
-jumps-push made e falls jumps jump many there above are i up at =
-    elim (place jumps jump i) [
+shortcuts-push : (made : List Made) (e : Made) → Falls made → (shortcuts : List Shortcut) (s : Shortcut) → length shortcuts ≡ length made → e.parent ≤ length made → IsAbove made s.jump e.parent
+    → IsRunBeyond made s.first e.parent → AreShortcuts made shortcuts → AreShortcuts (made ++ e ∷ []) (shortcuts ++ s ∷ [])
+shortcuts-push made e falls shortcuts s many there above run are i t at =
+    elim (place shortcuts s i) [
       | inl within ↦
-          let was : IsJump made up (suc i) = are i up (sym (get-left jumps (jump ∷ []) i within) ∙ at) in
-          record {
-            earlier = was.earlier;
-            above = above-more made (e ∷ []) falls up (suc i) (omega (arith, was.earlier, within, many)) (omega (arith, within, many)) was.above;
-          }
+          shortcut-more made (e ∷ []) falls t (suc i) (omega (arith, within, many)) (are i t (sym (get-left shortcuts (s ∷ []) i within) ∙ at))
       | inr r ↦ elim r [
         | inl end ↦
-            let is : jump ≡ up = same_Some jump up (sym (get-last jumps jump i end) ∙ at) in
+            let is : s ≡ t = same_Some s t (sym (get-last shortcuts s i end) ∙ at) in
             let last : length made ≡ i = omega (arith, end, many) in
-            subst (λ up. IsJump (made ++ e ∷ []) up (suc i)) is (subst (λ i. IsJump (made ++ e ∷ []) jump (suc i)) last newest)
-        | inr past ↦ absurd (none-some up (sym (slice_get_past (jumps ++ jump ∷ []) i past) ∙ at))
+            subst (λ t. IsShortcut (made ++ e ∷ []) t (suc i)) is (subst (λ i. IsShortcut (made ++ e ∷ []) s (suc i)) last newest)
+        | inr past ↦ absurd (none-some t (sym (slice_get_past (shortcuts ++ s ∷ []) i past) ∙ at))
       ]
     ]
   where
-    early : jump ≤ e.parent
-    early = above-early made falls jump e.parent above
+    longer : List Made
+    longer = made ++ e ∷ []
 
-    parent : parent_at (made ++ e ∷ []) (suc (length made)) ≡ e.parent
+    early : s.jump ≤ e.parent
+    early = above-early made falls s.jump e.parent above
+
+    parent : parent_at longer (suc (length made)) ≡ e.parent
     parent = ap parent_of (get-last made e (length made) refl)
 
-    newest : IsJump (made ++ e ∷ []) jump (suc (length made))
+    -- what is above the parent is above the moment
+    over : (m : ℕ) → m ≤ length made → IsAbove made m e.parent → IsAbove longer m (suc (length made))
+    over m low is =
+        above-above longer m e.parent (suc (length made)) (above-more made (e ∷ []) falls m e.parent low there is)
+        (subst (λ p. IsAbove longer p (suc (length made))) parent (above-parent longer (falls-push made e falls there) (suc (length made))))
+
+    newest : IsShortcut longer s (suc (length made))
     newest = record {
-      earlier = omega (arith, early, there);
-      above =
-          above-above (made ++ e ∷ []) jump e.parent (suc (length made))
-          (above-more made (e ∷ []) falls jump e.parent (omega (arith, early, there)) there above)
-          (subst (λ p. IsAbove (made ++ e ∷ []) p (suc (length made))) parent (above-parent (made ++ e ∷ []) (falls-push made e falls there) (suc (length made))));
+      jump = record {
+        earlier = omega (arith, early, there);
+        above = over s.jump (omega (arith, early, there)) above;
+      };
+      run = record {
+        within = run.within;
+        above = λ m later low. elim (cases_lt m (suc (length made))) [
+          | inl less ↦ over m (omega (arith, less)) (run.above m later (omega (arith, less)))
+          | inr most ↦
+              let is : suc (length made) ≡ m = omega (arith, most, low) in
+              subst (λ m. IsAbove longer m (suc (length made))) is (above-self longer (suc (length made)))
+        ];
+      };
     }
 
--- the jump of a moment, as it is read from the list of the jumps
-pub jump-listed : (nodes : List MomentNode) (jumps xs : List ℕ) (h : Chronicle) (i m : ℕ) (r : Option (Bor ℕ)) → IsItemAt xs i r → xs ≡ jumps → AreJumps (made_in nodes) jumps
-    → seen nodes ≡ h → m ≡ suc i → IsJump h.made (or_opening (option_copied r)) m
-jump-listed nodes jumps xs h i m r at all are is place = by r (got xs i r at ∙ ap (λ xs. slice_get xs i) all)
-  where
-    by : (r : Option (Bor ℕ)) → option_copied r ≡ slice_get jumps i → IsJump h.made (or_opening (option_copied r)) m
-    by None e = record { earlier = omega arith; above = above-opening h.made m }
-    by (Some up) e = subst (IsJump h.made up.now) (sym place) (subst (λ (h : Chronicle). IsJump h.made up.now (suc i)) is (are i up.now (sym e)))
+-- a moment that has no other: its jump leads to the opening, and its run is itself
+pub shortcut-alone : (made : List Made) (s : Shortcut) (m : ℕ) → s.jump ≡ 0 → s.first ≡ m → IsShortcut made s m
+shortcut-alone made s m jump first = record {
+  jump = record {
+    earlier = omega (arith, jump);
+    above = subst (λ up. IsAbove made up m) (sym jump) (above-opening made m);
+  };
+  run = record {
+    within = omega (arith, first);
+    above = λ k later low. subst (λ k. IsAbove made k m) (omega (arith, first, later, low)) (above-self made m);
+  };
+}
 
--- ---- nodes with both lists
+-- the shortcut of a moment, as it is read from the list of the shortcuts
+pub shortcut-listed : (nodes : List MomentNode) (records : List Rows) (shortcuts xs : List Shortcut) (h : Chronicle) (i m : ℕ) (r : Option (Bor Shortcut)) → IsItemAt xs i r → xs ≡ shortcuts
+    → AreShortcuts (made_in nodes) shortcuts → seen nodes records ≡ h → m ≡ suc i → IfSome r (λ s. IsShortcut h.made s.now m)
+shortcut-listed nodes records shortcuts xs h i m r at all are is place = by r (got xs i r at ∙ ap (λ xs. slice_get xs i) all)
+  where
+    by : (r : Option (Bor Shortcut)) → option_copied r ≡ slice_get shortcuts i → IfSome r (λ s. IsShortcut h.made s.now m)
+    by None e = tt
+    by (Some s) e = subst (IsShortcut h.made s.now) (sym place) (subst (λ (h : Chronicle). IsShortcut h.made s.now (suc i)) is (are i s.now (sym e)))
+
+-- ---- nodes with all lists
 
 pub length-parents : (nodes : List MomentNode) (parents : List ℕ) → parents ≡ parents_in nodes → length parents ≡ length nodes
 length-parents nodes parents listed = ap length listed ∙ length-mapped (λ (n : MomentNode). n.parent) nodes
 
-pub listed-left : (nodes fewer more : List MomentNode) (parents left jumps held gone : List ℕ) (n k q : ℕ) → nodes ≡ fewer ++ more → fewer ≡ take n nodes → left ≡ take k parents → k ≡ n
-    → jumps ≡ held ++ gone → held ≡ take q jumps → q ≡ n → AreListed nodes parents jumps → AreListed fewer left held
-listed-left nodes fewer more parents left jumps held gone n k q apart first others same parted leaps few are = record {
+pub listed-left : (nodes fewer more : List MomentNode) (parents left : List ℕ) (shortcuts held gone : List Shortcut) (records kept : List Rows) (n k q r : ℕ)
+    → nodes ≡ fewer ++ more → fewer ≡ take n nodes → left ≡ take k parents → k ≡ n
+    → shortcuts ≡ held ++ gone → held ≡ take q shortcuts → q ≡ n → kept ≡ take r records → r ≡ n
+    → AreListed nodes parents shortcuts records → AreListed fewer left held kept
+listed-left nodes fewer more parents left shortcuts held gone records kept n k q r apart first others same parted leaps few rows still are = record {
   stand = stand;
   listed =
       others ∙ (λ i. take (same i) (are.listed i))
       ∙ take-map (λ (n : MomentNode). n.parent) n nodes
       ∙ ap parents_in (sym first);
   many = many;
-  jumped =
-      jumps-fewer (made_in fewer) (made_in more) stand.falls jumps held gone parted (omega (arith, many, length-made_in fewer))
-      (subst (λ made. AreJumps made jumps) (ap made_in apart ∙ made_in-more fewer more) are.jumped);
+  ways =
+      shortcuts-fewer (made_in fewer) (made_in more) stand.falls shortcuts held gone parted (omega (arith, many, length-made_in fewer))
+      (subst (λ made. AreShortcuts made shortcuts) (ap made_in apart ∙ made_in-more fewer more) are.ways);
+  recorded = omega (arith, ap length rows, length-take r records, ap length first, length-take n nodes, still, are.recorded);
 }
   where
     stand : AreNodes fewer
     stand = nodes-left fewer more (subst AreNodes apart are.stand)
 
     many : length held ≡ length fewer
-    many = omega (arith, ap length leaps, length-take q jumps, ap length first, length-take n nodes, few, are.many)
+    many = omega (arith, ap length leaps, length-take q shortcuts, ap length first, length-take n nodes, few, are.many)
 
-pub listed-set : (nodes : List MomentNode) (parents jumps : List ℕ) (i : ℕ) (n d : MomentNode) → i < length nodes → d ≡ get_or nodes i d → made_as n ≡ made_as d → n.depth ≡ d.depth
-    → AreListed nodes parents jumps → AreListed (set nodes i n) parents jumps
-listed-set nodes parents jumps i n d within is same deep are = record {
-  stand = nodes-set nodes i n d within is same deep are.stand;
-  listed = are.listed ∙ sym (map-set_same (λ (n : MomentNode). n.parent) nodes i n d (ap (λ (e : Made). e.parent) same ∙ ap (λ (n : MomentNode). n.parent) is));
-  many = are.many ∙ sym (length-set nodes i n);
-  jumped = subst (λ made. AreJumps made jumps) (sym (map-set_same made_as nodes i n d (same ∙ ap made_as is))) are.jumped;
+-- another record in the place of one
+pub listed-set : (nodes : List MomentNode) (parents : List ℕ) (shortcuts : List Shortcut) (records : List Rows) (i : ℕ) (R : Rows)
+    → AreListed nodes parents shortcuts records → AreListed nodes parents shortcuts (set records i R)
+listed-set nodes parents shortcuts records i R are = record {
+  stand = are.stand;
+  listed = are.listed;
+  many = are.many;
+  ways = are.ways;
+  recorded = length-set records i R ∙ are.recorded;
 }
 
--- a moment more, with its parent and its jump, where room was made first
-module _ (nodes middle new : List MomentNode) (n : MomentNode) (parents room longer jumps spare leaps : List ℕ) (jump : ℕ) (h : Chronicle)
+-- the record of a moment is there
+pub listed-within : (nodes : List MomentNode) (parents : List ℕ) (shortcuts : List Shortcut) (records : List Rows) (h : Chronicle) (i m : ℕ) → seen nodes records ≡ h
+    → i ≡ m - 1 → 0 < m → m ≤ length h.made → AreListed nodes parents shortcuts records → i < length records
+listed-within nodes parents shortcuts records h i m is place some there are =
+    omega (arith, place, some, there, ap (λ (h : Chronicle). length h.made) is, length-made_in nodes, are.recorded)
+
+-- a moment more, with its parent, its shortcut and its record, where room was made first
+module _ (nodes middle new : List MomentNode) (n : MomentNode) (parents room longer : List ℕ) (shortcuts spare leaps : List Shortcut) (s : Shortcut)
+    (records space rows : List Rows) (R : Rows) (h : Chronicle)
     (pushed : new ≡ middle ++ n ∷ []) (kept : middle ≡ nodes) (grown : longer ≡ room ++ n.parent ∷ []) (held : room ≡ parents)
-    (leapt : leaps ≡ spare ++ jump ∷ []) (spared : spare ≡ jumps) (is : seen nodes ≡ h) where
-  pub listed-pushed : n.parent ≤ length h.made → n.depth ≡ length (path h.made n.parent) + 1 → IsAbove h.made jump n.parent → length h.made < most_moments
-      → AreListed nodes parents jumps → AreListed new longer leaps
-  listed-pushed there deep above few are = record {
-    stand = nodes-pushed nodes middle new n h pushed kept is there deep few are.stand;
+    (leapt : leaps ≡ spare ++ s ∷ []) (spared : spare ≡ shortcuts) (wrote : rows ≡ space ++ R ∷ []) (stood : space ≡ records)
+    (is : seen nodes records ≡ h) where
+  pub listed-pushed : n.parent ≤ length h.made → n.depth ≡ length (path h.made n.parent) + 1 → IsAbove h.made s.jump n.parent → IsRunBeyond h.made s.first n.parent
+      → length h.made < most_moments → AreListed nodes parents shortcuts records → AreListed new longer leaps rows
+  listed-pushed there deep above run few are = record {
+    stand = nodes-pushed nodes middle new records n h pushed kept is there deep few are.stand;
     listed =
         grown ∙ ap (λ xs. xs ++ n.parent ∷ []) (held ∙ are.listed)
         ∙ sym (ap parents_in all ∙ map-append (λ (n : MomentNode). n.parent) nodes (n ∷ []));
-    many = ap length leaps_are ∙ omega (arith, length-append jumps (jump ∷ []), are.many, ap length all, length-append nodes (n ∷ []));
-    jumped =
-        subst (λ made. AreJumps made leaps) (sym (ap made_in all ∙ made_in-more nodes (n ∷ [])))
-        (subst (AreJumps (made_in nodes ++ made_as n ∷ [])) (sym leaps_are)
-        (jumps-push (made_in nodes) (made_as n) are.stand.falls jumps jump (omega (arith, are.many, length-made_in nodes)) (omega (arith, there, ap length made))
-        (subst (λ made. IsAbove made jump n.parent) (sym made) above) are.jumped));
+    many = ap length leaps_are ∙ omega (arith, length-append shortcuts (s ∷ []), are.many, more);
+    ways =
+        subst (λ made. AreShortcuts made leaps) (sym (ap made_in all ∙ made_in-more nodes (n ∷ [])))
+        (subst (AreShortcuts (made_in nodes ++ made_as n ∷ [])) (sym leaps_are)
+        (shortcuts-push (made_in nodes) (made_as n) are.stand.falls shortcuts s (omega (arith, are.many, length-made_in nodes)) (omega (arith, there, ap length made))
+        (subst (λ made. IsAbove made s.jump n.parent) (sym made) above) (subst (λ made. IsRunBeyond made s.first n.parent) (sym made) run) are.ways));
+    recorded = ap length (wrote ∙ ap (λ xs. xs ++ R ∷ []) stood) ∙ omega (arith, length-append records (R ∷ []), are.recorded, more);
   }
     where
       all : new ≡ nodes ++ n ∷ []
       all = pushed ∙ ap (λ xs. xs ++ n ∷ []) kept
 
-      leaps_are : leaps ≡ jumps ++ jump ∷ []
-      leaps_are = leapt ∙ ap (λ xs. xs ++ jump ∷ []) spared
+      more : length new ≡ length nodes + 1
+      more = ap length all ∙ omega (arith, length-append nodes (n ∷ []))
+
+      leaps_are : leaps ≡ shortcuts ++ s ∷ []
+      leaps_are = leapt ∙ ap (λ xs. xs ++ s ∷ []) spared
 
       made : made_in nodes ≡ h.made
       made = ap (λ (h : Chronicle). h.made) is

@@ -1,12 +1,10 @@
 -- Moments as they are kept: look-ups, depths, a record that changes, one more and one less.
-use Rattle.std.proofs.Common.{◌≡◌, ℕ, zero, suc, ◌+◌, ◌-◌, ◌≤◌, ◌<◌, Bool, true, false, eqb, inl, inr, List, [], ◌∷◌, ◌++◌, length, reverse, set, get_or, Option, Some, None, refl, sym, ◌∙◌, ap, subst, arith, Bor}
+use Rattle.std.proofs.Common.{◌≡◌, ℕ, zero, suc, ◌+◌, ◌≤◌, ◌<◌, true, inl, inr, List, [], ◌∷◌, ◌++◌, length, reverse, set, get_or, Option, Some, None, refl, sym, ◌∙◌, ap, subst, arith, Bor}
 use Rattle.std.specs.Prelude.{slice_get, IfSome}
 use Rattle.std.specs.Option.{option_copied, option_map}
 use Rattle.std.specs.Slice.{IsItemAt}
-use Rattle.std.proofs.lemmas.Bool.{eqb-true, eqb-false}
-use Rattle.std.proofs.lemmas.List.{reverse-append, append_assoc, length-append, length-reverse, length-set, map-append, map-set}
-use Rattle.std.proofs.Math.Seq.{map-set_same}
-use Rattle.std.proofs.lemmas.Option.{slice_get-map, slice_get-get_or, get_or_from_slice_get, slice_get_past, slice_get_within, none-some, same_Some}
+use Rattle.std.proofs.lemmas.List.{reverse-append, append_assoc, length-append, length-reverse, map-append}
+use Rattle.std.proofs.lemmas.Option.{slice_get-map, slice_get-get_or, slice_get_past, slice_get_within, none-some, same_Some}
 use Rattle.zt_rows.specs.Change.{exchange}
 use Rattle.zt_rows.specs.State.{State}
 use Rattle.zt_rows.proofs.ChangeLaws.{Rows}
@@ -18,8 +16,8 @@ use Rattle.zt_history.specs.declared.moments.MomentNode.{MomentNode}
 use Rattle.zt_history.specs.Tree.{Made, made_at, parent_of, parent_at, path}
 use Rattle.zt_history.specs.HistoryRefusals.{most_moments}
 use Rattle.zt_history.specs.TreeInvariant.{Falls}
-use Rattle.zt_history.specs.ProofsOnly.MomentNodes.{Chronicle, AreNodes, IsTurned, made_as, made_in, records_in, parents_in}
-use Rattle.zt_history.proofs.ListLaws.{length-mapped, get-within, get-left, get-last, get-set_same, get-set_other, place}
+use Rattle.zt_history.specs.ProofsOnly.MomentNodes.{Chronicle, AreNodes, IsTurned, made_as, made_in, parents_in, record_at}
+use Rattle.zt_history.proofs.ListLaws.{length-mapped, get-within, get-left, get-last, place}
 use Rattle.zt_history.proofs.MoreLaws.{path-more, falls-push, falls-left}
 use Rattle.zt_history.proofs.PathLaws.{path-opening, path-step, length-path}
 
@@ -29,10 +27,10 @@ pub got : {X : Type 0} (xs : List X) (i : ℕ) (r : Option (Bor X)) → IsItemAt
 got xs i None h = sym (slice_get_past xs i h.3)
 got xs i (Some x) h = ap Some h.1 ∙ sym (slice_get-get_or xs i x.now h.3.0)
 
-abbrev pub seen : List MomentNode → Chronicle
-seen nodes = record { made = made_in nodes; records = records_in nodes }
+abbrev pub seen : List MomentNode → List Rows → Chronicle
+seen nodes records = record { made = made_in nodes; records = records }
 
-module _ (nodes xs : List MomentNode) (h : Chronicle) (i m : ℕ) (r : Option (Bor MomentNode)) (at : IsItemAt xs i r) (all : xs ≡ nodes) (is : seen nodes ≡ h) (place : m ≡ suc i) where
+module _ (nodes xs : List MomentNode) (records : List Rows) (h : Chronicle) (i m : ℕ) (r : Option (Bor MomentNode)) (at : IsItemAt xs i r) (all : xs ≡ nodes) (is : seen nodes records ≡ h) (place : m ≡ suc i) where
   here : option_copied r ≡ slice_get nodes i
   here = got xs i r at ∙ ap (λ xs. slice_get xs i) all
 
@@ -46,24 +44,17 @@ module _ (nodes xs : List MomentNode) (h : Chronicle) (i m : ℕ) (r : Option (B
       by None e = ap (option_map made_as) e ∙ end
       by (Some n) e = ap (option_map made_as) e ∙ end
 
-  pub node-kept : IfSome r (λ n. slice_get h.records (m - 1) ≡ Some n.now.change)
-  node-kept = by r here
-    where
-      end : (n : MomentNode) → Some n ≡ slice_get nodes i → slice_get h.records (m - 1) ≡ Some n.change
-      end n e =
-          let less : m - 1 ≡ i = omega (arith, place) in
-          (λ j. slice_get (sym is j).records (less j)) ∙ slice_get-map (λ n. n.change) nodes i ∙ ap (option_map (λ n. n.change)) (sym e)
-
-      by : (r : Option (Bor MomentNode)) → option_copied r ≡ slice_get nodes i → IfSome r (λ n. slice_get h.records (m - 1) ≡ Some n.now.change)
-      by None e = tt
-      by (Some n) e = end n.now e
-
   pub node-depth : AreNodes nodes → IfSome r (λ n. n.now.depth ≡ length (path h.made m))
   node-depth are = by r here
     where
       by : (r : Option (Bor MomentNode)) → option_copied r ≡ slice_get nodes i → IfSome r (λ n. n.now.depth ≡ length (path h.made m))
       by None e = tt
       by (Some n) e = are.deep i n.now (sym e) ∙ (λ j. length (path (is j).made (sym place j)))
+
+-- the record of a moment, as it is read from the list of the records
+pub record-listed : (nodes : List MomentNode) (records xs : List Rows) (h : Chronicle) (i m : ℕ) (r : Option (Bor Rows)) → IsItemAt xs i r → xs ≡ records → seen nodes records ≡ h → m ≡ suc i
+    → option_copied r ≡ record_at h.records m
+record-listed nodes records xs h i m r at all is place = got xs i r at ∙ ap (λ xs. slice_get xs i) all ∙ (λ j. record_at (is j).records (sym place j))
 
 abbrev pub or_opening : Option ℕ → ℕ
 or_opening None = 0
@@ -74,9 +65,9 @@ parent_in None = refl
 parent_in (Some n) = refl
 
 -- the parent of a moment, as it is read from the list of the parents
-pub parent-listed : (nodes : List MomentNode) (parents xs : List ℕ) (h : Chronicle) (i m : ℕ) (r : Option (Bor ℕ)) → IsItemAt xs i r → xs ≡ parents → parents ≡ parents_in nodes
-    → seen nodes ≡ h → m ≡ suc i → or_opening (option_copied r) ≡ parent_at h.made m
-parent-listed nodes parents xs h i m r at all listed is place =
+pub parent-listed : (nodes : List MomentNode) (records : List Rows) (parents xs : List ℕ) (h : Chronicle) (i m : ℕ) (r : Option (Bor ℕ)) → IsItemAt xs i r → xs ≡ parents → parents ≡ parents_in nodes
+    → seen nodes records ≡ h → m ≡ suc i → or_opening (option_copied r) ≡ parent_at h.made m
+parent-listed nodes records parents xs h i m r at all listed is place =
     ap or_opening (got xs i r at ∙ ap (λ xs. slice_get xs i) (all ∙ listed) ∙ slice_get-map (λ n. n.parent) nodes i)
     ∙ parent_in (slice_get nodes i)
     ∙ ap parent_of (sym (slice_get-map made_as nodes i))
@@ -111,7 +102,7 @@ gathered-step made falls end (suc i) way longer depth next is more pushed up = r
   many = ap length pushed ∙ omega (arith, length-append way (suc i ∷ []), is.many);
 }
 
--- ---- nodes that stay, one that changes, and one more
+-- ---- nodes that stay, and one more
 
 module _ (nodes more : List MomentNode) where
   pub made_in-more : made_in (nodes ++ more) ≡ made_in nodes ++ made_in more
@@ -133,26 +124,6 @@ nodes-left nodes more are = record {
   where
     falls : Falls (made_in nodes)
     falls = falls-left (made_in nodes) (made_in more) (subst Falls (made_in-more nodes more) are.falls)
-
--- a node whose record alone changes
-pub nodes-set : (nodes : List MomentNode) (i : ℕ) (n d : MomentNode) → i < length nodes → d ≡ get_or nodes i d → made_as n ≡ made_as d → n.depth ≡ d.depth → AreNodes nodes → AreNodes (set nodes i n)
-nodes-set nodes i n d within is same deep are = record {
-  few = omega (arith, are.few, length-set nodes i n);
-  falls = subst Falls (sym all) are.falls;
-  deep = λ j k at. each j k at (eqb j i) refl;
-}
-  where
-    all : made_in (set nodes i n) ≡ made_in nodes
-    all = map-set_same made_as nodes i n d (same ∙ ap made_as is)
-
-    each : (j : ℕ) (k : MomentNode) → slice_get (set nodes i n) j ≡ Some k → (b : Bool) → eqb j i ≡ b → k.depth ≡ length (path (made_in (set nodes i n)) (suc j))
-    each j k at true e =
-        let at_i : j ≡ i = eqb-true j i e in
-        let k_is : n ≡ k = same_Some n k (sym (get-set_same nodes i n within) ∙ ap (slice_get (set nodes i n)) (sym at_i) ∙ at) in
-        let there : slice_get nodes j ≡ Some d = ap (slice_get nodes) at_i ∙ slice_get-get_or nodes i d within ∙ ap Some (sym is) in
-        ap (λ (k : MomentNode). k.depth) (sym k_is) ∙ deep ∙ are.deep j d there ∙ ap (λ made. length (path made (suc j))) (sym all)
-    each j k at false e =
-        are.deep j k (sym (get-set_other nodes i j n (eqb-false j i e)) ∙ at) ∙ ap (λ made. length (path made (suc j))) (sym all)
 
 -- one more node, one deeper than its parent
 pub nodes-push : (nodes : List MomentNode) (n : MomentNode) → n.parent ≤ length nodes → n.depth ≡ length (path (made_in nodes) n.parent) + 1 → length nodes < most_moments → AreNodes nodes → AreNodes (nodes ++ n ∷ [])
@@ -192,34 +163,28 @@ nodes-push nodes n there deep few are = record {
 
 -- ---- a record that changes
 
-pub record_fits : (p : Places) (nodes : List MomentNode) (i : ℕ) (n : MomentNode) → i < length nodes → n ≡ get_or nodes i n → all_fit p (records_in nodes) ≡ true → fits p n.change ≡ true
-record_fits p nodes i n within is fit =
-    let at : get_or (records_in nodes) i n.change ≡ n.change =
-    get_or_from_slice_get (records_in nodes) i n.change n.change (slice_get-map (λ n. n.change) nodes i ∙ ap (option_map (λ n. n.change)) (slice_get-get_or nodes i n within ∙ ap Some (sym is))) in
-    ap (fits p) (sym at) ∙ all_fit-at p (records_in nodes) i n.change (omega (arith, within, length-mapped (λ (n : MomentNode). n.change) nodes)) fit
+pub record_fits : (p : Places) (records : List Rows) (i : ℕ) (was : Rows) → i < length records → was ≡ get_or records i was → all_fit p records ≡ true → fits p was ≡ true
+record_fits p records i was within is fit = ap (fits p) is ∙ all_fit-at p records i was within fit
 
--- the record of the i-th node exchanged its rows with the store's
-pub turned_at : (nodes : List MomentNode) (n m : MomentNode) (old new : Chronicle) (before after : Stored) (i j : ℕ) → i < length nodes → n ≡ get_or nodes i n → made_as m ≡ made_as n
-    → seen nodes ≡ old → seen (set nodes i m) ≡ new → i ≡ j
-    → ◌≡◌ {A = State × Rows} (after.state, m.change) (exchange before.state n.change) → after.places ≡ before.places → fits after.places m.change ≡ true
+-- the i-th record exchanged its rows with the store's
+pub turned_at : (nodes : List MomentNode) (records : List Rows) (was kept : Rows) (old new : Chronicle) (before after : Stored) (i j : ℕ) → i < length records → was ≡ get_or records i was
+    → seen nodes records ≡ old → seen nodes (set records i kept) ≡ new → i ≡ j
+    → ◌≡◌ {A = State × Rows} (after.state, kept) (exchange before.state was) → after.places ≡ before.places → fits after.places kept ≡ true
     → IsTurned old new before after j
-turned_at nodes n m old new before after i j within is same was goes number done places fit = record {
-  made = ap (λ (h : Chronicle). h.made) (sym goes) ∙ map-set_same made_as nodes i m n (same ∙ ap made_as is) ∙ ap (λ (h : Chronicle). h.made) was;
-  was = n.change;
-  kept = m.change;
-  at =
-      (λ k. slice_get (sym was k).records (sym number k))
-      ∙ slice_get-map (λ n. n.change) nodes i
-      ∙ ap (option_map (λ n. n.change)) (slice_get-get_or nodes i n within ∙ ap Some (sym is));
+turned_at nodes records was kept old new before after i j within is stood goes number done places fit = record {
+  made = ap (λ (h : Chronicle). h.made) (sym goes) ∙ ap (λ (h : Chronicle). h.made) stood;
+  was = was;
+  kept = kept;
+  at = (λ k. slice_get (sym stood k).records (sym number k)) ∙ slice_get-get_or records i was within ∙ ap Some (sym is);
   exchanged = done;
-  records = ap (λ (h : Chronicle). h.records) (sym goes) ∙ map-set (λ (n : MomentNode). n.change) nodes i m ∙ (λ k. set (was k).records (number k) m.change);
+  records = ap (λ (h : Chronicle). h.records) (sym goes) ∙ (λ k. set (stood k).records (number k) kept);
   places = places;
   fit = fit;
 }
 
-pub nodes-pushed : (nodes middle new : List MomentNode) (n : MomentNode) (h : Chronicle) → new ≡ middle ++ n ∷ [] → middle ≡ nodes → seen nodes ≡ h
+pub nodes-pushed : (nodes middle new : List MomentNode) (records : List Rows) (n : MomentNode) (h : Chronicle) → new ≡ middle ++ n ∷ [] → middle ≡ nodes → seen nodes records ≡ h
     → n.parent ≤ length h.made → n.depth ≡ length (path h.made n.parent) + 1 → length h.made < most_moments → AreNodes nodes → AreNodes new
-nodes-pushed nodes middle new n h pushed kept is there deep few are =
+nodes-pushed nodes middle new records n h pushed kept is there deep few are =
     let made : made_in nodes ≡ h.made = ap (λ (h : Chronicle). h.made) is in
     let many : length (made_in nodes) ≡ length h.made = ap length made in
     subst AreNodes (sym (pushed ∙ ap (λ xs. xs ++ n ∷ []) kept))

@@ -177,10 +177,7 @@ impl History {
     pub fn record_of(&self, moment: Moment) -> Option<&Record>
         ensures { option_copied result ≡ recorded_at self.now.tree.made self.now.position moment }
     {
-        match self.moments.node(moment) {
-            Some(node) => Some(&node.change),
-            None => None,
-        }
+        self.moments.change(moment)
     }
 
     /// Whether the last call by `&mut` was `call` or `branch` and was answered, so that `retract` can take it back. It

@@ -1,5 +1,5 @@
 ghost use Rattle.std.specs.Prelude.{◌≡◌, ◌<◌, ◌≤◌, ◌+◌, ◌-◌, ◌++◌, ◌∷◌, [], ℕ, true, IfOk, OnOk, OnErr, IfSome, length, reverse, slice_get};
-ghost use Rattle.std.specs.Option.{option_map};
+ghost use Rattle.std.specs.Option.{option_copied, option_map};
 ghost use Rattle.zt_rows.specs.Change.{before};
 ghost use Rattle.zt_rows.specs.Consistent.{IsConsistent};
 ghost use Rattle.zt_rows.specs.Reads.{runs};
@@ -9,8 +9,8 @@ ghost use Rattle.zt_rows.specs.Tests.{among};
 ghost use Rattle.zt_store.specs.Places.{Keeps, fits};
 ghost use Rattle.zt_store.specs.RecordRows.{all_fit};
 ghost use Rattle.zt_history.specs.ProofsOnly.Branches.{without_last};
-ghost use Rattle.zt_history.specs.ProofsOnly.Forks.{IsAbove, IsJump};
-ghost use Rattle.zt_history.specs.ProofsOnly.MomentNodes.{IsTurned, made_as, run_at};
+ghost use Rattle.zt_history.specs.ProofsOnly.Forks.{IsAbove, IsRunBeyond, IsShortcut};
+ghost use Rattle.zt_history.specs.ProofsOnly.MomentNodes.{IsTurned, made_as, record_at, run_at};
 ghost use Rattle.zt_history.specs.ProofsOnly.ObjectNotes.{noted};
 ghost use Rattle.zt_history.specs.TreeInvariant.{Falls};
 ghost use Rattle.zt_history.specs.Tree.{made_at, parent_at, path};
@@ -22,7 +22,7 @@ use std::marker::Model;
 use zt_rows::{Call, Koid, Moment, Reply};
 use zt_store::{Record, Store};
 
-/// How a moment was made, how long its path is, and the record by which a store goes over it.
+/// How a moment was made, and how long its path is.
 #[derive(Drop)]
 pub(crate) struct MomentNode {
     pub(crate) parent: Moment,
@@ -30,27 +30,36 @@ pub(crate) struct MomentNode {
     pub(crate) process: Koid,
     pub(crate) call: Call,
     pub(crate) reply: Reply,
-    pub(crate) change: Record,
+}
+
+/// Two ways up a moment's path: a jump to a moment further up, and the first moment of its run, the moments in a row of
+/// which each but the first was made at the one just before it.
+#[derive(Clone, Copy)]
+pub(crate) struct Shortcut {
+    pub(crate) jump: Moment,
+    pub(crate) first: Moment,
 }
 
 /// The moments after the opening in the order in which they were made. The parents stand in a list of their own
-/// as well, so that a path is read from few bytes, and so do the jumps: each leads further up its moment's path, and they
-/// lie so that any moment of a path is come to by as many jumps and parents as the logarithm of the path's length.
+/// as well, so that a path is read from few bytes, and so do the records, so that a store that goes over many moments reads
+/// nothing else of them. The jumps lie so that any moment of a path is come to by as many jumps and parents as the
+/// logarithm of the path's length.
 #[derive(Drop)]
 pub(crate) struct Moments {
     nodes: Vec<MomentNode>,
     parents: Vec<Moment>,
-    jumps: Vec<Moment>,
+    shortcuts: Vec<Shortcut>,
+    records: Vec<Record>,
 }
 
 impl Model for Moments {
-    ghost use Rattle.zt_history.specs.ProofsOnly.MomentNodes.{AreListed, Chronicle, made_in, records_in};
+    ghost use Rattle.zt_history.specs.ProofsOnly.MomentNodes.{AreListed, Chronicle, made_in};
 
     ghost Value = { Chronicle };
 
-    ghost view = { λ m. record { made = made_in m.nodes.items; records = records_in m.nodes.items } };
+    ghost view = { λ m. record { made = made_in m.nodes.items; records = m.records.items } };
 
-    ghost invariant = { λ m. AreListed m.nodes.items m.parents.items m.jumps.items };
+    ghost invariant = { λ m. AreListed m.nodes.items m.parents.items m.shortcuts.items m.records.items };
 }
 
 impl Moments {
@@ -61,7 +70,8 @@ impl Moments {
         Moments {
             nodes: Vec::new(alloc),
             parents: Vec::new(alloc),
-            jumps: Vec::new(alloc),
+            shortcuts: Vec::new(alloc),
+            records: Vec::new(alloc),
         }
     }
 
@@ -84,13 +94,22 @@ impl Moments {
     /// What is kept of a moment; nothing of the opening, nor beyond the last.
     pub(crate) fn node(&self, moment: Moment) -> Option<&MomentNode>
         ensures made { option_map (λ n. made_as n.now) result ≡ made_at self.now.made moment }
-        ensures kept { IfSome result (λ n. slice_get self.now.records (moment - 1) ≡ Some n.now.change) }
         ensures depth { IfSome result (λ n. n.now.depth ≡ length (path self.now.made moment)) }
     {
         if moment.0 == 0 {
             return None;
         }
         self.nodes.get((moment.0 - 1) as usize)
+    }
+
+    /// The record by which a store goes over a moment; none of the opening, nor beyond the last.
+    pub(crate) fn change(&self, moment: Moment) -> Option<&Record>
+        ensures { option_copied result ≡ record_at self.now.records moment }
+    {
+        if moment.0 == 0 {
+            return None;
+        }
+        self.records.get((moment.0 - 1) as usize)
     }
 
     /// The parent of a moment; the opening's is itself.
@@ -106,16 +125,20 @@ impl Moments {
         }
     }
 
-    /// A moment further up the path to a moment; the opening's is itself.
-    fn jump(&self, moment: Moment) -> Moment
-        ensures { IsJump self.now.made result moment }
+    /// The ways up from a moment; those of the opening lead to itself.
+    fn shortcut(&self, moment: Moment) -> Shortcut
+        ensures { IsShortcut self.now.made result moment }
     {
+        let alone = Shortcut {
+            jump: Moment(0),
+            first: moment,
+        };
         if moment.0 == 0 {
-            return Moment(0);
+            return alone;
         }
-        match self.jumps.get((moment.0 - 1) as usize) {
-            Some(jump) => *jump,
-            None => Moment(0),
+        match self.shortcuts.get((moment.0 - 1) as usize) {
+            Some(shortcut) => *shortcut,
+            None => alone,
         }
     }
 
@@ -126,13 +149,26 @@ impl Moments {
         ensures { IsAbove self.now.made result parent }
     {
         self.limits();
-        let near = self.jump(parent);
-        let far = self.jump(near);
+        let near = self.shortcut(parent).jump;
+        let far = self.shortcut(near).jump;
         let depth = self.depth(near);
         if self.depth(parent) - depth == depth - self.depth(far) {
             far
         } else {
             parent
+        }
+    }
+
+    /// The first moment of the run of a moment that is made at this one: that of this one's run where it is the last
+    /// moment, else the new one.
+    fn first_beyond(&self, parent: Moment) -> Moment
+        requires { parent ≤ length self.now.made }
+        ensures { IsRunBeyond self.now.made result parent }
+    {
+        if parent == self.last() {
+            self.shortcut(parent).first
+        } else {
+            Moment(self.last().0 + 1)
         }
     }
 
@@ -176,7 +212,7 @@ impl Moments {
     }
 
     /// Where the paths to two moments part: the last moment that both have, or else the opening. It takes a look at
-    /// each moment of either that the other has not.
+    /// each run of either that the other has not.
     pub(crate) fn fork(&self, one: Moment, other: Moment) -> Moment
         ensures one { IsAbove self.now.made result one }
         ensures other { IsAbove self.now.made result other }
@@ -186,16 +222,31 @@ impl Moments {
         let mut far = other;
         while near != far {
             if near > far {
-                near = self.parent(near);
+                near = self.beyond_run(near, far);
             } else {
-                far = self.parent(far);
+                far = self.beyond_run(far, near);
             }
         }
         near
     }
 
-    /// The last moment on the path to one that is no later than a limit, or else the opening. It takes as many jumps and
-    /// parents as the logarithm of the path's length.
+    /// An earlier moment on the path to one: the limit where that is in its run, else the parent of the run's first moment.
+    fn beyond_run(&self, from: Moment, limit: Moment) -> Moment
+        requires { limit < from }
+        ensures above { IsAbove self.now.made result from }
+        ensures earlier { result < from }
+    {
+        self.limits();
+        let first = self.shortcut(from).first;
+        if first <= limit {
+            limit
+        } else {
+            self.parent(first)
+        }
+    }
+
+    /// The last moment on the path to one that is no later than a limit, or else the opening. It takes one look where the
+    /// limit is in the moment's run, and else as many jumps and parents as the logarithm of the path's length.
     pub(crate) fn no_later(&self, from: Moment, limit: Moment) -> Moment
         ensures early { result ≤ limit }
         ensures same { (m : ℕ) → m ≤ limit → among (path self.now.made result) m ≡ among (path self.now.made from) m }
@@ -203,8 +254,14 @@ impl Moments {
         self.limits();
         let mut at = from;
         while at > limit {
-            let jump = self.jump(at);
-            at = if jump >= limit { jump } else { self.parent(at) };
+            let shortcut = self.shortcut(at);
+            at = if shortcut.first <= limit {
+                limit
+            } else if shortcut.jump >= limit {
+                shortcut.jump
+            } else {
+                self.parent(at)
+            };
         }
         at
     }
@@ -216,8 +273,7 @@ impl Moments {
         requires fit { all_fit store.old.places self.old.records ≡ true }
         ensures { IsTurned self.old self.new store.old store.new (moment - 1) }
     {
-        let node = &mut self.nodes[(moment.0 - 1) as usize];
-        store.swap(&mut node.change);
+        store.swap(&mut self.records[(moment.0 - 1) as usize]);
     }
 
     /// Runs a call of a process at a moment, where the store stands, keeps what it made and notes what it did to each
@@ -247,22 +303,26 @@ impl Moments {
     {
         self.limits();
         let depth = self.depth(at) + 1;
-        let jump = self.jump_beyond(at);
+        let shortcut = Shortcut {
+            jump: self.jump_beyond(at),
+            first: self.first_beyond(at),
+        };
         let moment = Moment(self.last().0 + 1);
         self.nodes.reserve(1)?;
         self.parents.reserve(1)?;
-        self.jumps.reserve(1)?;
+        self.shortcuts.reserve(1)?;
+        self.records.reserve(1)?;
         let alloc = *self.nodes.allocator();
         let run = carried_out(alloc, store, notes, moment, process, call)?;
         self.parents.push_reserved(at);
-        self.jumps.push_reserved(jump);
+        self.shortcuts.push_reserved(shortcut);
+        self.records.push_reserved(run.change);
         self.nodes.push_reserved(MomentNode {
             parent: at,
             depth,
             process,
             call: run.call,
             reply: run.reply,
-            change: run.change,
         });
         Ok(run.answer)
     }
@@ -275,7 +335,8 @@ impl Moments {
     {
         self.nodes.pop();
         self.parents.pop();
-        self.jumps.pop();
+        self.shortcuts.pop();
+        self.records.pop();
     }
 }
 

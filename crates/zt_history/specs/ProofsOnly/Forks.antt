@@ -1,5 +1,6 @@
--- Where the paths to two moments part, and jumps up a path. Used by proofs only.
+-- Where the paths to two moments part, and the ways up a path: jumps, and runs of moments in a row. Used by proofs only.
 use Rattle.std.specs.Prelude.{◌≡◌, ◌≤◌, ◌-◌, ℕ, suc, List, length, take, Some, slice_get}
+use Rattle.zt_history.specs.declared.moments.Shortcut.{Shortcut}
 use Rattle.zt_history.specs.Tree.{Made, path}
 
 -- the path to the moment begins with the path to this one
@@ -11,6 +12,20 @@ pub record IsJump (made : List Made) (up moment : ℕ) : Type 0 where
   pub earlier : up ≤ moment - 1
   pub above : IsAbove made up moment
 
--- the jumps of the moments after the opening
-abbrev pub AreJumps : List Made → List ℕ → Type 0
-AreJumps made jumps = (i up : ℕ) → slice_get jumps i ≡ Some up → IsJump made up (suc i)
+-- the moment's run may begin with this one: all moments from there to the moment are on its path
+pub record IsRun (made : List Made) (first moment : ℕ) : Type 0 where
+  pub within : first ≤ moment
+  pub above : (m : ℕ) → first ≤ m → m ≤ moment → IsAbove made m moment
+
+-- the same of a moment that will be made at this one
+pub record IsRunBeyond (made : List Made) (first parent : ℕ) : Type 0 where
+  pub within : first ≤ suc (length made)
+  pub above : (m : ℕ) → first ≤ m → m ≤ length made → IsAbove made m parent
+
+pub record IsShortcut (made : List Made) (shortcut : Shortcut) (moment : ℕ) : Type 0 where
+  pub jump : IsJump made shortcut.jump moment
+  pub run : IsRun made shortcut.first moment
+
+-- the shortcuts of the moments after the opening
+abbrev pub AreShortcuts : List Made → List Shortcut → Type 0
+AreShortcuts made shortcuts = (i : ℕ) (s : Shortcut) → slice_get shortcuts i ≡ Some s → IsShortcut made s (suc i)

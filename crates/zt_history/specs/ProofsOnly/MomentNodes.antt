@@ -1,6 +1,6 @@
--- Moments as they are kept, each with its depth and its record, and as they are seen: how each was made, and the records.
+-- Moments as they are kept, each with its depth, and as they are seen: how each was made, and the records.
 -- Used by proofs only.
-use Rattle.std.specs.Prelude.{◌≡◌, ℕ, suc, ◌≤◌, true, List, map, length, set, Option, Some, slice_get}
+use Rattle.std.specs.Prelude.{◌≡◌, ℕ, zero, suc, ◌≤◌, true, List, map, length, set, Option, Some, None, slice_get}
 use Rattle.zt_rows.specs.declared.keys.RowKey.{RowKey}
 use Rattle.zt_rows.specs.declared.rows.Row.{Row}
 use Rattle.zt_rows.specs.declared.calls.Call.{Call}
@@ -10,10 +10,11 @@ use Rattle.zt_rows.specs.Step.{step}
 use Rattle.zt_store.specs.Places.{fits}
 use Rattle.zt_store.specs.StoreView.{Stored}
 use Rattle.zt_history.specs.declared.moments.MomentNode.{MomentNode}
+use Rattle.zt_history.specs.declared.moments.Shortcut.{Shortcut}
 use Rattle.zt_history.specs.Tree.{Made, path}
 use Rattle.zt_history.specs.HistoryRefusals.{most_moments}
 use Rattle.zt_history.specs.TreeInvariant.{Falls}
-use Rattle.zt_history.specs.ProofsOnly.Forks.{AreJumps}
+use Rattle.zt_history.specs.ProofsOnly.Forks.{AreShortcuts}
 
 abbrev pub made_as : MomentNode → Made
 made_as n = record { parent = n.parent; process = n.process; call = n.call; reply = n.reply }
@@ -21,12 +22,14 @@ made_as n = record { parent = n.parent; process = n.process; call = n.call; repl
 abbrev pub made_in : List MomentNode → List Made
 made_in nodes = map made_as nodes
 
-abbrev pub records_in : List MomentNode → List (List (RowKey × Option Row))
-records_in nodes = map (λ n. n.change) nodes
-
 pub record Chronicle : Type 0 where
   pub made : List Made
   pub records : List (List (RowKey × Option Row))
+
+-- the record of a moment; none of the opening, nor beyond the last
+abbrev pub record_at : List (List (RowKey × Option Row)) → ℕ → Option (List (RowKey × Option Row))
+record_at records zero = None
+record_at records (suc i) = slice_get records i
 
 -- each moment's parent is earlier, and its depth is the length of its path
 pub record AreNodes (nodes : List MomentNode) : Type 0 where
@@ -37,12 +40,13 @@ pub record AreNodes (nodes : List MomentNode) : Type 0 where
 abbrev pub parents_in : List MomentNode → List ℕ
 parents_in nodes = map (λ n. n.parent) nodes
 
--- such nodes, and beside them the list of their parents, and that of their jumps
-pub record AreListed (nodes : List MomentNode) (parents jumps : List ℕ) : Type 0 where
+-- such nodes, and beside them the lists of their parents, of their shortcuts and of their records
+pub record AreListed (nodes : List MomentNode) (parents : List ℕ) (shortcuts : List Shortcut) (records : List (List (RowKey × Option Row))) : Type 0 where
   pub stand : AreNodes nodes
   pub listed : parents ≡ parents_in nodes
-  pub many : length jumps ≡ length nodes
-  pub jumped : AreJumps (made_in nodes) jumps
+  pub many : length shortcuts ≡ length nodes
+  pub ways : AreShortcuts (made_in nodes) shortcuts
+  pub recorded : length records ≡ length nodes
 
 -- what a call makes at a moment, in whose state the store stands
 abbrev pub run_at : ℕ → State → ℕ → Call → Made

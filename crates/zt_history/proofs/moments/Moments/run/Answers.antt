@@ -1,4 +1,4 @@
--- The depth is one more than the parent's; the new node is a node, and its parent and its jump are listed.
+-- The depth is one more than the parent's; the new node is a node, and its parent, its shortcut and its record are listed.
 use Rattle.std.proofs.Common.{◌+◌, ap, arith}
 use Rattle.zt_history.proofs.PathLaws.{short-path}
 use Rattle.zt_history.proofs.ListedLaws.{listed-pushed}
@@ -10,9 +10,10 @@ overflow_add-depth c =
 
 pub invariant_of-self-2 : goal.invariant_of-self-2
 invariant_of-self-2 c =
-    listed-pushed c.self.inside.nodes.items c.reserve.new.self.items c.push_reserved-3.new.self.items _
+    listed-pushed c.self.inside.nodes.items c.reserve.new.self.items c.push_reserved-4.new.self.items _
     c.self.inside.parents.items c.reserve-2.new.self.items c.push_reserved.new.self.items
-    c.self.inside.jumps.items c.reserve-3.new.self.items c.push_reserved-2.new.self.items c.jump_beyond-jump.result c.args.self.now
-    c.push_reserved-3.ensures.items c.reserve.ensures.items c.push_reserved.ensures.items c.reserve-2.ensures.items
-    c.push_reserved-2.ensures.items c.reserve-3.ensures.items c.self.view_is
-    c.requires.there (ap (λ n. n + 1) c.depth-depth.ensures) c.jump_beyond-jump.ensures c.requires.few c.self.invariant
+    c.self.inside.shortcuts.items c.reserve-3.new.self.items c.push_reserved-2.new.self.items _
+    c.self.inside.records.items c.reserve-4.new.self.items c.push_reserved-3.new.self.items _ c.args.self.now
+    c.push_reserved-4.ensures.items c.reserve.ensures.items c.push_reserved.ensures.items c.reserve-2.ensures.items
+    c.push_reserved-2.ensures.items c.reserve-3.ensures.items c.push_reserved-3.ensures.items c.reserve-4.ensures.items c.self.view_is
+    c.requires.there (ap (λ n. n + 1) c.depth-depth.ensures) c.jump_beyond.ensures c.first_beyond.ensures c.requires.few c.self.invariant
