@@ -4,6 +4,7 @@ use Rattle.zt_rows.specs.declared.calls.Call.{Call}
 use Rattle.zt_rows.specs.declared.calls.Reply.{Reply}
 use Rattle.zt_rows.specs.Change.{before}
 use Rattle.zt_rows.specs.Consistent.{IsConsistent}
+use Rattle.zt_rows.specs.Handles.{next_koid}
 use Rattle.zt_rows.specs.Reads.{runs}
 use Rattle.zt_rows.specs.Room.{HasRoom}
 use Rattle.zt_rows.specs.State.{State}
@@ -23,7 +24,7 @@ use Rattle.zt_history.specs.ProofsOnly.TreeInvariant.{IsHistory}
 use Rattle.zt_history.specs.ProofsOnly.MomentNodes.{Chronicle, IsTurned, run_at}
 use Rattle.zt_history.specs.ProofsOnly.KeptHistory.{IsKept, timeline_of}
 use Rattle.zt_history.proofs.ListLaws.{get-last}
-use Rattle.zt_history.proofs.RunLaws.{moment-consistent, moment-room}
+use Rattle.zt_history.proofs.RunLaws.{few-koids, moment-consistent, moment-room}
 use Rattle.zt_history.proofs.GrownLaws.{length-push, history-push, history-dropped, moments-push, moments-left}
 use Rattle.zt_history.proofs.TreeLaws.{without_last-push, last_apart, headed-back, length-headed, branches-more, branches-headed, branches-push}
 use Rattle.zt_history.proofs.KeptLaws.{kept-back}
@@ -35,6 +36,12 @@ module _ (store : Stored) (moments : Chronicle) (branches : List Branch) (p : �
 
   pub kept-room : HasRoom store.state
   kept-room = subst HasRoom (sym is.history.here) (moment-room moments.made is.moments_stand p is.history.within)
+
+  -- a call gives out few koids
+  pub kept-few : (process : ℕ) (call : Call) → length moments.made < 1048576 → runs store.state process ≡ true → IsCall call → next_koid (step store.state process call).0 < 4294967296
+  kept-few process call few running limits =
+      subst (λ S. next_koid (step S process call).0 < 4294967296) (sym is.history.here)
+      (few-koids moments.made is.moments_stand p process call is.history.within few (subst (λ S. runs S process ≡ true) is.history.here running) limits)
 
   -- a call that was refused left the rows and the moments
   pub kept-refused : (new : Stored) (same : Chronicle) → new.state ≡ store.state → same ≡ moments → Keeps store.places new.places → IsKept new same branches p undo.Nothing

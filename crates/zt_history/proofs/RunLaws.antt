@@ -1,15 +1,17 @@
 -- The state of a moment is one step from its parent's, the replies on its path are those of running its calls from the
 -- opening, and every moment of a tree is consistent and has room.
-use Rattle.std.proofs.Common.{◌≡◌, ℕ, suc, ◌+◌, ◌≤◌, ◌<◌, List, [], ◌∷◌, ◌++◌, length, Some, refl, sym, ◌∙◌, ap, subst, arith}
+use Rattle.std.proofs.Common.{◌≡◌, ℕ, suc, ◌+◌, ◌≤◌, ◌<◌, true, List, [], ◌∷◌, ◌++◌, length, Some, refl, sym, ◌∙◌, ap, subst, arith}
 use Rattle.std.specs.List.{filter_map}
 use Rattle.std.proofs.lemmas.List.Elements.{filter_map-append}
 use Rattle.zt_rows.specs.declared.calls.Call.{Call}
 use Rattle.zt_rows.specs.declared.calls.Reply.{Reply}
 use Rattle.zt_rows.specs.Consistent.{IsConsistent}
+use Rattle.zt_rows.specs.Handles.{next_koid}
 use Rattle.zt_rows.specs.Opening.{opening}
+use Rattle.zt_rows.specs.Reads.{runs}
 use Rattle.zt_rows.specs.Room.{HasRoom, HasSpent}
 use Rattle.zt_rows.specs.State.{State}
-use Rattle.zt_rows.specs.Step.{step, run}
+use Rattle.zt_rows.specs.Step.{IsCall, step, run}
 use Rattle.zt_rows.proofs.OpeningLaws.{opening-consistent}
 use Rattle.zt_rows.proofs.SpentLaws.{spent-opening, spent-step, spent-room}
 use Rattle.zt_rows.proofs.CallLaws.{step-consistent}
@@ -127,3 +129,13 @@ module _ (made : List Made) (are : AreMoments made) where
   pub moment-room : (m : ℕ) → m ≤ length made → HasRoom (state_at made m)
   moment-room m h =
       spent-room (state_at made m) (length (path made m)) (omega (arith, short-path made are.falls m, h, are.few)) (at-rest m h).1
+
+  -- a call more gives out no koid that four bytes cannot hold
+  pub few-koids : (m process : ℕ) (call : Call) → m ≤ length made → length made < 1048576 → runs (state_at made m) process ≡ true → IsCall call
+      → next_koid (step (state_at made m) process call).0 < 4294967296
+  few-koids m process call h few running limits =
+      let rest : IsConsistent (state_at made m) × HasSpent (length (path made m)) (state_at made m) = at-rest m h in
+      let less : length (path made m) < 1048576 = omega (arith, short-path made are.falls m, h, few) in
+      let given : HasSpent (length (path made m) + 1) (step (state_at made m) process call).0 =
+      spent-step (state_at made m) process call (length (path made m)) less rest.0.sound running limits rest.1 in
+      omega (arith, given.koids, less)

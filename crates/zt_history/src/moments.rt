@@ -2,6 +2,7 @@ ghost use Rattle.std.specs.Prelude.{◌≡◌, ◌<◌, ◌≤◌, ◌+◌, ◌-
 ghost use Rattle.std.specs.Option.{option_copied, option_map};
 ghost use Rattle.zt_rows.specs.Change.{before};
 ghost use Rattle.zt_rows.specs.Consistent.{IsConsistent};
+ghost use Rattle.zt_rows.specs.Handles.{next_koid};
 ghost use Rattle.zt_rows.specs.Reads.{runs};
 ghost use Rattle.zt_rows.specs.Room.{HasRoom};
 ghost use Rattle.zt_rows.specs.Step.{step};
@@ -291,6 +292,7 @@ impl Moments {
         requires running { runs store.old.state process ≡ true }
         requires room { HasRoom store.old.state }
         requires consistent { IsConsistent store.old.state }
+        requires few_koids { next_koid (step store.old.state process call.now).0 < 4294967296 }
         ensures ok { IfOk result (λ reply. (store.new.state, reply) ≡ step store.old.state process call.now) }
         ensures made { OnOk result (self.new.made ≡ self.old.made ++ run_at at store.old.state process call.now ∷ []) }
         ensures recorded { OnOk result (self.new.records ≡ self.old.records ++ before store.old.state store.new.state ∷ []) }
@@ -362,6 +364,7 @@ fn carried_out(
     requires running { runs store.old.state process ≡ true }
     requires room { HasRoom store.old.state }
     requires consistent { IsConsistent store.old.state }
+    requires few { next_koid (step store.old.state process call.now).0 < 4294967296 }
     ensures call { IfOk result (λ run. run.call ≡ call.now) }
     ensures ok { IfOk result (λ run. (store.new.state, run.reply) ≡ step store.old.state process call.now) }
     ensures answer { IfOk result (λ run. run.answer ≡ run.reply) }
@@ -398,6 +401,7 @@ fn copied_and_noted(
     change: &Record,
     store: &Store,
 ) -> Result<Reply, AllocError>
+    requires few { next_koid store.now.state < 4294967296 }
     ensures copied { IfOk result (λ copied. copied ≡ reply.now) }
     ensures noted { OnOk result (notes.new ≡ noted notes.old moment change.now store.now.state) }
     ensures err { OnErr result (notes.new ≡ notes.old) }

@@ -30,7 +30,7 @@ pub(crate) struct ObjectNote {
 pub(crate) struct ObjectNotes {
     list: Vec<ObjectNote>,
     last: Vec<usize>,
-    next_koids: Vec<Koid>,
+    next_koids: Vec<u32>,
 }
 
 impl Model for ObjectNotes {
@@ -46,10 +46,11 @@ impl Model for ObjectNotes {
 impl ObjectNotes {
     /// No change, at the opening.
     pub(crate) fn new(alloc: Global, store: &Store) -> Result<ObjectNotes, AllocError>
+        requires few { next_koid store.now.state < 4294967296 }
         ensures { IfOk result (λ notes. notes ≡ record { notes = []; next_koids = next_koid store.now.state ∷ [] }) }
     {
         let mut next_koids = Vec::new(alloc);
-        next_koids.push(store.counters().next_koid)?;
+        next_koids.push(store.counters().next_koid.0 as u32)?;
         Ok(ObjectNotes {
             list: Vec::new(alloc),
             last: Vec::new(alloc),
@@ -62,7 +63,7 @@ impl ObjectNotes {
         requires { moment < length self.now.next_koids }
         ensures { Some result ≡ slice_get self.now.next_koids moment }
     {
-        self.next_koids[moment.0 as usize]
+        Koid(u64::from(self.next_koids[moment.0 as usize]))
     }
 
     /// Notes what a moment's call did, by its record and the store behind it. Where memory is refused nothing changes.
@@ -72,6 +73,7 @@ impl ObjectNotes {
         change: &Record,
         store: &Store,
     ) -> Result<(), AllocError>
+        requires few { next_koid store.now.state < 4294967296 }
         ensures ok { OnOk result (self.new ≡ noted self.old moment change.now store.now.state) }
         ensures err { OnErr result (self.new ≡ self.old) }
     {
@@ -80,7 +82,8 @@ impl ObjectNotes {
         self.list.reserve(keys.len())?;
         cover_all(&mut self.last, keys)?;
         note_all(&mut self.list, &mut self.last, moment, change, store);
-        self.next_koids.push_reserved(store.counters().next_koid);
+        self.next_koids
+            .push_reserved(store.counters().next_koid.0 as u32);
         Ok(())
     }
 

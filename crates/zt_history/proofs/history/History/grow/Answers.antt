@@ -1,10 +1,10 @@
--- At every moment there is room; the history keeps the new moment.
+-- At every moment there is room, also for the koids; the history keeps the new moment.
 use Rattle.std.proofs.Common.{◌∙◌, length, refl, ap, arith}
 use Rattle.zt_rows.specs.Reads.{runs}
 use Rattle.zt_history.specs.Tree.{state_at}
 use Rattle.zt_history.specs.Timeline.{Timeline, after_call_at}
 use Rattle.zt_history.specs.ProofsOnly.MomentNodes.{Chronicle}
-use Rattle.zt_history.proofs.ChangedLaws.{kept-consistent, kept-room, kept-refused, kept-grown, grown-seen}
+use Rattle.zt_history.proofs.ChangedLaws.{kept-consistent, kept-few, kept-room, kept-refused, kept-grown, grown-seen}
 use Rattle.zt_history.proofs.WholeLaws.{noted-grown, noted-same}
 use Rattle.zt_history.proofs.history.History.grow.Goals as goal
 
@@ -13,6 +13,15 @@ run-requires-clause-room c = kept-room c.self.inside.store c.self.inside.moments
 
 pub run-requires-clause-consistent : goal.run-requires-clause-consistent
 run-requires-clause-consistent c = kept-consistent c.self.inside.store c.self.inside.moments c.self.inside.branches c.self.inside.position c.self.inside.undo c.self.invariant.kept
+
+pub run-requires-clause-few_koids : goal.run-requires-clause-few_koids
+run-requires-clause-few_koids c =
+    let h = c.self.view_is in
+    kept-few c.self.inside.store c.self.inside.moments c.self.inside.branches c.self.inside.position c.self.inside.undo c.self.invariant.kept
+    c.args.process c.args.call.now
+    (omega (arith, c.requires.few, ap (λ (h : Timeline). length h.tree.made) h))
+    (ap (λ S. runs S c.args.process) (c.self.invariant.kept.history.here ∙ ap (λ (h : Timeline). state_at h.tree.made h.position) h) ∙ c.requires.running)
+    c.limits.ensures
 
 pub invariant_of-self : goal.invariant_of-self
 invariant_of-self c = record {

@@ -1,6 +1,8 @@
--- The opening, with no moment, no change and one branch.
-use Rattle.std.proofs.Common.{[], ◌∷◌, sym, ap, ◌∙◌}
+-- The opening, with no moment, no change and one branch; it gave out few koids.
+use Rattle.std.proofs.Common.{◌<◌, ◌≡◌, [], ◌∷◌, sym, ap, subst, arith, ◌∙◌}
 use Rattle.zt_rows.specs.Handles.{next_koid}
+use Rattle.zt_rows.specs.Opening.{opening}
+use Rattle.zt_rows.proofs.SpentLaws.{spent-opening}
 use Rattle.zt_store.specs.StoreView.{Stored}
 use Rattle.zt_history.specs.ProofsOnly.ObjectNotes.{NotedChanges}
 use Rattle.zt_history.proofs.WholeLaws.{whole-opening}
@@ -8,6 +10,12 @@ use Rattle.zt_history.proofs.history.History.new.Goals as goal
 
 abbrev noted_of : Stored → NotedChanges
 noted_of s = record { notes = []; next_koids = next_koid s.state ∷ [] }
+
+pub new-requires : goal.new-requires
+new-requires c =
+    let few : next_koid opening < 4294967296 = omega (arith, spent-opening.koids) in
+    let lent : c.store-2.result.now.state ≡ opening = ap (λ (s : Stored). s.state) c.store-2.ensures ∙ c.in_ok-store.ensures in
+    record { few = subst (λ S. next_koid S < 4294967296) (sym lent) few }
 
 pub invariant_of-result-2 : goal.invariant_of-result-2
 invariant_of-result-2 c =
