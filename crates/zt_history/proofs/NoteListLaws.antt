@@ -301,26 +301,24 @@ notes-all m R T keys i start now whole is = is ∙ ap (λ ks. start ++ notes_und
 -- ---- gone along the chain of an object
 
 -- from the place before `next` on, of the object x, for a moment on the path to `at`: the changes behind were none that is
--- looked for, and what stands before them is on that path where it is on the path to `stand`
-pub record IsSearched (list : List ObjectNote) (made : List Made) (what : RowHappening) (x at next stand : ℕ) : Type 0 where
+-- looked for
+pub record IsSearched (list : List ObjectNote) (made : List Made) (what : RowHappening) (x at next : ℕ) : Type 0 where
   pub n : ℕ
   pub within : n ≤ length list
   pub next_is : next ≡ last_of x list n
   pub none : HasNoneFrom (notes_in list) made what x at n
-  pub same : (j : ℕ) (c : ObjectNote) → j < n → slice_get list j ≡ Some c → among (path made stand) c.moment ≡ among (path made at) c.moment
 
-pub searched-start : (list : List ObjectNote) (made : List Made) (what : RowHappening) (x at next : ℕ) → next ≡ last_of x list (length list) → IsSearched list made what x at next at
+pub searched-start : (list : List ObjectNote) (made : List Made) (what : RowHappening) (x at next : ℕ) → next ≡ last_of x list (length list) → IsSearched list made what x at next
 searched-start list made what x at next is = record {
   n = length list;
   within = omega arith;
   next_is = is;
   none = λ j n past there. absurd (none-some n (sym (slice_get_past (notes_in list) j (omega (arith, past, length-mapped note_as list))) ∙ there));
-  same = λ j c early there. refl;
 }
 
 -- nothing is left, so there is none
-pub searched-none : (list : List ObjectNote) (made : List Made) (what : RowHappening) (x at stand : ℕ) → IsSearched list made what x at 0 stand → HasNoneFrom (notes_in list) made what x at 0
-searched-none list made what x at stand is = λ j n low there. elim (cases_lt j is.n) [
+pub searched-none : (list : List ObjectNote) (made : List Made) (what : RowHappening) (x at : ℕ) → IsSearched list made what x at 0 → HasNoneFrom (notes_in list) made what x at 0
+searched-none list made what x at is = λ j n low there. elim (cases_lt j is.n) [
   | inl l ↦
       let c = noted_there j n there in
       let other : is_of x (slice_get list j) ≡ false = last_of-last x list is.n j (omega (arith, is.next_is)) l in
@@ -337,10 +335,10 @@ searched-none list made what x at stand is = λ j n low there. elim (cases_lt j 
 
 -- ---- one step along it
 
-module _ (list : List ObjectNote) (made : List Made) (falls : Falls made) (what : RowHappening) (x at next stand : ℕ)
-    (linked : AreLinked list) (rising : AreRising (notes_in list)) (is : IsSearched list made what x at next stand)
+module _ (list : List ObjectNote) (made : List Made) (falls : Falls made) (what : RowHappening) (x at next : ℕ)
+    (linked : AreLinked list) (rising : AreRising (notes_in list)) (is : IsSearched list made what x at next)
     (i : ℕ) (c : ObjectNote) (place_is : next ≡ suc i) (there : slice_get list i ≡ Some c) (nearer : ℕ) (early : nearer ≤ c.moment)
-    (near : (m : ℕ) → m ≤ c.moment → among (path made nearer) m ≡ among (path made stand) m) where
+    (near : (m : ℕ) → m ≤ c.moment → among (path made nearer) m ≡ among (path made at) m) where
   its : (i < is.n) × (is_of x (slice_get list i) ≡ true)
   its = last_of-its x list is.n i (sym is.next_is ∙ place_is)
 
@@ -350,9 +348,9 @@ module _ (list : List ObjectNote) (made : List Made) (falls : Falls made) (what 
   noted : slice_get (notes_in list) i ≡ Some (note_as c)
   noted = slice_get-map note_as list i ∙ ap (option_map note_as) there
 
-  -- it is on the path where the search stands at it
+  -- it is on the path where the last moment there that is no later is its own
   on_path : among (path made at) c.moment ≡ (nearer == c.moment)
-  on_path = sym (near c.moment (omega arith) ∙ is.same i c its.0 there) ∙ stands nearer refl (cases_lt nearer c.moment)
+  on_path = sym (near c.moment (omega arith)) ∙ stands nearer refl (cases_lt nearer c.moment)
     where
       stands : (m : ℕ) → nearer ≡ m → (nearer < c.moment) ⊎ (c.moment ≤ nearer) → among (path made nearer) c.moment ≡ (nearer == c.moment)
       stands m e (inl l) = off (among (path made nearer) c.moment) refl ∙ sym (ne_eqb nearer c.moment (λ e. omega (arith, e, l)))
@@ -402,7 +400,7 @@ module _ (list : List ObjectNote) (made : List Made) (falls : Falls made) (what 
       left_true true b e = refl
       left_true false b e = e
 
-  pub searched-next : ((nearer == c.moment) && tells what (note_as c)) ≡ false → IsSearched list made what x at c.earlier nearer
+  pub searched-next : ((nearer == c.moment) && tells what (note_as c)) ≡ false → IsSearched list made what x at c.earlier
   searched-next not_both = record {
     n = i;
     within = omega (arith, its.0, is.within);
@@ -414,10 +412,6 @@ module _ (list : List ObjectNote) (made : List Made) (falls : Falls made) (what 
           let k : note_as c ≡ n = same_Some (note_as c) n (sym noted ∙ ap (slice_get (notes_in list)) (sym same) ∙ at_j) in
           ap (λ n. is_found made what x at n) (sym k) ∙ found_is ∙ not_both
     ];
-    same = λ j d l at_j.
-        let at_note : slice_get (notes_in list) j ≡ Some (note_as d) = slice_get-map note_as list j ∙ ap (option_map note_as) at_j in
-        let low : d.moment ≤ c.moment = rising.later j i (note_as d) (note_as c) (omega (arith, l)) at_note noted in
-        near d.moment low ∙ is.same j d (omega (arith, l, its.0)) at_j;
   }
 
   pub searched-less : c.earlier < next

@@ -127,13 +127,12 @@ fn found(
     ensures { TellsLast (notes_in list.now.items) moments.now.made what koid at result }
 {
     moments.limits();
-    let mut stand = at;
     let mut next = end;
     while next > 0 {
         let change = &list[next - 1];
-        stand = moments.no_later(stand, change.moment);
-        if stand == change.moment && tells(what, change) {
-            return Some(stand);
+        let near = moments.no_later(at, change.moment);
+        if near == change.moment && tells(what, change) {
+            return Some(near);
         }
         next = change.earlier;
     }

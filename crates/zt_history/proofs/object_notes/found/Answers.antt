@@ -28,8 +28,8 @@ returns-then-tells c =
     let place : c.loop-next.next ≡ suc (c.loop-next.next - 1) = omega (arith, c.loop-next-test.true) in
     let there : slice_get c.args.list.now.items (c.loop-next.next - 1) ≡ Some c.index-change.result.now =
     slice_get_read c.args.list.now.items (length c.args.list.now.items) (c.loop-next.next - 1) c.index-change.result.now refl within c.index-change.ensures in
-    searched-found c.args.list.now.items c.args.moments.now.made c.limits.ensures.falls c.args.what c.args.koid c.args.at c.loop-next.next c.loop-next.stand c.requires.linked c.requires.rising
-    c.loop-next.invariant (c.loop-next.next - 1) c.index-change.result.now place there c.no_later-stand.result c.no_later-stand.ensures.early c.no_later-stand.ensures.same
+    searched-found c.args.list.now.items c.args.moments.now.made c.limits.ensures.falls c.args.what c.args.koid c.args.at c.loop-next.next c.requires.linked c.requires.rising
+    c.loop-next.invariant (c.loop-next.next - 1) c.index-change.result.now place there c.no_later-near.result c.no_later-near.ensures.early c.no_later-near.ensures.same
     (λ i. (sym c.eq.ensures ∙ c.if-eq.true) i && (sym c.tells.ensures ∙ c.if-tells.true) i)
 
 pub loop-next-preserved : goal.loop-next-preserved
@@ -39,13 +39,13 @@ loop-next-preserved c =
     let place : c.loop-next.next ≡ suc (c.loop-next.next - 1) = omega (arith, c.loop-next-test.true) in
     let there : slice_get c.args.list.now.items (c.loop-next.next - 1) ≡ Some c.index-change.result.now =
     slice_get_read c.args.list.now.items (length c.args.list.now.items) (c.loop-next.next - 1) c.index-change.result.now refl within c.index-change.ensures in
-    let passed : ((c.no_later-stand.result == c.index-change.result.now.moment) && tells c.args.what (note_as c.index-change.result.now)) ≡ false =
+    let passed : ((c.no_later-near.result == c.index-change.result.now.moment) && tells c.args.what (note_as c.index-change.result.now)) ≡ false =
     elim c.else-eq.branch [
       | else-eq-via-then-eq+else-tells w ↦ (λ i. (sym c.eq.ensures ∙ w.if-eq.true) i && (sym w.tells.ensures ∙ w.if-tells.false) i)
       | else-eq-via-else-eq w ↦ ap (λ b. b && tells c.args.what (note_as c.index-change.result.now)) (sym c.eq.ensures ∙ w.if-eq.false)
     ] in
-    searched-next c.args.list.now.items c.args.moments.now.made c.limits.ensures.falls c.args.what c.args.koid c.args.at c.loop-next.next c.loop-next.stand c.requires.linked c.requires.rising
-    c.loop-next.invariant (c.loop-next.next - 1) c.index-change.result.now place there c.no_later-stand.result c.no_later-stand.ensures.early c.no_later-stand.ensures.same
+    searched-next c.args.list.now.items c.args.moments.now.made c.limits.ensures.falls c.args.what c.args.koid c.args.at c.loop-next.next c.requires.linked c.requires.rising
+    c.loop-next.invariant (c.loop-next.next - 1) c.index-change.result.now place there c.no_later-near.result c.no_later-near.ensures.early c.no_later-near.ensures.same
     passed
 
 pub loop-next-smaller : goal.loop-next-smaller
@@ -55,11 +55,11 @@ loop-next-smaller c =
     let place : c.loop-next.next ≡ suc (c.loop-next.next - 1) = omega (arith, c.loop-next-test.true) in
     let there : slice_get c.args.list.now.items (c.loop-next.next - 1) ≡ Some c.index-change.result.now =
     slice_get_read c.args.list.now.items (length c.args.list.now.items) (c.loop-next.next - 1) c.index-change.result.now refl within c.index-change.ensures in
-    searched-less c.args.list.now.items c.args.moments.now.made c.limits.ensures.falls c.args.what c.args.koid c.args.at c.loop-next.next c.loop-next.stand c.requires.linked c.requires.rising
-    c.loop-next.invariant (c.loop-next.next - 1) c.index-change.result.now place there c.no_later-stand.result c.no_later-stand.ensures.early c.no_later-stand.ensures.same
+    searched-less c.args.list.now.items c.args.moments.now.made c.limits.ensures.falls c.args.what c.args.koid c.args.at c.loop-next.next c.requires.linked c.requires.rising
+    c.loop-next.invariant (c.loop-next.next - 1) c.index-change.result.now place there c.no_later-near.result c.no_later-near.ensures.early c.no_later-near.ensures.same
 
 pub returns : goal.returns
 returns c =
     let none : c.loop-next.next ≡ 0 = omega (arith, c.loop-next-test.false) in
-    searched-none c.args.list.now.items c.args.moments.now.made c.args.what c.args.koid c.args.at c.loop-next.stand
-    (subst (λ n. IsSearched c.args.list.now.items c.args.moments.now.made c.args.what c.args.koid c.args.at n c.loop-next.stand) none c.loop-next.invariant)
+    searched-none c.args.list.now.items c.args.moments.now.made c.args.what c.args.koid c.args.at
+    (subst (λ n. IsSearched c.args.list.now.items c.args.moments.now.made c.args.what c.args.koid c.args.at n) none c.loop-next.invariant)
