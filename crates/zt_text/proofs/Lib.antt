@@ -21,6 +21,7 @@ pub mod SavedLemmas
 pub mod SavedTrees
 pub mod FaultColumns
 pub mod RowWords
+pub mod RowLemmas
 pub mod RowLines
 mod WorkedLines
 mod WorkedAnswers

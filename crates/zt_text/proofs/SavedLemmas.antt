@@ -82,7 +82,7 @@ moments_more number (first ∷ calls) made =
     let here : number + 1 + length calls ≡ number + length (first ∷ calls) = omega arith in
     ap (λ ms. record { parent = as_moment number; process = first.0; call = first.1 } ∷ ms) (moments_more (number + 1) calls made ∙ rw here refl)
 
-moments_length : (number : ℕ) (calls : List (ℕ × Call)) → length (moments_from number calls) ≡ length calls
+pub moments_length : (number : ℕ) (calls : List (ℕ × Call)) → length (moments_from number calls) ≡ length calls
 moments_length number [] = refl
 moments_length number (first ∷ calls) = let rest = moments_length (number + 1) calls in omega (arith, rest)
 

@@ -1,13 +1,12 @@
 ghost use Rattle.std.specs.Prelude.{◌≡◌, length, IfOk, IfErr, OnOk};
 ghost use Rattle.zt_text.specs.Lines.{lines_of};
 ghost use Rattle.zt_text.specs.SavedTexts.{bare, with_lines, tree_lines, saved_of, IsUnreadTree};
-ghost use Rattle.zt_text.specs.Session.{session_of};
-ghost use Rattle.zt_text.specs.ProofsOnly.SavedTexts.{IsBehindFirst, row_of};
+ghost use Rattle.zt_text.specs.ProofsOnly.SavedTexts.{IsBehindFirst};
 
-use crate::row_of_calls::in_a_row;
+use crate::row_of_calls::read_row;
 use crate::saved_lines::take_line;
 use crate::saved_lists::SavedLists;
-use crate::session_text::{fault_at, next_line, read_session};
+use crate::session_text::{fault_at, next_line};
 use std::alloc::Global;
 use zt_rows::{Refusal, Saved};
 
@@ -35,20 +34,6 @@ fn behind_first(text: &[u8]) -> Option<&[u8]>
         Some(left)
     } else {
         None
-    }
-}
-
-/// The tree of a session text of version 1.
-fn read_row(alloc: Global, text: &[u8]) -> Result<Saved, (u64, Refusal)>
-    ensures read { IfOk result (λ saved. row_of (session_of text.now) ≡ Ok saved) }
-    ensures refused { IfErr result (λ fault. IsUnreadTree (row_of (session_of text.now)) fault) }
-{
-    match read_session(alloc, text) {
-        Ok(calls) => match in_a_row(alloc, calls) {
-            Ok(saved) => Ok(saved),
-            Err(_) => Err((0, Refusal::OutOfMemory)),
-        },
-        Err(fault) => Err(fault),
     }
 }
 

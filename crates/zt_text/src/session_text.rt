@@ -43,7 +43,7 @@ pub(crate) fn next_line(bytes: &[u8]) -> (&[u8], &[u8])
 }
 
 /// Nothing, where this is the first line of a session text.
-fn first_line(line: &[u8]) -> Result<(), Refusal>
+pub(crate) fn first_line(line: &[u8]) -> Result<(), Refusal>
     ensures { result ≡ first_line line.now }
 {
     if line.len() > LINE_BYTES {
@@ -106,8 +106,9 @@ pub(crate) fn fault_at(number: u64, fault: Refusal) -> (u64, Refusal)
 }
 
 /// The call of a line; none, where it is empty or begins with `#`.
+#[inline(always)]
 #[tactic(auto, unfolding(crate::specs::Session::call_in))]
-fn call_in(alloc: Global, line: &[u8]) -> Result<Option<(Koid, Call)>, Refusal>
+pub(crate) fn call_in(alloc: Global, line: &[u8]) -> Result<Option<(Koid, Call)>, Refusal>
     ensures read { IfOk result (λ made. call_in line.now ≡ Ok made) }
     ensures refused { IfErr result (λ refusal. IsUnread is_some (call_in line.now) refusal) }
 {
@@ -118,6 +119,7 @@ fn call_in(alloc: Global, line: &[u8]) -> Result<Option<(Koid, Call)>, Refusal>
 }
 
 /// A process and its call.
+#[inline(always)]
 #[tactic(auto, unfolding(crate::specs::ReadCalls::process_call))]
 pub(crate) fn process_call(alloc: Global, fields: Fields<'_>) -> Result<(Koid, Call), Refusal>
     ensures read { IfOk result (λ made. process_call fields.entry ≡ Ok made) }
