@@ -6,6 +6,7 @@ pub mod CallNames
 pub mod ByteLemmas
 pub mod ListLemmas
 pub mod FieldLemmas
+pub mod FrontLemmas
 pub mod ShownLemmas
 pub mod ShownFields
 pub mod ShownWords

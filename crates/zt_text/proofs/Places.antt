@@ -24,16 +24,16 @@ first_place c xs i high clear here =
     position_or_len_is (λ byte. byte == c) xs i 0 (omega arith) (λ k below. clear k (omega arith) below) (λ low. here) in
     rw e (grind (arith, nat_tests))
 
--- the lowest mark of eight bytes is at the first separator
-pub marked : (c : ℕ) (xs : List ℕ) (i m : ℕ) → i + 8 ≤ length xs → m ≡ mask_l (map (λ x. eqb x c) (chunk i 8 xs)) → 0 < m
-    → (count_trailing_zeros 64 m ≤ 8) × (IsClear c xs i (i + count_trailing_zeros 64 m)) × (count_trailing_zeros 64 m < 8 → (slice_index xs (i + count_trailing_zeros 64 m) == c) ≡ true)
-marked c xs i m room is some =
+-- the lowest mark of several bytes is at the first separator
+pub marked : (c : ℕ) (xs : List ℕ) (n i m : ℕ) → n ≤ 64 → i + n ≤ length xs → m ≡ mask_l (map (λ x. eqb x c) (chunk i n xs)) → 0 < m
+    → (count_trailing_zeros 64 m ≤ n) × (IsClear c xs i (i + count_trailing_zeros 64 m)) × (count_trailing_zeros 64 m < n → (slice_index xs (i + count_trailing_zeros 64 m) == c) ≡ true)
+marked c xs n i m few room is some =
     let p : ℕ → Bool = λ x. eqb x c in
-    let long : length (chunk i 8 xs) ≤ 64 = grind (arith, common_steps) in
-    let found : 0 < mask_l (map p (chunk i 8 xs)) = rw is at some in
-    let counted : count_trailing_zeros 64 m ≡ prefix_len (λ x. not (p x)) (chunk i 8 xs) = rw is (trailing_mask_l p 64 (chunk i 8 xs) long found) in
-    (run_in_chunk_le p xs i 8 (count_trailing_zeros 64 m) 0 room counted, run_in_chunk_fails p xs i 8 (count_trailing_zeros 64 m) 0 room counted, run_in_chunk_stops p xs i 8 (count_trailing_zeros 64 m) 0 room counted)
+    let long : length (chunk i n xs) ≤ 64 = grind (arith, common_steps) in
+    let found : 0 < mask_l (map p (chunk i n xs)) = rw is at some in
+    let counted : count_trailing_zeros 64 m ≡ prefix_len (λ x. not (p x)) (chunk i n xs) = rw is (trailing_mask_l p 64 (chunk i n xs) long found) in
+    (run_in_chunk_le p xs i n (count_trailing_zeros 64 m) 0 room counted, run_in_chunk_fails p xs i n (count_trailing_zeros 64 m) 0 room counted, run_in_chunk_stops p xs i n (count_trailing_zeros 64 m) 0 room counted)
 
 -- and where there is no mark there is no separator
-pub unmarked : (c : ℕ) (xs : List ℕ) (i m : ℕ) → i + 8 ≤ length xs → m ≡ mask_l (map (λ x. eqb x c) (chunk i 8 xs)) → m ≡ 0 → IsClear c xs i (i + 8)
-unmarked c xs i m room is none = none_from_empty_mask (λ x. eqb x c) xs i 8 0 room (rw (← is) none)
+pub unmarked : (c : ℕ) (xs : List ℕ) (n i m : ℕ) → i + n ≤ length xs → m ≡ mask_l (map (λ x. eqb x c) (chunk i n xs)) → m ≡ 0 → IsClear c xs i (i + n)
+unmarked c xs n i m room is none = none_from_empty_mask (λ x. eqb x c) xs i n 0 room (rw (← is) none)

@@ -1,5 +1,5 @@
-ghost use Rattle.std.specs.Prelude.{◌≡◌};
-ghost use Rattle.zt_text.specs.Numbers.{handle_of, amount_of, koid_of, key_of, moment_of, code_of, mask_of, signals_of, count_of};
+ghost use Rattle.std.specs.Prelude.{◌≡◌, ◌≤◌, IfOk};
+ghost use Rattle.zt_text.specs.Numbers.{decimal_of, handle_of, amount_of, koid_of, key_of, moment_of, code_of, mask_of, signals_of, count_of};
 ghost use Rattle.zt_text.specs.Bytes.{bytes_of, packet_bytes_of};
 ghost use Rattle.zt_text.specs.Lists.{handles_of};
 ghost use Rattle.zt_text.specs.Names.{name_of, happening_of};
@@ -8,6 +8,7 @@ ghost use Rattle.zt_text.specs.SavedTexts.{client_of};
 ghost use Rattle.std.specs.Str.{bytes_eq};
 
 use crate::bytes::{Digits, packet_bytes};
+use crate::front_numbers::{mask_in_front, number_in_front};
 use crate::lists::HandleList;
 use crate::names::{Name, happening};
 use crate::numbers::{code, decimal, mask};
@@ -74,6 +75,7 @@ impl<'a> Model for Fields<'a> {
     ghost invariant = { λ f. IsLeftOfLine f.left f.line_len };
 }
 
+// What reads a field is taken into its caller, since a field and those behind it go through memory at a call.
 impl<'a> Fields<'a> {
     /// All fields of the line, of which there is one at least.
     pub fn new(line: &'a [u8]) -> Fields<'a>
@@ -86,6 +88,7 @@ impl<'a> Fields<'a> {
     }
 
     /// The next field, and those behind it.
+    #[inline(always)]
     pub fn next(self) -> Result<(Field<'a>, Fields<'a>), Refusal>
         ensures { result ≡ next self.entry }
     {
@@ -98,40 +101,49 @@ impl<'a> Fields<'a> {
         Ok((Field { column, bytes }, Fields { left, line_len }))
     }
 
+    /// The number of no more than `most` that the next field writes.
+    #[inline(always)]
+    #[tactic(auto, unfolding(crate::specs::Fields::field))]
+    fn number(self, most: u64) -> Result<(u64, Fields<'a>), Refusal>
+        ensures ok { result ≡ field (decimal_of most) self.entry }
+        ensures within { IfOk result (λ read. read.0 ≤ most) }
+    {
+        let line_len = self.line_len;
+        if let Some(left) = self.left {
+            if let Some((number, left)) = number_in_front(left, most) {
+                return Ok((number, Fields { left, line_len }));
+            }
+        }
+        number_cut(self, most)
+    }
+
     /// The handle's value that the next field writes.
+    #[inline(always)]
     #[tactic(auto, unfolding(crate::specs::Fields::field))]
     pub fn handle(self) -> Result<(HandleValue, Fields<'a>), Refusal>
         ensures { result ≡ field handle_of self.entry }
     {
-        let (field, rest) = self.next()?;
-        match decimal(field.bytes(), u64::from(u32::MAX)) {
-            Some(number) => Ok((HandleValue(number as u32), rest)),
-            None => Err(field.fault()),
-        }
+        let (number, rest) = self.number(u64::from(u32::MAX))?;
+        Ok((HandleValue(number as u32), rest))
     }
 
     /// The number of an object that the next field writes.
+    #[inline(always)]
     #[tactic(auto, unfolding(crate::specs::Fields::field))]
     pub fn koid(self) -> Result<(Koid, Fields<'a>), Refusal>
         ensures { result ≡ field koid_of self.entry }
     {
-        let (field, rest) = self.next()?;
-        match decimal(field.bytes(), u64::MAX) {
-            Some(number) => Ok((Koid(number), rest)),
-            None => Err(field.fault()),
-        }
+        let (number, rest) = self.number(u64::MAX)?;
+        Ok((Koid(number), rest))
     }
 
     /// The key of a packet that the next field writes.
+    #[inline(always)]
     #[tactic(auto, unfolding(crate::specs::Fields::field))]
     pub fn key(self) -> Result<(u64, Fields<'a>), Refusal>
         ensures { result ≡ field key_of self.entry }
     {
-        let (field, rest) = self.next()?;
-        match decimal(field.bytes(), u64::MAX) {
-            Some(key) => Ok((key, rest)),
-            None => Err(field.fault()),
-        }
+        self.number(u64::MAX)
     }
 
     /// The code of a process that the next field writes.
@@ -147,18 +159,22 @@ impl<'a> Fields<'a> {
     }
 
     /// The bits of the mask that the next field writes.
+    #[inline(always)]
     #[tactic(auto, unfolding(crate::specs::Fields::field))]
     pub fn mask(self) -> Result<(u32, Fields<'a>), Refusal>
         ensures { result ≡ field mask_of self.entry }
     {
-        let (field, rest) = self.next()?;
-        match mask(field.bytes()) {
-            Some(bits) => Ok((bits, rest)),
-            None => Err(field.fault()),
+        let line_len = self.line_len;
+        if let Some(left) = self.left {
+            if let Some((bits, left)) = mask_in_front(left) {
+                return Ok((bits, Fields { left, line_len }));
+            }
         }
+        mask_cut(self)
     }
 
     /// The signals that the next field writes.
+    #[inline(always)]
     #[tactic(auto, unfolding(crate::specs::Fields::field))]
     pub fn signals(self) -> Result<(Signals, Fields<'a>), Refusal>
         ensures { result ≡ field signals_of self.entry }
@@ -168,15 +184,13 @@ impl<'a> Fields<'a> {
     }
 
     /// The moment that the next field writes.
+    #[inline(always)]
     #[tactic(auto, unfolding(crate::specs::Fields::field))]
     pub fn moment(self) -> Result<(Moment, Fields<'a>), Refusal>
         ensures { result ≡ field moment_of self.entry }
     {
-        let (field, rest) = self.next()?;
-        match decimal(field.bytes(), u64::from(u32::MAX)) {
-            Some(number) => Ok((Moment(number as u32), rest)),
-            None => Err(field.fault()),
-        }
+        let (number, rest) = self.number(u64::from(u32::MAX))?;
+        Ok((Moment(number as u32), rest))
     }
 
     /// The happening that the next field names.
@@ -228,15 +242,13 @@ impl<'a> Fields<'a> {
     }
 
     /// The number of bytes or of handles that the next field writes.
+    #[inline(always)]
     #[tactic(auto, unfolding(crate::specs::Fields::field))]
     pub fn amount(self) -> Result<(u32, Fields<'a>), Refusal>
         ensures { result ≡ field amount_of self.entry }
     {
-        let (field, rest) = self.next()?;
-        match decimal(field.bytes(), u64::from(u32::MAX)) {
-            Some(number) => Ok((number as u32, rest)),
-            None => Err(field.fault()),
-        }
+        let (number, rest) = self.number(u64::from(u32::MAX))?;
+        Ok((number as u32, rest))
     }
 
     /// The bytes that the next field writes.
@@ -280,6 +292,9 @@ impl<'a> Fields<'a> {
     pub fn flag(self, word: &str) -> Result<bool, Refusal>
         ensures { result ≡ flag word.now self.entry }
     {
+        if self.left.is_none() {
+            return Ok(false);
+        }
         match self.next() {
             Ok((field, rest)) if field.is(word) => {
                 rest.end()?;
@@ -291,13 +306,44 @@ impl<'a> Fields<'a> {
     }
 
     /// Nothing, where every field is read.
+    #[inline(always)]
     #[tactic(auto, unfolding(crate::specs::Fields::ended))]
     pub fn end(self) -> Result<(), Refusal>
         ensures { result ≡ ended self.entry }
     {
+        if self.left.is_none() {
+            return Ok(());
+        }
         match self.next() {
             Ok((surplus, _)) => Err(surplus.fault()),
             Err(_) => Ok(()),
         }
+    }
+}
+
+/// The number of no more than `most` that the next field writes, which is cut out and then read.
+#[inline(never)]
+#[tactic(auto, unfolding(crate::specs::Fields::field))]
+fn number_cut<'a>(fields: Fields<'a>, most: u64) -> Result<(u64, Fields<'a>), Refusal>
+    ensures ok { result ≡ field (decimal_of most) fields.entry }
+    ensures within { IfOk result (λ read. read.0 ≤ most) }
+{
+    let (field, rest) = fields.next()?;
+    match decimal(field.bytes(), most) {
+        Some(number) => Ok((number, rest)),
+        None => Err(field.fault()),
+    }
+}
+
+/// The bits of the mask that the next field writes, which is cut out and then read.
+#[inline(never)]
+#[tactic(auto, unfolding(crate::specs::Fields::field))]
+fn mask_cut<'a>(fields: Fields<'a>) -> Result<(u32, Fields<'a>), Refusal>
+    ensures { result ≡ field mask_of fields.entry }
+{
+    let (field, rest) = fields.next()?;
+    match mask(field.bytes()) {
+        Some(bits) => Ok((bits, rest)),
+        None => Err(field.fault()),
     }
 }

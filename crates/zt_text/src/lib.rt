@@ -4,6 +4,7 @@
 mod bytes;
 mod call_names;
 mod fields;
+mod front_numbers;
 pub mod laws;
 mod lists;
 mod names;

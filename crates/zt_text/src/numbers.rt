@@ -6,7 +6,7 @@ ghost use Rattle.std.specs.Str.Parse.{digits_value};
 ghost use Rattle.zt_text.specs.Numbers.{has_leading_zero, decimal_of, negative, code_of, mask_of, is_hex_digit};
 
 /// The most digits of which each number has 64 bits.
-const DIGITS_THAT_FIT: usize = 19;
+pub const DIGITS_THAT_FIT: usize = 19;
 
 /// The number that the bytes write in decimal digits, without leading zeros and up to `most`.
 #[tactic(auto, unfolding(crate::specs::Numbers::decimal_of))]
@@ -24,7 +24,7 @@ pub fn decimal(bytes: &[u8], most: u64) -> Option<u64>
 }
 
 /// Whether a zero stands before other digits.
-fn has_leading_zero(bytes: &[u8]) -> bool
+pub fn has_leading_zero(bytes: &[u8]) -> bool
     ensures { result ≡ has_leading_zero bytes.now }
 {
     bytes.len() > 1 && bytes[0] == b'0'
@@ -69,7 +69,7 @@ fn many_digits(bytes: &[u8]) -> Option<u64>
 }
 
 /// What a digit stands for.
-fn digit(byte: u8) -> Option<u64>
+pub fn digit(byte: u8) -> Option<u64>
     ensures { SomeIff result (IsTrue (is_ascii_digit byte)) (byte - 48) }
 {
     if byte.is_ascii_digit() {

@@ -9,7 +9,9 @@ use crate::write_arguments::Write;
 use std::alloc::Global;
 use zt_rows::{Call, Refusal};
 
-/// The call that the fields behind the process write.
+/// The call that the fields behind the process write. It is taken into its caller, since a call is large and goes through
+/// memory at each return.
+#[inline(always)]
 #[tactic(auto, using(crate::proofs::CallNames::named), unfolding(crate::specs::ReadCalls::call))]
 pub fn call(alloc: Global, fields: Fields<'_>) -> Result<Call, Refusal>
     ensures read { IfOk result (λ made. call fields.entry ≡ Ok made) }
@@ -23,6 +25,7 @@ pub fn call(alloc: Global, fields: Fields<'_>) -> Result<Call, Refusal>
 }
 
 /// The call of this name, with the arguments behind it.
+#[inline(always)]
 #[tactic(auto, unfolding(crate::specs::ProofsOnly::CallNames::call_with))]
 fn call_named(alloc: Global, name: CallName, rest: Fields<'_>) -> Result<Call, Refusal>
     ensures read { IfOk result (λ made. call_with name rest.entry ≡ Ok made) }

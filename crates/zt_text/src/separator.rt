@@ -1,10 +1,13 @@
-ghost use Rattle.std.specs.Prelude.{◌≡◌, ◌+◌, ◌<◌, ◌≤◌, ◌==◌, true, length, position, slice_index, IfSome};
+ghost use Rattle.std.specs.Prelude.{◌≡◌, ◌+◌, ◌<◌, ◌≤◌, ◌==◌, true, length, take, position, slice_index, IfSome};
 ghost use Rattle.zt_text.specs.ProofsOnly.Cut.{IsCut, IsClear};
 
 use std::simd::prelude::*;
 
-/// How many bytes are looked at together.
-const TOGETHER: usize = 8;
+/// How many bytes are looked at together, as long as there are so many.
+const MANY: usize = 16;
+
+/// How many of the rest are.
+const FEW: usize = 8;
 
 /// The bytes before the first separator, and those behind it.
 pub fn cut(bytes: &[u8], separator: u8) -> (&[u8], Option<&[u8]>)
@@ -16,25 +19,77 @@ pub fn cut(bytes: &[u8], separator: u8) -> (&[u8], Option<&[u8]>)
     }
 }
 
-/// Where the first separator stands. The bytes are looked at several together, and the last few one by one.
+/// The same, where that separator is at this place, or where there is none and these are all bytes.
+#[inline(always)]
+pub fn cut_at(bytes: &[u8], separator: u8, end: usize) -> Option<(&[u8], Option<&[u8]>)>
+    requires inside { end ≤ length bytes.now }
+    requires others { IsClear separator bytes.now 0 end }
+    ensures cut { IfSome result (λ parts. IsCut separator bytes.now parts.0.now parts.1) }
+    ensures first { IfSome result (λ parts. parts.0.now ≡ take end bytes.now) }
+{
+    if end == bytes.len() {
+        Some((&bytes[..end], None))
+    } else if bytes[end] == separator {
+        Some((&bytes[..end], Some(&bytes[end + 1..])))
+    } else {
+        None
+    }
+}
+
+/// Where the first separator stands. The bytes are looked at sixteen together, then eight, and the last few one by one.
 #[tactic(auto, using(crate::proofs::Places::first_place))]
 fn first_of(bytes: &[u8], separator: u8) -> Option<usize>
     ensures at { result ≡ position (λ byte. byte == separator) bytes.now }
     ensures inside { IfSome result (λ place. place < length bytes.now) }
 {
     let mut seen = 0;
-    while bytes.len() - seen >= TOGETHER {
-        let others = others_before(bytes, separator, seen);
-        if others < TOGETHER {
+    while bytes.len() - seen >= MANY {
+        let others = others_of_many(bytes, separator, seen);
+        if others < MANY {
             return Some(seen + others);
         }
-        seen += TOGETHER;
+        seen += MANY;
     }
-    first_behind(bytes, separator, seen)
+    first_of_rest(bytes, separator, seen)
 }
 
-/// How many of the several bytes from a place on stand before the first separator among them.
-fn others_before(bytes: &[u8], separator: u8, from: usize) -> usize
+/// The same of the bytes from a place on, before which there is none.
+#[tactic(auto, using(crate::proofs::Places::first_place))]
+fn first_of_rest(bytes: &[u8], separator: u8, from: usize) -> Option<usize>
+    requires inside { from ≤ length bytes.now }
+    requires others { IsClear separator bytes.now 0 from }
+    ensures at { result ≡ position (λ byte. byte == separator) bytes.now }
+    ensures inside { IfSome result (λ place. place < length bytes.now) }
+{
+    if bytes.len() - from < FEW {
+        return first_behind(bytes, separator, from);
+    }
+    let others = others_of_few(bytes, separator, from);
+    if others < FEW {
+        Some(from + others)
+    } else {
+        first_behind(bytes, separator, from + FEW)
+    }
+}
+
+/// How many of sixteen bytes from a place on stand before the first separator among them.
+fn others_of_many(bytes: &[u8], separator: u8, from: usize) -> usize
+    requires { from + 16 ≤ length bytes.now }
+    ensures few { result ≤ 16 }
+    ensures others { IsClear separator bytes.now from (from + result) }
+    ensures separator { result < 16 → (slice_index bytes.now (from + result) == separator) ≡ true }
+{
+    let separators = u8x16::from_slice(&bytes[from..]).simd_eq(u8x16::splat(separator));
+    let marks = separators.to_bitmask();
+    if marks == 0 {
+        MANY
+    } else {
+        marks.trailing_zeros() as usize
+    }
+}
+
+/// How many of eight bytes from a place on stand before the first separator among them.
+fn others_of_few(bytes: &[u8], separator: u8, from: usize) -> usize
     requires { from + 8 ≤ length bytes.now }
     ensures few { result ≤ 8 }
     ensures others { IsClear separator bytes.now from (from + result) }
@@ -43,7 +98,7 @@ fn others_before(bytes: &[u8], separator: u8, from: usize) -> usize
     let separators = u8x8::from_slice(&bytes[from..]).simd_eq(u8x8::splat(separator));
     let marks = separators.to_bitmask();
     if marks == 0 {
-        TOGETHER
+        FEW
     } else {
         marks.trailing_zeros() as usize
     }

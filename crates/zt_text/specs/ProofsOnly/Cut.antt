@@ -20,6 +20,10 @@ IsCut separator bytes first None = (parts_of separator bytes ≡ first ∷ []) �
 IsCut separator bytes first (Some left) =
     (parts_of separator bytes ≡ first ∷ parts_of separator left.now) × (length first + 1 + length left.now ≡ length bytes)
 
+-- what the field in front reads as in this form, and what is left behind that field
+abbrev pub IsInFront : {A : Type 0} → (List ℕ → Option A) → List ℕ → A × Option (Bor (List ℕ)) → Type 0
+IsInFront form bytes read = (first : List ℕ) × (IsCut 32 bytes first read.1) × (form first ≡ Some read.0)
+
 -- none of the bytes from one place up to another is the separator
 abbrev pub IsClear : ℕ → List ℕ → ℕ → ℕ → Type 0
 IsClear separator bytes from to = (k : ℕ) → from ≤ k → k < to → (slice_index bytes k == separator) ≡ false
