@@ -2,5 +2,6 @@
 pub mod Calls
 pub mod Session
 pub mod Cut
+pub mod Lists
 pub mod SavedTexts
 pub mod CallNames

@@ -277,7 +277,7 @@ impl<'a> Fields<'a> {
 
     /// The handles that the next field lists.
     #[tactic(auto, unfolding(crate::specs::Fields::field))]
-    pub fn handles(self) -> Result<(HandleList, Fields<'a>), Refusal>
+    pub fn handles(self) -> Result<(HandleList<'a>, Fields<'a>), Refusal>
         ensures { result ≡ field handles_of self.entry }
     {
         let (field, rest) = self.next()?;

@@ -1,40 +1,42 @@
-ghost use Rattle.std.specs.Prelude.{◌≡◌, ◌≤◌, length, IfOk, IfErr};
+ghost use Rattle.std.specs.Prelude.{◌≡◌, ◌≤◌, length, true, Some, is_some, IfOk, IfErr};
+ghost use Rattle.zt_text.specs.Numbers.{handle_of};
 ghost use Rattle.zt_text.specs.Lists.{handles_of, listed};
 ghost use Rattle.zt_rows.specs.declared.refusals.Refusal.TheVariants.{OutOfMemory};
 
 use crate::numbers::decimal;
 use crate::separator::cut;
-use arrayvec::ArrayVec;
-use std::alloc::Global;
+use std::alloc::{AllocError, Global};
 use std::marker::Model;
 use zt_rows::{HandleValue, MESSAGE_HANDLES, Refusal};
 
-/// Values of handles that a line lists, no more than a message takes. They take no memory.
+/// Values of handles as the field that lists them, no more than a message takes. They take no memory.
 #[derive(Drop)]
-pub struct HandleList {
-    values: ArrayVec<u32, MESSAGE_HANDLES>,
+pub struct HandleList<'a> {
+    field: &'a [u8],
 }
 
-impl Model for HandleList {
-    ghost use Rattle.std.specs.Prelude.{ℕ, List};
+impl<'a> Model for HandleList<'a> {
+    ghost use Rattle.std.specs.Prelude.{◌≡◌, ℕ, List, Some};
+    ghost use Rattle.zt_text.specs.Lists.{handles_of};
+    ghost use Rattle.zt_text.specs.ProofsOnly.Lists.{handles_in};
 
     ghost Value = { List ℕ };
 
-    ghost view = { λ l. l.values.items };
+    ghost view = { λ l. handles_in l.field.now };
+
+    ghost invariant = { λ l. Some (handles_in l.field.now) ≡ handles_of l.field.now };
 }
 
-impl HandleList {
+impl<'a> HandleList<'a> {
     /// The values that a field lists with commas between, or `-` for none.
-    #[tactic(auto, unfolding(crate::specs::Lists::handles_of))]
-    pub fn of(field: &[u8]) -> Option<HandleList>
+    #[tactic(auto, using(crate::proofs::ListLemmas::some_handles, crate::proofs::ListLemmas::no_handles))]
+    pub fn of(field: &'a [u8]) -> Option<HandleList<'a>>
         ensures { result ≡ handles_of field.now }
     {
-        if field == b"-".as_slice() {
-            Some(HandleList {
-                values: ArrayVec::new(),
-            })
+        if is_handles(field) {
+            Some(HandleList { field })
         } else {
-            listed(field)
+            None
         }
     }
 
@@ -44,29 +46,79 @@ impl HandleList {
         ensures few { IfOk result (λ values. length values.items ≤ 64) }
         ensures refused { IfErr result (λ refusal. refusal ≡ OutOfMemory) }
     {
-        let values = self.values.as_slice();
-        let handles = values
-            .iter()
-            .map(|value| HandleValue(*value))
-            .collect(alloc)?;
-        Ok(handles)
+        match handles_in(alloc, self.field) {
+            Ok(values) => Ok(values),
+            Err(_) => Err(Refusal::OutOfMemory),
+        }
+    }
+}
+
+/// Whether the field lists handles with commas between, or is `-` for none.
+#[tactic(auto, unfolding(crate::specs::Lists::handles_of))]
+fn is_handles(field: &[u8]) -> bool
+    ensures { result ≡ is_some (handles_of field.now) }
+{
+    field == b"-".as_slice() || is_listed(field)
+}
+
+/// Whether commas cut the field into handles, and no more of them than a message takes.
+fn is_listed(field: &[u8]) -> bool
+    ensures { result ≡ is_some (listed field.now) }
+{
+    let mut count = 0;
+    let mut left = Some(field);
+    while let Some(elements) = left {
+        let (element, others) = cut(elements, b',');
+        match handle(element) {
+            Some(_) => {}
+            None => return false,
+        }
+        if count == MESSAGE_HANDLES {
+            return false;
+        }
+        count += 1;
+        left = others;
+    }
+    true
+}
+
+/// The values that the field lists.
+#[tactic(auto, unfolding(crate::specs::Lists::handles_of))]
+fn handles_in(alloc: Global, field: &[u8]) -> Result<Vec<HandleValue>, AllocError>
+    requires { is_some (handles_of field.now) ≡ true }
+    ensures { IfOk result (λ values. Some values.items ≡ handles_of field.now) }
+{
+    if field == b"-".as_slice() {
+        Ok(Vec::new(alloc))
+    } else {
+        listed_in(alloc, field)
     }
 }
 
 /// The values of the elements that commas cut.
-fn listed(field: &[u8]) -> Option<HandleList>
-    ensures { result ≡ listed field.now }
+fn listed_in(alloc: Global, field: &[u8]) -> Result<Vec<HandleValue>, AllocError>
+    requires { is_some (listed field.now) ≡ true }
+    ensures { IfOk result (λ values. Some values.items ≡ listed field.now) }
 {
-    let mut values = ArrayVec::new();
+    let mut values = Vec::new(alloc);
     let mut left = Some(field);
     while let Some(elements) = left {
         let (element, others) = cut(elements, b',');
-        let value = decimal(element, u64::from(u32::MAX))?;
-        if values.is_full() {
-            return None;
+        match handle(element) {
+            Some(value) => values.push(value)?,
+            None => unreachable!(),
         }
-        values.push(value as u32);
         left = others;
     }
-    Some(HandleList { values })
+    Ok(values)
+}
+
+/// The value that an element writes.
+fn handle(element: &[u8]) -> Option<HandleValue>
+    ensures { result ≡ handle_of element.now }
+{
+    match decimal(element, u64::from(u32::MAX)) {
+        Some(value) => Some(HandleValue(value as u32)),
+        None => None,
+    }
 }

@@ -159,9 +159,11 @@ pub fn is_hex_digit(byte: u8) -> bool
 fn hex_digit(byte: u8) -> Option<u32>
     ensures { SomeIff result (IsTrue (is_hex_digit byte)) (digit_value byte) }
 {
-    match byte {
-        b'0'..=b'9' => Some(u32::from(byte - b'0')),
-        b'a'..=b'f' => Some(u32::from(byte - b'a') + 10),
-        _ => None,
+    if byte.is_ascii_digit() {
+        Some(u32::from(byte - b'0'))
+    } else if matches!(byte, b'a'..=b'f') {
+        Some(u32::from(byte - b'a') + 10)
+    } else {
+        None
     }
 }

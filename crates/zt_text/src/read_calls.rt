@@ -178,8 +178,8 @@ fn channel_write(fields: Fields<'_>) -> Result<Write<'_>, Refusal>
     Ok(Write::new(handle, bytes, handles))
 }
 
-/// The call of a `channel_write`. It is a function of its own that is not taken into its caller, since the handles that
-/// it lists have room on the stack, which no other call is to pay for.
+/// The call of a `channel_write`. It is a function of its own that is not taken into its caller, since it alone asks for
+/// memory, and no other call is to pay for that.
 #[inline(never)]
 fn write_call(alloc: Global, fields: Fields<'_>) -> Result<Call, Refusal>
     ensures read { IfOk result (λ made. channel_write fields.entry ≡ Ok made) }

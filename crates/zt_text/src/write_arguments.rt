@@ -13,7 +13,7 @@ use zt_rows::{Call, HandleValue, Parcel, Refusal};
 pub struct Write<'a> {
     handle: HandleValue,
     bytes: Digits<'a>,
-    handles: HandleList,
+    handles: HandleList<'a>,
 }
 
 impl<'a> Model for Write<'a> {
@@ -27,8 +27,8 @@ impl<'a> Model for Write<'a> {
 
 impl<'a> Write<'a> {
     /// The write to a handle of these bytes and handles.
-    pub fn new(handle: HandleValue, bytes: Digits<'a>, handles: HandleList) -> Write<'a>
-        ensures { result ≡ ChannelWrite handle (record { bytes = bytes.entry; handles = handles }) }
+    pub fn new(handle: HandleValue, bytes: Digits<'a>, handles: HandleList<'a>) -> Write<'a>
+        ensures { result ≡ ChannelWrite handle (record { bytes = bytes.entry; handles = handles.entry }) }
     {
         Write {
             handle,
