@@ -10,3 +10,5 @@ pub mod FiringLaws
 pub mod OrderLaws
 pub mod FiredLaws
 pub mod WakingLaws
+pub mod TouchedLaws
+pub mod LostLaws

@@ -1,10 +1,10 @@
 -- Derived signals follow from rows near their object: where a step that began consistent put nothing near an object,
 -- its signals agree with the rows still, and so it is enough to write those of what is near.
-use Rattle.std.proofs.Common.{◌≡◌, ℕ, ◌-◌, Bool, true, false, not, List, [], ◌∷◌, ◌⊎◌, inl, inr, refl, sym, ap, ◌∙◌, subst}
-use Rattle.std.specs.Prelude.{Option, None, Some, option_and_then, ◌==◌, bit_and, bit_or, if◌then◌else◌}
-use Rattle.std.specs.List.{flat_map, fold}
-use Rattle.std.specs.Int.Bits.{and_self}
-use Rattle.std.proofs.lemmas.Nat.{and_assoc, and_or_apart}
+use Rattle.std.proofs.Common.{◌≡◌, ◌<◌, ℕ, ◌-◌, ◌^◌, ◌%◌, arith, Bool, true, false, not, List, [], ◌∷◌, ◌⊎◌, inl, inr, refl, sym, ap, ◌∙◌, subst}
+use Rattle.std.specs.Prelude.{Option, None, Some, option_and_then, ◌==◌, ◌&&◌, bit_and, bit_or}
+use Rattle.std.specs.List.{fold}
+use Rattle.std.specs.Int.Bits.{and_self, or_comm}
+use Rattle.std.proofs.lemmas.Nat.{and_assoc, and_mask, and_or_apart}
 use Rattle.std.proofs.lemmas.Bool.{eqb-true, eq-eqb}
 use Rattle.zt_bits.specs.declared.kinds.Kind.{Kind}
 use Rattle.zt_bits.specs.declared.kinds.Kind.TheVariants as kind
@@ -17,17 +17,18 @@ use Rattle.zt_rows.specs.Consistent.{IsConsistent}
 use Rattle.zt_rows.specs.Keys.{rowkey_eq}
 use Rattle.zt_rows.specs.ProofsOnly.KeyOrder.{rowkey_eq-equal}
 use Rattle.zt_rows.specs.State.{State, row, put}
-use Rattle.zt_rows.specs.Reads.{as_object, object, is_live_job, is_live_process}
-use Rattle.zt_rows.specs.Tests.{among, any_row, link_at, object_link, without_bits}
-use Rattle.zt_rows.specs.Settle.{bit_if, derived, derived_by, derived_mask, is_child_job_of, is_child_process_of, is_message_of, peer_closed, refresh, refreshed, renewed, terminated, writable}
+use Rattle.zt_rows.specs.Reads.{as_object, object, is_job, is_live, is_live_job, is_live_process, is_process}
+use Rattle.zt_rows.specs.Tests.{among, any_row, is_task, without_bits}
+use Rattle.zt_rows.specs.Settle.{bit_if, derived, derived_by, derived_mask, is_child_job_of, is_child_process_of, is_message_of, no_jobs, no_processes, peer_closed, readable, refresh, refreshed, renewed, terminated, writable}
 use Rattle.zt_rows.proofs.StateLaws.{row-put-other, row-put-same, same_state}
-use Rattle.zt_rows.proofs.RowLaws.{and_right, any_row-at, at-any_row, not_true, or_left, or_right, or_true, same_test, true≢false}
+use Rattle.zt_rows.proofs.RowLaws.{and_left, and_right, any_row-at, at-any_row, not_true, or_true, same_test, true≢false}
 use Rattle.zt_rows.proofs.ReadLaws.{object-row, some_one}
 use Rattle.zt_rows.proofs.SettleLaws.{derived-out, renew, row-refresh}
 use Rattle.zt_store.specs.StepView.{Stepping, listed, DiffersAtTouched}
 use Rattle.zt_signals.specs.ObjectSignals.{refreshed_object, refreshed_object_of}
-use Rattle.zt_cascade.specs.ProofsOnly.NearObjects.{both, near, near_touched}
-use Rattle.zt_cascade.proofs.TakingLaws.{among-left, among-right}
+use Rattle.zt_cascade.specs.ProofsOnly.NearObjects.{AreAlike, HasAllNear, HasNear, HasNearObject, HasParent}
+use Rattle.zt_cascade.specs.ProofsOnly.RaisedWaits.{IsLonger}
+use Rattle.zt_cascade.proofs.TouchedLaws.{LastsLonger}
 
 -- ---- derived signals of states whose rows near the object are the same
 
@@ -39,107 +40,182 @@ derived-alike C D y m j n kind.Event p = refl
 derived-alike C D y m j n kind.EventPair p = refl
 derived-alike C D y m j n kind.Port p = refl
 
--- wherever a row of either state passes, both have it
+-- two rows alike have the same signals, anew too
+derived-rows : (S : State) (x : ℕ) (o p : ObjectRow) → p.life ≡ o.life → p.link ≡ o.link → (made : Kind) → derived_by made S x p ≡ derived_by made S x o
+derived-rows S x o p life link kind.Job = ap (λ l. bit_or (bit_if (not (is_live l)) 0x8) (bit_or (no_jobs S x) (no_processes S x))) life
+derived-rows S x o p life link kind.Process = ap (λ l. bit_if (not (is_live l)) 0x8) life
+derived-rows S x o p life link kind.Channel = ap (λ l. bit_or (readable S x) (bit_or (bit_if (not (l == 0)) 0x2) (bit_if (l == 0) 0x4))) link
+derived-rows S x o p life link kind.Event = refl
+derived-rows S x o p life link kind.EventPair = ap (λ l. bit_if (l == 0) 0x4) link
+derived-rows S x o p life link kind.Port = refl
+
+renewed-rows : (S : State) (x : ℕ) (o p : ObjectRow) → AreAlike o p → renewed S x p ≡ renewed S x o
+renewed-rows S x o p alike =
+    ap (bit_or (without_bits p.signals.0 (derived_mask p.kind))) (derived-rows S x o p alike.life alike.link p.kind)
+    ∙ (λ i. bit_or (without_bits (alike.signals i) (derived_mask (alike.kind i))) (derived_by (alike.kind i) S x o))
+
+-- a kind whose signals follow from no rows
+abbrev pub IsUnderived : Kind → Type 0
+IsUnderived made = (made ≡ kind.Event) ⊎ (made ≡ kind.Port)
+
+-- where signals of its kind follow from no rows, its signals are what they are
+pub none-derived : (S : State) (x : ℕ) (p : ObjectRow) → IsUnderived p.kind → p.signals.0 < 2 ^ 32 → renewed S x p ≡ p.signals.0
+none-derived S x p made few = elim made [
+  | inl is ↦ (λ i. bit_or (without_bits p.signals.0 (derived_mask (is i))) (derived_by (is i) S x p)) ∙ kept
+  | inr is ↦ (λ i. bit_or (without_bits p.signals.0 (derived_mask (is i))) (derived_by (is i) S x p)) ∙ kept
+]
+  where
+    within : (n : ℕ) → n < 2 ^ 32 → n % 2 ^ 32 ≡ n
+    within n few = omega (arith, few)
+
+    kept : bit_or (without_bits p.signals.0 0) 0 ≡ p.signals.0
+    kept = or_comm (without_bits p.signals.0 0) 0 ∙ and_mask p.signals.0 32 ∙ within p.signals.0 few
+
+-- a row under the key passes
+abbrev Passes : (RowKey → Row → Bool) → State → RowKey → Type 0
+Passes test S k = (r : Row) × (row S k ≡ Some r) × (test k r ≡ true)
+
+-- wherever a row of one state passes, one of the other state does
 any_row-same : (test : RowKey → Row → Bool) (C D : State)
-    → ((k : RowKey) (r : Row) → row C k ≡ Some r → test k r ≡ true → row D k ≡ row C k)
-    → ((k : RowKey) (r : Row) → row D k ≡ Some r → test k r ≡ true → row D k ≡ row C k)
+    → ((k : RowKey) (r : Row) → row C k ≡ Some r → test k r ≡ true → Passes test D k)
+    → ((k : RowKey) (r : Row) → row D k ≡ Some r → test k r ≡ true → Passes test C k)
     → any_row test D ≡ any_row test C
 any_row-same test C D of_C of_D =
     same_test _ _
-    (λ h. let w = at-any_row test D h in any_row-at test C w.0 w.1 (sym (of_D w.0 w.1 w.2 w.3) ∙ w.2) w.3)
-    (λ h. let w = at-any_row test C h in any_row-at test D w.0 w.1 (of_C w.0 w.1 w.2 w.3 ∙ w.2) w.3)
+    (λ h. let w = at-any_row test D h in let v = of_D w.0 w.1 w.2 w.3 in any_row-at test C w.0 v.0 v.1 v.2)
+    (λ h. let w = at-any_row test C h in let v = of_C w.0 w.1 w.2 w.3 in any_row-at test D w.0 v.0 v.1 v.2)
 
 -- ---- what is near a key that was put
 
-both-first : (y z x : ℕ) → y ≡ x → among (both y z) x ≡ true
-both-first y z x same = by (y == z)
+job-task : (o : ObjectRow) → is_live_job o ≡ true → is_task o.kind ≡ true
+job-task o h = by o.kind (and_left (is_job o.kind) (is_live o.life) h)
   where
-    by : (b : Bool) → among (if b then y ∷ [] else y ∷ z ∷ []) x ≡ true
-    by true = or_left (y == x) _ (eq-eqb y x same)
-    by false = or_left (y == x) _ (eq-eqb y x same)
+    by : (made : Kind) → is_job made ≡ true → is_task made ≡ true
+    by kind.Job e = refl
+    by _ e = cc
 
-both-second : (y z x : ℕ) → z ≡ x → among (both y z) x ≡ true
-both-second y z x same = by (y == z) refl
+process-task : (o : ObjectRow) → is_live_process o ≡ true → is_task o.kind ≡ true
+process-task o h = by o.kind (and_left (is_process o.kind) (is_live o.life) h)
   where
-    by : (b : Bool) → (y == z) ≡ b → among (if b then y ∷ [] else y ∷ z ∷ []) x ≡ true
-    by true e = or_left (y == x) _ (eq-eqb y x (eqb-true y z e ∙ same))
-    by false e = or_right (y == x) _ (or_left (z == x) _ (eq-eqb z x same))
+    by : (made : Kind) → is_process made ≡ true → is_task made ≡ true
+    by kind.Process e = refl
+    by _ e = cc
 
-module _ (s : Stepping) (x : ℕ) (apart : among (near_touched s) x ≡ false) where
-  near-among : (ks : List RowKey) (k : RowKey) → listed ks k ≡ true → among (near s.beginning s.current k) x ≡ true → among (flat_map (near s.beginning s.current) ks) x ≡ true
-  near-among [] k l e = cc
-  near-among (q ∷ ks) k l e = elim (or_true (rowkey_eq k q) (listed ks k) l) [
-    | inl t ↦ among-left (near s.beginning s.current q) (flat_map (near s.beginning s.current) ks) x (subst (λ z. among (near s.beginning s.current z) x ≡ true) (rowkey_eq-equal k q t) e)
-    | inr t ↦ among-right (near s.beginning s.current q) (flat_map (near s.beginning s.current) ks) x (near-among ks k t e)
-  ]
+-- a row alike of the object y
+abbrev HasAlike : State → ℕ → ObjectRow → Type 0
+HasAlike S y o = (p : ObjectRow) × (row S (key.Object y) ≡ Some (rows.Object p)) × (p.kind ≡ o.kind) × (p.life ≡ o.life) × (p.link ≡ o.link)
 
-  -- a key that x is near was not put
-  not-put : (k : RowKey) → among (near s.beginning s.current k) x ≡ true → listed s.touched k ≡ false
-  not-put k e = not_true (listed s.touched k) (λ t. true≢false (among (near_touched s) x) (near-among s.touched k t e) apart)
+passes-job : (S : State) (x y : ℕ) (o : ObjectRow) → is_child_job_of x (key.Object y) (rows.Object o) ≡ true → HasAlike S y o → Passes (is_child_job_of x) S (key.Object y)
+passes-job S x y o t w = (rows.Object w.0, w.1, (λ i. is_job (w.2 i) && is_live (w.3 i) && (w.4 i == x)) ∙ t)
 
-  near-itself : among (near s.beginning s.current (key.Object x)) x ≡ true
-  near-itself = or_left (x == x) _ (eq-eqb x x refl)
+passes-process : (S : State) (x y : ℕ) (o : ObjectRow) → is_child_process_of x (key.Object y) (rows.Object o) ≡ true → HasAlike S y o → Passes (is_child_process_of x) S (key.Object y)
+passes-process S x y o t w = (rows.Object w.0, w.1, (λ i. is_process (w.2 i) && is_live (w.3 i) && (w.4 i == x)) ∙ t)
 
-  near-link_then : (y : ℕ) → link_at s.beginning y ≡ x → among (near s.beginning s.current (key.Object y)) x ≡ true
-  near-link_then y e = or_right (y == x) _ (both-first (link_at s.beginning y) (link_at s.current y) x e)
+module _ (s : Stepping) (list : List ℕ) (all : HasAllNear s list) (differs : DiffersAtTouched s) (x : ℕ) (apart : among list x ≡ false) where
+  not-listed : {A : Type 0} (y : ℕ) → y ≡ x → among list y ≡ true → A
+  not-listed y e t = absurd (true≢false (among list x) (ap (among list) (sym e) ∙ t) apart)
 
-  near-link_now : (y : ℕ) → link_at s.current y ≡ x → among (near s.beginning s.current (key.Object y)) x ≡ true
-  near-link_now y e = or_right (y == x) _ (both-second (link_at s.beginning y) (link_at s.current y) x e)
+  message-same : (k : RowKey) (r : Row) → is_message_of x k r ≡ true → row s.current k ≡ row s.beginning k
+  message-same (key.Msg e n) (rows.Msg m) t = differs (key.Msg e n) (not_true (listed s.touched (key.Msg e n)) (λ l. not-listed e (eqb-true e x t) (all (key.Msg e n) l)))
+  message-same _ _ t = cc
 
-  near-endpoint : (e n : ℕ) → e ≡ x → among (near s.beginning s.current (key.Msg e n)) x ≡ true
-  near-endpoint e n same = or_left (e == x) _ (eq-eqb e x same)
+  message-then : (k : RowKey) (r : Row) → row s.beginning k ≡ Some r → is_message_of x k r ≡ true → Passes (is_message_of x) s.current k
+  message-then k r h t = (r, message-same k r t ∙ h, t)
 
-  module _ (differs : DiffersAtTouched s) where
-    message-same : (k : RowKey) (r : Row) → is_message_of x k r ≡ true → row s.current k ≡ row s.beginning k
-    message-same (key.Msg e n) (rows.Msg m) t = differs (key.Msg e n) (not-put (key.Msg e n) (near-endpoint e n (eqb-true e x t)))
-    message-same _ _ t = cc
+  message-now : (k : RowKey) (r : Row) → row s.current k ≡ Some r → is_message_of x k r ≡ true → Passes (is_message_of x) s.beginning k
+  message-now k r h t = (r, sym (message-same k r t) ∙ h, t)
 
-    -- a child's row is the same, whichever state has it
-    child-then : (y : ℕ) (o : ObjectRow) → row s.beginning (key.Object y) ≡ Some (rows.Object o) → o.link ≡ x → row s.current (key.Object y) ≡ row s.beginning (key.Object y)
-    child-then y o h e = differs (key.Object y) (not-put (key.Object y) (near-link_then y (ap (λ r. object_link (as_object r)) h ∙ e)))
+  -- a child has rows alike then and now, or x would be in the list
+  child-then : (y : ℕ) (o : ObjectRow) → row s.beginning (key.Object y) ≡ Some (rows.Object o) → is_task o.kind ≡ true → o.link ≡ x → HasAlike s.current y o
+  child-then y o h task e = by (listed s.touched (key.Object y)) refl
+    where
+      near : (now : Option ObjectRow) → object s.current y ≡ now → HasNearObject s.current y (Some o) now list → HasAlike s.current y o
+      near (Some p) is (inl alike) = (p, object-row s.current y p is, alike.kind, alike.life, alike.link)
+      near (Some p) is (inr lists) = not-listed o.link e (lists.1 task)
+      near None is parent = not-listed o.link e (parent task)
 
-    child-now : (y : ℕ) (o : ObjectRow) → row s.current (key.Object y) ≡ Some (rows.Object o) → o.link ≡ x → row s.current (key.Object y) ≡ row s.beginning (key.Object y)
-    child-now y o h e = differs (key.Object y) (not-put (key.Object y) (near-link_now y (ap (λ r. object_link (as_object r)) h ∙ e)))
+      by : (b : Bool) → listed s.touched (key.Object y) ≡ b → HasAlike s.current y o
+      by false t = (o, differs (key.Object y) t ∙ h, refl, refl, refl)
+      by true t = near (object s.current y) refl (subst (λ then. HasNearObject s.current y then (object s.current y) list) (ap as_object h) (all (key.Object y) t))
 
-    job-then : (k : RowKey) (r : Row) → row s.beginning k ≡ Some r → is_child_job_of x k r ≡ true → row s.current k ≡ row s.beginning k
-    job-then (key.Object y) (rows.Object o) h t = child-then y o h (eqb-true o.link x (and_right (is_live_job o) _ t))
-    job-then _ _ h t = cc
+  child-now : (y : ℕ) (o : ObjectRow) → row s.current (key.Object y) ≡ Some (rows.Object o) → is_task o.kind ≡ true → o.link ≡ x → HasAlike s.beginning y o
+  child-now y o h task e = by (listed s.touched (key.Object y)) refl
+    where
+      near : (then : Option ObjectRow) → object s.beginning y ≡ then → HasNearObject s.current y then (Some o) list → HasAlike s.beginning y o
+      near (Some p) is (inl alike) = (p, object-row s.beginning y p is, sym alike.kind, sym alike.life, sym alike.link)
+      near None is (inl alike) = absurd alike
+      near then is (inr lists) = not-listed o.link e (lists.2 task)
 
-    job-now : (k : RowKey) (r : Row) → row s.current k ≡ Some r → is_child_job_of x k r ≡ true → row s.current k ≡ row s.beginning k
-    job-now (key.Object y) (rows.Object o) h t = child-now y o h (eqb-true o.link x (and_right (is_live_job o) _ t))
-    job-now _ _ h t = cc
+      by : (b : Bool) → listed s.touched (key.Object y) ≡ b → HasAlike s.beginning y o
+      by false t = (o, sym (differs (key.Object y) t) ∙ h, refl, refl, refl)
+      by true t = near (object s.beginning y) refl (subst (λ now. HasNearObject s.current y (object s.beginning y) now list) (ap as_object h) (all (key.Object y) t))
 
-    process-then : (k : RowKey) (r : Row) → row s.beginning k ≡ Some r → is_child_process_of x k r ≡ true → row s.current k ≡ row s.beginning k
-    process-then (key.Object y) (rows.Object o) h t = child-then y o h (eqb-true o.link x (and_right (is_live_process o) _ t))
-    process-then _ _ h t = cc
+  job-then : (k : RowKey) (r : Row) → row s.beginning k ≡ Some r → is_child_job_of x k r ≡ true → Passes (is_child_job_of x) s.current k
+  job-then (key.Object y) (rows.Object o) h t = passes-job s.current x y o t (child-then y o h (job-task o (and_left (is_live_job o) _ t)) (eqb-true o.link x (and_right (is_live_job o) _ t)))
+  job-then _ _ h t = cc
 
-    process-now : (k : RowKey) (r : Row) → row s.current k ≡ Some r → is_child_process_of x k r ≡ true → row s.current k ≡ row s.beginning k
-    process-now (key.Object y) (rows.Object o) h t = child-now y o h (eqb-true o.link x (and_right (is_live_process o) _ t))
-    process-now _ _ h t = cc
+  job-now : (k : RowKey) (r : Row) → row s.current k ≡ Some r → is_child_job_of x k r ≡ true → Passes (is_child_job_of x) s.beginning k
+  job-now (key.Object y) (rows.Object o) h t = passes-job s.beginning x y o t (child-now y o h (job-task o (and_left (is_live_job o) _ t)) (eqb-true o.link x (and_right (is_live_job o) _ t)))
+  job-now _ _ h t = cc
 
-    renewed-far : (o : ObjectRow) → renewed s.current x o ≡ renewed s.beginning x o
-    renewed-far o =
-        ap (bit_or (without_bits o.signals.0 (derived_mask o.kind)))
-        (derived-alike s.beginning s.current x
-        (any_row-same (is_message_of x) s.beginning s.current (λ k r h t. message-same k r t) (λ k r h t. message-same k r t))
-        (any_row-same (is_child_job_of x) s.beginning s.current job-then job-now)
-        (any_row-same (is_child_process_of x) s.beginning s.current process-then process-now)
-        o.kind o)
+  process-then : (k : RowKey) (r : Row) → row s.beginning k ≡ Some r → is_child_process_of x k r ≡ true → Passes (is_child_process_of x) s.current k
+  process-then (key.Object y) (rows.Object o) h t = passes-process s.current x y o t (child-then y o h (process-task o (and_left (is_live_process o) _ t)) (eqb-true o.link x (and_right (is_live_process o) _ t)))
+  process-then _ _ h t = cc
 
-    -- signals that agreed at the beginning agree
-    pub agrees-far : IsConsistent s.beginning → (o : ObjectRow) → object s.current x ≡ Some o → renewed s.current x o ≡ o.signals.0
-    agrees-far began o h =
-        let same : object s.current x ≡ object s.beginning x = ap as_object (differs (key.Object x) (not-put (key.Object x) near-itself)) in
-        renewed-far o ∙ began.agrees x o (sym same ∙ h)
+  process-now : (k : RowKey) (r : Row) → row s.current k ≡ Some r → is_child_process_of x k r ≡ true → Passes (is_child_process_of x) s.beginning k
+  process-now (key.Object y) (rows.Object o) h t = passes-process s.beginning x y o t (child-now y o h (process-task o (and_left (is_live_process o) _ t)) (eqb-true o.link x (and_right (is_live_process o) _ t)))
+  process-now _ _ h t = cc
 
-    row-far : IsConsistent s.beginning → (r : Option Row) → row s.current (key.Object x) ≡ r → option_and_then (refreshed s.current (key.Object x)) r ≡ r
-    row-far began (Some (rows.Object o)) h = ap (λ n. Some (rows.Object (record o { signals = record { 0 = n } }))) (agrees-far began o (ap as_object h))
-    row-far began (Some (rows.Counters _)) h = refl
-    row-far began (Some (rows.Entry _)) h = refl
-    row-far began (Some (rows.Msg _)) h = refl
-    row-far began (Some (rows.Packet _)) h = refl
-    row-far began (Some (rows.Wait _)) h = refl
-    row-far began None h = refl
+  renewed-far : (o : ObjectRow) → renewed s.current x o ≡ renewed s.beginning x o
+  renewed-far o =
+      ap (bit_or (without_bits o.signals.0 (derived_mask o.kind)))
+      (derived-alike s.beginning s.current x
+      (any_row-same (is_message_of x) s.beginning s.current message-then message-now)
+      (any_row-same (is_child_job_of x) s.beginning s.current job-then job-now)
+      (any_row-same (is_child_process_of x) s.beginning s.current process-then process-now)
+      o.kind o)
+
+  -- signals that agreed at the beginning agree
+  pub agrees-far : IsConsistent s.beginning → (o : ObjectRow) → object s.current x ≡ Some o → renewed s.current x o ≡ o.signals.0
+  agrees-far began o h = by (listed s.touched (key.Object x)) refl
+    where
+      near : (then : Option ObjectRow) → object s.beginning x ≡ then → HasNearObject s.current x then (Some o) list → renewed s.current x o ≡ o.signals.0
+      near (Some p) is (inl alike) = renewed-far o ∙ renewed-rows s.beginning x p o alike ∙ began.agrees x p is ∙ sym alike.signals
+      near None is (inl alike) = absurd alike
+      near then is (inr lists) = elim lists.0 [ inl quiet ↦ quiet | inr t ↦ not-listed x refl t ]
+
+      by : (b : Bool) → listed s.touched (key.Object x) ≡ b → renewed s.current x o ≡ o.signals.0
+      by false t = renewed-far o ∙ began.agrees x o (ap as_object (sym (differs (key.Object x) t)) ∙ h)
+      by true t = near (object s.beginning x) refl (subst (λ now. HasNearObject s.current x (object s.beginning x) now list) h (all (key.Object x) t))
+
+  row-far : IsConsistent s.beginning → (r : Option Row) → row s.current (key.Object x) ≡ r → option_and_then (refreshed s.current (key.Object x)) r ≡ r
+  row-far began (Some (rows.Object o)) h = ap (λ n. Some (rows.Object (record o { signals = record { 0 = n } }))) (agrees-far began o (ap as_object h))
+  row-far began (Some (rows.Counters _)) h = refl
+  row-far began (Some (rows.Entry _)) h = refl
+  row-far began (Some (rows.Msg _)) h = refl
+  row-far began (Some (rows.Packet _)) h = refl
+  row-far began (Some (rows.Wait _)) h = refl
+  row-far began None h = refl
+
+-- ---- a longer list has what a shorter one has
+
+parent-longer : (o : Option ObjectRow) (list later : List ℕ) → IsLonger list later → HasParent o list → HasParent o later
+parent-longer (Some o) list later longer h = λ task. longer o.link (h task)
+parent-longer None list later longer h = tt
+
+near_object-longer : (T : State) (x : ℕ) (then now : Option ObjectRow) (list later : List ℕ) → IsLonger list later → HasNearObject T x then now list → HasNearObject T x then now later
+near_object-longer T x then (Some p) list later longer (inl alike) = inl alike
+near_object-longer T x then (Some p) list later longer (inr h) =
+    inr (elim h.0 [ inl quiet ↦ inl quiet | inr t ↦ inr (longer x t) ], parent-longer then list later longer h.1, parent-longer (Some p) list later longer h.2)
+near_object-longer T x then None list later longer h = parent-longer then list later longer h
+
+pub near-longer : (B T : State) → LastsLonger (HasNear B T)
+near-longer B T (key.Object x) list later longer h = near_object-longer T x (object B x) (object T x) list later longer h
+near-longer B T (key.Msg e n) list later longer h = longer e h
+near-longer B T key.Counters list later longer h = tt
+near-longer B T (key.Entry p g) list later longer h = tt
+near-longer B T (key.Packet p n) list later longer h = tt
+near-longer B T (key.Wait n) list later longer h = tt
 
 -- ---- signals written of one object
 
@@ -278,12 +354,12 @@ written-all S (x ∷ xs) C same between =
 
 -- ---- a step that began consistent
 
-module _ (s : Stepping) (began : IsConsistent s.beginning) (differs : DiffersAtTouched s) where
-  object-between : (x : ℕ) → IsBetween s.current s.current (near_touched s) (key.Object x)
+module _ (s : Stepping) (list : List ℕ) (began : IsConsistent s.beginning) (differs : DiffersAtTouched s) (all : HasAllNear s list) where
+  object-between : (x : ℕ) → IsBetween s.current s.current list (key.Object x)
   object-between x =
-      elim (among (near_touched s) x) as (λ b. among (near_touched s) x ≡ b → IsBetween s.current s.current (near_touched s) (key.Object x)) [
+      elim (among list x) as (λ b. among list x ≡ b → IsBetween s.current s.current list (key.Object x)) [
         | true ↦ λ t. inr (refl, t)
-        | false ↦ λ t. inl (sym (row-refresh s.current (key.Object x) ∙ row-far s x t differs began (row s.current (key.Object x)) refl))
+        | false ↦ λ t. inl (sym (row-refresh s.current (key.Object x) ∙ row-far s list all differs x t began (row s.current (key.Object x)) refl))
       ] refl
 
   other-between : (q : RowKey) → ((r : Row) → refreshed s.current q r ≡ Some r) → row s.current q ≡ row (refresh s.current) q
@@ -293,7 +369,7 @@ module _ (s : Stepping) (began : IsConsistent s.beginning) (differs : DiffersAtT
       of_row (Some r) = stays r
       of_row None = refl
 
-  between-begun : (q : RowKey) → IsBetween s.current s.current (near_touched s) q
+  between-begun : (q : RowKey) → IsBetween s.current s.current list q
   between-begun (key.Object x) = object-between x
   between-begun key.Counters = inl (other-between key.Counters (λ r. refl))
   between-begun (key.Entry p h) = inl (other-between (key.Entry p h) (λ r. refl))
@@ -301,6 +377,6 @@ module _ (s : Stepping) (began : IsConsistent s.beginning) (differs : DiffersAtT
   between-begun (key.Packet p n) = inl (other-between (key.Packet p n) (λ r. refl))
   between-begun (key.Wait n) = inl (other-between (key.Wait n) (λ r. refl))
 
-  -- to write the signals of what is near the touched keys is to write those of all objects
-  pub refresh-near : fold refreshed_object s.current (near_touched s) ≡ refresh s.current
-  refresh-near = written-all s.current (near_touched s) s.current (λ y p. refl) between-begun
+  -- to write the signals of a list that has what is near the touched keys is to write those of all objects
+  pub refresh-near : fold refreshed_object s.current list ≡ refresh s.current
+  refresh-near = written-all s.current list s.current (λ y p. refl) between-begun

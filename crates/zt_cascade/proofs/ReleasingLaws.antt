@@ -1,14 +1,11 @@
 -- The list of what may go: what it holds to begin with, what one look at it leaves, and where it ends.
-use Rattle.std.proofs.Common.{not, ◌≡◌, ◌≤◌, ◌<◌, ℕ, suc, ◌+◌, Bool, true, false, ◌||◌, List, [], ◌∷◌, ◌++◌, length, ◌⊎◌, inl, inr, refl, sym, ap, ◌∙◌, subst, arith}
-use Rattle.std.specs.Prelude.{Option, None, Some, if◌then◌else◌, ◌==◌, is_some, slice_get, Result, Ok, Err, OnOk}
-use Rattle.std.proofs.lemmas.Bool.{eqb-true, eq-eqb, cases_lt}
-use Rattle.std.proofs.lemmas.Option.{slice_get_within, slice_get_cases}
+use Rattle.std.proofs.Common.{not, ◌≡◌, ℕ, Bool, true, false, ◌||◌, List, [], ◌∷◌, ◌++◌, length, ◌⊎◌, inl, inr, refl, sym, ap, ◌∙◌, subst, arith}
+use Rattle.std.specs.Prelude.{Option, None, Some, if◌then◌else◌, ◌==◌, is_some, Result, Ok, Err, OnOk}
+use Rattle.std.proofs.lemmas.Bool.{eqb-true, eq-eqb}
 use Rattle.zt_rows.specs.declared.keys.RowKey.{RowKey}
 use Rattle.zt_rows.specs.declared.keys.RowKey.TheVariants as key
 use Rattle.zt_rows.specs.declared.rows.Held.{Held}
 use Rattle.zt_rows.specs.declared.rows.ObjectRow.{ObjectRow}
-use Rattle.zt_rows.specs.Keys.{rowkey_eq}
-use Rattle.zt_rows.specs.ProofsOnly.KeyOrder.{rowkey_eq-equal}
 use Rattle.zt_rows.specs.State.{State}
 use Rattle.zt_rows.specs.Reads.{object}
 use Rattle.zt_rows.specs.Support.{support_count, is_supported}
@@ -23,80 +20,31 @@ use Rattle.zt_store.specs.KoidSets.{only}
 use Rattle.zt_cascade.specs.OneByOne.{IsOnTheWay, IsLetGo}
 use Rattle.zt_cascade.specs.JoinedLinks.{IsJoined}
 use Rattle.zt_cascade.specs.ToldObjects.{IsTold, by_list, by_put, by_child, IsCovered}
-use Rattle.zt_cascade.specs.ProofsOnly.ToldObjects.{IsListed}
+use Rattle.zt_cascade.specs.ProofsOnly.ToldObjects.{IsListed, IsListedFree}
 use Rattle.zt_cascade.specs.ProofsOnly.RemovedObject.{koids, Covers}
 use Rattle.zt_cascade.proofs.OnTheWayLaws.{on_the_way-more, on_the_way-end, goes-newly}
 use Rattle.zt_cascade.proofs.JoinedLaws.{joined-without}
 use Rattle.zt_cascade.proofs.TakingLaws.{among-koids, among-left, among-right}
+use Rattle.zt_cascade.proofs.TouchedLaws.{LastsLonger}
 
 -- ---- what was put
 
-pub listed-grown : (B : State) (k : RowKey) (list later : List ℕ) → ((y : ℕ) → among list y ≡ true → among later y ≡ true) → IsListed B k list → IsListed B k later
-listed-grown B (key.Object x) list later grown h = (grown x h.0, grown (link_at B x) h.1)
-listed-grown B _ list later grown h = tt
-
-pub listed-pushed : (B : State) (x l : ℕ) (list : List ℕ) → l ≡ link_at B x → IsListed B (key.Object x) ((list ++ x ∷ []) ++ l ∷ [])
-listed-pushed B x l list e =
-    (among-left (list ++ x ∷ []) (l ∷ []) x (among-right list (x ∷ []) x (itself x)), among-right (list ++ x ∷ []) (l ∷ []) (link_at B x) (subst (λ z. among (l ∷ []) z ≡ true) e (itself l)))
-  where
-    itself : (y : ℕ) → among (y ∷ []) y ≡ true
-    itself y = ap (λ b. b || false) (eq-eqb y y refl)
-
-pub pushed-grown : (list : List ℕ) (x l y : ℕ) → among list y ≡ true → among ((list ++ x ∷ []) ++ l ∷ []) y ≡ true
-pushed-grown list x l y e = among-left (list ++ x ∷ []) (l ∷ []) y (among-left list (x ∷ []) y e)
-
--- the first so many keys are listed
-pub record ListsTouched (i : ℕ) (ks : List RowKey) (B : State) (list : List ℕ) : Type 0 where
-  pub each : (j : ℕ) (k : RowKey) → j < i → slice_get ks j ≡ Some k → IsListed B k list
-
-pub touched-none : (ks : List RowKey) (B : State) (list : List ℕ) → ListsTouched 0 ks B list
-touched-none ks B list = record { each = λ j k l e. absurd (omega arith) }
-
-pub touched-more : (i : ℕ) (ks : List RowKey) (B : State) (list later : List ℕ) (k : RowKey) → ListsTouched i ks B list → slice_get ks i ≡ Some k → IsListed B k later → ((y : ℕ) → among list y ≡ true → among later y ≡ true) → ListsTouched (i + 1) ks B later
-touched-more i ks B list later k h here new grown = record {
-  each = λ j q l e. elim (cases_lt j i) [
-    | inl less ↦ listed-grown B q list later grown (h.each j q less e)
-    | inr past ↦
-        let same : j ≡ i = omega arith in
-        let one : k ≡ q = one_key k q (sym here ∙ ap (slice_get ks) (sym same) ∙ e) in
-        subst (λ z. IsListed B z later) one new
-  ];
-}
-  where
-    one_key : (a b : RowKey) → Some a ≡ Some b → a ≡ b
-    one_key a b e = cc
-
-listed-at : (ks : List RowKey) (k : RowKey) → listed ks k ≡ true → (j : ℕ) × (slice_get ks j ≡ Some k)
-listed-at [] k e = cc
-listed-at (q ∷ ks) k e = elim (or_true (rowkey_eq k q) (listed ks k) e) [
-  | inl t ↦ (0, ap Some (sym (rowkey_eq-equal k q t)))
-  | inr t ↦ let w = listed-at ks k t in (suc w.0, w.1)
-]
-
-no_key : (r : Option RowKey) (k : RowKey) → r ≡ None → r ≡ Some k → ⊥
-no_key r k e f = cc
-
-past_end : (ks : List RowKey) (i : ℕ) → slice_get ks i ≡ None → length ks ≤ i
-past_end ks i end = elim (slice_get_cases ks i).1 [
-  | inl w ↦ absurd (no_key (slice_get ks i) w.0 end w.2)
-  | inr w ↦ w.0
-]
-
-pub touched-all : (i : ℕ) (ks : List RowKey) (B : State) (list : List ℕ) → ListsTouched i ks B list → slice_get ks i ≡ None → (k : RowKey) → listed ks k ≡ true → IsListed B k list
-touched-all i ks B list h end k e =
-    let w = listed-at ks k e in
-    let within : w.0 < length ks = slice_get_within ks w.0 k w.1 in
-    let past : length ks ≤ i = past_end ks i end in
-    h.each w.0 k (omega arith) w.1
+pub listed-longer : (B S : State) → LastsLonger (IsListed B S)
+listed-longer B S (key.Object x) list later longer h = (λ g. longer x (h.0 g), λ g. longer (link_at B x) (h.1 g))
+listed-longer B S key.Counters list later longer h = tt
+listed-longer B S (key.Entry p g) list later longer h = tt
+listed-longer B S (key.Msg e n) list later longer h = tt
+listed-longer B S (key.Packet p n) list later longer h = tt
+listed-longer B S (key.Wait n) list later longer h = tt
 
 -- all that is told of is in the list
-pub told-covers : (s : Stepping) (released : List Held) (list : List ℕ) → IsCovered s released → ((k : RowKey) → listed s.touched k ≡ true → IsListed s.beginning k list) → Covers (list ++ koids released) s.current
-told-covers s released list covered touched = record { each = λ y g. told y (covered.told y g) }
+pub told-covers : (s : Stepping) (released : List Held) (list : List ℕ) → IsCovered s released → ((k : RowKey) → listed s.touched k ≡ true → IsListed s.beginning s.current k list) → Covers (list ++ koids released) s.current
+told-covers s released list covered touched = record { each = λ y g. told y g (covered.told y g) }
   where
-    told : (y : ℕ) → IsTold s released y → among (list ++ koids released) y ≡ true
-    told y (by_list e) = among-right list (koids released) y (among-koids released y ∙ e)
-    told y (by_put e) = among-left list (koids released) y (touched (key.Object y) e).0
-    told y (by_child z e l) = among-left list (koids released) y (subst (λ u. among list u ≡ true) l (touched (key.Object z) e).1)
+    told : (y : ℕ) → goes s.current y ≡ true → IsTold s released y → among (list ++ koids released) y ≡ true
+    told y g (by_list e) = among-right list (koids released) y (among-koids released y ∙ e)
+    told y g (by_put e) = among-left list (koids released) y ((touched (key.Object y) e).0 g)
+    told y g (by_child z e l) = among-left list (koids released) y (subst (λ u. IsListedFree s.current u list) l (touched (key.Object z) e).1 g)
 
 -- ---- one look
 
@@ -140,6 +88,10 @@ pub found-held : (S : State) (x : ℕ) → not (is_supported S x) ≡ false → 
 found-held S x e =
     let stays : goes S x ≡ false = supported-stays S x (λ t. not_free (is_supported S x) e) in
     ap (λ b. if b then object S x else None) (sym stays)
+
+-- what is supported does not go
+pub held-listed : (S : State) (x : ℕ) (list : List ℕ) → not (is_supported S x) ≡ false → IsListedFree S x list
+held-listed S x list e g = absurd (true≢false (goes S x) g (supported-stays S x (λ t. not_free (is_supported S x) e)))
 
 -- what was found goes, and what was not found stays
 pub found-goes : (S : State) (x : ℕ) (o : ObjectRow) → (if goes S x then object S x else None) ≡ Some o → (goes S x ≡ true) × (object S x ≡ Some o)

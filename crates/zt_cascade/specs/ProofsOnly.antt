@@ -4,3 +4,4 @@ pub mod RemovedObject
 pub mod RowsUnderKeys
 pub mod NearObjects
 pub mod RaisedWaits
+pub mod LostObjects

@@ -4,11 +4,13 @@
 
 mod fired_waits;
 pub mod laws;
+mod lost_objects;
 mod raised_waits;
 mod removed_object;
 mod removed_rows;
 mod settled_signals;
 mod worklist;
 
+pub use lost_objects::release_lost;
 pub use settled_signals::settle;
 pub use worklist::release;

@@ -1,11 +1,15 @@
-ghost use Rattle.std.specs.Prelude.{◌≡◌, ◌⊎◌, IfOk, OnOk};
+ghost use Rattle.std.specs.Prelude.{◌≡◌, IfOk, OnOk};
+ghost use Rattle.std.specs.Option.{option_copied};
 ghost use Rattle.zt_rows.specs.Consistent.{IsConsistent};
-ghost use Rattle.zt_rows.specs.Tests.{among, signals_at};
+ghost use Rattle.zt_rows.specs.Reads.{object};
+ghost use Rattle.zt_rows.specs.State.{row};
+ghost use Rattle.zt_rows.specs.Tests.{has_all, signals_at};
 ghost use Rattle.zt_index.specs.Criteria.{is_at, is_on};
-ghost use Rattle.zt_cascade.specs.ProofsOnly.RaisedWaits.{HasMet, HasWoken, IsLonger, Lists};
+ghost use Rattle.zt_cascade.specs.ProofsOnly.RaisedWaits.{HasMet, HasWoken, HasWokenAt, IsLonger, Lists};
 
+use crate::settled_signals::object_in;
 use std::alloc::{AllocError, Global};
-use zt_rows::{HandleValue, Koid, RowKey};
+use zt_rows::{HandleValue, Koid, ObjectRow, Row, RowKey};
 use zt_store::Step;
 
 /// The numbers of waits among which are all that are met: of those that can have come to be met in this step. The step
@@ -19,21 +23,31 @@ pub(crate) fn woken(step: &Step, alloc: Global) -> Result<Vec<u64>, AllocError>
         let Some(key) = step.touched(i) else {
             return Ok(list);
         };
-        add_woken(step, key, &mut list)?;
+        add_woken(step, key, step.touched_was(i), &mut list)?;
     }
     Err(AllocError)
 }
 
 /// Adds to the list the waits that can have come to be met since the row under the key was put: the wait itself, those
-/// on an entry, and those at an object whose signals changed.
-fn add_woken(step: &Step, key: RowKey, list: &mut Vec<u64>) -> Result<(), AllocError>
+/// on an entry that was there, and those at an object that was there and on which a signal rose.
+fn add_woken(
+    step: &Step,
+    key: RowKey,
+    first: Option<&Row>,
+    list: &mut Vec<u64>,
+) -> Result<(), AllocError>
+    requires { option_copied first ≡ row step.now.beginning key }
     ensures woken { OnOk result (HasWoken step.now.beginning step.now.current key list.new.items) }
     ensures longer { OnOk result (IsLonger list.old.items list.new.items) }
 {
     match key {
         RowKey::Wait(number) => list.push(number)?,
-        RowKey::Entry(process, handle) => add_waits_on(step, process, handle, list)?,
-        RowKey::Object(koid) => add_waits_near(step, koid, list)?,
+        RowKey::Entry(process, handle) => {
+            if first.is_some() {
+                add_waits_on(step, process, handle, list)?;
+            }
+        }
+        RowKey::Object(koid) => add_waits_near(step, koid, object_in(first), list)?,
         _ => {}
     }
     Ok(())
@@ -57,17 +71,33 @@ fn add_waits_on(
     Ok(())
 }
 
-/// Adds to the list the waits at the object, if its signals changed in this step.
-fn add_waits_near(step: &Step, koid: Koid, list: &mut Vec<u64>) -> Result<(), AllocError>
-    ensures listed { OnOk result ((signals_at step.now.current koid ≡ signals_at step.now.beginning koid)
-        ⊎ Lists step.now.current (is_at step.now.current koid) list.new.items) }
+/// Adds to the list the waits at the object, if it was there when the step began and a signal stands on it that did not
+/// stand then.
+fn add_waits_near(
+    step: &Step,
+    koid: Koid,
+    first: Option<&ObjectRow>,
+    list: &mut Vec<u64>,
+) -> Result<(), AllocError>
+    requires { object step.now.beginning koid ≡ option_copied first }
+    ensures listed { OnOk result (HasWokenAt step.now.beginning step.now.current koid list.new.items) }
     ensures longer { OnOk result (IsLonger list.old.items list.new.items) }
 {
-    if signals_then(step, koid) == signals_now(step, koid) {
+    let Some(first) = first else {
+        return Ok(());
+    };
+    if has_all(first.signals.0, signals_now(step, koid)) {
         Ok(())
     } else {
         add_waits_at(step, koid, list)
     }
+}
+
+/// Whether every wanted bit is among the bits.
+fn has_all(bits: u32, wanted: u32) -> bool
+    ensures { result ≡ has_all bits wanted }
+{
+    bits & wanted == wanted
 }
 
 /// Adds to the list the waits at the object.
@@ -81,16 +111,6 @@ fn add_waits_at(step: &Step, koid: Koid, list: &mut Vec<u64>) -> Result<(), Allo
         low = Some(number);
     }
     Ok(())
-}
-
-/// The signals on the object when the step began.
-fn signals_then(step: &Step, koid: Koid) -> u32
-    ensures { result ≡ signals_at step.now.beginning koid }
-{
-    match step.object_was(koid) {
-        Some(object) => object.signals.0,
-        None => 0,
-    }
 }
 
 /// The signals on the object.

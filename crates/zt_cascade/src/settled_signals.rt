@@ -1,17 +1,21 @@
-ghost use Rattle.std.specs.Prelude.{◌≡◌, ◌++◌, [], IfOk, OnErr, OnOk};
+ghost use Rattle.std.specs.Prelude.{◌≡◌, ◌<◌, ◌^◌, true, IfOk, OnErr, OnOk, Option};
+ghost use Rattle.std.specs.Option.{option_copied};
 ghost use Rattle.zt_rows.specs.Consistent.{IsConsistent};
+ghost use Rattle.zt_rows.specs.Reads.{as_object, object};
 ghost use Rattle.zt_rows.specs.Settle.{refresh, settle};
-ghost use Rattle.zt_rows.specs.Tests.{link_at};
+ghost use Rattle.zt_rows.specs.State.{row};
+ghost use Rattle.zt_rows.specs.Tests.{among, is_task};
 ghost use Rattle.zt_store.specs.Places.{Keeps};
 ghost use Rattle.zt_store.specs.StepView.{Advanced, AsBegun, DiffersAtTouched};
 ghost use Rattle.zt_store.specs.ProofsOnly.StepView.{IsAhead};
 ghost use Rattle.zt_cascade.specs.PacketRoom.{HasRoomToFire};
-ghost use Rattle.zt_cascade.specs.ProofsOnly.NearObjects.{both, near, near_touched};
+ghost use Rattle.zt_cascade.specs.ProofsOnly.NearObjects.{StaysAlike, HasAllNear, HasItself, HasNear, HasNearObject, HasParent};
+ghost use Rattle.zt_cascade.specs.ProofsOnly.RaisedWaits.{IsLonger};
 
 use crate::fired_waits::fire_all;
-use crate::worklist::first_link;
 use std::alloc::{AllocError, Global};
-use zt_rows::{Koid, RowKey};
+use zt_bits::Kind;
+use zt_rows::{Koid, ObjectRow, Row, RowKey};
 use zt_store::Step;
 
 /// Writes the derived signals anew, and then fires the waits that are met, by rising number; a wait on an edge by what
@@ -60,54 +64,149 @@ fn renew_near(step: &mut Step) -> Result<(), AllocError>
     Ok(())
 }
 
-/// The objects near the keys that were put in this step, in the empty list. It differs from its beginning under these keys alone.
+/// The objects near the keys that were put in this step, added to the list. It differs from its beginning under these keys
+/// alone.
 fn near_touched(step: &Step, mut list: Vec<Koid>) -> Result<Vec<Koid>, AllocError>
-    requires { list.items ≡ [] }
-    ensures near { IfOk result (λ list. list.items ≡ near_touched step.now) }
+    ensures near { IfOk result (λ list. HasAllNear step.now list.items) }
     ensures differs { OnOk result (DiffersAtTouched step.now) }
 {
     for i in 0..usize::MAX {
         let Some(key) = step.touched(i) else {
             return Ok(list);
         };
-        add_near(step, key, &mut list)?;
+        add_near(step, key, step.touched_was(i), &mut list)?;
     }
     Err(AllocError)
 }
 
-/// Adds to the list the objects whose derived signals can follow from the row under the key, at the beginning of the
-/// step or now: an object with its peer or parent, and the endpoint of a message.
-fn add_near(step: &Step, key: RowKey, list: &mut Vec<Koid>) -> Result<(), AllocError>
-    ensures { OnOk result (list.new.items ≡ list.old.items ++ near step.now.beginning step.now.current key) }
+/// Adds to the list the objects whose derived signals can follow from the row under the key, which was the first one at
+/// the beginning of the step.
+fn add_near(
+    step: &Step,
+    key: RowKey,
+    first: Option<&Row>,
+    list: &mut Vec<Koid>,
+) -> Result<(), AllocError>
+    requires { option_copied first ≡ row step.now.beginning key }
+    ensures near { OnOk result (HasNear step.now.beginning step.now.current key list.new.items) }
+    ensures longer { OnOk result (IsLonger list.old.items list.new.items) }
 {
     match key {
-        RowKey::Object(koid) => {
-            list.push(koid)?;
-            add_both(list, first_link(step, koid), link(step, koid))?;
-        }
-        RowKey::Msg(endpoint, _) => list.push(endpoint)?,
-        _ => {}
+        RowKey::Object(koid) => add_near_object(step, koid, object_in(first), list),
+        RowKey::Msg(endpoint, _) => add_koid(endpoint, list),
+        _ => Ok(()),
     }
-    Ok(())
 }
 
-/// Adds both to the list, or one where they are the same.
-fn add_both(list: &mut Vec<Koid>, first: Koid, second: Koid) -> Result<(), AllocError>
-    ensures { OnOk result (list.new.items ≡ list.old.items ++ both first second) }
+/// Adds the koid to the list.
+fn add_koid(koid: Koid, list: &mut Vec<Koid>) -> Result<(), AllocError>
+    ensures listed { OnOk result (among list.new.items koid ≡ true) }
+    ensures longer { OnOk result (IsLonger list.old.items list.new.items) }
 {
-    list.push(first)?;
-    if first != second {
-        list.push(second)?;
-    }
+    list.push(koid)?;
     Ok(())
 }
 
-/// The link of the object, 0 for none.
-fn link(step: &Step, koid: Koid) -> Koid
-    ensures { result ≡ link_at step.now.current koid }
+/// The object whose row it is.
+pub(crate) fn object_in(row: Option<&Row>) -> Option<&ObjectRow>
+    ensures { option_copied result ≡ as_object (option_copied row.entry) }
+{
+    match row {
+        Some(Row::Object(object)) => Some(object),
+        _ => None,
+    }
+}
+
+/// Adds to the list the object and its parent, at the beginning and now, unless no derived signals tell its rows apart.
+fn add_near_object(
+    step: &Step,
+    koid: Koid,
+    first: Option<&ObjectRow>,
+    list: &mut Vec<Koid>,
+) -> Result<(), AllocError>
+    ensures near { OnOk result (HasNearObject step.now.current koid (option_copied first.entry) (object step.now.current koid) list.new.items) }
+    ensures longer { OnOk result (IsLonger list.old.items list.new.items) }
 {
     match step.object(koid) {
-        Some(object) => object.link,
-        None => Koid(0),
+        Some(now) => add_changed(step, koid, first, &now, list),
+        None => add_parent(first, list),
+    }
+}
+
+/// Adds to the list the object, whose row is now this one, and its parent, at the beginning and now, unless no derived
+/// signals tell its rows apart.
+fn add_changed(
+    step: &Step,
+    koid: Koid,
+    first: Option<&ObjectRow>,
+    now: &ObjectRow,
+    list: &mut Vec<Koid>,
+) -> Result<(), AllocError>
+    ensures near { OnOk result (HasNearObject step.now.current koid (option_copied first.entry) (Option.Some now.now) list.new.items) }
+    ensures longer { OnOk result (IsLonger list.old.items list.new.items) }
+{
+    if is_alike(first, now) {
+        return Ok(());
+    }
+    add_itself(step, koid, now, list)?;
+    add_parent(first, list)?;
+    add_parent(Some(now), list)
+}
+
+/// Whether the object was there, and no derived signals tell its rows apart.
+fn is_alike(first: Option<&ObjectRow>, now: &ObjectRow) -> bool
+    ensures { result ≡ true → StaysAlike (option_copied first.entry) now.now }
+{
+    match first {
+        Some(first) => {
+            first.kind == now.kind
+                && first.life == now.life
+                && first.link == now.link
+                && first.signals == now.signals
+        }
+        None => false,
+    }
+}
+
+/// Adds the object to the list, if signals of its kind follow from rows.
+fn add_itself(
+    _step: &Step,
+    koid: Koid,
+    now: &ObjectRow,
+    list: &mut Vec<Koid>,
+) -> Result<(), AllocError>
+    ensures listed { OnOk result (HasItself _step.now.current koid now.now list.new.items) }
+    ensures longer { OnOk result (IsLonger list.old.items list.new.items) }
+{
+    limits(now.signals.0);
+    match now.kind {
+        Kind::Event | Kind::Port => Ok(()),
+        _ => add_koid(koid, list),
+    }
+}
+
+/// What holds of signals: there are 32.
+fn limits(_signals: u32)
+    ensures { _signals < 2 ^ 32 }
+{}
+
+/// Adds the parent of a job or process to the list.
+fn add_parent(task: Option<&ObjectRow>, list: &mut Vec<Koid>) -> Result<(), AllocError>
+    ensures listed { OnOk result (HasParent (option_copied task.entry) list.new.items) }
+    ensures longer { OnOk result (IsLonger list.old.items list.new.items) }
+{
+    match task {
+        Some(task) if is_task(task.kind) => add_koid(task.link, list),
+        _ => Ok(()),
+    }
+}
+
+/// Whether it is a job or a process.
+fn is_task(kind: Kind) -> bool
+    ensures { result ≡ is_task kind }
+{
+    match kind {
+        Kind::Job | Kind::Process => true,
+        _ => false,
     }
 }

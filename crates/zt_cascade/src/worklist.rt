@@ -1,21 +1,24 @@
 ghost use Rattle.std.specs.Prelude.{◌≡◌, ◌≤◌, ◌+◌, ◌∷◌, ℕ, true, IfOk, OnErr, OnOk, Option, if◌then◌else◌, length, not};
+ghost use Rattle.std.specs.Option.{option_copied};
 ghost use Rattle.zt_rows.specs.declared.keys.RowKey.{RowKey};
 ghost use Rattle.zt_rows.specs.Collect.{collect, goes, without};
-ghost use Rattle.zt_rows.specs.Reads.{object};
+ghost use Rattle.zt_rows.specs.Reads.{as_object, object};
+ghost use Rattle.zt_rows.specs.State.{row};
 ghost use Rattle.zt_rows.specs.Support.{is_supported};
-ghost use Rattle.zt_rows.specs.Tests.{among, link_at};
+ghost use Rattle.zt_rows.specs.Tests.{object_link};
 ghost use Rattle.zt_store.specs.Places.{Keeps};
 ghost use Rattle.zt_store.specs.StepView.{Advanced, AsBegun, listed};
 ghost use Rattle.zt_store.specs.ProofsOnly.StepView.{IsAhead};
 ghost use Rattle.zt_store.specs.KoidSets.{only};
 ghost use Rattle.zt_cascade.specs.ToldObjects.{IsCovered};
-ghost use Rattle.zt_cascade.specs.ProofsOnly.ToldObjects.{IsListed};
+ghost use Rattle.zt_cascade.specs.ProofsOnly.ToldObjects.{IsListed, IsListedFree};
+ghost use Rattle.zt_cascade.specs.ProofsOnly.RaisedWaits.{IsLonger};
 ghost use Rattle.zt_cascade.specs.JoinedLinks.{IsJoined};
 ghost use Rattle.zt_cascade.specs.ProofsOnly.RemovedObject.{Covers, weight};
 
 use crate::removed_rows::{add_koids, take_out};
 use std::alloc::{AllocError, Global};
-use zt_rows::{Held, Koid, ObjectRow, RowKey};
+use zt_rows::{Held, Koid, ObjectRow, Row, RowKey};
 use zt_store::Step;
 
 /// Takes out all objects that nothing supports, with what they own, and what goes after them: "releasing is
@@ -60,44 +63,61 @@ fn list_all(step: &Step, list: &mut Vec<Koid>, released: &[Held]) -> Result<(), 
     Ok(())
 }
 
-/// Adds to the list the objects whose rows were put in this step, and their links at its beginning.
+/// Adds to the list what goes of the objects whose rows were put in this step, and of their links at its beginning.
 fn add_touched(step: &Step, list: &mut Vec<Koid>) -> Result<(), AllocError>
-    ensures { OnOk result ((k : RowKey) → listed step.now.touched k ≡ true → IsListed step.now.beginning k list.new.items) }
+    ensures { OnOk result ((k : RowKey) → listed step.now.touched k ≡ true → IsListed step.now.beginning step.now.current k list.new.items) }
 {
     for i in 0..usize::MAX {
         let Some(key) = step.touched(i) else {
             return Ok(());
         };
-        add_key(step, key, list)?;
+        add_key(step, key, step.touched_was(i), list)?;
     }
     Err(AllocError)
 }
 
-/// Adds to the list the object whose key it is, and its link at the beginning of the step.
-fn add_key(step: &Step, key: RowKey, list: &mut Vec<Koid>) -> Result<(), AllocError>
-    ensures listed { OnOk result (IsListed step.now.beginning key list.new.items) }
-    ensures grown { OnOk result ((y : ℕ) → among list.old.items y ≡ true → among list.new.items y ≡ true) }
+/// Adds to the list the object whose key it is, and its link at the beginning of the step, if they go. The first row is
+/// the one of the beginning.
+fn add_key(
+    step: &Step,
+    key: RowKey,
+    first: Option<&Row>,
+    list: &mut Vec<Koid>,
+) -> Result<(), AllocError>
+    requires { option_copied first ≡ row step.now.beginning key }
+    ensures listed { OnOk result (IsListed step.now.beginning step.now.current key list.new.items) }
+    ensures grown { OnOk result (IsLonger list.old.items list.new.items) }
 {
     let RowKey::Object(koid) = key else {
         return Ok(());
     };
-    list.push(koid)?;
-    list.push(first_link(step, koid))?;
+    add_free(step, koid, list)?;
+    add_free(step, link_in(first), list)
+}
+
+/// Adds the object to the list, if it goes.
+pub(crate) fn add_free(step: &Step, koid: Koid, list: &mut Vec<Koid>) -> Result<(), AllocError>
+    ensures listed { OnOk result (IsListedFree step.now.current koid list.new.items) }
+    ensures grown { OnOk result (IsLonger list.old.items list.new.items) }
+{
+    if is_free(step, koid) {
+        list.push(koid)?;
+    }
     Ok(())
 }
 
-/// The link of the object at the beginning of the step, 0 for none.
-pub(crate) fn first_link(step: &Step, koid: Koid) -> Koid
-    ensures { result ≡ link_at step.now.beginning koid }
+/// The link of the object whose row it is, 0 for none.
+fn link_in(row: Option<&Row>) -> Koid
+    ensures { result ≡ object_link (as_object (option_copied row.entry)) }
 {
-    match step.object_was(koid) {
-        Some(object) => object.link,
-        None => Koid(0),
+    match row {
+        Some(Row::Object(object)) => object.link,
+        _ => Koid(0),
     }
 }
 
 /// Takes out the objects of the list that nothing supports, and what goes after them, until nothing goes.
-fn follow(step: &mut Step, list: &mut Vec<Koid>) -> Result<(), AllocError>
+pub(crate) fn follow(step: &mut Step, list: &mut Vec<Koid>) -> Result<(), AllocError>
     requires joined { IsJoined step.old.current }
     requires covered { Covers list.old.items step.old.current }
     ensures ahead { IsAhead step.old step.new }

@@ -1,24 +1,48 @@
--- The objects whose derived signals can follow from a row: where a step changed rows, only these can have other
--- derived signals than before. This project's own form. Used by proofs only.
-use Rattle.std.specs.Prelude.{ℕ, ◌==◌, if◌then◌else◌, List, [], ◌∷◌}
-use Rattle.std.specs.List.{flat_map}
+-- The objects whose derived signals can follow from a row that a step put: where a step changed rows, only these can have
+-- other derived signals than the rows give. This project's own form. Used by proofs only.
+use Rattle.std.specs.Prelude.{◌≡◌, ◌⊎◌, ⊤, ℕ, true, List, Option, None, Some}
 use Rattle.zt_rows.specs.declared.keys.RowKey.{RowKey}
 use Rattle.zt_rows.specs.declared.keys.RowKey.TheVariants as key
+use Rattle.zt_rows.specs.declared.rows.ObjectRow.{ObjectRow}
 use Rattle.zt_rows.specs.State.{State}
-use Rattle.zt_rows.specs.Tests.{link_at}
-use Rattle.zt_store.specs.StepView.{Stepping}
+use Rattle.zt_rows.specs.Reads.{object}
+use Rattle.zt_rows.specs.Settle.{renewed}
+use Rattle.zt_rows.specs.Tests.{among, is_task}
+use Rattle.zt_store.specs.StepView.{Stepping, listed}
 
--- both, or one where they are the same
-abbrev pub both : ℕ → ℕ → List ℕ
-both y z = if y == z then y ∷ [] else y ∷ z ∷ []
+-- two rows of an object that no derived signals tell apart
+pub record AreAlike (o p : ObjectRow) : Type 0 where
+  pub kind : p.kind ≡ o.kind
+  pub life : p.life ≡ o.life
+  pub link : p.link ≡ o.link
+  pub signals : p.signals.0 ≡ o.signals.0
 
--- for a row that was in B and is in T as it may be: the object itself with its peer or parent then and now, and the
--- endpoint of a message
-abbrev pub near : State → State → RowKey → List ℕ
-near B T (key.Object x) = x ∷ both (link_at B x) (link_at T x)
-near B T (key.Msg e n) = e ∷ []
-near B T _ = []
+-- the object was there, and its rows then and now are alike
+abbrev pub StaysAlike : Option ObjectRow → ObjectRow → Type 0
+StaysAlike (Some o) p = AreAlike o p
+StaysAlike None p = ⊥
 
--- near the keys that were put in the step, in their order
-abbrev pub near_touched : Stepping → List ℕ
-near_touched s = flat_map (near s.beginning s.current) s.touched
+-- its signals follow from no row, or it is in the list
+abbrev pub HasItself : State → ℕ → ObjectRow → List ℕ → Type 0
+HasItself T x p list = (renewed T x p ≡ p.signals.0) ⊎ (among list x ≡ true)
+
+-- the parent of a job or process is in the list
+abbrev pub HasParent : Option ObjectRow → List ℕ → Type 0
+HasParent (Some o) list = is_task o.kind ≡ true → among list o.link ≡ true
+HasParent None list = ⊤
+
+-- the object with its parent then and now is in the list, unless its rows are alike
+abbrev pub HasNearObject : State → ℕ → Option ObjectRow → Option ObjectRow → List ℕ → Type 0
+HasNearObject T x then (Some p) list = StaysAlike then p ⊎ (HasItself T x p list × HasParent then list × HasParent (Some p) list)
+HasNearObject T x then None list = HasParent then list
+
+-- for a row that was in B and is in T as it may be, the objects near it are in the list: an object with its parent then
+-- and now, and the endpoint of a message
+abbrev pub HasNear : State → State → RowKey → List ℕ → Type 0
+HasNear B T (key.Object x) list = HasNearObject T x (object B x) (object T x) list
+HasNear B T (key.Msg e n) list = among list e ≡ true
+HasNear B T _ list = ⊤
+
+-- what is near the keys that were put in the step
+abbrev pub HasAllNear : Stepping → List ℕ → Type 0
+HasAllNear s list = (k : RowKey) → listed s.touched k ≡ true → HasNear s.beginning s.current k list

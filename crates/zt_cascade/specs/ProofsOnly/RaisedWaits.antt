@@ -1,25 +1,29 @@
 -- Waits that can have come to be met in a step: those made in it, those on entries that it changed, and those at
--- objects whose signals changed; and firing them by number. This project's own form. Used by proofs only.
+-- objects on which a signal rose; and firing them by number. This project's own form. Used by proofs only.
 use Rattle.std.specs.Prelude.{◌≡◌, ◌⊎◌, ⊤, ◌<◌, ◌+◌, ◌^◌, ℕ, Bool, true, List, Option, None, Some}
 use Rattle.zt_rows.specs.declared.keys.RowKey.{RowKey}
 use Rattle.zt_rows.specs.declared.keys.RowKey.TheVariants as key
 use Rattle.zt_rows.specs.declared.rows.Wait.{Wait}
 use Rattle.zt_rows.specs.State.{State}
-use Rattle.zt_rows.specs.Reads.{wait}
+use Rattle.zt_rows.specs.Reads.{entry, object, wait}
 use Rattle.zt_rows.specs.Settle.{fire, is_met}
-use Rattle.zt_rows.specs.Tests.{among, next_at, signals_at}
+use Rattle.zt_rows.specs.Tests.{among, has_all, next_at, signals_at}
 use Rattle.zt_index.specs.Criteria.{is_at, is_on, waits_where}
 
 -- each wait that passes is in the list
 abbrev pub Lists : State → (Wait → Bool) → List ℕ → Type 0
 Lists S test list = (n : ℕ) → waits_where S test n ≡ true → among list n ≡ true
 
+-- the waits at an object that was there are in the list, unless no signal rose on it
+abbrev pub HasWokenAt : State → State → ℕ → List ℕ → Type 0
+HasWokenAt B T x list = (object B x ≡ None) ⊎ ((has_all (signals_at B x) (signals_at T x) ≡ true) ⊎ Lists T (is_at T x) list)
+
 -- for a row that was in B and is in T as it may be, the waits that it can have woken are in the list: the wait itself,
--- those on an entry, and those at an object with other signals than before
+-- those on an entry that was there, and those at an object that was there, unless no signal rose on it
 abbrev pub HasWoken : State → State → RowKey → List ℕ → Type 0
 HasWoken B T (key.Wait n) list = among list n ≡ true
-HasWoken B T (key.Entry p h) list = Lists T (is_on p h) list
-HasWoken B T (key.Object x) list = (signals_at T x ≡ signals_at B x) ⊎ Lists T (is_at T x) list
+HasWoken B T (key.Entry p h) list = (entry B p h ≡ None) ⊎ Lists T (is_on p h) list
+HasWoken B T (key.Object x) list = HasWokenAt B T x list
 HasWoken B T _ list = ⊤
 
 -- each wait that is met in T, after B, is in the list

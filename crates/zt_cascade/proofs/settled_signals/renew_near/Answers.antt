@@ -2,7 +2,7 @@ use Rattle.std.proofs.Common.{◌≤◌, length, ap, subst, ◌∙◌, arith}
 use Rattle.std.specs.List.{fold}
 use Rattle.zt_signals.specs.ObjectSignals.{refreshed_object}
 use Rattle.zt_store.specs.StepView.{DiffersAtTouched}
-use Rattle.zt_cascade.specs.ProofsOnly.NearObjects.{near_touched}
+use Rattle.zt_cascade.specs.ProofsOnly.NearObjects.{HasAllNear}
 use Rattle.zt_cascade.proofs.ListLaws.{fold-all}
 use Rattle.zt_cascade.proofs.NearLaws.{refresh-near}
 use Rattle.zt_cascade.proofs.settled_signals.renew_near.Goals as goal
@@ -14,6 +14,6 @@ returns-clause-ok c =
     ap (λ t. t.current) c.keep_koids.ensures
     ∙ c.loop-koid.invariant.current
     ∙ fold-all refreshed_object s.current c.deref-koid-items.result.now c.loop-koid.koid-index past
-    ∙ ap (fold refreshed_object s.current) (c.deref-koid-items.ensures.value ∙ c.in_ok-near.ensures.near)
-    ∙ ap (λ t. fold refreshed_object s.current (near_touched t)) c.take_koids-list.ensures.same
-    ∙ refresh-near s c.requires (subst DiffersAtTouched c.take_koids-list.ensures.same c.in_ok-near.ensures.differs)
+    ∙ ap (fold refreshed_object s.current) c.deref-koid-items.ensures.value
+    ∙ refresh-near s c.in_ok-near.near.items c.requires (subst DiffersAtTouched c.take_koids-list.ensures.same c.in_ok-near.ensures.differs)
+    (subst (λ t. HasAllNear t c.in_ok-near.near.items) c.take_koids-list.ensures.same c.in_ok-near.ensures.near)

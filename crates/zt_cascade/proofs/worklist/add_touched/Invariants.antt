@@ -1,5 +1,6 @@
-use Rattle.zt_cascade.proofs.ReleasingLaws.{ListsTouched}
+use Rattle.zt_cascade.specs.ProofsOnly.ToldObjects.{IsListed}
+use Rattle.zt_cascade.proofs.TouchedLaws.{HoldsSoFar}
 use Rattle.zt_cascade.proofs.worklist.add_touched.Given as goal
 
 abbrev pub invariant-loop-i : goal.invariant-loop-i
-invariant-loop-i l = ListsTouched l.i l.step.touched l.step.beginning l.list.items
+invariant-loop-i l = HoldsSoFar (IsListed l.step.beginning l.step.current) l.step.touched l.i l.list.items
