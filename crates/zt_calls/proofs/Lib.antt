@@ -2,7 +2,6 @@ pub mod ListLemmas
 pub mod GoingOn
 pub mod CallerLaws
 pub mod RoomLaws
-pub mod LosingLaws
 pub mod TakingLaws
 pub mod CallLaws
 pub mod ReceivingLaws

@@ -1,7 +1,6 @@
 -- Used by proofs only: no public clause depends on them.
 pub mod WantedKinds
 pub mod CallOutcomes
-pub mod LostObjects
 pub mod SentMessage
 pub mod ReceivedMessage
 pub mod NewTasks

@@ -12,13 +12,12 @@ use crate::channel_calls::{channel_create, channel_read, channel_write};
 use crate::failure::Failure;
 use crate::handle_calls::{handle_close, handle_duplicate, handle_replace};
 use crate::job_calls::{job_create, job_set_critical, process_exit, spawn, task_kill};
-use crate::lost_objects::lost;
 use crate::object_calls::{event_create, eventpair_create, object_signal, object_signal_peer};
 use crate::port_calls::{object_wait_async, port_cancel, port_create, port_queue, port_wait};
 use std::alloc::{AllocError, Global};
 use std::mem;
 use zt_bits::Kind;
-use zt_cascade::{release, settle};
+use zt_cascade::{release_lost, settle};
 use zt_rows::{Call, Koid, Life, Refusal, Reply};
 use zt_store::{Record, Step, Store};
 
@@ -116,8 +115,7 @@ fn carried_out(
     ensures kept { Keeps step.old.places step.new.places }
 {
     let reply = direct(alloc, step, process, call)?;
-    let released = lost(alloc, step)?;
-    release(step, alloc, released)?;
+    release_lost(step)?;
     settle(step, alloc)?;
     Ok(reply)
 }

@@ -7,7 +7,6 @@ mod failure;
 mod handle_arguments;
 mod handle_calls;
 mod job_calls;
-mod lost_objects;
 mod new_objects;
 mod object_calls;
 mod port_calls;

@@ -129,26 +129,26 @@ module _ (s : Stepping) (list : List ℕ) (all : HasAllNear s list) (differs : D
   child-then : (y : ℕ) (o : ObjectRow) → row s.beginning (key.Object y) ≡ Some (rows.Object o) → is_task o.kind ≡ true → o.link ≡ x → HasAlike s.current y o
   child-then y o h task e = by (listed s.touched (key.Object y)) refl
     where
-      near : (now : Option ObjectRow) → object s.current y ≡ now → HasNearObject s.current y (Some o) now list → HasAlike s.current y o
+      near : (now : Option ObjectRow) → object s.current y ≡ now → HasNearObject y (Some o) now list → HasAlike s.current y o
       near (Some p) is (inl alike) = (p, object-row s.current y p is, alike.kind, alike.life, alike.link)
       near (Some p) is (inr lists) = not-listed o.link e (lists.1 task)
       near None is parent = not-listed o.link e (parent task)
 
       by : (b : Bool) → listed s.touched (key.Object y) ≡ b → HasAlike s.current y o
       by false t = (o, differs (key.Object y) t ∙ h, refl, refl, refl)
-      by true t = near (object s.current y) refl (subst (λ then. HasNearObject s.current y then (object s.current y) list) (ap as_object h) (all (key.Object y) t))
+      by true t = near (object s.current y) refl (subst (λ then. HasNearObject y then (object s.current y) list) (ap as_object h) (all (key.Object y) t))
 
   child-now : (y : ℕ) (o : ObjectRow) → row s.current (key.Object y) ≡ Some (rows.Object o) → is_task o.kind ≡ true → o.link ≡ x → HasAlike s.beginning y o
   child-now y o h task e = by (listed s.touched (key.Object y)) refl
     where
-      near : (then : Option ObjectRow) → object s.beginning y ≡ then → HasNearObject s.current y then (Some o) list → HasAlike s.beginning y o
+      near : (then : Option ObjectRow) → object s.beginning y ≡ then → HasNearObject y then (Some o) list → HasAlike s.beginning y o
       near (Some p) is (inl alike) = (p, object-row s.beginning y p is, sym alike.kind, sym alike.life, sym alike.link)
       near None is (inl alike) = absurd alike
       near then is (inr lists) = not-listed o.link e (lists.2 task)
 
       by : (b : Bool) → listed s.touched (key.Object y) ≡ b → HasAlike s.beginning y o
       by false t = (o, sym (differs (key.Object y) t) ∙ h, refl, refl, refl)
-      by true t = near (object s.beginning y) refl (subst (λ now. HasNearObject s.current y (object s.beginning y) now list) (ap as_object h) (all (key.Object y) t))
+      by true t = near (object s.beginning y) refl (subst (λ now. HasNearObject y (object s.beginning y) now list) (ap as_object h) (all (key.Object y) t))
 
   job-then : (k : RowKey) (r : Row) → row s.beginning k ≡ Some r → is_child_job_of x k r ≡ true → Passes (is_child_job_of x) s.current k
   job-then (key.Object y) (rows.Object o) h t = passes-job s.current x y o t (child-then y o h (job-task o (and_left (is_live_job o) _ t)) (eqb-true o.link x (and_right (is_live_job o) _ t)))
@@ -179,14 +179,14 @@ module _ (s : Stepping) (list : List ℕ) (all : HasAllNear s list) (differs : D
   pub agrees-far : IsConsistent s.beginning → (o : ObjectRow) → object s.current x ≡ Some o → renewed s.current x o ≡ o.signals.0
   agrees-far began o h = by (listed s.touched (key.Object x)) refl
     where
-      near : (then : Option ObjectRow) → object s.beginning x ≡ then → HasNearObject s.current x then (Some o) list → renewed s.current x o ≡ o.signals.0
+      near : (then : Option ObjectRow) → object s.beginning x ≡ then → HasNearObject x then (Some o) list → renewed s.current x o ≡ o.signals.0
       near (Some p) is (inl alike) = renewed-far o ∙ renewed-rows s.beginning x p o alike ∙ began.agrees x p is ∙ sym alike.signals
       near None is (inl alike) = absurd alike
-      near then is (inr lists) = elim lists.0 [ inl quiet ↦ quiet | inr t ↦ not-listed x refl t ]
+      near then is (inr lists) = elim lists.0 [ inl quiet ↦ quiet s.current | inr t ↦ not-listed x refl t ]
 
       by : (b : Bool) → listed s.touched (key.Object x) ≡ b → renewed s.current x o ≡ o.signals.0
       by false t = renewed-far o ∙ began.agrees x o (ap as_object (sym (differs (key.Object x) t)) ∙ h)
-      by true t = near (object s.beginning x) refl (subst (λ now. HasNearObject s.current x (object s.beginning x) now list) h (all (key.Object x) t))
+      by true t = near (object s.beginning x) refl (subst (λ now. HasNearObject x (object s.beginning x) now list) h (all (key.Object x) t))
 
   row-far : IsConsistent s.beginning → (r : Option Row) → row s.current (key.Object x) ≡ r → option_and_then (refreshed s.current (key.Object x)) r ≡ r
   row-far began (Some (rows.Object o)) h = ap (λ n. Some (rows.Object (record o { signals = record { 0 = n } }))) (agrees-far began o (ap as_object h))
@@ -203,14 +203,14 @@ parent-longer : (o : Option ObjectRow) (list later : List ℕ) → IsLonger list
 parent-longer (Some o) list later longer h = λ task. longer o.link (h task)
 parent-longer None list later longer h = tt
 
-near_object-longer : (T : State) (x : ℕ) (then now : Option ObjectRow) (list later : List ℕ) → IsLonger list later → HasNearObject T x then now list → HasNearObject T x then now later
-near_object-longer T x then (Some p) list later longer (inl alike) = inl alike
-near_object-longer T x then (Some p) list later longer (inr h) =
+near_object-longer : (x : ℕ) (then now : Option ObjectRow) (list later : List ℕ) → IsLonger list later → HasNearObject x then now list → HasNearObject x then now later
+near_object-longer x then (Some p) list later longer (inl alike) = inl alike
+near_object-longer x then (Some p) list later longer (inr h) =
     inr (elim h.0 [ inl quiet ↦ inl quiet | inr t ↦ inr (longer x t) ], parent-longer then list later longer h.1, parent-longer (Some p) list later longer h.2)
-near_object-longer T x then None list later longer h = parent-longer then list later longer h
+near_object-longer x then None list later longer h = parent-longer then list later longer h
 
 pub near-longer : (B T : State) → LastsLonger (HasNear B T)
-near-longer B T (key.Object x) list later longer h = near_object-longer T x (object B x) (object T x) list later longer h
+near-longer B T (key.Object x) list later longer h = near_object-longer x (object B x) (object T x) list later longer h
 near-longer B T (key.Msg e n) list later longer h = longer e h
 near-longer B T key.Counters list later longer h = tt
 near-longer B T (key.Entry p g) list later longer h = tt

@@ -124,11 +124,11 @@ fn add_near_object(
     first: Option<&ObjectRow>,
     list: &mut Vec<Koid>,
 ) -> Result<(), AllocError>
-    ensures near { OnOk result (HasNearObject step.now.current koid (option_copied first.entry) (object step.now.current koid) list.new.items) }
+    ensures near { OnOk result (HasNearObject koid (option_copied first.entry) (object step.now.current koid) list.new.items) }
     ensures longer { OnOk result (IsLonger list.old.items list.new.items) }
 {
     match step.object(koid) {
-        Some(now) => add_changed(step, koid, first, &now, list),
+        Some(now) => add_changed(koid, first, &now, list),
         None => add_parent(first, list),
     }
 }
@@ -136,19 +136,18 @@ fn add_near_object(
 /// Adds to the list the object, whose row is now this one, and its parent, at the beginning and now, unless no derived
 /// signals tell its rows apart.
 fn add_changed(
-    step: &Step,
     koid: Koid,
     first: Option<&ObjectRow>,
     now: &ObjectRow,
     list: &mut Vec<Koid>,
 ) -> Result<(), AllocError>
-    ensures near { OnOk result (HasNearObject step.now.current koid (option_copied first.entry) (Option.Some now.now) list.new.items) }
+    ensures near { OnOk result (HasNearObject koid (option_copied first.entry) (Option.Some now.now) list.new.items) }
     ensures longer { OnOk result (IsLonger list.old.items list.new.items) }
 {
     if is_alike(first, now) {
         return Ok(());
     }
-    add_itself(step, koid, now, list)?;
+    add_itself(koid, now, list)?;
     add_parent(first, list)?;
     add_parent(Some(now), list)
 }
@@ -169,13 +168,8 @@ fn is_alike(first: Option<&ObjectRow>, now: &ObjectRow) -> bool
 }
 
 /// Adds the object to the list, if signals of its kind follow from rows.
-fn add_itself(
-    _step: &Step,
-    koid: Koid,
-    now: &ObjectRow,
-    list: &mut Vec<Koid>,
-) -> Result<(), AllocError>
-    ensures listed { OnOk result (HasItself _step.now.current koid now.now list.new.items) }
+fn add_itself(koid: Koid, now: &ObjectRow, list: &mut Vec<Koid>) -> Result<(), AllocError>
+    ensures listed { OnOk result (HasItself koid now.now list.new.items) }
     ensures longer { OnOk result (IsLonger list.old.items list.new.items) }
 {
     limits(now.signals.0);

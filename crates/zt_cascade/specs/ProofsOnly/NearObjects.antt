@@ -23,8 +23,8 @@ StaysAlike (Some o) p = AreAlike o p
 StaysAlike None p = ⊥
 
 -- its signals follow from no row, or it is in the list
-abbrev pub HasItself : State → ℕ → ObjectRow → List ℕ → Type 0
-HasItself T x p list = (renewed T x p ≡ p.signals.0) ⊎ (among list x ≡ true)
+abbrev pub HasItself : ℕ → ObjectRow → List ℕ → Type 0
+HasItself x p list = ((S : State) → renewed S x p ≡ p.signals.0) ⊎ (among list x ≡ true)
 
 -- the parent of a job or process is in the list
 abbrev pub HasParent : Option ObjectRow → List ℕ → Type 0
@@ -32,14 +32,14 @@ HasParent (Some o) list = is_task o.kind ≡ true → among list o.link ≡ true
 HasParent None list = ⊤
 
 -- the object with its parent then and now is in the list, unless its rows are alike
-abbrev pub HasNearObject : State → ℕ → Option ObjectRow → Option ObjectRow → List ℕ → Type 0
-HasNearObject T x then (Some p) list = StaysAlike then p ⊎ (HasItself T x p list × HasParent then list × HasParent (Some p) list)
-HasNearObject T x then None list = HasParent then list
+abbrev pub HasNearObject : ℕ → Option ObjectRow → Option ObjectRow → List ℕ → Type 0
+HasNearObject x then (Some p) list = StaysAlike then p ⊎ (HasItself x p list × HasParent then list × HasParent (Some p) list)
+HasNearObject x then None list = HasParent then list
 
 -- for a row that was in B and is in T as it may be, the objects near it are in the list: an object with its parent then
 -- and now, and the endpoint of a message
 abbrev pub HasNear : State → State → RowKey → List ℕ → Type 0
-HasNear B T (key.Object x) list = HasNearObject T x (object B x) (object T x) list
+HasNear B T (key.Object x) list = HasNearObject x (object B x) (object T x) list
 HasNear B T (key.Msg e n) list = among list e ≡ true
 HasNear B T _ list = ⊤
 
