@@ -1,6 +1,7 @@
 //! Workloads over a history: `calls` makes COUNT mixed calls, `moves` goes over all of them, back to the opening and
-//! forth again, and `turns` makes 1,000 moves of ten moments at their end. Behind so many calls `made` asks 4,000 times
-//! when an object was made, and `ended`, `peer_closed` and `leaked` ask likewise. `leaks` asks what is leaked among COUNT
+//! forth again, and `turns` makes 1,000 moves of ten moments at their end. Behind so many calls `made` asks when each of
+//! 250 objects was made, and `ended`, `peer_closed` and `leaked` ask likewise: once untimed and then in turn again, of few enough
+//! objects that what is looked at stays in the caches however long the history is. `leaks` asks what is leaked among COUNT
 //! objects. `edges` changes an event 10,000 times beside another at which COUNT waits on edges are, whose signal stands.
 //! `critical` ends COUNT processes, with the jobs that they are under, by the kill of the one that is critical to the job
 //! above all of them, and goes back over it. `own_job` makes COUNT processes under the caller's own job, each with an
@@ -151,11 +152,43 @@ fn time_behind_calls(
     if !makes_mixed(alloc, history, count) {
         return None;
     }
+    match happening(workload) {
+        Some(what) => time_of_questions(rt, alloc, history, what),
+        None => time_of_moves(rt, history, workload, count),
+    }
+}
+
+/// How often each question is asked.
+const ROUNDS: u32 = 64;
+
+/// The time of one question, where each was asked before.
+fn time_of_questions(
+    rt: &impl Clock,
+    alloc: Global,
+    history: &History,
+    what: Happening,
+) -> Option<u128> {
+    questions(alloc, history, what)?;
+    let start = Instant::now(rt).ok()?;
+    let mut asked: u32 = 0;
+    for _ in 0..ROUNDS {
+        asked = asked.saturating_add(questions(alloc, history, what)?);
+    }
+    time_since(rt, start, asked)
+}
+
+/// The time of one moment gone over, or of one move.
+fn time_of_moves(
+    rt: &impl Clock,
+    history: &mut History,
+    workload: &str,
+    count: u32,
+) -> Option<u128> {
     let start = Instant::now(rt).ok()?;
     let steps = match workload {
         "moves" => moved_over(history, count)?,
         "turns" => turned(history, count)?,
-        other => questions(alloc, history, happening(other)?)?,
+        _ => return None,
     };
     time_since(rt, start, steps)
 }

@@ -7,7 +7,7 @@ use zt_queries::{ended, leaked_since, leaks_at, made, peer_closed};
 use zt_rows::{Happening, Koid, Moment, Refusal};
 
 /// How many questions there are.
-const QUESTIONS: u32 = 4_000;
+const QUESTIONS: u32 = 250;
 
 /// When it happened to the object.
 fn when(
