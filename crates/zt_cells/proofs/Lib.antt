@@ -1,4 +1,6 @@
+pub mod PlaceLaws
 pub mod GridLaws
 pub mod RowTableLaws
 pub mod LookLaws
 pub mod CellsLaws
+pub mod AlikeLaws

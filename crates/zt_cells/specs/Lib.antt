@@ -2,5 +2,6 @@
 pub mod TableSizes
 pub mod CellsView
 pub mod FirstNumber
+pub mod AlikeObjects
 -- Used by proofs only: no public clause depends on them.
 pub mod ProofsOnly

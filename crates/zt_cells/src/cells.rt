@@ -1,4 +1,4 @@
-ghost use Rattle.std.specs.Prelude.{◌≡◌, ◌≤◌, ◌+◌, ◌^◌, ℕ, true, length, IfOk, OnOk, Option, None};
+ghost use Rattle.std.specs.Prelude.{◌≡◌, ◌≤◌, ◌+◌, ◌^◌, ℕ, true, false, length, IfOk, IsTrue, OnOk, Option, None};
 ghost use Rattle.std.specs.Option.{option_copied};
 ghost use Rattle.zt_rows.specs.declared.keys.RowKey.{RowKey};
 ghost use Rattle.zt_rows.specs.declared.keys.RowKey.TheVariants as key_variant;
@@ -6,11 +6,14 @@ ghost use Rattle.zt_rows.specs.Opening.{hollow};
 ghost use Rattle.zt_rows.specs.Reads.{counters, entry, message, object, packet, wait};
 ghost use Rattle.zt_rows.specs.Room.{SuitsKey};
 ghost use Rattle.zt_rows.specs.State.{row, put};
+ghost use Rattle.zt_cells.specs.AlikeObjects.{AlikeExchanged};
 ghost use Rattle.zt_cells.specs.TableSizes.{objects_after, waits_after, has_place, no_sizes};
 ghost use Rattle.zt_cells.specs.CellsView.{CellsView};
 ghost use Rattle.zt_cells.specs.FirstNumber.{IsFirst};
 
+mod alike_objects;
 mod handle_tables;
+mod place;
 mod row_tables;
 mod table;
 mod tables_by_owner;
@@ -166,7 +169,7 @@ impl Cells {
     }
 
     /// Makes the place of the key, and those below it in its table. Each table that grows asks once for all that it
-    /// needs; beyond 2^48 places, and for owners from 2^48 on, it is refused.
+    /// needs; beyond 2^48 places, beyond 2^32 - 1 places of one table, and for owners from 2^48 on, it is refused.
     pub fn make_place(&mut self, key: RowKey) -> Result<(), AllocError>
         ensures state { self.new.state ≡ self.old.state }
         ensures kept { (k : RowKey) → has_place self.old.sizes k ≡ true → has_place self.new.sizes k ≡ true }
@@ -197,6 +200,17 @@ impl Cells {
         ensures was { kept.new ≡ row self.old.state key }
     {
         self.tables.exchange(key, kept);
+    }
+
+    /// Exchanges the object with the one of this koid, if there is one of the same kind, life and link, and says whether there
+    /// is; else nothing changes. It takes no memory.
+    #[inline(always)]
+    pub fn exchange_alike(&mut self, koid: Koid, object: &mut ObjectRow) -> bool
+        requires { has_place self.old.sizes (key_variant.Object koid) ≡ true }
+        ensures done { IsTrue result → AlikeExchanged self.old self.new koid object.old object.new }
+        ensures same { result ≡ false → (self.new ≡ self.old) × (object.new ≡ object.old) }
+    {
+        self.tables.exchange_alike(koid, object)
     }
 
     /// Equal cells in memory of their own, with the same places.

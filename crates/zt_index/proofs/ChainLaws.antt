@@ -4,7 +4,7 @@ use Rattle.std.proofs.Common.{take_all, ◌≡◌, ◌<◌, ◌≤◌, ◌-◌, 
 use Rattle.std.specs.Prelude.{IfSome, if◌then◌else◌}
 use Rattle.std.specs.Option.{is_some, option_eq}
 use Rattle.std.proofs.lemmas.Bool.{cases_lt, eqb-true, eq-eqb}
-use Rattle.std.proofs.lemmas.List.{length-map, get_or_past, map-set, set-get_or}
+use Rattle.std.proofs.lemmas.List.{length-map, get_or_past, get_or_read, map-set, set-get_or}
 use Rattle.zt_index.specs.declared.chains.BucketLink.{BucketLink}
 use Rattle.zt_index.specs.declared.chains.BucketEnds.{BucketEnds}
 use Rattle.zt_index.specs.Chains.{IsBehind, IsShortOf, IsNext, bucket_at}
@@ -244,6 +244,21 @@ bucket-link [] n = refl
 bucket-link (x ∷ xs) zero = refl
 bucket-link (x ∷ xs) (suc n) = bucket-link xs n
 
+-- what was read at n is the link of n
+link-read : (links : List BucketLink) (n : ℕ) (x : BucketLink) → n < length links → x ≡ get_or links n x → get_or links n no_link ≡ x
+link-read links n x lt is = sym (get_or_read links n x lt is no_link)
+
+-- the bucket that was read is that of the item, and so are the items beside it
+
+pub bucket-read : (links : List BucketLink) (n : ℕ) (x : BucketLink) (bucket : Option ℕ) → n < length links → x ≡ get_or links n x → bucket ≡ x.bucket → bucket_at (buckets links) n ≡ bucket
+bucket-read links n x bucket lt is read = bucket-link links n ∙ ap (λ (y : BucketLink). y.bucket) (link-read links n x lt is) ∙ sym read
+
+pub before-read : (links : List BucketLink) (n : ℕ) (x : BucketLink) (before : Option ℕ) → n < length links → x ≡ get_or links n x → before ≡ x.before → before ≡ (get_or links n no_link).before
+before-read links n x before lt is read = read ∙ sym (ap (λ (y : BucketLink). y.before) (link-read links n x lt is))
+
+pub next-read : (links : List BucketLink) (n : ℕ) (x : BucketLink) (next : Option ℕ) → n < length links → x ≡ get_or links n x → next ≡ x.next → next ≡ (get_or links n no_link).next
+next-read links n x next lt is read = read ∙ sym (ap (λ (y : BucketLink). y.next) (link-read links n x lt is))
+
 pub in-own : (all : List (Option ℕ)) (n b : ℕ) → bucket_at all n ≡ Some b → is_in all b n ≡ true
 in-own all n b at = ap (is_bucket b) at ∙ own-bucket b
 
@@ -266,9 +281,9 @@ told-same None (Some n) h = cc
 told-same (Some m) None h = cc
 told-same (Some m) (Some n) h = ap (λ x. Some x) (eqb-true m n h)
 
-pub stays : (links : List BucketLink) (n : ℕ) (bucket : Option ℕ) → option_eq (λ x y. x == y) (get_or links n no_link).bucket bucket ≡ true → buckets links ≡ set (buckets links) n bucket
-stays links n bucket told =
-    let at : bucket_at (buckets links) n ≡ bucket = bucket-link links n ∙ told-same (get_or links n no_link).bucket bucket told in
+pub stays : (links : List BucketLink) (n : ℕ) (read bucket : Option ℕ) → bucket_at (buckets links) n ≡ read → option_eq (λ x y. x == y) read bucket ≡ true → buckets links ≡ set (buckets links) n bucket
+stays links n read bucket is told =
+    let at : bucket_at (buckets links) n ≡ bucket = is ∙ told-same read bucket told in
     sym (ap (set (buckets links) n) (sym at) ∙ set-get_or (buckets links) n None)
 
 -- ---- more items, and more ends

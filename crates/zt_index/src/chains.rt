@@ -3,40 +3,56 @@ ghost use Rattle.zt_index.specs.Chains.{IsBehind, IsNext, IsShortOf, bucket_at};
 ghost use Rattle.zt_index.specs.ProofsOnly.Chains.{IsAtOrBelow, IsBesides, IsChained, IsItemOf, IsPrevious, before_of, buckets, is_in, is_slot, next_of, no_ends, no_link};
 ghost use Rattle.zt_index.specs.declared.chains.BucketEnds.{BucketEnds};
 
+use crate::optional_number::OptionalNumber;
 use std::alloc::{AllocError, Global};
 use std::marker::Model;
 
 /// How many buckets there are. A history has at most 2^20 moments, so that few items share a bucket by chance.
 pub(crate) const BUCKETS: usize = 1 << 14;
 
+/// How many items there are at most, so that the greatest of them is a number that a link can hold.
+pub(crate) const MOST_ITEMS: u64 = u32::MAX as u64;
+
 /// Where an item stands: its bucket, and the items of this bucket beside it. Where it is in no bucket, those beside which it
 /// stood: a hint of where it goes when it is put back, of which nothing is promised.
 #[derive(Clone, Copy, Debug)]
 pub(crate) struct BucketLink {
-    pub bucket: Option<u64>,
-    pub before: Option<u64>,
-    pub next: Option<u64>,
+    pub bucket: OptionalNumber,
+    pub before: OptionalNumber,
+    pub next: OptionalNumber,
 }
 
 /// The least and the greatest item of a bucket.
 #[derive(Clone, Copy, Debug)]
 pub(crate) struct BucketEnds {
-    pub first: Option<u64>,
-    pub last: Option<u64>,
+    pub first: OptionalNumber,
+    pub last: OptionalNumber,
 }
 
-/// An item that was in no bucket yet.
-const NO_LINK: BucketLink = BucketLink {
-    bucket: None,
-    before: None,
-    next: None,
-};
+impl BucketLink {
+    /// The link of an item that was in no bucket yet.
+    fn bare() -> BucketLink
+        ensures { result ≡ no_link }
+    {
+        BucketLink {
+            bucket: OptionalNumber::none(),
+            before: OptionalNumber::none(),
+            next: OptionalNumber::none(),
+        }
+    }
+}
 
-/// A bucket with no item.
-const NO_ENDS: BucketEnds = BucketEnds {
-    first: None,
-    last: None,
-};
+impl BucketEnds {
+    /// The ends of a bucket with no item.
+    fn bare() -> BucketEnds
+        ensures { result ≡ no_ends }
+    {
+        BucketEnds {
+            first: OptionalNumber::none(),
+            last: OptionalNumber::none(),
+        }
+    }
+}
 
 /// The items from 0 on, each in one bucket or in none. The items of a bucket are linked by rising number, so that an
 /// item is put into a bucket, and taken out, without memory.
@@ -77,6 +93,7 @@ impl Chains {
 
     /// Makes items that are in no bucket, until there are so many.
     pub fn grow(&mut self, len: usize) -> Result<(), AllocError>
+        requires few { len < 2 ^ 32 }
         ensures same { (n : ℕ) → bucket_at self.new n ≡ bucket_at self.old n }
         ensures longer { length self.old ≤ length self.new }
         ensures made { OnOk result (len ≤ length self.new) }
@@ -134,7 +151,7 @@ fn make_ends(ends: &mut Vec<BucketEnds>) -> Result<(), AllocError>
     if ends.len() >= BUCKETS {
         return Ok(());
     }
-    ends.resize(BUCKETS, NO_ENDS)
+    ends.resize(BUCKETS, BucketEnds::bare())
 }
 
 /// Makes items that are in no bucket, until there are so many.
@@ -142,22 +159,25 @@ fn make_links(links: &mut Vec<BucketLink>, len: usize) -> Result<(), AllocError>
     requires { vec_len links.old ≤ len }
     ensures same { (k : ℕ) → slice_index_or links.new.items k no_link ≡ slice_index_or links.old.items k no_link }
     ensures longer { vec_len links.old ≤ vec_len links.new }
+    ensures few { vec_len links.new ≤ len }
     ensures made { OnOk result (vec_len links.new ≡ len) }
 {
-    links.resize(len, NO_LINK)
+    links.resize(len, BucketLink::bare())
 }
 
 /// Puts the item into the bucket, or into none; it stays where it is, if that is there.
 #[inline(always)]
 fn place(links: &mut [BucketLink], ends: &mut [BucketEnds], item: u64, bucket: Option<u64>)
     requires item { item < length links.old }
-    requires bucket { IfSome bucket (λ b. b < length ends.old) }
+    requires bucket { IfSome bucket (λ b. b < 2 ^ 14) }
+    requires few { length links.old < 2 ^ 32 }
+    requires ended { 2 ^ 14 ≤ length ends.old }
     requires chained { IsChained links.old ends.old }
     ensures chained { IsChained links.new ends.new }
     ensures buckets { buckets links.new ≡ slice_set (buckets links.old) item bucket }
 {
     let link = links[item as usize];
-    if link.bucket == bucket {
+    if link.bucket.get() == bucket {
         return;
     }
     move_to(links, ends, item, bucket);
@@ -167,7 +187,9 @@ fn place(links: &mut [BucketLink], ends: &mut [BucketEnds], item: u64, bucket: O
 #[inline(never)]
 fn move_to(links: &mut [BucketLink], ends: &mut [BucketEnds], item: u64, bucket: Option<u64>)
     requires item { item < length links.old }
-    requires bucket { IfSome bucket (λ b. b < length ends.old) }
+    requires bucket { IfSome bucket (λ b. b < 2 ^ 14) }
+    requires few { length links.old < 2 ^ 32 }
+    requires ended { 2 ^ 14 ≤ length ends.old }
     requires chained { IsChained links.old ends.old }
     ensures chained { IsChained links.new ends.new }
     ensures buckets { buckets links.new ≡ slice_set (buckets links.old) item bucket }
@@ -220,7 +242,7 @@ fn at_or_below(links: &[BucketLink], bucket: u64, low: Option<u64>) -> Option<u6
     if is_in(links, bucket, item) {
         return Some(item);
     }
-    let before = links.get(item as usize)?.before?;
+    let before = links.get(item as usize)?.before.get()?;
     if before < item && is_in(links, bucket, before) {
         Some(before)
     } else {
@@ -263,7 +285,7 @@ fn is_in(links: &[BucketLink], bucket: u64, item: u64) -> bool
     ensures { result ≡ is_in (buckets links.now) bucket item }
 {
     match links.get(item as usize) {
-        Some(link) => link.bucket == Some(bucket),
+        Some(link) => link.bucket.get() == Some(bucket),
         None => false,
     }
 }
@@ -273,8 +295,8 @@ fn next_of(links: &[BucketLink], ends: &[BucketEnds], bucket: u64, low: Option<u
     ensures { result ≡ next_of links.now ends.now bucket low }
 {
     match low {
-        Some(item) => links.get(item as usize)?.next,
-        None => ends.get(bucket as usize)?.first,
+        Some(item) => links.get(item as usize)?.next.get(),
+        None => ends.get(bucket as usize)?.first.get(),
     }
 }
 
@@ -288,8 +310,8 @@ fn before_of(
     ensures { result ≡ before_of links.now ends.now bucket high }
 {
     match high {
-        Some(item) => links.get(item as usize)?.before,
-        None => ends.get(bucket as usize)?.last,
+        Some(item) => links.get(item as usize)?.before.get(),
+        None => ends.get(bucket as usize)?.last.get(),
     }
 }
 
@@ -299,7 +321,7 @@ fn set_next(
     ends: &mut [BucketEnds],
     bucket: u64,
     low: Option<u64>,
-    item: Option<u64>,
+    item: OptionalNumber,
 )
     requires low { IfSome low (λ n. n < length links.old) }
     requires bucket { bucket < length ends.old }
@@ -328,7 +350,7 @@ fn set_before(
     ends: &mut [BucketEnds],
     bucket: u64,
     high: Option<u64>,
-    item: Option<u64>,
+    item: OptionalNumber,
 )
     requires high { IfSome high (λ n. n < length links.old) }
     requires bucket { bucket < length ends.old }
@@ -360,13 +382,13 @@ fn remove(links: &mut [BucketLink], ends: &mut [BucketEnds], item: u64)
     ensures ends { length ends.new ≡ length ends.old }
 {
     let link = links[item as usize];
-    let Some(bucket) = link.bucket else {
+    let Some(bucket) = link.bucket.get() else {
         return;
     };
-    set_next(links, ends, bucket, link.before, link.next);
-    set_before(links, ends, bucket, link.next, link.before);
+    set_next(links, ends, bucket, link.before.get(), link.next);
+    set_before(links, ends, bucket, link.next.get(), link.before);
     links[item as usize] = BucketLink {
-        bucket: None,
+        bucket: OptionalNumber::none(),
         before: link.before,
         next: link.next,
     };
@@ -375,37 +397,41 @@ fn remove(links: &mut [BucketLink], ends: &mut [BucketEnds], item: u64)
 /// Lets the item that stood behind this one, if it is in no bucket, have stood behind this one last: where several go out of
 /// a bucket one behind the other, and come back by rising number, each is put back behind the one before it.
 fn remind(links: &mut [BucketLink], item: u64)
-    requires { item < length links.old }
+    requires item { item < length links.old }
+    requires few { length links.old < 2 ^ 32 }
     ensures chained { (ends : List BucketEnds) → IsChained links.old ends → IsChained links.new ends }
     ensures buckets { buckets links.new ≡ buckets links.old }
 {
-    let Some(behind) = links[item as usize].next else {
+    let Some(behind) = links[item as usize].next.get() else {
         return;
     };
     let behind = behind as usize;
-    if behind < links.len() && links[behind].bucket.is_none() {
+    if behind < links.len() && links[behind].bucket.get().is_none() {
         let link = &mut links[behind];
-        link.before = Some(item);
+        link.before = OptionalNumber::some(item);
     }
 }
 
 /// Puts the item, which is in no bucket, into the bucket.
 fn insert(links: &mut [BucketLink], ends: &mut [BucketEnds], item: u64, bucket: u64)
     requires item { item < length links.old }
-    requires bucket { bucket < length ends.old }
+    requires bucket { bucket < 2 ^ 14 }
+    requires few { length links.old < 2 ^ 32 }
+    requires ended { 2 ^ 14 ≤ length ends.old }
     requires free { bucket_at (buckets links.old) item ≡ None }
     requires chained { IsChained links.old ends.old }
     ensures chained { IsChained links.new ends.new }
     ensures buckets { buckets links.new ≡ slice_set (buckets links.old) item (Some bucket) }
 {
     let (before, next) = around(links, ends, bucket, item);
+    let number = OptionalNumber::some(item);
     links[item as usize] = BucketLink {
-        bucket: Some(bucket),
-        before,
-        next,
+        bucket: OptionalNumber::some(bucket),
+        before: OptionalNumber::of(before),
+        next: OptionalNumber::of(next),
     };
-    set_next(links, ends, bucket, before, Some(item));
-    set_before(links, ends, bucket, next, Some(item));
+    set_next(links, ends, bucket, before, number);
+    set_before(links, ends, bucket, next, number);
 }
 
 /// The greatest item of the bucket below this one, and the least above it.
@@ -438,7 +464,7 @@ fn hinted(
     ensures before { IfSome result (λ beside. IsPrevious (is_in (buckets links.now) bucket) (Some item) beside.0) }
     ensures next { IfSome result (λ beside. IsNext (is_in (buckets links.now) bucket) (Some item) beside.1) }
 {
-    let before = links.get(item as usize)?.before;
+    let before = links.get(item as usize)?.before.get();
     if !is_item_of(links, bucket, before) || !is_behind(before, item) {
         return None;
     }

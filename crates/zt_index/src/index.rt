@@ -11,11 +11,11 @@ ghost use Rattle.zt_index.specs.Criteria.{is_at, is_below, is_by, is_for, is_on,
 ghost use Rattle.zt_index.specs.IndexInvariant.{HasBuckets, IsIndexed, IsRoomy, bucket_below, bucket_by, bucket_for, bucket_of, bucket_on, handle_bucket, held_bucket, koid_bucket};
 ghost use Rattle.zt_index.specs.ProofsOnly.IndexInvariant.{index_below, row_chains_in, index_with, meets_criterion};
 
-use crate::chains::{BUCKETS, Chains};
+use crate::chains::{BUCKETS, Chains, MOST_ITEMS};
 use std::alloc::{AllocError, Global};
 use std::marker::Model;
 use zt_bits::Kind;
-use zt_cells::{Cells, MOST_PLACES};
+use zt_cells::Cells;
 use zt_rows::{HandleValue, Held, Koid, Life, ObjectRow, Row, RowKey, Wait};
 
 /// What waits, or live jobs and processes, are looked for by.
@@ -77,8 +77,8 @@ impl RowChains {
         }
     }
 
-    /// Makes room for the wait or the object under the key, if it is one of those. Numbers and koids from 2^48 on are
-    /// refused.
+    /// Makes room for the wait or the object under the key, if it is one of those. Numbers and koids from 2^32 - 1
+    /// on are refused.
     pub fn grow_for(&mut self, key: RowKey) -> Result<(), AllocError>
         ensures same { (s : CellsView) → IsIndexed s self.old → IsIndexed s self.new }
         ensures made { OnOk result (HasBuckets key self.new) }
@@ -95,7 +95,7 @@ impl RowChains {
         ensures same { (s : CellsView) → IsIndexed s self.old → IsIndexed s self.new }
         ensures made { OnOk result (IsRoomy (number + 1) self.new) }
     {
-        if number >= MOST_PLACES {
+        if number >= MOST_ITEMS {
             return Err(AllocError);
         }
         let len = number as usize + 1;
@@ -110,7 +110,7 @@ impl RowChains {
         ensures same { (s : CellsView) → IsIndexed s self.old → IsIndexed s self.new }
         ensures made { OnOk result (koid + 1 ≤ length self.new.parents) }
     {
-        if koid.0 >= MOST_PLACES {
+        if koid.0 >= MOST_ITEMS {
             return Err(AllocError);
         }
         self.parents.grow(koid.0 as usize + 1)

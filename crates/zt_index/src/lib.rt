@@ -4,6 +4,7 @@
 
 mod chains;
 mod index;
+mod optional_number;
 mod support_counts;
 
 pub use index::Index;

@@ -35,7 +35,12 @@ pub record HasBounds (places : List (Option Row)) (low end : ℕ) : Type 0 where
   pub beyond : (n : ℕ) → end ≤ n → cell places n ≡ None
   pub first : low < end → IsSome (cell places low)
 
--- the same but for what stands at one place
+-- the places have these bounds, and are so few that their numbers are small
+pub record IsTable (places : List (Option Row)) (low end : ℕ) : Type 0 where
+  pub bounds : HasBounds places low end
+  pub few : length places < 2 ^ 32
+
+-- the same bounds but for what stands at one place
 pub record HasBoundsBut (places : List (Option Row)) (low end i : ℕ) : Type 0 where
   pub below : (n : ℕ) → n < low → n ≢ i → cell places n ≡ None
   pub beyond : (n : ℕ) → end ≤ n → n ≢ i → cell places n ≡ None

@@ -1,14 +1,18 @@
-ghost use Rattle.std.specs.Prelude.{◌≡◌, ◌≤◌, ◌<◌, ◌+◌, ◌^◌, length, IfOk, OnOk, OnErr};
+ghost use Rattle.std.specs.Prelude.{◌≡◌, ◌≤◌, ◌<◌, ◌+◌, ◌^◌, length, IfOk, IsTrue, OnOk, OnErr, Some, false};
 ghost use Rattle.std.specs.Option.{option_copied};
+ghost use Rattle.zt_rows.specs.declared.keys.RowKey.TheVariants as key_variant;
+ghost use Rattle.zt_rows.specs.declared.rows.Row.TheVariants as rows;
+ghost use Rattle.zt_cells.specs.AlikeObjects.{AreAlike};
 ghost use Rattle.zt_cells.specs.ProofsOnly.RowTables.{row_tables_in, row_tables_of, look, places_in, sizes_of, Exchanged, MadeFor, Widened};
+ghost use Rattle.zt_rows.specs.Room.{SuitsKey};
 ghost use Rattle.zt_cells.specs.TableSizes.{objects_after, waits_after, has_place, length_at, place_of};
 
 use crate::cells::handle_tables::Entries;
-use crate::cells::table::{Table, copy_place};
+use crate::cells::table::Table;
 use crate::cells::tables_by_owner::TablesByOwner;
 use std::alloc::{AllocError, Global};
 use std::mem;
-use zt_rows::{Row, RowKey};
+use zt_rows::{Koid, ObjectRow, Row, RowKey};
 
 /// All tables of a store. Each key has one place in one of them.
 #[derive(Drop)]
@@ -41,7 +45,7 @@ impl RowTables {
         ensures { IfOk result (λ copied. copied ≡ self.now) }
     {
         Ok(RowTables {
-            counters: copy_place(&self.counters)?,
+            counters: copy_row(&self.counters)?,
             objects: self.objects.copy()?,
             entries: self.entries.copy()?,
             messages: self.messages.copy()?,
@@ -105,7 +109,8 @@ impl RowTables {
     #[inline(always)]
     #[tactic(auto, using(crate::proofs::RowTableLaws::length_laws), unfolding(crate::specs::ProofsOnly::RowTables::sizes_of))]
     pub fn exchange(&mut self, key: RowKey, kept: &mut Option<Row>)
-        requires { place_of key < length_at (sizes_of self.old) key }
+        requires placed { place_of key < length_at (sizes_of self.old) key }
+        requires suited { SuitsKey key kept.old }
         ensures { Exchanged self.old self.new key kept.old kept.new }
     {
         match key {
@@ -122,6 +127,17 @@ impl RowTables {
             }
             RowKey::Wait(number) => self.waits.exchange(number as usize, kept),
         }
+    }
+
+    /// Exchanges the object with the one of this koid, if there is one alike, and says whether there is. It takes no memory.
+    #[inline(always)]
+    pub fn exchange_alike(&mut self, koid: Koid, object: &mut ObjectRow) -> bool
+        requires { koid < length self.old.objects }
+        ensures done { IsTrue result → Exchanged self.old self.new (key_variant.Object koid) (Some (rows.Object object.old)) (Some (rows.Object object.new)) }
+        ensures alike { IsTrue result → AreAlike object.new object.old }
+        ensures same { result ≡ false → (self.new ≡ self.old) × (object.new ≡ object.old) }
+    {
+        self.objects.exchange_alike(koid.0 as usize, object)
     }
 
     /// Makes the places in the table of the key, up to its own.
@@ -194,11 +210,25 @@ impl OwnedTables {
     /// Exchanges the row, or none, with what stands in the place of the key. It takes no memory.
     #[inline(always)]
     pub fn exchange(&mut self, key: RowKey, kept: &mut Option<Row>)
-        requires { place_of key < length_at (sizes_of (row_tables_in self.old)) key }
+        requires placed { place_of key < length_at (sizes_of (row_tables_in self.old)) key }
+        requires suited { SuitsKey key kept.old }
         ensures { Exchanged (row_tables_in self.old) (row_tables_in self.new) key kept.old kept.new }
     {
         match self {
             OwnedTables::All(row_tables) => row_tables.exchange(key, kept),
+        }
+    }
+
+    /// Exchanges the object with the one of this koid, if there is one alike, and says whether there is. It takes no memory.
+    #[inline(always)]
+    pub fn exchange_alike(&mut self, koid: Koid, object: &mut ObjectRow) -> bool
+        requires { koid < length (row_tables_in self.old).objects }
+        ensures done { IsTrue result → Exchanged (row_tables_in self.old) (row_tables_in self.new) (key_variant.Object koid) (Some (rows.Object object.old)) (Some (rows.Object object.new)) }
+        ensures alike { IsTrue result → AreAlike object.new object.old }
+        ensures same { result ≡ false → (row_tables_in self.new ≡ row_tables_in self.old) × (object.new ≡ object.old) }
+    {
+        match self {
+            OwnedTables::All(row_tables) => row_tables.exchange_alike(koid, object),
         }
     }
 
@@ -238,5 +268,15 @@ pub(crate) fn place_of(key: RowKey) -> usize
         RowKey::Msg(_, number) | RowKey::Packet(_, number) | RowKey::Wait(number) => {
             number as usize
         }
+    }
+}
+
+/// An equal row in memory of its own, or none.
+fn copy_row(row: &Option<Row>) -> Result<Option<Row>, AllocError>
+    ensures { IfOk result (λ copied. copied ≡ row.now) }
+{
+    match row {
+        Some(row) => Ok(Some(row.copy()?)),
+        None => Ok(None),
     }
 }

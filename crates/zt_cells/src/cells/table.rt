@@ -1,16 +1,18 @@
-ghost use Rattle.std.specs.Prelude.{◌≡◌, ◌≤◌, ◌<◌, ℕ, length, IfOk, OnOk, OnErr, slice_set, IsSome, None, []};
+ghost use Rattle.std.specs.Prelude.{◌≡◌, ◌≤◌, ◌<◌, ◌-◌, ◌^◌, ℕ, length, IfOk, OnOk, OnErr, slice_set, IsSome, IsTrue, None, [], false};
 ghost use Rattle.std.specs.Option.{option_copied};
+ghost use Rattle.zt_cells.specs.ProofsOnly.AlikeRows.{AlikeCells};
+ghost use Rattle.zt_cells.specs.ProofsOnly.Places.{IsStored};
 ghost use Rattle.zt_cells.specs.ProofsOnly.TablePlaces.{cell, HasBounds, HasBoundsBut, IsFirstCell, IsWider};
 
+use crate::cells::place::Place;
 use std::alloc::{AllocError, Global};
 use std::marker::Model;
-use std::mem;
-use zt_rows::Row;
+use zt_rows::{ObjectRow, Row};
 
 /// Places for rows, from 0 on. A place, once there, is never given up.
 #[derive(Drop)]
 pub(crate) struct Table {
-    places: Vec<Option<Row>>,
+    places: Vec<Place>,
     bounds: Bounds,
 }
 
@@ -18,20 +20,23 @@ pub(crate) struct Table {
 /// is a row at `low`. So the first row is found by one look, also where many went from the middle, or all.
 #[derive(Clone, Copy)]
 struct Bounds {
-    low: usize,
-    end: usize,
+    low: u32,
+    end: u32,
 }
+
+/// How many places a table has at most, so that its bounds are small numbers.
+const MOST_IN_TABLE: usize = u32::MAX as usize;
 
 impl Model for Table {
     ghost use Rattle.std.specs.Prelude.{List, Option};
     ghost use Rattle.zt_rows.specs.declared.rows.Row.{Row};
-    ghost use Rattle.zt_cells.specs.ProofsOnly.TablePlaces.{HasBounds};
+    ghost use Rattle.zt_cells.specs.ProofsOnly.TablePlaces.{IsTable};
 
     ghost Value = { List (Option Row) };
 
     ghost view = { λ t. t.places.items };
 
-    ghost invariant = { λ t. HasBounds t.places.items t.bounds.low t.bounds.end };
+    ghost invariant = { λ t. IsTable t.places.items t.bounds.low t.bounds.end };
 }
 
 impl Table {
@@ -57,12 +62,13 @@ impl Table {
         ensures { option_copied result ≡ cell self.now index }
     {
         match self.places.get(index) {
-            Some(place) => place.as_ref(),
+            Some(place) => place.row(),
             None => None,
         }
     }
 
     /// Makes empty places until there are so many. Memory is asked for once; at first for just these, since most queues stay short.
+    /// More than 2^32 - 1 places are refused.
     pub fn grow(&mut self, len: usize) -> Result<(), AllocError>
         requires { length self.old ≤ len }
         ensures cells { (n : ℕ) → cell self.new n ≡ cell self.old n }
@@ -71,25 +77,42 @@ impl Table {
         ensures ok { OnOk result (length self.new ≡ len) }
         ensures err { OnErr result (self.new ≡ self.old) }
     {
+        if len > MOST_IN_TABLE {
+            return Err(AllocError);
+        }
         if self.places.is_empty() {
             self.places.reserve_exact(len)?;
         } else {
             self.places.reserve(len - self.places.len())?;
         }
         while self.places.len() < len {
-            self.places.push(None)?;
+            self.places.push(Place::empty())?;
         }
         Ok(())
     }
 
     /// Exchanges the row, or none, with what stands at the place. It takes no memory.
     pub fn exchange(&mut self, index: usize, kept: &mut Option<Row>)
-        requires { index < length self.old }
+        requires placed { index < length self.old }
+        requires stored { IsStored kept.old }
         ensures put { self.new ≡ slice_set self.old index kept.old }
         ensures was { kept.new ≡ cell self.old index }
     {
-        mem::swap(&mut self.places[index], kept);
+        let place = &mut self.places[index];
+        place.exchange(kept);
         self.bounds = bounds_with(self.places.as_slice(), self.bounds, index);
+    }
+
+    /// Exchanges the object with the one at the place, if there is one alike, and says whether there is. It takes no memory,
+    /// and no bound moves.
+    #[inline(always)]
+    pub fn exchange_alike(&mut self, index: usize, object: &mut ObjectRow) -> bool
+        requires { index < length self.old }
+        ensures done { IsTrue result → AlikeCells self.old self.new index object.old object.new }
+        ensures same { result ≡ false → (self.new ≡ self.old) × (object.new ≡ object.old) }
+    {
+        let place = &mut self.places[index];
+        place.exchange_alike(object)
     }
 
     /// The first place with a row, by one look. It takes no memory.
@@ -109,7 +132,7 @@ impl Table {
     {
         let mut places = Vec::with_capacity(*self.places.allocator(), self.places.len())?;
         for place in &self.places {
-            places.push(copy_place(place)?)?;
+            places.push(place.copy()?)?;
         }
         Ok(Table {
             places,
@@ -119,20 +142,22 @@ impl Table {
 }
 
 /// The bounds of these places, which had those but for the one at the index.
-fn bounds_with(places: &[Option<Row>], bounds: Bounds, index: usize) -> Bounds
+fn bounds_with(places: &[Place], bounds: Bounds, index: usize) -> Bounds
     requires there { index < length places.now }
+    requires few { length places.now < 2 ^ 32 }
     requires but_one { HasBoundsBut places.now bounds.low bounds.end index }
     ensures { HasBounds places.now result.low result.end }
 {
-    match &places[index] {
-        Some(_) => wider(bounds, index),
-        None => narrower(places, bounds, index),
+    if places[index].is_empty() {
+        narrower(places, bounds, index as u32)
+    } else {
+        wider(bounds, index as u32)
     }
 }
 
 /// The bounds with a row at the index.
-fn wider(bounds: Bounds, index: usize) -> Bounds
-    requires { index < usize.MAX }
+fn wider(bounds: Bounds, index: u32) -> Bounds
+    requires { index < 2 ^ 32 - 1 }
     ensures { IsWider bounds.low bounds.end index result.low result.end }
 {
     if bounds.low < bounds.end {
@@ -149,7 +174,7 @@ fn wider(bounds: Bounds, index: usize) -> Bounds
 }
 
 /// The bounds with no row at the index. Where the first row went it walks to the next, over what went from the middle.
-fn narrower(places: &[Option<Row>], bounds: Bounds, index: usize) -> Bounds
+fn narrower(places: &[Place], bounds: Bounds, index: u32) -> Bounds
     requires but_one { HasBoundsBut places.now bounds.low bounds.end index }
     requires empty { cell places.now index ≡ None }
     ensures { HasBounds places.now result.low result.end }
@@ -173,25 +198,15 @@ fn narrower(places: &[Option<Row>], bounds: Bounds, index: usize) -> Bounds
 }
 
 /// The first place with a row from this one on and below the end, or the end, or this one, whichever is greater.
-fn first_from(places: &[Option<Row>], from: usize, end: usize) -> usize
+fn first_from(places: &[Place], from: u32, end: u32) -> u32
     ensures empty { (n : ℕ) → from ≤ n → n < result → cell places.now n ≡ None }
     ensures first { result < end → IsSome (cell places.now result) }
 {
     for index in from..end {
-        match places.get(index) {
-            Some(Some(_)) => return index,
+        match places.get(index as usize) {
+            Some(place) if !place.is_empty() => return index,
             _ => {}
         }
     }
     from.max(end)
-}
-
-/// An equal row in memory of its own, or none.
-pub(crate) fn copy_place(place: &Option<Row>) -> Result<Option<Row>, AllocError>
-    ensures { IfOk result (λ copied. copied ≡ place.now) }
-{
-    match place {
-        Some(row) => Ok(Some(row.copy()?)),
-        None => Ok(None),
-    }
 }

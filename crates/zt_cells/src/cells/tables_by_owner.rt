@@ -1,6 +1,7 @@
 ghost use Rattle.std.specs.Prelude.{◌≡◌, ◌≤◌, ◌<◌, ◌≢◌, ◌+◌, ◌-◌, ◌^◌, ℕ, List, [], length, IfOk, OnOk, OnErr};
 ghost use Rattle.std.specs.List.{sum};
 ghost use Rattle.std.specs.Option.{option_copied};
+ghost use Rattle.zt_cells.specs.ProofsOnly.Places.{IsStored};
 ghost use Rattle.zt_cells.specs.ProofsOnly.TablePlaces.{cell_at, lengths, set_at, table, IsFirstCell};
 
 use crate::cells::table::Table;
@@ -73,7 +74,8 @@ impl TablesByOwner {
 
     /// Exchanges the row, or none, with what stands at the owner's place. It takes no memory.
     pub fn exchange(&mut self, owner: usize, index: usize, kept: &mut Option<Row>)
-        requires { index < length (table self.old owner) }
+        requires placed { index < length (table self.old owner) }
+        requires stored { IsStored kept.old }
         ensures put { self.new ≡ set_at self.old owner index kept.old }
         ensures was { kept.new ≡ cell_at self.old owner index }
     {

@@ -57,10 +57,12 @@ pub record IsChained (links : List BucketLink) (ends : List BucketEnds) : Type 0
   pub nexts : (b : ℕ) (low : Option ℕ) → IsItemOf (is_in (buckets links) b) low → IsNext (is_in (buckets links) b) low (next_of links ends b low)
   pub befores : (b : ℕ) (high : Option ℕ) → IsItemOf (is_in (buckets links) b) high → IsPrevious (is_in (buckets links) b) high (before_of links ends b high)
 
--- the items are chained, and where there are items there are the ends of all buckets
+-- the items are chained, where there are items there are the ends of all buckets, and the items are so few that a link can
+-- hold the greatest
 pub record AreChains (links : List BucketLink) (ends : List BucketEnds) : Type 0 where
   pub chained : IsChained links ends
   pub ended : 0 < length links → 2 ^ 14 ≤ length ends
+  pub few : length links < 2 ^ 32
 
 -- none, or an item that passes and is not above the low one
 abbrev pub IsAtOrBelow : (ℕ → Bool) → Option ℕ → Option ℕ → Type 0

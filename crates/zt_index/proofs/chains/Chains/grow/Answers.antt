@@ -9,6 +9,7 @@ invariant_of-self-2 c = record {
   chained = more-links c.self.inside.links.items c.make_links.new.links.items c.make_ends.new.ends.items c.make_links.ensures.same
       (more-ends c.self.inside.links.items c.self.inside.ends.items c.make_ends.new.ends.items c.make_ends.ensures.same c.self.invariant.chained);
   ended = λ some. omega (arith, c.in_ok-make_ends.ensures.made);
+  few = omega (arith, c.make_links.ensures.few, c.requires);
 }
 
 pub returns-clause-same : goal.returns-clause-same
