@@ -9,5 +9,8 @@ pub mod RecordLaws
 pub mod SideBySide
 pub mod Endings
 pub mod HeldLaws
+pub mod TakenRows
 pub mod StoreLaws
 pub mod AheadLaws
+pub mod AlikeLaws
+pub mod AlikeStores

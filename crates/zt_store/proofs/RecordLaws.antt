@@ -14,6 +14,7 @@ use Rattle.zt_rows.specs.ProofsOnly.KeyOrder.{rowkey_eq-cmp}
 use Rattle.zt_rows.specs.State.{State}
 use Rattle.zt_rows.specs.Change.{before, rows_at, exchange}
 use Rattle.zt_rows.proofs.ChangeLaws.{sorted-before}
+use Rattle.zt_store.specs.ProofsOnly.KeptRows.{AreOf}
 use Rattle.zt_store.specs.ProofsOnly.RecordRows.{IsRecord}
 use Rattle.zt_store.specs.ProofsOnly.StoreView.{AllSuit}
 use Rattle.zt_store.proofs.Fitting.{Rows}
@@ -96,8 +97,12 @@ record-before S U R is suited = record {
   ordered = subst IsSorted (sym (zip-unzipped R ∙ is)) (sorted-before S U);
 }
 
-pub record-filled : (R : Rows) (ks : List RowKey) (rs : List (Option Row)) → ks ≡ keys_of R → rs ≡ map (λ e. e.1) R → zip ks rs ≡ R
-record-filled R ks rs keys rows = (λ i. zip (keys i) (rows i)) ∙ zip-unzipped R
+pub record-filled : (R : Rows) (ks : List RowKey) (rs : List (Option Row)) → AreOf ks rs R → zip ks rs ≡ R
+record-filled R ks rs is = (λ i. zip (is.keys i) (is.rows i)) ∙ zip-unzipped R
+
+pub filled-recorded : (R : Rows) (ks : List RowKey) (rs : List (Option Row)) → AreOf ks rs R → IsRecord (keys_of R) (map (λ e. e.1) R) → IsRecord ks rs
+filled-recorded R ks rs is recorded =
+    subst (λ k. IsRecord k rs) (sym is.keys) (subst (λ r. IsRecord (keys_of R) r) (sym is.rows) recorded)
 
 -- one row more is taken out of the list, where d stands for what is read beyond its end
 pub taken-next : (F R : Rows) (rs more : List (Option Row)) (i : ℕ) (d : RowKey × Option Row) (took left : Option Row) → rs ≡ map (λ x. x.1) (take i F) → drop i R ≡ drop i F → length R ≡ length F

@@ -1,6 +1,7 @@
 -- Used by proofs only: no public clause depends on them.
 pub mod StoreView
 pub mod RecordRows
+pub mod KeptRows
 pub mod StepView
 pub mod StoreInvariant
 pub mod StepRows

@@ -6,9 +6,11 @@ ghost use Rattle.zt_rows.specs.Path.{end_of, exchange_back, records_of};
 ghost use Rattle.zt_rows.specs.State.{State};
 ghost use Rattle.zt_store.specs.Places.{fits};
 ghost use Rattle.zt_store.specs.RecordRows.{all_fit};
+ghost use Rattle.zt_store.specs.ProofsOnly.KeptRows.{keys_in, rows_in};
 ghost use Rattle.zt_store.specs.ProofsOnly.RecordRows.{IsRecord};
 ghost use Rattle.zt_store.specs.ProofsOnly.StoreView.{AllSuit};
 
+use crate::kept_rows::{KeptRows, RowBlock, RowLists};
 use crate::record::Record;
 use crate::store::Store;
 use zt_rows::{Row, RowKey};
@@ -21,7 +23,52 @@ pub fn swap(store: &mut Store, kept: &mut Record)
     ensures places { store.new.places ≡ store.old.places }
     ensures fits { fits store.new.places kept.new ≡ true }
 {
-    exchange_under(store, kept.keys.as_slice(), kept.rows.as_mut_slice());
+    exchange_kept(store, &mut kept.rows);
+}
+
+/// Exchanges the rows with the store's, in whichever form they are kept. It takes no memory.
+fn exchange_kept(store: &mut Store, kept: &mut KeptRows)
+    requires recorded { IsRecord (keys_in kept.old) (rows_in kept.old) }
+    requires placed { fits store.old.places (zip (keys_in kept.old) (rows_in kept.old)) ≡ true }
+    ensures exchanged { (store.new.state, zip (keys_in kept.new) (rows_in kept.new)) ≡ exchange store.old.state (zip (keys_in kept.old) (rows_in kept.old)) }
+    ensures recorded { IsRecord (keys_in kept.new) (rows_in kept.new) }
+    ensures places { store.new.places ≡ store.old.places }
+    ensures fits { fits store.new.places (zip (keys_in kept.new) (rows_in kept.new)) ≡ true }
+{
+    match kept {
+        KeptRows::NoRow => {}
+        KeptRows::One(block) => exchange_block(store, block),
+        KeptRows::Two(block) => exchange_block(store, block),
+        KeptRows::Three(block) => exchange_block(store, block),
+        KeptRows::Four(block) => exchange_block(store, block),
+        KeptRows::Five(block) => exchange_block(store, block),
+        KeptRows::Six(block) => exchange_block(store, block),
+        KeptRows::Many(lists) => exchange_lists(store, lists),
+    }
+}
+
+/// Exchanges the block's rows with the store's. It takes no memory.
+fn exchange_block<const N: usize>(store: &mut Store, block: &mut RowBlock<N>)
+    requires recorded { IsRecord block.old.keys block.old.rows }
+    requires placed { fits store.old.places (zip block.old.keys block.old.rows) ≡ true }
+    ensures exchanged { (store.new.state, zip block.new.keys block.new.rows) ≡ exchange store.old.state (zip block.old.keys block.old.rows) }
+    ensures recorded { IsRecord block.new.keys block.new.rows }
+    ensures places { store.new.places ≡ store.old.places }
+    ensures fits { fits store.new.places (zip block.new.keys block.new.rows) ≡ true }
+{
+    exchange_under(store, &block.keys, &mut block.rows);
+}
+
+/// Exchanges the rows of the lists with the store's. It takes no memory.
+fn exchange_lists(store: &mut Store, lists: &mut RowLists)
+    requires recorded { IsRecord lists.old.keys.items lists.old.rows.items }
+    requires placed { fits store.old.places (zip lists.old.keys.items lists.old.rows.items) ≡ true }
+    ensures exchanged { (store.new.state, zip lists.new.keys.items lists.new.rows.items) ≡ exchange store.old.state (zip lists.old.keys.items lists.old.rows.items) }
+    ensures recorded { IsRecord lists.new.keys.items lists.new.rows.items }
+    ensures places { store.new.places ≡ store.old.places }
+    ensures fits { fits store.new.places (zip lists.new.keys.items lists.new.rows.items) ≡ true }
+{
+    exchange_under(store, lists.keys.as_slice(), lists.rows.as_mut_slice());
 }
 
 /// Exchanges the rows with the store's, each under the key at its place. It takes no memory.

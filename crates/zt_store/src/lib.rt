@@ -3,6 +3,7 @@
 #![tactic(auto)]
 
 mod exchanged_rows;
+mod kept_rows;
 mod key_columns;
 mod record;
 mod step;

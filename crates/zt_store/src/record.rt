@@ -1,19 +1,19 @@
 ghost use Rattle.std.specs.Option.{option_copied, option_map};
-ghost use Rattle.std.specs.Prelude.{◌≡◌, ◌<◌, ◌≤◌, Some, length, map, min, slice_get, IfOk, OnOk, vec_capacity};
+ghost use Rattle.std.specs.Prelude.{◌≡◌, ◌<◌, ◌≤◌, Some, length, map, slice_get, OnOk};
+ghost use Rattle.zt_store.specs.ProofsOnly.KeptRows.{AreOf, keys_in, rows_in};
 ghost use Rattle.zt_store.specs.ProofsOnly.RecordRows.{IsRecord};
 ghost use Rattle.zt_store.specs.RecordLook.{held};
 
+use crate::kept_rows::{KeptRows, RowLists};
 use std::alloc::{AllocError, Global};
 use std::marker::Model;
-use std::mem::replace;
 use zt_rows::{Row, RowKey};
 
 /// The rows under some keys at an earlier moment, or that there was none, in the order of the keys. Each row stands at the
 /// place of its key.
 #[derive(Drop)]
 pub struct Record {
-    pub(crate) keys: Vec<RowKey>,
-    pub(crate) rows: Vec<Option<Row>>,
+    pub(crate) rows: KeptRows,
 }
 
 impl Model for Record {
@@ -22,12 +22,13 @@ impl Model for Record {
     ghost use Rattle.zt_rows.specs.declared.keys.RowKey.{RowKey};
     ghost use Rattle.zt_rows.specs.declared.rows.Row.{Row};
     ghost use Rattle.zt_store.specs.ProofsOnly.RecordRows.{IsRecord};
+    ghost use Rattle.zt_store.specs.ProofsOnly.KeptRows.{keys_in, rows_in};
 
     ghost Value = { List (RowKey × Option Row) };
 
-    ghost view = { λ r. zip r.keys.items r.rows.items };
+    ghost view = { λ r. zip (keys_in r.rows) (rows_in r.rows) };
 
-    ghost invariant = { λ r. IsRecord r.keys.items r.rows.items };
+    ghost invariant = { λ r. IsRecord (keys_in r.rows) (rows_in r.rows) };
 }
 
 impl Record {
@@ -35,7 +36,7 @@ impl Record {
     pub fn keys(&self) -> &[RowKey]
         ensures { result.now ≡ map (λ e. e.0) self.now }
     {
-        self.keys.as_slice()
+        self.rows.keys()
     }
 
     /// The row, or that there was none, under the key; nothing where the record does not have the key. It takes no
@@ -43,8 +44,8 @@ impl Record {
     pub fn held(&self, key: RowKey) -> Option<Option<&Row>>
         ensures { option_map option_copied result ≡ held self.now key }
     {
-        match self.keys.binary_search(&key) {
-            Ok(place) => Some(self.rows[place].as_ref()),
+        match self.rows.keys().binary_search(&key) {
+            Ok(place) => Some(self.rows.rows()[place].as_ref()),
             Err(_) => None,
         }
     }
@@ -55,34 +56,31 @@ impl Record {
         ensures row { option_map (λ e. e.1) (slice_get self.now place) ≡ Some (option_copied result) }
         ensures held { (key : RowKey) → option_map (λ e. e.0) (slice_get self.now place) ≡ Some key → held self.now key ≡ Some (option_copied result) }
     {
-        let row = &self.rows[place];
+        let row = &self.rows.rows()[place];
         row.as_ref()
     }
 }
 
-/// Room for a record that is still to be made, for where memory is refused when it is: the lists of its keys and of its rows,
-/// empty as yet.
+/// Room for a record that is still to be made, for where memory is refused when it is: empty lists, or none as yet.
 #[derive(Drop)]
 pub(crate) struct RecordLists {
-    keys: Vec<RowKey>,
-    rows: Vec<Option<Row>>,
+    alloc: Global,
+    lists: Option<Box<RowLists>>,
 }
 
 impl Model for RecordLists {
-    ghost use Rattle.std.specs.Prelude.{ℕ, min, vec_capacity};
+    ghost use Rattle.std.specs.Prelude.{ℕ};
+    ghost use Rattle.zt_store.specs.ProofsOnly.KeptRows.{room_in};
 
     ghost Value = { ℕ };
 
-    ghost view = { λ r. min (vec_capacity r.keys) (vec_capacity r.rows) };
+    ghost view = { λ r. room_in r.lists };
 }
 
 impl RecordLists {
     /// Room for no row.
     pub(crate) fn new(alloc: Global) -> RecordLists {
-        RecordLists {
-            keys: Vec::new(alloc),
-            rows: Vec::new(alloc),
-        }
+        RecordLists { alloc, lists: None }
     }
 
     /// Makes room for so many rows. Where memory is refused the room that was there stays.
@@ -90,69 +88,48 @@ impl RecordLists {
         ensures ok { OnOk result (count ≤ self.new) }
         ensures kept { self.old ≤ self.new }
     {
-        self.keys.reserve(count)?;
-        self.rows.reserve(count)?;
-        Ok(())
-    }
-
-    /// Room for just so many rows.
-    fn of_size(alloc: Global, count: usize) -> Result<RecordLists, AllocError>
-        ensures { IfOk result (λ lists. count ≤ lists) }
-    {
-        Ok(RecordLists {
-            keys: Vec::with_capacity(alloc, count)?,
-            rows: Vec::with_capacity(alloc, count)?,
-        })
-    }
-
-    /// New lists for so many rows, or, where memory is refused, these, in whose place there is then room for no row.
-    fn lent(&mut self, count: usize) -> RecordLists
-        requires { count ≤ self.old }
-        ensures { count ≤ result }
-    {
-        let alloc = *self.keys.allocator();
-        match RecordLists::of_size(alloc, count) {
-            Ok(lists) => lists,
-            Err(_) => replace(self, RecordLists::new(alloc)),
+        match &mut self.lists {
+            Some(lists) => lists.grow_to(count),
+            None => {
+                self.lists = Some(RowLists::with_room(self.alloc, count)?);
+                Ok(())
+            }
         }
     }
 
-    /// The record of these rows, in lists that have room for no others. It asks for memory, and takes that of these lists where it
-    /// is refused.
+    /// The record of these rows, in memory that has room for no others. It asks for memory, and takes that of these lists where
+    /// it is refused.
     pub(crate) fn filled(&mut self, firsts: &mut [(RowKey, Option<Row>)]) -> Record
         requires room { length firsts.old ≤ self.old }
         requires recorded { IsRecord (map (λ e. e.0) firsts.old) (map (λ e. e.1) firsts.old) }
         ensures { result ≡ firsts.old }
     {
-        let RecordLists { keys, rows } = self.lent(firsts.len());
-        let keys = keys_of(keys, firsts);
-        let rows = rows_of(rows, firsts);
-        Record { keys, rows }
+        let rows = self.take(firsts);
+        Record { rows }
     }
-}
 
-/// The keys of the rows, in the memory of the list.
-fn keys_of(mut keys: Vec<RowKey>, firsts: &[(RowKey, Option<Row>)]) -> Vec<RowKey>
-    requires { length firsts.now ≤ vec_capacity keys }
-    ensures { result.items ≡ map (λ e. e.0) firsts.now }
-{
-    keys.clear();
-    for first in firsts {
-        keys.push_reserved(first.0);
+    /// Takes the rows into memory that has room for no others, that of these lists where other memory is refused.
+    fn take(&mut self, firsts: &mut [(RowKey, Option<Row>)]) -> KeptRows
+        requires { length firsts.old ≤ self.old }
+        ensures { AreOf (keys_in result) (rows_in result) firsts.old }
+    {
+        match KeptRows::take(self.alloc, firsts) {
+            Ok(rows) => rows,
+            Err(_) => self.give(firsts),
+        }
     }
-    keys.shrink_to_fit();
-    keys
-}
 
-/// The rows without their keys, in the memory of the list.
-fn rows_of(mut rows: Vec<Option<Row>>, firsts: &mut [(RowKey, Option<Row>)]) -> Vec<Option<Row>>
-    requires { length firsts.old ≤ vec_capacity rows }
-    ensures { result.items ≡ map (λ e. e.1) firsts.old }
-{
-    rows.clear();
-    for i in 0..firsts.len() {
-        rows.push_reserved(firsts[i].1.take());
+    /// Takes the rows into these lists, which are then given away.
+    fn give(&mut self, firsts: &mut [(RowKey, Option<Row>)]) -> KeptRows
+        requires { length firsts.old ≤ self.old }
+        ensures { AreOf (keys_in result) (rows_in result) firsts.old }
+    {
+        match self.lists.take() {
+            Some(mut lists) => {
+                lists.take(firsts);
+                KeptRows::Many(lists)
+            }
+            None => KeptRows::NoRow,
+        }
     }
-    rows.shrink_to_fit();
-    rows
 }

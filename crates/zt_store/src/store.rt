@@ -1,4 +1,4 @@
-ghost use Rattle.std.specs.Prelude.{◌≡◌, ◌<◌, ◌+◌, ◌^◌, ◌↔◌, [], true, IsTrue, IfOk, OnOk, Option, if◌then◌else◌};
+ghost use Rattle.std.specs.Prelude.{◌≡◌, ◌<◌, ◌+◌, ◌^◌, ◌↔◌, [], true, false, IsTrue, IfOk, OnOk, Option, if◌then◌else◌};
 ghost use Rattle.std.specs.Option.{option_copied};
 ghost use Rattle.zt_rows.specs.declared.keys.RowKey.{RowKey};
 ghost use Rattle.zt_rows.specs.declared.keys.RowKey.TheVariants as key_variant;
@@ -307,8 +307,8 @@ impl Store {
     pub fn fits(&self, kept: &Record) -> bool
         ensures { result ≡ fits self.now.places kept.now }
     {
-        let keys = kept.keys.as_slice();
-        let rows = kept.rows.as_slice();
+        let keys = kept.rows.keys();
+        let rows = kept.rows.rows();
         for i in 0..keys.len() {
             if !self.fits_row(keys[i], &rows[i]) {
                 return false;
@@ -442,7 +442,7 @@ impl Store {
     {
         match *key {
             RowKey::Counters => self.exchange_under(RowKey::Counters, kept),
-            RowKey::Object(koid) => self.exchange_under(RowKey::Object(koid), kept),
+            RowKey::Object(koid) => self.exchange_object(koid, kept),
             RowKey::Entry(process, value) => {
                 self.exchange_under(RowKey::Entry(process, value), kept);
             }
@@ -470,6 +470,39 @@ impl Store {
         self.support_counts.raise_if(came, kept);
         self.cells.exchange(key, kept);
         self.support_counts.lower_if(went, kept);
+    }
+
+    /// Exchanges the object, or none, with the one of this koid.
+    #[inline(always)]
+    fn exchange_object(&mut self, koid: Koid, kept: &mut Option<Row>)
+        requires placed { fits_row self.old.places (key_variant.Object koid) kept.old ≡ true }
+        requires suited { SuitsKey (key_variant.Object koid) kept.old }
+        ensures put { self.new ≡ standing self.old (put self.old.state (key_variant.Object koid) kept.old) }
+        ensures was { kept.new ≡ row self.old.state (key_variant.Object koid) }
+        ensures fit { fits_row self.new.places (key_variant.Object koid) kept.new ≡ true }
+        ensures suited { SuitsKey (key_variant.Object koid) kept.new }
+    {
+        if !self.exchange_alike(koid, kept) {
+            self.exchange_under(RowKey::Object(koid), kept);
+        }
+    }
+
+    /// Exchanges the object with the one of this koid where both are there, of the same kind, life and link, and says whether
+    /// they are; else nothing changes. Most objects that are put are such: they count for the same supports and stand in
+    /// the same bucket, so that the rows alone change.
+    #[inline(always)]
+    fn exchange_alike(&mut self, koid: Koid, kept: &mut Option<Row>) -> bool
+        requires { fits_row self.old.places (key_variant.Object koid) kept.old ≡ true }
+        ensures put { IsTrue result → self.new ≡ standing self.old (put self.old.state (key_variant.Object koid) kept.old) }
+        ensures was { IsTrue result → kept.new ≡ row self.old.state (key_variant.Object koid) }
+        ensures fit { IsTrue result → fits_row self.new.places (key_variant.Object koid) kept.new ≡ true }
+        ensures suited { IsTrue result → SuitsKey (key_variant.Object koid) kept.new }
+        ensures same { result ≡ false → (self.new ≡ self.old) × (kept.new ≡ kept.old) }
+    {
+        match kept {
+            Some(Row::Object(object)) => self.cells.exchange_alike(koid, object),
+            _ => false,
+        }
     }
 
     /// Puts the row under the key.

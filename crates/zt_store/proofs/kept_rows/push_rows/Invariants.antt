@@ -1,5 +1,5 @@
 use Rattle.std.proofs.Common.{◌≡◌, length, map, take, drop, vec_capacity}
-use Rattle.zt_store.proofs.record.rows_of.Given as goal
+use Rattle.zt_store.proofs.kept_rows.push_rows.Given as goal
 
 -- the rows so far were taken out, the others stand as they were
 abbrev pub invariant-loop-i : goal.invariant-loop-i

@@ -1,6 +1,6 @@
 use Rattle.std.proofs.Common.{arith, ◌∙◌}
 use Rattle.zt_store.proofs.RecordLaws.{taken-next}
-use Rattle.zt_store.proofs.record.rows_of.Goals as goal
+use Rattle.zt_store.proofs.kept_rows.push_rows.Goals as goal
 
 pub loop-i-preserved : goal.loop-i-preserved
 loop-i-preserved c =
