@@ -24,7 +24,7 @@ use Rattle.zt_history.specs.ProofsOnly.TreeInvariant.{IsHistory}
 use Rattle.zt_history.specs.ProofsOnly.MomentNodes.{Chronicle, IsTurned, run_at}
 use Rattle.zt_history.specs.ProofsOnly.KeptHistory.{IsKept, timeline_of}
 use Rattle.zt_history.proofs.ListLaws.{get-last}
-use Rattle.zt_history.proofs.RunLaws.{few-koids, moment-consistent, moment-room}
+use Rattle.zt_history.proofs.RunLaws.{few-koids, few-process, moment-consistent, moment-room}
 use Rattle.zt_history.proofs.GrownLaws.{length-push, history-push, history-dropped, moments-push, moments-left}
 use Rattle.zt_history.proofs.TreeLaws.{without_last-push, last_apart, headed-back, length-headed, branches-more, branches-headed, branches-push}
 use Rattle.zt_history.proofs.KeptLaws.{kept-back}
@@ -42,6 +42,10 @@ module _ (store : Stored) (moments : Chronicle) (branches : List Branch) (p : �
   kept-few process call few running limits =
       subst (λ S. next_koid (step S process call).0 < 4294967296) (sym is.history.here)
       (few-koids moments.made is.moments_stand p process call is.history.within few (subst (λ S. runs S process ≡ true) is.history.here running) limits)
+
+  -- a process that runs has a koid that four bytes hold
+  pub kept-small : (process : ℕ) → length moments.made < 1048576 → runs store.state process ≡ true → process < 4294967296
+  kept-small process few running = few-process moments.made is.moments_stand p process is.history.within few (subst (λ S. runs S process ≡ true) is.history.here running)
 
   -- a call that was refused left the rows and the moments
   pub kept-refused : (new : Stored) (same : Chronicle) → new.state ≡ store.state → same ≡ moments → Keeps store.places new.places → IsKept new same branches p undo.Nothing

@@ -6,12 +6,13 @@ pub mod RecordLaws
 pub mod HistoryLaws
 pub mod GrownLaws
 pub mod BranchLaws
+pub mod TreeLaws
 pub mod NodeLaws
+pub mod StoredLaws
 pub mod KeptLaws
 pub mod WayLaws
 pub mod ForkLaws
 pub mod ListedLaws
-pub mod TreeLaws
 pub mod NoteListLaws
 pub mod NotedLaws
 pub mod WholeLaws

@@ -1,22 +1,24 @@
--- Moments with the lists of their parents, of their shortcuts and of their records: one more and one less.
+-- Moments with the lists of their shortcuts and of their records: one more and one less.
 use Rattle.std.proofs.Common.{◌≡◌, ℕ, suc, ◌+◌, ◌-◌, ◌≤◌, ◌<◌, List, [], ◌∷◌, ◌++◌, length, set, take, Option, Some, None, inl, inr, refl, sym, ◌∙◌, ap, subst, arith, Bor}
 use Rattle.std.specs.Prelude.{slice_get, IfSome}
 use Rattle.std.specs.Option.{option_copied}
 use Rattle.std.specs.Slice.{IsItemAt}
 use Rattle.std.proofs.lemmas.Bool.{cases_lt}
-use Rattle.std.proofs.lemmas.List.{length-append, length-set, length-take, map-append, take-map}
+use Rattle.std.proofs.lemmas.List.{length-append, length-set, length-take, append-nil}
 use Rattle.std.proofs.lemmas.Option.{none-some, same_Some, slice_get_past, slice_get_within}
 use Rattle.zt_rows.proofs.ChangeLaws.{Rows}
-use Rattle.zt_history.specs.declared.moments.MomentNode.{MomentNode}
 use Rattle.zt_history.specs.declared.moments.Shortcut.{Shortcut}
 use Rattle.zt_history.specs.HistoryRefusals.{most_moments}
 use Rattle.zt_history.specs.Tree.{Made, parent_of, parent_at, path}
 use Rattle.zt_history.specs.TreeInvariant.{Falls}
+use Rattle.zt_history.specs.ProofsOnly.Branches.{without_last}
 use Rattle.zt_history.specs.ProofsOnly.Forks.{IsAbove, IsRunBeyond, IsShortcut, AreShortcuts}
-use Rattle.zt_history.specs.ProofsOnly.MomentNodes.{Chronicle, AreNodes, AreListed, made_as, made_in, parents_in}
+use Rattle.zt_history.specs.ProofsOnly.MomentNodes.{Chronicle, AreNodes, AreListed, made_as, made_in}
+use Rattle.zt_history.specs.ProofsOnly.StoredNodes.{MomentNode}
 use Rattle.zt_history.proofs.ForkLaws.{above-above, above-early, above-opening, above-parent, above-self}
-use Rattle.zt_history.proofs.ListLaws.{length-mapped, get-left, get-last, place}
+use Rattle.zt_history.proofs.ListLaws.{get-left, get-last, place}
 use Rattle.zt_history.proofs.MoreLaws.{falls-push, path-more}
+use Rattle.zt_history.proofs.TreeLaws.{last_apart}
 use Rattle.zt_history.proofs.NodeLaws.{got, length-made_in, made_in-more, nodes-left, nodes-pushed, seen}
 
 -- ---- shortcuts while moments are made or dropped
@@ -140,62 +142,71 @@ shortcut-listed nodes records shortcuts xs h i m r at all are is place = by r (g
 
 -- ---- nodes with all lists
 
-pub length-parents : (nodes : List MomentNode) (parents : List ℕ) → parents ≡ parents_in nodes → length parents ≡ length nodes
-length-parents nodes parents listed = ap length listed ∙ length-mapped (λ (n : MomentNode). n.parent) nodes
-
-pub listed-left : (nodes fewer more : List MomentNode) (parents left : List ℕ) (shortcuts held gone : List Shortcut) (records kept : List Rows) (n k q r : ℕ)
-    → nodes ≡ fewer ++ more → fewer ≡ take n nodes → left ≡ take k parents → k ≡ n
-    → shortcuts ≡ held ++ gone → held ≡ take q shortcuts → q ≡ n → kept ≡ take r records → r ≡ n
-    → AreListed nodes parents shortcuts records → AreListed fewer left held kept
-listed-left nodes fewer more parents left shortcuts held gone records kept n k q r apart first others same parted leaps few rows still are = record {
-  stand = stand;
-  listed =
-      others ∙ (λ i. take (same i) (are.listed i))
-      ∙ take-map (λ (n : MomentNode). n.parent) n nodes
-      ∙ ap parents_in (sym first);
-  many = many;
-  ways =
-      shortcuts-fewer (made_in fewer) (made_in more) stand.falls shortcuts held gone parted (omega (arith, many, length-made_in fewer))
-      (subst (λ made. AreShortcuts made shortcuts) (ap made_in apart ∙ made_in-more fewer more) are.ways);
-  recorded = omega (arith, ap length rows, length-take r records, ap length first, length-take n nodes, still, are.recorded);
-}
+pub listed-left : (nodes fewer : List MomentNode) (shortcuts held gone : List Shortcut) (records kept : List Rows) (q r : ℕ)
+    → fewer ≡ without_last nodes → shortcuts ≡ held ++ gone → held ≡ take q shortcuts → q ≡ length nodes - 1 → kept ≡ take r records → r ≡ length nodes - 1
+    → AreListed nodes shortcuts records → AreListed fewer held kept
+listed-left nodes fewer shortcuts held gone records kept q r first parted leaps few rows still are = elim (cases_lt 0 (length nodes)) [
+  | inl some ↦ by (last_apart nodes some)
+  | inr none ↦ same none
+]
   where
-    stand : AreNodes fewer
-    stand = nodes-left fewer more (subst AreNodes apart are.stand)
+    size : length fewer ≡ length nodes - 1
+    size = ap length first ∙ omega (arith, length-take (length nodes - 1) nodes)
 
     many : length held ≡ length fewer
-    many = omega (arith, ap length leaps, length-take q shortcuts, ap length first, length-take n nodes, few, are.many)
+    many = omega (arith, ap length leaps, length-take q shortcuts, size, few, are.many)
+
+    recorded : length kept ≡ length fewer
+    recorded = omega (arith, ap length rows, length-take r records, size, still, are.recorded)
+
+    whole : (more : List MomentNode) → nodes ≡ fewer ++ more → AreListed fewer held kept
+    whole more apart =
+        let stand : AreNodes fewer = nodes-left fewer more (subst AreNodes apart are.stand) in
+        record {
+          stand = stand;
+          many = many;
+          ways =
+              shortcuts-fewer (made_in fewer) (made_in more) stand.falls shortcuts held gone parted (omega (arith, many, length-made_in fewer))
+              (subst (λ made. AreShortcuts made shortcuts) (ap made_in apart ∙ made_in-more fewer more) are.ways);
+          recorded = recorded;
+        }
+
+    by : (n : MomentNode) × (nodes ≡ without_last nodes ++ n ∷ []) → AreListed fewer held kept
+    by last = whole (last.0 ∷ []) (last.1 ∙ ap (λ xs. xs ++ last.0 ∷ []) (sym first))
+
+    same : length nodes ≤ 0 → AreListed fewer held kept
+    same none = whole [] (empty nodes none ∙ sym (append-nil fewer ∙ empty fewer (omega (arith, size, none))))
+      where
+        empty : {A : Type 0} (xs : List A) → length xs ≤ 0 → xs ≡ []
+        empty [] h = refl
+        empty (x ∷ xs) h = absurd (omega (arith, h))
 
 -- another record in the place of one
-pub listed-set : (nodes : List MomentNode) (parents : List ℕ) (shortcuts : List Shortcut) (records : List Rows) (i : ℕ) (R : Rows)
-    → AreListed nodes parents shortcuts records → AreListed nodes parents shortcuts (set records i R)
-listed-set nodes parents shortcuts records i R are = record {
+pub listed-set : (nodes : List MomentNode) (shortcuts : List Shortcut) (records : List Rows) (i : ℕ) (R : Rows)
+    → AreListed nodes shortcuts records → AreListed nodes shortcuts (set records i R)
+listed-set nodes shortcuts records i R are = record {
   stand = are.stand;
-  listed = are.listed;
   many = are.many;
   ways = are.ways;
   recorded = length-set records i R ∙ are.recorded;
 }
 
 -- the record of a moment is there
-pub listed-within : (nodes : List MomentNode) (parents : List ℕ) (shortcuts : List Shortcut) (records : List Rows) (h : Chronicle) (i m : ℕ) → seen nodes records ≡ h
-    → i ≡ m - 1 → 0 < m → m ≤ length h.made → AreListed nodes parents shortcuts records → i < length records
-listed-within nodes parents shortcuts records h i m is place some there are =
+pub listed-within : (nodes : List MomentNode) (shortcuts : List Shortcut) (records : List Rows) (h : Chronicle) (i m : ℕ) → seen nodes records ≡ h
+    → i ≡ m - 1 → 0 < m → m ≤ length h.made → AreListed nodes shortcuts records → i < length records
+listed-within nodes shortcuts records h i m is place some there are =
     omega (arith, place, some, there, ap (λ (h : Chronicle). length h.made) is, length-made_in nodes, are.recorded)
 
--- a moment more, with its parent, its shortcut and its record, where room was made first
-module _ (nodes middle new : List MomentNode) (n : MomentNode) (parents room longer : List ℕ) (shortcuts spare leaps : List Shortcut) (s : Shortcut)
+-- a moment more, with its shortcut and its record, where room was made first
+module _ (nodes middle new : List MomentNode) (n : MomentNode) (shortcuts spare leaps : List Shortcut) (s : Shortcut)
     (records space rows : List Rows) (R : Rows) (h : Chronicle)
-    (pushed : new ≡ middle ++ n ∷ []) (kept : middle ≡ nodes) (grown : longer ≡ room ++ n.parent ∷ []) (held : room ≡ parents)
+    (pushed : new ≡ middle ++ n ∷ []) (kept : middle ≡ nodes)
     (leapt : leaps ≡ spare ++ s ∷ []) (spared : spare ≡ shortcuts) (wrote : rows ≡ space ++ R ∷ []) (stood : space ≡ records)
     (is : seen nodes records ≡ h) where
   pub listed-pushed : n.parent ≤ length h.made → n.depth ≡ length (path h.made n.parent) + 1 → IsAbove h.made s.jump n.parent → IsRunBeyond h.made s.first n.parent
-      → length h.made < most_moments → AreListed nodes parents shortcuts records → AreListed new longer leaps rows
+      → length h.made < most_moments → AreListed nodes shortcuts records → AreListed new leaps rows
   listed-pushed there deep above run few are = record {
     stand = nodes-pushed nodes middle new records n h pushed kept is there deep few are.stand;
-    listed =
-        grown ∙ ap (λ xs. xs ++ n.parent ∷ []) (held ∙ are.listed)
-        ∙ sym (ap parents_in all ∙ map-append (λ (n : MomentNode). n.parent) nodes (n ∷ []));
     many = ap length leaps_are ∙ omega (arith, length-append shortcuts (s ∷ []), are.many, more);
     ways =
         subst (λ made. AreShortcuts made leaps) (sym (ap made_in all ∙ made_in-more nodes (n ∷ [])))

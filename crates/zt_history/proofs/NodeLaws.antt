@@ -1,9 +1,9 @@
 -- Moments as they are kept: look-ups, depths, a record that changes, one more and one less.
-use Rattle.std.proofs.Common.{◌≡◌, ℕ, zero, suc, ◌+◌, ◌≤◌, ◌<◌, true, inl, inr, List, [], ◌∷◌, ◌++◌, length, reverse, set, get_or, Option, Some, None, refl, sym, ◌∙◌, ap, subst, arith, Bor}
+use Rattle.std.proofs.Common.{◌≡◌, ℕ, zero, suc, ◌+◌, ◌-◌, ◌≤◌, ◌<◌, true, inl, inr, List, [], ◌∷◌, ◌++◌, length, reverse, set, take, get_or, Option, Some, None, refl, sym, ◌∙◌, ap, subst, arith, Bor}
 use Rattle.std.specs.Prelude.{slice_get, IfSome}
 use Rattle.std.specs.Option.{option_copied, option_map}
 use Rattle.std.specs.Slice.{IsItemAt}
-use Rattle.std.proofs.lemmas.List.{reverse-append, append_assoc, length-append, length-reverse, map-append}
+use Rattle.std.proofs.lemmas.List.{reverse-append, append_assoc, length-append, length-reverse, map-append, take-map}
 use Rattle.std.proofs.lemmas.Option.{slice_get-map, slice_get-get_or, slice_get_past, slice_get_within, none-some, same_Some}
 use Rattle.zt_rows.specs.Change.{exchange}
 use Rattle.zt_rows.specs.State.{State}
@@ -12,11 +12,12 @@ use Rattle.zt_store.specs.Places.{Places, fits}
 use Rattle.zt_store.specs.RecordRows.{all_fit}
 use Rattle.zt_store.specs.StoreView.{Stored}
 use Rattle.zt_store.proofs.Fitting.{all_fit-at}
-use Rattle.zt_history.specs.declared.moments.MomentNode.{MomentNode}
 use Rattle.zt_history.specs.Tree.{Made, made_at, parent_of, parent_at, path}
 use Rattle.zt_history.specs.HistoryRefusals.{most_moments}
 use Rattle.zt_history.specs.TreeInvariant.{Falls}
-use Rattle.zt_history.specs.ProofsOnly.MomentNodes.{Chronicle, AreNodes, IsTurned, made_as, made_in, parents_in, record_at}
+use Rattle.zt_history.specs.ProofsOnly.Branches.{without_last}
+use Rattle.zt_history.specs.ProofsOnly.MomentNodes.{Chronicle, AreNodes, IsTurned, made_as, made_in, record_at}
+use Rattle.zt_history.specs.ProofsOnly.StoredNodes.{MomentNode}
 use Rattle.zt_history.proofs.ListLaws.{length-mapped, get-within, get-left, get-last, place}
 use Rattle.zt_history.proofs.MoreLaws.{path-more, falls-push, falls-left}
 use Rattle.zt_history.proofs.PathLaws.{path-opening, path-step, length-path}
@@ -30,26 +31,31 @@ got xs i (Some x) h = ap Some h.1 ∙ sym (slice_get-get_or xs i x.now h.3.0)
 abbrev pub seen : List MomentNode → List Rows → Chronicle
 seen nodes records = record { made = made_in nodes; records = records }
 
-module _ (nodes xs : List MomentNode) (records : List Rows) (h : Chronicle) (i m : ℕ) (r : Option (Bor MomentNode)) (at : IsItemAt xs i r) (all : xs ≡ nodes) (is : seen nodes records ≡ h) (place : m ≡ suc i) where
-  here : option_copied r ≡ slice_get nodes i
-  here = got xs i r at ∙ ap (λ xs. slice_get xs i) all
+module _ (nodes : List MomentNode) (records : List Rows) (h : Chronicle) (i m : ℕ) (is : seen nodes records ≡ h) (place : m ≡ suc i) where
+  there : made_at (made_in nodes) (suc i) ≡ made_at h.made m
+  there = λ j. made_at (is j).made (sym place j)
 
-  pub node-made : option_map (λ n. made_as n.now) r ≡ made_at h.made m
-  node-made = by r here
+  -- what is read of a node is so of the moment
+  pub node-seen : {X : Type 0} (f : Made → X) → option_map (λ n. f (made_as n)) (slice_get nodes i) ≡ option_map f (made_at h.made m)
+  node-seen f = by (slice_get nodes i) ∙ ap (option_map f) (sym (slice_get-map made_as nodes i) ∙ there)
     where
-      end : option_map made_as (slice_get nodes i) ≡ made_at h.made m
-      end = sym (slice_get-map made_as nodes i) ∙ (λ j. made_at (is j).made (sym place j))
+      by : (o : Option MomentNode) → option_map (λ n. f (made_as n)) o ≡ option_map f (option_map made_as o)
+      by None = refl
+      by (Some n) = refl
 
-      by : (r : Option (Bor MomentNode)) → option_copied r ≡ slice_get nodes i → option_map (λ n. made_as n.now) r ≡ made_at h.made m
-      by None e = ap (option_map made_as) e ∙ end
-      by (Some n) e = ap (option_map made_as) e ∙ end
-
-  pub node-depth : AreNodes nodes → IfSome r (λ n. n.now.depth ≡ length (path h.made m))
-  node-depth are = by r here
+  pub node-depth : AreNodes nodes → (r : Option ℕ) → r ≡ option_map (λ n. n.depth) (slice_get nodes i) → IfSome r (λ d. d ≡ length (path h.made m))
+  node-depth are r e = by (slice_get nodes i) refl r e
     where
-      by : (r : Option (Bor MomentNode)) → option_copied r ≡ slice_get nodes i → IfSome r (λ n. n.now.depth ≡ length (path h.made m))
-      by None e = tt
-      by (Some n) e = are.deep i n.now (sym e) ∙ (λ j. length (path (is j).made (sym place j)))
+      by : (o : Option MomentNode) → slice_get nodes i ≡ o → (r : Option ℕ) → r ≡ option_map (λ n. n.depth) o → IfSome r (λ d. d ≡ length (path h.made m))
+      by o at None e = tt
+      by None at (Some d) e = absurd (none-some d (sym e))
+      by (Some n) at (Some d) e = same_Some d n.depth e ∙ are.deep i n at ∙ (λ j. length (path (is j).made (sym place j)))
+
+  -- a moment that there is has a depth
+  pub node-there : m ≤ length h.made → None ≡ option_map (λ n. n.depth) (slice_get nodes i) → ⊥
+  node-there within e =
+      let at = get-within nodes i (omega (arith, within, place, ap (λ (h : Chronicle). length h.made) is, length-mapped made_as nodes)) in
+      none-some (at.0.depth) (e ∙ ap (option_map (λ (n : MomentNode). n.depth)) at.1)
 
 -- the record of a moment, as it is read from the list of the records
 pub record-listed : (nodes : List MomentNode) (records xs : List Rows) (h : Chronicle) (i m : ℕ) (r : Option (Bor Rows)) → IsItemAt xs i r → xs ≡ records → seen nodes records ≡ h → m ≡ suc i
@@ -64,21 +70,17 @@ parent_in : (o : Option MomentNode) → or_opening (option_map (λ n. n.parent) 
 parent_in None = refl
 parent_in (Some n) = refl
 
--- the parent of a moment, as it is read from the list of the parents
-pub parent-listed : (nodes : List MomentNode) (records : List Rows) (parents xs : List ℕ) (h : Chronicle) (i m : ℕ) (r : Option (Bor ℕ)) → IsItemAt xs i r → xs ≡ parents → parents ≡ parents_in nodes
-    → seen nodes records ≡ h → m ≡ suc i → or_opening (option_copied r) ≡ parent_at h.made m
-parent-listed nodes records parents xs h i m r at all listed is place =
-    ap or_opening (got xs i r at ∙ ap (λ xs. slice_get xs i) (all ∙ listed) ∙ slice_get-map (λ n. n.parent) nodes i)
-    ∙ parent_in (slice_get nodes i)
+-- the parent of a moment, as it is read from its node
+pub parent-listed : (nodes : List MomentNode) (records : List Rows) (h : Chronicle) (i m : ℕ) → seen nodes records ≡ h → m ≡ suc i
+    → or_opening (option_map (λ n. n.parent) (slice_get nodes i)) ≡ parent_at h.made m
+parent-listed nodes records h i m is place =
+    parent_in (slice_get nodes i)
     ∙ ap parent_of (sym (slice_get-map made_as nodes i))
     ∙ (λ j. parent_at (is j).made (sym place j))
 
--- where nothing is kept of a moment, it is the opening, whose path is empty
-pub depth-none : (made : List Made) (m : ℕ) → m ≤ length made → made_at made m ≡ None → 0 ≡ length (path made m)
-depth-none made zero h e = sym (ap length (path-opening made))
-depth-none made (suc i) h e =
-    let there = get-within made i (omega (arith, h)) in
-    absurd (none-some there.0 (sym e ∙ there.1))
+-- the opening's path is empty
+pub depth-opening : (made : List Made) (m : ℕ) → m ≡ 0 → 0 ≡ length (path made m)
+depth-opening made m e = sym (ap (λ m. length (path made m)) e ∙ ap length (path-opening made))
 
 -- ---- a path from its end
 
@@ -110,6 +112,9 @@ module _ (nodes more : List MomentNode) where
 
 pub length-made_in : (nodes : List MomentNode) → length (made_in nodes) ≡ length nodes
 length-made_in nodes = length-mapped made_as nodes
+
+pub made_in-fewer : (nodes : List MomentNode) → made_in (without_last nodes) ≡ without_last (made_in nodes)
+made_in-fewer nodes = sym (take-map made_as (length nodes - 1) nodes) ∙ ap (λ n. take (n - 1) (made_in nodes)) (sym (length-made_in nodes))
 
 -- the first nodes of a list of nodes
 pub nodes-left : (nodes more : List MomentNode) → AreNodes (nodes ++ more) → AreNodes nodes

@@ -5,9 +5,9 @@ use Rattle.std.specs.Prelude.{◌==◌, if◌then◌else◌, slice_get}
 use Rattle.std.specs.List.{AllByRecursion}
 use Rattle.std.specs.Option.{option_map}
 use Rattle.std.proofs.lemmas.Bool.{cases_lt, eqb-true, eqb-false, eq-eqb, ne_eqb, true≢false}
-use Rattle.std.proofs.lemmas.List.{append_assoc, flat_map_more, get_or-set_same, get_or-set_other, get_or_past, map-append, take_more}
+use Rattle.std.proofs.lemmas.List.{append_assoc, flat_map_more, get_or-set_same, get_or-set_other, get_or_past, map-append, take-append-le, take_all, take_more}
 use Rattle.std.proofs.lemmas.Option.{get_or_from_slice_get, none-some, same_Some, slice_get-map, slice_get_past, slice_get_read, slice_get_within}
-use Rattle.std.proofs.Math.Seq.{take-length}
+use Rattle.std.proofs.Math.Seq.{take-append_seam, take-length}
 use Rattle.zt_rows.specs.declared.keys.RowKey.{RowKey}
 use Rattle.zt_rows.specs.declared.keys.RowKey.TheVariants as key
 use Rattle.zt_rows.specs.declared.rows.Row.{Row}
@@ -20,7 +20,7 @@ use Rattle.zt_history.specs.declared.row_happenings.RowHappening.{RowHappening}
 use Rattle.zt_history.specs.Tree.{Made, path}
 use Rattle.zt_history.specs.TreeInvariant.{Falls}
 use Rattle.zt_history.specs.ProofsOnly.Branches.{without_last}
-use Rattle.zt_history.specs.ProofsOnly.ObjectNotes.{AreChained, AreLinked, AreRising, ChangeNote, Covers, HasNoneFrom, IsCovered, IsCut, IsLastFound, IsSameEnd, end_at, ends_at, is_at, is_found, is_of, last_of, note_as, note_before, note_over, note_under, notes_in, notes_under, tells}
+use Rattle.zt_history.specs.ProofsOnly.ObjectNotes.{AreChained, AreLinked, AreRising, ChangeNote, HasNoneFrom, IsCut, IsLastFound, IsLonger, IsSameEnd, end_at, ends_at, is_at, is_found, is_of, last_of, note_as, note_before, note_over, note_under, notes_in, notes_under, tells}
 use Rattle.zt_history.proofs.GrownLaws.{length-push}
 use Rattle.zt_history.proofs.ListLaws.{get-left, get-last, length-mapped, place}
 use Rattle.zt_history.proofs.PathLaws.{among-early, among-self}
@@ -249,29 +249,35 @@ same-padded old last new pushed same x = ap (λ xs. end_at xs x) pushed ∙ end-
 pub same-chained : (list : List ObjectNote) (old new : List ℕ) → IsSameEnd old new → AreChained list old → AreChained list new
 same-chained list old new same are = record { earlier = are.earlier; ends = λ x. same x ∙ are.ends x }
 
-covered-more : (n m : ℕ) (k : RowKey) → n ≤ m → IsCovered n k → IsCovered m k
-covered-more n m (key.Object x) h is = omega (arith, h, is)
-covered-more n m key.Counters h is = tt
-covered-more n m (key.Entry p e) h is = tt
-covered-more n m (key.Msg e i) h is = tt
-covered-more n m (key.Packet p i) h is = tt
-covered-more n m (key.Wait i) h is = tt
+-- ---- further changes behind
 
-pub covered-next : (keys : List RowKey) (n old new : ℕ) (q : RowKey) → n < length keys → q ≡ get_or keys n q → old ≤ new → IsCovered new q
-    → ((i : ℕ) (k : RowKey) → i < n → slice_get keys i ≡ Some k → IsCovered old k) → (i : ℕ) (k : RowKey) → i < n + 1 → slice_get keys i ≡ Some k → IsCovered new k
-covered-next keys n old new q within read more here before i k early at = elim (cases_lt i n) [
-  | inl l ↦ covered-more old new k more (before i k l at)
-  | inr h ↦
-      let same : i ≡ n = omega (arith, early, h) in
-      let k_is : q ≡ k = same_Some q k (sym (slice_get_read keys (length keys) n q refl within read) ∙ ap (slice_get keys) (sym same) ∙ at) in
-      subst (IsCovered new) k_is here
-]
+pub longer-self : (list : List ObjectNote) → IsLonger list list
+longer-self list = record { more = []; apart = sym (append-nil list) }
 
-pub covered-all : (keys : List RowKey) (n m : ℕ) (last : List ℕ) → length keys ≤ n → m ≡ length last → ((i : ℕ) (k : RowKey) → i < n → slice_get keys i ≡ Some k → IsCovered m k) → Covers last keys
-covered-all keys n m last past size before i k at = subst (λ m. IsCovered m k) size (before i k (omega (arith, past, slice_get_within keys i k at)) at)
+pub longer-push : (list new : List ObjectNote) (c : ObjectNote) → new ≡ list ++ c ∷ [] → IsLonger list new
+longer-push list new c pushed = record { more = c ∷ []; apart = pushed }
 
-pub covered-at : (last : List ℕ) (keys : List RowKey) (n m : ℕ) (k : RowKey) → Covers last keys → m ≡ length last → n < length keys → k ≡ get_or keys n k → IsCovered m k
-covered-at last keys n m k covers size within read = subst (λ m. IsCovered m k) (sym size) (covers n k (slice_get_read keys (length keys) n k refl within read))
+pub longer-next : (old now new : List ObjectNote) → IsLonger old now → IsLonger now new → IsLonger old new
+longer-next old now new first then_is = record {
+  more = first.more ++ then_is.more;
+  apart = then_is.apart ∙ ap (λ list. list ++ then_is.more) first.apart ∙ append_assoc old first.more then_is.more;
+}
+
+-- the first so many of them are those that were there
+pub longer-first : (old now : List ObjectNote) (n : ℕ) → n ≡ length old → IsLonger old now → take n now ≡ old
+longer-first old now n size longer = (λ j. take (size j) (longer.apart j)) ∙ take-append_seam old longer.more
+
+-- the first so many stay where the last of more goes
+pub first-left : (start list less : List ObjectNote) (n : ℕ) → n < length list → less ≡ without_last list → take n list ≡ take n start → take n less ≡ take n start
+first-left start list less n more fewer same =
+    let apart = last_apart list (omega (arith, more)) in
+    let size : length list ≡ suc (length (without_last list)) = ap length apart.1 ∙ length-push (without_last list) apart.0 in
+    ap (take n) fewer
+    ∙ sym (take-append-le n (without_last list) (apart.0 ∷ []) (omega (arith, more, size)))
+    ∙ sym (ap (take n) apart.1) ∙ same
+
+pub first-all : (start list : List ObjectNote) (n : ℕ) → length list ≤ n → take n list ≡ take n start → list ≡ take n start
+first-all start list n few same = sym (take_all n list few) ∙ same
 
 -- ---- what a loop over keys notes
 

@@ -13,6 +13,7 @@ use Rattle.zt_rows.specs.Room.{HasRoom, HasSpent}
 use Rattle.zt_rows.specs.State.{State}
 use Rattle.zt_rows.specs.Step.{IsCall, step, run}
 use Rattle.zt_rows.proofs.OpeningLaws.{opening-consistent}
+use Rattle.zt_rows.proofs.SoundLaws.{runs-some}
 use Rattle.zt_rows.proofs.SpentLaws.{spent-opening, spent-step, spent-room}
 use Rattle.zt_rows.proofs.CallLaws.{step-consistent}
 use Rattle.zt_history.specs.Tree.{Made, made_at, parent_of, parent_at, call_at, reply_at, path, calls_to, replies_to, state_at}
@@ -139,3 +140,11 @@ module _ (made : List Made) (are : AreMoments made) where
       let given : HasSpent (length (path made m) + 1) (step (state_at made m) process call).0 =
       spent-step (state_at made m) process call (length (path made m)) less rest.0.sound running limits rest.1 in
       omega (arith, given.koids, less)
+
+  -- nor has one that runs
+  pub few-process : (m process : ℕ) → m ≤ length made → length made < 1048576 → runs (state_at made m) process ≡ true → process < 4294967296
+  few-process m process h few running =
+      let rest : IsConsistent (state_at made m) × HasSpent (length (path made m)) (state_at made m) = at-rest m h in
+      let there = runs-some (state_at made m) process running in
+      let low : process < next_koid (state_at made m) = (rest.0.sound.of_objects process there.0 there.1).high in
+      omega (arith, low, rest.1.koids, short-path made are.falls m, h, few)

@@ -4,5 +4,6 @@ pub mod TreeInvariant
 pub mod KeptHistory
 pub mod Branches
 pub mod Forks
+pub mod StoredNodes
 pub mod MomentNodes
 pub mod ObjectNotes

@@ -75,11 +75,13 @@ impl History {
     {
         let store = RestingStore::opening(alloc)?;
         let notes = ObjectNotes::new(alloc, store.store())?;
+        let moments = Moments::new(alloc)?;
+        let branches = Branches::new(alloc)?;
         Ok(History {
             store,
-            moments: Moments::new(alloc),
+            moments,
             notes,
-            branches: Branches::new(alloc)?,
+            branches,
             position: Moment(0),
             undo: Undo::Nothing,
         })
@@ -147,10 +149,7 @@ impl History {
     pub fn reply_of(&self, moment: Moment) -> Option<&Reply>
         ensures { option_copied result ≡ reply_at self.now.tree.made moment }
     {
-        match self.moments.node(moment) {
-            Some(node) => Some(&node.reply),
-            None => None,
-        }
+        self.moments.reply(moment)
     }
 
     /// The call that made a moment, with its process; nothing for the opening, nor beyond the last moment. It takes
@@ -158,10 +157,7 @@ impl History {
     pub fn call_of(&self, moment: Moment) -> Option<(Koid, &Call)>
         ensures { option_map (λ p. (p.0, p.1.now)) result ≡ call_at self.now.tree.made moment }
     {
-        match self.moments.node(moment) {
-            Some(node) => Some((node.process, &node.call)),
-            None => None,
-        }
+        self.moments.call(moment)
     }
 
     /// The moment at which a moment's call was made; the opening for itself, and beyond the last moment. It takes no

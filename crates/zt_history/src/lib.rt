@@ -6,6 +6,7 @@ mod branches;
 mod copied_calls;
 mod history;
 pub mod laws;
+mod moment_nodes;
 mod moments;
 mod new_moment;
 mod object_notes;

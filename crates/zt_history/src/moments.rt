@@ -1,4 +1,4 @@
-ghost use Rattle.std.specs.Prelude.{◌≡◌, ◌<◌, ◌≤◌, ◌+◌, ◌-◌, ◌++◌, ◌∷◌, [], ℕ, true, IfOk, OnOk, OnErr, IfSome, length, reverse, slice_get};
+ghost use Rattle.std.specs.Prelude.{◌≡◌, ◌<◌, ◌≤◌, ◌+◌, ◌-◌, ◌++◌, ◌∷◌, [], ℕ, true, if◌then◌else◌, Some, None, IfOk, OnOk, OnErr, IfSome, length, reverse, slice_get};
 ghost use Rattle.std.specs.Option.{option_copied, option_map};
 ghost use Rattle.zt_rows.specs.Change.{before};
 ghost use Rattle.zt_rows.specs.Consistent.{IsConsistent};
@@ -11,27 +11,18 @@ ghost use Rattle.zt_store.specs.Places.{Keeps, fits};
 ghost use Rattle.zt_store.specs.RecordRows.{all_fit};
 ghost use Rattle.zt_history.specs.ProofsOnly.Branches.{without_last};
 ghost use Rattle.zt_history.specs.ProofsOnly.Forks.{IsAbove, IsRunBeyond, IsShortcut};
-ghost use Rattle.zt_history.specs.ProofsOnly.MomentNodes.{IsTurned, made_as, record_at, run_at};
+ghost use Rattle.zt_history.specs.ProofsOnly.MomentNodes.{IsTurned, record_at, run_at};
 ghost use Rattle.zt_history.specs.ProofsOnly.ObjectNotes.{noted};
 ghost use Rattle.zt_history.specs.TreeInvariant.{Falls};
-ghost use Rattle.zt_history.specs.Tree.{made_at, parent_at, path};
+ghost use Rattle.zt_history.specs.Tree.{call_at, parent_at, path, reply_at};
 
+use crate::moment_nodes::MomentNodes;
 use crate::object_notes::ObjectNotes;
 use crate::resting_store::RestingStore;
 use std::alloc::{AllocError, Global};
 use std::marker::Model;
 use zt_rows::{Call, Koid, Moment, Reply};
 use zt_store::{Record, Store};
-
-/// How a moment was made, and how long its path is.
-#[derive(Drop)]
-pub(crate) struct MomentNode {
-    pub(crate) parent: Moment,
-    pub(crate) depth: u32,
-    pub(crate) process: Koid,
-    pub(crate) call: Call,
-    pub(crate) reply: Reply,
-}
 
 /// Two ways up a moment's path: a jump to a moment further up, and the first moment of its run, the moments in a row of
 /// which each but the first was made at the one just before it.
@@ -41,14 +32,12 @@ pub(crate) struct Shortcut {
     pub(crate) first: Moment,
 }
 
-/// The moments after the opening in the order in which they were made. The parents stand in a list of their own
-/// as well, so that a path is read from few bytes, and so do the records, so that a store that goes over many moments reads
-/// nothing else of them. The jumps lie so that any moment of a path is come to by as many jumps and parents as the
-/// logarithm of the path's length.
+/// The moments after the opening in the order in which they were made. The records stand in a list of their own, so that a
+/// store that goes over many moments reads nothing else of them. The jumps lie so that any moment of a path is come to by as
+/// many jumps and parents as the logarithm of the path's length.
 #[derive(Drop)]
 pub(crate) struct Moments {
-    nodes: Vec<MomentNode>,
-    parents: Vec<Moment>,
+    nodes: MomentNodes,
     shortcuts: Vec<Shortcut>,
     records: Vec<Record>,
 }
@@ -58,22 +47,21 @@ impl Model for Moments {
 
     ghost Value = { Chronicle };
 
-    ghost view = { λ m. record { made = made_in m.nodes.items; records = m.records.items } };
+    ghost view = { λ m. record { made = made_in m.nodes.list; records = m.records.items } };
 
-    ghost invariant = { λ m. AreListed m.nodes.items m.parents.items m.shortcuts.items m.records.items };
+    ghost invariant = { λ m. AreListed m.nodes.list m.shortcuts.items m.records.items };
 }
 
 impl Moments {
     /// No moment but the opening.
-    pub(crate) fn new(alloc: Global) -> Moments
-        ensures { result ≡ record { made = []; records = [] } }
+    pub(crate) fn new(alloc: Global) -> Result<Moments, AllocError>
+        ensures { IfOk result (λ moments. moments ≡ record { made = []; records = [] }) }
     {
-        Moments {
-            nodes: Vec::new(alloc),
-            parents: Vec::new(alloc),
+        Ok(Moments {
+            nodes: MomentNodes::new(alloc)?,
             shortcuts: Vec::new(alloc),
             records: Vec::new(alloc),
-        }
+        })
     }
 
     /// The last moment.
@@ -92,15 +80,24 @@ impl Moments {
         let _nodes = &self.nodes;
     }
 
-    /// What is kept of a moment; nothing of the opening, nor beyond the last.
-    pub(crate) fn node(&self, moment: Moment) -> Option<&MomentNode>
-        ensures made { option_map (λ n. made_as n.now) result ≡ made_at self.now.made moment }
-        ensures depth { IfSome result (λ n. n.now.depth ≡ length (path self.now.made moment)) }
+    /// The call that made a moment, with its process; nothing for the opening, nor beyond the last.
+    pub(crate) fn call(&self, moment: Moment) -> Option<(Koid, &Call)>
+        ensures { option_map (λ p. (p.0, p.1.now)) result ≡ call_at self.now.made moment }
     {
         if moment.0 == 0 {
             return None;
         }
-        self.nodes.get((moment.0 - 1) as usize)
+        self.nodes.call((moment.0 - 1) as usize)
+    }
+
+    /// What a moment's call answered; nothing for the opening, nor beyond the last.
+    pub(crate) fn reply(&self, moment: Moment) -> Option<&Reply>
+        ensures { option_copied result ≡ reply_at self.now.made moment }
+    {
+        if moment.0 == 0 {
+            return None;
+        }
+        self.nodes.reply((moment.0 - 1) as usize)
     }
 
     /// The record by which a store goes over a moment; none of the opening, nor beyond the last.
@@ -120,8 +117,8 @@ impl Moments {
         if moment.0 == 0 {
             return Moment(0);
         }
-        match self.parents.get((moment.0 - 1) as usize) {
-            Some(parent) => *parent,
+        match self.nodes.parent((moment.0 - 1) as usize) {
+            Some(parent) => parent,
             None => Moment(0),
         }
     }
@@ -178,9 +175,12 @@ impl Moments {
         requires { moment ≤ length self.now.made }
         ensures { result ≡ length (path self.now.made moment) }
     {
-        match self.node(moment) {
-            Some(node) => node.depth,
-            None => 0,
+        if moment.0 == 0 {
+            return 0;
+        }
+        match self.nodes.depth((moment.0 - 1) as usize) {
+            Some(depth) => depth,
+            None => unreachable!(),
         }
     }
 
@@ -203,7 +203,7 @@ impl Moments {
     {
         self.limits();
         let count = (self.depth(moment) - self.depth(from)) as usize;
-        let mut way = Vec::with_capacity(*self.nodes.allocator(), count)?;
+        let mut way = Vec::with_capacity(*self.records.allocator(), count)?;
         let mut at = moment;
         for _ in 0..count {
             way.push_reserved(at);
@@ -278,23 +278,27 @@ impl Moments {
     }
 
     /// Runs a call of a process at a moment, where the store stands, keeps what it made and notes what it did to each
-    /// object. Where memory is refused, the store's rows, the moments and the notes are as before.
+    /// object; answers a copy of the reply where one is wanted. Where memory is refused, the store's rows, the moments and
+    /// the notes are as before.
     pub(crate) fn run(
         &mut self,
         store: &mut RestingStore,
         notes: &mut ObjectNotes,
         at: Moment,
         process: Koid,
-        call: &Call,
-    ) -> Result<Reply, AllocError>
+        call: Call,
+        wanted: bool,
+    ) -> Result<Option<Reply>, AllocError>
         requires few { length self.old.made < 1048576 }
         requires there { at ≤ length self.old.made }
         requires running { runs store.old.state process ≡ true }
+        requires small { process < 4294967296 }
         requires room { HasRoom store.old.state }
         requires consistent { IsConsistent store.old.state }
-        requires few_koids { next_koid (step store.old.state process call.now).0 < 4294967296 }
-        ensures ok { IfOk result (λ reply. (store.new.state, reply) ≡ step store.old.state process call.now) }
-        ensures made { OnOk result (self.new.made ≡ self.old.made ++ run_at at store.old.state process call.now ∷ []) }
+        requires few_koids { next_koid (step store.old.state process call).0 < 4294967296 }
+        ensures ok { OnOk result (store.new.state ≡ (step store.old.state process call).0) }
+        ensures answer { IfOk result (λ answer. answer ≡ (if wanted then Some (step store.old.state process call).1 else None)) }
+        ensures made { OnOk result (self.new.made ≡ self.old.made ++ run_at at store.old.state process call ∷ []) }
         ensures recorded { OnOk result (self.new.records ≡ self.old.records ++ before store.old.state store.new.state ∷ []) }
         ensures fits { OnOk result (fits store.new.places (before store.old.state store.new.state) ≡ true) }
         ensures noted { OnOk result (notes.new ≡ noted notes.old (length self.old.made + 1) (before store.old.state store.new.state) store.new.state) }
@@ -310,22 +314,14 @@ impl Moments {
             first: self.first_beyond(at),
         };
         let moment = Moment(self.last().0 + 1);
-        self.nodes.reserve(1)?;
-        self.parents.reserve(1)?;
+        self.nodes.reserve()?;
         self.shortcuts.reserve(1)?;
         self.records.reserve(1)?;
-        let alloc = *self.nodes.allocator();
-        let run = carried_out(alloc, store, notes, moment, process, call)?;
-        self.parents.push_reserved(at);
+        let alloc = *self.records.allocator();
+        let run = carried_out(alloc, store, notes, moment, process, &call, wanted)?;
         self.shortcuts.push_reserved(shortcut);
         self.records.push_reserved(run.change);
-        self.nodes.push_reserved(MomentNode {
-            parent: at,
-            depth,
-            process,
-            call: run.call,
-            reply: run.reply,
-        });
+        self.nodes.push(at, depth, process, call, run.reply);
         Ok(run.answer)
     }
 
@@ -336,18 +332,16 @@ impl Moments {
         ensures records { self.new.records ≡ without_last self.old.records }
     {
         self.nodes.pop();
-        self.parents.pop();
         self.shortcuts.pop();
         self.records.pop();
     }
 }
 
-/// A call that was run: its copy, its reply twice, and its record.
+/// What a call that was run left: its reply, a copy of that where one is wanted, and its record.
 #[derive(Drop)]
 struct AnsweredCall {
-    call: Call,
     reply: Reply,
-    answer: Reply,
+    answer: Option<Reply>,
     change: Record,
 }
 
@@ -360,14 +354,14 @@ fn carried_out(
     moment: Moment,
     process: Koid,
     call: &Call,
+    wanted: bool,
 ) -> Result<AnsweredCall, AllocError>
     requires running { runs store.old.state process ≡ true }
     requires room { HasRoom store.old.state }
     requires consistent { IsConsistent store.old.state }
     requires few { next_koid (step store.old.state process call.now).0 < 4294967296 }
-    ensures call { IfOk result (λ run. run.call ≡ call.now) }
     ensures ok { IfOk result (λ run. (store.new.state, run.reply) ≡ step store.old.state process call.now) }
-    ensures answer { IfOk result (λ run. run.answer ≡ run.reply) }
+    ensures answer { IfOk result (λ run. run.answer ≡ (if wanted then Some run.reply else None)) }
     ensures recorded { IfOk result (λ run. run.change ≡ before store.old.state store.new.state) }
     ensures fits { IfOk result (λ run. fits store.new.places run.change ≡ true) }
     ensures noted { OnOk result (notes.new ≡ noted notes.old moment (before store.old.state store.new.state) store.new.state) }
@@ -375,13 +369,11 @@ fn carried_out(
     ensures err_notes { OnErr result (notes.new ≡ notes.old) }
     ensures kept { Keeps store.old.places store.new.places }
 {
-    let copied = call.copy()?;
     let Ok((reply, mut change)) = store.apply(alloc, process, call) else {
         return Err(AllocError);
     };
-    match copied_and_noted(&reply, notes, moment, &change, store.store()) {
+    match answered_and_noted(&reply, wanted, notes, moment, &change, store.store()) {
         Ok(answer) => Ok(AnsweredCall {
-            call: copied,
             reply,
             answer,
             change,
@@ -393,20 +385,33 @@ fn carried_out(
     }
 }
 
-/// A copy of the reply, once what the call did is noted. Where memory is refused nothing is.
-fn copied_and_noted(
+/// A copy of the reply where one is wanted, once what the call did is noted. Where memory is refused nothing is.
+fn answered_and_noted(
     reply: &Reply,
+    wanted: bool,
     notes: &mut ObjectNotes,
     moment: Moment,
     change: &Record,
     store: &Store,
-) -> Result<Reply, AllocError>
+) -> Result<Option<Reply>, AllocError>
     requires few { next_koid store.now.state < 4294967296 }
-    ensures copied { IfOk result (λ copied. copied ≡ reply.now) }
+    ensures answer { IfOk result (λ answer. answer ≡ (if wanted then Some reply.now else None)) }
     ensures noted { OnOk result (notes.new ≡ noted notes.old moment change.now store.now.state) }
     ensures err { OnErr result (notes.new ≡ notes.old) }
 {
-    let copied = reply.copy()?;
+    let answer = copied_if(wanted, reply)?;
     notes.note(moment, change, store)?;
-    Ok(copied)
+    Ok(answer)
+}
+
+/// A copy of the reply where one is wanted.
+fn copied_if(wanted: bool, reply: &Reply) -> Result<Option<Reply>, AllocError>
+    ensures { IfOk result (λ answer. answer ≡ (if wanted then Some reply.now else None)) }
+{
+    if wanted {
+        let copied = reply.copy()?;
+        Ok(Some(copied))
+    } else {
+        Ok(None)
+    }
 }

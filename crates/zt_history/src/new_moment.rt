@@ -1,12 +1,15 @@
-ghost use Rattle.std.specs.Prelude.{◌≡◌, ◌<◌, ◌≤◌, true, None, IfOk, OnOk, OnErr, length};
+ghost use Rattle.std.specs.Prelude.{◌≡◌, ◌<◌, ◌≤◌, true, if◌then◌else◌, Some, None, IfOk, IfErr, OnOk, OnErr, length};
 ghost use Rattle.zt_rows.specs.Reads.{runs};
-ghost use Rattle.zt_history.specs.Timeline.{after_branch, after_call_at, moved_to, unmoved};
+ghost use Rattle.zt_rows.specs.declared.calls.Call.{Call};
+ghost use Rattle.zt_history.specs.HistoryRefusals.{IsHistoryRefusal, call_under};
+ghost use Rattle.zt_history.specs.Timeline.{IsMovedAtMost, after_branch, after_call_at, moved_to, unmoved};
 ghost use Rattle.zt_history.specs.Tree.{branch_named, made_by, state_at};
 
 use crate::branches::BranchId;
 use crate::history::{History, Undo};
 use std::alloc::AllocError;
-use zt_rows::{Call, Koid, Moment, Reply};
+use zt_calls::runs;
+use zt_rows::{Call, Koid, LAST_MOMENT, Moment, Refusal, Reply};
 
 impl History {
     /// Moves the store to a moment. Where it stands there already it takes no memory; where memory is refused it stays
@@ -26,6 +29,29 @@ impl History {
         }
     }
 
+    /// Moves the store to a moment at which the process is to call. Refused, it stands where it stood or at that moment.
+    pub(crate) fn stand_ready(&mut self, parent: Moment, process: Koid) -> Result<(), Refusal>
+        ensures ok { OnOk result (self.new ≡ moved_to self.old parent) }
+        ensures few { OnOk result (length self.old.tree.made < 1048576) }
+        ensures there { OnOk result (parent ≤ length self.old.tree.made) }
+        ensures running { OnOk result (runs (state_at self.old.tree.made parent) process ≡ true) }
+        ensures refused { IfErr result (λ given. (call : Call) → IsHistoryRefusal (call_under self.old.tree parent process call) given) }
+        ensures err { OnErr result (IsMovedAtMost self.old self.new parent) }
+    {
+        self.forget();
+        if self.last().0 >= LAST_MOMENT {
+            return Err(Refusal::Full);
+        }
+        if parent > self.last() {
+            return Err(Refusal::NoMoment);
+        }
+        self.stand_at(parent)?;
+        if !runs(self.store(), process) {
+            return Err(Refusal::NoProcess);
+        }
+        Ok(())
+    }
+
     /// Runs a call of a process that runs where the store stands, and moves the store to the moment that it makes; no
     /// head moves. Where memory is refused nothing changes.
     pub(crate) fn grow(&mut self, process: Koid, call: &Call) -> Result<Reply, AllocError>
@@ -35,14 +61,41 @@ impl History {
         ensures grown { OnOk result (self.new ≡ after_call_at self.old self.old.position process call.now) }
         ensures err { OnErr result (self.new ≡ unmoved self.old) }
     {
+        self.forget();
+        let call = call.copy()?;
+        match self.grow_by(process, call, true) {
+            Ok(Some(reply)) => Ok(reply),
+            Ok(None) => unreachable!(),
+            Err(e) => Err(e),
+        }
+    }
+
+    /// Does the same with a call that it keeps, and answers a copy of the reply where one is wanted.
+    pub(crate) fn grow_by(
+        &mut self,
+        process: Koid,
+        call: Call,
+        wanted: bool,
+    ) -> Result<Option<Reply>, AllocError>
+        requires few { length self.old.tree.made < 1048576 }
+        requires running { runs (state_at self.old.tree.made self.old.position) process ≡ true }
+        ensures answer { IfOk result (λ answer. answer ≡ (if wanted then Some (made_by self.old.tree.made self.old.position process call).reply else None)) }
+        ensures grown { OnOk result (self.new ≡ after_call_at self.old self.old.position process call) }
+        ensures err { OnErr result (self.new ≡ unmoved self.old) }
+    {
         call.limits();
         self.undo = Undo::Nothing;
         let position = self.position;
-        let reply = self
-            .moments
-            .run(&mut self.store, &mut self.notes, position, process, call)?;
+        let answer = self.moments.run(
+            &mut self.store,
+            &mut self.notes,
+            position,
+            process,
+            call,
+            wanted,
+        )?;
         self.position = self.moments.last();
-        Ok(reply)
+        Ok(answer)
     }
 
     /// Adds a branch of a name that none has. Where memory is refused nothing changes.

@@ -1,13 +1,13 @@
 //! What the calls did to each object, as its row shows it: kept beside the moments, so that the moment of it is found by the
 //! changes of that object alone.
-ghost use Rattle.std.specs.Prelude.{◌≡◌, ◌≤◌, ◌<◌, ◌+◌, ◌++◌, ◌∷◌, [], Some, IfOk, OnOk, OnErr, length, map, slice_get, vec_capacity};
-ghost use Rattle.std.specs.Option.{option_copied, option_map};
+ghost use Rattle.std.specs.Prelude.{◌≡◌, ◌≤◌, ◌<◌, ◌+◌, ◌++◌, ◌∷◌, [], Some, IfOk, OnOk, OnErr, length, slice_get, take};
+ghost use Rattle.std.specs.Option.{option_copied};
 ghost use Rattle.zt_rows.specs.Handles.{next_koid};
 ghost use Rattle.zt_history.specs.ProofsOnly.Branches.{without_last};
-ghost use Rattle.zt_history.specs.ProofsOnly.ObjectNotes.{AreChained, AreLinked, AreRising, Covers, IsCovered, IsCut, IsSameEnd, TellsLast, end_at, ends_at, last_of, note_as, note_before, note_of, noted, notes_in, notes_of, tells};
+ghost use Rattle.zt_history.specs.ProofsOnly.ObjectNotes.{AreChained, AreLinked, AreRising, IsCut, IsLonger, IsSameEnd, TellsLast, end_at, ends_at, last_of, note_as, note_before, note_of, noted, notes_in, notes_of, shown_as, tells};
 
 use crate::moments::Moments;
-use crate::row_happenings::{RowHappening, shows};
+use crate::row_happenings::{RowHappening, ShownChanges, shown_changes};
 use std::alloc::{AllocError, Global};
 use std::marker::Model;
 use zt_rows::{Koid, Moment, Row, RowKey};
@@ -16,8 +16,8 @@ use zt_store::{Record, Store};
 /// What a moment's call did to an object, and the place behind that of the object's earlier change, 0 where it has none.
 #[derive(Clone, Copy)]
 pub(crate) struct ObjectNote {
-    pub(crate) koid: Koid,
-    pub(crate) earlier: usize,
+    pub(crate) koid: u32,
+    pub(crate) earlier: u32,
     pub(crate) moment: Moment,
     pub(crate) made: bool,
     pub(crate) ended: bool,
@@ -29,7 +29,7 @@ pub(crate) struct ObjectNote {
 #[derive(Drop)]
 pub(crate) struct ObjectNotes {
     list: Vec<ObjectNote>,
-    last: Vec<usize>,
+    last: Vec<u32>,
     next_koids: Vec<u32>,
 }
 
@@ -77,14 +77,19 @@ impl ObjectNotes {
         ensures ok { OnOk result (self.new ≡ noted self.old moment change.now store.now.state) }
         ensures err { OnErr result (self.new ≡ self.old) }
     {
-        let keys = change.keys();
         self.next_koids.reserve(1)?;
-        self.list.reserve(keys.len())?;
-        cover_all(&mut self.last, keys)?;
-        note_all(&mut self.list, &mut self.last, moment, change, store);
-        self.next_koids
-            .push_reserved(store.counters().next_koid.0 as u32);
-        Ok(())
+        let count = self.list.len();
+        match note_all(&mut self.list, &mut self.last, moment, change, store) {
+            Ok(()) => {
+                self.next_koids
+                    .push_reserved(store.counters().next_koid.0 as u32);
+                Ok(())
+            }
+            Err(e) => {
+                cut_to(&mut self.list, &mut self.last, count);
+                Err(e)
+            }
+        }
     }
 
     /// Drops what was noted of the last moment. It takes no memory.
@@ -134,69 +139,33 @@ fn found(
         if near == change.moment && tells(what, change) {
             return Some(near);
         }
-        next = change.earlier;
+        next = change.earlier as usize;
     }
     None
 }
 
 /// The place behind that of the koid's last change, 0 where it has none.
-fn end_of(last: &Vec<usize>, koid: Koid) -> usize
+fn end_of(last: &Vec<u32>, koid: Koid) -> usize
     ensures { result ≡ end_at last.now.items koid }
 {
     if koid.0 < last.len() as u64 {
-        last[koid.0 as usize]
+        last[koid.0 as usize] as usize
     } else {
         0
     }
 }
 
-/// Makes places for the koids of these keys. Where memory is refused some are made.
-fn cover_all(last: &mut Vec<usize>, keys: &[RowKey]) -> Result<(), AllocError>
-    ensures same { IsSameEnd last.old.items last.new.items }
-    ensures ok { OnOk result (Covers last.new.items keys.now) }
-{
-    for key in keys {
-        cover_key(last, *key)?;
-    }
-    Ok(())
-}
-
-/// Makes places up to that of the key's koid, if it is an object's. Where memory is refused some are made.
-fn cover_key(last: &mut Vec<usize>, key: RowKey) -> Result<(), AllocError>
-    ensures same { IsSameEnd last.old.items last.new.items }
-    ensures more { length last.old.items ≤ length last.new.items }
-    ensures ok { OnOk result (IsCovered (length last.new.items) key) }
-{
-    match key {
-        RowKey::Object(koid) => cover(last, koid),
-        _ => Ok(()),
-    }
-}
-
-/// Makes places up to that of the koid. Where memory is refused some are made.
-fn cover(last: &mut Vec<usize>, koid: Koid) -> Result<(), AllocError>
-    ensures same { IsSameEnd last.old.items last.new.items }
-    ensures more { length last.old.items ≤ length last.new.items }
-    ensures ok { OnOk result (koid < length last.new.items) }
-{
-    while last.len() as u64 <= koid.0 {
-        last.push(0)?;
-    }
-    Ok(())
-}
-
-/// Notes what a moment's call did to each object of its record, in room that is there.
+/// Notes what a moment's call did to each object of its record. Where memory is refused some of it is noted.
 fn note_all(
     list: &mut Vec<ObjectNote>,
-    last: &mut Vec<usize>,
+    last: &mut Vec<u32>,
     moment: Moment,
     change: &Record,
     store: &Store,
-)
-    requires room { length list.old.items + length change.now ≤ vec_capacity list.old }
-    requires covered { Covers last.old.items (map (λ e. e.0) change.now) }
-    requires chained { AreChained list.old.items last.old.items }
-    ensures notes { notes_in list.new.items ≡ notes_in list.old.items ++ notes_of moment change.now store.now.state }
+) -> Result<(), AllocError>
+    requires { AreChained list.old.items last.old.items }
+    ensures ok { OnOk result (notes_in list.new.items ≡ notes_in list.old.items ++ notes_of moment change.now store.now.state) }
+    ensures kept { IsLonger list.old.items list.new.items }
     ensures chained { AreChained list.new.items last.new.items }
 {
     let keys = change.keys();
@@ -208,72 +177,117 @@ fn note_all(
             keys[place],
             change.held_at(place),
             store,
-        );
+        )?;
     }
+    Ok(())
 }
 
-/// Notes what a moment's call did to the object of a key, if it is an object's, by the row before it.
+/// Notes what a moment's call did to the object of a key, if it is an object's, by the row before it. Where memory is refused
+/// nothing is noted.
 fn note_under(
     list: &mut Vec<ObjectNote>,
-    last: &mut Vec<usize>,
+    last: &mut Vec<u32>,
     moment: Moment,
     key: RowKey,
     before: Option<&Row>,
     store: &Store,
-)
-    requires room { length list.old.items < vec_capacity list.old }
-    requires covered { IsCovered (length last.old.items) key }
-    requires chained { AreChained list.old.items last.old.items }
-    ensures notes { notes_in list.new.items ≡ notes_in list.old.items ++ note_before moment (option_copied before.entry) store.now.state key }
-    ensures few { length list.new.items ≤ length list.old.items + 1 }
-    ensures room { vec_capacity list.new ≡ vec_capacity list.old }
-    ensures covered { length last.new.items ≡ length last.old.items }
+) -> Result<(), AllocError>
+    requires { AreChained list.old.items last.old.items }
+    ensures ok { OnOk result (notes_in list.new.items ≡ notes_in list.old.items ++ note_before moment (option_copied before.entry) store.now.state key) }
+    ensures kept { IsLonger list.old.items list.new.items }
     ensures chained { AreChained list.new.items last.new.items }
 {
     let asked = key;
     let RowKey::Object(koid) = key else {
-        return;
+        return Ok(());
     };
-    note_one(list, last, moment, koid, before, store.row(asked));
+    note_one(list, last, moment, koid, before, store.row(asked))
 }
 
-/// Notes what a moment's call did to an object, by its row before it and behind it, where it did anything.
+/// Notes what a moment's call did to an object, by its row before it and behind it, where it did anything. Where memory is
+/// refused nothing is noted.
 fn note_one(
     list: &mut Vec<ObjectNote>,
-    last: &mut Vec<usize>,
+    last: &mut Vec<u32>,
     moment: Moment,
     koid: Koid,
     before: Option<&Row>,
     after: Option<&Row>,
-)
-    requires room { length list.old.items < vec_capacity list.old }
-    requires covered { koid < length last.old.items }
-    requires chained { AreChained list.old.items last.old.items }
-    ensures notes { notes_in list.new.items ≡ notes_in list.old.items ++ note_of moment koid (option_copied before.entry) (option_copied after.entry) }
-    ensures few { length list.new.items ≤ length list.old.items + 1 }
-    ensures room { vec_capacity list.new ≡ vec_capacity list.old }
-    ensures covered { length last.new.items ≡ length last.old.items }
+) -> Result<(), AllocError>
+    requires { AreChained list.old.items last.old.items }
+    ensures ok { OnOk result (notes_in list.new.items ≡ notes_in list.old.items ++ note_of moment koid (option_copied before.entry) (option_copied after.entry)) }
+    ensures kept { IsLonger list.old.items list.new.items }
     ensures chained { AreChained list.new.items last.new.items }
 {
-    let made = shows(RowHappening::Made, before, after);
-    let ended = shows(RowHappening::Ended, before, after);
-    let peer_closed = shows(RowHappening::PeerClosed, before, after);
-    if made || ended || peer_closed {
-        let earlier = last[koid.0 as usize];
-        list.push_reserved(ObjectNote {
-            moment,
-            koid,
-            earlier,
-            made,
-            ended,
-            peer_closed,
-        });
-        last[koid.0 as usize] = list.len();
+    let shown = shown_changes(before, after);
+    if shown.made || shown.ended || shown.peer_closed {
+        return push_change(list, last, moment, koid, shown);
+    }
+    Ok(())
+}
+
+/// Adds a change of an object as its last one. Where memory is refused none is added.
+fn push_change(
+    list: &mut Vec<ObjectNote>,
+    last: &mut Vec<u32>,
+    moment: Moment,
+    koid: Koid,
+    shown: ShownChanges,
+) -> Result<(), AllocError>
+    requires { AreChained list.old.items last.old.items }
+    ensures ok { OnOk result (notes_in list.new.items ≡ notes_in list.old.items ++ shown_as moment koid shown ∷ []) }
+    ensures kept { IsLonger list.old.items list.new.items }
+    ensures chained { AreChained list.new.items last.new.items }
+{
+    let number = in_four_bytes(koid.0)?;
+    let end = in_four_bytes(list.len() as u64 + 1)?;
+    cover(last, number)?;
+    list.push(ObjectNote {
+        koid: number,
+        earlier: last[number as usize],
+        moment,
+        made: shown.made,
+        ended: shown.ended,
+        peer_closed: shown.peer_closed,
+    })?;
+    last[number as usize] = end;
+    Ok(())
+}
+
+/// The number, for which four bytes are room enough. Where they are not, it is as if memory were refused.
+fn in_four_bytes(number: u64) -> Result<u32, AllocError>
+    ensures { IfOk result (λ same. same ≡ number) }
+{
+    match u32::try_from(number) {
+        Ok(same) => Ok(same),
+        Err(_) => Err(AllocError),
+    }
+}
+
+/// Makes places up to that of the koid. Where memory is refused some are made.
+fn cover(last: &mut Vec<u32>, koid: u32) -> Result<(), AllocError>
+    ensures same { IsSameEnd last.old.items last.new.items }
+    ensures ok { OnOk result (koid < length last.new.items) }
+{
+    while last.len() <= koid as usize {
+        last.push(0)?;
+    }
+    Ok(())
+}
+
+/// Drops the changes behind the first so many.
+fn cut_to(list: &mut Vec<ObjectNote>, last: &mut Vec<u32>, count: usize)
+    requires { AreChained list.old.items last.old.items }
+    ensures list { list.new.items ≡ take count list.old.items }
+    ensures chained { AreChained list.new.items last.new.items }
+{
+    while list.len() > count {
+        drop_change(list, last);
     }
 }
 
 /// Drops the changes of a moment, which are the last ones.
-fn cut(list: &mut Vec<ObjectNote>, last: &mut Vec<usize>, moment: Moment)
+fn cut(list: &mut Vec<ObjectNote>, last: &mut Vec<u32>, moment: Moment)
     requires { AreChained list.old.items last.old.items }
     ensures notes { IsCut (notes_in list.old.items) (notes_in list.new.items) moment }
     ensures chained { AreChained list.new.items last.new.items }
@@ -294,14 +308,14 @@ fn ends_at(list: &Vec<ObjectNote>, moment: Moment) -> bool
 }
 
 /// Drops the last change.
-fn drop_change(list: &mut Vec<ObjectNote>, last: &mut Vec<usize>)
+fn drop_change(list: &mut Vec<ObjectNote>, last: &mut Vec<u32>)
     requires some { 0 < length list.old.items }
     requires chained { AreChained list.old.items last.old.items }
     ensures list { list.new.items ≡ without_last list.old.items }
     ensures chained { AreChained list.new.items last.new.items }
 {
     match list.pop() {
-        Some(change) => last[change.koid.0 as usize] = change.earlier,
+        Some(change) => last[change.koid as usize] = change.earlier,
         None => unreachable!(),
     }
 }

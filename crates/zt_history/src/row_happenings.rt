@@ -1,9 +1,9 @@
 //! What happens to an object, as the rows before a call and behind it show it.
-ghost use Rattle.std.specs.Prelude.{◌≡◌};
+ghost use Rattle.std.specs.Prelude.{◌≡◌, ◌&&◌, false, not, true};
 ghost use Rattle.std.specs.Option.{option_copied};
-ghost use Rattle.zt_rows.specs.Reads.{as_object};
+ghost use Rattle.zt_rows.specs.Reads.{as_object, is_live};
 ghost use Rattle.zt_rows.specs.Tests.{is_endpoint};
-ghost use Rattle.zt_history.specs.RowHappenings.{is_alone, is_living, is_there, shows};
+ghost use Rattle.zt_history.specs.RowHappenings.{is_cut_off, shows};
 
 use bitflags::Flags;
 use zt_bits::{Kind, Signals};
@@ -17,42 +17,83 @@ pub enum RowHappening {
     PeerClosed,
 }
 
-/// Whether it shows in the row before and the row after.
-pub(crate) fn shows(what: RowHappening, before: Option<&Row>, after: Option<&Row>) -> bool
-    ensures { result ≡ shows what (option_copied before.entry) (option_copied after.entry) }
+/// What happened to an object by a call, as the rows before it and behind it show it.
+#[derive(Clone, Copy)]
+pub(crate) struct ShownChanges {
+    pub(crate) made: bool,
+    pub(crate) ended: bool,
+    pub(crate) peer_closed: bool,
+}
+
+/// What shows in the row before and the row after.
+pub(crate) fn shown_changes(before: Option<&Row>, after: Option<&Row>) -> ShownChanges
+    ensures made { result.made ≡ shows RowHappening.Made (option_copied before.entry) (option_copied after.entry) }
+    ensures ended { result.ended ≡ shows RowHappening.Ended (option_copied before.entry) (option_copied after.entry) }
+    ensures peer_closed { result.peer_closed ≡ shows RowHappening.PeerClosed (option_copied before.entry) (option_copied after.entry) }
 {
-    match what {
-        RowHappening::Made => !is_there(before) && is_there(after),
-        RowHappening::Ended => is_living(before) && !is_living(after),
-        RowHappening::PeerClosed => !is_alone(before) && is_alone(after),
+    match (object_in(before), object_in(after)) {
+        (Some(before), Some(after)) => changes_between(before, after),
+        (None, Some(after)) => ShownChanges {
+            made: true,
+            ended: false,
+            peer_closed: is_cut_off(after),
+        },
+        (Some(before), None) => ShownChanges {
+            made: false,
+            ended: before.life == Life::Live,
+            peer_closed: false,
+        },
+        (None, None) => ShownChanges {
+            made: false,
+            ended: false,
+            peer_closed: false,
+        },
     }
 }
 
 /// The object of the row, if it is one.
-fn object_in(row: Option<&Row>) -> Option<ObjectRow>
-    ensures { result ≡ as_object (option_copied row.entry) }
+fn object_in(row: Option<&Row>) -> Option<&ObjectRow>
+    ensures { option_copied result ≡ as_object (option_copied row.entry) }
 {
     match row {
-        Some(Row::Object(found)) => Some(*found),
+        Some(Row::Object(found)) => Some(found),
         _ => None,
     }
 }
 
-/// Whether there is an object.
-fn is_there(row: Option<&Row>) -> bool
-    ensures { result ≡ is_there (option_copied row.entry) }
+/// What shows of an object that was there before and is there after. Most are alike in all that can show.
+fn changes_between(before: &ObjectRow, after: &ObjectRow) -> ShownChanges
+    ensures made { result.made ≡ false }
+    ensures ended { result.ended ≡ (is_live before.now.life && not (is_live after.now.life)) }
+    ensures peer_closed { result.peer_closed ≡ (not (is_cut_off before.now) && is_cut_off after.now) }
 {
-    object_in(row).is_some()
+    if is_alike(before, after) {
+        return ShownChanges {
+            made: false,
+            ended: false,
+            peer_closed: false,
+        };
+    }
+    ShownChanges {
+        made: false,
+        ended: before.life == Life::Live && after.life != Life::Live,
+        peer_closed: !is_cut_off(before) && is_cut_off(after),
+    }
 }
 
-/// Whether there is an object that has not ended.
-fn is_living(row: Option<&Row>) -> bool
-    ensures { result ≡ is_living (option_copied row.entry) }
+/// Whether the rows are alike in all that can show.
+fn is_alike(before: &ObjectRow, after: &ObjectRow) -> bool
+    ensures life { result ≡ true → is_live before.now.life ≡ is_live after.now.life }
+    ensures cut_off { result ≡ true → is_cut_off before.now ≡ is_cut_off after.now }
 {
-    match object_in(row) {
-        Some(found) => found.life == Life::Live,
-        None => false,
-    }
+    before.kind == after.kind && before.signals == after.signals && before.life == after.life
+}
+
+/// Whether it is an endpoint with the signal that its peer is closed.
+fn is_cut_off(object: &ObjectRow) -> bool
+    ensures { result ≡ is_cut_off object.now }
+{
+    object.signals.contains(Signals::PEER_CLOSED) && is_endpoint(object.kind)
 }
 
 /// Whether it is an end of a channel or of an event pair.
@@ -60,14 +101,4 @@ fn is_endpoint(kind: Kind) -> bool
     ensures { result ≡ is_endpoint kind }
 {
     matches!(kind, Kind::Channel | Kind::EventPair)
-}
-
-/// Whether there is an endpoint with the signal that its peer is closed.
-fn is_alone(row: Option<&Row>) -> bool
-    ensures { result ≡ is_alone (option_copied row.entry) }
-{
-    match object_in(row) {
-        Some(found) => is_endpoint(found.kind) && found.signals.contains(Signals::PEER_CLOSED),
-        None => false,
-    }
 }

@@ -2,12 +2,11 @@ ghost use Rattle.std.specs.Prelude.{◌≡◌, ◌<◌, ◌≤◌, Some, None, O
 ghost use Rattle.zt_rows.specs.declared.calls.Answer.TheVariants as answer;
 ghost use Rattle.zt_history.specs.HistoryRefusals.{IsHistoryRefusal, call_on, call_under, branch_on, moment_on};
 ghost use Rattle.zt_history.specs.Timeline.{IsAtMost, IsMovedAtMost, after_branch, after_call_at, after_move_head, at_head, point_of, unmoved};
-ghost use Rattle.zt_history.specs.Tree.{last_moment};
+ghost use Rattle.zt_history.specs.Tree.{last_moment, made_by};
 
 use crate::branches::BranchId;
 use crate::history::{History, Undo};
-use zt_calls::runs;
-use zt_rows::{Call, Koid, LAST_MOMENT, Moment, Refusal, Reply};
+use zt_rows::{Call, Koid, Moment, Refusal, Reply};
 
 impl History {
     /// Runs a call of a process at the head of a branch, which moves to the new moment, as does the store. Refused,
@@ -47,19 +46,28 @@ impl History {
         ensures refused { IfErr result (IsHistoryRefusal (call_under self.old.tree parent process call.now)) }
         ensures err { OnErr result (IsMovedAtMost self.old self.new parent) }
     {
-        self.forget();
-        if self.last().0 >= LAST_MOMENT {
-            return Err(Refusal::Full);
-        }
-        if parent > self.last() {
-            return Err(Refusal::NoMoment);
-        }
-        self.stand_at(parent)?;
-        if !runs(self.store(), process) {
-            return Err(Refusal::NoProcess);
-        }
+        self.stand_ready(parent, process)?;
         let reply = self.grow(process, call)?;
         Ok((self.last(), reply))
+    }
+
+    /// Runs a call of a process at any moment as `call_at` does, and keeps the call itself, so that neither it nor its reply
+    /// is copied. Refused, the call is let go.
+    pub fn take_call_at(
+        &mut self,
+        parent: Moment,
+        process: Koid,
+        call: Call,
+    ) -> Result<Moment, Refusal>
+        ensures ok { IfOk result (λ moment. call_under self.old.tree parent process call ≡ Ok (answer.Called moment (made_by self.old.tree.made parent process call).reply, self.new.tree)) }
+        ensures moved { OnOk result (self.new ≡ after_call_at self.old parent process call) }
+        ensures position { IfOk result (λ moment. self.new.position ≡ moment) }
+        ensures refused { IfErr result (IsHistoryRefusal (call_under self.old.tree parent process call)) }
+        ensures err { OnErr result (IsMovedAtMost self.old self.new parent) }
+    {
+        self.stand_ready(parent, process)?;
+        self.grow_by(process, call, false)?;
+        Ok(self.last())
     }
 
     /// Gives a branch another head, any moment. The store stays where it is, and nothing can be taken back then. It

@@ -9,12 +9,12 @@ use Rattle.zt_rows.specs.State.{State}
 use Rattle.zt_rows.specs.Step.{step}
 use Rattle.zt_store.specs.Places.{fits}
 use Rattle.zt_store.specs.StoreView.{Stored}
-use Rattle.zt_history.specs.declared.moments.MomentNode.{MomentNode}
 use Rattle.zt_history.specs.declared.moments.Shortcut.{Shortcut}
 use Rattle.zt_history.specs.Tree.{Made, path}
 use Rattle.zt_history.specs.HistoryRefusals.{most_moments}
 use Rattle.zt_history.specs.TreeInvariant.{Falls}
 use Rattle.zt_history.specs.ProofsOnly.Forks.{AreShortcuts}
+use Rattle.zt_history.specs.ProofsOnly.StoredNodes.{MomentNode}
 
 abbrev pub made_as : MomentNode → Made
 made_as n = record { parent = n.parent; process = n.process; call = n.call; reply = n.reply }
@@ -37,13 +37,9 @@ pub record AreNodes (nodes : List MomentNode) : Type 0 where
   pub falls : Falls (made_in nodes)
   pub deep : (i : ℕ) (n : MomentNode) → slice_get nodes i ≡ Some n → n.depth ≡ length (path (made_in nodes) (suc i))
 
-abbrev pub parents_in : List MomentNode → List ℕ
-parents_in nodes = map (λ n. n.parent) nodes
-
--- such nodes, and beside them the lists of their parents, of their shortcuts and of their records
-pub record AreListed (nodes : List MomentNode) (parents : List ℕ) (shortcuts : List Shortcut) (records : List (List (RowKey × Option Row))) : Type 0 where
+-- such nodes, and beside them the lists of their shortcuts and of their records
+pub record AreListed (nodes : List MomentNode) (shortcuts : List Shortcut) (records : List (List (RowKey × Option Row))) : Type 0 where
   pub stand : AreNodes nodes
-  pub listed : parents ≡ parents_in nodes
   pub many : length shortcuts ≡ length nodes
   pub ways : AreShortcuts (made_in nodes) shortcuts
   pub recorded : length records ≡ length nodes

@@ -1,6 +1,6 @@
 -- What is noted of the objects beside the moments: what each call did to them, chained for each object, and the next koid.
 -- Used by proofs only.
-use Rattle.std.specs.Prelude.{◌≡◌, ℕ, zero, suc, ◌==◌, ◌-◌, ◌≤◌, ◌<◌, Bool, true, false, ◌&&◌, ◌||◌, if◌then◌else◌, ⊤, List, [], ◌∷◌, ◌++◌, length, map, Option, None, Some, slice_get, slice_index_or}
+use Rattle.std.specs.Prelude.{◌≡◌, ℕ, zero, suc, ◌==◌, ◌-◌, ◌≤◌, ◌<◌, Bool, true, false, ◌&&◌, ◌||◌, if◌then◌else◌, List, [], ◌∷◌, ◌++◌, length, map, Option, None, Some, slice_get, slice_index_or}
 use Rattle.std.specs.List.{AllByRecursion, flat_map}
 use Rattle.zt_rows.specs.declared.keys.RowKey.{RowKey}
 use Rattle.zt_rows.specs.declared.keys.RowKey.TheVariants as key
@@ -13,6 +13,7 @@ use Rattle.zt_store.specs.RecordLook.{held}
 use Rattle.zt_history.specs.declared.object_notes.ObjectNote.{ObjectNote}
 use Rattle.zt_history.specs.declared.row_happenings.RowHappening.{RowHappening}
 use Rattle.zt_history.specs.declared.row_happenings.RowHappening.TheVariants as happening
+use Rattle.zt_history.specs.declared.row_happenings.ShownChanges.{ShownChanges}
 use Rattle.zt_history.specs.RowHappenings.{shows}
 use Rattle.zt_history.specs.Tree.{Made, parent_at, path, state_at}
 
@@ -40,6 +41,10 @@ tells happening.Ended n = n.ended
 tells happening.PeerClosed n = n.peer_closed
 
 -- ---- what is noted of a moment
+
+-- of an object, as the code found it
+abbrev pub shown_as : ℕ → ℕ → ShownChanges → ChangeNote
+shown_as m x shown = record { moment = m; koid = x; made = shown.made; ended = shown.ended; peer_closed = shown.peer_closed }
 
 -- of an object, by its row before the call and after it; nothing where nothing shows
 abbrev pub note_of : ℕ → ℕ → Option Row → Option Row → List ChangeNote
@@ -121,13 +126,10 @@ pub record AreChained (list : List ObjectNote) (last : List ℕ) : Type 0 where
 abbrev pub IsSameEnd : List ℕ → List ℕ → Type 0
 IsSameEnd old new = (x : ℕ) → end_at new x ≡ end_at old x
 
--- there is a place for the koid of the key
-abbrev pub IsCovered : ℕ → RowKey → Type 0
-IsCovered n (key.Object x) = x < n
-IsCovered n _ = ⊤
-
-abbrev pub Covers : List ℕ → List RowKey → Type 0
-Covers last keys = (i : ℕ) (k : RowKey) → slice_get keys i ≡ Some k → IsCovered (length last) k
+-- there are further changes behind
+pub record IsLonger (old new : List ObjectNote) : Type 0 where
+  pub more : List ObjectNote
+  pub apart : new ≡ old ++ more
 
 -- ---- changes that are dropped
 

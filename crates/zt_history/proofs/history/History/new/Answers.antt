@@ -17,7 +17,7 @@ new-requires c =
     let lent : c.store-2.result.now.state ≡ opening = ap (λ (s : Stored). s.state) c.store-2.ensures ∙ c.in_ok-store.ensures in
     record { few = subst (λ S. next_koid S < 4294967296) (sym lent) few }
 
-pub invariant_of-result-2 : goal.invariant_of-result-2
-invariant_of-result-2 c =
-    whole-opening _ c.new-2.result c.in_ok-notes.notes c.in_ok-new.field-0 (ap (λ (s : Stored). s.state) c.store.view_is ∙ c.in_ok-store.ensures) c.new-2.ensures
-    (c.in_ok-notes.ensures ∙ ap noted_of (c.store-2.ensures ∙ sym c.store.view_is)) c.in_ok-new.ensures
+pub invariant_of-result : goal.invariant_of-result
+invariant_of-result c =
+    whole-opening c.in_ok-store.store c.in_ok-moments.moments c.in_ok-notes.notes c.in_ok-branches.branches c.in_ok-store.ensures c.in_ok-moments.ensures
+    (c.in_ok-notes.ensures ∙ ap noted_of c.store-2.ensures) c.in_ok-branches.ensures

@@ -1,5 +1,7 @@
--- The depth is one more than the parent's; the new node is a node, and its parent, its shortcut and its record are listed.
-use Rattle.std.proofs.Common.{◌+◌, ap, arith}
+-- The depth is one more than the parent's; the new node is a node, and its shortcut and its record are listed.
+use Rattle.std.proofs.Common.{◌+◌, length, ap, arith}
+use Rattle.zt_history.specs.ProofsOnly.MomentNodes.{Chronicle}
+use Rattle.zt_history.proofs.NodeLaws.{length-made_in}
 use Rattle.zt_history.proofs.PathLaws.{short-path}
 use Rattle.zt_history.proofs.ListedLaws.{listed-pushed}
 use Rattle.zt_history.proofs.moments.Moments.run.Goals as goal
@@ -10,10 +12,13 @@ overflow_add-depth c =
 
 pub invariant_of-self-2 : goal.invariant_of-self-2
 invariant_of-self-2 c =
-    listed-pushed c.self.inside.nodes.items c.reserve.new.self.items c.push_reserved-4.new.self.items _
-    c.self.inside.parents.items c.reserve-2.new.self.items c.push_reserved.new.self.items
-    c.self.inside.shortcuts.items c.reserve-3.new.self.items c.push_reserved-2.new.self.items _
-    c.self.inside.records.items c.reserve-4.new.self.items c.push_reserved-3.new.self.items _ c.args.self.now
-    c.push_reserved-4.ensures.items c.reserve.ensures.items c.push_reserved.ensures.items c.reserve-2.ensures.items
-    c.push_reserved-2.ensures.items c.reserve-3.ensures.items c.push_reserved-3.ensures.items c.reserve-4.ensures.items c.self.view_is
+    listed-pushed c.self.inside.nodes.list c.reserve.new.self.list c.push.new.self.list _
+    c.self.inside.shortcuts.items c.reserve-2.new.self.items c.push_reserved.new.self.items _
+    c.self.inside.records.items c.reserve-3.new.self.items c.push_reserved-2.new.self.items _ c.args.self.now
+    c.push.ensures c.reserve.ensures.list
+    c.push_reserved.ensures.items c.reserve-2.ensures.items c.push_reserved-2.ensures.items c.reserve-3.ensures.items c.self.view_is
     c.requires.there (ap (λ n. n + 1) c.depth-depth.ensures) c.jump_beyond.ensures c.first_beyond.ensures c.requires.few c.self.invariant
+
+pub push-requires-clause-few : goal.push-requires-clause-few
+push-requires-clause-few c =
+    omega (arith, c.requires.few, ap (λ (h : Chronicle). length h.made) c.self.view_is, length-made_in c.self.inside.nodes.list, ap length c.reserve.ensures.list)
