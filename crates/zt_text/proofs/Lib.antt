@@ -19,6 +19,7 @@ pub mod SpelledFields
 pub mod SpelledLines
 pub mod SpelledSessions
 pub mod SavedLemmas
+pub mod SessionCallLemmas
 pub mod SavedTrees
 pub mod FaultColumns
 pub mod RowWords

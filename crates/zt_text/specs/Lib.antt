@@ -11,6 +11,7 @@ pub mod Calls
 pub mod Answers
 pub mod Lines
 pub mod Session
+pub mod SessionCalls
 pub mod Rows
 pub mod Spellings
 pub mod Columns

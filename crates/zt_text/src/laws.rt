@@ -1,5 +1,5 @@
 //! What holds of every line that is shown. Each law is the contract of a function that does nothing.
-ghost use Rattle.std.specs.Prelude.{◌≡◌, ℕ, ℤ, true, ◌^◌, ◌<◌, ◌≤◌, List, length, Some, Ok};
+ghost use Rattle.std.specs.Prelude.{◌≡◌, ℕ, ℤ, true, ◌^◌, ◌<◌, ◌≤◌, List, [], length, Some, None, Ok, Err};
 ghost use Rattle.std.specs.Fmt.{decimal, signed_decimal};
 ghost use Rattle.std.specs.List.{All};
 ghost use Rattle.zt_rows.specs.declared.calls.Call.{Call};
@@ -12,7 +12,10 @@ ghost use Rattle.zt_text.specs.Numbers.{decimal_of, mask_of, code_of};
 ghost use Rattle.zt_text.specs.Bytes.{bytes_of, packet_bytes_of};
 ghost use Rattle.zt_text.specs.Lists.{handles_of};
 ghost use Rattle.zt_text.specs.ReadLines.{read_as};
+ghost use Rattle.zt_rows.specs.declared.refusals.Refusal.{Refusal};
+ghost use Rattle.zt_text.specs.Lines.{lines_of};
 ghost use Rattle.zt_text.specs.Session.{session_of};
+ghost use Rattle.zt_text.specs.SessionCalls.{LinesLeft, calls_left, in_front_of, next_call, row_lines, tree_of};
 ghost use Rattle.zt_rows.specs.CallsInARow.{in_a_row};
 ghost use Rattle.zt_text.specs.SavedTexts.{IsSaved, IsSavedCall, IsHeadWithin, IsPlaceWithin, saved_of, saved_text};
 ghost use Rattle.zt_text.specs.Columns.{ColumnsTellFirstFaults};
@@ -28,6 +31,22 @@ use crate::within::{
     packet_is_within,
 };
 use zt_rows::{Call, Cursor, Koid, Row, RowKey, Saved, SavedBranch, SavedCall};
+
+/// Who reads the calls of a session text one after another reads what the text reads as: its calls in their order, or its
+/// first fault.
+#[tactic(auto, using(crate::proofs::SessionCallLemmas::row_session, crate::proofs::SessionCallLemmas::row_saved, crate::proofs::SessionCallLemmas::row_more_left, crate::proofs::SessionCallLemmas::rest_shorter, crate::proofs::SessionCallLemmas::row_ended, crate::proofs::SessionCallLemmas::row_fault))]
+pub fn calls_one_by_one_are_those_of_the_text()
+    ensures session { (text : List ℕ) (left : LinesLeft) → row_lines (lines_of text) ≡ Some left
+        → session_of text ≡ calls_left left }
+    ensures saved { (text : List ℕ) (left : LinesLeft) → row_lines (lines_of text) ≡ Some left
+        → saved_of text ≡ tree_of (calls_left left) }
+    ensures next { (left behind : LinesLeft) (made : ℕ × Call) → next_call left ≡ Ok (Some made, behind)
+        → calls_left left ≡ in_front_of made (calls_left behind) }
+    ensures shorter { (left behind : LinesLeft) (made : ℕ × Call) → next_call left ≡ Ok (Some made, behind)
+        → length behind.lines < length left.lines }
+    ensures end { (left behind : LinesLeft) → next_call left ≡ Ok (None, behind) → calls_left left ≡ Ok [] }
+    ensures fault { (left : LinesLeft) (fault : ℕ × Refusal) → next_call left ≡ Err fault → calls_left left ≡ Err fault }
+{}
 
 /// A number that is shown in decimal digits reads as that number, and a code with its sign as that code.
 #[tactic(auto, using(crate::proofs::ShownFields::decimal_read, crate::proofs::ShownFields::code_read))]

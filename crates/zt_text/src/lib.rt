@@ -21,6 +21,7 @@ mod saved_lines;
 mod saved_lists;
 mod saved_text;
 mod separator;
+mod session_calls;
 mod session_text;
 mod within;
 mod write_arguments;
@@ -34,4 +35,5 @@ pub use printed_rows::{
 pub use printed_saved::print_saved;
 pub use read_lines::{LINE_BYTES, Line, read_line};
 pub use saved_text::read_saved;
+pub use session_calls::SessionCalls;
 pub use session_text::{line_of_call, read_session};
