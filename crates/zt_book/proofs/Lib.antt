@@ -8,6 +8,7 @@ pub mod SeatLaws
 pub mod KeptLaws
 pub mod RowLaws
 pub mod BegunLaws
+pub mod GrowingRows
 pub mod AgainLaws
 pub mod WrittenLaws
 pub mod SavedLaws

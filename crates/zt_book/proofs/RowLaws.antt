@@ -16,14 +16,14 @@ use Rattle.zt_book.specs.Session.{Session, first_client, session_over}
 use Rattle.zt_book.proofs.KeptLaws.{moments-kept}
 
 -- `main` alone, with this head
-abbrev on_main : List Made → ℕ → Tree
+abbrev pub on_main : List Made → ℕ → Tree
 on_main made m = record { made = made; branches = record { name = main_name; head = m } ∷ [] }
 
 -- the head of `main` is the last moment
-abbrev at_last : Tree → Result Tree (ℕ × Refusal)
+abbrev pub at_last : Tree → Result Tree (ℕ × Refusal)
 at_last t = Ok (on_main t.made (length t.made))
 
-as_moment-small : (n : ℕ) → n ≤ most_moments → as_moment n ≡ n
+pub as_moment-small : (n : ℕ) → n ≤ most_moments → as_moment n ≡ n
 as_moment-small n small = by (nat_lt n 4294967295) (lt-ltb n 4294967295 (omega (arith, small)))
   where
     by : (b : Bool) → b ≡ true → cond b n 4294967295 ≡ n
@@ -32,7 +32,7 @@ as_moment-small n small = by (nat_lt n 4294967295) (lt-ltb n 4294967295 (omega (
 
 -- Moments in a row, and then `main` is moved to the last; and calls on `main`. Both have as many moments before them, the first
 -- of the row this parent, and `main` this head.
-abbrev Agree : List Made → ℕ → ℕ → ℕ → List (ℕ × Call) → Type 0
+abbrev pub Agree : List Made → ℕ → ℕ → ℕ → List (ℕ × Call) → Type 0
 Agree made number parent head calls =
     (in_turn with_moment number (on_main made 0) (moments_from parent calls) >>= at_last) ≡ loaded_from number (on_main made head) calls
 
@@ -48,7 +48,7 @@ module _ (made : List Made) (process : ℕ) (call : Call) (calls : List (ℕ × 
   first true room = running-first room (runs (state_at made (length made)) process) refl
   first false full = rw full refl
 
-row-loaded : (calls : List (ℕ × Call)) (made : List Made) → Agree made (length made) (length made) (length made) calls
+pub row-loaded : (calls : List (ℕ × Call)) (made : List Made) → Agree made (length made) (length made) (length made) calls
 row-loaded [] made = refl
 row-loaded ((process, call) ∷ calls) made =
     let next : List Made = grown made (length made) process call in
@@ -61,7 +61,7 @@ row-loaded ((process, call) ∷ calls) made =
 
 -- ---- the branch `main`, and the clients
 
-length-moments_from : (n : ℕ) (calls : List (ℕ × Call)) → length (moments_from n calls) ≡ length calls
+pub length-moments_from : (n : ℕ) (calls : List (ℕ × Call)) → length (moments_from n calls) ≡ length calls
 length-moments_from n [] = refl
 length-moments_from n (made ∷ calls) = ap suc (length-moments_from (n + 1) calls)
 

@@ -2,3 +2,4 @@
 pub mod Log
 pub mod Clients
 pub mod SavedSessions
+pub mod CallsInARow

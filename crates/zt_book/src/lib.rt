@@ -3,6 +3,7 @@
 
 mod book;
 mod branch_name;
+mod calls_in_a_row;
 mod client;
 mod clients;
 mod commands;
@@ -16,6 +17,7 @@ mod saved_session;
 mod tree_look;
 
 pub use book::Book;
+pub use calls_in_a_row::CallsInARow;
 pub use client::{Client, Cursor};
 pub use load_progress::{LoadProgress, Untold};
 pub use log::{Log, Recorded};

@@ -2,6 +2,11 @@
 pub trait LoadProgress {
     /// So many moments, of as many in all, are loaded.
     fn loaded(&self, moments: usize, of: usize);
+
+    /// Whether anyone is told. Where no one is, what is loaded as it is read need not be counted ahead.
+    fn is_told(&self) -> bool {
+        true
+    }
 }
 
 /// Tells no one.
@@ -10,4 +15,8 @@ pub struct Untold;
 
 impl LoadProgress for Untold {
     fn loaded(&self, _moments: usize, _of: usize) {}
+
+    fn is_told(&self) -> bool {
+        false
+    }
 }

@@ -50,6 +50,10 @@ impl LoadProgress for Progress<'_> {
             let _ = eprint!(self.rt; "\r{}: {moments} of {of} calls", self.program);
         }
     }
+
+    fn is_told(&self) -> bool {
+        self.is_shown
+    }
 }
 
 /// A line as long as the longest that is said, of spaces, and back to its beginning.
