@@ -4,3 +4,4 @@ pub mod ExploredLaws
 pub mod KeepLaws
 pub mod SaveLaws
 pub mod ServeLaws
+pub mod LoadLaws

@@ -2,3 +2,4 @@
 pub mod Run
 pub mod LineFeed
 pub mod ClientSessions
+pub mod LoadedText

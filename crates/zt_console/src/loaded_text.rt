@@ -1,10 +1,14 @@
-ghost use Rattle.std.specs.Prelude.{◌≡◌, ◌≤◌, length, IfOk, IfErr, OnOk};
+ghost use Rattle.std.specs.Prelude.{◌≡◌, ◌≤◌, ◌<◌, true, false, Some, Ok, length, IfOk, IfErr, OnOk};
+ghost use Rattle.zt_text.specs.Lines.{lines_of};
+ghost use Rattle.zt_text.specs.SessionCalls.{calls_left, row_lines};
 ghost use Rattle.zt_console.specs.LoadedText.{at_line, IsLoadedOf, IsNotLoaded};
+ghost use Rattle.zt_console.specs.ProofsOnly.LoadedText.{with_left, IsFirstOf, IsNotLoadedRow};
 
 use std::alloc::Global;
-use zt_book::{Book, LoadProgress, Untold};
-use zt_rows::Refusal;
-use zt_text::{line_of_call, read_saved};
+use zt_book::{Book, CallsInARow, LoadProgress, Untold};
+use zt_rows::{CLIENTS, Refusal};
+use zt_text::laws::calls_one_by_one_are_those_of_the_text;
+use zt_text::{SessionCalls, line_of_call, read_saved};
 
 /// The book of so many clients over the tree of a session text, of either version. The number with a refusal is that of
 /// the line at fault, counted from 1, skipped lines too, or 0 where no line is at fault.
@@ -29,6 +33,24 @@ pub fn load_text_told<P: LoadProgress>(
     ensures refused { IfErr result (IsNotLoaded clients text.now) }
     ensures few { OnOk result (clients ≤ 4) }
 {
+    match SessionCalls::new(text) {
+        Some(calls) if clients <= CLIENTS => load_calls(alloc, clients, text, calls, told),
+        _ => load_tree(alloc, clients, text, told),
+    }
+}
+
+/// The same of a text that is read as a whole before any of it is loaded.
+fn load_tree<P: LoadProgress>(
+    alloc: Global,
+    clients: u8,
+    text: &[u8],
+    told: &P,
+) -> Result<Book, (u64, Refusal)>
+    ensures ok { IfOk result (IsLoadedOf clients text.now) }
+    ensures clients { IfOk result (λ book. length book.session.clients ≡ clients) }
+    ensures refused { IfErr result (IsNotLoaded clients text.now) }
+    ensures few { OnOk result (clients ≤ 4) }
+{
     let saved = match read_saved(alloc, text) {
         Ok(saved) => saved,
         Err(fault) => return Err(fault),
@@ -36,6 +58,109 @@ pub fn load_text_told<P: LoadProgress>(
     match Book::load_all_told(alloc, clients, saved, told) {
         Ok(book) => Ok(book),
         Err(fault) => Err(at_line(text, fault)),
+    }
+}
+
+/// The same of a text of version 1, each call of which is loaded as its line is read.
+fn load_calls<P: LoadProgress>(
+    alloc: Global,
+    clients: u8,
+    text: &[u8],
+    calls: SessionCalls<'_>,
+    told: &P,
+) -> Result<Book, (u64, Refusal)>
+    requires few { clients ≤ 4 }
+    requires all { row_lines (lines_of text.now) ≡ Some calls }
+    ensures ok { IfOk result (IsLoadedOf clients text.now) }
+    ensures clients { IfOk result (λ book. length book.session.clients ≡ clients) }
+    ensures refused { IfErr result (IsNotLoaded clients text.now) }
+{
+    calls_one_by_one_are_those_of_the_text();
+    let row = match put_calls(alloc, text, calls, told) {
+        Ok(row) => row,
+        Err(fault) => return Err(fault),
+    };
+    match row.finish(alloc, clients) {
+        Ok(book) => Ok(book),
+        Err(refusal) => Err((0, refusal)),
+    }
+}
+
+/// Loads each of these calls in turn, and tells so.
+fn put_calls<P: LoadProgress>(
+    alloc: Global,
+    text: &[u8],
+    calls: SessionCalls<'_>,
+    told: &P,
+) -> Result<CallsInARow, (u64, Refusal)>
+    ensures ok { IfOk result (λ row. calls_left calls.entry ≡ Ok row) }
+    ensures refused { IfErr result (IsNotLoadedRow text.now (calls_left calls.entry)) }
+{
+    let Ok(mut row) = CallsInARow::new(alloc) else {
+        return Err((0, Refusal::OutOfMemory));
+    };
+    let all = counted(&calls, told);
+    let mut left = calls;
+    'calls: loop {
+        match put_next(alloc, text, &mut row, &mut left) {
+            Ok(true) => tell(told, &row, all),
+            Ok(false) => return Ok(row),
+            Err(fault) => return Err(fault),
+        }
+    }
+}
+
+/// How many calls are to be loaded, where anyone is told.
+fn counted<P: LoadProgress>(calls: &SessionCalls<'_>, told: &P) -> Option<usize> {
+    if told.is_told() {
+        Some(calls.count())
+    } else {
+        None
+    }
+}
+
+/// Tells how many calls are loaded, of so many where that is counted.
+fn tell<P: LoadProgress>(told: &P, row: &CallsInARow, all: Option<usize>) {
+    if let Some(all) = all {
+        told.loaded(row.len(), all);
+    }
+}
+
+/// Loads the next call, and tells whether there was one.
+fn put_next(
+    alloc: Global,
+    text: &[u8],
+    row: &mut CallsInARow,
+    left: &mut SessionCalls<'_>,
+) -> Result<bool, (u64, Refusal)>
+    ensures whole { IfOk result (λ some. some ≡ true → with_left row.new left.new ≡ with_left row.old left.old) }
+    ensures shorter { IfOk result (λ some. some ≡ true → length left.new.lines < length left.old.lines) }
+    ensures end { IfOk result (λ some. some ≡ false → with_left row.old left.old ≡ Ok row.new) }
+    ensures refused { IfErr result (IsNotLoadedRow text.now (with_left row.old left.old)) }
+{
+    calls_one_by_one_are_those_of_the_text();
+    match left.next(alloc) {
+        Ok(Some((process, call))) => match row.push(process, call) {
+            Ok(()) => Ok(true),
+            Err(refused) => Err(first_fault(alloc, text, left, refused)),
+        },
+        Ok(None) => Ok(false),
+        Err(fault) => Err(fault),
+    }
+}
+
+/// The fault of a text of which a call is refused, before these others: a line of theirs that does not read comes first.
+fn first_fault(
+    alloc: Global,
+    text: &[u8],
+    others: &mut SessionCalls<'_>,
+    refused: (u64, Refusal),
+) -> (u64, Refusal)
+    ensures { IsFirstOf text.now (calls_left others.old) refused result }
+{
+    match others.read_rest(alloc) {
+        Ok(()) => at_line(text, refused),
+        Err(unread) => unread,
     }
 }
 
