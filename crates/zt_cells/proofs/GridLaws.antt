@@ -1,8 +1,8 @@
 -- Tables of places and tables by owner: what stands at a place after an exchange and after a growth.
-use Rattle.std.proofs.Common.{zero, suc, ◌≡◌, ◌≤◌, ◌<◌, ℕ, ◌+◌, List, [], ◌∷◌, ◌++◌, length, get_or, set, Option, refl, ap, ◌∙◌, arith, ⊎_elim}
+use Rattle.std.proofs.Common.{zero, suc, ◌≡◌, ◌≤◌, ◌<◌, ℕ, ◌+◌, List, [], ◌∷◌, ◌++◌, length, get_or, set, Option, refl, arith, ⊎_elim}
 use Rattle.std.proofs.lemmas.Bool.{cases_lt}
-use Rattle.std.proofs.lemmas.List.{get_or_past, map-append}
-use Rattle.std.proofs.lemmas.List.Sums.{sum_by-set, sum_by_push, sum-map, get_or-le-sum_by}
+use Rattle.std.proofs.lemmas.List.{get_or_past}
+use Rattle.std.proofs.lemmas.List.Sums.{sum_by-set, sum-map, get_or-le-sum_by}
 use Rattle.std.specs.List.{sum}
 use Rattle.zt_rows.specs.declared.rows.Row.{Row}
 use Rattle.zt_cells.specs.ProofsOnly.TablePlaces.{table, lengths, by_owner, entry_places}
@@ -15,13 +15,6 @@ table_push [] added zero e = e
 table_push [] added (suc x) e = refl
 table_push (t ∷ ts) added zero e = refl
 table_push (t ∷ ts) added (suc x) e = table_push ts added x e
-
-pub lengths_push : (tables : List (List (Option Row))) (added : List (Option Row)) → added ≡ [] → sum (lengths (tables ++ added ∷ [])) ≡ sum (lengths tables)
-lengths_push tables added e =
-    let m : lengths (tables ++ added ∷ []) ≡ lengths tables ++ (length added ∷ []) = map-append length tables (added ∷ []) in
-    let s : sum (lengths tables ++ (length added ∷ [])) ≡ sum (lengths tables) + length added = sum_by_push (λ x. x) (lengths tables) (length added) in
-    let z : length added ≡ 0 = ap length e in
-    ap sum m ∙ s ∙ omega arith
 
 -- another table for one owner
 pub lengths_set : (tables : List (List (Option Row))) (x : ℕ) (places : List (Option Row)) → x < length tables → sum (lengths (set tables x places)) + length (table tables x) ≡ sum (lengths tables) + length places

@@ -96,7 +96,7 @@ remainders (suc (suc zero)) h = inr (inr (inl refl))
 remainders (suc (suc (suc zero))) h = inr (inr (inr refl))
 remainders (suc (suc (suc (suc m)))) h = absurd (omega arith)
 
-look-counters : (c : RowTables) → c.counters ≡ look c key.Counters
+look-counters : (c : RowTables) → Some c.counters ≡ look c key.Counters
 unfolding look
 look-counters c = refl
 
@@ -122,7 +122,7 @@ module _ (c : RowTables) where
 
   -- the state with more and more tables put
   abbrev with_counters : State
-  with_counters = put nothing key.Counters c.counters
+  with_counters = put nothing key.Counters (Some c.counters)
 
   abbrev with_3 : State
   with_3 = put_entries c.entries 3 with_counters
@@ -146,7 +146,7 @@ module _ (c : RowTables) where
   with_waits = put_cells key.Wait c.waits with_messages
 
   within-counters : Within seen with_counters
-  within-counters = put-within seen nothing key.Counters c.counters (look-counters c) (λ q. inr (row-nothing q))
+  within-counters = put-within seen nothing key.Counters (Some c.counters) (look-counters c) (λ q. inr (row-nothing q))
 
   within-3 : Within seen with_3
   within-3 = tables-within seen (entry_key 3) (by_owner c.entries 3) with_counters (look-entry c 3 (omega arith)) within-counters
@@ -216,7 +216,7 @@ module _ (c : RowTables) where
 -- what stands under a key is what stands in its place
 pub row-state_in : (c : RowTables) (k : RowKey) → row (state_in c) k ≡ look c k
 row-state_in c key.Counters =
-    from-counters c key.Counters (row-put-same nothing key.Counters c.counters ∙ look-counters c)
+    from-counters c key.Counters (row-put-same nothing key.Counters (Some c.counters) ∙ look-counters c)
 row-state_in c (key.Object x) = object-hit c x
 row-state_in c (key.Entry p h) = entry-hit c p h
 row-state_in c (key.Msg e n) =
@@ -294,7 +294,7 @@ at_places (t ∷ ts) (suc r) = at_places ts r
 pub length-state_in : (c : RowTables) → length (state_in c).rows ≤ places_in c + 1
 unfolding state_in places_in
 length-state_in c =
-    let a = length-put nothing key.Counters c.counters in
+    let a = length-put nothing key.Counters (Some c.counters) in
     let b = length-tables (entry_key 3) (by_owner c.entries 3) (with_counters c) in
     let d = length-tables (entry_key 2) (by_owner c.entries 2) (with_3 c) in
     let e = length-tables (entry_key 1) (by_owner c.entries 1) (with_2 c) in

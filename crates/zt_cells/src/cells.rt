@@ -1,4 +1,4 @@
-ghost use Rattle.std.specs.Prelude.{◌≡◌, ◌≤◌, ◌+◌, ◌^◌, ℕ, true, false, length, IfOk, IsTrue, OnOk, Option, None};
+ghost use Rattle.std.specs.Prelude.{◌≡◌, ◌≤◌, ◌+◌, ◌-◌, ◌^◌, ℕ, true, false, length, IfOk, IsTrue, OnOk, Option, None};
 ghost use Rattle.std.specs.Option.{option_copied};
 ghost use Rattle.zt_rows.specs.declared.keys.RowKey.{RowKey};
 ghost use Rattle.zt_rows.specs.declared.keys.RowKey.TheVariants as key_variant;
@@ -7,6 +7,7 @@ ghost use Rattle.zt_rows.specs.Reads.{counters, entry, message, object, packet, 
 ghost use Rattle.zt_rows.specs.Room.{SuitsKey};
 ghost use Rattle.zt_rows.specs.State.{row, put};
 ghost use Rattle.zt_cells.specs.AlikeObjects.{AlikeExchanged};
+ghost use Rattle.zt_cells.specs.BareRows.{row_under};
 ghost use Rattle.zt_cells.specs.TableSizes.{objects_after, waits_after, has_place, no_sizes};
 ghost use Rattle.zt_cells.specs.CellsView.{CellsView};
 ghost use Rattle.zt_cells.specs.FirstNumber.{IsFirst};
@@ -149,14 +150,16 @@ impl Cells {
     }
 
     /// What holds of the rows: each suits its key, there are not too many, and no entry stands under a number that
-    /// is no handle value.
+    /// is no handle value, and no object under a koid from 2^32 - 2 on.
     pub fn limits(&self)
         ensures suited { (key : RowKey) → SuitsKey key (row self.now.state key) }
         ensures few { length self.now.state.rows ≤ 2 ^ 48 + 1 }
         ensures bounded { (x h : ℕ) → 2 ^ 32 ≤ h → row self.now.state (key_variant.Entry x h) ≡ None }
+        ensures low { (x : ℕ) → 2 ^ 32 - 2 ≤ x → row self.now.state (key_variant.Object x) ≡ None }
     {
         let row_tables = self.tables.row_tables();
         row_tables.entries.limits();
+        row_tables.objects.limits();
     }
 
     /// Whether the key has its place. It takes no memory.
@@ -169,7 +172,7 @@ impl Cells {
     }
 
     /// Makes the place of the key, and those below it in its table. Each table that grows asks once for all that it
-    /// needs; beyond 2^48 places, beyond 2^32 - 1 places of one table, and for owners from 2^48 on, it is refused.
+    /// needs; beyond 2^48 places, beyond 2^32 - 2 places of one table, and for owners from 2^48 on, it is refused.
     pub fn make_place(&mut self, key: RowKey) -> Result<(), AllocError>
         ensures state { self.new.state ≡ self.old.state }
         ensures kept { (k : RowKey) → has_place self.old.sizes k ≡ true → has_place self.new.sizes k ≡ true }
@@ -191,13 +194,13 @@ impl Cells {
         Ok(())
     }
 
-    /// Exchanges the row with the one in the place of the key. It takes no memory.
+    /// Exchanges the bare row, which is one or stands for none, with what stands in the place of the key. It takes no memory.
     #[inline(always)]
-    pub fn exchange(&mut self, key: RowKey, kept: &mut Option<Row>)
+    pub fn exchange(&mut self, key: RowKey, kept: &mut Row)
         requires placed { has_place self.old.sizes key ≡ true }
-        requires suited { SuitsKey key kept.old }
-        ensures put { self.new ≡ record { state = put self.old.state key kept.old; sizes = self.old.sizes } }
-        ensures was { kept.new ≡ row self.old.state key }
+        requires suited { SuitsKey key (row_under key kept.old) }
+        ensures put { self.new ≡ record { state = put self.old.state key (row_under key kept.old); sizes = self.old.sizes } }
+        ensures was { row_under key kept.new ≡ row self.old.state key }
     {
         self.tables.exchange(key, kept);
     }

@@ -1,8 +1,8 @@
 -- Numbers by koid that are those of the rows: how large they are, what a put makes of them, and how far rows reach.
-use Rattle.std.proofs.Common.{◌≡◌, ◌≤◌, ◌<◌, ◌^◌, ℕ, ◌+◌, Bool, true, false, cond, ◌&&◌, ◌||◌, List, length, get_or, take, nat_lt, Option, Some, None, refl, sym, ap, ◌∙◌, subst, arith, count_by}
+use Rattle.std.proofs.Common.{zero, suc, ◌≡◌, ◌≤◌, ◌<◌, ◌-◌, ◌^◌, ℕ, ◌+◌, ⊎_elim, Bool, true, false, cond, ◌&&◌, ◌||◌, List, length, get_or, take, nat_lt, Option, Some, None, refl, sym, ap, ◌∙◌, subst, arith, count_by}
 use Rattle.std.specs.Prelude.{◌==◌}
 use Rattle.std.specs.List.{list_all}
-use Rattle.std.proofs.lemmas.Bool.{eq-eqb, lt-ltb}
+use Rattle.std.proofs.lemmas.Bool.{cases_eq, eq-eqb, lt-ltb}
 use Rattle.std.proofs.lemmas.List.{get_or_past}
 use Rattle.std.proofs.lemmas.List.Sums.{list_all-from_AllPass}
 use Rattle.zt_rows.specs.declared.keys.RowKey.{RowKey}
@@ -104,6 +104,54 @@ pub record AreSmall (n : KoidCounts) : Type 0 where
 pub small-at : (S : State) (list : List KoidCounts) (x : ℕ) (n : KoidCounts) → n ≡ numbers_at list x → AreKoidCounts S list → NamesFew S → length S.rows ≤ 2 ^ 48 + 1 → AreSmall n
 small-at S list x n at_n koid_counts few short =
     subst AreSmall (sym (at_n ∙ koid_counts x)) (record { named = named-small S x few short; jobs = jobs-small S x short; processes = processes-small S x short })
+
+-- where only the objects below n give something, and each of them one at most, all rows give n at most
+module _ (g : RowKey → Row → ℕ) (others : (k : RowKey) (r : Row) → ((y : ℕ) → k ≡ key.Object y → ⊥) → g k r ≤ 0) (one : (y : ℕ) (r : Row) → g (key.Object y) r ≤ 1) where
+  nothing-by : (S : State) → ((y : ℕ) → row S (key.Object y) ≡ None) → (k : RowKey) (r : Row) → row S k ≡ Some r → g k r ≤ 0
+  nothing-by S none k r e = others k r (λ y is. let there : Some r ≡ None = sym e ∙ ap (row S) is ∙ none y in cc)
+
+  share-one : (y : ℕ) (o : Option Row) → share g (key.Object y) o ≤ 1
+  share-one y (Some r) = one y r
+  share-one y None = omega arith
+
+  below-without : (n : ℕ) (S : State) → ((y : ℕ) → suc n ≤ y → row S (key.Object y) ≡ None) → (y : ℕ) → n ≤ y → row (put S (key.Object n) None) (key.Object y) ≡ None
+  below-without n S none y le =
+      row-put S (key.Object n) None (key.Object y)
+      ∙ elim (rowkey_eq (key.Object y) (key.Object n)) as (λ b. rowkey_eq (key.Object y) (key.Object n) ≡ b → cond b None (row S (key.Object y)) ≡ None) [
+        | true ↦ λ t. refl
+        | false ↦ λ t. none y (⊎_elim (λ s. let same : rowkey_eq (key.Object y) (key.Object n) ≡ true = eq-eqb y n s in cc) (λ s. omega arith) (cases_eq y n))
+      ] refl
+
+  pub total-below : (n : ℕ) (S : State) → ((y : ℕ) → n ≤ y → row S (key.Object y) ≡ None) → total g S ≤ n
+  total-below zero S none = omega (arith, total-within g 0 S (nothing-by S (λ y. none y (omega arith))))
+  total-below (suc n) S none =
+      let rest : total g (put S (key.Object n) None) ≤ n = total-below n (put S (key.Object n) None) (below-without n S none) in
+      let moved = total-put g S (key.Object n) None in
+      let last = share-one n (row S (key.Object n)) in
+      omega arith
+
+job-by-object : (x : ℕ) (k : RowKey) (r : Row) → ((y : ℕ) → k ≡ key.Object y → ⊥) → job_by x k r ≤ 0
+job-by-object x (key.Object y) r other = absurd (other y refl)
+job-by-object x key.Counters r other = omega arith
+job-by-object x (key.Entry _ _) r other = omega arith
+job-by-object x (key.Msg _ _) r other = omega arith
+job-by-object x (key.Packet _ _) r other = omega arith
+job-by-object x (key.Wait _) r other = omega arith
+
+process-by-object : (x : ℕ) (k : RowKey) (r : Row) → ((y : ℕ) → k ≡ key.Object y → ⊥) → process_by x k r ≤ 0
+process-by-object x (key.Object y) r other = absurd (other y refl)
+process-by-object x key.Counters r other = omega arith
+process-by-object x (key.Entry _ _) r other = omega arith
+process-by-object x (key.Msg _ _) r other = omega arith
+process-by-object x (key.Packet _ _) r other = omega arith
+process-by-object x (key.Wait _) r other = omega arith
+
+-- there are no more tasks below a koid than objects, so that there can be one more job and one more process
+pub tasks-few : (S : State) (list : List KoidCounts) (x : ℕ) → AreKoidCounts S list → ((y : ℕ) → 2 ^ 32 - 2 ≤ y → row S (key.Object y) ≡ None) → ((numbers_at list x).jobs < 2 ^ 32 - 1) × ((numbers_at list x).processes < 2 ^ 32 - 1)
+tasks-few S list x koid_counts low =
+    let jobs : total (job_by x) S ≤ 2 ^ 32 - 2 = total-below (job_by x) (job-by-object x) (λ y r. bit-small (is_child_job_of x (key.Object y) r)) (2 ^ 32 - 2) S low in
+    let processes : total (process_by x) S ≤ 2 ^ 32 - 2 = total-below (process_by x) (process-by-object x) (λ y r. bit-small (is_child_process_of x (key.Object y) r)) (2 ^ 32 - 2) S low in
+    subst (λ (n : KoidCounts). (n.jobs < 2 ^ 32 - 1) × (n.processes < 2 ^ 32 - 1)) (sym (koid_counts x)) (omega arith, omega arith)
 
 -- what the row under a key gives is part of the numbers
 pub given-there : (S : State) (k : RowKey) (x : ℕ) → (given_if x k (row S k)).named ≤ total (named_by x) S

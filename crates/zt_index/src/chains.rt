@@ -142,7 +142,8 @@ impl Chains {
     }
 }
 
-/// Makes the ends of all buckets.
+/// Makes the ends of all buckets, where there are none.
+#[inline(always)]
 fn make_ends(ends: &mut Vec<BucketEnds>) -> Result<(), AllocError>
     ensures same { (k : ℕ) → slice_index_or ends.new.items k no_ends ≡ slice_index_or ends.old.items k no_ends }
     ensures longer { vec_len ends.old ≤ vec_len ends.new }
@@ -151,10 +152,22 @@ fn make_ends(ends: &mut Vec<BucketEnds>) -> Result<(), AllocError>
     if ends.len() >= BUCKETS {
         return Ok(());
     }
+    add_ends(ends)
+}
+
+/// Makes the ends of the buckets that have none.
+#[inline(never)]
+fn add_ends(ends: &mut Vec<BucketEnds>) -> Result<(), AllocError>
+    requires { vec_len ends.old < 2 ^ 14 }
+    ensures same { (k : ℕ) → slice_index_or ends.new.items k no_ends ≡ slice_index_or ends.old.items k no_ends }
+    ensures longer { vec_len ends.old ≤ vec_len ends.new }
+    ensures made { OnOk result (2 ^ 14 ≤ vec_len ends.new) }
+{
     ends.resize(BUCKETS, BucketEnds::bare())
 }
 
 /// Makes items that are in no bucket, until there are so many.
+#[inline(always)]
 fn make_links(links: &mut Vec<BucketLink>, len: usize) -> Result<(), AllocError>
     requires { vec_len links.old ≤ len }
     ensures same { (k : ℕ) → slice_index_or links.new.items k no_link ≡ slice_index_or links.old.items k no_link }
@@ -162,7 +175,13 @@ fn make_links(links: &mut Vec<BucketLink>, len: usize) -> Result<(), AllocError>
     ensures few { vec_len links.new ≤ len }
     ensures made { OnOk result (vec_len links.new ≡ len) }
 {
-    links.resize(len, BucketLink::bare())
+    if len > links.capacity() {
+        links.reserve(len - links.len())?;
+    }
+    while links.len() < len {
+        links.push_reserved(BucketLink::bare());
+    }
+    Ok(())
 }
 
 /// Puts the item into the bucket, or into none; it stays where it is, if that is there.

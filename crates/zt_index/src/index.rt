@@ -1,5 +1,5 @@
 ghost use Rattle.std.specs.Prelude.{◌≡◌, ◌≤◌, ◌<◌, ◌^◌, ◌+◌, ◌||◌, ℕ, true, false, length, IfOk, OnOk, Option, IfSome, if◌then◌else◌};
-ghost use Rattle.std.specs.Option.{option_and_then, option_map, option_map_or};
+ghost use Rattle.std.specs.Option.{option_and_then, option_copied, option_map, option_map_or};
 ghost use Rattle.zt_rows.specs.Opening.{hollow};
 ghost use Rattle.zt_rows.specs.Reads.{as_entry, as_object, as_wait, entry, is_live_job, is_live_process, object, wait};
 ghost use Rattle.zt_rows.specs.State.{put};
@@ -119,10 +119,10 @@ impl RowChains {
     /// Follows the exchange of a row with what stands under the key, ahead of it. It takes no memory. Where an entry
     /// changes, the waits on its handle are looked at.
     #[inline(always)]
-    pub fn follow(&mut self, cells: &Cells, key: RowKey, row: &Option<Row>)
+    pub fn follow(&mut self, cells: &Cells, key: RowKey, row: Option<&Row>)
         requires placed { has_place cells.now.sizes key ≡ true }
         requires indexed { IsIndexed cells.now self.old }
-        ensures { IsIndexed (record { state = put cells.now.state key row.now; sizes = cells.now.sizes }) self.new }
+        ensures { IsIndexed (record { state = put cells.now.state key (option_copied row.entry); sizes = cells.now.sizes }) self.new }
     {
         match key {
             RowKey::Wait(number) => self.set(cells, number, wait_in(row)),
@@ -219,10 +219,10 @@ impl OwnedChains {
 
     /// Follows the exchange of a row with what stands under the key, ahead of it. It takes no memory.
     #[inline(always)]
-    pub fn follow(&mut self, cells: &Cells, key: RowKey, row: &Option<Row>)
+    pub fn follow(&mut self, cells: &Cells, key: RowKey, row: Option<&Row>)
         requires placed { has_place cells.now.sizes key ≡ true }
         requires indexed { IsIndexed cells.now (row_chains_in self.old) }
-        ensures { IsIndexed (record { state = put cells.now.state key row.now; sizes = cells.now.sizes }) (row_chains_in self.new) }
+        ensures { IsIndexed (record { state = put cells.now.state key (option_copied row.entry); sizes = cells.now.sizes }) (row_chains_in self.new) }
     {
         match self {
             OwnedChains::Whole(row_chains) => row_chains.follow(cells, key, row),
@@ -283,10 +283,10 @@ impl Index {
 
     /// Follows the exchange of a row with what stands under the key, ahead of it. It takes no memory.
     #[inline(always)]
-    pub fn follow(&mut self, cells: &Cells, key: RowKey, row: &Option<Row>)
+    pub fn follow(&mut self, cells: &Cells, key: RowKey, row: Option<&Row>)
         requires placed { has_place cells.now.sizes key ≡ true }
         requires indexed { IsIndexed cells.now self.old }
-        ensures { IsIndexed (record { state = put cells.now.state key row.now; sizes = cells.now.sizes }) self.new }
+        ensures { IsIndexed (record { state = put cells.now.state key (option_copied row.entry); sizes = cells.now.sizes }) self.new }
     {
         self.chains.follow(cells, key, row);
     }
@@ -408,8 +408,8 @@ fn next_on(
 }
 
 /// The wait that the row is.
-fn wait_in(row: &Option<Row>) -> Option<Wait>
-    ensures { result ≡ as_wait row.now }
+fn wait_in(row: Option<&Row>) -> Option<Wait>
+    ensures { result ≡ as_wait (option_copied row.entry) }
 {
     match row {
         Some(Row::Wait(wait)) => Some(*wait),
@@ -418,8 +418,8 @@ fn wait_in(row: &Option<Row>) -> Option<Wait>
 }
 
 /// The object that the row is.
-fn object_in(row: &Option<Row>) -> Option<ObjectRow>
-    ensures { result ≡ as_object row.now }
+fn object_in(row: Option<&Row>) -> Option<ObjectRow>
+    ensures { result ≡ as_object (option_copied row.entry) }
 {
     match row {
         Some(Row::Object(object)) => Some(*object),
@@ -428,8 +428,8 @@ fn object_in(row: &Option<Row>) -> Option<ObjectRow>
 }
 
 /// The entry that the row is.
-fn held_in(row: &Option<Row>) -> Option<Held>
-    ensures { result ≡ as_entry row.now }
+fn held_in(row: Option<&Row>) -> Option<Held>
+    ensures { result ≡ as_entry (option_copied row.entry) }
 {
     match row {
         Some(Row::Entry(held)) => Some(*held),

@@ -1,4 +1,4 @@
-ghost use Rattle.std.specs.Prelude.{◌≡◌, ◌≤◌, ◌<◌, ◌+◌, ◌^◌, ◌==◌, ℕ, true, nat_lt, length, IfOk, OnOk, if◌then◌else◌};
+ghost use Rattle.std.specs.Prelude.{◌≡◌, ◌≤◌, ◌<◌, ◌+◌, ◌-◌, ◌^◌, ◌==◌, ℕ, true, nat_lt, length, vec_len, IfOk, OnOk, if◌then◌else◌};
 ghost use Rattle.std.specs.List.{list_all};
 ghost use Rattle.std.specs.Option.{option_copied};
 ghost use Rattle.zt_index.specs.ProofsOnly.CountedRows.{IsSmall, counted_for, counted_within, names_given, task_given};
@@ -44,16 +44,16 @@ const ONE_PROCESS: KoidCounts = KoidCounts {
 #[derive(Clone, Copy, Debug)]
 pub struct KoidCounts {
     pub named: u64,
-    pub jobs: u64,
-    pub processes: u64,
+    pub jobs: u32,
+    pub processes: u32,
 }
 
 impl KoidCounts {
     /// Both together.
     fn plus(self, more: KoidCounts) -> KoidCounts
         requires named { self.named + more.named < 2 ^ 64 }
-        requires jobs { self.jobs + more.jobs < 2 ^ 64 }
-        requires processes { self.processes + more.processes < 2 ^ 64 }
+        requires jobs { self.jobs + more.jobs < 2 ^ 32 }
+        requires processes { self.processes + more.processes < 2 ^ 32 }
         ensures { result ≡ plus self more }
     {
         KoidCounts {
@@ -134,8 +134,8 @@ impl SupportCounts {
     }
 
     /// Whether there are numbers for each koid that the row, if there is one, counts for. It takes no memory.
-    pub fn covers_if(&self, key: RowKey, row: &Option<Row>) -> bool
-        ensures { result ≡ counts_within_if (length self.now) key row.now }
+    pub fn covers_if(&self, key: RowKey, row: Option<&Row>) -> bool
+        ensures { result ≡ counts_within_if (length self.now) key (option_copied row.entry) }
     {
         match row {
             Some(row) => self.covers(key, row),
@@ -221,7 +221,7 @@ impl SupportCounts {
         if koid.0 >= MOST_PLACES {
             return Err(AllocError);
         }
-        self.numbers.resize(koid.0 as usize + 1, NO_NUMBERS)
+        make_numbers(&mut self.numbers, koid.0 as usize + 1)
     }
 
     /// Adds what the row gives.
@@ -229,8 +229,8 @@ impl SupportCounts {
     fn raise(&mut self, key: RowKey, row: &Row)
         requires within { counts_within (length self.old) key row.now ≡ true }
         requires small { (x : ℕ) → (numbers_at self.old x).named < 2 ^ 63 }
-        requires few_jobs { (x : ℕ) → (numbers_at self.old x).jobs < 2 ^ 63 }
-        requires few_processes { (x : ℕ) → (numbers_at self.old x).processes < 2 ^ 63 }
+        requires few_jobs { (x : ℕ) → (numbers_at self.old x).jobs < 2 ^ 32 - 1 }
+        requires few_processes { (x : ℕ) → (numbers_at self.old x).processes < 2 ^ 32 - 1 }
         ensures added { (x : ℕ) → numbers_at self.new x ≡ plus (numbers_at self.old x) (given x key row.now) }
         ensures len { length self.new ≡ length self.old }
         ensures few { (x : ℕ) → named_by x key row.now ≤ 64 }
@@ -261,14 +261,14 @@ impl SupportCounts {
 
     /// Adds what the row, if there is one, gives.
     #[inline(always)]
-    pub fn raise_if(&mut self, key: RowKey, row: &Option<Row>)
-        requires within { counts_within_if (length self.old) key row.now ≡ true }
+    pub fn raise_if(&mut self, key: RowKey, row: Option<&Row>)
+        requires within { counts_within_if (length self.old) key (option_copied row) ≡ true }
         requires small { (x : ℕ) → (numbers_at self.old x).named < 2 ^ 63 }
-        requires few_jobs { (x : ℕ) → (numbers_at self.old x).jobs < 2 ^ 63 }
+        requires few_tasks { (x : ℕ) → ((numbers_at self.old x).jobs < 2 ^ 32 - 1) × ((numbers_at self.old x).processes < 2 ^ 32 - 1) }
         requires few_processes { (x : ℕ) → (numbers_at self.old x).processes < 2 ^ 63 }
-        ensures added { (x : ℕ) → numbers_at self.new x ≡ plus (numbers_at self.old x) (given_if x key row.now) }
+        ensures added { (x : ℕ) → numbers_at self.new x ≡ plus (numbers_at self.old x) (given_if x key (option_copied row.entry)) }
         ensures len { length self.new ≡ length self.old }
-        ensures few { (x : ℕ) → (given_if x key row.now).named ≤ 64 }
+        ensures few { (x : ℕ) → (given_if x key (option_copied row.entry)).named ≤ 64 }
     {
         if let Some(row) = row {
             self.raise(key, row);
@@ -277,12 +277,12 @@ impl SupportCounts {
 
     /// Takes off what the row, if there is one, gives.
     #[inline(always)]
-    pub fn lower_if(&mut self, key: RowKey, row: &Option<Row>)
-        requires within { counts_within_if (length self.old) key row.now ≡ true }
-        requires there { (x : ℕ) → (given_if x key row.now).named ≤ (numbers_at self.old x).named }
-        requires jobs { (x : ℕ) → (given_if x key row.now).jobs ≤ (numbers_at self.old x).jobs }
-        requires processes { (x : ℕ) → (given_if x key row.now).processes ≤ (numbers_at self.old x).processes }
-        ensures taken { (x : ℕ) → plus (numbers_at self.new x) (given_if x key row.now) ≡ numbers_at self.old x }
+    pub fn lower_if(&mut self, key: RowKey, row: Option<&Row>)
+        requires within { counts_within_if (length self.old) key (option_copied row) ≡ true }
+        requires there { (x : ℕ) → (given_if x key (option_copied row)).named ≤ (numbers_at self.old x).named }
+        requires jobs { (x : ℕ) → (given_if x key (option_copied row)).jobs ≤ (numbers_at self.old x).jobs }
+        requires processes { (x : ℕ) → (given_if x key (option_copied row)).processes ≤ (numbers_at self.old x).processes }
+        ensures taken { (x : ℕ) → plus (numbers_at self.new x) (given_if x key (option_copied row.entry)) ≡ numbers_at self.old x }
         ensures len { length self.new ≡ length self.old }
     {
         if let Some(row) = row {
@@ -297,6 +297,23 @@ impl SupportCounts {
         let numbers = Vec::from_slice(*self.numbers.allocator(), self.numbers.as_slice())?;
         Ok(SupportCounts { numbers })
     }
+}
+
+/// Makes numbers that are 0, until there are so many.
+#[inline(always)]
+fn make_numbers(numbers: &mut Vec<KoidCounts>, len: usize) -> Result<(), AllocError>
+    requires { vec_len numbers.old ≤ len }
+    ensures same { (x : ℕ) → numbers_at numbers.new.items x ≡ numbers_at numbers.old.items x }
+    ensures kept { vec_len numbers.old ≤ vec_len numbers.new }
+    ensures made { OnOk result (vec_len numbers.new ≡ len) }
+{
+    if len > numbers.capacity() {
+        numbers.reserve(len - numbers.len())?;
+    }
+    while numbers.len() < len {
+        numbers.push_reserved(NO_NUMBERS);
+    }
+    Ok(())
 }
 
 /// What the row under the key counts for.
@@ -332,8 +349,8 @@ fn task_of(object: &ObjectRow) -> Option<KoidCounts>
 fn add(numbers: &mut [KoidCounts], koid: Koid, more: KoidCounts)
     requires within { koid < length numbers.old }
     requires named { (numbers_at numbers.old koid).named + more.named < 2 ^ 64 }
-    requires jobs { (numbers_at numbers.old koid).jobs + more.jobs < 2 ^ 64 }
-    requires processes { (numbers_at numbers.old koid).processes + more.processes < 2 ^ 64 }
+    requires jobs { (numbers_at numbers.old koid).jobs + more.jobs < 2 ^ 32 }
+    requires processes { (numbers_at numbers.old koid).processes + more.processes < 2 ^ 32 }
     ensures { (x : ℕ)
         → numbers_at numbers.new x
         ≡ plus (numbers_at numbers.old x) (if koid == x then more else none_given) }
@@ -361,8 +378,8 @@ fn add_names(numbers: &mut [KoidCounts], handles: &[Held])
     requires within { list_all (λ held. nat_lt held.koid (length numbers.old)) handles.now ≡ true }
     requires few { length handles.now ≤ 64 }
     requires small { (x : ℕ) → (numbers_at numbers.old x).named < 2 ^ 63 }
-    requires few_jobs { (x : ℕ) → (numbers_at numbers.old x).jobs < 2 ^ 63 }
-    requires few_processes { (x : ℕ) → (numbers_at numbers.old x).processes < 2 ^ 63 }
+    requires few_jobs { (x : ℕ) → (numbers_at numbers.old x).jobs < 2 ^ 32 }
+    requires few_processes { (x : ℕ) → (numbers_at numbers.old x).processes < 2 ^ 32 }
     ensures { (x : ℕ) → numbers_at numbers.new x ≡ plus (numbers_at numbers.old x) (names_given x handles.now) }
 {
     for held in handles {

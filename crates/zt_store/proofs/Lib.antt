@@ -4,9 +4,13 @@ pub mod KeyWalks
 pub mod Fitting
 pub mod Exchanges
 pub mod Undoing
+pub mod KeyPlaceLaws
 pub mod Touches
 pub mod RecordLaws
 pub mod SideBySide
+pub mod BareLaws
+pub mod ChangedLaws
+pub mod InsertLaws
 pub mod Endings
 pub mod HeldLaws
 pub mod TakenRows

@@ -1,11 +1,11 @@
 -- What holds of a record: its keys are distinct, and an exchange keeps their order.
-use Rattle.std.proofs.Common.{◌≡◌, ℕ, Bool, true, false, ◌&&◌, T, List, [], ◌∷◌, ◌++◌, ◌+◌, ◌<◌, map, take, drop, get_or, set, length, Option, refl, sym, ap, ◌∙◌, subst, arith}
+use Rattle.std.proofs.Common.{◌≡◌, ℕ, Bool, true, false, ◌&&◌, T, List, [], ◌∷◌, ◌++◌, map, take, drop, length, Option, refl, sym, ap, ◌∙◌, subst, arith}
 use Rattle.std.specs.declared.cmp.Ordering.{Ordering}
 use Rattle.std.specs.declared.cmp.Ordering.TheVariants.{Less, Equal, Greater}
 use Rattle.std.specs.Ordering.{is_lt, is_eq}
 use Rattle.std.specs.FinMap.Entries as entries
 use Rattle.std.specs.List.{AllByRecursion, IsDistinct, zip}
-use Rattle.std.proofs.lemmas.List.{append-nil, drop-set-lt, drop_all, drop_more, length-map, length-set, map-append, take_all, take_more}
+use Rattle.std.proofs.lemmas.List.{append-nil, drop_all, length-map, take_all}
 use Rattle.std.proofs.lemmas.Slice.Zip.{firsts-zip}
 use Rattle.zt_rows.specs.declared.keys.RowKey.{RowKey}
 use Rattle.zt_rows.specs.declared.rows.Row.{Row}
@@ -14,7 +14,6 @@ use Rattle.zt_rows.specs.ProofsOnly.KeyOrder.{rowkey_eq-cmp}
 use Rattle.zt_rows.specs.State.{State}
 use Rattle.zt_rows.specs.Change.{before, rows_at, exchange}
 use Rattle.zt_rows.proofs.ChangeLaws.{sorted-before}
-use Rattle.zt_store.specs.ProofsOnly.KeptRows.{AreOf}
 use Rattle.zt_store.specs.ProofsOnly.RecordRows.{IsRecord}
 use Rattle.zt_store.specs.ProofsOnly.StoreView.{AllSuit}
 use Rattle.zt_store.proofs.Fitting.{Rows}
@@ -96,24 +95,3 @@ record-before S U R is suited = record {
   suited = subst AllSuit (sym (zip-unzipped R)) suited;
   ordered = subst IsSorted (sym (zip-unzipped R ∙ is)) (sorted-before S U);
 }
-
-pub record-filled : (R : Rows) (ks : List RowKey) (rs : List (Option Row)) → AreOf ks rs R → zip ks rs ≡ R
-record-filled R ks rs is = (λ i. zip (is.keys i) (is.rows i)) ∙ zip-unzipped R
-
-pub filled-recorded : (R : Rows) (ks : List RowKey) (rs : List (Option Row)) → AreOf ks rs R → IsRecord (keys_of R) (map (λ e. e.1) R) → IsRecord ks rs
-filled-recorded R ks rs is recorded =
-    subst (λ k. IsRecord k rs) (sym is.keys) (subst (λ r. IsRecord (keys_of R) r) (sym is.rows) recorded)
-
--- one row more is taken out of the list, where d stands for what is read beyond its end
-pub taken-next : (F R : Rows) (rs more : List (Option Row)) (i : ℕ) (d : RowKey × Option Row) (took left : Option Row) → rs ≡ map (λ x. x.1) (take i F) → drop i R ≡ drop i F → length R ≡ length F
-    → i < length R → took ≡ (get_or R i d).1 → more ≡ rs ++ took ∷ []
-    → (more ≡ map (λ x. x.1) (take (i + 1) F)) × (drop (i + 1) (set R i ((get_or R i d).0, left)) ≡ drop (i + 1) F) × (length (set R i ((get_or R i d).0, left)) ≡ length F)
-taken-next F R rs more i d took left so_far rest size within is pushed =
-    let there : i < length F = omega (arith, within, size) in
-    let both_rest : get_or R i d ∷ drop (i + 1) R ≡ get_or F i d ∷ drop (i + 1) F = sym (drop_more R i d within) ∙ rest ∙ drop_more F i d there in
-    let same : took ≡ (get_or F i d).1 = is ∙ ap (λ es. (get_or es 0 d).1) both_rest in
-    let less : i < i + 1 = omega arith in (
-      pushed ∙ (λ j. so_far j ++ same j ∷ []) ∙ sym (map-append (λ (x : RowKey × Option Row). x.1) (take i F) (get_or F i d ∷ [])) ∙ ap (map (λ (x : RowKey × Option Row). x.1)) (sym (take_more F i d there)),
-      drop-set-lt (i + 1) R i ((get_or R i d).0, left) less ∙ ap (drop 1) both_rest,
-      length-set R i ((get_or R i d).0, left) ∙ size,
-    )

@@ -1,48 +1,116 @@
--- Rows that are taken out of a list one after another, with copies of their keys, each into its place.
-use Rattle.std.proofs.Common.{◌≡◌, ℕ, ◌+◌, ◌<◌, ◌≤◌, List, [], ◌∷◌, ◌++◌, map, take, drop, get_or, set, length, Option, refl, sym, ap, ◌∙◌, arith}
-use Rattle.std.proofs.lemmas.List.{drop-set-lt, drop_more, length-set, map-append, take_all, take_more, take_more_set}
+-- Rows that are taken out of a list one after another, from given places and with copies of their keys.
+use Rattle.std.proofs.Common.{◌≡◌, ℕ, ◌+◌, ◌<◌, ◌≤◌, List, [], ◌∷◌, ◌++◌, map, take, get_or, set, length, refl, sym, ap, ◌∙◌, arith, get_or-set_other}
+use Rattle.std.specs.Prelude.{nat_eq}
+use Rattle.std.proofs.lemmas.Bool.{eqb-false}
+use Rattle.std.proofs.lemmas.List.{get_or_default, length-map, length-set, length-take, map-append, take_all, take_more, take_more_set}
+use Rattle.std.proofs.lemmas.List.Elements.{All-get_or}
+use Rattle.std.proofs.lemmas.Map.Keys.{apart_from_distinct}
 use Rattle.zt_rows.specs.declared.keys.RowKey.{RowKey}
 use Rattle.zt_rows.specs.declared.rows.Row.{Row}
+use Rattle.zt_store.specs.ProofsOnly.ChangedRows.{IsOrder, first_at, no_first, picked}
 use Rattle.zt_store.specs.ProofsOnly.KeptRows.{AreOf}
-use Rattle.zt_store.proofs.Fitting.{Rows}
+use Rattle.zt_store.proofs.BareLaws.{Bares}
 
--- the first i of the rows stand in their places, the others are in the list as they were
-pub record IsTaking (F : Rows) (i : ℕ) (ks : List RowKey) (rs : List (Option Row)) (R : Rows) : Type 0 where
-  pub keys : take i ks ≡ map (λ e. e.0) (take i F)
-  pub rows : take i rs ≡ map (λ e. e.1) (take i F)
-  pub left : drop i R ≡ drop i F
+-- the rows at the first i of the places are taken, those at the others stand as they were
+pub record IsTaking (F : Bares) (order : List ℕ) (i : ℕ) (R : Bares) : Type 0 where
   pub even : length R ≡ length F
-  pub key_places : length ks ≡ length F
-  pub row_places : length rs ≡ length F
+  pub left : (j : ℕ) → i ≤ j → j < length order → first_at R (get_or order j 0) ≡ first_at F (get_or order j 0)
 
-pub taking-start : (F : Rows) (ks : List RowKey) (rs : List (Option Row)) → length ks ≡ length F → length rs ≡ length F → IsTaking F 0 ks rs F
-taking-start F ks rs keys rows = record { keys = refl; rows = refl; left = refl; even = refl; key_places = keys; row_places = rows }
+pub taking-start : (F : Bares) (order : List ℕ) → IsTaking F order 0 F
+taking-start F order = record { even = refl; left = λ j low within. refl }
 
--- where d stands for what is read beyond the end, x for the row that came to its place, and v for what it left
-pub taking-next : (F : Rows) (i : ℕ) (ks : List RowKey) (rs : List (Option Row)) (R : Rows) (d : RowKey × Option Row) (x v : Option Row) → IsTaking F i ks rs R → i < length F → x ≡ (get_or R i d).1
-    → IsTaking F (i + 1) (set ks i (get_or R i d).0) (set rs i x) (set R i ((get_or R i d).0, v))
-taking-next F i ks rs R d x v is there came =
-    let k : RowKey = (get_or R i d).0 in
-    let within : i < length R = omega (arith, there, is.even) in
-    let both_rest : get_or R i d ∷ drop (i + 1) R ≡ get_or F i d ∷ drop (i + 1) F = sym (drop_more R i d within) ∙ is.left ∙ drop_more F i d there in
-    let same : get_or R i d ≡ get_or F i d = ap (λ es. get_or es 0 d) both_rest in
-    let row : x ≡ (get_or F i d).1 = came ∙ ap (λ (e : RowKey × Option Row). e.1) same in
-    let less : i < i + 1 = omega arith in
-    record {
+-- the same, and they stand in their places
+pub record IsFilling (F : Bares) (order : List ℕ) (i : ℕ) (ks : List RowKey) (rs : List Row) (R : Bares) : Type 0 where
+  pub keys : take i ks ≡ map (λ e. e.0) (picked F (take i order))
+  pub rows : take i rs ≡ map (λ e. e.1) (picked F (take i order))
+  pub taking : IsTaking F order i R
+  pub key_places : length ks ≡ length order
+  pub row_places : length rs ≡ length order
+
+pub filling-start : (F : Bares) (order : List ℕ) (ks : List RowKey) (rs : List Row) → length ks ≡ length order → length rs ≡ length order → IsFilling F order 0 ks rs F
+filling-start F order ks rs keys rows = record { keys = refl; rows = refl; taking = taking-start F order; key_places = keys; row_places = rows }
+
+pub filling-end : (F : Bares) (order : List ℕ) (i : ℕ) (ks : List RowKey) (rs : List Row) (R : Bares) → IsFilling F order i ks rs R → length order ≤ i → AreOf ks rs (picked F order)
+filling-end F order i ks rs R is over = record {
+  keys = sym (take_all i ks (omega (arith, over, is.key_places))) ∙ is.keys ∙ ap (λ places. map (λ (e : RowKey × Row). e.0) (picked F places)) (take_all i order over);
+  rows = sym (take_all i rs (omega (arith, over, is.row_places))) ∙ is.rows ∙ ap (λ places. map (λ (e : RowKey × Row). e.1) (picked F places)) (take_all i order over);
+}
+
+-- the same, and they stand in two lists
+pub record IsPushing (F : Bares) (order : List ℕ) (i : ℕ) (ks : List RowKey) (rs : List Row) (R : Bares) : Type 0 where
+  pub keys : ks ≡ map (λ e. e.0) (picked F (take i order))
+  pub rows : rs ≡ map (λ e. e.1) (picked F (take i order))
+  pub taking : IsTaking F order i R
+
+pub pushing-start : (F : Bares) (order : List ℕ) (ks : List RowKey) (rs : List Row) → ks ≡ [] → rs ≡ [] → IsPushing F order 0 ks rs F
+pushing-start F order ks rs keys rows = record { keys = keys; rows = rows; taking = taking-start F order }
+
+pub pushing-end : (F : Bares) (order : List ℕ) (i : ℕ) (ks : List RowKey) (rs : List Row) (R : Bares) → IsPushing F order i ks rs R → length order ≤ i → AreOf ks rs (picked F order)
+pushing-end F order i ks rs R is over = record {
+  keys = is.keys ∙ ap (λ places. map (λ (e : RowKey × Row). e.0) (picked F places)) (take_all i order over);
+  rows = is.rows ∙ ap (λ places. map (λ (e : RowKey × Row). e.1) (picked F places)) (take_all i order over);
+}
+
+pushed-count : {X : Type 0} (f : RowKey × Row → X) (F : Bares) (order : List ℕ) (i : ℕ) (xs : List X) → xs ≡ map f (picked F (take i order)) → i ≤ length order → length xs ≡ i
+pushed-count f F order i xs is low =
+    ap length is ∙ length-map (picked F (take i order)) f ∙ length-map (take i order) (first_at F) ∙ omega (arith, length-take i order, low)
+
+pub pushing-keys : (F : Bares) (order : List ℕ) (i : ℕ) (ks : List RowKey) (rs : List Row) (R : Bares) → IsPushing F order i ks rs R → i ≤ length order → length ks ≡ i
+pushing-keys F order i ks rs R is low = pushed-count (λ (e : RowKey × Row). e.0) F order i ks is.keys low
+
+pub pushing-rows : (F : Bares) (order : List ℕ) (i : ℕ) (ks : List RowKey) (rs : List Row) (R : Bares) → IsPushing F order i ks rs R → i ≤ length order → length rs ≡ i
+pushing-rows F order i ks rs R is low = pushed-count (λ (e : RowKey × Row). e.1) F order i rs is.rows low
+
+-- with one more row of those taken so far
+picked-next : {X : Type 0} (f : RowKey × Row → X) (F : Bares) (order : List ℕ) (i : ℕ) (xs : List X) (x : X) → xs ≡ map f (picked F (take i order)) → x ≡ f (first_at F (get_or order i 0)) → i < length order
+    → xs ++ x ∷ [] ≡ map f (picked F (take (i + 1) order))
+picked-next f F order i xs x so_far came within =
+    (λ j. so_far j ++ came j ∷ []) ∙ sym (map-append f (picked F (take i order)) (first_at F (get_or order i 0) ∷ []))
+    ∙ ap (map f) (sym (map-append (first_at F) (take i order) (get_or order i 0 ∷ []))) ∙ ap (λ places. map f (picked F places)) (sym (take_more order i 0 within))
+
+-- where d stands for what is read beyond the end, and v for what is left in the place
+module _ (F : Bares) (order : List ℕ) (i : ℕ) (R : Bares) (d : RowKey × Row) (v : Row) (places : IsOrder order (length F)) (is : IsTaking F order i R) (within : i < length order) where
+  pub taking-within : get_or order i 0 < length R
+  taking-within = omega (arith, is.even, All-get_or (λ j. j < length F) order i 0 within places.within)
+
+  taken-at : get_or R (get_or order i 0) d ≡ first_at F (get_or order i 0)
+  taken-at = get_or_default R (get_or order i 0) d no_first taking-within ∙ is.left i (omega arith) within
+
+  taking-next : IsTaking F order (i + 1) (set R (get_or order i 0) ((get_or R (get_or order i 0) d).0, v))
+  taking-next = record {
+    even = length-set R (get_or order i 0) ((get_or R (get_or order i 0) d).0, v) ∙ is.even;
+    left = λ j low there.
+        get_or-set_other R (get_or order i 0) (get_or order j 0) ((get_or R (get_or order i 0) d).0, v) no_first
+        (λ same. eqb-false (get_or order i 0) (get_or order j 0) (apart_from_distinct nat_eq order i j 0 places.apart (omega (arith, low)) there) (sym same))
+        ∙ is.left j (omega (arith, low)) there;
+  }
+
+  module _ (ks : List RowKey) (rs : List Row) (x : Row) (came : x ≡ (get_or R (get_or order i 0) d).1) where
+    key : (get_or R (get_or order i 0) d).0 ≡ (first_at F (get_or order i 0)).0
+    key = ap (λ (e : RowKey × Row). e.0) taken-at
+
+    row : x ≡ (first_at F (get_or order i 0)).1
+    row = came ∙ ap (λ (e : RowKey × Row). e.1) taken-at
+
+    -- into as many places
+    pub filling-next : IsFilling F order i ks rs R → IsFilling F order (i + 1) (set ks i (get_or R (get_or order i 0) d).0) (set rs i x) (set R (get_or order i 0) ((get_or R (get_or order i 0) d).0, v))
+    filling-next filling = record {
       keys =
-          take_more_set ks i k (omega (arith, there, is.key_places)) ∙ (λ j. is.keys j ++ (same j).0 ∷ [])
-          ∙ sym (map-append (λ (e : RowKey × Option Row). e.0) (take i F) (get_or F i d ∷ [])) ∙ ap (map (λ (e : RowKey × Option Row). e.0)) (sym (take_more F i d there));
+          take_more_set ks i (get_or R (get_or order i 0) d).0 (omega (arith, within, filling.key_places))
+          ∙ picked-next (λ (e : RowKey × Row). e.0) F order i (take i ks) _ filling.keys key within;
       rows =
-          take_more_set rs i x (omega (arith, there, is.row_places)) ∙ (λ j. is.rows j ++ row j ∷ [])
-          ∙ sym (map-append (λ (e : RowKey × Option Row). e.1) (take i F) (get_or F i d ∷ [])) ∙ ap (map (λ (e : RowKey × Option Row). e.1)) (sym (take_more F i d there));
-      left = drop-set-lt (i + 1) R i (k, v) less ∙ ap (drop 1) both_rest;
-      even = length-set R i (k, v) ∙ is.even;
-      key_places = length-set ks i k ∙ is.key_places;
-      row_places = length-set rs i x ∙ is.row_places;
+          take_more_set rs i x (omega (arith, within, filling.row_places))
+          ∙ picked-next (λ (e : RowKey × Row). e.1) F order i (take i rs) _ filling.rows row within;
+      taking = taking-next;
+      key_places = length-set ks i (get_or R (get_or order i 0) d).0 ∙ filling.key_places;
+      row_places = length-set rs i x ∙ filling.row_places;
     }
 
-pub taking-end : (F : Rows) (i : ℕ) (ks : List RowKey) (rs : List (Option Row)) (R : Rows) → IsTaking F i ks rs R → length F ≤ i → AreOf ks rs F
-taking-end F i ks rs R is over = record {
-  keys = sym (take_all i ks (omega (arith, over, is.key_places))) ∙ is.keys ∙ ap (map (λ (e : RowKey × Option Row). e.0)) (take_all i F over);
-  rows = sym (take_all i rs (omega (arith, over, is.row_places))) ∙ is.rows ∙ ap (map (λ (e : RowKey × Option Row). e.1)) (take_all i F over);
-}
+    -- behind those in two lists
+    pub pushing-next : (keys : List RowKey) (rows : List Row) → IsPushing F order i ks rs R → keys ≡ ks ++ (get_or R (get_or order i 0) d).0 ∷ [] → rows ≡ rs ++ x ∷ []
+        → IsPushing F order (i + 1) keys rows (set R (get_or order i 0) ((get_or R (get_or order i 0) d).0, v))
+    pushing-next keys rows pushing more_keys more_rows = record {
+      keys = more_keys ∙ picked-next (λ (e : RowKey × Row). e.0) F order i ks _ pushing.keys key within;
+      rows = more_rows ∙ picked-next (λ (e : RowKey × Row). e.1) F order i rs _ pushing.rows row within;
+      taking = taking-next;
+    }

@@ -1,8 +1,10 @@
 -- Used by proofs only: no public clause depends on them.
 pub mod StoreView
-pub mod RecordRows
 pub mod KeptRows
+pub mod ChangedRows
+pub mod RecordRows
 pub mod StepView
 pub mod StoreInvariant
+pub mod KeyPlaces
 pub mod StepRows
 pub mod KeyColumns

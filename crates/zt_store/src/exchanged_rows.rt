@@ -1,13 +1,13 @@
 ghost use Rattle.std.specs.Prelude.{◌≡◌, true, List, map};
-ghost use Rattle.std.specs.List.{IsDistinct, zip};
+ghost use Rattle.std.specs.List.{IsDistinct};
 ghost use Rattle.zt_rows.specs.Change.{exchange};
 ghost use Rattle.zt_rows.specs.Keys.{rowkey_eq};
 ghost use Rattle.zt_rows.specs.Path.{end_of, exchange_back, records_of};
 ghost use Rattle.zt_rows.specs.State.{State};
 ghost use Rattle.zt_store.specs.Places.{fits};
 ghost use Rattle.zt_store.specs.RecordRows.{all_fit};
-ghost use Rattle.zt_store.specs.ProofsOnly.KeptRows.{keys_in, rows_in};
-ghost use Rattle.zt_store.specs.ProofsOnly.RecordRows.{IsRecord};
+ghost use Rattle.zt_store.specs.ProofsOnly.KeptRows.{keys_in, rows_in, rows_of, pairs_of};
+ghost use Rattle.zt_store.specs.ProofsOnly.RecordRows.{IsBareRecord};
 ghost use Rattle.zt_store.specs.ProofsOnly.StoreView.{AllSuit};
 
 use crate::kept_rows::{KeptRows, RowBlock, RowLists};
@@ -28,12 +28,12 @@ pub fn swap(store: &mut Store, kept: &mut Record)
 
 /// Exchanges the rows with the store's, in whichever form they are kept. It takes no memory.
 fn exchange_kept(store: &mut Store, kept: &mut KeptRows)
-    requires recorded { IsRecord (keys_in kept.old) (rows_in kept.old) }
-    requires placed { fits store.old.places (zip (keys_in kept.old) (rows_in kept.old)) ≡ true }
-    ensures exchanged { (store.new.state, zip (keys_in kept.new) (rows_in kept.new)) ≡ exchange store.old.state (zip (keys_in kept.old) (rows_in kept.old)) }
-    ensures recorded { IsRecord (keys_in kept.new) (rows_in kept.new) }
+    requires recorded { IsBareRecord (keys_in kept.old) (rows_in kept.old) }
+    requires placed { fits store.old.places (pairs_of (keys_in kept.old) (rows_in kept.old)) ≡ true }
+    ensures exchanged { (store.new.state, pairs_of (keys_in kept.new) (rows_in kept.new)) ≡ exchange store.old.state (pairs_of (keys_in kept.old) (rows_in kept.old)) }
+    ensures recorded { IsBareRecord (keys_in kept.new) (rows_in kept.new) }
     ensures places { store.new.places ≡ store.old.places }
-    ensures fits { fits store.new.places (zip (keys_in kept.new) (rows_in kept.new)) ≡ true }
+    ensures fits { fits store.new.places (pairs_of (keys_in kept.new) (rows_in kept.new)) ≡ true }
 {
     match kept {
         KeptRows::NoRow => {}
@@ -49,51 +49,51 @@ fn exchange_kept(store: &mut Store, kept: &mut KeptRows)
 
 /// Exchanges the block's rows with the store's. It takes no memory.
 fn exchange_block<const N: usize>(store: &mut Store, block: &mut RowBlock<N>)
-    requires recorded { IsRecord block.old.keys block.old.rows }
-    requires placed { fits store.old.places (zip block.old.keys block.old.rows) ≡ true }
-    ensures exchanged { (store.new.state, zip block.new.keys block.new.rows) ≡ exchange store.old.state (zip block.old.keys block.old.rows) }
-    ensures recorded { IsRecord block.new.keys block.new.rows }
+    requires recorded { IsBareRecord block.old.keys block.old.rows }
+    requires placed { fits store.old.places (pairs_of block.old.keys block.old.rows) ≡ true }
+    ensures exchanged { (store.new.state, pairs_of block.new.keys block.new.rows) ≡ exchange store.old.state (pairs_of block.old.keys block.old.rows) }
+    ensures recorded { IsBareRecord block.new.keys block.new.rows }
     ensures places { store.new.places ≡ store.old.places }
-    ensures fits { fits store.new.places (zip block.new.keys block.new.rows) ≡ true }
+    ensures fits { fits store.new.places (pairs_of block.new.keys block.new.rows) ≡ true }
 {
     exchange_under(store, &block.keys, &mut block.rows);
 }
 
 /// Exchanges the rows of the lists with the store's. It takes no memory.
 fn exchange_lists(store: &mut Store, lists: &mut RowLists)
-    requires recorded { IsRecord lists.old.keys.items lists.old.rows.items }
-    requires placed { fits store.old.places (zip lists.old.keys.items lists.old.rows.items) ≡ true }
-    ensures exchanged { (store.new.state, zip lists.new.keys.items lists.new.rows.items) ≡ exchange store.old.state (zip lists.old.keys.items lists.old.rows.items) }
-    ensures recorded { IsRecord lists.new.keys.items lists.new.rows.items }
+    requires recorded { IsBareRecord lists.old.keys.items lists.old.rows.items }
+    requires placed { fits store.old.places (pairs_of lists.old.keys.items lists.old.rows.items) ≡ true }
+    ensures exchanged { (store.new.state, pairs_of lists.new.keys.items lists.new.rows.items) ≡ exchange store.old.state (pairs_of lists.old.keys.items lists.old.rows.items) }
+    ensures recorded { IsBareRecord lists.new.keys.items lists.new.rows.items }
     ensures places { store.new.places ≡ store.old.places }
-    ensures fits { fits store.new.places (zip lists.new.keys.items lists.new.rows.items) ≡ true }
+    ensures fits { fits store.new.places (pairs_of lists.new.keys.items lists.new.rows.items) ≡ true }
 {
     exchange_under(store, lists.keys.as_slice(), lists.rows.as_mut_slice());
 }
 
-/// Exchanges the rows with the store's, each under the key at its place. It takes no memory.
-fn exchange_under(store: &mut Store, keys: &[RowKey], rows: &mut [Option<Row>])
-    requires recorded { IsRecord keys.now rows.old }
-    requires placed { fits store.old.places (zip keys.now rows.old) ≡ true }
-    ensures exchanged { (store.new.state, zip keys.now rows.new) ≡ exchange store.old.state (zip keys.now rows.old) }
-    ensures recorded { IsRecord keys.now rows.new }
+/// Exchanges the bare rows with the store's, each under the key at its place. It takes no memory.
+fn exchange_under(store: &mut Store, keys: &[RowKey], rows: &mut [Row])
+    requires recorded { IsBareRecord keys.now rows.old }
+    requires placed { fits store.old.places (pairs_of keys.now rows.old) ≡ true }
+    ensures exchanged { (store.new.state, pairs_of keys.now rows.new) ≡ exchange store.old.state (pairs_of keys.now rows.old) }
+    ensures recorded { IsBareRecord keys.now rows.new }
     ensures places { store.new.places ≡ store.old.places }
-    ensures fits { fits store.new.places (zip keys.now rows.new) ≡ true }
+    ensures fits { fits store.new.places (pairs_of keys.now rows.new) ≡ true }
 {
     for place in 0..rows.len() {
         store.exchange(&keys[place], &mut rows[place]);
     }
 }
 
-/// Exchanges the rows with the store's under their keys, of which each is listed once. It takes no memory.
-pub(crate) fn exchange_rows(store: &mut Store, rows: &mut [(RowKey, Option<Row>)])
-    requires distinct { IsDistinct rowkey_eq (map (λ e. e.0) rows.old) }
-    requires suited { AllSuit rows.old }
-    requires placed { fits store.old.places rows.old ≡ true }
-    ensures exchanged { (store.new.state, rows.new) ≡ exchange store.old.state rows.old }
+/// Exchanges the bare rows with the store's under their keys, of which each is listed once. It takes no memory.
+pub(crate) fn exchange_rows(store: &mut Store, rows: &mut [(RowKey, Row)])
+    requires distinct { IsDistinct rowkey_eq (map (λ e. e.0) (rows_of rows.old)) }
+    requires suited { AllSuit (rows_of rows.old) }
+    requires placed { fits store.old.places (rows_of rows.old) ≡ true }
+    ensures exchanged { (store.new.state, rows_of rows.new) ≡ exchange store.old.state (rows_of rows.old) }
     ensures places { store.new.places ≡ store.old.places }
-    ensures suited { AllSuit rows.new }
-    ensures fits { fits store.new.places rows.new ≡ true }
+    ensures suited { AllSuit (rows_of rows.new) }
+    ensures fits { fits store.new.places (rows_of rows.new) ≡ true }
 {
     for i in 0..rows.len() {
         let entry = &mut rows[i];

@@ -1,23 +1,25 @@
-ghost use Rattle.std.specs.Prelude.{◌≡◌, ◌≤◌, length, map, vec_capacity, IfOk, OnOk, OnErr};
+ghost use Rattle.std.specs.Prelude.{◌≡◌, ◌≤◌, length, vec_capacity, IfOk, OnOk, OnErr};
+ghost use Rattle.zt_store.specs.ProofsOnly.ChangedRows.{IsOrder, picked};
 ghost use Rattle.zt_store.specs.ProofsOnly.KeptRows.{AreOf, keys_in, rows_in, room_of};
 
 use std::alloc::{AllocError, Global};
 use std::array;
-use std::mem::swap;
+use std::mem::replace;
+use zt_cells::NO_ROW;
 use zt_rows::{Row, RowKey};
 
-/// Some keys and as many rows, or that there is none, in one block of memory of just their size.
+/// Some keys and as many bare rows in one block of memory of just their size.
 #[derive(Drop)]
 pub(crate) struct RowBlock<const N: usize> {
     pub(crate) keys: [RowKey; N],
-    pub(crate) rows: [Option<Row>; N],
+    pub(crate) rows: [Row; N],
 }
 
-/// Any number of keys, and as many rows.
+/// Any number of keys, and as many bare rows.
 #[derive(Drop)]
 pub(crate) struct RowLists {
     pub(crate) keys: Vec<RowKey>,
-    pub(crate) rows: Vec<Option<Row>>,
+    pub(crate) rows: Vec<Row>,
 }
 
 /// Some keys and as many rows, behind one pointer. `Many` also has those of fewer rows, where memory was refused for their
@@ -35,22 +37,28 @@ pub(crate) enum KeptRows {
 }
 
 impl KeptRows {
-    /// Takes the rows, with copies of their keys, into memory of just their size. Where it is refused nothing changes.
-    pub fn take(alloc: Global, firsts: &mut [(RowKey, Option<Row>)]) -> Result<KeptRows, AllocError>
-        ensures ok { IfOk result (λ kept. AreOf (keys_in kept) (rows_in kept) firsts.old) }
+    /// Takes the rows at these places, in this order and with copies of their keys, into memory of just their size. Where it is
+    /// refused nothing changes.
+    pub fn take(
+        alloc: Global,
+        firsts: &mut [(RowKey, Row)],
+        order: &[usize],
+    ) -> Result<KeptRows, AllocError>
+        requires { IsOrder order.now (length firsts.old) }
+        ensures ok { IfOk result (λ kept. AreOf (keys_in kept) (rows_in kept) (picked firsts.old order.now)) }
         ensures err { OnErr result (firsts.new ≡ firsts.old) }
     {
-        Ok(match firsts.len() {
+        Ok(match order.len() {
             0 => KeptRows::NoRow,
-            1 => KeptRows::One(RowBlock::take(alloc, firsts)?),
-            2 => KeptRows::Two(RowBlock::take(alloc, firsts)?),
-            3 => KeptRows::Three(RowBlock::take(alloc, firsts)?),
-            4 => KeptRows::Four(RowBlock::take(alloc, firsts)?),
-            5 => KeptRows::Five(RowBlock::take(alloc, firsts)?),
-            6 => KeptRows::Six(RowBlock::take(alloc, firsts)?),
+            1 => KeptRows::One(RowBlock::take(alloc, firsts, order)?),
+            2 => KeptRows::Two(RowBlock::take(alloc, firsts, order)?),
+            3 => KeptRows::Three(RowBlock::take(alloc, firsts, order)?),
+            4 => KeptRows::Four(RowBlock::take(alloc, firsts, order)?),
+            5 => KeptRows::Five(RowBlock::take(alloc, firsts, order)?),
+            6 => KeptRows::Six(RowBlock::take(alloc, firsts, order)?),
             count => {
                 let mut lists = RowLists::with_room(alloc, count)?;
-                lists.take(firsts);
+                lists.take(firsts, order);
                 KeptRows::Many(lists)
             }
         })
@@ -72,8 +80,8 @@ impl KeptRows {
         }
     }
 
-    /// The rows, or that there is none, each at the place of its key.
-    pub fn rows(&self) -> &[Option<Row>]
+    /// The bare rows, each at the place of its key.
+    pub fn rows(&self) -> &[Row]
         ensures { result.now ≡ rows_in self.now }
     {
         match self {
@@ -90,36 +98,40 @@ impl KeptRows {
 }
 
 impl<const N: usize> RowBlock<N> {
-    /// Takes the rows, with copies of their keys, into a new block. Where memory is refused nothing changes.
+    /// Takes the rows at these places, with copies of their keys, into a new block. Where memory is refused nothing changes.
     fn take(
         alloc: Global,
-        firsts: &mut [(RowKey, Option<Row>)],
+        firsts: &mut [(RowKey, Row)],
+        order: &[usize],
     ) -> Result<Box<RowBlock<N>>, AllocError>
-        requires { length firsts.old ≡ N }
-        ensures ok { IfOk result (λ block. AreOf block.value.keys block.value.rows firsts.old) }
+        requires order { IsOrder order.now (length firsts.old) }
+        requires count { length order.now ≡ N }
+        ensures ok { IfOk result (λ block. AreOf block.value.keys block.value.rows (picked firsts.old order.now)) }
         ensures err { OnErr result (firsts.new ≡ firsts.old) }
     {
         let empty = RowBlock {
             keys: [RowKey::Counters; N],
-            rows: array::from_fn(|_| None),
+            rows: array::from_fn(|_| NO_ROW),
         };
         let mut block = Box::new(alloc, empty)?;
         let places = block.as_mut();
-        take_into(&mut places.keys, &mut places.rows, firsts);
+        take_into(&mut places.keys, &mut places.rows, firsts, order);
         Ok(block)
     }
 }
 
-/// Takes the rows, with copies of their keys, into as many places.
-fn take_into(keys: &mut [RowKey], rows: &mut [Option<Row>], firsts: &mut [(RowKey, Option<Row>)])
-    requires keys { length keys.old ≡ length firsts.old }
-    requires rows { length rows.old ≡ length firsts.old }
-    ensures { AreOf keys.new rows.new firsts.old }
+/// Takes the rows at these places, with copies of their keys, into as many places.
+#[inline(always)]
+fn take_into(keys: &mut [RowKey], rows: &mut [Row], firsts: &mut [(RowKey, Row)], order: &[usize])
+    requires order { IsOrder order.now (length firsts.old) }
+    requires keys { length keys.old ≡ length order.now }
+    requires rows { length rows.old ≡ length order.now }
+    ensures { AreOf keys.new rows.new (picked firsts.old order.now) }
 {
-    for place in 0..firsts.len() {
-        let first = &mut firsts[place];
+    for place in 0..order.len() {
+        let first = &mut firsts[order[place]];
         keys[place] = first.0;
-        swap(&mut rows[place], &mut first.1);
+        rows[place] = replace(&mut first.1, NO_ROW);
     }
 }
 
@@ -135,6 +147,13 @@ impl RowLists {
         Ok(Box::new(alloc, lists)?)
     }
 
+    /// For how many rows there is room.
+    pub fn room(&self) -> usize
+        ensures { result ≡ room_of self.now }
+    {
+        self.keys.capacity().min(self.rows.capacity())
+    }
+
     /// Makes room for so many rows in empty lists. Where memory is refused the room that was there stays.
     pub fn grow_to(&mut self, count: usize) -> Result<(), AllocError>
         ensures ok { OnOk result (count ≤ room_of self.new) }
@@ -145,36 +164,35 @@ impl RowLists {
         Ok(())
     }
 
-    /// Takes the rows, with copies of their keys, and gives back the room for more. It takes no memory.
-    pub fn take(&mut self, firsts: &mut [(RowKey, Option<Row>)])
-        requires { length firsts.old ≤ room_of self.old }
-        ensures { AreOf self.new.keys.items self.new.rows.items firsts.old }
+    /// Takes the rows at these places, with copies of their keys, and gives back the room for more. It takes no memory.
+    pub fn take(&mut self, firsts: &mut [(RowKey, Row)], order: &[usize])
+        requires order { IsOrder order.now (length firsts.old) }
+        requires room { length order.now ≤ room_of self.old }
+        ensures { AreOf self.new.keys.items self.new.rows.items (picked firsts.old order.now) }
     {
-        push_keys(&mut self.keys, firsts);
-        push_rows(&mut self.rows, firsts);
+        push_rows(&mut self.keys, &mut self.rows, firsts, order);
+        self.keys.shrink_to_fit();
+        self.rows.shrink_to_fit();
     }
 }
 
-/// Leaves just the keys of the rows in the list.
-fn push_keys(keys: &mut Vec<RowKey>, firsts: &[(RowKey, Option<Row>)])
-    requires { length firsts.now ≤ vec_capacity keys.old }
-    ensures { keys.new.items ≡ map (λ e. e.0) firsts.now }
+/// Leaves just the rows at these places, and their keys, in the lists.
+fn push_rows(
+    keys: &mut Vec<RowKey>,
+    rows: &mut Vec<Row>,
+    firsts: &mut [(RowKey, Row)],
+    order: &[usize],
+)
+    requires order { IsOrder order.now (length firsts.old) }
+    requires keys { length order.now ≤ vec_capacity keys.old }
+    requires rows { length order.now ≤ vec_capacity rows.old }
+    ensures { AreOf keys.new.items rows.new.items (picked firsts.old order.now) }
 {
     keys.clear();
-    for first in firsts {
-        keys.push_reserved(first.0);
-    }
-    keys.shrink_to_fit();
-}
-
-/// Leaves just the rows without their keys in the list.
-fn push_rows(rows: &mut Vec<Option<Row>>, firsts: &mut [(RowKey, Option<Row>)])
-    requires { length firsts.old ≤ vec_capacity rows.old }
-    ensures { rows.new.items ≡ map (λ e. e.1) firsts.old }
-{
     rows.clear();
-    for i in 0..firsts.len() {
-        rows.push_reserved(firsts[i].1.take());
+    for place in 0..order.len() {
+        let first = &mut firsts[order[place]];
+        keys.push_reserved(first.0);
+        rows.push_reserved(replace(&mut first.1, NO_ROW));
     }
-    rows.shrink_to_fit();
 }

@@ -2,9 +2,11 @@
 //! undone and made again.
 #![tactic(auto)]
 
+mod changed_rows;
 mod exchanged_rows;
 mod kept_rows;
 mod key_columns;
+mod key_places;
 mod record;
 mod step;
 mod store;

@@ -1,12 +1,20 @@
 ghost use Rattle.std.specs.Option.{option_copied, option_map};
-ghost use Rattle.std.specs.Prelude.{◌≡◌, ◌<◌, ◌≤◌, Some, length, map, slice_get, OnOk};
-ghost use Rattle.zt_store.specs.ProofsOnly.KeptRows.{AreOf, keys_in, rows_in};
-ghost use Rattle.zt_store.specs.ProofsOnly.RecordRows.{IsRecord};
+ghost use Rattle.std.specs.Prelude.{◌≡◌, ◌<◌, ◌≤◌, true, Some, length, map, slice_get, IfOk, OnOk};
+ghost use Rattle.std.specs.List.{IsDistinct};
+ghost use Rattle.zt_rows.specs.Change.{before, with_rows};
+ghost use Rattle.zt_rows.specs.Keys.{rowkey_eq};
+ghost use Rattle.zt_store.specs.Places.{fits};
 ghost use Rattle.zt_store.specs.RecordLook.{held};
+ghost use Rattle.zt_store.specs.ProofsOnly.ChangedRows.{IsOrder, picked};
+ghost use Rattle.zt_store.specs.ProofsOnly.KeptRows.{AreOf, keys_in, room_in, rows_in, rows_of};
+ghost use Rattle.zt_store.specs.ProofsOnly.StoreView.{AllSuit};
 
+use crate::changed_rows::find_changed;
 use crate::kept_rows::{KeptRows, RowLists};
+use crate::store::Store;
 use std::alloc::{AllocError, Global};
 use std::marker::Model;
+use zt_cells::row_under;
 use zt_rows::{Row, RowKey};
 
 /// The rows under some keys at an earlier moment, or that there was none, in the order of the keys. Each row stands at the
@@ -17,18 +25,17 @@ pub struct Record {
 }
 
 impl Model for Record {
-    ghost use Rattle.std.specs.List.{zip};
     ghost use Rattle.std.specs.Prelude.{List, Option};
     ghost use Rattle.zt_rows.specs.declared.keys.RowKey.{RowKey};
     ghost use Rattle.zt_rows.specs.declared.rows.Row.{Row};
-    ghost use Rattle.zt_store.specs.ProofsOnly.RecordRows.{IsRecord};
-    ghost use Rattle.zt_store.specs.ProofsOnly.KeptRows.{keys_in, rows_in};
+    ghost use Rattle.zt_store.specs.ProofsOnly.RecordRows.{IsBareRecord};
+    ghost use Rattle.zt_store.specs.ProofsOnly.KeptRows.{keys_in, rows_in, pairs_of};
 
     ghost Value = { List (RowKey × Option Row) };
 
-    ghost view = { λ r. zip (keys_in r.rows) (rows_in r.rows) };
+    ghost view = { λ r. pairs_of (keys_in r.rows) (rows_in r.rows) };
 
-    ghost invariant = { λ r. IsRecord (keys_in r.rows) (rows_in r.rows) };
+    ghost invariant = { λ r. IsBareRecord (keys_in r.rows) (rows_in r.rows) };
 }
 
 impl Record {
@@ -45,7 +52,7 @@ impl Record {
         ensures { option_map option_copied result ≡ held self.now key }
     {
         match self.rows.keys().binary_search(&key) {
-            Ok(place) => Some(self.rows.rows()[place].as_ref()),
+            Ok(place) => Some(row_under(key, &self.rows.rows()[place])),
             Err(_) => None,
         }
     }
@@ -56,80 +63,132 @@ impl Record {
         ensures row { option_map (λ e. e.1) (slice_get self.now place) ≡ Some (option_copied result) }
         ensures held { (key : RowKey) → option_map (λ e. e.0) (slice_get self.now place) ≡ Some key → held self.now key ≡ Some (option_copied result) }
     {
-        let row = &self.rows.rows()[place];
-        row.as_ref()
+        let key = self.rows.keys()[place];
+        row_under(key, &self.rows.rows()[place])
     }
 }
 
-/// Room for a record that is still to be made, for where memory is refused when it is: empty lists, or none as yet.
+/// Room for a record that is still to be made, for where memory is refused when it is: empty lists, or none as yet. Beside them
+/// stand the places of the rows that come into it.
 #[derive(Drop)]
 pub(crate) struct RecordLists {
     alloc: Global,
     lists: Option<Box<RowLists>>,
+    order: Vec<usize>,
+    /// For how many rows there is room in all of these.
+    room: usize,
 }
 
 impl Model for RecordLists {
-    ghost use Rattle.std.specs.Prelude.{ℕ};
-    ghost use Rattle.zt_store.specs.ProofsOnly.KeptRows.{room_in};
+    ghost use Rattle.std.specs.Prelude.{ℕ, vec_capacity};
+    ghost use Rattle.zt_store.specs.ProofsOnly.KeptRows.{AreRoomy};
 
     ghost Value = { ℕ };
 
-    ghost view = { λ r. room_in r.lists };
+    ghost view = { λ r. r.room };
+
+    ghost invariant = { λ r. AreRoomy r.room r.lists (vec_capacity r.order) };
 }
 
 impl RecordLists {
     /// Room for no row.
     pub(crate) fn new(alloc: Global) -> RecordLists {
-        RecordLists { alloc, lists: None }
+        RecordLists {
+            alloc,
+            lists: None,
+            order: Vec::new(alloc),
+            room: 0,
+        }
     }
 
     /// Makes room for so many rows. Where memory is refused the room that was there stays.
+    #[inline(always)]
     pub(crate) fn grow_to(&mut self, count: usize) -> Result<(), AllocError>
         ensures ok { OnOk result (count ≤ self.new) }
         ensures kept { self.old ≤ self.new }
     {
-        match &mut self.lists {
-            Some(lists) => lists.grow_to(count),
-            None => {
-                self.lists = Some(RowLists::with_room(self.alloc, count)?);
-                Ok(())
-            }
+        if count <= self.room {
+            Ok(())
+        } else {
+            self.widen_to(count)
         }
     }
 
-    /// The record of these rows, in memory that has room for no others. It asks for memory, and takes that of these lists where
-    /// it is refused.
-    pub(crate) fn filled(&mut self, firsts: &mut [(RowKey, Option<Row>)]) -> Record
-        requires room { length firsts.old ≤ self.old }
-        requires recorded { IsRecord (map (λ e. e.0) firsts.old) (map (λ e. e.1) firsts.old) }
-        ensures { result ≡ firsts.old }
+    /// Makes room for so many rows, for which there is none yet.
+    #[inline(never)]
+    fn widen_to(&mut self, count: usize) -> Result<(), AllocError>
+        requires { self.old ≤ count }
+        ensures ok { OnOk result (count ≤ self.new) }
+        ensures kept { self.old ≤ self.new }
     {
-        let rows = self.take(firsts);
+        self.order.clear();
+        self.order.reserve(count)?;
+        let places = self.order.capacity();
+        let rows = grow_lists(self.alloc, &mut self.lists, count)?;
+        self.room = rows.min(places);
+        Ok(())
+    }
+
+    /// The record of those of a step's first rows that differ from the rows now, in memory that has room for no others. It asks
+    /// for memory, and takes that of these lists where it is refused.
+    pub(crate) fn record_of(&mut self, store: &Store, firsts: &mut [(RowKey, Row)]) -> Record
+        requires room { length firsts.old ≤ self.old }
+        requires distinct { IsDistinct rowkey_eq (map (λ e. e.0) (rows_of firsts.old)) }
+        requires suited { AllSuit (rows_of firsts.old) }
+        requires placed { fits store.now.places (rows_of firsts.old) ≡ true }
+        ensures recorded { result ≡ before (with_rows store.now.state (rows_of firsts.old)) store.now.state }
+        ensures fits { fits store.now.places result ≡ true }
+    {
+        find_changed(store, firsts, &mut self.order);
+        let rows = match KeptRows::take(self.alloc, firsts, self.order.as_slice()) {
+            Ok(rows) => rows,
+            Err(_) => {
+                self.room = 0;
+                give(&mut self.lists, firsts, self.order.as_slice())
+            }
+        };
         Record { rows }
     }
+}
 
-    /// Takes the rows into memory that has room for no others, that of these lists where other memory is refused.
-    fn take(&mut self, firsts: &mut [(RowKey, Option<Row>)]) -> KeptRows
-        requires { length firsts.old ≤ self.old }
-        ensures { AreOf (keys_in result) (rows_in result) firsts.old }
-    {
-        match KeptRows::take(self.alloc, firsts) {
-            Ok(rows) => rows,
-            Err(_) => self.give(firsts),
+/// Makes room for so many rows in the lists, and says for how many there is.
+fn grow_lists(
+    alloc: Global,
+    lists: &mut Option<Box<RowLists>>,
+    count: usize,
+) -> Result<usize, AllocError>
+    ensures ok { IfOk result (λ room. (count ≤ room) × (room ≤ room_in lists.new)) }
+    ensures kept { room_in lists.old ≤ room_in lists.new }
+{
+    match lists {
+        Some(lists) => {
+            lists.grow_to(count)?;
+            Ok(lists.room())
+        }
+        None => {
+            let fresh = RowLists::with_room(alloc, count)?;
+            let room = fresh.room();
+            *lists = Some(fresh);
+            Ok(room)
         }
     }
+}
 
-    /// Takes the rows into these lists, which are then given away.
-    fn give(&mut self, firsts: &mut [(RowKey, Option<Row>)]) -> KeptRows
-        requires { length firsts.old ≤ self.old }
-        ensures { AreOf (keys_in result) (rows_in result) firsts.old }
-    {
-        match self.lists.take() {
-            Some(mut lists) => {
-                lists.take(firsts);
-                KeptRows::Many(lists)
-            }
-            None => KeptRows::NoRow,
+/// Takes the rows at these places into the lists, which are then given away.
+fn give(
+    lists: &mut Option<Box<RowLists>>,
+    firsts: &mut [(RowKey, Row)],
+    order: &[usize],
+) -> KeptRows
+    requires order { IsOrder order.now (length firsts.old) }
+    requires room { length order.now ≤ room_in lists.old }
+    ensures { AreOf (keys_in result) (rows_in result) (picked firsts.old order.now) }
+{
+    match lists.take() {
+        Some(mut lists) => {
+            lists.take(firsts, order);
+            KeptRows::Many(lists)
         }
+        None => KeptRows::NoRow,
     }
 }

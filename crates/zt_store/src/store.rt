@@ -9,6 +9,7 @@ ghost use Rattle.zt_rows.specs.Settle.{is_child_job_of, is_child_process_of};
 ghost use Rattle.zt_rows.specs.State.{row, put};
 ghost use Rattle.zt_rows.specs.Support.{support_count};
 ghost use Rattle.zt_rows.specs.Tests.{count_row};
+ghost use Rattle.zt_cells.specs.BareRows.{row_in, row_under};
 ghost use Rattle.zt_cells.specs.FirstNumber.{IsFirst};
 ghost use Rattle.zt_cells.specs.TableSizes.{has_place};
 ghost use Rattle.zt_index.specs.Chains.{IsNext};
@@ -24,7 +25,7 @@ use std::alloc::{AllocError, Global};
 use std::marker::Model;
 use std::mem::{forget, replace};
 use zt_bits::{Kind, Rights, Signals};
-use zt_cells::Cells;
+use zt_cells::{Cells, bare, row_under};
 use zt_index::{Index, KoidCounts, SupportCounts};
 use zt_rows::{
     Counters, FIRST_HANDLE, HandleValue, Held, Koid, Life, Message, ObjectRow, Packet, ROOT_JOB,
@@ -65,7 +66,7 @@ pub struct Store {
     support_counts: SupportCounts,
     index: Index,
     /// What a step lists its first rows in, kept from step to step.
-    spare: Vec<(RowKey, Option<Row>)>,
+    spare: Vec<(RowKey, Row)>,
     /// Room for a step's record, kept from step to step.
     lists: RecordLists,
     /// A list of koids for a step, kept from step to step.
@@ -211,14 +212,14 @@ impl Store {
     pub fn child_jobs(&self, koid: Koid) -> u64
         ensures { result ≡ count_row (is_child_job_of koid) self.now.state }
     {
-        self.support_counts.at(koid).jobs
+        u64::from(self.support_counts.at(koid).jobs)
     }
 
     /// How many live processes have the koid as their parent. It takes no memory.
     pub fn child_processes(&self, koid: Koid) -> u64
         ensures { result ≡ count_row (is_child_process_of koid) self.now.state }
     {
-        self.support_counts.at(koid).processes
+        u64::from(self.support_counts.at(koid).processes)
     }
 
     /// The least number of a message in the endpoint's queue. It takes no memory.
@@ -318,11 +319,12 @@ impl Store {
     }
 
     /// Whether the key, and each koid that the row counts for, has a place in the store. It takes no memory.
-    fn fits_row(&self, key: RowKey, row: &Option<Row>) -> bool
-        ensures { result ≡ fits_row self.now.places key row.now }
+    fn fits_row(&self, key: RowKey, row: &Row) -> bool
+        ensures { result ≡ fits_row self.now.places key (row_under key row.now) }
     {
-        let asked = key;
-        self.cells.has_place(key) && self.support_counts.covers_if(asked, row)
+        let (asked, here) = (key, key);
+        let held = row_under(here, row);
+        self.cells.has_place(key) && self.support_counts.covers_if(asked, held)
     }
 
     /// An equal store in memory of its own, with the same places.
@@ -344,7 +346,7 @@ impl Store {
     }
 
     /// An empty list of rows for a step, in memory that an earlier step left.
-    pub(crate) fn take_spare(&mut self) -> Vec<(RowKey, Option<Row>)>
+    pub(crate) fn take_spare(&mut self) -> Vec<(RowKey, Row)>
         ensures same { self.new ≡ self.old }
         ensures empty { result.items ≡ [] }
     {
@@ -374,7 +376,7 @@ impl Store {
     /// memory to be given back.
     pub(crate) fn keep_spare(
         &mut self,
-        spare: Vec<(RowKey, Option<Row>)>,
+        spare: Vec<(RowKey, Row)>,
         lists: RecordLists,
         koids: Vec<Koid>,
     )
@@ -431,14 +433,15 @@ impl Store {
         self.cells.make_place(key)
     }
 
-    /// Exchanges the row, or none, with what stands under the key. It takes no memory.
-    pub(crate) fn exchange(&mut self, key: &RowKey, kept: &mut Option<Row>)
-        requires placed { fits_row self.old.places key.now kept.old ≡ true }
-        requires suited { SuitsKey key.now kept.old }
-        ensures put { self.new ≡ standing self.old (put self.old.state key.now kept.old) }
-        ensures was { kept.new ≡ row self.old.state key.now }
-        ensures fit { fits_row self.new.places key.now kept.new ≡ true }
-        ensures suited { SuitsKey key.now kept.new }
+    /// Exchanges the bare row, which is one or stands for none, with what stands under the key. It takes no memory.
+    #[inline(always)]
+    pub(crate) fn exchange(&mut self, key: &RowKey, kept: &mut Row)
+        requires placed { fits_row self.old.places key.now (row_under key.now kept.old) ≡ true }
+        requires suited { SuitsKey key.now (row_under key.now kept.old) }
+        ensures put { self.new ≡ standing self.old (put self.old.state key.now (row_under key.now kept.old)) }
+        ensures was { row_under key.now kept.new ≡ row self.old.state key.now }
+        ensures fit { fits_row self.new.places key.now (row_under key.now kept.new) ≡ true }
+        ensures suited { SuitsKey key.now (row_under key.now kept.new) }
     {
         match *key {
             RowKey::Counters => self.exchange_under(RowKey::Counters, kept),
@@ -456,31 +459,32 @@ impl Store {
 
     /// The same, made part of its caller, who knows the variant of the key, so that what it means is asked once.
     #[inline(always)]
-    fn exchange_under(&mut self, key: RowKey, kept: &mut Option<Row>)
-        requires placed { fits_row self.old.places key kept.old ≡ true }
-        requires suited { SuitsKey key kept.old }
-        ensures put { self.new ≡ standing self.old (put self.old.state key kept.old) }
-        ensures was { kept.new ≡ row self.old.state key }
-        ensures fit { fits_row self.new.places key kept.new ≡ true }
-        ensures suited { SuitsKey key kept.new }
+    fn exchange_under(&mut self, key: RowKey, kept: &mut Row)
+        requires placed { fits_row self.old.places key (row_under key kept.old) ≡ true }
+        requires suited { SuitsKey key (row_under key kept.old) }
+        ensures put { self.new ≡ standing self.old (put self.old.state key (row_under key kept.old)) }
+        ensures was { row_under key kept.new ≡ row self.old.state key }
+        ensures fit { fits_row self.new.places key (row_under key kept.new) ≡ true }
+        ensures suited { SuitsKey key (row_under key kept.new) }
     {
-        let (came, went, indexed) = (key, key, key);
+        let (came, went, indexed, here, back) = (key, key, key, key, key);
         self.cells.limits();
-        self.index.follow(&self.cells, indexed, kept);
-        self.support_counts.raise_if(came, kept);
+        let inward = row_under(here, kept);
+        self.index.follow(&self.cells, indexed, inward);
+        self.support_counts.raise_if(came, inward);
         self.cells.exchange(key, kept);
-        self.support_counts.lower_if(went, kept);
+        self.support_counts.lower_if(went, row_under(back, kept));
     }
 
     /// Exchanges the object, or none, with the one of this koid.
     #[inline(always)]
-    fn exchange_object(&mut self, koid: Koid, kept: &mut Option<Row>)
-        requires placed { fits_row self.old.places (key_variant.Object koid) kept.old ≡ true }
-        requires suited { SuitsKey (key_variant.Object koid) kept.old }
-        ensures put { self.new ≡ standing self.old (put self.old.state (key_variant.Object koid) kept.old) }
-        ensures was { kept.new ≡ row self.old.state (key_variant.Object koid) }
-        ensures fit { fits_row self.new.places (key_variant.Object koid) kept.new ≡ true }
-        ensures suited { SuitsKey (key_variant.Object koid) kept.new }
+    fn exchange_object(&mut self, koid: Koid, kept: &mut Row)
+        requires placed { fits_row self.old.places (key_variant.Object koid) (row_in kept.old) ≡ true }
+        requires suited { SuitsKey (key_variant.Object koid) (row_in kept.old) }
+        ensures put { self.new ≡ standing self.old (put self.old.state (key_variant.Object koid) (row_in kept.old)) }
+        ensures was { row_in kept.new ≡ row self.old.state (key_variant.Object koid) }
+        ensures fit { fits_row self.new.places (key_variant.Object koid) (row_in kept.new) ≡ true }
+        ensures suited { SuitsKey (key_variant.Object koid) (row_in kept.new) }
     {
         if !self.exchange_alike(koid, kept) {
             self.exchange_under(RowKey::Object(koid), kept);
@@ -491,16 +495,16 @@ impl Store {
     /// they are; else nothing changes. Most objects that are put are such: they count for the same supports and stand in
     /// the same bucket, so that the rows alone change.
     #[inline(always)]
-    fn exchange_alike(&mut self, koid: Koid, kept: &mut Option<Row>) -> bool
-        requires { fits_row self.old.places (key_variant.Object koid) kept.old ≡ true }
-        ensures put { IsTrue result → self.new ≡ standing self.old (put self.old.state (key_variant.Object koid) kept.old) }
-        ensures was { IsTrue result → kept.new ≡ row self.old.state (key_variant.Object koid) }
-        ensures fit { IsTrue result → fits_row self.new.places (key_variant.Object koid) kept.new ≡ true }
-        ensures suited { IsTrue result → SuitsKey (key_variant.Object koid) kept.new }
+    fn exchange_alike(&mut self, koid: Koid, kept: &mut Row) -> bool
+        requires { fits_row self.old.places (key_variant.Object koid) (row_in kept.old) ≡ true }
+        ensures put { IsTrue result → self.new ≡ standing self.old (put self.old.state (key_variant.Object koid) (row_in kept.old)) }
+        ensures was { IsTrue result → row_in kept.new ≡ row self.old.state (key_variant.Object koid) }
+        ensures fit { IsTrue result → fits_row self.new.places (key_variant.Object koid) (row_in kept.new) ≡ true }
+        ensures suited { IsTrue result → SuitsKey (key_variant.Object koid) (row_in kept.new) }
         ensures same { result ≡ false → (self.new ≡ self.old) × (kept.new ≡ kept.old) }
     {
         match kept {
-            Some(Row::Object(object)) => self.cells.exchange_alike(koid, object),
+            Row::Object(object) => self.cells.exchange_alike(koid, object),
             _ => false,
         }
     }
@@ -511,14 +515,14 @@ impl Store {
         ensures { OnOk result (self.new.state ≡ put self.old.state key (Option.Some row)) }
     {
         self.make_room(&key, Some(&row))?;
-        let mut kept = Some(row);
+        let mut kept = bare(Some(row));
         self.exchange(&key, &mut kept);
         discard(kept);
         Ok(())
     }
 }
 
-fn discard(_row: Option<Row>) {}
+fn discard(_row: Row) {}
 
 /// Whether the live tasks below the object are its supports.
 fn keeps_tasks(object: &Option<ObjectRow>) -> bool
@@ -538,7 +542,7 @@ fn tasks_kept(object: &Option<ObjectRow>, numbers: KoidCounts) -> u64
     ensures few { result < 2 ^ 63 }
 {
     if keeps_tasks(object) {
-        numbers.jobs + numbers.processes
+        u64::from(numbers.jobs) + u64::from(numbers.processes)
     } else {
         0
     }

@@ -16,7 +16,7 @@ use Rattle.zt_cells.specs.declared.cells.row_tables.OwnedTables.TheVariants as t
 
 -- what stands in the place of a key, or none where there is no such place
 unfoldable pub look : RowTables → RowKey → Option Row
-look c key.Counters = c.counters
+look c key.Counters = Some c.counters
 look c (key.Object x) = cell c.objects x
 look c (key.Entry p h) = entry c.entries p h
 look c (key.Msg e n) = cell_at c.messages e n
@@ -36,7 +36,7 @@ places_in c =
 -- no row but this one of the counters, and no other place
 abbrev pub row_tables_of : Row → RowTables
 row_tables_of counters =
-    record { counters = Some counters; objects = []; entries = [] ∷ [] ∷ [] ∷ [] ∷ []; messages = []; packets = []; waits = [] }
+    record { counters = counters; objects = []; entries = [] ∷ [] ∷ [] ∷ [] ∷ []; messages = []; packets = []; waits = [] }
 
 abbrev pub row_tables_in : OwnedTables → RowTables
 row_tables_in (tables.All c) = c
@@ -64,7 +64,7 @@ put_entries sizes r S = put_tables (entry_key r) (by_owner sizes r) S
 -- the state of all rows in their places
 unfoldable pub state_in : RowTables → State
 state_in c =
-    put_cells key.Object c.objects (put_cells key.Wait c.waits (put_tables key.Msg c.messages (put_tables key.Packet c.packets (put_entries c.entries 0 (put_entries c.entries 1 (put_entries c.entries 2 (put_entries c.entries 3 (put nothing key.Counters c.counters))))))))
+    put_cells key.Object c.objects (put_cells key.Wait c.waits (put_tables key.Msg c.messages (put_tables key.Packet c.packets (put_entries c.entries 0 (put_entries c.entries 1 (put_entries c.entries 2 (put_entries c.entries 3 (put nothing key.Counters (Some c.counters)))))))))
 
 -- ---- changes
 

@@ -1,5 +1,5 @@
 -- Places for rows: a table of places from 0 on, and tables by owner, one for each from 0 on. Used by proofs only.
-use Rattle.std.specs.Prelude.{◌≡◌, ◌≢◌, ◌≤◌, ◌<◌, ◌^◌, ◌%◌, ◌/◌, ℕ, List, [], Option, None, IsSome, slice_index_or, slice_set, length, map}
+use Rattle.std.specs.Prelude.{◌≡◌, ◌≢◌, ◌≤◌, ◌<◌, ◌-◌, ◌^◌, ◌%◌, ◌/◌, ℕ, List, [], Option, None, IsSome, slice_index_or, slice_set, length, map}
 use Rattle.std.specs.List.{sum}
 use Rattle.std.specs.Option.{MatchOption}
 use Rattle.zt_rows.specs.declared.rows.Row.{Row}
@@ -38,7 +38,7 @@ pub record HasBounds (places : List (Option Row)) (low end : ℕ) : Type 0 where
 -- the places have these bounds, and are so few that their numbers are small
 pub record IsTable (places : List (Option Row)) (low end : ℕ) : Type 0 where
   pub bounds : HasBounds places low end
-  pub few : length places < 2 ^ 32
+  pub few : length places < 2 ^ 32 - 1
 
 -- the same bounds but for what stands at one place
 pub record HasBoundsBut (places : List (Option Row)) (low end i : ℕ) : Type 0 where

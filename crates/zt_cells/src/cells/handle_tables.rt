@@ -1,6 +1,6 @@
 ghost use Rattle.std.specs.Prelude.{◌≡◌, ◌≤◌, ◌<◌, ◌+◌, ◌-◌, ◌/◌, ◌%◌, ◌*◌, ◌^◌, ℕ, List, [], ◌∷◌, length, IfOk, OnOk, OnErr, None, nat_lt};
 ghost use Rattle.std.specs.Option.{option_copied};
-ghost use Rattle.zt_cells.specs.ProofsOnly.Places.{IsStored};
+ghost use Rattle.zt_cells.specs.BareRows.{row_in};
 ghost use Rattle.zt_cells.specs.ProofsOnly.TablePlaces.{entry, entry_places, entry_table, set_entry, by_owner, table};
 
 use crate::cells::tables_by_owner::TablesByOwner;
@@ -52,11 +52,10 @@ impl Entries {
     }
 
     /// Exchanges the row, or none, with what stands under the value. It takes no memory.
-    pub fn exchange(&mut self, process: Koid, value: HandleValue, kept: &mut Option<Row>)
-        requires placed { value / 4 < length (entry_table self.old process value) }
-        requires stored { IsStored kept.old }
-        ensures put { self.new ≡ set_entry self.old process value kept.old }
-        ensures was { kept.new ≡ entry self.old process value }
+    pub fn exchange(&mut self, process: Koid, value: HandleValue, kept: &mut Row)
+        requires { value / 4 < length (entry_table self.old process value) }
+        ensures put { self.new ≡ set_entry self.old process value (row_in kept.old) }
+        ensures was { row_in kept.new ≡ entry self.old process value }
     {
         let by_owner = &mut self.sizes[remainder(value)];
         by_owner.exchange(process.0 as usize, quotient(value), kept);

@@ -1,30 +1,25 @@
 ghost use Rattle.std.specs.Prelude.{◌≡◌, IfOk, IsTrue, None, false};
 ghost use Rattle.std.specs.Option.{option_copied, is_none};
 ghost use Rattle.zt_cells.specs.ProofsOnly.AlikeRows.{AlikePlaces};
-ghost use Rattle.zt_cells.specs.ProofsOnly.Places.{IsStored};
+ghost use Rattle.zt_cells.specs.BareRows.{row_in};
 
+use crate::bare_rows::{NO_ROW, row_in};
 use crate::cells::alike_objects::exchange_alike;
 use std::alloc::AllocError;
 use std::marker::Model;
 use std::mem;
-use zt_rows::{Counters, Koid, ObjectRow, Row};
+use zt_rows::{ObjectRow, Row};
 
-/// A row or none, in the bytes of a row: a row of counters, which never stands in a table, stands for none.
+/// A row or none, as a bare row: the counters have no place in a table.
 #[derive(Drop)]
 pub(crate) struct Place {
     held: Row,
 }
 
-/// What stands for none.
-const NO_ROW: Row = Row::Counters(Counters {
-    next_koid: Koid(0),
-    next_wait: 0,
-});
-
 impl Model for Place {
     ghost use Rattle.std.specs.Prelude.{Option};
     ghost use Rattle.zt_rows.specs.declared.rows.Row.{Row};
-    ghost use Rattle.zt_cells.specs.ProofsOnly.Places.{row_in};
+    ghost use Rattle.zt_cells.specs.BareRows.{row_in};
 
     ghost Value = { Option Row };
 
@@ -49,32 +44,19 @@ impl Place {
 
     /// The row, if there is one.
     #[inline(always)]
-    #[tactic(auto, using(crate::proofs::PlaceLaws::row_in_other))]
     pub fn row(&self) -> Option<&Row>
         ensures { option_copied result ≡ self.now }
     {
-        match &self.held {
-            Row::Counters(_) => None,
-            row => Some(row),
-        }
+        row_in(&self.held)
     }
 
-    /// Exchanges the row, or none, with this one.
+    /// Exchanges the row, or none, with this bare one.
     #[inline(always)]
-    #[tactic(auto, using(crate::proofs::PlaceLaws::row_in_other))]
-    pub fn exchange(&mut self, kept: &mut Option<Row>)
-        requires { IsStored kept.old }
-        ensures put { self.new ≡ kept.old }
-        ensures was { kept.new ≡ self.old }
+    pub fn exchange(&mut self, kept: &mut Row)
+        ensures put { self.new ≡ row_in kept.old }
+        ensures was { row_in kept.new ≡ self.old }
     {
-        let was_empty = self.is_empty();
-        match kept {
-            Some(row) => mem::swap(&mut self.held, row),
-            None => mem::forget(mem::replace(kept, Some(mem::replace(&mut self.held, NO_ROW)))),
-        }
-        if was_empty {
-            mem::forget(kept.take());
-        }
+        mem::swap(&mut self.held, kept);
     }
 
     /// Exchanges the object with the one that stands here, if there is one alike, and says whether there is.

@@ -3,8 +3,8 @@ ghost use Rattle.std.specs.Option.{option_copied};
 ghost use Rattle.zt_rows.specs.declared.keys.RowKey.TheVariants as key_variant;
 ghost use Rattle.zt_rows.specs.declared.rows.Row.TheVariants as rows;
 ghost use Rattle.zt_cells.specs.AlikeObjects.{AreAlike};
+ghost use Rattle.zt_cells.specs.BareRows.{row_under};
 ghost use Rattle.zt_cells.specs.ProofsOnly.RowTables.{row_tables_in, row_tables_of, look, places_in, sizes_of, Exchanged, MadeFor, Widened};
-ghost use Rattle.zt_rows.specs.Room.{SuitsKey};
 ghost use Rattle.zt_cells.specs.TableSizes.{objects_after, waits_after, has_place, length_at, place_of};
 
 use crate::cells::handle_tables::Entries;
@@ -17,7 +17,7 @@ use zt_rows::{Koid, ObjectRow, Row, RowKey};
 /// All tables of a store. Each key has one place in one of them.
 #[derive(Drop)]
 pub(crate) struct RowTables {
-    pub counters: Option<Row>,
+    pub counters: Row,
     pub objects: Table,
     pub entries: Entries,
     pub messages: TablesByOwner,
@@ -31,7 +31,7 @@ impl RowTables {
         ensures { result ≡ row_tables_of counters }
     {
         RowTables {
-            counters: Some(counters),
+            counters,
             objects: Table::new(alloc),
             entries: Entries::new(alloc),
             messages: TablesByOwner::new(alloc),
@@ -45,7 +45,7 @@ impl RowTables {
         ensures { IfOk result (λ copied. copied ≡ self.now) }
     {
         Ok(RowTables {
-            counters: copy_row(&self.counters)?,
+            counters: self.counters.copy()?,
             objects: self.objects.copy()?,
             entries: self.entries.copy()?,
             messages: self.messages.copy()?,
@@ -61,7 +61,7 @@ impl RowTables {
         ensures { option_copied result ≡ look self.now key }
     {
         match key {
-            RowKey::Counters => self.counters.as_ref(),
+            RowKey::Counters => Some(&self.counters),
             RowKey::Object(koid) => self.objects.row(koid.0 as usize),
             RowKey::Entry(process, value) => self.entries.row(process, value),
             RowKey::Msg(owner, number) => self.messages.row(owner.0 as usize, number as usize),
@@ -108,10 +108,9 @@ impl RowTables {
     /// Exchanges the row, or none, with what stands in the place of the key. It takes no memory.
     #[inline(always)]
     #[tactic(auto, using(crate::proofs::RowTableLaws::length_laws), unfolding(crate::specs::ProofsOnly::RowTables::sizes_of))]
-    pub fn exchange(&mut self, key: RowKey, kept: &mut Option<Row>)
-        requires placed { place_of key < length_at (sizes_of self.old) key }
-        requires suited { SuitsKey key kept.old }
-        ensures { Exchanged self.old self.new key kept.old kept.new }
+    pub fn exchange(&mut self, key: RowKey, kept: &mut Row)
+        requires { place_of key < length_at (sizes_of self.old) key }
+        ensures { Exchanged self.old self.new key (row_under key kept.old) (row_under key kept.new) }
     {
         match key {
             RowKey::Counters => mem::swap(&mut self.counters, kept),
@@ -209,10 +208,9 @@ impl OwnedTables {
 
     /// Exchanges the row, or none, with what stands in the place of the key. It takes no memory.
     #[inline(always)]
-    pub fn exchange(&mut self, key: RowKey, kept: &mut Option<Row>)
-        requires placed { place_of key < length_at (sizes_of (row_tables_in self.old)) key }
-        requires suited { SuitsKey key kept.old }
-        ensures { Exchanged (row_tables_in self.old) (row_tables_in self.new) key kept.old kept.new }
+    pub fn exchange(&mut self, key: RowKey, kept: &mut Row)
+        requires { place_of key < length_at (sizes_of (row_tables_in self.old)) key }
+        ensures { Exchanged (row_tables_in self.old) (row_tables_in self.new) key (row_under key kept.old) (row_under key kept.new) }
     {
         match self {
             OwnedTables::All(row_tables) => row_tables.exchange(key, kept),
@@ -268,15 +266,5 @@ pub(crate) fn place_of(key: RowKey) -> usize
         RowKey::Msg(_, number) | RowKey::Packet(_, number) | RowKey::Wait(number) => {
             number as usize
         }
-    }
-}
-
-/// An equal row in memory of its own, or none.
-fn copy_row(row: &Option<Row>) -> Result<Option<Row>, AllocError>
-    ensures { IfOk result (λ copied. copied ≡ row.now) }
-{
-    match row {
-        Some(row) => Ok(Some(row.copy()?)),
-        None => Ok(None),
     }
 }

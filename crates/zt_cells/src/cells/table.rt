@@ -1,7 +1,8 @@
-ghost use Rattle.std.specs.Prelude.{◌≡◌, ◌≤◌, ◌<◌, ◌-◌, ◌^◌, ℕ, length, IfOk, OnOk, OnErr, slice_set, IsSome, IsTrue, None, [], false};
+ghost use Rattle.std.specs.Prelude.{◌≡◌, ◌≤◌, ◌<◌, ◌-◌, ◌^◌, ℕ, length, vec_len, IfOk, OnOk, OnErr, slice_set, IsSome, IsTrue, None, [], false};
+ghost use Rattle.std.specs.Vec.{vec_capacity};
 ghost use Rattle.std.specs.Option.{option_copied};
+ghost use Rattle.zt_cells.specs.BareRows.{row_in};
 ghost use Rattle.zt_cells.specs.ProofsOnly.AlikeRows.{AlikeCells};
-ghost use Rattle.zt_cells.specs.ProofsOnly.Places.{IsStored};
 ghost use Rattle.zt_cells.specs.ProofsOnly.TablePlaces.{cell, HasBounds, HasBoundsBut, IsFirstCell, IsWider};
 
 use crate::cells::place::Place;
@@ -24,8 +25,8 @@ struct Bounds {
     end: u32,
 }
 
-/// How many places a table has at most, so that its bounds are small numbers.
-const MOST_IN_TABLE: usize = u32::MAX as usize;
+/// How many places a table has at most, so that its bounds are small numbers, and so is one more than there are objects.
+const MOST_IN_TABLE: usize = u32::MAX as usize - 1;
 
 impl Model for Table {
     ghost use Rattle.std.specs.Prelude.{List, Option};
@@ -57,6 +58,13 @@ impl Table {
         self.places.len()
     }
 
+    /// What holds of the places: there are not too many.
+    pub fn limits(&self)
+        ensures { length self.now < 2 ^ 32 - 1 }
+    {
+        let _ = &self.places;
+    }
+
     /// The row at the place. It takes no memory.
     pub fn row(&self, index: usize) -> Option<&Row>
         ensures { option_copied result ≡ cell self.now index }
@@ -67,8 +75,7 @@ impl Table {
         }
     }
 
-    /// Makes empty places until there are so many. Memory is asked for once; at first for just these, since most queues stay short.
-    /// More than 2^32 - 1 places are refused.
+    /// Makes empty places until there are so many. More than 2^32 - 2 places are refused.
     pub fn grow(&mut self, len: usize) -> Result<(), AllocError>
         requires { length self.old ≤ len }
         ensures cells { (n : ℕ) → cell self.new n ≡ cell self.old n }
@@ -80,23 +87,20 @@ impl Table {
         if len > MOST_IN_TABLE {
             return Err(AllocError);
         }
-        if self.places.is_empty() {
-            self.places.reserve_exact(len)?;
-        } else {
-            self.places.reserve(len - self.places.len())?;
+        if len > self.places.capacity() {
+            make_room(&mut self.places, len)?;
         }
         while self.places.len() < len {
-            self.places.push(Place::empty())?;
+            self.places.push_reserved(Place::empty());
         }
         Ok(())
     }
 
     /// Exchanges the row, or none, with what stands at the place. It takes no memory.
-    pub fn exchange(&mut self, index: usize, kept: &mut Option<Row>)
-        requires placed { index < length self.old }
-        requires stored { IsStored kept.old }
-        ensures put { self.new ≡ slice_set self.old index kept.old }
-        ensures was { kept.new ≡ cell self.old index }
+    pub fn exchange(&mut self, index: usize, kept: &mut Row)
+        requires { index < length self.old }
+        ensures put { self.new ≡ slice_set self.old index (row_in kept.old) }
+        ensures was { row_in kept.new ≡ cell self.old index }
     {
         let place = &mut self.places[index];
         place.exchange(kept);
@@ -138,6 +142,23 @@ impl Table {
             places,
             bounds: self.bounds,
         })
+    }
+}
+
+/// Asks for memory for so many places; at first for just these, since most queues stay short, and then for twice as many as
+/// there were.
+#[inline(never)]
+fn make_room(places: &mut Vec<Place>, len: usize) -> Result<(), AllocError>
+    requires { vec_len places.old ≤ len }
+    ensures same { places.new.items ≡ places.old.items }
+    ensures len { vec_len places.new ≡ vec_len places.old }
+    ensures room { OnOk result (len ≤ vec_capacity places.new) }
+{
+    let more = len - places.len();
+    if places.is_empty() {
+        places.reserve_exact(more)
+    } else {
+        places.reserve(more)
     }
 }
 

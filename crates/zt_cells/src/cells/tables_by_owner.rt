@@ -1,7 +1,8 @@
-ghost use Rattle.std.specs.Prelude.{◌≡◌, ◌≤◌, ◌<◌, ◌≢◌, ◌+◌, ◌-◌, ◌^◌, ℕ, List, [], length, IfOk, OnOk, OnErr};
+ghost use Rattle.std.specs.Prelude.{◌≡◌, ◌≤◌, ◌<◌, ◌≢◌, ◌+◌, ◌-◌, ◌^◌, ℕ, List, [], length, vec_len, IfOk, OnOk, OnErr};
 ghost use Rattle.std.specs.List.{sum};
-ghost use Rattle.std.specs.Option.{option_copied};
-ghost use Rattle.zt_cells.specs.ProofsOnly.Places.{IsStored};
+ghost use Rattle.std.specs.Option.{option_copied, unwrap_or};
+ghost use Rattle.zt_cells.specs.BareRows.{row_in};
+ghost use Rattle.zt_cells.specs.ProofsOnly.NumberedTables.{AreNumbers, numbered, number_of};
 ghost use Rattle.zt_cells.specs.ProofsOnly.TablePlaces.{cell_at, lengths, set_at, table, IsFirstCell};
 
 use crate::cells::table::Table;
@@ -10,43 +11,66 @@ use std::alloc::{AllocError, Global};
 use std::marker::Model;
 use zt_rows::Row;
 
-/// Tables of places for rows, one for each owner from 0 on.
+/// Tables of places for rows, one for each owner from 0 on. Memory for a table is taken only by an owner that was to have a
+/// place: most koids are owners of nothing, and take the four bytes of a number.
 #[derive(Drop)]
 pub(crate) struct TablesByOwner {
+    /// For each owner where its table stands, or `NO_TABLE`.
+    numbers: Vec<u32>,
     tables: Vec<Table>,
 }
 
+/// The number of an owner that has no table, and no place.
+const NO_TABLE: u32 = u32::MAX;
+
 impl Model for TablesByOwner {
-    ghost use Rattle.std.specs.Prelude.{List, Option};
+    ghost use Rattle.std.specs.Prelude.{List, Option, length};
     ghost use Rattle.zt_rows.specs.declared.rows.Row.{Row};
+    ghost use Rattle.zt_cells.specs.ProofsOnly.NumberedTables.{AreNumbers, numbered};
 
     ghost Value = { List (List (Option Row)) };
 
-    ghost view = { λ s. s.tables.items };
+    ghost view = { λ s. numbered s.numbers.items s.tables.items };
+
+    ghost invariant = { λ s. AreNumbers s.numbers.items (length s.tables.items) };
 }
 
 impl TablesByOwner {
     /// No table. It takes no memory.
+    #[tactic(auto, using(crate::proofs::NumberLaws::owner_laws))]
     pub fn new(alloc: Global) -> TablesByOwner
         ensures { result ≡ [] }
     {
         TablesByOwner {
+            numbers: Vec::new(alloc),
             tables: Vec::new(alloc),
         }
     }
 
     /// How many owners have tables.
+    #[tactic(auto, using(crate::proofs::NumberLaws::owner_laws))]
     pub fn owners(&self) -> usize
         ensures { result ≡ length self.now }
     {
-        self.tables.len()
+        self.numbers.len()
+    }
+
+    /// The owner's table. Where it has none, it has no place.
+    #[inline(always)]
+    fn table_of(&self, owner: usize) -> Option<&Table>
+        ensures { unwrap_or (option_copied result) [] ≡ table self.now owner }
+    {
+        match self.numbers.get(owner) {
+            Some(number) => self.tables.get(*number as usize),
+            None => None,
+        }
     }
 
     /// How many places the owner has.
     pub fn len_of(&self, owner: usize) -> usize
         ensures { result ≡ length (table self.now owner) }
     {
-        match self.tables.get(owner) {
+        match self.table_of(owner) {
             Some(table) => table.len(),
             None => 0,
         }
@@ -56,7 +80,7 @@ impl TablesByOwner {
     pub fn row(&self, owner: usize, index: usize) -> Option<&Row>
         ensures { option_copied result ≡ cell_at self.now owner index }
     {
-        match self.tables.get(owner) {
+        match self.table_of(owner) {
             Some(table) => table.row(index),
             None => None,
         }
@@ -66,25 +90,24 @@ impl TablesByOwner {
     pub fn first(&self, owner: usize) -> Option<u64>
         ensures { IsFirstCell (table self.now owner) result }
     {
-        match self.tables.get(owner) {
+        match self.table_of(owner) {
             Some(table) => table.first(),
             None => None,
         }
     }
 
     /// Exchanges the row, or none, with what stands at the owner's place. It takes no memory.
-    pub fn exchange(&mut self, owner: usize, index: usize, kept: &mut Option<Row>)
-        requires placed { index < length (table self.old owner) }
-        requires stored { IsStored kept.old }
-        ensures put { self.new ≡ set_at self.old owner index kept.old }
-        ensures was { kept.new ≡ cell_at self.old owner index }
+    pub fn exchange(&mut self, owner: usize, index: usize, kept: &mut Row)
+        requires { index < length (table self.old owner) }
+        ensures put { self.new ≡ set_at self.old owner index (row_in kept.old) }
+        ensures was { row_in kept.new ≡ cell_at self.old owner index }
     {
-        let table = &mut self.tables[owner];
+        let number = self.numbers[owner] as usize;
+        let table = &mut self.tables[number];
         table.exchange(index, kept);
     }
 
     /// Makes empty places for the owner until it has so many. An owner from 2^48 on is refused.
-    #[tactic(auto, using(crate::proofs::GridLaws::lengths_set))]
     pub fn grow(&mut self, owner: usize, len: usize) -> Result<(), AllocError>
         requires { length (table self.old owner) ≤ len }
         ensures cells { (x n : ℕ) → cell_at self.new x n ≡ cell_at self.old x n }
@@ -95,38 +118,88 @@ impl TablesByOwner {
         ensures counted { OnOk result (sum (lengths self.new) + length (table self.old owner) ≡ sum (lengths self.old) + len) }
         ensures err { OnErr result (sum (lengths self.new) ≡ sum (lengths self.old)) }
     {
-        self.make_owner(owner)?;
-        let table = &mut self.tables[owner];
+        let number = make_table(&mut self.numbers, &mut self.tables, owner)?;
+        let table = &mut self.tables[number];
         table.grow(len)
-    }
-
-    /// Makes the owner's table, with no place, where there is none.
-    #[tactic(auto, using(crate::proofs::GridLaws::table_push, crate::proofs::GridLaws::lengths_push))]
-    fn make_owner(&mut self, owner: usize) -> Result<(), AllocError>
-        ensures tables { (x : ℕ) → table self.new x ≡ table self.old x }
-        ensures ok { OnOk result (owner < length self.new) }
-        ensures counted { sum (lengths self.new) ≡ sum (lengths self.old) }
-    {
-        if owner >= MOST_PLACES as usize {
-            return Err(AllocError);
-        }
-        let alloc = *self.tables.allocator();
-        self.tables
-            .reserve((owner + 1).saturating_sub(self.tables.len()))?;
-        while self.tables.len() <= owner {
-            self.tables.push(Table::new(alloc))?;
-        }
-        Ok(())
     }
 
     /// Equal tables in memory of its own.
     pub fn copy(&self) -> Result<TablesByOwner, AllocError>
         ensures { IfOk result (λ copied. copied ≡ self.now) }
     {
-        let mut tables = Vec::with_capacity(*self.tables.allocator(), self.tables.len())?;
-        for table in &self.tables {
-            tables.push(table.copy()?)?;
-        }
-        Ok(TablesByOwner { tables })
+        let numbers = Vec::from_slice(*self.numbers.allocator(), self.numbers.as_slice())?;
+        let tables = copy_tables(&self.tables)?;
+        Ok(TablesByOwner { numbers, tables })
     }
+}
+
+/// Where the owner's table stands. One with no place is made where there is none.
+#[inline(always)]
+fn make_table(
+    numbers: &mut Vec<u32>,
+    tables: &mut Vec<Table>,
+    owner: usize,
+) -> Result<usize, AllocError>
+    requires { AreNumbers numbers.old.items (length tables.old.items) }
+    ensures numbers { AreNumbers numbers.new.items (length tables.new.items) }
+    ensures same { (x : ℕ) → table (numbered numbers.new.items tables.new.items) x ≡ table (numbered numbers.old.items tables.old.items) x }
+    ensures at { IfOk result (λ number. number ≡ number_of numbers.new.items owner) }
+    ensures there { IfOk result (λ number. number < length tables.new.items) }
+{
+    if let Some(number) = numbers.get(owner) {
+        if *number != NO_TABLE {
+            return Ok(*number as usize);
+        }
+    }
+    add_table(numbers, tables, owner)
+}
+
+/// Makes a table with no place for the owner, which has none.
+#[inline(never)]
+fn add_table(
+    numbers: &mut Vec<u32>,
+    tables: &mut Vec<Table>,
+    owner: usize,
+) -> Result<usize, AllocError>
+    requires numbers { AreNumbers numbers.old.items (length tables.old.items) }
+    requires none { number_of numbers.old.items owner ≡ NO_TABLE }
+    ensures numbers { AreNumbers numbers.new.items (length tables.new.items) }
+    ensures same { (x : ℕ) → table (numbered numbers.new.items tables.new.items) x ≡ table (numbered numbers.old.items tables.old.items) x }
+    ensures at { IfOk result (λ number. number ≡ number_of numbers.new.items owner) }
+    ensures there { IfOk result (λ number. number < length tables.new.items) }
+{
+    make_number(numbers, owner)?;
+    let number = tables.len();
+    if number >= NO_TABLE as usize {
+        return Err(AllocError);
+    }
+    let alloc = *tables.allocator();
+    tables.push(Table::new(alloc))?;
+    numbers[owner] = number as u32;
+    Ok(number)
+}
+
+/// Makes a number for the owner, that of no table where it has none yet. An owner from 2^48 on is refused.
+fn make_number(numbers: &mut Vec<u32>, owner: usize) -> Result<(), AllocError>
+    ensures same { (x : ℕ) → number_of numbers.new.items x ≡ number_of numbers.old.items x }
+    ensures there { OnOk result (owner < vec_len numbers.new) }
+{
+    if owner < numbers.len() {
+        return Ok(());
+    }
+    if owner >= MOST_PLACES as usize {
+        return Err(AllocError);
+    }
+    numbers.resize(owner + 1, NO_TABLE)
+}
+
+/// Equal tables in memory of their own.
+fn copy_tables(tables: &Vec<Table>) -> Result<Vec<Table>, AllocError>
+    ensures { IfOk result (λ copied. copied.items ≡ tables.now.items) }
+{
+    let mut copied = Vec::with_capacity(*tables.allocator(), tables.len())?;
+    for table in tables {
+        copied.push(table.copy()?)?;
+    }
+    Ok(copied)
 }

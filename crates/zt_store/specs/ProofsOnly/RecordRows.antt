@@ -5,9 +5,15 @@ use Rattle.std.specs.List.{zip}
 use Rattle.zt_rows.specs.declared.keys.RowKey.{RowKey}
 use Rattle.zt_rows.specs.declared.rows.Row.{Row}
 use Rattle.zt_rows.specs.Keys.{rowkey_cmp}
+use Rattle.zt_store.specs.ProofsOnly.KeptRows.{under_keys}
 use Rattle.zt_store.specs.ProofsOnly.StoreView.{AllSuit}
 
 pub record IsRecord (ks : List RowKey) (rs : List (Option Row)) : Type 0 where
   pub even : length rs ≡ length ks
   pub suited : AllSuit (zip ks rs)
   pub ordered : T (entries.is_sorted rowkey_cmp (zip ks rs))
+
+-- the same of bare rows
+pub record IsBareRecord (ks : List RowKey) (rs : List Row) : Type 0 where
+  pub even : length rs ≡ length ks
+  pub recorded : IsRecord ks (under_keys ks rs)

@@ -5,8 +5,8 @@ use Rattle.zt_cells.specs.TableSizes.{has_place}
 use Rattle.zt_cells.proofs.CellsLaws.{place-there, cells-exchanged, seen-exchanged, out-exchanged}
 use Rattle.zt_cells.proofs.cells.Cells.exchange.Goals as goal
 
-pub exchange-requires-clause-placed : goal.exchange-requires-clause-placed
-exchange-requires-clause-placed c =
+pub exchange-requires : goal.exchange-requires
+exchange-requires c =
     place-there _ c.args.key (subst (λ (s : CellsView). has_place s.sizes c.args.key ≡ true) (sym c.self.view_is) c.requires.placed)
 
 pub invariant_of-self : goal.invariant_of-self

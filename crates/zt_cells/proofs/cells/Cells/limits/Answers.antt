@@ -1,5 +1,5 @@
-use Rattle.std.proofs.Common.{◌∙◌}
-use Rattle.zt_cells.proofs.CellsLaws.{seen-by, cells-by, suited-seen, few-seen, row-entry}
+use Rattle.std.proofs.Common.{◌∙◌, length, refl, arith}
+use Rattle.zt_cells.proofs.CellsLaws.{seen-by, cells-by, suited-seen, few-seen, row-entry, end-objects}
 use Rattle.zt_cells.proofs.cells.Cells.limits.Goals as goal
 
 pub returns-clause-suited : goal.returns-clause-suited
@@ -13,3 +13,7 @@ returns-clause-few c =
 pub returns-clause-bounded : goal.returns-clause-bounded
 returns-clause-bounded c =
     λ x h le. row-entry c.row_tables-row_tables.result.now c.args.self.now (seen-by c.self.inside.tables _ _ c.row_tables-row_tables.ensures c.self.view_is) x h ∙ c.limits.ensures x h le
+
+pub returns-clause-low : goal.returns-clause-low
+returns-clause-low c =
+    λ x le. end-objects c.row_tables-row_tables.result.now c.args.self.now (seen-by c.self.inside.tables _ _ c.row_tables-row_tables.ensures c.self.view_is) (length c.row_tables-row_tables.result.now.objects) refl x (omega (arith, le, c.limits-2.ensures))

@@ -1,5 +1,5 @@
 use Rattle.std.proofs.Common.{◌≡◌, ℕ, true, Option, sym, ap, ◌∙◌, subst}
-use Rattle.std.specs.Option.{option_map}
+use Rattle.std.specs.Option.{option_copied, option_map}
 use Rattle.std.specs.Prelude.{if◌then◌else◌}
 use Rattle.zt_rows.specs.declared.keys.RowKey.{RowKey}
 use Rattle.zt_rows.specs.declared.keys.RowKey.TheVariants as key
@@ -27,13 +27,13 @@ set_below-requires c =
 
 pub returns-in_default : goal.returns-in_default
 returns-in_default c =
-    followed-other c.args.cells.now c.args.key c.args.row.now c.args.self.now (λ n e. c.in_default.not-Wait n e) (λ p h e. c.in_default.not-Entry p h e) (λ x e. c.in_default.not-Object x e) c.requires.indexed
+    followed-other c.args.cells.now c.args.key (option_copied c.args.row) c.args.self.now (λ n e. c.in_default.not-Wait n e) (λ p h e. c.in_default.not-Entry p h e) (λ x e. c.in_default.not-Object x e) c.requires.indexed
 
 pub returns-in-Wait : goal.returns-in-Wait
 returns-in-Wait c =
     let s : CellsView = c.args.cells.now in
     let n : ℕ = c.in-Wait.number in
-    let r : Option Row = c.args.row.now in
+    let r : Option Row = (option_copied c.args.row) in
     let there : has_place s.sizes (key.Wait n) ≡ true = ap (has_place s.sizes) (sym c.in-Wait.is) ∙ c.requires.placed in
     subst (λ (k : RowKey). IsIndexed (shelved_put s k r) c.set.new.self) (sym c.in-Wait.is)
     (subst (λ (i : RowChains). IsIndexed (shelved_put s (key.Wait n) r) i) (sym (c.set.ensures ∙ ap (index_with s.state c.args.self.now n) c.wait_in.ensures))
@@ -44,7 +44,7 @@ returns-in-Entry c =
     let s : CellsView = c.args.cells.now in
     let p : ℕ = c.in-Entry.process in
     let h : ℕ = c.in-Entry.handle in
-    let r : Option Row = c.args.row.now in
+    let r : Option Row = (option_copied c.args.row) in
     subst (λ (k : RowKey). IsIndexed (shelved_put s k r) c.rename.new.self) (sym c.in-Entry.is)
     (followed-entry s p h r c.args.self.now c.rename.new.self c.requires.indexed c.rename.ensures.handles c.rename.ensures.ports c.rename.ensures.processes c.rename.ensures.parents c.rename.ensures.objects
     (λ m. c.rename.ensures.moved m ∙ ap (λ (o : Option Held). if waits_where s.state (is_on p h) m then option_map held_bucket o else bucket_at c.args.self.now.objects m) c.held_in.ensures))
@@ -53,7 +53,7 @@ pub returns-in-Object : goal.returns-in-Object
 returns-in-Object c =
     let s : CellsView = c.args.cells.now in
     let x : ℕ = c.in-Object.koid in
-    let r : Option Row = c.args.row.now in
+    let r : Option Row = (option_copied c.args.row) in
     let there : has_place s.sizes (key.Object x) ≡ true = ap (has_place s.sizes) (sym c.in-Object.is) ∙ c.requires.placed in
     subst (λ (k : RowKey). IsIndexed (shelved_put s k r) c.set_below.new.self) (sym c.in-Object.is)
     (subst (λ (i : RowChains). IsIndexed (shelved_put s (key.Object x) r) i) (sym (c.set_below.ensures ∙ ap (index_below c.args.self.now x) c.object_in.ensures))

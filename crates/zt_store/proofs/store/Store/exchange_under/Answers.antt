@@ -1,46 +1,52 @@
-use Rattle.std.proofs.Common.{refl, arith, ap, sym, subst, length, ◌∙◌}
+use Rattle.std.proofs.Common.{refl, arith, ap, sym, subst, length, ◌∙◌, Option}
+use Rattle.std.specs.Option.{option_copied}
+use Rattle.zt_rows.specs.declared.rows.Row.{Row}
+use Rattle.zt_rows.specs.State.{put}
+use Rattle.zt_cells.specs.BareRows.{row_under}
 use Rattle.zt_cells.specs.CellsView.{CellsView}
 use Rattle.zt_index.specs.IndexInvariant.{IsIndexed}
 use Rattle.zt_index.specs.KoidCounts.{numbers_at}
-use Rattle.zt_index.proofs.SupportCountLaws.{small-at, stands-within, went-there, koid_counts-exchanged, names_few-exchanged}
+use Rattle.zt_index.proofs.IndexLaws.{shelved_put}
+use Rattle.zt_index.proofs.SupportCountLaws.{small-at, stands-within, tasks-few, went-there, koid_counts-exchanged, names_few-exchanged}
 use Rattle.zt_store.proofs.StoreLaws.{place-there, went-fits}
 use Rattle.zt_store.proofs.store.Store.exchange_under.Goals as goal
 
 pub raise_if-requires-clause-small : goal.raise_if-requires-clause-small
 raise_if-requires-clause-small c = λ x. let small = (small-at c.self.inside.cells.state c.self.inside.support_counts x (numbers_at c.self.inside.support_counts x) refl c.self.invariant.koid_counts c.self.invariant.few c.limits.ensures.few) in omega (arith, small.named)
 
-pub raise_if-requires-clause-few_jobs : goal.raise_if-requires-clause-few_jobs
-raise_if-requires-clause-few_jobs c = λ x. let small = (small-at c.self.inside.cells.state c.self.inside.support_counts x (numbers_at c.self.inside.support_counts x) refl c.self.invariant.koid_counts c.self.invariant.few c.limits.ensures.few) in omega (arith, small.jobs)
+pub raise_if-requires-clause-few_tasks : goal.raise_if-requires-clause-few_tasks
+raise_if-requires-clause-few_tasks c = λ x. tasks-few c.self.inside.cells.state c.self.inside.support_counts x c.self.invariant.koid_counts c.limits.ensures.low
 
 pub raise_if-requires-clause-few_processes : goal.raise_if-requires-clause-few_processes
 raise_if-requires-clause-few_processes c = λ x. let small = (small-at c.self.inside.cells.state c.self.inside.support_counts x (numbers_at c.self.inside.support_counts x) refl c.self.invariant.koid_counts c.self.invariant.few c.limits.ensures.few) in omega (arith, small.processes)
 
 pub lower_if-requires-clause-within : goal.lower_if-requires-clause-within
 lower_if-requires-clause-within c =
-    rw (c.raise_if.ensures.len, c.exchange.ensures.was) (stands-within c.self.inside.cells.state c.self.inside.support_counts c.args.key c.self.invariant.koid_counts)
+    rw (c.raise_if.ensures.len, c.row_under.ensures, c.exchange.ensures.was) (stands-within c.self.inside.cells.state c.self.inside.support_counts c.args.key c.self.invariant.koid_counts)
 
 pub lower_if-requires-clause-there : goal.lower_if-requires-clause-there
-lower_if-requires-clause-there c = λ x. (went-there c.self.inside.cells.state c.args.key c.args.kept.now c.exchange.new.kept c.exchange.ensures.was c.self.inside.support_counts c.raise_if.new.self c.self.invariant.koid_counts c.raise_if.ensures.added x).named
+lower_if-requires-clause-there c = λ x. (went-there c.self.inside.cells.state c.args.key (option_copied c.row_under-inward.result) (option_copied c.row_under.result) (c.row_under.ensures ∙ c.exchange.ensures.was) c.self.inside.support_counts c.raise_if.new.self c.self.invariant.koid_counts c.raise_if.ensures.added x).named
 
 pub lower_if-requires-clause-jobs : goal.lower_if-requires-clause-jobs
-lower_if-requires-clause-jobs c = λ x. (went-there c.self.inside.cells.state c.args.key c.args.kept.now c.exchange.new.kept c.exchange.ensures.was c.self.inside.support_counts c.raise_if.new.self c.self.invariant.koid_counts c.raise_if.ensures.added x).jobs
+lower_if-requires-clause-jobs c = λ x. (went-there c.self.inside.cells.state c.args.key (option_copied c.row_under-inward.result) (option_copied c.row_under.result) (c.row_under.ensures ∙ c.exchange.ensures.was) c.self.inside.support_counts c.raise_if.new.self c.self.invariant.koid_counts c.raise_if.ensures.added x).jobs
 
 pub lower_if-requires-clause-processes : goal.lower_if-requires-clause-processes
-lower_if-requires-clause-processes c = λ x. (went-there c.self.inside.cells.state c.args.key c.args.kept.now c.exchange.new.kept c.exchange.ensures.was c.self.inside.support_counts c.raise_if.new.self c.self.invariant.koid_counts c.raise_if.ensures.added x).processes
+lower_if-requires-clause-processes c = λ x. (went-there c.self.inside.cells.state c.args.key (option_copied c.row_under-inward.result) (option_copied c.row_under.result) (c.row_under.ensures ∙ c.exchange.ensures.was) c.self.inside.support_counts c.raise_if.new.self c.self.invariant.koid_counts c.raise_if.ensures.added x).processes
 
 pub invariant_of-self : goal.invariant_of-self
 invariant_of-self c =
-    let is_put = ap (λ (s : CellsView). s.state) c.exchange.ensures.put in record {
-      koid_counts = koid_counts-exchanged c.self.inside.cells.state c.args.key c.args.kept.now c.exchange.new.kept c.exchange.ensures.was c.self.inside.support_counts c.raise_if.new.self c.self.invariant.koid_counts c.raise_if.ensures.added c.exchange.new.self.state c.lower_if.new.self is_put c.lower_if.ensures.taken;
-      few = names_few-exchanged c.self.inside.cells.state c.exchange.new.self.state c.args.key c.args.kept.now is_put c.self.invariant.few c.raise_if.ensures.few;
-      indexed = subst (λ (s : CellsView). IsIndexed s c.follow.new.self) (sym c.exchange.ensures.put) c.follow.ensures;
+    let came : Option Row = option_copied c.row_under-inward.result in
+    let is_put = ap (λ (s : CellsView). s.state) c.exchange.ensures.put ∙ ap (put c.self.inside.cells.state c.args.key) (sym c.row_under-inward.ensures) in record {
+      koid_counts = koid_counts-exchanged c.self.inside.cells.state c.args.key came (option_copied c.row_under.result) (c.row_under.ensures ∙ c.exchange.ensures.was) c.self.inside.support_counts c.raise_if.new.self c.self.invariant.koid_counts c.raise_if.ensures.added c.exchange.new.self.state c.lower_if.new.self is_put c.lower_if.ensures.taken;
+      few = names_few-exchanged c.self.inside.cells.state c.exchange.new.self.state c.args.key came is_put c.self.invariant.few c.raise_if.ensures.few;
+      indexed = subst (λ (s : CellsView). IsIndexed s c.follow.new.self) (ap (shelved_put c.self.inside.cells c.args.key) c.row_under-inward.ensures ∙ sym c.exchange.ensures.put) c.follow.ensures;
     }
 
 pub returns-clause-fit : goal.returns-clause-fit
 returns-clause-fit c =
-    went-fits c.args.self.now c.self.inside.cells.state c.self.inside.cells.sizes c.exchange.new.self.sizes c.self.inside.support_counts c.lower_if.new.self c.args.key c.args.kept.now c.exchange.new.kept c.self.view_is c.requires.placed
+    went-fits c.args.self.now c.self.inside.cells.state c.self.inside.cells.sizes c.exchange.new.self.sizes c.self.inside.support_counts c.lower_if.new.self c.args.key (row_under c.args.key c.args.kept.now) (row_under c.args.key c.exchange.new.kept) c.self.view_is c.requires.placed
     (ap (λ (s : CellsView). s.sizes) c.exchange.ensures.put) (c.lower_if.ensures.len ∙ c.raise_if.ensures.len) c.exchange.ensures.was c.self.invariant.koid_counts
 
 pub follow-requires-clause-placed : goal.follow-requires-clause-placed
 follow-requires-clause-placed c =
-    place-there c.args.self.now c.self.inside.cells.state c.self.inside.cells.sizes (length c.self.inside.support_counts) c.args.key c.args.kept.now c.self.view_is c.requires.placed
+    place-there c.args.self.now c.self.inside.cells.state c.self.inside.cells.sizes (length c.self.inside.support_counts) c.args.key (row_under c.args.key c.args.kept.now) c.self.view_is c.requires.placed

@@ -1,0 +1,48 @@
+ghost use Rattle.std.specs.Prelude.{◌≡◌};
+ghost use Rattle.std.specs.Option.{option_copied};
+ghost use Rattle.zt_rows.specs.declared.keys.RowKey.{RowKey};
+ghost use Rattle.zt_rows.specs.Room.{SuitsKey};
+ghost use Rattle.zt_cells.specs.BareRows.{row_in, row_under};
+
+use zt_rows::{Counters, Koid, Row, RowKey};
+
+/// What stands for none, under any key but that of the counters.
+pub const NO_ROW: Row = Row::Counters(Counters {
+    next_koid: Koid(0),
+    next_wait: 0,
+});
+
+/// The row in the bytes of a row: none is a row of counters, which stands for none under any other key than theirs.
+#[inline(always)]
+pub fn bare(row: Option<Row>) -> Row
+    ensures { (key : RowKey) → SuitsKey key row → row_under key result ≡ row }
+{
+    match row {
+        Some(row) => row,
+        None => NO_ROW,
+    }
+}
+
+/// What a bare row stands for under the key: itself, or none.
+#[inline(always)]
+#[tactic(auto, using(crate::proofs::PlaceLaws::row_in_other))]
+pub fn row_under(key: RowKey, row: &Row) -> Option<&Row>
+    ensures { option_copied result ≡ row_under key row.now }
+{
+    match key {
+        RowKey::Counters => Some(row),
+        _ => row_in(row),
+    }
+}
+
+/// The same under another key than that of the counters.
+#[inline(always)]
+#[tactic(auto, using(crate::proofs::PlaceLaws::row_in_other))]
+pub(crate) fn row_in(row: &Row) -> Option<&Row>
+    ensures { option_copied result ≡ row_in row.now }
+{
+    match row {
+        Row::Counters(_) => None,
+        row => Some(row),
+    }
+}

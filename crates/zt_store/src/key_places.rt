@@ -1,0 +1,266 @@
+ghost use Rattle.std.specs.Prelude.{◌≡◌, ◌<◌, ◌≤◌, ◌+◌, ◌-◌, ◌^◌, [], ◌∷◌, ◌++◌, List, Some, length, map, slice_get, OnOk, OnErr};
+ghost use Rattle.zt_rows.specs.Keys.{variant, first_number, rowkey_eq, second_number};
+ghost use Rattle.zt_rows.specs.declared.keys.RowKey.{RowKey};
+ghost use Rattle.zt_store.specs.ProofsOnly.KeyPlaces.{AreChained, AreNoted, IsChainedTo, bucket_of, mixed_of};
+ghost use Rattle.zt_store.specs.ProofsOnly.StepRows.{IsPlaceOf};
+
+use std::alloc::{AllocError, Global};
+use zt_rows::{Row, RowKey};
+
+/// How many keys are looked through one by one. Where more come, all are spread over buckets.
+const FEW: usize = 8;
+
+/// How many buckets there are at first.
+const FIRST_BUCKETS: usize = 32;
+
+/// How many keys there are at most, so that the number of each is one that a chain can hold.
+const MOST_KEYS: usize = u32::MAX as usize;
+
+/// Odd numbers without a pattern, by which the parts of a key are multiplied.
+const FIRST_FACTOR: u64 = 0x9e3779b97f4a7c15;
+
+const SECOND_FACTOR: u64 = 0xc2b2ae3d27d4eb4f;
+
+const VARIANT_FACTOR: u64 = 0x165667b19e3779f9;
+
+/// What leads from a key to the one before it in its bucket.
+#[derive(Clone, Copy, Debug)]
+struct KeyLink {
+    /// What is mixed of the key, by which most others are told from it with no look at it.
+    mixed: u32,
+    /// The number of the one before it.
+    before: u32,
+}
+
+/// The link of no key.
+const NO_LINK: KeyLink = KeyLink {
+    mixed: 0,
+    before: 0,
+};
+
+/// By what the places of a list's keys are found. The keys themselves stand in the list, and each call is given it. While they are
+/// few, nothing is kept. More are spread over buckets, and the keys of a bucket are chained from the last one back to the first: a
+/// chain says the number of a key in the list, counted from 1, and ends with 0.
+#[derive(Drop)]
+pub(crate) struct KeyPlaces {
+    /// The number of the last key of each bucket.
+    last: Vec<u32>,
+    /// The link of each key.
+    links: Vec<KeyLink>,
+}
+
+impl KeyPlaces {
+    /// Those of no keys. It takes no memory.
+    pub(crate) fn new(alloc: Global) -> KeyPlaces
+        ensures last { result.last.items ≡ [] }
+        ensures links { result.links.items ≡ [] }
+    {
+        KeyPlaces {
+            last: Vec::new(alloc),
+            links: Vec::new(alloc),
+        }
+    }
+
+    /// Where the key stands in the list. It takes no memory.
+    #[inline(always)]
+    pub(crate) fn place(&self, firsts: &[(RowKey, Row)], key: &RowKey) -> Option<usize>
+        requires { AreNoted self.now (map (λ e. e.0) firsts.now) }
+        ensures { IsPlaceOf (map (λ e. e.0) firsts.now) key.now result }
+    {
+        if self.last.is_empty() {
+            place_among(firsts, key)
+        } else {
+            chained_place(self.last.as_slice(), self.links.as_slice(), firsts, key)
+        }
+    }
+
+    /// Notes that the key will stand behind those of the list. Where memory is refused, the list's are found still.
+    #[inline(always)]
+    pub(crate) fn note(&mut self, firsts: &[(RowKey, Row)], key: &RowKey) -> Result<(), AllocError>
+        requires { AreNoted self.old (map (λ e. e.0) firsts.now) }
+        ensures ok { OnOk result (AreNoted self.new (map (λ e. e.0) firsts.now ++ key.now ∷ [])) }
+        ensures err { OnErr result (AreNoted self.new (map (λ e. e.0) firsts.now)) }
+    {
+        if self.last.is_empty() && firsts.len() < FEW {
+            return Ok(());
+        }
+        self.note_chained(firsts, key)
+    }
+
+    /// The same, with buckets.
+    #[inline(never)]
+    fn note_chained(&mut self, firsts: &[(RowKey, Row)], key: &RowKey) -> Result<(), AllocError>
+        requires { AreNoted self.old (map (λ e. e.0) firsts.now) }
+        ensures ok { OnOk result (AreNoted self.new (map (λ e. e.0) firsts.now ++ key.now ∷ [])) }
+        ensures err { OnErr result (AreNoted self.new (map (λ e. e.0) firsts.now)) }
+    {
+        if firsts.len() >= MOST_KEYS {
+            return Err(AllocError);
+        }
+        self.make_buckets(firsts)?;
+        self.links.push(NO_LINK)?;
+        chain(
+            self.last.as_mut_slice(),
+            self.links.as_mut_slice(),
+            firsts.len(),
+            key,
+        );
+        Ok(())
+    }
+
+    /// Makes more buckets, where there are no more of them than keys.
+    fn make_buckets(&mut self, firsts: &[(RowKey, Row)]) -> Result<(), AllocError>
+        requires noted { AreNoted self.old (map (λ e. e.0) firsts.now) }
+        requires few { length firsts.now < 2 ^ 32 - 1 }
+        ensures some { OnOk result (0 < length self.new.last.items) }
+        ensures ok { OnOk result (AreChained self.new.last.items self.new.links.items (map (λ e. e.0) firsts.now)) }
+        ensures err { OnErr result (AreNoted self.new (map (λ e. e.0) firsts.now)) }
+    {
+        if firsts.len() < self.last.len() {
+            return Ok(());
+        }
+        self.double_buckets(firsts)
+    }
+
+    /// Makes twice as many buckets, and spreads the keys over them.
+    fn double_buckets(&mut self, firsts: &[(RowKey, Row)]) -> Result<(), AllocError>
+        requires noted { AreNoted self.old (map (λ e. e.0) firsts.now) }
+        requires few { length firsts.now < 2 ^ 32 - 1 }
+        requires full { length self.old.last.items ≤ length firsts.now }
+        ensures some { OnOk result (0 < length self.new.last.items) }
+        ensures ok { OnOk result (AreChained self.new.last.items self.new.links.items (map (λ e. e.0) firsts.now)) }
+        ensures err { OnErr result (AreNoted self.new (map (λ e. e.0) firsts.now)) }
+    {
+        let buckets = (2 * self.last.len()).max(FIRST_BUCKETS);
+        self.links.resize(firsts.len(), NO_LINK)?;
+        self.last.resize(buckets, 0)?;
+        chain_all(self.last.as_mut_slice(), self.links.as_mut_slice(), firsts);
+        Ok(())
+    }
+
+    /// Forgets all keys. It takes no memory, and leaves what there is to later ones.
+    pub(crate) fn clear(&mut self)
+        ensures last { self.new.last.items ≡ [] }
+        ensures links { self.new.links.items ≡ [] }
+    {
+        self.last.clear();
+        self.links.clear();
+    }
+}
+
+/// Where the key stands, by a look at each.
+fn place_among(firsts: &[(RowKey, Row)], key: &RowKey) -> Option<usize>
+    ensures { IsPlaceOf (map (λ e. e.0) firsts.now) key.now result }
+{
+    for place in 0..firsts.len() {
+        if firsts[place].0 == *key {
+            return Some(place);
+        }
+    }
+    None
+}
+
+/// Where the key stands, by a look at those of its bucket.
+#[inline(never)]
+fn chained_place(
+    last: &[u32],
+    links: &[KeyLink],
+    firsts: &[(RowKey, Row)],
+    key: &RowKey,
+) -> Option<usize>
+    requires some { 0 < length last.now }
+    requires chained { AreChained last.now links.now (map (λ e. e.0) firsts.now) }
+    ensures { IsPlaceOf (map (λ e. e.0) firsts.now) key.now result }
+{
+    let mixed = mixed(key);
+    let mut number = last[bucket(mixed, last.len())] as usize;
+    'chain: while number > 0 {
+        let place = number - 1;
+        let link = links[place];
+        if is_same(link, &firsts[place].0, mixed, key) {
+            return Some(place);
+        }
+        number = link.before as usize;
+    }
+    None
+}
+
+/// Whether the key of the link is this one.
+#[inline(always)]
+fn is_same(link: KeyLink, first: &RowKey, mixed: u32, key: &RowKey) -> bool
+    requires link { link.mixed ≡ mixed_of first.now }
+    requires mixed { mixed ≡ mixed_of key.now }
+    ensures { result ≡ rowkey_eq first.now key.now }
+{
+    link.mixed == mixed && *first == *key
+}
+
+/// Chains the keys of the list, and no others.
+fn chain_all(last: &mut [u32], links: &mut [KeyLink], firsts: &[(RowKey, Row)])
+    requires some { 0 < length last.old }
+    requires room { length firsts.now ≤ length links.old }
+    requires few { length firsts.now < 2 ^ 32 - 1 }
+    ensures { IsChainedTo (length last.new) last.new links.new (map (λ e. e.0) firsts.now) (length firsts.now) }
+{
+    last.fill(0);
+    for place in 0..firsts.len() {
+        chain(last, links, place, &firsts[place].0);
+    }
+}
+
+/// Chains the key at the place, the keys before which are chained.
+#[inline(always)]
+fn chain(last: &mut [u32], links: &mut [KeyLink], place: usize, key: &RowKey)
+    requires some { 0 < length last.old }
+    requires place { place < length links.old }
+    requires few { place < 2 ^ 32 - 1 }
+    ensures { (keys : List RowKey) → slice_get keys place ≡ Some key.now
+        → IsChainedTo (length last.old) last.old links.old keys place → IsChainedTo (length last.new) last.new links.new keys (place + 1) }
+{
+    let mixed = mixed(key);
+    let bucket = bucket(mixed, last.len());
+    links[place] = KeyLink {
+        mixed,
+        before: last[bucket],
+    };
+    last[bucket] = (place + 1) as u32;
+}
+
+/// The bucket of a key of which this is mixed.
+#[inline(always)]
+fn bucket(mixed: u32, buckets: usize) -> usize
+    requires { 0 < buckets }
+    ensures bucket { (key : RowKey) → mixed ≡ mixed_of key → result ≡ bucket_of buckets key }
+    ensures below { result < buckets }
+{
+    mixed as usize & (buckets - 1)
+}
+
+/// A number of which each digit depends on the key's variant and numbers, so that keys in a row are spread.
+#[inline(always)]
+fn mixed(key: &RowKey) -> u32
+    ensures { result ≡ mixed_of key.now }
+{
+    let (variant, first, second) = parts(key);
+    let numbers = first
+        .wrapping_mul(FIRST_FACTOR)
+        .wrapping_add(second.wrapping_mul(SECOND_FACTOR));
+    (numbers.wrapping_add(variant.wrapping_mul(VARIANT_FACTOR)) >> 32) as u32
+}
+
+/// The number of the key's variant, and its numbers.
+#[inline(always)]
+fn parts(key: &RowKey) -> (u64, u64, u64)
+    ensures variant { result.0 ≡ variant key.now }
+    ensures first { result.1 ≡ first_number key.now }
+    ensures second { result.2 ≡ second_number key.now }
+{
+    match *key {
+        RowKey::Counters => (0, 0, 0),
+        RowKey::Object(koid) => (1, koid.0, 0),
+        RowKey::Entry(process, handle) => (2, process.0, u64::from(handle.0)),
+        RowKey::Msg(endpoint, number) => (3, endpoint.0, number),
+        RowKey::Packet(port, number) => (4, port.0, number),
+        RowKey::Wait(number) => (5, number, 0),
+    }
+}
