@@ -19,14 +19,14 @@ use Rattle.zt_jobs.specs.ProofsOnly.EndingWalk.{IsNoted}
 pub this_one : (x y : ℕ) → (x == y) ≡ only x y
 this_one x y = same_test (x == y) (y == x) (λ t. eq-eqb y x (sym (eqb-true x y t))) (λ t. eq-eqb x y (sym (eqb-true y x t)))
 
-among-push : (xs : List ℕ) (x y : ℕ) → among (xs ++ x ∷ []) y ≡ (among xs y || (x == y))
+pub among-push : (xs : List ℕ) (x y : ℕ) → among (xs ++ x ∷ []) y ≡ (among xs y || (x == y))
 among-push xs x y = list_any-append (λ m. m == y) xs (x ∷ []) ∙ ap (λ b. among xs y || b) (or-none (x == y))
   where
     or-none : (b : Bool) → (b || false) ≡ b
     or-none true = refl
     or-none false = refl
 
-among-at : (xs : List ℕ) (i d : ℕ) → i < length xs → among xs (get_or xs i d) ≡ true
+pub among-at : (xs : List ℕ) (i d : ℕ) → i < length xs → among xs (get_or xs i d) ≡ true
 among-at xs i d lt = list_any_at (λ m. m == get_or xs i d) xs i d lt (eq-eqb (get_or xs i d) (get_or xs i d) refl)
 
 none-among : (xs : List ℕ) (x : ℕ) → length xs ≡ 0 → among xs x ≡ true → ⊥

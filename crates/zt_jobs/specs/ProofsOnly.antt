@@ -3,3 +3,4 @@ pub mod TaskTree
 pub mod EndedTasks
 pub mod NextRow
 pub mod EndingWalk
+pub mod FoundKoids

@@ -1,16 +1,15 @@
 ghost use Rattle.std.specs.Prelude.{◌≡◌, ◌==◌, ◌||◌, ℕ, IfOk, OnOk};
-ghost use Rattle.std.specs.BTreeSet.{contains};
-ghost use Rattle.std.specs.Ordering.{nat_cmp};
 ghost use Rattle.zt_rows.specs.End.{ends_with};
 ghost use Rattle.zt_rows.specs.Tests.{among};
 ghost use Rattle.zt_store.specs.KoidSets.{only};
 ghost use Rattle.zt_jobs.specs.EndingWalk.{IsWalkable, ends_next, is_child_in, is_critical_to};
 ghost use Rattle.zt_jobs.specs.ProofsOnly.TaskTree.{IsRising};
+ghost use Rattle.zt_jobs.specs.ProofsOnly.FoundKoids.{found};
 ghost use Rattle.zt_jobs.specs.ProofsOnly.EndingWalk.{IsNoted};
 
+use crate::found_set::FoundKoids;
 use crate::task_tree::critical_of;
 use std::alloc::{AllocError, Global};
-use std::collections::BTreeSet;
 use zt_rows::Koid;
 use zt_store::Step;
 
@@ -25,17 +24,16 @@ pub(crate) fn members_ending(
     ensures rising { IfOk result (λ members. IsRising members.items) }
 {
     let known = known_ending(alloc, step, task)?;
-    let members = by_koid(alloc, known)?;
-    Ok(members)
+    known.by_koid(alloc)
 }
 
 /// What ends with the process or job. What ends next to one that is known is found by its parent and by what it is
 /// critical to, so that no other object is looked at, and each waits for this once.
-fn known_ending(alloc: Global, step: &Step, task: Koid) -> Result<BTreeSet<u64>, AllocError>
+fn known_ending(alloc: Global, step: &Step, task: Koid) -> Result<FoundKoids, AllocError>
     requires { let S = step.now.current in IsWalkable S task (ends_with S task) }
-    ensures { IfOk result (λ known. contains nat_cmp known ≡ ends_with step.now.current task) }
+    ensures { IfOk result (λ known. found known ≡ ends_with step.now.current task) }
 {
-    let mut known = BTreeSet::new(alloc);
+    let mut known = FoundKoids::new(alloc);
     let mut waiting = Vec::new(alloc);
     note(task, &mut known, &mut waiting)?;
     for _ in 0..u64::MAX {
@@ -51,12 +49,12 @@ fn known_ending(alloc: Global, step: &Step, task: Koid) -> Result<BTreeSet<u64>,
 fn add_next(
     step: &Step,
     task: Koid,
-    known: &mut BTreeSet<u64>,
+    known: &mut FoundKoids,
     waiting: &mut Vec<Koid>,
 ) -> Result<(), AllocError>
-    ensures known { OnOk result ((x : ℕ) → contains nat_cmp known.new x
-        ≡ (contains nat_cmp known.old x || ends_next step.now.current task x)) }
-    ensures noted { OnOk result (IsNoted (contains nat_cmp known.old) waiting.old.items (contains nat_cmp known.new) waiting.new.items) }
+    ensures known { OnOk result ((x : ℕ) → found known.new x
+        ≡ (found known.old x || ends_next step.now.current task x)) }
+    ensures noted { OnOk result (IsNoted (found known.old) waiting.old.items (found known.new) waiting.new.items) }
 {
     add_below(step, task, known, waiting)?;
     add_critical(step, task, known, waiting)?;
@@ -67,12 +65,12 @@ fn add_next(
 fn add_critical(
     step: &Step,
     task: Koid,
-    known: &mut BTreeSet<u64>,
+    known: &mut FoundKoids,
     waiting: &mut Vec<Koid>,
 ) -> Result<(), AllocError>
-    ensures known { OnOk result ((x : ℕ) → contains nat_cmp known.new x
-        ≡ (contains nat_cmp known.old x || is_critical_to step.now.current task x)) }
-    ensures noted { OnOk result (IsNoted (contains nat_cmp known.old) waiting.old.items (contains nat_cmp known.new) waiting.new.items) }
+    ensures known { OnOk result ((x : ℕ) → found known.new x
+        ≡ (found known.old x || is_critical_to step.now.current task x)) }
+    ensures noted { OnOk result (IsNoted (found known.old) waiting.old.items (found known.new) waiting.new.items) }
 {
     let job = critical_of(step, task);
     if job == Koid(0) {
@@ -86,12 +84,12 @@ fn add_critical(
 fn add_below(
     step: &Step,
     parent: Koid,
-    known: &mut BTreeSet<u64>,
+    known: &mut FoundKoids,
     waiting: &mut Vec<Koid>,
 ) -> Result<(), AllocError>
-    ensures known { OnOk result ((x : ℕ) → contains nat_cmp known.new x
-        ≡ (contains nat_cmp known.old x || is_child_in step.now.current (only parent) x)) }
-    ensures noted { OnOk result (IsNoted (contains nat_cmp known.old) waiting.old.items (contains nat_cmp known.new) waiting.new.items) }
+    ensures known { OnOk result ((x : ℕ) → found known.new x
+        ≡ (found known.old x || is_child_in step.now.current (only parent) x)) }
+    ensures noted { OnOk result (IsNoted (found known.old) waiting.old.items (found known.new) waiting.new.items) }
 {
     if parent == Koid(0) {
         return Ok(());
@@ -105,29 +103,14 @@ fn add_below(
 }
 
 /// Adds the koid to what is known. If it was not known, it waits.
-fn note(koid: Koid, known: &mut BTreeSet<u64>, waiting: &mut Vec<Koid>) -> Result<(), AllocError>
-    ensures known { OnOk result ((x : ℕ) → contains nat_cmp known.new x ≡ (contains nat_cmp known.old x || (koid == x))) }
-    ensures noted { OnOk result (IsNoted (contains nat_cmp known.old) waiting.old.items (contains nat_cmp known.new) waiting.new.items) }
+fn note(koid: Koid, known: &mut FoundKoids, waiting: &mut Vec<Koid>) -> Result<(), AllocError>
+    ensures known { OnOk result ((x : ℕ) → found known.new x ≡ (found known.old x || (koid == x))) }
+    ensures noted { OnOk result (IsNoted (found known.old) waiting.old.items (found known.new) waiting.new.items) }
 {
-    let is_new = known.insert(koid.0)?;
+    let is_new = known.insert(koid)?;
     if !is_new {
         return Ok(());
     }
     waiting.push(koid)?;
     Ok(())
-}
-
-/// The koids of the set, by rising number.
-fn by_koid(alloc: Global, set: BTreeSet<u64>) -> Result<Vec<Koid>, AllocError>
-    ensures members { IfOk result (λ list. among list.items ≡ contains nat_cmp set) }
-    ensures rising { IfOk result (λ list. IsRising list.items) }
-{
-    let mut left = set;
-    let mut list = Vec::new(alloc);
-    'koids: loop {
-        match left.pop_first() {
-            Some(koid) => list.push(Koid(koid))?,
-            None => return Ok(list),
-        }
-    }
 }

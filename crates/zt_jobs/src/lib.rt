@@ -6,6 +6,8 @@ mod ended_tables;
 mod ended_tasks;
 mod ended_waits;
 mod ending_set;
+mod found_koids;
+mod found_set;
 pub mod laws;
 mod new_task;
 mod task_tree;

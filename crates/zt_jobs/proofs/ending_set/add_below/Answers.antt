@@ -1,7 +1,6 @@
 use Rattle.std.proofs.Common.{ℕ, Bool, ◌∙◌, subst}
 use Rattle.std.specs.Prelude.{Some}
-use Rattle.std.specs.BTreeSet.{contains}
-use Rattle.std.specs.Ordering.{nat_cmp}
+use Rattle.zt_jobs.specs.ProofsOnly.FoundKoids.{found}
 use Rattle.zt_rows.proofs.RowLaws.{or_left}
 use Rattle.zt_index.specs.Chains.{IsNext}
 use Rattle.zt_index.specs.Criteria.{is_below, objects_where}
@@ -13,19 +12,19 @@ pub tasks-init : goal.tasks-init
 tasks-init c =
     let passes : ℕ → Bool = objects_where c.args.step.now.current (is_below c.args.parent) in
     record {
-      known = λ x. passed_none (contains nat_cmp c.args.known.now x) (passes x);
-      noted = noted_itself (contains nat_cmp c.args.known.now) c.args.waiting.now.items;
+      known = λ x. passed_none (found c.args.known.now x) (passes x);
+      noted = noted_itself (found c.args.known.now) c.args.waiting.now.items;
     }
 
 pub tasks-preserved : goal.tasks-preserved
 tasks-preserved c =
     let passes : ℕ → Bool = objects_where c.args.step.now.current (is_below c.args.parent) in
-    let found : IsNext passes c.tasks.low (Some c.in-Some.task) = subst (IsNext passes c.tasks.low) c.in-Some.is c.task_below.ensures in
+    let is_next : IsNext passes c.tasks.low (Some c.in-Some.task) = subst (IsNext passes c.tasks.low) c.in-Some.is c.task_below.ensures in
     let is = c.in_ok-note.ensures.known in
     record {
-      known = λ x. passed_known passes c.tasks.low c.in-Some.task x (contains nat_cmp c.args.known.now x) (contains nat_cmp c.tasks.known x) (contains nat_cmp c.note.new.known x) found (c.tasks.invariant.known x) (is x);
+      known = λ x. passed_known passes c.tasks.low c.in-Some.task x (found c.args.known.now x) (found c.tasks.known x) (found c.note.new.known x) is_next (c.tasks.invariant.known x) (is x);
       noted =
-          noted_then (contains nat_cmp c.args.known.now) (contains nat_cmp c.tasks.known) (contains nat_cmp c.note.new.known)
+          noted_then (found c.args.known.now) (found c.tasks.known) (found c.note.new.known)
           c.args.waiting.now.items c.tasks.waiting.items c.note.new.waiting.items c.tasks.invariant.noted c.in_ok-note.ensures.noted
-          (λ x e. is x ∙ or_left (contains nat_cmp c.tasks.known x) _ e);
+          (λ x e. is x ∙ or_left (found c.tasks.known x) _ e);
     }

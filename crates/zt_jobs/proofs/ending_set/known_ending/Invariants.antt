@@ -1,8 +1,7 @@
-use Rattle.std.specs.BTreeSet.{contains}
-use Rattle.std.specs.Ordering.{nat_cmp}
+use Rattle.zt_jobs.specs.ProofsOnly.FoundKoids.{found}
 use Rattle.zt_rows.specs.End.{ends_with}
 use Rattle.zt_jobs.proofs.MemberLaws.{IsWalked}
 use Rattle.zt_jobs.proofs.ending_set.known_ending.Given as goal
 
 abbrev pub invariant-loop : goal.invariant-loop
-invariant-loop l = IsWalked l.step.current l.fn.task (ends_with l.step.current l.fn.task) (contains nat_cmp l.known) l.waiting.items
+invariant-loop l = IsWalked l.step.current l.fn.task (ends_with l.step.current l.fn.task) (found l.known) l.waiting.items

@@ -3,7 +3,7 @@ use Rattle.std.specs.BTreeSet.{contains}
 use Rattle.std.specs.Ordering.{nat_cmp}
 use Rattle.zt_jobs.proofs.BelowLaws.{at-same, none-there, not-less}
 use Rattle.zt_jobs.proofs.MemberLaws.{list-start, list-next, list-end}
-use Rattle.zt_jobs.proofs.ending_set.by_koid.Goals as goal
+use Rattle.zt_jobs.proofs.found_koids.by_koid.Goals as goal
 
 pub koids-init : goal.koids-init
 koids-init c = list-start c.new-list.result.items (contains nat_cmp c.args.set) c.new-list.ensures.items
