@@ -8,6 +8,7 @@ pub mod GrownLaws
 pub mod BranchLaws
 pub mod TreeLaws
 pub mod NodeLaws
+pub mod SameCallLaws
 pub mod StoredLaws
 pub mod KeptLaws
 pub mod WayLaws

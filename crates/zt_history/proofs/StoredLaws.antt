@@ -1,9 +1,10 @@
 -- Nodes as they lie in memory: one more, one less, and looks.
-use Rattle.std.proofs.Common.{◌≡◌, ℕ, zero, suc, ◌+◌, ◌-◌, ◌≤◌, ◌<◌, inl, inr, ◌⊎◌, List, [], ◌∷◌, ◌++◌, length, take, get_or, Option, Some, Bor, refl, sym, ◌∙◌, ap, subst, arith}
+use Rattle.std.proofs.Common.{◌≡◌, ℕ, zero, suc, ◌+◌, ◌-◌, ◌≤◌, ◌<◌, inl, inr, ◌⊎◌, List, [], ◌∷◌, ◌++◌, length, take, get_or, Bool, true, false, Option, Some, Bor, refl, sym, ◌∙◌, ap, subst, arith}
 use Rattle.std.specs.Prelude.{slice_get}
 use Rattle.std.specs.Option.{option_copied, option_map}
 use Rattle.std.specs.Slice.{IsItemAt}
 use Rattle.std.proofs.lemmas.List.{append-nil, length-append, get_or_append_left}
+use Rattle.std.proofs.lemmas.Bool.{true≢false}
 use Rattle.std.proofs.lemmas.Option.{none-some, same_Some, slice_get_within, slice_get-get_or}
 use Rattle.zt_rows.specs.declared.calls.Call.{Call}
 use Rattle.zt_rows.specs.declared.calls.Reply.{Reply}
@@ -16,66 +17,64 @@ use Rattle.zt_history.proofs.TreeLaws.{last_apart, without_last-push}
 
 -- ---- places
 
-module _ (place : StoredNode → ℕ) (shared : ℕ) where
+module _ (place : StoredNode → ℕ) (owns : StoredNode → Bool) where
   -- the end is no earlier, and no more places are taken than there are nodes
-  pub fills-up : (from : ℕ) (ns : List StoredNode) (end : ℕ) → Fills place shared from ns end → (from ≤ end) × (end ≤ from + length ns)
+  pub fills-up : (from : ℕ) (ns : List StoredNode) (end : ℕ) → Fills place owns from ns end → (from ≤ end) × (end ≤ from + length ns)
   fills-up from [] end h = (omega (arith, h), omega (arith, h))
-  fills-up from (n ∷ ns) end (inl h) = let rest = fills-up from ns end h.1 in (omega (arith, rest.0), omega (arith, rest.1))
-  fills-up from (n ∷ ns) end (inr h) = let rest = fills-up (suc from) ns end h.1 in (omega (arith, rest.0), omega (arith, rest.1))
+  fills-up from (n ∷ ns) end (inl h) = let rest = fills-up from ns end h.2 in (omega (arith, rest.0), omega (arith, rest.1))
+  fills-up from (n ∷ ns) end (inr h) = let rest = fills-up (suc from) ns end h.2 in (omega (arith, rest.0), omega (arith, rest.1))
 
   -- each place is before the end
-  pub fills-within : (from : ℕ) (ns : List StoredNode) (end : ℕ) → shared ≤ from → Fills place shared from ns end → (i : ℕ) (n : StoredNode) → slice_get ns i ≡ Some n → place n < end
-  fills-within from [] end low h i n at = absurd (none-some n at)
-  fills-within from (m ∷ ns) end low (inl h) zero n at =
-      let up = fills-up from ns end h.1 in
-      omega (arith, h.0, low, up.0, ap place (same_Some m n at))
-  fills-within from (m ∷ ns) end low (inl h) (suc i) n at = fills-within from ns end low h.1 i n at
-  fills-within from (m ∷ ns) end low (inr h) zero n at =
-      let up = fills-up (suc from) ns end h.1 in
-      omega (arith, h.0, up.0, ap place (same_Some m n at))
-  fills-within from (m ∷ ns) end low (inr h) (suc i) n at = fills-within (suc from) ns end (omega (arith, low)) h.1 i n at
+  pub fills-within : (from : ℕ) (ns : List StoredNode) (end : ℕ) → Fills place owns from ns end → (i : ℕ) (n : StoredNode) → slice_get ns i ≡ Some n → place n < end
+  fills-within from [] end h i n at = absurd (none-some n at)
+  fills-within from (m ∷ ns) end (inl h) zero n at =
+      let up = fills-up from ns end h.2 in
+      omega (arith, h.1, up.0, ap place (same_Some m n at))
+  fills-within from (m ∷ ns) end (inl h) (suc i) n at = fills-within from ns end h.2 i n at
+  fills-within from (m ∷ ns) end (inr h) zero n at =
+      let up = fills-up (suc from) ns end h.2 in
+      omega (arith, h.1, up.0, ap place (same_Some m n at))
+  fills-within from (m ∷ ns) end (inr h) (suc i) n at = fills-within (suc from) ns end h.2 i n at
 
-  pub fills-shared : (from : ℕ) (ns : List StoredNode) (n : StoredNode) (end : ℕ) → Fills place shared from ns end → place n < shared → Fills place shared from (ns ++ n ∷ []) end
-  fills-shared from [] n end h less = inl (less, h)
-  fills-shared from (m ∷ ns) n end (inl h) less = inl (h.0, fills-shared from ns n end h.1 less)
-  fills-shared from (m ∷ ns) n end (inr h) less = inr (h.0, fills-shared (suc from) ns n end h.1 less)
+  pub fills-there : (from : ℕ) (ns : List StoredNode) (n : StoredNode) (end : ℕ) → Fills place owns from ns end → owns n ≡ false → place n < end → Fills place owns from (ns ++ n ∷ []) end
+  fills-there from [] n end h free less = inl (free, omega (arith, less, h), h)
+  fills-there from (m ∷ ns) n end (inl h) free less = inl (h.0, h.1, fills-there from ns n end h.2 free less)
+  fills-there from (m ∷ ns) n end (inr h) free less = inr (h.0, h.1, fills-there (suc from) ns n end h.2 free less)
 
-  pub fills-own : (from : ℕ) (ns : List StoredNode) (n : StoredNode) (end : ℕ) → Fills place shared from ns end → place n ≡ end → Fills place shared from (ns ++ n ∷ []) (suc end)
-  fills-own from [] n end h own = inr (own ∙ sym h, ap suc h)
-  fills-own from (m ∷ ns) n end (inl h) own = inl (h.0, fills-own from ns n end h.1 own)
-  fills-own from (m ∷ ns) n end (inr h) own = inr (h.0, fills-own (suc from) ns n end h.1 own)
+  pub fills-own : (from : ℕ) (ns : List StoredNode) (n : StoredNode) (end : ℕ) → Fills place owns from ns end → owns n ≡ true → place n ≡ end → Fills place owns from (ns ++ n ∷ []) (suc end)
+  fills-own from [] n end h owned own = inr (owned, own ∙ sym h, ap suc h)
+  fills-own from (m ∷ ns) n end (inl h) owned own = inl (h.0, h.1, fills-own from ns n end h.2 owned own)
+  fills-own from (m ∷ ns) n end (inr h) owned own = inr (h.0, h.1, fills-own (suc from) ns n end h.2 owned own)
 
   -- without the last node
-  pub fills-left : (from : ℕ) (ns : List StoredNode) (n : StoredNode) (end : ℕ) → Fills place shared from (ns ++ n ∷ []) end
-      → ((place n < shared) × Fills place shared from ns end) ⊎ ((suc (place n) ≡ end) × Fills place shared from ns (place n))
-  fills-left from [] n end (inl h) = inl h
-  fills-left from [] n end (inr h) = inr (ap suc h.0 ∙ h.1, sym h.0)
-  fills-left from (m ∷ ns) n end (inl h) = elim (fills-left from ns n end h.1) [ inl l ↦ inl (l.0, inl (h.0, l.1)) | inr r ↦ inr (r.0, inl (h.0, r.1)) ]
-  fills-left from (m ∷ ns) n end (inr h) = elim (fills-left (suc from) ns n end h.1) [ inl l ↦ inl (l.0, inr (h.0, l.1)) | inr r ↦ inr (r.0, inr (h.0, r.1)) ]
+  pub fills-left : (from : ℕ) (ns : List StoredNode) (n : StoredNode) (end : ℕ) → Fills place owns from (ns ++ n ∷ []) end
+      → ((owns n ≡ false) × Fills place owns from ns end) ⊎ ((owns n ≡ true) × (suc (place n) ≡ end) × Fills place owns from ns (place n))
+  fills-left from [] n end (inl h) = inl (h.0, h.2)
+  fills-left from [] n end (inr h) = inr (h.0, ap suc h.1 ∙ h.2, sym h.1)
+  fills-left from (m ∷ ns) n end (inl h) = elim (fills-left from ns n end h.2) [ inl l ↦ inl (l.0, inl (h.0, h.1, l.1)) | inr r ↦ inr (r.0, r.1, inl (h.0, h.1, r.2)) ]
+  fills-left from (m ∷ ns) n end (inr h) = elim (fills-left (suc from) ns n end h.2) [ inl l ↦ inl (l.0, inr (h.0, h.1, l.1)) | inr r ↦ inr (r.0, r.1, inr (h.0, h.1, r.2)) ]
 
--- a shared one is there
-pub put-shared : {X : Type 0} (shared : List X) (none : X) (kept : List X) (x : X) (place : ℕ) → HasShared shared kept → slice_get shared place ≡ Some x → IsPut (length shared) none kept kept x place
-put-shared shared none kept x place begins at =
-    let there : slice_get kept place ≡ Some x = begins place x at in
-    record {
-      more = [];
-      grown = sym (append-nil kept);
-      there = same_Some (get_or kept place none) x (sym (slice_get-get_or kept place none (slice_get_within kept place x there)) ∙ there);
-      stands = inl (slice_get_within shared place x at, refl);
-    }
+-- one that stands there already
+pub put-there : {X : Type 0} (none : X) (kept : List X) (x : X) (place : ℕ) → slice_get kept place ≡ Some x → IsPut none kept kept x place false
+put-there none kept x place at = record {
+  more = [];
+  grown = sym (append-nil kept);
+  there = same_Some (get_or kept place none) x (sym (slice_get-get_or kept place none (slice_get_within kept place x at)) ∙ at);
+  stands = inl (refl, slice_get_within kept place x at, refl);
+}
 
 -- ---- a list of shared elements and of those that are no other's
 
-module _ {X : Type 0} (place : StoredNode → ℕ) (shared : List X) (ns : List StoredNode) (n : StoredNode) where
-  pub filled-put : (none : X) (old new : List X) (x : X) → IsFilled place shared ns old → IsPut (length shared) none old new x (place n) → IsFilled place shared (ns ++ n ∷ []) new
+module _ {X : Type 0} (place : StoredNode → ℕ) (owns : StoredNode → Bool) (shared : List X) (ns : List StoredNode) (n : StoredNode) where
+  pub filled-put : (none : X) (old new : List X) (x : X) → IsFilled place owns shared ns old → IsPut none old new x (place n) (owns n) → IsFilled place owns shared (ns ++ n ∷ []) new
   filled-put none old new x is put = record {
     begins = λ i y at.
         ap (λ xs. slice_get xs i) put.grown
         ∙ get-left old put.more i (slice_get_within old i y (is.begins i y at))
         ∙ is.begins i y at;
     fills = elim put.stands [
-      | inl s ↦ subst (Fills place (length shared) (length shared) (ns ++ n ∷ [])) (sym s.1) (fills-shared place (length shared) (length shared) ns n (length old) is.fills s.0)
-      | inr s ↦ subst (Fills place (length shared) (length shared) (ns ++ n ∷ [])) (sym s.1) (fills-own place (length shared) (length shared) ns n (length old) is.fills s.0)
+      | inl s ↦ subst (Fills place owns (length shared) (ns ++ n ∷ [])) (sym s.2) (fills-there place owns (length shared) ns n (length old) is.fills s.0 s.1)
+      | inr s ↦ subst (Fills place owns (length shared) (ns ++ n ∷ [])) (sym s.2) (fills-own place owns (length shared) ns n (length old) is.fills s.0 s.1)
     ];
   }
 
@@ -83,36 +82,36 @@ module _ {X : Type 0} (place : StoredNode → ℕ) (shared : List X) (ns : List 
   pub record IsLeft (kept left : List X) : Type 0 where
     pub gone : List X
     pub apart : kept ≡ left ++ gone
-    pub stand : IsFilled place shared ns left
+    pub stand : IsFilled place owns shared ns left
 
-  pub filled-cut : (kept left : List X) → IsFilled place shared (ns ++ n ∷ []) kept → IsCut (length shared) (place n) kept left → IsLeft kept left
-  filled-cut kept left is cut = elim (fills-left place (length shared) (length shared) ns n (length kept) is.fills) [
+  pub filled-cut : (kept left : List X) → IsFilled place owns shared (ns ++ n ∷ []) kept → IsCut (owns n) kept left → IsLeft kept left
+  filled-cut kept left is cut = elim (fills-left place owns (length shared) ns n (length kept) is.fills) [
     | inl l ↦ elim cut [
       | inl same ↦ still l.1 same.1
-      | inr own ↦ absurd (omega (arith, l.0, own.0))
+      | inr own ↦ absurd (true≢false (sym own.0 ∙ l.0))
     ]
     | inr r ↦ elim cut [
-      | inl same ↦ absurd (omega (arith, same.0, (fills-up place (length shared) (length shared) ns (place n) r.1).0))
-      | inr own ↦ fewer r.0 r.1 own.1
+      | inl same ↦ absurd (true≢false (sym r.0 ∙ same.0))
+      | inr own ↦ fewer r.1 r.2 own.1
     ]
   ]
     where
-      still : Fills place (length shared) (length shared) ns (length kept) → left ≡ kept → IsLeft kept left
+      still : Fills place owns (length shared) ns (length kept) → left ≡ kept → IsLeft kept left
       still fills same = record {
         gone = [];
         apart = sym same ∙ sym (append-nil left);
         stand = record {
           begins = λ i x at. ap (λ xs. slice_get xs i) same ∙ is.begins i x at;
-          fills = subst (Fills place (length shared) (length shared) ns) (ap length (sym same)) fills;
+          fills = subst (Fills place owns (length shared) ns) (ap length (sym same)) fills;
         };
       }
 
-      fewer : suc (place n) ≡ length kept → Fills place (length shared) (length shared) ns (place n) → left ≡ without_last kept → IsLeft kept left
+      fewer : suc (place n) ≡ length kept → Fills place owns (length shared) ns (place n) → left ≡ without_last kept → IsLeft kept left
       fewer last fills less =
           let end = last_apart kept (omega (arith, last)) in
           let apart : kept ≡ left ++ end.0 ∷ [] = end.1 ∙ ap (λ xs. xs ++ end.0 ∷ []) (sym less) in
           let many : place n ≡ length left = omega (arith, last, ap length apart, length-append left (end.0 ∷ [])) in
-          let low : length shared ≤ place n = (fills-up place (length shared) (length shared) ns (place n) fills).0 in
+          let low : length shared ≤ place n = (fills-up place owns (length shared) ns (place n) fills).0 in
           record {
             gone = end.0 ∷ [];
             apart = apart;
@@ -121,7 +120,7 @@ module _ {X : Type 0} (place : StoredNode → ℕ) (shared : List X) (ns : List 
                   sym (get-left left (end.0 ∷ []) i (omega (arith, slice_get_within shared i x at, low, many)))
                   ∙ ap (λ xs. slice_get xs i) (sym apart)
                   ∙ is.begins i x at;
-              fills = subst (Fills place (length shared) (length shared) ns) many fills;
+              fills = subst (Fills place owns (length shared) ns) many fills;
             };
           }
 
@@ -184,8 +183,8 @@ module _ (C : List Call) (R : List Reply) where
 
   pub stored-within : (ns : List StoredNode) (ps : List ℕ) → AreStored C R ns ps → (i : ℕ) (n : StoredNode) → slice_get ns i ≡ Some n → (n.call < length C) × (n.reply < length R)
   stored-within ns ps are i n at = (
-    fills-within (λ n. n.call) (length shared_calls) (length shared_calls) ns (length C) (omega arith) are.calls_stand.fills i n at,
-    fills-within (λ n. n.reply) (length shared_replies) (length shared_replies) ns (length R) (omega arith) are.replies_stand.fills i n at,
+    fills-within (λ n. n.call) (λ n. n.owns_call) (length shared_calls) ns (length C) are.calls_stand.fills i n at,
+    fills-within (λ n. n.reply) (λ n. n.owns_reply) (length shared_replies) ns (length R) are.replies_stand.fills i n at,
   )
 
 -- the places of one that is read
@@ -201,13 +200,13 @@ pub stored-few : (C : List Call) (R : List Reply) (ns : List StoredNode) (ps : L
     → (length C < 4294967296) × (length R < 4294967296)
 stored-few C R ns ps list are is few =
     let size : length ns ≡ length list = sym (length-nodes C R ns ps are.many) ∙ ap length is in (
-      omega (arith, few, size, (fills-up (λ n. n.call) 4 4 ns (length C) are.calls_stand.fills).1),
-      omega (arith, few, size, (fills-up (λ n. n.reply) 14 14 ns (length R) are.replies_stand.fills).1),
+      omega (arith, few, size, (fills-up (λ n. n.call) (λ n. n.owns_call) 4 ns (length C) are.calls_stand.fills).1),
+      omega (arith, few, size, (fills-up (λ n. n.reply) (λ n. n.owns_reply) 14 ns (length R) are.replies_stand.fills).1),
     )
 
 -- one more
 module _ (C longer : List Call) (R wider : List Reply) (ns nodes : List StoredNode) (ps parents : List ℕ) (are : AreStored C R ns ps) (n : StoredNode) (p : ℕ) (call : Call) (reply : Reply)
-    (c : IsPut (length shared_calls) no_call C longer call n.call) (r : IsPut (length shared_replies) no_reply R wider reply n.reply)
+    (c : IsPut no_call C longer call n.call n.owns_call) (r : IsPut no_reply R wider reply n.reply n.owns_reply)
     (pushed : nodes ≡ ns ++ n ∷ []) (added : parents ≡ ps ++ p ∷ []) where
   pub stored-pushed : (process : ℕ) (list : List MomentNode) → n.process ≡ process → nodes_of C R ns ps ≡ list
       → nodes_of longer wider nodes parents ≡ list ++ record { parent = p; depth = n.depth; process = process; call = call; reply = reply } ∷ []
@@ -220,8 +219,8 @@ module _ (C longer : List Call) (R wider : List Reply) (ns nodes : List StoredNo
   pub stored-push : AreStored longer wider nodes parents
   stored-push = subst (AreStored longer wider nodes) (sym added) (subst (λ nodes. AreStored longer wider nodes (ps ++ p ∷ [])) (sym pushed) (record {
     many = omega (arith, are.many, length-append ns (n ∷ []), length-append ps (p ∷ []));
-    calls_stand = filled-put (λ n. n.call) shared_calls ns n no_call C longer call are.calls_stand c;
-    replies_stand = filled-put (λ n. n.reply) shared_replies ns n no_reply R wider reply are.replies_stand r;
+    calls_stand = filled-put (λ n. n.call) (λ n. n.owns_call) shared_calls ns n no_call C longer call are.calls_stand c;
+    replies_stand = filled-put (λ n. n.reply) (λ n. n.owns_reply) shared_replies ns n no_reply R wider reply are.replies_stand r;
   }))
 
 -- one less
@@ -230,7 +229,7 @@ pub record IsShorter (C fewer : List Call) (R less : List Reply) (ns left : List
   pub stand : AreStored fewer less left others
 
 pub stored-pop : (C fewer : List Call) (R less : List Reply) (ns left : List StoredNode) (n : StoredNode) (ps others : List ℕ) (k : ℕ) → AreStored C R ns ps → ns ≡ left ++ n ∷ [] → others ≡ take k ps → k ≡ length ps - 1
-    → IsCut (length shared_calls) n.call C fewer → IsCut (length shared_replies) n.reply R less → IsShorter C fewer R less ns left ps others
+    → IsCut n.owns_call C fewer → IsCut n.owns_reply R less → IsShorter C fewer R less ns left ps others
 stored-pop C fewer R less ns left n ps others k are apart front last c r = record {
   list =
       sym (nodes-more fewer less calls.gone replies.gone left others (stored-within fewer less left others stand))
@@ -255,11 +254,11 @@ stored-pop C fewer R less ns left n ps others k are apart front last c r = recor
     many : length others ≡ length left
     many = omega (arith, size, are.many, ap length parted, length-append others (end.0 ∷ []))
 
-    calls : IsLeft (λ n. n.call) shared_calls left n C fewer
-    calls = filled-cut (λ n. n.call) shared_calls left n C fewer (subst (λ ns. IsFilled (λ n. n.call) shared_calls ns C) apart are.calls_stand) c
+    calls : IsLeft (λ n. n.call) (λ n. n.owns_call) shared_calls left n C fewer
+    calls = filled-cut (λ n. n.call) (λ n. n.owns_call) shared_calls left n C fewer (subst (λ ns. IsFilled (λ n. n.call) (λ n. n.owns_call) shared_calls ns C) apart are.calls_stand) c
 
-    replies : IsLeft (λ n. n.reply) shared_replies left n R less
-    replies = filled-cut (λ n. n.reply) shared_replies left n R less (subst (λ ns. IsFilled (λ n. n.reply) shared_replies ns R) apart are.replies_stand) r
+    replies : IsLeft (λ n. n.reply) (λ n. n.owns_reply) shared_replies left n R less
+    replies = filled-cut (λ n. n.reply) (λ n. n.owns_reply) shared_replies left n R less (subst (λ ns. IsFilled (λ n. n.reply) (λ n. n.owns_reply) shared_replies ns R) apart are.replies_stand) r
 
     stand : AreStored fewer less left others
     stand = record { many = many; calls_stand = calls.stand; replies_stand = replies.stand }

@@ -12,6 +12,7 @@ mod new_moment;
 mod object_notes;
 mod resting_store;
 mod row_happenings;
+mod same_calls;
 mod tree_changes;
 
 pub use branches::BranchId;

@@ -2,30 +2,39 @@
 ghost use Rattle.std.specs.Prelude.{◌≡◌, ◌<◌, ◌+◌, ◌++◌, ◌∷◌, [], true, Some, IfOk, OnOk, IfSome, length, slice_get, vec_capacity};
 ghost use Rattle.std.specs.Option.{option_copied, option_map};
 ghost use Rattle.zt_history.specs.ProofsOnly.Branches.{without_last};
-ghost use Rattle.zt_history.specs.ProofsOnly.StoredNodes.{HasShared, IsCut, IsPut, caller_of, no_call, no_reply, shared_calls, shared_replies};
+ghost use Rattle.zt_history.specs.ProofsOnly.StoredNodes.{AreWithin, HasShared, IsCut, IsPut, caller_of, no_call, no_reply, shared_calls, shared_replies};
 
+use crate::same_calls::{is_same_call, is_same_reply, may_come_again};
 use std::alloc::{AllocError, Global};
 use std::marker::Model;
 use zt_bits::Status;
 use zt_rows::{Call, Koid, Moment, Reply};
 
-/// How many replies all moments share: those of a status alone.
-const SHARED_REPLIES: usize = 14;
+/// In how many moments ahead of one an equal call or reply is looked for.
+const NEAR: usize = 4;
 
-/// How many calls all moments share: those without an argument.
-const SHARED_CALLS: usize = 4;
-
-/// What is kept of one moment beside its parent: `call` and `reply` are places in lists of these.
+/// What is kept of one moment beside its parent: `call` and `reply` are places in lists of these, and those that it owns were
+/// put there for it.
 #[derive(Clone, Copy)]
 pub(crate) struct StoredNode {
     depth: u32,
     process: u32,
     call: u32,
     reply: u32,
+    owns_call: bool,
+    owns_reply: bool,
+}
+
+/// Where a call or a reply stands in its list, and whether it was put there just now.
+#[derive(Clone, Copy)]
+struct KeptAt {
+    place: u32,
+    owned: bool,
 }
 
 /// The moments after the opening in the order in which they were made. Parents stand in a list of their own, so that a path
-/// is read from few bytes. Calls and replies stand in theirs, the shared ones first, then the others as the moments come.
+/// is read from few bytes. Calls and replies stand in theirs, the shared ones first, then the others as the moments come; one
+/// that is as that of a moment shortly before, as it comes in a loop, stands once.
 #[derive(Drop)]
 pub(crate) struct MomentNodes {
     nodes: Vec<StoredNode>,
@@ -137,14 +146,16 @@ impl MomentNodes {
         requires small { process < 4294967296 }
         ensures { self.new.list ≡ self.old.list ++ record { parent = parent; depth = depth; process = process; call = call; reply = reply } ∷ [] }
     {
-        let call = put_call(&mut self.calls, call);
-        let reply = put_reply(&mut self.replies, reply);
+        let call = put_call(&mut self.calls, &self.nodes, call);
+        let reply = put_reply(&mut self.replies, &self.nodes, reply);
         self.parents.push_reserved(parent);
         self.nodes.push_reserved(StoredNode {
             depth,
             process: process.0 as u32,
-            call,
-            reply,
+            call: call.place,
+            reply: reply.place,
+            owns_call: call.owned,
+            owns_reply: reply.owned,
         });
     }
 
@@ -154,8 +165,8 @@ impl MomentNodes {
     {
         self.parents.pop();
         if let Some(node) = self.nodes.pop() {
-            cut(&mut self.calls, SHARED_CALLS, node.call);
-            cut(&mut self.replies, SHARED_REPLIES, node.reply);
+            cut(&mut self.calls, node.owns_call);
+            cut(&mut self.replies, node.owns_reply);
         }
     }
 }
@@ -209,16 +220,6 @@ fn shared_call(call: &Call) -> Option<u32>
     }
 }
 
-/// The place of a reply that all moments share.
-fn shared_reply(reply: &Reply) -> Option<u32>
-    ensures { IfSome result (λ place. slice_get shared_replies place ≡ Some reply.now) }
-{
-    match reply {
-        Reply::Status(status) => Some(shared_status(*status)),
-        _ => None,
-    }
-}
-
 /// The place of the reply that is this status alone.
 fn shared_status(status: Status) -> u32
     ensures { slice_get shared_replies result ≡ Some (Reply.Status status) }
@@ -241,45 +242,109 @@ fn shared_status(status: Status) -> u32
     }
 }
 
-/// The place of the call in the list, at whose end it is put unless it is shared.
-fn put_call(calls: &mut Vec<Call>, call: Call) -> u32
+/// Where the call stands in the list, at whose end it is put unless it stands there already.
+fn put_call(calls: &mut Vec<Call>, nodes: &Vec<StoredNode>, call: Call) -> KeptAt
     requires shared { HasShared shared_calls calls.old.items }
+    requires within { AreWithin (λ n. n.call) nodes.now.items calls.old.items }
     requires room { length calls.old.items < vec_capacity calls.old }
     requires few { length calls.old.items < 4294967296 }
-    ensures { IsPut (length shared_calls) no_call calls.old.items calls.new.items call result }
+    ensures { IsPut no_call calls.old.items calls.new.items call result.place result.owned }
 {
-    match shared_call(&call) {
-        Some(place) => place,
+    match call_there(calls, nodes, &call) {
+        Some(place) => KeptAt {
+            place,
+            owned: false,
+        },
         None => {
             let place = calls.len() as u32;
             calls.push_reserved(call);
-            place
+            KeptAt { place, owned: true }
         }
     }
 }
 
-/// The place of the reply in the list, at whose end it is put unless it is shared.
-fn put_reply(replies: &mut Vec<Reply>, reply: Reply) -> u32
+/// The place at which the call stands already, as one that all moments share or as that of a moment shortly before.
+fn call_there(calls: &Vec<Call>, nodes: &Vec<StoredNode>, call: &Call) -> Option<u32>
+    requires shared { HasShared shared_calls calls.now.items }
+    requires within { AreWithin (λ n. n.call) nodes.now.items calls.now.items }
+    ensures { IfSome result (λ place. slice_get calls.now.items place ≡ Some call.now) }
+{
+    match shared_call(call) {
+        Some(place) => Some(place),
+        None if may_come_again(call) => near_call(calls, nodes, call),
+        None => None,
+    }
+}
+
+/// The place of an equal call of one of the last few moments.
+fn near_call(calls: &Vec<Call>, nodes: &Vec<StoredNode>, call: &Call) -> Option<u32>
+    requires { AreWithin (λ n. n.call) nodes.now.items calls.now.items }
+    ensures { IfSome result (λ place. slice_get calls.now.items place ≡ Some call.now) }
+{
+    for number in nodes.len().saturating_sub(NEAR)..nodes.len() {
+        let place = nodes[number].call;
+        if is_same_call(&calls[place as usize], call) {
+            return Some(place);
+        }
+    }
+    None
+}
+
+/// Where the reply stands in the list, at whose end it is put unless it stands there already.
+fn put_reply(replies: &mut Vec<Reply>, nodes: &Vec<StoredNode>, reply: Reply) -> KeptAt
     requires shared { HasShared shared_replies replies.old.items }
+    requires within { AreWithin (λ n. n.reply) nodes.now.items replies.old.items }
     requires room { length replies.old.items < vec_capacity replies.old }
     requires few { length replies.old.items < 4294967296 }
-    ensures { IsPut (length shared_replies) no_reply replies.old.items replies.new.items reply result }
+    ensures { IsPut no_reply replies.old.items replies.new.items reply result.place result.owned }
 {
-    match shared_reply(&reply) {
-        Some(place) => place,
+    match reply_there(replies, nodes, &reply) {
+        Some(place) => KeptAt {
+            place,
+            owned: false,
+        },
         None => {
             let place = replies.len() as u32;
             replies.push_reserved(reply);
-            place
+            KeptAt { place, owned: true }
         }
     }
 }
 
-/// Drops the last element where this is its place, which it is unless the place is one of so many shared ones.
-fn cut<T: Drop>(list: &mut Vec<T>, shared: usize, place: u32)
-    ensures { IsCut shared place list.old.items list.new.items }
+/// The place at which the reply stands already, as one that all moments share or as that of a moment shortly before.
+fn reply_there(replies: &Vec<Reply>, nodes: &Vec<StoredNode>, reply: &Reply) -> Option<u32>
+    requires shared { HasShared shared_replies replies.now.items }
+    requires within { AreWithin (λ n. n.reply) nodes.now.items replies.now.items }
+    ensures { IfSome result (λ place. slice_get replies.now.items place ≡ Some reply.now) }
 {
-    if place as usize >= shared {
+    match reply {
+        Reply::Status(status) => Some(shared_status(*status)),
+        Reply::Message(_, _) | Reply::TooSmall(_, _) | Reply::Packet(_) => {
+            near_reply(replies, nodes, reply)
+        }
+        _ => None,
+    }
+}
+
+/// The place of an equal reply of one of the last few moments.
+fn near_reply(replies: &Vec<Reply>, nodes: &Vec<StoredNode>, reply: &Reply) -> Option<u32>
+    requires { AreWithin (λ n. n.reply) nodes.now.items replies.now.items }
+    ensures { IfSome result (λ place. slice_get replies.now.items place ≡ Some reply.now) }
+{
+    for number in nodes.len().saturating_sub(NEAR)..nodes.len() {
+        let place = nodes[number].reply;
+        if is_same_reply(&replies[place as usize], reply) {
+            return Some(place);
+        }
+    }
+    None
+}
+
+/// Drops the last element where it was put for the moment that goes.
+fn cut<T: Drop>(list: &mut Vec<T>, owned: bool)
+    ensures { IsCut owned list.old.items list.new.items }
+{
+    if owned {
         list.pop();
     }
 }

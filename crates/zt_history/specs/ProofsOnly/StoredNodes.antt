@@ -1,6 +1,6 @@
 -- What is kept of each moment, as a list of nodes, and as it lies in memory: nodes with the places of their calls and replies,
 -- of which some are shared. Used by proofs only.
-use Rattle.std.specs.Prelude.{◌≡◌, ◌⊎◌, ℕ, suc, ◌<◌, ◌≤◌, Bool, nat_lt, List, [], ◌∷◌, ◌++◌, length, Some, slice_get, slice_index_or}
+use Rattle.std.specs.Prelude.{◌≡◌, ◌⊎◌, ℕ, suc, ◌<◌, Bool, true, false, nat_lt, List, [], ◌∷◌, ◌++◌, length, Some, slice_get, slice_index_or}
 use Rattle.zt_bits.specs.declared.statuses.Status.TheVariants as status
 use Rattle.zt_rows.specs.declared.calls.Call.{Call}
 use Rattle.zt_rows.specs.declared.calls.Call.TheVariants as calls
@@ -81,31 +81,35 @@ nodes_of calls replies [] parents = []
 nodes_of calls replies (n ∷ ns) [] = []
 nodes_of calls replies (n ∷ ns) (p ∷ ps) = node_as calls replies n p ∷ nodes_of calls replies ns ps
 
--- each has one of so many shared places, or the next from `from` on; behind the last that is `end`
-abbrev pub Fills : (StoredNode → ℕ) → ℕ → ℕ → List StoredNode → ℕ → Type 0
-Fills place shared from [] end = from ≡ end
-Fills place shared from (n ∷ ns) end =
-    ((place n < shared) × Fills place shared from ns end) ⊎ ((place n ≡ from) × Fills place shared (suc from) ns end)
+-- each has a place before those that are taken by then, or owns the next one; behind the last that is `end`
+abbrev pub Fills : (StoredNode → ℕ) → (StoredNode → Bool) → ℕ → List StoredNode → ℕ → Type 0
+Fills place owns from [] end = from ≡ end
+Fills place owns from (n ∷ ns) end =
+    ((owns n ≡ false) × (place n < from) × Fills place owns from ns end) ⊎ ((owns n ≡ true) × (place n ≡ from) × Fills place owns (suc from) ns end)
 
--- a list of the shared ones, and of those that are no other's
-pub record IsFilled {X : Type 0} (place : StoredNode → ℕ) (shared : List X) (nodes : List StoredNode) (kept : List X) : Type 0 where
+-- a list of the shared ones, and of those that a node owns
+pub record IsFilled {X : Type 0} (place : StoredNode → ℕ) (owns : StoredNode → Bool) (shared : List X) (nodes : List StoredNode) (kept : List X) : Type 0 where
   pub begins : HasShared shared kept
-  pub fills : Fills place (length shared) (length shared) nodes (length kept)
+  pub fills : Fills place owns (length shared) nodes (length kept)
 
 pub record AreStored (calls : List Call) (replies : List Reply) (nodes : List StoredNode) (parents : List ℕ) : Type 0 where
   pub many : length parents ≡ length nodes
-  pub calls_stand : IsFilled (λ n. n.call) shared_calls nodes calls
-  pub replies_stand : IsFilled (λ n. n.reply) shared_replies nodes replies
+  pub calls_stand : IsFilled (λ n. n.call) (λ n. n.owns_call) shared_calls nodes calls
+  pub replies_stand : IsFilled (λ n. n.reply) (λ n. n.owns_reply) shared_replies nodes replies
+
+-- each place is one of the list
+abbrev pub AreWithin : {X : Type 0} → (StoredNode → ℕ) → List StoredNode → List X → Type 0
+AreWithin place nodes kept = (i : ℕ) (n : StoredNode) → slice_get nodes i ≡ Some n → place n < length kept
 
 -- ---- one more and one less
 
--- x has this place then, one of the shared ones or a new one at the end
-pub record IsPut {X : Type 0} (shared : ℕ) (none : X) (old new : List X) (x : X) (place : ℕ) : Type 0 where
+-- x has this place then, one that it had before or, where it is owned, a new one at the end
+pub record IsPut {X : Type 0} (none : X) (old new : List X) (x : X) (place : ℕ) (owned : Bool) : Type 0 where
   pub more : List X
   pub grown : new ≡ old ++ more
   pub there : slice_index_or new place none ≡ x
-  pub stands : ((place < shared) × (length new ≡ length old)) ⊎ ((place ≡ length old) × (length new ≡ suc (length old)))
+  pub stands : ((owned ≡ false) × (place < length old) × (length new ≡ length old)) ⊎ ((owned ≡ true) × (place ≡ length old) × (length new ≡ suc (length old)))
 
--- the last one goes, unless the place is one of the shared ones
-abbrev pub IsCut : {X : Type 0} → ℕ → ℕ → List X → List X → Type 0
-IsCut shared place old new = ((place < shared) × (new ≡ old)) ⊎ ((shared ≤ place) × (new ≡ without_last old))
+-- the last one goes, if it is owned
+abbrev pub IsCut : {X : Type 0} → Bool → List X → List X → Type 0
+IsCut owned old new = ((owned ≡ false) × (new ≡ old)) ⊎ ((owned ≡ true) × (new ≡ without_last old))

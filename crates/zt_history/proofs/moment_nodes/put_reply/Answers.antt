@@ -1,7 +1,7 @@
--- It stands where the shared ones stand.
-use Rattle.zt_history.specs.ProofsOnly.StoredNodes.{no_reply, shared_replies}
-use Rattle.zt_history.proofs.StoredLaws.{put-shared}
+-- It stands there already.
+use Rattle.zt_history.specs.ProofsOnly.StoredNodes.{no_reply}
+use Rattle.zt_history.proofs.StoredLaws.{put-there}
 use Rattle.zt_history.proofs.moment_nodes.put_reply.Goals as goal
 
 pub returns-in-Some : goal.returns-in-Some
-returns-in-Some c = put-shared shared_replies no_reply c.args.replies.now.items c.args.reply c.in-Some.place c.requires.shared c.in-Some.ensures
+returns-in-Some c = put-there no_reply c.args.replies.now.items c.args.reply c.in-Some.place c.in-Some.ensures
