@@ -5,3 +5,4 @@ pub mod KeepLaws
 pub mod SaveLaws
 pub mod ServeLaws
 pub mod LoadLaws
+pub mod ReadLaws

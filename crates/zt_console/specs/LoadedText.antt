@@ -1,5 +1,6 @@
 -- Why a session text is not loaded, and at which of its lines. This project's own.
-use Rattle.std.specs.Prelude.{◌≡◌, ◌⊎◌, ℕ, List, Result, Ok, Err}
+use Rattle.std.specs.Prelude.{◌≡◌, ◌⊎◌, ℕ, List, Option, Result, Ok, Err}
+use Rattle.std.specs.Io.KnownBytes.{Consumes, IsAtEnd}
 use Rattle.zt_rows.specs.declared.refusals.Refusal.{Refusal}
 use Rattle.zt_rows.specs.declared.refusals.Refusal.TheVariants as refusal
 use Rattle.zt_rows.specs.declared.saved.Saved.{Saved}
@@ -14,6 +15,13 @@ pub record IsLoadedOf (clients : ℕ) (text : List ℕ) (book : BookView) : Type
   pub read : saved_of text ≡ Ok saved
   pub loaded : loaded_saved clients saved ≡ Ok book.session
   pub begins : book ≡ book_at book.session
+
+-- so it is of a text that a reader gave, which had these bytes left before and has those after: it gave them to its end
+pub record IsLoadedOfRead (clients : ℕ) (before after : Option (List ℕ)) (book : BookView) : Type 0 where
+  pub text : List ℕ
+  pub given : Consumes before after text
+  pub ended : IsAtEnd after
+  pub loaded : IsLoadedOf clients text book
 
 -- a refusal at the number of an item, from 0, told at the line of that item: each line behind the first is one, but for
 -- skipped lines. It is told at line 0, which is none, where no line has the number, and so are want of memory and too many

@@ -3,3 +3,4 @@ pub mod Run
 pub mod LineFeed
 pub mod ClientSessions
 pub mod LoadedText
+pub mod ReadText

@@ -1,4 +1,4 @@
-//! Files of the programs: read whole, and written whole or left as they were; and how far the loading of one is.
+//! Files of the programs: read whole or in turn, and written whole or left as they were; and how far the loading of one is.
 #![tactic(auto)]
 
 mod fault;
@@ -8,5 +8,5 @@ mod whole_file;
 
 pub use fault::FileFault;
 pub use progress::Progress;
-pub use read_file::{open, read_whole};
+pub use read_file::{is_regular, open, read_rest, read_whole, rewind};
 pub use whole_file::write_whole;

@@ -1,6 +1,7 @@
 use crate::fault::{FileFault, unopened};
+use std::alloc::Global;
 use std::fs::File;
-use std::io::Read;
+use std::io::{Read, Seek};
 use std::{fs, io};
 use zt_rows::Refusal;
 
@@ -12,10 +13,31 @@ pub fn open(rt: &HostRuntime, path: &str) -> Result<File, FileFault> {
     }
 }
 
+/// Whether this is a file that can be read again from its beginning, and no pipe, device or directory.
+pub fn is_regular(file: &File) -> bool {
+    match file.metadata() {
+        Ok(metadata) => metadata.is_file(),
+        Err(_) => false,
+    }
+}
+
+/// Goes back to the beginning of a file, to read it again.
+pub fn rewind(file: &mut File) -> Result<(), FileFault> {
+    match file.rewind() {
+        Ok(()) => Ok(()),
+        Err(_) => Err(FileFault::Refused(Refusal::ReadFault)),
+    }
+}
+
 /// All bytes of a file.
 pub fn read_whole(rt: &HostRuntime, path: &str) -> Result<Vec<u8>, FileFault> {
     let mut file = open(rt, path)?;
-    let mut bytes = Vec::new(rt.alloc());
+    read_rest(rt.alloc(), &mut file)
+}
+
+/// All bytes of a file that are not read yet.
+pub fn read_rest(alloc: Global, file: &mut File) -> Result<Vec<u8>, FileFault> {
+    let mut bytes = Vec::new(alloc);
     match file.read_to_end(&mut bytes) {
         Ok(_) => Ok(bytes),
         Err(error) if error.kind() == io::ErrorKind::OutOfMemory => {

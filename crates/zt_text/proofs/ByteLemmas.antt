@@ -1,34 +1,56 @@
 -- Bytes in digits: what the digits of a line decode to, and how many bytes they are.
-use Rattle.std.proofs.Common.{◌≡◌, ℕ, ◌+◌, ◌*◌, ◌/◌, ◌%◌, ◌≤◌, ◌⊎◌, inl, inr, true, false, List, [], ◌∷◌, length, Ok, Err, Result, Some, None, refl, sym, ap, ◌∙◌, arith}
+use Rattle.std.proofs.Common.{◌≡◌, ℕ, ◌+◌, ◌*◌, ◌/◌, ◌%◌, ◌<◌, ◌≤◌, Bool, true, false, List, [], ◌∷◌, ◌++◌, length, get_or, take, set, Some, None, refl, sym, ap, ◌∙◌, append_assoc, arith}
 use Rattle.std.specs.Prelude.{◌==◌, ◌&&◌, nat_le}
 use Rattle.std.specs.Char.{digit_value}
-use Rattle.std.specs.Result.{result_ok}
 use Rattle.std.specs.List.{list_all}
+use Rattle.std.proofs.lemmas.List.{take_all, take_more, take_more_set, length-take-le}
+use Rattle.std.proofs.lemmas.List.Folds.{list_all_more}
 use Rattle.std.proofs.lemmas.Bool.{and_parts, eqb-true, eq-eqb}
 use Rattle.std.proofs.lemmas.Bool.Decides.{nat_tests}
-use Rattle.hex.specs.Hex.{decode_of, decode_sized, decode_pairs, pair_value, hex_digit_value, encode_lower, encode_with}
-use Rattle.hex.specs.declared.error.FromHexError.{FromHexError}
-use Rattle.hex.proofs.Pairs.{decode_pairs-ok_pair, cons_byte}
-use Rattle.hex.proofs.HexLemmas.{decode_of-even, decode_sized-twice, decode_sized-ok}
+use Rattle.hex.specs.Hex.{encode_lower, encode_with}
 use Rattle.zt_text.specs.Numbers.{is_hex_digit}
 use Rattle.zt_text.specs.Bytes.{hex_digit, hex_text, hex_bytes, is_digits, packet_bytes_of}
 use Rattle.zt_text.specs.ShownNumbers.{shown_bytes}
 
--- the kit's value of a digit
-digit : (b : ℕ) → is_hex_digit b ≡ true → hex_digit_value b ≡ Some (digit_value b)
-digit b h = grind (arith, nat_tests)
+-- a pair of digits more
+pushed : (s : List ℕ) (a b : ℕ) → length s % 2 ≡ 0 → hex_bytes (s ++ (a ∷ b ∷ [])) ≡ hex_bytes s ++ ((digit_value a * 16 + digit_value b) ∷ [])
+unfolding hex_bytes
+pushed [] a b even = refl
+pushed (x ∷ []) a b even = absurd (omega arith)
+pushed (x ∷ y ∷ rest) a b even = ap (λ bytes. (digit_value x * 16 + digit_value y) ∷ bytes) (pushed rest a b (omega arith))
 
-pairs : (i : ℕ) (s : List ℕ) → length s % 2 ≡ 0 → list_all is_hex_digit s ≡ true → decode_pairs i s ≡ Ok (hex_bytes s)
-unfolding decode_pairs hex_bytes
-pairs i [] even h = refl
-pairs i (a ∷ []) even h = absurd (omega arith)
-pairs i (a ∷ b ∷ rest) even h =
-    let first = and_parts (is_hex_digit a) (list_all is_hex_digit (b ∷ rest)) h in
-    let second = and_parts (is_hex_digit b) (list_all is_hex_digit rest) first.1 in
-    let high = digit a first.0 in
-    let low = digit b second.0 in
-    let pair : pair_value a b i ≡ Ok (digit_value a * 16 + digit_value b) = rw (high, low) refl in
-    decode_pairs-ok_pair i a b _ rest pair ∙ ap (cons_byte (digit_value a * 16 + digit_value b)) (pairs (i + 2) rest (omega arith) second.1)
+taken_pair : (s : List ℕ) (n : ℕ) → n + 1 < length s → take (n + 2) s ≡ take n s ++ (get_or s n 0 ∷ get_or s (n + 1) 0 ∷ [])
+taken_pair s n low =
+    let two : n + 2 ≡ (n + 1) + 1 = omega arith in
+    ap (λ m. take m s) two ∙ take_more s (n + 1) 0 low ∙ ap (λ xs. xs ++ (get_or s (n + 1) 0 ∷ [])) (take_more s n 0 (omega arith))
+    ∙ append_assoc (take n s) (get_or s n 0 ∷ []) (get_or s (n + 1) 0 ∷ [])
+
+-- and a byte more
+pub filled_more : (s bytes : List ℕ) (i high low : ℕ) → length s ≡ 2 * length bytes → i < length bytes → high ≡ digit_value (get_or s (2 * i) 0) → low ≡ digit_value (get_or s (2 * i + 1) 0)
+    → take i bytes ≡ hex_bytes (take (2 * i) s) → take (i + 1) (set bytes i (high * 16 + low)) ≡ hex_bytes (take (2 * (i + 1)) s)
+filled_more s bytes i high low pairs inside first second so_far =
+    let twice : 2 * (i + 1) ≡ 2 * i + 2 = omega arith in
+    let short : length (take (2 * i) s) ≡ 2 * i = length-take-le (2 * i) s (omega arith) in
+    let byte : digit_value (get_or s (2 * i) 0) * 16 + digit_value (get_or s (2 * i + 1) 0) ≡ high * 16 + low = omega arith in
+    take_more_set bytes i (high * 16 + low) inside
+    ∙ ap (λ bs. bs ++ ((high * 16 + low) ∷ [])) so_far
+    ∙ sym (ap (λ n. hex_bytes (take n s)) twice
+    ∙ ap hex_bytes (taken_pair s (2 * i) (omega arith))
+    ∙ pushed (take (2 * i) s) (get_or s (2 * i) 0) (get_or s (2 * i + 1) 0) (omega arith)
+    ∙ ap (λ b. hex_bytes (take (2 * i) s) ++ (b ∷ [])) byte)
+
+pub filled_all : (s bytes : List ℕ) (i : ℕ) → length s ≡ 2 * length bytes → length bytes ≤ i → take i bytes ≡ hex_bytes (take (2 * i) s) → bytes ≡ hex_bytes s
+filled_all s bytes i pairs end so_far =
+    sym (take_all i bytes end) ∙ so_far ∙ ap hex_bytes (take_all (2 * i) s (omega arith))
+
+-- a byte more is looked at
+pub looked_more : (s : List ℕ) (i : ℕ) (all here : Bool) → i < length s → all ≡ list_all is_hex_digit (take i s) → here ≡ is_hex_digit (get_or s i 0)
+    → (all && here) ≡ list_all is_hex_digit (take (i + 1) s)
+looked_more s i all here low so_far is =
+    ap (λ a. a && here) so_far ∙ ap (λ h. list_all is_hex_digit (take i s) && h) is ∙ sym (list_all_more is_hex_digit s i 0 low)
+
+pub looked_all : (s : List ℕ) (i : ℕ) (all : Bool) → length s ≤ i → all ≡ list_all is_hex_digit (take i s) → all ≡ list_all is_hex_digit s
+looked_all s i all end so_far = so_far ∙ ap (list_all is_hex_digit) (take_all i s end)
 
 -- the parts of the test
 parts : (s : List ℕ) → is_digits s ≡ true → (length s % 2 ≡ 0) × (length s ≤ 131072) × (list_all is_hex_digit s ≡ true)
@@ -37,22 +59,6 @@ parts s h =
     let numbers = and_parts (length s % 2 == 0) (nat_le (length s) 131072) all.0 in
     (eqb-true (length s % 2) 0 numbers.0, grind (arith, nat_tests), all.1)
 
--- what the digits of a line decode to
-pub decode_of-digits : (s : List ℕ) → is_digits s ≡ true → decode_of s ≡ Ok (hex_bytes s)
-decode_of-digits s h = let p = parts s h in decode_of-even s p.0 ∙ pairs 0 s p.0 p.2
-
-ok_same : (r : Result (List ℕ) FromHexError) (a b : List ℕ) → r ≡ Ok a → r ≡ Ok b → a ≡ b
-ok_same r a b ea eb = cc
-
--- what decoding the digits of a line gives
-pub decoded : (s view bytes : List ℕ) → is_digits s ≡ true → hex_bytes s ≡ view → decode_of s ≡ Ok bytes → bytes ≡ view
-decoded s view bytes h seen ok = ok_same (decode_of s) bytes (hex_bytes s) ok (decode_of-digits s h) ∙ seen
-
--- it fails for want of memory alone
-pub not_decoded : (s : List ℕ) (memory error : FromHexError) → is_digits s ≡ true → (error ≡ memory) ⊎ (decode_of s ≡ Err error) → error ≡ memory
-not_decoded s memory error h (inl same) = same
-not_decoded s memory error h (inr bad) = let good = decode_of-digits s h in cc
-
 half : (s : List ℕ) → length s % 2 ≡ 0 → 2 * length (hex_bytes s) ≡ length s
 unfolding hex_bytes
 half [] even = refl
@@ -60,14 +66,15 @@ half (a ∷ []) even = absurd (omega arith)
 half (a ∷ b ∷ rest) even = let e = half rest (omega arith) in omega (arith, e)
 
 -- they are no more bytes than a message takes
-pub length-hex_bytes : (s : List ℕ) → is_digits s ≡ true → length (hex_bytes s) ≤ 65536
-length-hex_bytes s h = let p = parts s h in let e = half s p.0 in omega (arith, e, p.1)
+pub length_hex_bytes : (s : List ℕ) → is_digits s ≡ true → length (hex_bytes s) ≤ 65536
+length_hex_bytes s h = let p = parts s h in let e = half s p.0 in omega (arith, e, p.1)
 
-pub few_decoded : (s bytes : List ℕ) → is_digits s ≡ true → decode_of s ≡ Ok bytes → length bytes ≤ 65536
-few_decoded s bytes h ok =
-    let same = ok_same (decode_of s) bytes (hex_bytes s) ok (decode_of-digits s h) in
-    let most = length-hex_bytes s h in
-    rw same most
+-- they are pairs
+pub digits_pairs : (s : List ℕ) → is_digits s ≡ true → length s ≡ 2 * (length s / 2)
+digits_pairs s h = let p = parts s h in omega (arith, p.0)
+
+pub digits_all : (s : List ℕ) → is_digits s ≡ true → list_all is_hex_digit s ≡ true
+digits_all s h = (parts s h).2
 
 -- the kit's digits of bytes
 encoded : (bytes : List ℕ) → encode_lower bytes ≡ hex_text bytes
@@ -81,26 +88,11 @@ shown_bytes-some [] some = cc some
 shown_bytes-some (byte ∷ bytes) some = encoded (byte ∷ bytes)
 
 -- what is not 64 digits long is not read
-sized : (s : List ℕ) (r : Result (List ℕ) FromHexError) → decode_sized s 32 ≡ r → (length s ≡ 64 → ⊥) → result_ok r ≡ None
-sized s (Ok bytes) e other = absurd (other (decode_sized-ok s 32 bytes e))
-sized s (Err error) e other = refl
-
--- what are not digits is not read
-pub packet_unread : (s : List ℕ) → list_all is_hex_digit s ≡ false → None ≡ packet_bytes_of s
+pub packet_unread : (s : List ℕ) → (list_all is_hex_digit s && length s == 64) ≡ false → None ≡ packet_bytes_of s
 unfolding packet_bytes_of
 packet_unread s bad = rw bad refl
 
--- what the kit reads of a packet's digits
-pub packet_read : (s : List ℕ) → list_all is_hex_digit s ≡ true → result_ok (decode_sized s 32) ≡ packet_bytes_of s
+-- 64 digits are
+pub packet_read : (s bytes : List ℕ) → list_all is_hex_digit s ≡ true → length s ≡ 64 → bytes ≡ hex_bytes s → Some bytes ≡ packet_bytes_of s
 unfolding packet_bytes_of
-packet_read s all =
-    elim (length s == 64) as (λ b. (length s == 64) ≡ b → result_ok (decode_sized s 32) ≡ packet_bytes_of s) [
-      | true ↦ λ e.
-          let len : length s ≡ 64 = eqb-true (length s) 64 e in
-          let even : length s % 2 ≡ 0 = omega arith in
-          let read : decode_sized s 32 ≡ Ok (hex_bytes s) = decode_sized-twice s 32 len ∙ decode_of-even s even ∙ pairs 0 s even all in
-          rw (read, all, e) refl
-      | false ↦ λ e.
-          let none : packet_bytes_of s ≡ None = rw (all, e) refl in
-          sized s (decode_sized s 32) refl (λ len. let same = eq-eqb (length s) 64 len in cc) ∙ sym none
-    ] refl
+packet_read s bytes all len is = let same : (length s == 64) ≡ true = eq-eqb (length s) 64 len in rw (all, same) (ap Some is)

@@ -1,11 +1,10 @@
-ghost use Rattle.std.specs.Prelude.{◌≡◌, ◌≤◌, length, IfOk, IfErr};
+ghost use Rattle.std.specs.Prelude.{◌≡◌, ◌≤◌, ◌*◌, true, length, IfOk, IfErr};
 ghost use Rattle.std.specs.List.{list_all};
 ghost use Rattle.zt_text.specs.Numbers.{is_hex_digit};
-ghost use Rattle.zt_text.specs.Bytes.{is_digits, bytes_of, packet_bytes_of};
+ghost use Rattle.zt_text.specs.Bytes.{is_digits, bytes_of, hex_bytes, packet_bytes_of};
 ghost use Rattle.zt_rows.specs.declared.refusals.Refusal.TheVariants.{OutOfMemory};
 
-use crate::numbers::is_hex_digit;
-use hex::{FromHex, FromHexError};
+use crate::numbers::{hex_value, is_hex_digit};
 use std::alloc::Global;
 use std::marker::Model;
 use zt_rows::{MESSAGE_BYTES, Refusal};
@@ -43,31 +42,45 @@ impl<'a> Digits<'a> {
     }
 
     /// The bytes in memory of their own.
+    #[tactic(auto, using(crate::proofs::ByteLemmas::digits_pairs, crate::proofs::ByteLemmas::digits_all, crate::proofs::ByteLemmas::length_hex_bytes), unfolding(crate::specs::Bytes::hex_bytes))]
     pub fn to_vec(&self, alloc: Global) -> Result<Vec<u8>, Refusal>
         ensures ok { IfOk result (λ bytes. bytes.items ≡ self.now) }
         ensures few { IfOk result (λ bytes. length bytes.items ≤ 65536) }
         ensures refused { IfErr result (λ refusal. refusal ≡ OutOfMemory) }
     {
-        match hex::decode(alloc, self.digits) {
-            Ok(bytes) => Ok(bytes),
-            Err(error) => match error {
-                FromHexError::OutOfMemory => Err(Refusal::OutOfMemory),
-                FromHexError::OddLength
-                | FromHexError::InvalidStringLength
-                | FromHexError::InvalidHexCharacter { .. } => unreachable!(),
-            },
-        }
+        let Ok(mut bytes) = vec![in alloc; 0u8; self.digits.len() / 2] else {
+            return Err(Refusal::OutOfMemory);
+        };
+        fill(self.digits, bytes.as_mut_slice());
+        Ok(bytes)
     }
 }
 
 /// The bytes of a packet that a field writes in 64 digits.
+#[tactic(auto, using(crate::proofs::ByteLemmas::packet_read), unfolding(crate::specs::Bytes::packet_bytes_of))]
 pub fn packet_bytes(field: &[u8]) -> Option<[u8; 32]>
     ensures { result ≡ packet_bytes_of field.now }
 {
-    if !is_hexadecimal(field) {
+    if field.len() != 64 || !is_hexadecimal(field) {
         return None;
     }
-    <[u8; 32] as FromHex>::from_hex(field).ok()
+    let mut bytes = [0u8; 32];
+    fill(field, &mut bytes);
+    Some(bytes)
+}
+
+/// Writes the bytes of these digits over others.
+#[inline(always)]
+fn fill(digits: &[u8], bytes: &mut [u8])
+    requires pairs { length digits.now ≡ 2 * length bytes.old }
+    requires all { list_all is_hex_digit digits.now ≡ true }
+    ensures { bytes.new ≡ hex_bytes digits.now }
+{
+    for place in 0..bytes.len() {
+        let high = hex_value(digits[2 * place]);
+        let low = hex_value(digits[2 * place + 1]);
+        bytes[place] = high * 16 + low;
+    }
 }
 
 /// Whether these are pairs of digits, for no more bytes than a message takes.
@@ -77,9 +90,14 @@ fn is_digits(field: &[u8]) -> bool
     field.len() % 2 == 0 && field.len() <= 2 * MESSAGE_BYTES && is_hexadecimal(field)
 }
 
-/// Whether each byte is a digit.
+/// Whether each byte is a digit. All are looked at, so that many are together.
+#[inline(always)]
 fn is_hexadecimal(field: &[u8]) -> bool
     ensures { result ≡ list_all is_hex_digit field.now }
 {
-    field.iter().all(|byte| is_hex_digit(*byte))
+    let mut all = true;
+    for byte in field {
+        all = all & is_hex_digit(*byte);
+    }
+    all
 }

@@ -1,4 +1,4 @@
-ghost use Rattle.std.specs.Prelude.{◌≡◌, ◌+◌, ◌-◌, ◌*◌, ◌<◌, ◌≤◌, ◌^◌, IsTrue, IfSome, length, pos};
+ghost use Rattle.std.specs.Prelude.{◌≡◌, ◌+◌, ◌-◌, ◌*◌, ◌<◌, ◌≤◌, ◌^◌, true, IsTrue, IfSome, length, pos};
 ghost use Rattle.std.specs.Option.{SomeIff, option_map};
 ghost use Rattle.std.specs.Char.{digit_value, is_ascii_digit};
 ghost use Rattle.std.specs.List.{list_all};
@@ -153,6 +153,19 @@ pub fn is_hex_digit(byte: u8) -> bool
     ensures { result ≡ is_hex_digit byte }
 {
     matches!(byte, b'0'..=b'9' | b'a'..=b'f')
+}
+
+/// What such a digit stands for.
+#[inline(always)]
+pub fn hex_value(digit: u8) -> u8
+    requires { is_hex_digit digit ≡ true }
+    ensures { result ≡ digit_value digit }
+{
+    if digit < b'a' {
+        digit - b'0'
+    } else {
+        digit - b'a' + 10
+    }
 }
 
 /// What a digit of `0` to `9` and `a` to `f` stands for.

@@ -44,6 +44,16 @@ impl<'a> SessionCalls<'a> {
         }
     }
 
+    /// All calls of some lines of such a text behind its first, numbered as though they stood right behind that.
+    pub fn of_lines(lines: &'a [u8]) -> SessionCalls<'a>
+        ensures { result ≡ record { number = 2; lines = lines_of lines.now } }
+    {
+        SessionCalls {
+            left: lines,
+            number: 2,
+        }
+    }
+
     /// The next call with its process; nothing at the end of the text. The number with a refusal is that of the line at
     /// fault, counted from 1, and 0 where memory was refused.
     #[inline(always)]

@@ -1,11 +1,11 @@
 -- A book with which a program begins has as many clients as were asked for, and nothing was answered to them.
-use Rattle.std.proofs.Common.{◌≡◌, ℕ, List, length, Result, Ok, Err, ap, ◌∙◌}
+use Rattle.std.proofs.Common.{◌≡◌, ℕ, List, length, Option, Result, Ok, Err, ap, ◌∙◌}
 use Rattle.std.specs.Prelude.{IfOk, IfErr}
 use Rattle.std.proofs.lemmas.List.{length-replicate}
 use Rattle.zt_book.specs.Log.{BookView, first_book}
 use Rattle.zt_book.specs.Session.{first_client}
 use Rattle.zt_shared.specs.Sharing.{IsFresh}
-use Rattle.zt_console.specs.LoadedText.{IsLoadedOf}
+use Rattle.zt_console.specs.LoadedText.{IsLoadedOf, IsLoadedOfRead}
 use Rattle.zxtt.specs.declared.faults.Fault.{Fault}
 use Rattle.zxtt.specs.declared.faults.Fault.TheVariants as fault
 use Rattle.zxtt.specs.Traces.{IsFaultOfText, TellsOfSomeText}
@@ -39,3 +39,10 @@ some_fault (Err reason) clients text h = told reason clients text h
 pub fresh_loaded : (r : Result BookView Fault) (clients : ℕ) (text : List ℕ) → IfOk r (λ book. length book.session.clients ≡ clients) → IfOk r (IsLoadedOf clients text) → IfOk r (IsFresh clients)
 fresh_loaded (Ok book) clients text many h = record { many = many; empty = ap (λ (b : BookView). b.log) h.begins }
 fresh_loaded (Err reason) clients text many h = tt
+
+-- A book that is loaded of what a reader gave is that of some text, and nothing was answered to its clients.
+pub read_loaded : (b : BookView) (clients : ℕ) (before after : Option (List ℕ)) → IsLoadedOfRead clients before after b → (some : List ℕ) × IsLoadedOf clients some b
+read_loaded b clients before after h = (h.text, h.loaded)
+
+pub read_is_fresh : (b : BookView) (clients : ℕ) (before after : Option (List ℕ)) → length b.session.clients ≡ clients → IsLoadedOfRead clients before after b → IsFresh clients b
+read_is_fresh b clients before after many h = record { many = many; empty = ap (λ (c : BookView). c.log) h.loaded.begins }

@@ -9,8 +9,8 @@ use crate::faults::Fault;
 use crate::trace_lines::TraceLine;
 use std::alloc::Global;
 use std::fs::File;
-use zt_console::{Book, load_text_told, main_text, tree_text};
-use zt_files::{FileFault, Progress, read_whole, write_whole};
+use zt_console::{Book, LoadProgress, load_read, load_text_told, main_text, tree_text};
+use zt_files::{FileFault, Progress, is_regular, read_rest, rewind, write_whole};
 
 /// Opens a file to be read.
 pub fn open(rt: &HostRuntime, path: &str) -> Result<File, Fault>
@@ -24,20 +24,52 @@ pub fn open(rt: &HostRuntime, path: &str) -> Result<File, Fault>
 
 /// The book of so many clients over the tree of a session text that is read from a file. A person at a terminal is told how far
 /// the loading is.
+///
+/// Where nobody is told, a text of calls is loaded while it is read. If that does not give a book, the file is read again from
+/// its beginning and whole, and what is told is the fault of that text; so where the file changed meanwhile, it is the
+/// later one that is loaded or told at fault. What cannot be read again, as a pipe, is read whole at once.
 pub fn load(rt: &HostRuntime, clients: u8, path: &str) -> Result<Book, Fault>
     ensures loaded { IfOk result (λ book. (text : List ℕ) × IsLoadedOf clients text book) }
     ensures refused { IfErr result (TellsOfSomeText clients) }
     ensures clients { IfOk result (λ book. length book.session.clients ≡ clients) }
     ensures fresh { IfOk result (IsFresh clients) }
 {
-    match read_whole(rt, path) {
-        Ok(text) => book_of(
-            rt.alloc(),
-            clients,
-            path,
-            text.as_slice(),
-            &Progress::new(rt, "zxtt"),
-        ),
+    let mut file = match open(rt, path) {
+        Ok(file) => file,
+        Err(fault) => return Err(fault),
+    };
+    let told = Progress::new(rt, "zxtt");
+    if !told.is_told() && is_regular(&file) {
+        if let Some(book) = load_read(rt.alloc(), clients, &mut file) {
+            return Ok(book);
+        }
+        if let Err(fault) = go_back(&mut file) {
+            return Err(fault);
+        }
+    }
+    let text = match rest(rt.alloc(), &mut file) {
+        Ok(text) => text,
+        Err(fault) => return Err(fault),
+    };
+    book_of(rt.alloc(), clients, path, text.as_slice(), &told)
+}
+
+/// Goes back to the beginning of a file.
+fn go_back(file: &mut File) -> Result<(), Fault>
+    ensures { (clients : ℕ) → IfErr result (TellsOfSomeText clients) }
+{
+    match rewind(file) {
+        Ok(()) => Ok(()),
+        Err(fault) => Err(Fault::of_file(fault)),
+    }
+}
+
+/// All bytes of a file that are not read yet.
+fn rest(alloc: Global, file: &mut File) -> Result<Vec<u8>, Fault>
+    ensures { (clients : ℕ) → IfErr result (TellsOfSomeText clients) }
+{
+    match read_rest(alloc, file) {
+        Ok(text) => Ok(text),
         Err(fault) => Err(Fault::of_file(fault)),
     }
 }

@@ -1,15 +1,27 @@
 -- What is loaded is loaded of the text that was read. A file that cannot be read tells of no line.
-use Rattle.zxtt.proofs.Loading.{some_loaded, some_fault, fresh_loaded}
+use Rattle.zxtt.proofs.Loading.{some_loaded, some_fault, fresh_loaded, read_loaded, read_is_fresh}
 use Rattle.zxtt.proofs.files.load.Goals as goal
 
-pub returns-in-Ok-clause-loaded : goal.returns-in-Ok-clause-loaded
-returns-in-Ok-clause-loaded c = some_loaded c.book_of.result c.args.clients _ c.book_of.ensures.loaded
-
-pub returns-in-Ok-clause-refused : goal.returns-in-Ok-clause-refused
-returns-in-Ok-clause-refused c = some_fault c.book_of.result c.args.clients _ c.book_of.ensures.refused
-
-pub returns-in-Ok-clause-fresh : goal.returns-in-Ok-clause-fresh
-returns-in-Ok-clause-fresh c = fresh_loaded c.book_of.result c.args.clients _ c.book_of.ensures.clients c.book_of.ensures.loaded
-
 pub returns-in-Err-clause-refused : goal.returns-in-Err-clause-refused
-returns-in-Err-clause-refused c = c.of_file.ensures c.args.clients
+returns-in-Err-clause-refused c = c.in-Err.ensures c.args.clients
+
+pub returns-in-Some-clause-loaded : goal.returns-in-Some-clause-loaded
+returns-in-Some-clause-loaded c = read_loaded c.in-Some.book c.args.clients _ _ c.in-Some.ensures.loaded
+
+pub returns-in-Some-clause-fresh : goal.returns-in-Some-clause-fresh
+returns-in-Some-clause-fresh c = read_is_fresh c.in-Some.book c.args.clients _ _ c.in-Some.ensures.clients c.in-Some.ensures.loaded
+
+pub returns-in-Err-go_back-clause-refused : goal.returns-in-Err-go_back-clause-refused
+returns-in-Err-go_back-clause-refused c = c.in-Err-go_back.ensures c.args.clients
+
+pub returns-in-Err-rest-clause-refused : goal.returns-in-Err-rest-clause-refused
+returns-in-Err-rest-clause-refused c = c.in-Err-rest.ensures c.args.clients
+
+pub returns-clause-loaded : goal.returns-clause-loaded
+returns-clause-loaded c = some_loaded c.book_of.result c.args.clients _ c.book_of.ensures.loaded
+
+pub returns-clause-refused : goal.returns-clause-refused
+returns-clause-refused c = some_fault c.book_of.result c.args.clients _ c.book_of.ensures.refused
+
+pub returns-clause-fresh : goal.returns-clause-fresh
+returns-clause-fresh c = fresh_loaded c.book_of.result c.args.clients _ c.book_of.ensures.clients c.book_of.ensures.loaded

@@ -1,0 +1,254 @@
+ghost use Rattle.std.specs.Prelude.{◌≡◌, ◌<◌, ◌≤◌, ◌++◌, [], true, false, Ok, length, take, IfSome};
+ghost use Rattle.zt_console.specs.LoadedText.{IsLoadedOfRead};
+ghost use Rattle.zt_console.specs.ProofsOnly.LoadedText.{with_left};
+ghost use Rattle.zt_console.specs.ProofsOnly.Run.{IsRead};
+ghost use Rattle.zt_console.specs.ProofsOnly.ReadText.{with_first, AreLoaded, AreTaken, AreWhole, IsReadSoFar, IsRowRead};
+
+use std::alloc::Global;
+use std::io::Read;
+use zt_book::{Book, CallsInARow};
+use zt_rows::CLIENTS;
+use zt_text::SessionCalls;
+use zt_text::laws::calls_one_by_one_are_those_of_the_text;
+
+/// The first line of a text of version 1.
+const FIRST: &[u8; 7] = b"zxtt 1\n";
+
+/// The most bytes of one read.
+const CHUNK: usize = 65_536;
+
+/// The most reads of one text.
+const READS: u64 = 1_099_511_627_776;
+
+/// The book of so many clients over a session text of version 1 that the reader gives to its end. Each call is loaded as its
+/// line is read, and the text is never in memory as a whole. There is no book where anything stands in the way: a text of
+/// another version, a line that does not read, a call that is refused, a read that fails, too many clients or want of memory.
+/// What the reader gave is gone then: who wants to know the fault reads the text again, and gives it to `load_text`.
+pub fn load_read<R: Read>(alloc: Global, clients: u8, reader: &mut R) -> Option<Book>
+    ensures loaded { IfSome result (IsLoadedOfRead clients (R.remaining reader.old) (R.remaining reader.new)) }
+    ensures clients { IfSome result (λ book. length book.session.clients ≡ clients) }
+{
+    calls_one_by_one_are_those_of_the_text();
+    if clients > CLIENTS {
+        return None;
+    }
+    let Some(row) = read_row(alloc, reader) else {
+        return None;
+    };
+    match row.finish(alloc, clients) {
+        Ok(book) => Some(book),
+        Err(_) => None,
+    }
+}
+
+/// All calls of the text that the reader gives, loaded.
+fn read_row<R: Read>(alloc: Global, reader: &mut R) -> Option<CallsInARow>
+    ensures { IfSome result (IsRowRead (R.remaining reader.old) (R.remaining reader.new)) }
+{
+    let Ok(mut row) = CallsInARow::new(alloc) else {
+        return None;
+    };
+    let Some(mut chunk) = buffer(alloc) else {
+        return None;
+    };
+    let mut part = Vec::new(alloc);
+    if !read_first(alloc, reader, &mut chunk, &mut row, &mut part) {
+        return None;
+    }
+    'chunks: for _ in 0..READS {
+        let Some(count) = read_some(reader, &mut chunk) else {
+            return None;
+        };
+        if count == 0 {
+            return ended(alloc, row, &part);
+        }
+        if !take_read(alloc, &mut row, &mut part, &chunk, count) {
+            return None;
+        }
+    }
+    None
+}
+
+/// What is read into, at most so much at once.
+fn buffer(alloc: Global) -> Option<Vec<u8>>
+    ensures { IfSome result (λ chunk. length chunk.items ≡ 65536) }
+{
+    match vec![in alloc; 0u8; CHUNK] {
+        Ok(chunk) => Some(chunk),
+        Err(_) => None,
+    }
+}
+
+/// Reads into the front of the buffer, and tells how many bytes; none at the end alone. Nothing, where the read fails.
+fn read_some<R: Read>(reader: &mut R, chunk: &mut Vec<u8>) -> Option<usize>
+    requires { length chunk.old.items ≡ 65536 }
+    ensures room { length chunk.new.items ≡ 65536 }
+    ensures read { IfSome result (IsRead (R.remaining reader.old) (R.remaining reader.new) chunk.new.items) }
+{
+    match reader.read(chunk.as_mut_slice()) {
+        Ok(count) => Some(count),
+        Err(_) => None,
+    }
+}
+
+/// Reads the first bytes of a text of version 1, and takes what stands behind its first line.
+fn read_first<R: Read>(
+    alloc: Global,
+    reader: &mut R,
+    chunk: &mut Vec<u8>,
+    row: &mut CallsInARow,
+    part: &mut Vec<u8>,
+) -> bool
+    requires room { length chunk.old.items ≡ 65536 }
+    requires none { row.old ≡ [] }
+    requires nothing { part.old.items ≡ [] }
+    ensures room { length chunk.new.items ≡ 65536 }
+    ensures begun { result ≡ true → IsReadSoFar (R.remaining reader.old) (R.remaining reader.new) row.new part.new.items }
+{
+    let Some(count) = read_some(reader, chunk) else {
+        return false;
+    };
+    let (bytes, _) = chunk.as_slice().split_at(count);
+    let Some(left) = behind_first(bytes) else {
+        return false;
+    };
+    take_bytes(alloc, row, part, left)
+}
+
+/// What stands behind the first line of a text of version 1, where that is read whole.
+fn behind_first(bytes: &[u8]) -> Option<&[u8]>
+    ensures { IfSome result (λ left. bytes.now ≡ with_first left.now) }
+{
+    if bytes.len() < FIRST.len() {
+        return None;
+    }
+    let (first, left) = bytes.split_at(FIRST.len());
+    if first == FIRST.as_slice() {
+        Some(left)
+    } else {
+        None
+    }
+}
+
+/// The calls, where those of the last line are loaded, too, which no line feed ends.
+fn ended(alloc: Global, row: CallsInARow, part: &Vec<u8>) -> Option<CallsInARow>
+    ensures { IfSome result (AreLoaded part.now.items row) }
+{
+    let mut all = row;
+    if put_lines(alloc, &mut all, part.as_slice()) {
+        Some(all)
+    } else {
+        None
+    }
+}
+
+/// Takes so many bytes that were read.
+fn take_read(
+    alloc: Global,
+    row: &mut CallsInARow,
+    part: &mut Vec<u8>,
+    chunk: &Vec<u8>,
+    count: usize,
+) -> bool
+    requires { count ≤ length chunk.now.items }
+    ensures { result ≡ true → AreTaken (part.old.items ++ take count chunk.now.items) row.old row.new part.new.items }
+{
+    let (bytes, _) = chunk.as_slice().split_at(count);
+    take_bytes(alloc, row, part, bytes)
+}
+
+/// Takes more bytes of the text, of whose last line this part is read. The calls of each line that ends there are loaded.
+fn take_bytes(alloc: Global, row: &mut CallsInARow, part: &mut Vec<u8>, bytes: &[u8]) -> bool
+    ensures { result ≡ true → AreTaken (part.old.items ++ bytes.now) row.old row.new part.new.items }
+{
+    let Some((lines, rest)) = whole_lines(bytes) else {
+        return go_on(part, bytes);
+    };
+    if !take_lines(alloc, row, part, lines) {
+        return false;
+    }
+    part.clear();
+    go_on(part, rest)
+}
+
+/// Keeps more bytes of a line.
+fn go_on(part: &mut Vec<u8>, bytes: &[u8]) -> bool
+    ensures { result ≡ true → part.new.items ≡ part.old.items ++ bytes.now }
+{
+    match part.extend_from_slice(bytes) {
+        Ok(()) => true,
+        Err(_) => false,
+    }
+}
+
+/// Takes lines that end here, of the first of which this part is read already.
+fn take_lines(alloc: Global, row: &mut CallsInARow, part: &mut Vec<u8>, lines: &[u8]) -> bool
+    ensures { result ≡ true → AreLoaded (part.old.items ++ lines.now) row.old row.new }
+{
+    let Some((first, others)) = whole_line(lines) else {
+        return false;
+    };
+    if !go_on(part, first) {
+        return false;
+    }
+    if !put_lines(alloc, row, part.as_slice()) {
+        return false;
+    }
+    put_lines(alloc, row, others)
+}
+
+/// The bytes up to the last line feed, and those behind it.
+fn whole_lines(bytes: &[u8]) -> Option<(&[u8], &[u8])>
+    ensures { IfSome result (λ parts. AreWhole bytes.now parts.0.now parts.1.now) }
+{
+    'places: for place in (0..bytes.len()).rev() {
+        if bytes[place] == b'\n' {
+            return Some(bytes.split_at(place + 1));
+        }
+    }
+    None
+}
+
+/// The bytes up to the first line feed, and those behind it.
+fn whole_line(bytes: &[u8]) -> Option<(&[u8], &[u8])>
+    ensures { IfSome result (λ parts. AreWhole bytes.now parts.0.now parts.1.now) }
+{
+    'places: for place in 0..bytes.len() {
+        if bytes[place] == b'\n' {
+            return Some(bytes.split_at(place + 1));
+        }
+    }
+    None
+}
+
+/// Loads the calls of these lines, and tells whether each was.
+fn put_lines(alloc: Global, row: &mut CallsInARow, lines: &[u8]) -> bool
+    ensures { result ≡ true → AreLoaded lines.now row.old row.new }
+{
+    let mut left = SessionCalls::of_lines(lines);
+    'calls: loop {
+        match put_next(alloc, row, &mut left) {
+            Some(true) => {}
+            Some(false) => return true,
+            None => return false,
+        }
+    }
+}
+
+/// Loads the next call, and tells whether there was one. Nothing, where it is not loaded.
+#[inline(always)]
+fn put_next(alloc: Global, row: &mut CallsInARow, left: &mut SessionCalls<'_>) -> Option<bool>
+    ensures whole { IfSome result (λ some. some ≡ true → with_left row.new left.new ≡ with_left row.old left.old) }
+    ensures shorter { IfSome result (λ some. some ≡ true → length left.new.lines < length left.old.lines) }
+    ensures end { IfSome result (λ some. some ≡ false → with_left row.old left.old ≡ Ok row.new) }
+{
+    calls_one_by_one_are_those_of_the_text();
+    match left.next(alloc) {
+        Ok(Some((process, call))) => match row.push(process, call) {
+            Ok(()) => Some(true),
+            Err(_) => None,
+        },
+        Ok(None) => Some(false),
+        Err(_) => None,
+    }
+}
