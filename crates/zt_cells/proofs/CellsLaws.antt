@@ -11,11 +11,12 @@ use Rattle.zt_rows.specs.ProofsOnly.KeyOrder.{rowkey_eq-equal}
 use Rattle.zt_rows.specs.Room.{SuitsKey}
 use Rattle.zt_rows.specs.State.{State, row, put}
 use Rattle.zt_rows.proofs.StateLaws.{row-put, same_state}
-use Rattle.zt_cells.specs.ProofsOnly.TablePlaces.{cell, table, cell_at, lengths, by_owner, entry, entry_places, IsFirstCell}
+use Rattle.zt_cells.specs.ProofsOnly.TablePlaces.{cell, table, cell_at, lengths, by_owner, entry, entry_places, IsNextCell}
 use Rattle.zt_cells.specs.ProofsOnly.RowTables.{row_tables_in, row_tables_of, look, sizes_of, places_in, state_in, Exchanged, Widened, IsCells}
 use Rattle.zt_cells.specs.CellsView.{CellsView}
 use Rattle.zt_cells.specs.TableSizes.{TableSizes, place_of, length_at, has_place, waits_after, objects_after}
-use Rattle.zt_cells.specs.FirstNumber.{IsFirst}
+use Rattle.zt_cells.specs.FirstNumber.{IsFirst, IsNextFrom}
+use Rattle.zt_cells.specs.ProofsOnly.NextValues.{IsNextValue}
 use Rattle.zt_cells.specs.declared.cells.row_tables.RowTables.{RowTables}
 use Rattle.zt_cells.specs.declared.cells.row_tables.OwnedTables.{OwnedTables}
 use Rattle.zt_cells.proofs.GridLaws.{length_table, length_entry_table}
@@ -158,19 +159,39 @@ row-wait c s is n = row-seen c s is (key.Wait n)
 
 -- ---- the first, and the ends
 
-first-seen : (places : List (Option Row)) (S : State) (key_of : ℕ → RowKey) → ((n : ℕ) → row S (key_of n) ≡ cell places n) → (found : Option ℕ) → IsFirstCell places found → IsFirst S key_of found
+first-seen : (places : List (Option Row)) (S : State) (key_of : ℕ → RowKey) → ((n : ℕ) → row S (key_of n) ≡ cell places n) → (found : Option ℕ) → IsNextCell places 0 found → IsFirst S key_of found
 first-seen places S key_of is (Some n) h =
-    (subst (λ r. IsSome r) (sym (is n)) h.0, λ m lt. is m ∙ h.1 m lt)
-first-seen places S key_of is None h = λ n. is n ∙ h n
+    (subst (λ r. IsSome r) (sym (is n)) h.there, λ m lt. is m ∙ h.first m (omega arith) lt)
+first-seen places S key_of is None h = λ n. is n ∙ h n (omega arith)
+
+next-seen : (places : List (Option Row)) (S : State) (key_of : ℕ → RowKey) → ((n : ℕ) → row S (key_of n) ≡ cell places n) → (from : ℕ) (found : Option ℕ) → IsNextCell places from found → IsNextFrom S key_of from found
+next-seen places S key_of is from (Some n) h = record {
+  from_there = h.from_there;
+  there = subst (λ r. IsSome r) (sym (is n)) h.there;
+  least = λ m le lt. is m ∙ h.first m le lt;
+}
+next-seen places S key_of is from None h = λ n le. is n ∙ h n le
 
 -- an owner is given as it was read, x, and as it was asked for, y
-pub first-message : (c : RowTables) (s : CellsView) → seen_as c ≡ s → (x y : ℕ) → x ≡ y → (found : Option ℕ) → IsFirstCell (table c.messages x) found → IsFirst s.state (λ n. key.Msg y n) found
+pub first-message : (c : RowTables) (s : CellsView) → seen_as c ≡ s → (x y : ℕ) → x ≡ y → (found : Option ℕ) → IsNextCell (table c.messages x) 0 found → IsFirst s.state (λ n. key.Msg y n) found
 first-message c s is x y e found h =
     first-seen (table c.messages x) s.state (λ n. key.Msg y n) (λ n. row-message c s is y n ∙ ap (λ z. cell_at c.messages z n) (sym e)) found h
 
-pub first-packet : (c : RowTables) (s : CellsView) → seen_as c ≡ s → (x y : ℕ) → x ≡ y → (found : Option ℕ) → IsFirstCell (table c.packets x) found → IsFirst s.state (λ n. key.Packet y n) found
+pub first-packet : (c : RowTables) (s : CellsView) → seen_as c ≡ s → (x y : ℕ) → x ≡ y → (found : Option ℕ) → IsNextCell (table c.packets x) 0 found → IsFirst s.state (λ n. key.Packet y n) found
 first-packet c s is x y e found h =
     first-seen (table c.packets x) s.state (λ n. key.Packet y n) (λ n. row-packet c s is y n ∙ ap (λ z. cell_at c.packets z n) (sym e)) found h
+
+pub next-packet : (c : RowTables) (s : CellsView) → seen_as c ≡ s → (x y : ℕ) → x ≡ y → (from : ℕ) (found : Option ℕ) → IsNextCell (table c.packets x) from found → IsNextFrom s.state (λ n. key.Packet y n) from found
+next-packet c s is x y e from found h =
+    next-seen (table c.packets x) s.state (λ n. key.Packet y n) (λ n. row-packet c s is y n ∙ ap (λ z. cell_at c.packets z n) (sym e)) from found h
+
+pub next-entry : (c : RowTables) (s : CellsView) → seen_as c ≡ s → (p from : ℕ) (found : Option ℕ) → IsNextValue c.entries p from (λ r. r < 4) found → IsNextFrom s.state (λ h. key.Entry p h) from found
+next-entry c s is p from (Some h) at = record {
+  from_there = at.from_there;
+  there = subst (λ r. IsSome r) (sym (row-entry c s is p h)) at.there;
+  least = λ g le lt. row-entry c s is p g ∙ at.least g (omega arith) le lt;
+}
+next-entry c s is p from None none = λ g le. row-entry c s is p g ∙ none g (omega arith) le
 
 past : (places : List (Option Row)) (len n : ℕ) → len ≡ length places → len ≤ n → cell places n ≡ None
 past places len n e le = get_or_past places n None (omega arith)

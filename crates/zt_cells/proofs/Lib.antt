@@ -1,3 +1,7 @@
+pub mod BitLaws
+pub mod MarkLaws
+pub mod MarkedPlaceLaws
+pub mod NextValueLaws
 pub mod PlaceLaws
 pub mod GridLaws
 pub mod RowTableLaws

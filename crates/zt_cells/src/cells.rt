@@ -10,10 +10,14 @@ ghost use Rattle.zt_cells.specs.AlikeObjects.{AlikeExchanged};
 ghost use Rattle.zt_cells.specs.BareRows.{row_under};
 ghost use Rattle.zt_cells.specs.TableSizes.{objects_after, waits_after, has_place, no_sizes};
 ghost use Rattle.zt_cells.specs.CellsView.{CellsView};
-ghost use Rattle.zt_cells.specs.FirstNumber.{IsFirst};
+ghost use Rattle.zt_cells.specs.FirstNumber.{IsFirst, IsNextFrom};
 
 mod alike_objects;
 mod handle_tables;
+mod mark_levels;
+mod mark_words;
+mod marked_table;
+mod marks;
 mod place;
 mod row_tables;
 mod table;
@@ -227,22 +231,37 @@ impl Cells {
         })
     }
 
-    /// The least number of a message in the endpoint's queue. It takes no memory, and walks over no message that
-    /// was taken from the front.
+    /// The least number of a message in the endpoint's queue. It takes no memory, and walks over no message that went.
     pub fn first_message(&self, endpoint: Koid) -> Option<u64>
         ensures { IsFirst self.now.state (λ n. key_variant.Msg endpoint n) result }
     {
         let row_tables = self.tables.row_tables();
-        row_tables.messages.first(endpoint.0 as usize)
+        row_tables.messages.next_from(endpoint.0 as usize, 0)
     }
 
-    /// The least number of a packet in the port. It takes no memory, and walks over no packet that was taken from
-    /// the front.
+    /// The least number of a packet in the port. It takes no memory, and walks over no packet that went.
     pub fn first_packet(&self, port: Koid) -> Option<u64>
         ensures { IsFirst self.now.state (λ n. key_variant.Packet port n) result }
     {
         let row_tables = self.tables.row_tables();
-        row_tables.packets.first(port.0 as usize)
+        row_tables.packets.next_from(port.0 as usize, 0)
+    }
+
+    /// The least number from this one on of a packet in the port. It takes no memory, and walks over no packet that went.
+    pub fn next_packet(&self, port: Koid, from: u64) -> Option<u64>
+        ensures { IsNextFrom self.now.state (λ n. key_variant.Packet port n) from result }
+    {
+        let row_tables = self.tables.row_tables();
+        row_tables.packets.next_from(port.0 as usize, from)
+    }
+
+    /// The least value from this one on under which the process has an entry. It takes no memory, and walks over no handle
+    /// that was closed.
+    pub fn next_entry(&self, process: Koid, from: u64) -> Option<HandleValue>
+        ensures { IsNextFrom self.now.state (λ h. key_variant.Entry process h) from result }
+    {
+        let row_tables = self.tables.row_tables();
+        row_tables.entries.next_from(process, from)
     }
 
     // ---- where walks over all rows end

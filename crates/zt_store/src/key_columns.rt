@@ -86,8 +86,8 @@ fn stands(cells: &Cells, key: RowKey) -> bool
     cells.row(key).is_some()
 }
 
-/// The least value above the low one, or of all, under which the process has an entry. It looks at the places of this
-/// process alone.
+/// The least value above the low one, or of all, under which the process has an entry. It takes no memory, and walks over no
+/// handle that was closed.
 pub(crate) fn handle_of(
     cells: &Cells,
     process: Koid,
@@ -95,14 +95,7 @@ pub(crate) fn handle_of(
 ) -> Option<HandleValue>
     ensures { IsNext (has_entry cells.now.state process) low result }
 {
-    let from = value_above(low);
-    for value in from..values_end(cells, process) {
-        let handle = HandleValue(value as u32);
-        if stands(cells, RowKey::Entry(process, handle)) {
-            return Some(handle);
-        }
-    }
-    None
+    cells.next_entry(process, value_above(low))
 }
 
 /// The least number above the low value, or of all.
@@ -115,8 +108,8 @@ fn value_above(low: Option<HandleValue>) -> u64
     }
 }
 
-/// The least number above the low one, or of all, of a packet in the port. It looks at the places of this port alone, and at none
-/// below its first packet.
+/// The least number above the low one, or of all, of a packet in the port. It takes no memory, and walks over no packet that
+/// went.
 pub(crate) fn packet_of(cells: &Cells, port: Koid, low: Option<u64>) -> Option<u64>
     ensures { IsNext (has_packet cells.now.state port) low result }
 {
@@ -130,16 +123,11 @@ pub(crate) fn packet_of(cells: &Cells, port: Koid, low: Option<u64>) -> Option<u
 fn packet_behind(cells: &Cells, port: Koid, number: u64) -> Option<u64>
     ensures { IsNext (has_packet cells.now.state port) (Some number) result }
 {
-    let end = cells.packets_end(port);
-    if number >= end {
-        return None;
+    if number < cells.packets_end(port) {
+        cells.next_packet(port, number + 1)
+    } else {
+        None
     }
-    for behind in number + 1..end {
-        if stands(cells, RowKey::Packet(port, behind)) {
-            return Some(behind);
-        }
-    }
-    None
 }
 
 /// The first key of the column from this number on, which is then the least of all from there on.

@@ -1,5 +1,5 @@
 -- Places for rows: a table of places from 0 on, and tables by owner, one for each from 0 on. Used by proofs only.
-use Rattle.std.specs.Prelude.{◌≡◌, ◌≢◌, ◌≤◌, ◌<◌, ◌-◌, ◌^◌, ◌%◌, ◌/◌, ℕ, List, [], Option, None, IsSome, slice_index_or, slice_set, length, map}
+use Rattle.std.specs.Prelude.{◌≡◌, ◌≤◌, ◌<◌, ◌^◌, ◌%◌, ◌/◌, ℕ, List, [], Option, None, IsSome, slice_index_or, slice_set, length, map}
 use Rattle.std.specs.List.{sum}
 use Rattle.std.specs.Option.{MatchOption}
 use Rattle.zt_rows.specs.declared.rows.Row.{Row}
@@ -24,40 +24,16 @@ set_at tables x n row = slice_set tables x (slice_set (table tables x) n row)
 abbrev pub lengths : List (List (Option Row)) → List ℕ
 lengths tables = map length tables
 
--- below this place all places are empty
-abbrev pub IsEmptyBelow : List (Option Row) → ℕ → Type 0
-IsEmptyBelow places low = (n : ℕ) → n < low → cell places n ≡ None
+-- from this place on this one is the first with a row
+pub record IsNextCellAt (places : List (Option Row)) (from n : ℕ) : Type 0 where
+  pub from_there : from ≤ n
+  pub there : IsSome (cell places n)
+  pub first : (m : ℕ) → from ≤ m → m < n → cell places m ≡ None
 
--- below the low place and from the end on all places are empty, and where the one is below the other there is a row at the low
--- one
-pub record HasBounds (places : List (Option Row)) (low end : ℕ) : Type 0 where
-  pub below : IsEmptyBelow places low
-  pub beyond : (n : ℕ) → end ≤ n → cell places n ≡ None
-  pub first : low < end → IsSome (cell places low)
-
--- the places have these bounds, and are so few that their numbers are small
-pub record IsTable (places : List (Option Row)) (low end : ℕ) : Type 0 where
-  pub bounds : HasBounds places low end
-  pub few : length places < 2 ^ 32 - 1
-
--- the same bounds but for what stands at one place
-pub record HasBoundsBut (places : List (Option Row)) (low end i : ℕ) : Type 0 where
-  pub below : (n : ℕ) → n < low → n ≢ i → cell places n ≡ None
-  pub beyond : (n : ℕ) → end ≤ n → n ≢ i → cell places n ≡ None
-  pub first : low < end → low ≢ i → IsSome (cell places low)
-
--- these bounds hold the former ones and the place i, and what is new in them is that place alone
-pub record IsWider (low end i low' end' : ℕ) : Type 0 where
-  pub above : low' ≤ i
-  pub within : i < end'
-  pub below : (n : ℕ) → n < low' → low < end → n < low
-  pub beyond : (n : ℕ) → end' ≤ n → low < end → end ≤ n
-  pub first : low' ≢ i → (low < end) × (low' ≡ low)
-
--- the first place with a row, or none where all places are empty
-abbrev pub IsFirstCell : List (Option Row) → Option ℕ → Type 0
-IsFirstCell places found =
-    MatchOption found ((n : ℕ) → cell places n ≡ None) (λ n. IsSome (cell places n) × IsEmptyBelow places n)
+-- the first place with a row from this one on, or none where all from there on are empty
+abbrev pub IsNextCell : List (Option Row) → ℕ → Option ℕ → Type 0
+IsNextCell places from found =
+    MatchOption found ((n : ℕ) → from ≤ n → cell places n ≡ None) (IsNextCellAt places from)
 
 -- the tables of the entries whose values leave this remainder
 abbrev pub by_owner : List (List (List (Option Row))) → ℕ → List (List (Option Row))

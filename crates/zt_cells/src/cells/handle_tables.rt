@@ -1,6 +1,7 @@
-ghost use Rattle.std.specs.Prelude.{◌≡◌, ◌≤◌, ◌<◌, ◌+◌, ◌-◌, ◌/◌, ◌%◌, ◌*◌, ◌^◌, ℕ, List, [], ◌∷◌, length, IfOk, OnOk, OnErr, None, nat_lt};
+ghost use Rattle.std.specs.Prelude.{◌≡◌, ◌≤◌, ◌<◌, ◌↔◌, ◌+◌, ◌-◌, ◌/◌, ◌%◌, ◌*◌, ◌^◌, ℕ, List, [], ◌∷◌, length, IfOk, OnOk, OnErr, None, nat_lt};
 ghost use Rattle.std.specs.Option.{option_copied};
 ghost use Rattle.zt_cells.specs.BareRows.{row_in};
+ghost use Rattle.zt_cells.specs.ProofsOnly.NextValues.{lesser_of, IsNextValue};
 ghost use Rattle.zt_cells.specs.ProofsOnly.TablePlaces.{entry, entry_places, entry_table, set_entry, by_owner, table};
 
 use crate::cells::tables_by_owner::TablesByOwner;
@@ -91,6 +92,31 @@ impl Entries {
         by_owner.grow(process.0 as usize, len)
     }
 
+    /// The least value of an entry of the process from this one on. It takes no memory, and walks over no value.
+    pub fn next_from(&self, process: Koid, from: u64) -> Option<HandleValue>
+        ensures { IsNextValue self.now process from (λ r. r < 4) result }
+    {
+        let mut least = None;
+        for remainder in 0..4 {
+            let next = self.next_in(process, from, remainder);
+            least = lesser(least, next);
+        }
+        least
+    }
+
+    /// The least value of an entry of the process from this one on that leaves the remainder.
+    fn next_in(&self, process: Koid, from: u64, remainder: usize) -> Option<HandleValue>
+        requires { remainder < 4 }
+        ensures { IsNextValue self.now process from (λ r. r ≡ remainder) result }
+    {
+        let by_owner = &self.sizes[remainder];
+        let low = quotient_from(from, remainder as u64);
+        match by_owner.next_from(process.0 as usize, low) {
+            Some(quotient) => Some(HandleValue((4 * quotient + remainder as u64) as u32)),
+            None => None,
+        }
+    }
+
     /// What holds of the entries: none stands under a number that is no handle value.
     pub fn limits(&self)
         ensures { (x h : ℕ) → 2 ^ 32 ≤ h → entry self.now x h ≡ None }
@@ -145,4 +171,27 @@ fn quotient(value: HandleValue) -> usize
     ensures few { result < 2 ^ 30 }
 {
     (value.0 / 4) as usize
+}
+
+/// The least quotient of a value from this one on that leaves the remainder.
+fn quotient_from(from: u64, remainder: u64) -> u64
+    requires { remainder < 4 }
+    ensures { (n : ℕ) → (result ≤ n) ↔ (from ≤ 4 * n + remainder) }
+{
+    if from % 4 <= remainder {
+        from / 4
+    } else {
+        from / 4 + 1
+    }
+}
+
+/// The lesser of two values, where there is one.
+fn lesser(a: Option<HandleValue>, b: Option<HandleValue>) -> Option<HandleValue>
+    ensures { result ≡ lesser_of a b }
+{
+    match (a, b) {
+        (Some(a), Some(b)) => Some(a.min(b)),
+        (Some(a), None) => Some(a),
+        (None, b) => b,
+    }
 }

@@ -3,7 +3,7 @@ ghost use Rattle.std.specs.Vec.{vec_capacity};
 ghost use Rattle.std.specs.Option.{option_copied};
 ghost use Rattle.zt_cells.specs.BareRows.{row_in};
 ghost use Rattle.zt_cells.specs.ProofsOnly.AlikeRows.{AlikeCells};
-ghost use Rattle.zt_cells.specs.ProofsOnly.TablePlaces.{cell, HasBounds, HasBoundsBut, IsFirstCell, IsWider};
+ghost use Rattle.zt_cells.specs.ProofsOnly.TablePlaces.{cell};
 
 use crate::cells::place::Place;
 use std::alloc::{AllocError, Global};
@@ -14,30 +14,20 @@ use zt_rows::{ObjectRow, Row};
 #[derive(Drop)]
 pub(crate) struct Table {
     places: Vec<Place>,
-    bounds: Bounds,
 }
 
-/// Between which places rows stand: below `low` and from `end` on all places are empty, and where `low` is below `end` there
-/// is a row at `low`. So the first row is found by one look, also where many went from the middle, or all.
-#[derive(Clone, Copy)]
-struct Bounds {
-    low: u32,
-    end: u32,
-}
-
-/// How many places a table has at most, so that its bounds are small numbers, and so is one more than there are objects.
-const MOST_IN_TABLE: usize = u32::MAX as usize - 1;
+/// How many places a table has at most, so that one more than there are objects is a small number.
+pub(crate) const MOST_IN_TABLE: usize = u32::MAX as usize - 1;
 
 impl Model for Table {
-    ghost use Rattle.std.specs.Prelude.{List, Option};
+    ghost use Rattle.std.specs.Prelude.{List, Option, length, ◌<◌, ◌-◌, ◌^◌};
     ghost use Rattle.zt_rows.specs.declared.rows.Row.{Row};
-    ghost use Rattle.zt_cells.specs.ProofsOnly.TablePlaces.{IsTable};
 
     ghost Value = { List (Option Row) };
 
     ghost view = { λ t. t.places.items };
 
-    ghost invariant = { λ t. IsTable t.places.items t.bounds.low t.bounds.end };
+    ghost invariant = { λ t. length t.places.items < 2 ^ 32 - 1 };
 }
 
 impl Table {
@@ -47,7 +37,6 @@ impl Table {
     {
         Table {
             places: Vec::new(alloc),
-            bounds: Bounds { low: 0, end: 0 },
         }
     }
 
@@ -56,6 +45,10 @@ impl Table {
         ensures { result ≡ length self.now }
     {
         self.places.len()
+    }
+
+    pub fn allocator(&self) -> Global {
+        *self.places.allocator()
     }
 
     /// What holds of the places: there are not too many.
@@ -97,6 +90,7 @@ impl Table {
     }
 
     /// Exchanges the row, or none, with what stands at the place. It takes no memory.
+    #[inline(always)]
     pub fn exchange(&mut self, index: usize, kept: &mut Row)
         requires { index < length self.old }
         ensures put { self.new ≡ slice_set self.old index (row_in kept.old) }
@@ -104,11 +98,9 @@ impl Table {
     {
         let place = &mut self.places[index];
         place.exchange(kept);
-        self.bounds = bounds_with(self.places.as_slice(), self.bounds, index);
     }
 
-    /// Exchanges the object with the one at the place, if there is one alike, and says whether there is. It takes no memory,
-    /// and no bound moves.
+    /// Exchanges the object with the one at the place, if there is one alike, and says whether there is. It takes no memory.
     #[inline(always)]
     pub fn exchange_alike(&mut self, index: usize, object: &mut ObjectRow) -> bool
         requires { index < length self.old }
@@ -119,17 +111,6 @@ impl Table {
         place.exchange_alike(object)
     }
 
-    /// The first place with a row, by one look. It takes no memory.
-    pub fn first(&self) -> Option<u64>
-        ensures { IsFirstCell self.now result }
-    {
-        if self.bounds.low < self.bounds.end {
-            Some(self.bounds.low as u64)
-        } else {
-            None
-        }
-    }
-
     /// An equal table in memory of its own.
     pub fn copy(&self) -> Result<Table, AllocError>
         ensures { IfOk result (λ copied. copied ≡ self.now) }
@@ -138,10 +119,7 @@ impl Table {
         for place in &self.places {
             places.push(place.copy()?)?;
         }
-        Ok(Table {
-            places,
-            bounds: self.bounds,
-        })
+        Ok(Table { places })
     }
 }
 
@@ -160,74 +138,4 @@ fn make_room(places: &mut Vec<Place>, len: usize) -> Result<(), AllocError>
     } else {
         places.reserve(more)
     }
-}
-
-/// The bounds of these places, which had those but for the one at the index.
-fn bounds_with(places: &[Place], bounds: Bounds, index: usize) -> Bounds
-    requires there { index < length places.now }
-    requires few { length places.now < 2 ^ 32 }
-    requires but_one { HasBoundsBut places.now bounds.low bounds.end index }
-    ensures { HasBounds places.now result.low result.end }
-{
-    if places[index].is_empty() {
-        narrower(places, bounds, index as u32)
-    } else {
-        wider(bounds, index as u32)
-    }
-}
-
-/// The bounds with a row at the index.
-fn wider(bounds: Bounds, index: u32) -> Bounds
-    requires { index < 2 ^ 32 - 1 }
-    ensures { IsWider bounds.low bounds.end index result.low result.end }
-{
-    if bounds.low < bounds.end {
-        Bounds {
-            low: bounds.low.min(index),
-            end: bounds.end.max(index + 1),
-        }
-    } else {
-        Bounds {
-            low: index,
-            end: index + 1,
-        }
-    }
-}
-
-/// The bounds with no row at the index. Where the first row went it walks to the next, over what went from the middle.
-fn narrower(places: &[Place], bounds: Bounds, index: u32) -> Bounds
-    requires but_one { HasBoundsBut places.now bounds.low bounds.end index }
-    requires empty { cell places.now index ≡ None }
-    ensures { HasBounds places.now result.low result.end }
-{
-    let end = if bounds.end.checked_sub(1) == Some(index) {
-        index
-    } else {
-        bounds.end
-    };
-    if bounds.low == index {
-        Bounds {
-            low: first_from(places, index, end),
-            end,
-        }
-    } else {
-        Bounds {
-            low: bounds.low,
-            end,
-        }
-    }
-}
-
-/// The first place with a row from this one on and below the end, or the end, or this one, whichever is greater.
-fn first_from(places: &[Place], from: u32, end: u32) -> u32
-    ensures empty { (n : ℕ) → from ≤ n → n < result → cell places.now n ≡ None }
-    ensures first { result < end → IsSome (cell places.now result) }
-{
-    for index in from..end {
-        match places.get(index as usize) {
-            Some(place) if !place.is_empty() => return index,
-            _ => {}
-        }
-    }
-    from.max(end)
 }

@@ -3,9 +3,9 @@ ghost use Rattle.std.specs.List.{sum};
 ghost use Rattle.std.specs.Option.{option_copied, unwrap_or};
 ghost use Rattle.zt_cells.specs.BareRows.{row_in};
 ghost use Rattle.zt_cells.specs.ProofsOnly.NumberedTables.{AreNumbers, numbered, number_of};
-ghost use Rattle.zt_cells.specs.ProofsOnly.TablePlaces.{cell_at, lengths, set_at, table, IsFirstCell};
+ghost use Rattle.zt_cells.specs.ProofsOnly.TablePlaces.{cell_at, lengths, set_at, table, IsNextCell};
 
-use crate::cells::table::Table;
+use crate::cells::marked_table::MarkedTable;
 use crate::limits::MOST_PLACES;
 use std::alloc::{AllocError, Global};
 use std::marker::Model;
@@ -17,7 +17,7 @@ use zt_rows::Row;
 pub(crate) struct TablesByOwner {
     /// For each owner where its table stands, or `NO_TABLE`.
     numbers: Vec<u32>,
-    tables: Vec<Table>,
+    tables: Vec<MarkedTable>,
 }
 
 /// The number of an owner that has no table, and no place.
@@ -57,7 +57,7 @@ impl TablesByOwner {
 
     /// The owner's table. Where it has none, it has no place.
     #[inline(always)]
-    fn table_of(&self, owner: usize) -> Option<&Table>
+    fn table_of(&self, owner: usize) -> Option<&MarkedTable>
         ensures { unwrap_or (option_copied result) [] ≡ table self.now owner }
     {
         match self.numbers.get(owner) {
@@ -86,12 +86,12 @@ impl TablesByOwner {
         }
     }
 
-    /// The first place of the owner with a row. It takes no memory.
-    pub fn first(&self, owner: usize) -> Option<u64>
-        ensures { IsFirstCell (table self.now owner) result }
+    /// The first place of the owner with a row from this one on. It takes no memory.
+    pub fn next_from(&self, owner: usize, from: u64) -> Option<u64>
+        ensures { IsNextCell (table self.now owner) from result }
     {
         match self.table_of(owner) {
-            Some(table) => table.first(),
+            Some(table) => table.next_from(from as usize).map(|index| index as u64),
             None => None,
         }
     }
@@ -137,7 +137,7 @@ impl TablesByOwner {
 #[inline(always)]
 fn make_table(
     numbers: &mut Vec<u32>,
-    tables: &mut Vec<Table>,
+    tables: &mut Vec<MarkedTable>,
     owner: usize,
 ) -> Result<usize, AllocError>
     requires { AreNumbers numbers.old.items (length tables.old.items) }
@@ -158,7 +158,7 @@ fn make_table(
 #[inline(never)]
 fn add_table(
     numbers: &mut Vec<u32>,
-    tables: &mut Vec<Table>,
+    tables: &mut Vec<MarkedTable>,
     owner: usize,
 ) -> Result<usize, AllocError>
     requires numbers { AreNumbers numbers.old.items (length tables.old.items) }
@@ -174,7 +174,7 @@ fn add_table(
         return Err(AllocError);
     }
     let alloc = *tables.allocator();
-    tables.push(Table::new(alloc))?;
+    tables.push(MarkedTable::new(alloc))?;
     numbers[owner] = number as u32;
     Ok(number)
 }
@@ -194,7 +194,7 @@ fn make_number(numbers: &mut Vec<u32>, owner: usize) -> Result<(), AllocError>
 }
 
 /// Equal tables in memory of their own.
-fn copy_tables(tables: &Vec<Table>) -> Result<Vec<Table>, AllocError>
+fn copy_tables(tables: &Vec<MarkedTable>) -> Result<Vec<MarkedTable>, AllocError>
     ensures { IfOk result (λ copied. copied.items ≡ tables.now.items) }
 {
     let mut copied = Vec::with_capacity(*tables.allocator(), tables.len())?;

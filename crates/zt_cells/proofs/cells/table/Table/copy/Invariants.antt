@@ -2,4 +2,4 @@ use Rattle.std.proofs.Common.{◌≡◌, take}
 use Rattle.zt_cells.proofs.cells.table.Table.copy.Given as goal
 
 abbrev pub invariant-loop-place : goal.invariant-loop-place
-invariant-loop-place l = l.places.items ≡ take l.place-index l.self-inside.places.items
+invariant-loop-place l = l.places.items ≡ take l.place-index l.place-items

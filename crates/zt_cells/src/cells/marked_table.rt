@@ -1,0 +1,101 @@
+ghost use Rattle.std.specs.Prelude.{◌≡◌, ◌≤◌, ◌<◌, ℕ, [], length, IfOk, OnOk, OnErr, slice_set};
+ghost use Rattle.std.specs.Option.{option_copied};
+ghost use Rattle.zt_cells.specs.BareRows.{row_in};
+ghost use Rattle.zt_cells.specs.ProofsOnly.TablePlaces.{cell, IsNextCell};
+
+use crate::cells::marks::Marks;
+use crate::cells::table::{MOST_IN_TABLE, Table};
+use std::alloc::{AllocError, Global};
+use std::marker::Model;
+use zt_rows::Row;
+
+/// A table that knows which of its places have a row, so that the next row is found whatever went before it.
+#[derive(Drop)]
+pub(crate) struct MarkedTable {
+    table: Table,
+    marks: Marks,
+}
+
+impl Model for MarkedTable {
+    ghost use Rattle.std.specs.Prelude.{List, Option};
+    ghost use Rattle.zt_rows.specs.declared.rows.Row.{Row};
+    ghost use Rattle.zt_cells.specs.ProofsOnly.MarkedPlaces.{AreMarks};
+
+    ghost Value = { List (Option Row) };
+
+    ghost view = { λ t. t.table };
+
+    ghost invariant = { λ t. AreMarks t.marks t.table };
+}
+
+impl MarkedTable {
+    /// A table with no place. It takes no memory.
+    pub fn new(alloc: Global) -> MarkedTable
+        ensures { result ≡ [] }
+    {
+        MarkedTable {
+            table: Table::new(alloc),
+            marks: Marks::new(),
+        }
+    }
+
+    /// How many places there are.
+    pub fn len(&self) -> usize
+        ensures { result ≡ length self.now }
+    {
+        self.table.len()
+    }
+
+    /// The row at the place. It takes no memory.
+    pub fn row(&self, index: usize) -> Option<&Row>
+        ensures { option_copied result ≡ cell self.now index }
+    {
+        self.table.row(index)
+    }
+
+    /// Makes empty places until there are so many. More than 2^32 - 2 places are refused.
+    pub fn grow(&mut self, len: usize) -> Result<(), AllocError>
+        requires { length self.old ≤ len }
+        ensures cells { (n : ℕ) → cell self.new n ≡ cell self.old n }
+        ensures longer { length self.old ≤ length self.new }
+        ensures bound { length self.new ≤ len }
+        ensures ok { OnOk result (length self.new ≡ len) }
+        ensures err { OnErr result (self.new ≡ self.old) }
+    {
+        if len > MOST_IN_TABLE {
+            return Err(AllocError);
+        }
+        self.marks.grow(self.table.allocator(), len)?;
+        self.table.grow(len)
+    }
+
+    /// Exchanges the row, or none, with what stands at the place. It takes no memory.
+    pub fn exchange(&mut self, index: usize, kept: &mut Row)
+        requires { index < length self.old }
+        ensures put { self.new ≡ slice_set self.old index (row_in kept.old) }
+        ensures was { row_in kept.new ≡ cell self.old index }
+    {
+        self.table.exchange(index, kept);
+        match self.table.row(index) {
+            Some(_) => self.marks.mark(index),
+            None => self.marks.unmark(index),
+        }
+    }
+
+    /// The first place with a row from this one on. It takes no memory, and walks over no place.
+    pub fn next_from(&self, from: usize) -> Option<usize>
+        ensures { IsNextCell self.now from result }
+    {
+        self.marks.next_from(from)
+    }
+
+    /// An equal table in memory of its own.
+    pub fn copy(&self) -> Result<MarkedTable, AllocError>
+        ensures { IfOk result (λ copied. copied ≡ self.now) }
+    {
+        Ok(MarkedTable {
+            table: self.table.copy()?,
+            marks: self.marks.copy(self.table.allocator())?,
+        })
+    }
+}
