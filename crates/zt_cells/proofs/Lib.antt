@@ -9,3 +9,4 @@ pub mod NumberLaws
 pub mod LookLaws
 pub mod CellsLaws
 pub mod AlikeLaws
+pub mod PacketPlaces

@@ -1,5 +1,5 @@
 -- Where the rows of a store can stand: how many places its tables have. A place, once there, is never given up.
-use Rattle.std.specs.Prelude.{max, ℕ, ◌+◌, ◌/◌, ◌%◌, nat_lt, Bool, List, [], ◌∷◌, slice_index_or}
+use Rattle.std.specs.Prelude.{max, ℕ, ◌+◌, ◌/◌, ◌%◌, ◌==◌, nat_lt, if◌then◌else◌, Bool, List, [], ◌∷◌, slice_index_or}
 use Rattle.zt_rows.specs.declared.keys.RowKey.{RowKey}
 use Rattle.zt_rows.specs.declared.keys.RowKey.TheVariants as key
 
@@ -47,3 +47,8 @@ waits_after _ waits = waits
 abbrev pub objects_after : RowKey → ℕ → ℕ
 objects_after (key.Object x) objects = max objects (x + 1)
 objects_after _ objects = objects
+
+-- how many places for packets the port x can have after those of the key were made
+abbrev pub packets_after : RowKey → ℕ → ℕ → ℕ
+packets_after (key.Packet p n) x packets = if p == x then max packets (n + 1) else packets
+packets_after _ x packets = packets

@@ -1,4 +1,4 @@
-ghost use Rattle.std.specs.Prelude.{◌≡◌, ◌≤◌, ◌+◌, ◌-◌, ◌^◌, ℕ, true, false, length, IfOk, IsTrue, OnOk, Option, None};
+ghost use Rattle.std.specs.Prelude.{◌≡◌, ◌≤◌, ◌+◌, ◌-◌, ◌^◌, ℕ, true, false, length, slice_index_or, IfOk, IsTrue, OnOk, Option, None};
 ghost use Rattle.std.specs.Option.{option_copied};
 ghost use Rattle.zt_rows.specs.declared.keys.RowKey.{RowKey};
 ghost use Rattle.zt_rows.specs.declared.keys.RowKey.TheVariants as key_variant;
@@ -8,7 +8,7 @@ ghost use Rattle.zt_rows.specs.Room.{SuitsKey};
 ghost use Rattle.zt_rows.specs.State.{row, put};
 ghost use Rattle.zt_cells.specs.AlikeObjects.{AlikeExchanged};
 ghost use Rattle.zt_cells.specs.BareRows.{row_under};
-ghost use Rattle.zt_cells.specs.TableSizes.{objects_after, waits_after, has_place, no_sizes};
+ghost use Rattle.zt_cells.specs.TableSizes.{objects_after, packets_after, waits_after, has_place, no_sizes};
 ghost use Rattle.zt_cells.specs.CellsView.{CellsView};
 ghost use Rattle.zt_cells.specs.FirstNumber.{IsFirst, IsNextFrom};
 
@@ -183,6 +183,7 @@ impl Cells {
         ensures made { OnOk result (has_place self.new.sizes key ≡ true) }
         ensures waits { self.new.sizes.waits ≤ waits_after key self.old.sizes.waits }
         ensures objects { self.new.sizes.objects ≤ objects_after key self.old.sizes.objects }
+        ensures packets { (x : ℕ) → slice_index_or self.new.sizes.packets x 0 ≤ packets_after key x (slice_index_or self.old.sizes.packets x 0) }
     {
         let (asked, counted) = (key, key);
         let place = place_of(asked);

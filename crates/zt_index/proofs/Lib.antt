@@ -5,3 +5,4 @@ pub mod Counts
 pub mod ChainOrder
 pub mod ChainLaws
 pub mod IndexLaws
+pub mod PacketCountLaws

@@ -1,4 +1,3 @@
 pub mod FrontLaws
 pub mod PacketLaws
-pub mod PendingLaws
 pub mod CancelLaws

@@ -7,7 +7,6 @@ use Rattle.zt_rows.specs.declared.keys.RowKey.TheVariants as key
 use Rattle.zt_rows.specs.declared.rows.Row.{Row}
 use Rattle.zt_rows.specs.declared.rows.Row.TheVariants as rows
 use Rattle.zt_rows.specs.State.{State, row}
-use Rattle.zt_rows.specs.PortCalls.{is_user_packet_of}
 use Rattle.zt_rows.proofs.ReadLaws.{some_one}
 use Rattle.zt_index.specs.Chains.{IsBehind, IsNext}
 use Rattle.zt_index.specs.Criteria.{has_packet}
@@ -84,18 +83,6 @@ only_packets x p h l (key.Wait n) r e = refl
 
 pub cancelled-column : (x p h packet_key : ℕ) → IsColumn (λ n. key.Packet x n) (packet_index x) (is_cancelled_packet x p h packet_key)
 cancelled-column x p h l = record { here = index-here x; is = key-of x; within = only_packets x p h l }
-
-only_users : (x : ℕ) (q : RowKey) (r : Row) → packet_index x q ≡ None → is_user_packet_of x q r ≡ false
-only_users x (key.Packet y n) (rows.Packet k) e = no_left (y == x) _ (other_port x y n e)
-only_users x (key.Packet y n) _ e = refl
-only_users x key.Counters r e = refl
-only_users x (key.Object y) r e = refl
-only_users x (key.Entry q g) r e = refl
-only_users x (key.Msg y n) r e = refl
-only_users x (key.Wait n) r e = refl
-
-pub user-column : (x : ℕ) → IsColumn (λ n. key.Packet x n) (packet_index x) (is_user_packet_of x)
-user-column x = record { here = index-here x; is = key-of x; within = only_users x }
 
 pub packets-fewer : (S : State) (x : ℕ) (low : Option ℕ) (n : ℕ) → n < 2 ^ 64 → IsNextUnder S (packet_key x) low (Some n) → numbers_after (Some n) < numbers_after low
 packets-fewer S x low n few next = numbers-fewer low n few next.0

@@ -3,6 +3,7 @@ ghost use Rattle.std.specs.Option.{option_copied};
 ghost use Rattle.zt_rows.specs.declared.keys.RowKey.{RowKey};
 ghost use Rattle.zt_rows.specs.declared.keys.RowKey.TheVariants as key_variant;
 ghost use Rattle.zt_rows.specs.Opening.{opening, hollow};
+ghost use Rattle.zt_rows.specs.PortCalls.{pending};
 ghost use Rattle.zt_rows.specs.Reads.{counters, entry, message, object, packet, wait};
 ghost use Rattle.zt_rows.specs.Room.{SuitsKey, HasRoom, next_key};
 ghost use Rattle.zt_rows.specs.Settle.{is_child_job_of, is_child_process_of};
@@ -26,7 +27,7 @@ use std::marker::Model;
 use std::mem::{forget, replace};
 use zt_bits::{Kind, Rights, Signals};
 use zt_cells::{Cells, bare, row_under};
-use zt_index::{Index, KoidCounts, SupportCounts};
+use zt_index::{Index, KoidCounts, PacketCounts, SupportCounts, is_user_packet};
 use zt_rows::{
     Counters, FIRST_HANDLE, HandleValue, Held, Koid, Life, Message, ObjectRow, Packet, ROOT_JOB,
     ROOT_PROCESS, Row, RowKey, Wait,
@@ -60,10 +61,11 @@ const TO_ROOT_JOB: Held = Held {
     rights: Rights(0x3d203),
 };
 
-/// The rows of a system, each under its key, and how often they name each object.
+/// The rows of a system, each under its key, how often they name each object, and how many packets of users each port has.
 pub struct Store {
     cells: Cells,
     support_counts: SupportCounts,
+    packet_counts: PacketCounts,
     index: Index,
     /// What a step lists its first rows in, kept from step to step.
     spare: Vec<(RowKey, Row)>,
@@ -80,6 +82,7 @@ impl Drop for Store {
         let Store {
             cells: _cells,
             support_counts: _support_counts,
+            packet_counts: _packet_counts,
             index: _index,
             spare: _spare,
             lists: _lists,
@@ -100,7 +103,7 @@ impl Model for Store {
       places = record { sizes = s.cells.sizes; koids = length s.support_counts };
     } };
 
-    ghost invariant = { λ s. IsStore s.cells s.support_counts s.index };
+    ghost invariant = { λ s. IsStore s.cells s.support_counts s.packet_counts s.index };
 }
 
 impl Store {
@@ -111,6 +114,7 @@ impl Store {
         Store {
             cells: Cells::hollow(alloc),
             support_counts: SupportCounts::new(alloc),
+            packet_counts: PacketCounts::new(alloc),
             index: Index::new(alloc),
             spare: Vec::new(alloc),
             lists: RecordLists::new(alloc),
@@ -220,6 +224,13 @@ impl Store {
         ensures { result ≡ count_row (is_child_process_of koid) self.now.state }
     {
         u64::from(self.support_counts.at(koid).processes)
+    }
+
+    /// How many packets of users are in the port. It takes no memory.
+    pub fn user_packets(&self, port: Koid) -> u64
+        ensures { result ≡ pending self.now.state port }
+    {
+        self.packet_counts.at(port)
     }
 
     /// The least number of a message in the endpoint's queue. It takes no memory.
@@ -334,6 +345,7 @@ impl Store {
         Ok(Store {
             cells: self.cells.copy()?,
             support_counts: self.support_counts.copy()?,
+            packet_counts: self.packet_counts.copy()?,
             index: self.index.copy()?,
             spare: Vec::new(self.alloc()),
             lists: RecordLists::new(self.alloc()),
@@ -421,15 +433,16 @@ impl Store {
         self.add_place(key)
     }
 
-    /// Makes the place of the key.
+    /// Makes the place of the key, and the number of its port, if it is a packet's.
     #[inline(never)]
     fn add_place(&mut self, key: RowKey) -> Result<(), AllocError>
         ensures state { self.new.state ≡ self.old.state }
         ensures kept { Keeps self.old.places self.new.places }
         ensures made { OnOk result (has_place self.new.places.sizes key ≡ true) }
     {
-        let indexed = key;
+        let (indexed, counted) = (key, key);
         self.index.grow_for(indexed)?;
+        self.packet_counts.grow_for(counted)?;
         self.cells.make_place(key)
     }
 
@@ -467,13 +480,17 @@ impl Store {
         ensures fit { fits_row self.new.places key (row_under key kept.new) ≡ true }
         ensures suited { SuitsKey key (row_under key kept.new) }
     {
-        let (came, went, indexed, here, back) = (key, key, key, key, key);
+        let (came, went, indexed, counted, here, back) = (key, key, key, key, key, key);
         self.cells.limits();
         let inward = row_under(here, kept);
         self.index.follow(&self.cells, indexed, inward);
         self.support_counts.raise_if(came, inward);
+        let user_came = is_user_packet(inward);
         self.cells.exchange(key, kept);
-        self.support_counts.lower_if(went, row_under(back, kept));
+        let outward = row_under(back, kept);
+        self.support_counts.lower_if(went, outward);
+        self.packet_counts
+            .follow(counted, user_came, is_user_packet(outward));
     }
 
     /// Exchanges the object, or none, with the one of this koid.

@@ -1,11 +1,12 @@
-ghost use Rattle.std.specs.Prelude.{◌≡◌, ◌≤◌, ◌<◌, ◌+◌, ◌^◌, length, IfOk, IsTrue, OnOk, OnErr, Some, false};
+ghost use Rattle.std.specs.Prelude.{◌≡◌, ◌≤◌, ◌<◌, ◌+◌, ◌^◌, ℕ, length, IfOk, IsTrue, OnOk, OnErr, Some, false};
 ghost use Rattle.std.specs.Option.{option_copied};
 ghost use Rattle.zt_rows.specs.declared.keys.RowKey.TheVariants as key_variant;
 ghost use Rattle.zt_rows.specs.declared.rows.Row.TheVariants as rows;
 ghost use Rattle.zt_cells.specs.AlikeObjects.{AreAlike};
 ghost use Rattle.zt_cells.specs.BareRows.{row_under};
 ghost use Rattle.zt_cells.specs.ProofsOnly.RowTables.{row_tables_in, row_tables_of, look, places_in, sizes_of, Exchanged, MadeFor, Widened};
-ghost use Rattle.zt_cells.specs.TableSizes.{objects_after, waits_after, has_place, length_at, place_of};
+ghost use Rattle.zt_cells.specs.ProofsOnly.TablePlaces.{table};
+ghost use Rattle.zt_cells.specs.TableSizes.{objects_after, packets_after, waits_after, has_place, length_at, place_of};
 
 use crate::cells::handle_tables::Entries;
 use crate::cells::table::Table;
@@ -147,6 +148,7 @@ impl RowTables {
         ensures widened { Widened self.old self.new }
         ensures waits { length self.new.waits ≤ waits_after key (length self.old.waits) }
         ensures objects { length self.new.objects ≤ objects_after key (length self.old.objects) }
+        ensures packets { (x : ℕ) → length (table self.new.packets x) ≤ packets_after key x (length (table self.old.packets x)) }
         ensures ok { OnOk result (MadeFor key self.old self.new) }
         ensures err { OnErr result (places_in self.new ≡ places_in self.old) }
     {
@@ -237,6 +239,8 @@ impl OwnedTables {
         ensures widened { Widened (row_tables_in self.old) (row_tables_in self.new) }
         ensures waits { length (row_tables_in self.new).waits ≤ waits_after key (length (row_tables_in self.old).waits) }
         ensures objects { length (row_tables_in self.new).objects ≤ objects_after key (length (row_tables_in self.old).objects) }
+        ensures packets { (x : ℕ) → length (table (row_tables_in self.new).packets x)
+            ≤ packets_after key x (length (table (row_tables_in self.old).packets x)) }
         ensures ok { OnOk result (MadeFor key (row_tables_in self.old) (row_tables_in self.new)) }
         ensures err { OnErr result (places_in (row_tables_in self.new) ≡ places_in (row_tables_in self.old)) }
     {

@@ -3,6 +3,7 @@ use Rattle.zt_cells.specs.ProofsOnly.RowTables.{row_tables_in, sizes_of}
 use Rattle.zt_cells.specs.CellsView.{CellsView}
 use Rattle.zt_cells.specs.TableSizes.{has_place}
 use Rattle.zt_cells.proofs.CellsLaws.{seen_as, there-place, length_at-few, state-widened, kept-widened, objects-made, waits-made}
+use Rattle.zt_cells.proofs.PacketPlaces.{packets-made}
 use Rattle.zt_cells.proofs.cells.Cells.make_place.Goals as goal
 
 pub returns-then-place-len-clause-made : goal.returns-then-place-len-clause-made
@@ -48,3 +49,9 @@ returns-in_err-grow-clause-objects c = objects-made (row_tables_in c.self.inside
 
 pub returns-clause-objects : goal.returns-clause-objects
 returns-clause-objects c = objects-made (row_tables_in c.self.inside.tables) (row_tables_in c.grow.new.self) c.args.self.now c.args.key c.self.view_is c.grow.ensures.objects
+
+pub returns-in_err-grow-clause-packets : goal.returns-in_err-grow-clause-packets
+returns-in_err-grow-clause-packets c = packets-made (row_tables_in c.self.inside.tables) (row_tables_in c.grow.new.self) c.args.self.now c.args.key c.self.view_is c.grow.ensures.packets
+
+pub returns-clause-packets : goal.returns-clause-packets
+returns-clause-packets c = packets-made (row_tables_in c.self.inside.tables) (row_tables_in c.grow.new.self) c.args.self.now c.args.key c.self.view_is c.grow.ensures.packets

@@ -4,4 +4,4 @@ use Rattle.zt_store.proofs.store.Store.hollow.Goals as goal
 pub invariant_of-result : goal.invariant_of-result
 invariant_of-result c =
     rw c.hollow.ensures
-    (record { koid_counts = koid_counts-hollow c.new.result c.new.ensures; few = names_few-hollow; indexed = c.new-2.ensures })
+    (record { koid_counts = koid_counts-hollow c.new.result c.new.ensures; few = names_few-hollow; packets_counted = c.new-2.ensures; indexed = c.new-3.ensures })

@@ -11,5 +11,6 @@ pub invariant_of-self : goal.invariant_of-self
 invariant_of-self c = record {
   koid_counts = λ x. c.grow_if.ensures.same x ∙ c.self.invariant.koid_counts x;
   few = c.self.invariant.few;
+  packets_counted = c.self.invariant.packets_counted;
   indexed = c.self.invariant.indexed;
 }

@@ -5,6 +5,7 @@ use Rattle.zt_rows.specs.declared.keys.RowKey.TheVariants as key
 use Rattle.zt_cells.specs.ProofsOnly.TablePlaces.{lengths}
 use Rattle.zt_cells.specs.TableSizes.{place_of}
 use Rattle.zt_cells.proofs.RowTableLaws.{widened-Object, widened-Entry, widened-Msg, widened-Packet, widened-Wait, made-Object, made-Entry, made-Msg, made-Packet, made-Wait, places-Entry, places-Msg, places-Packet, on_ok_two}
+use Rattle.zt_cells.proofs.PacketPlaces.{packets-grown}
 use Rattle.zt_cells.proofs.cells.row_tables.RowTables.grow.Goals as goal
 
 pub returns-in-Object-clause-widened : goal.returns-in-Object-clause-widened
@@ -51,6 +52,12 @@ returns-in-Packet-clause-ok c =
     let is = (c.in-Packet.is ∙ ap (λ x. key.Packet x c.in-Packet.field-1) (sym c.owner-in-Packet.view_is)) in
     let len = ap (λ z. z + 1) (c.place_of-len.ensures ∙ ap place_of is) in
     on_ok_two c.grow-in-Packet.result (λ h g. made-Packet c.args.self.now c.args.key _ _ c.grow-in-Packet.new.self is (h ∙ len) (g ∙ ap (λ z. sum (lengths c.args.self.now.packets) + z) len)) c.grow-in-Packet.ensures.ok c.grow-in-Packet.ensures.counted
+
+pub returns-in-Packet-clause-packets : goal.returns-in-Packet-clause-packets
+returns-in-Packet-clause-packets c =
+    let is = (c.in-Packet.is ∙ ap (λ x. key.Packet x c.in-Packet.field-1) (sym c.owner-in-Packet.view_is)) in
+    let len = ap (λ z. z + 1) (c.place_of-len.ensures ∙ ap place_of is) in
+    packets-grown c.args.self.now.packets c.grow-in-Packet.new.self c.args.key _ _ _ is len c.grow-in-Packet.ensures.others c.grow-in-Packet.ensures.bound
 
 pub returns-in-Packet-clause-err : goal.returns-in-Packet-clause-err
 returns-in-Packet-clause-err c =
