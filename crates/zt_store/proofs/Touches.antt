@@ -1,11 +1,10 @@
 -- What a step's parts say of the step: which keys were put, what stood under them, and what one more put makes of it.
-use Rattle.std.proofs.Common.{◌≡◌, ℕ, ◌+◌, ◌<◌, ◌≤◌, zero, suc, inl, inr, Bool, true, false, cond, ◌||◌, ◌⊎◌, List, [], ◌∷◌, ◌++◌, take, drop, get_or, length, map, min, Option, Some, None, is_some, refl, sym, ap, ◌∙◌, subst, unwrap_or, arith}
+use Rattle.std.proofs.Common.{◌≡◌, ℕ, ◌+◌, ◌<◌, ◌≤◌, Bool, true, false, cond, List, [], ◌∷◌, ◌++◌, take, get_or, length, map, Option, Some, None, is_some, refl, sym, ap, ◌∙◌, subst, unwrap_or, arith}
 use Rattle.std.specs.Prelude.{slice_get}
 use Rattle.std.specs.FinMap.Entries as entries
 use Rattle.std.specs.List.{IsDistinct}
 use Rattle.std.specs.Map.{lookup}
-use Rattle.std.proofs.lemmas.Bool.{cases_lt}
-use Rattle.std.proofs.lemmas.List.{get_or-map, get_or_default, length-map, map-append, length-append, drop_all, drop-append-le, take-append-drop, take_all, take_more}
+use Rattle.std.proofs.lemmas.List.{get_or-map, get_or_default, length-map, map-append, length-append, take_all, take_more}
 use Rattle.std.proofs.lemmas.List.Folds.{list_any-append}
 use Rattle.std.proofs.lemmas.Map.Entries.{lookup_from_place}
 use Rattle.std.proofs.lemmas.Map.Keys.{IsDistinct-push, any_passes_from_place}
@@ -13,7 +12,7 @@ use Rattle.std.proofs.lemmas.Option.{slice_get-get_or, slice_get_within, slice_g
 use Rattle.zt_rows.specs.declared.keys.RowKey.{RowKey}
 use Rattle.zt_rows.specs.declared.rows.Row.{Row}
 use Rattle.zt_rows.specs.Keys.{rowkey_cmp, rowkey_eq}
-use Rattle.zt_rows.specs.ProofsOnly.KeyOrder.{rowkey_eq-cmp, rowkey_eq-equal, rowkey_eq-self, rowkey_eq-laws}
+use Rattle.zt_rows.specs.ProofsOnly.KeyOrder.{rowkey_eq-self}
 use Rattle.zt_rows.specs.State.{State, row, put}
 use Rattle.zt_rows.specs.Change.{with_rows}
 use Rattle.zt_rows.specs.Room.{SuitsKey}
@@ -61,7 +60,7 @@ key-at : (R : Bares) (i : ℕ) (e : RowKey × Row) → i < length R → e ≡ ge
 key-at R i e within at = get_or-map (λ (x : RowKey × Row). x.0) R i e e.0 within ∙ ap (λ (x : RowKey × Row). x.0) (sym at)
 
 -- where d stands for what is read beyond the end
-pub among-next : (R : Bares) (i : ℕ) (d : RowKey × Row) (k : RowKey) (b : Bool) → i < length R → listed (take i (map (λ (x : RowKey × Row). x.0) R)) k ≡ false → b ≡ rowkey_eq (get_or R i d).0 k → b ≡ false
+pub among-next : (R : Bares) (i : ℕ) (d : RowKey × Row) (k : RowKey) (b : Bool) → i < length R → listed (take i (map (λ (x : RowKey × Row). x.0) R)) k ≡ false → b ≡ rowkey_eq k (get_or R i d).0 → b ≡ false
     → listed (take (i + 1) (map (λ (x : RowKey × Row). x.0) R)) k ≡ false
 among-next R i d k b within out test apart =
     let e : RowKey × Row = get_or R i d in
@@ -69,7 +68,7 @@ among-next R i d k b within out test apart =
     let more : take (i + 1) (map (λ (x : RowKey × Row). x.0) R) ≡ take i (map (λ (x : RowKey × Row). x.0) R) ++ e.0 ∷ [] =
     take_more (map (λ (x : RowKey × Row). x.0) R) i e.0 size ∙ ap (λ x. take i (map (λ (x : RowKey × Row). x.0) R) ++ x ∷ []) (key-at R i e within (get_or_default R i d e within)) in
     ap (λ xs. listed xs k) more ∙ list_any-append (rowkey_eq k) (take i (map (λ (x : RowKey × Row). x.0) R)) (e.0 ∷ [])
-    ∙ alone (listed (take i (map (λ (x : RowKey × Row). x.0) R)) k) (rowkey_eq k e.0) out (rowkey_eq-laws.symm k e.0 ∙ sym test ∙ apart)
+    ∙ alone (listed (take i (map (λ (x : RowKey × Row). x.0) R)) k) (rowkey_eq k e.0) out (sym test ∙ apart)
 
 pub among-none : (R : Bares) (i : ℕ) (k : RowKey) → length R ≤ i → listed (take i (map (λ (x : RowKey × Row). x.0) R)) k ≡ false → listed (map (λ (x : RowKey × Row). x.0) R) k ≡ false
 among-none R i k over out =

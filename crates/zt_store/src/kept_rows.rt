@@ -4,7 +4,7 @@ ghost use Rattle.zt_store.specs.ProofsOnly.KeptRows.{AreOf, keys_in, rows_in, ro
 
 use std::alloc::{AllocError, Global};
 use std::array;
-use std::mem::replace;
+use std::mem::{replace, swap};
 use zt_cells::NO_ROW;
 use zt_rows::{Row, RowKey};
 
@@ -80,6 +80,24 @@ impl KeptRows {
         }
     }
 
+    /// Both at once.
+    #[inline(always)]
+    pub fn keys_and_rows(&self) -> (&[RowKey], &[Row])
+        ensures keys { result.0.now ≡ keys_in self.now }
+        ensures rows { result.1.now ≡ rows_in self.now }
+    {
+        match self {
+            KeptRows::NoRow => (&[], &[]),
+            KeptRows::One(block) => (&block.keys, &block.rows),
+            KeptRows::Two(block) => (&block.keys, &block.rows),
+            KeptRows::Three(block) => (&block.keys, &block.rows),
+            KeptRows::Four(block) => (&block.keys, &block.rows),
+            KeptRows::Five(block) => (&block.keys, &block.rows),
+            KeptRows::Six(block) => (&block.keys, &block.rows),
+            KeptRows::Many(lists) => (lists.keys.as_slice(), lists.rows.as_slice()),
+        }
+    }
+
     /// The bare rows, each at the place of its key.
     pub fn rows(&self) -> &[Row]
         ensures { result.now ≡ rows_in self.now }
@@ -131,7 +149,7 @@ fn take_into(keys: &mut [RowKey], rows: &mut [Row], firsts: &mut [(RowKey, Row)]
     for place in 0..order.len() {
         let first = &mut firsts[order[place]];
         keys[place] = first.0;
-        rows[place] = replace(&mut first.1, NO_ROW);
+        swap(&mut rows[place], &mut first.1);
     }
 }
 

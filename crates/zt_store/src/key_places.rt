@@ -153,7 +153,7 @@ fn place_among(firsts: &[(RowKey, Row)], key: &RowKey) -> Option<usize>
     ensures { IsPlaceOf (map (λ e. e.0) firsts.now) key.now result }
 {
     for place in 0..firsts.len() {
-        if firsts[place].0 == *key {
+        if *key == firsts[place].0 {
             return Some(place);
         }
     }
@@ -250,7 +250,7 @@ fn mixed(key: &RowKey) -> u32
 
 /// The number of the key's variant, and its numbers.
 #[inline(always)]
-fn parts(key: &RowKey) -> (u64, u64, u64)
+pub(crate) fn parts(key: &RowKey) -> (u64, u64, u64)
     ensures variant { result.0 ≡ variant key.now }
     ensures first { result.1 ≡ first_number key.now }
     ensures second { result.2 ≡ second_number key.now }

@@ -63,8 +63,8 @@ impl Record {
         ensures row { option_map (λ e. e.1) (slice_get self.now place) ≡ Some (option_copied result) }
         ensures held { (key : RowKey) → option_map (λ e. e.0) (slice_get self.now place) ≡ Some key → held self.now key ≡ Some (option_copied result) }
     {
-        let key = self.rows.keys()[place];
-        row_under(key, &self.rows.rows()[place])
+        let (keys, rows) = self.rows.keys_and_rows();
+        row_under(keys[place], &rows[place])
     }
 }
 
