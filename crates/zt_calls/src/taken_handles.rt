@@ -13,6 +13,7 @@ use zt_store::Step;
 use zt_tables::remove;
 
 /// Takes an entry of the process out, with the waits made on it.
+#[inline(always)]
 pub fn take_out(step: &mut Step, process: Koid, handle: HandleValue) -> Result<(), AllocError>
     requires there { IsSome (entry step.old.current process handle) }
     ensures ok { OnOk result (Advanced step.old step.new (take_out step.old.current process handle)) }

@@ -1,6 +1,6 @@
 -- One object on its way out: what is left under one key, under some keys, and under all.
 use Rattle.std.proofs.Common.{◌≡◌, ◌≤◌, ℕ, ◌+◌, Bool, true, false, cond, ◌&&◌, ◌||◌, ◌⊎◌, inl, inr, refl, sym, ap, ◌∙◌, subst, arith}
-use Rattle.std.specs.Prelude.{Option, None, Some, option_and_then, is_none, if◌then◌else◌, ◌==◌}
+use Rattle.std.specs.Prelude.{Option, None, Some, option_and_then, if◌then◌else◌, ◌==◌}
 use Rattle.std.proofs.lemmas.Bool.{eqb-true}
 use Rattle.zt_rows.specs.declared.keys.RowKey.{RowKey}
 use Rattle.zt_rows.specs.declared.keys.RowKey.TheVariants as key
@@ -11,17 +11,17 @@ use Rattle.zt_rows.specs.declared.rows.Row.TheVariants as rows
 use Rattle.zt_rows.specs.Keys.{rowkey_eq}
 use Rattle.zt_rows.specs.ProofsOnly.KeyOrder.{rowkey_eq-equal}
 use Rattle.zt_rows.specs.State.{State, row, put}
-use Rattle.zt_rows.specs.Reads.{as_object, as_wait, wait}
+use Rattle.zt_rows.specs.Reads.{as_object, as_wait, object, wait}
 use Rattle.zt_rows.specs.Room.{suits, SuitsKey}
 use Rattle.zt_rows.specs.Tests.{is_endpoint}
 use Rattle.zt_rows.specs.Collect.{unlinked, left, without}
 use Rattle.zt_rows.proofs.StateLaws.{row-put, row-put-same, same_state, put-row}
-use Rattle.zt_rows.proofs.ReadLaws.{then_none, row-without}
+use Rattle.zt_rows.proofs.RowLaws.{true≢false}
+use Rattle.zt_rows.proofs.ReadLaws.{some_one, then_none, row-without}
 use Rattle.zt_rows.proofs.WithoutLaws.{without-twice}
 use Rattle.zt_index.proofs.Totals.{share, total-put}
 use Rattle.zt_store.specs.KoidSets.{only}
 use Rattle.zt_cascade.specs.ProofsOnly.RemovedObject.{left_at, left_behind, IsLeft, weighs, weight, IsPartly}
-use Rattle.zt_cascade.specs.ProofsOnly.RowsUnderKeys.{object_under}
 
 -- ---- under one key
 
@@ -32,22 +32,9 @@ left-none x S k e = ap (option_and_then (left (only x) k)) e ∙ sym e
 pub behind-same : (x : ℕ) (S : State) (k : RowKey) → IsLeft x S k → S ≡ left_behind x S k
 behind-same x S k e = sym (ap (put S k) e ∙ put-row S k)
 
-kept_if : (b : Bool) (r : Row) → is_none (if b then None else Some r) ≡ false → (if b then None else Some r) ≡ Some r
-kept_if true r h = cc
-kept_if false r h = refl
-
-left-same : (x : ℕ) (S : State) (k : RowKey) (r : Row) → row S k ≡ Some r → is_none (left (only x) k r) ≡ false → object_under S k ≡ None → left (only x) k r ≡ Some r
-left-same x S (key.Object y) (rows.Object o) there h none =
-    let found : object_under S (key.Object y) ≡ Some o = ap as_object there in
-    cc
-left-same x S (key.Msg e n) (rows.Msg m) there h none = kept_if (e == x) (rows.Msg m) h
-left-same x S (key.Packet p n) (rows.Packet k) there h none = kept_if (p == x) (rows.Packet k) h
-left-same x S (key.Wait n) (rows.Wait w) there h none = kept_if (w.port == x) (rows.Wait w) h
-left-same x S k r there h none = refl
-
--- a row that does not go and is not an object's stays
-pub left-other : (x : ℕ) (S : State) (k : RowKey) (r : Row) → row S k ≡ Some r → is_none (left (only x) k r) ≡ false → object_under S k ≡ None → IsLeft x S k
-left-other x S k r there h none = ap (option_and_then (left (only x) k)) there ∙ left-same x S k r there h none ∙ sym there
+-- where the row goes, nothing is left under the key
+pub behind-none : (x : ℕ) (S : State) (k : RowKey) (r : Row) → row S k ≡ Some r → left (only x) k r ≡ None → put S k None ≡ left_behind x S k
+behind-none x S k r there gone = sym (ap (put S k) (ap (option_and_then (left (only x) k)) there ∙ gone))
 
 or-same : (a : Bool) → (a || a) ≡ a
 or-same true = refl
@@ -171,6 +158,28 @@ left-object x y f (Some (rows.Object o)) h =
     link-same false l g = refl
 left-object x y f (Some r) h = refl
 left-object x y f None h = refl
+
+-- what is no object's row stays
+left-absent : (x y : ℕ) (r : Option Row) → as_object r ≡ None → option_and_then (left (only x) (key.Object y)) r ≡ r
+left-absent x y (Some (rows.Object o)) h = cc
+left-absent x y (Some r) h = refl
+left-absent x y None h = refl
+
+pub behind-absent : (x y : ℕ) (S : State) → object S y ≡ None → S ≡ left_behind x S (key.Object y)
+behind-absent x y S none = behind-same x S (key.Object y) (left-absent x y (row S (key.Object y)) none)
+
+-- where x is gone, an object stays that is no endpoint or has another peer
+pub behind-other : (x y : ℕ) (S : State) (o : ObjectRow) → object S x ≡ None → object S y ≡ Some o → (is_endpoint o.kind && (o.link == x)) ≡ false → S ≡ left_behind x S (key.Object y)
+behind-other x y S o gone there other = behind-same x S (key.Object y) (by (y == x) refl)
+  where
+    stays : (p : ObjectRow) → object S y ≡ Some p → (is_endpoint p.kind && (p.link == x)) ≡ true → p.link ≡ 0
+    stays p here h =
+        let same : p ≡ o = some_one p o (sym here ∙ there) in
+        absurd (true≢false (is_endpoint o.kind && (o.link == x)) (ap (λ (q : ObjectRow). is_endpoint q.kind && (q.link == x)) (sym same) ∙ h) other)
+
+    by : (b : Bool) → (y == x) ≡ b → IsLeft x S (key.Object y)
+    by true t = left-absent x y (row S (key.Object y)) (ap (object S) (eqb-true y x t) ∙ gone)
+    by false t = left-object x y t (row S (key.Object y)) stays
 
 left-wait_of : (x n : ℕ) (r : Option Row) → ((w : Wait) → as_wait r ≡ Some w → (w.port == x) ≡ false) → option_and_then (left (only x) (key.Wait n)) r ≡ r
 left-wait_of x n (Some (rows.Wait w)) h = then_none (w.port == x) (rows.Wait w) (h w refl)

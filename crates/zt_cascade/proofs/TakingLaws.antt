@@ -13,12 +13,12 @@ use Rattle.zt_rows.specs.declared.rows.Wait.{Wait}
 use Rattle.zt_rows.specs.declared.rows.Row.{Row}
 use Rattle.zt_rows.specs.declared.rows.Row.TheVariants as rows
 use Rattle.zt_rows.specs.Contents.{MessageContent}
-use Rattle.zt_rows.specs.State.{State, row}
-use Rattle.zt_rows.specs.Reads.{as_message, as_wait, object, message, wait}
+use Rattle.zt_rows.specs.State.{State, row, put}
+use Rattle.zt_rows.specs.Reads.{as_message, as_object, as_wait, object, message, wait}
 use Rattle.zt_rows.specs.Room.{SuitsKey}
 use Rattle.zt_rows.specs.Tests.{is_endpoint, among, link_at, object_link}
 use Rattle.zt_rows.specs.Collect.{left, without}
-use Rattle.zt_rows.proofs.StateLaws.{row-put-other}
+use Rattle.zt_rows.proofs.StateLaws.{row-put-other, row-put-same}
 use Rattle.zt_rows.proofs.RowLaws.{and_left, and_right, or_left, or_right, not_true, true≢false}
 use Rattle.zt_rows.proofs.ReadLaws.{some_one, object-row, message-row}
 use Rattle.zt_rows.proofs.SoundLaws.{and_no_right}
@@ -28,7 +28,7 @@ use Rattle.zt_index.specs.Chains.{IsNext}
 use Rattle.zt_index.specs.Criteria.{is_for, waits_where}
 use Rattle.zt_store.specs.KoidSets.{only}
 use Rattle.zt_cascade.specs.ProofsOnly.RemovedObject.{left_at, left_behind, IsLeft, weighs, weight, IsPartly, koids, handles_in, AreHandlesListed}
-use Rattle.zt_cascade.proofs.LeavingLaws.{left-none, left-object, left-wait, left-stays, behind-left, behind-lighter, behind-gone, partly-behind, partly-more, partly-then, partly-end, all-left, suited-partly}
+use Rattle.zt_cascade.proofs.LeavingLaws.{left-none, left-object, left-wait, left-stays, behind-left, behind-none, behind-lighter, behind-gone, partly-behind, partly-more, partly-then, partly-end, all-left, suited-partly}
 
 -- ---- its row, and the link of its peer
 
@@ -41,6 +41,12 @@ module _ (x : ℕ) (S : State) (o : ObjectRow) (there : object S x ≡ Some o) w
 
   abbrev pub without_link : State
   without_link = left_behind x without_row (key.Object o.link)
+
+  pub row-gone : put S (key.Object x) None ≡ without_row
+  row-gone = behind-none x S (key.Object x) (rows.Object o) (object-row S x o there) (none-self x _)
+
+  pub none-there : (T : State) → T ≡ put S (key.Object x) None → object T x ≡ None
+  none-there T is = ap (λ (V : State). object V x) is ∙ ap as_object (row-put-same S (key.Object x) None)
 
   pub row-partly : IsPartly x S without_link
   row-partly = partly-then x S without_row without_link (partly-behind x S (key.Object x)) (partly-behind x without_row (key.Object o.link))
@@ -136,7 +142,7 @@ module _ (x n : ℕ) (S T : State) (list later : List ℕ) (m : MessageContent) 
   }
 
 pub messages-step : (x n : ℕ) (S T U : State) (list later more : List ℕ) → IsSome (row T (key.Msg x n)) → SuitsKey (key.Msg x n) (row T (key.Msg x n))
-    → IsPartly x S T → AreHandlesListed x S list T later → U ≡ left_behind x T (key.Msg x n) → more ≡ later ++ koids (handles_in (message T x n))
+    → IsPartly x S T → AreHandlesListed x S list T later → U ≡ put T (key.Msg x n) None → more ≡ later ++ koids (handles_in (message T x n))
     → IsPartly x S U × AreHandlesListed x S list U more × (weight U < weight T)
 messages-step x n S T U list later more some suits partly noted next added =
     let w = some-message T x n some suits in
@@ -144,9 +150,10 @@ messages-step x n S T U list later more some suits partly noted next added =
     let all : more ≡ later ++ koids w.0.handles = added ∙ ap (λ z. later ++ koids (handles_in z)) w.1 in
     let here : AreHandlesListed x S list V (later ++ koids w.0.handles) = noted-more x n S T list later w.0 w.1 noted in
     let less : weight V + (1 + length w.0.handles) ≡ weight T = message-lighter x n S T list later w.0 w.1 in
-    let same : weight U ≡ weight V = ap weight next in (
-      subst (IsPartly x S) (sym next) (partly-more x S T (key.Msg x n) partly),
-      subst (λ s. AreHandlesListed x S list s more) (sym next) (subst (AreHandlesListed x S list V) (sym all) here),
+    let is : U ≡ V = next ∙ behind-none x T (key.Msg x n) (rows.Msg w.0) (message-row T x n w.0 w.1) (none-self x (rows.Msg w.0)) in
+    let same : weight U ≡ weight V = ap weight is in (
+      subst (IsPartly x S) (sym is) (partly-more x S T (key.Msg x n) partly),
+      subst (λ s. AreHandlesListed x S list s more) (sym is) (subst (AreHandlesListed x S list V) (sym all) here),
       omega arith,
     )
 
@@ -168,14 +175,16 @@ packet-lighter p n T some suits =
     let l : 1 ≤ weighs (key.Packet p n) w.0 = weighs-some (key.Packet p n) w.0 in
     omega arith
 
-pub packets-step : (p n : ℕ) (S T U : State) → IsSome (row T (key.Packet p n)) → ((k : RowKey) → SuitsKey k (row T k)) → IsPartly p S T → U ≡ left_behind p T (key.Packet p n)
+pub packets-step : (p n : ℕ) (S T U : State) → IsSome (row T (key.Packet p n)) → ((k : RowKey) → SuitsKey k (row T k)) → IsPartly p S T → U ≡ put T (key.Packet p n) None
     → IsPartly p S U × ((k : RowKey) → SuitsKey k (row U k)) × (weight U < weight T)
 packets-step p n S T U some suited partly next =
     let V : State = left_behind p T (key.Packet p n) in
     let less : weight V < weight T = packet-lighter p n T some (suited (key.Packet p n)) in
-    let same : weight U ≡ weight V = ap weight next in (
-      subst (IsPartly p S) (sym next) (partly-more p S T (key.Packet p n) partly),
-      subst (λ s. (k : RowKey) → SuitsKey k (row s k)) (sym next) (suited-partly p T V (partly-behind p T (key.Packet p n)) suited),
+    let w = some-packet_row p n (row T (key.Packet p n)) some (suited (key.Packet p n)) in
+    let is : U ≡ V = next ∙ behind-none p T (key.Packet p n) w.0 w.1 w.2 in
+    let same : weight U ≡ weight V = ap weight is in (
+      subst (IsPartly p S) (sym is) (partly-more p S T (key.Packet p n) partly),
+      subst (λ s. (k : RowKey) → SuitsKey k (row s k)) (sym is) (suited-partly p T V (partly-behind p T (key.Packet p n)) suited),
       omega arith,
     )
 
@@ -202,11 +211,13 @@ wait-lighter x n T e =
     let l : 1 ≤ weighs (key.Wait n) w.0 = weighs-some (key.Wait n) w.0 in
     omega arith
 
-pub waits-step : (x n : ℕ) (S T U : State) → IsNext (waits_where T (is_for x)) None (Some n) → IsPartly x S T → U ≡ left_behind x T (key.Wait n) → IsPartly x S U × (weight U < weight T)
+pub waits-step : (x n : ℕ) (S T U : State) → IsNext (waits_where T (is_for x)) None (Some n) → IsPartly x S T → U ≡ put T (key.Wait n) None → IsPartly x S U × (weight U < weight T)
 waits-step x n S T U found partly next =
     let less : weight (left_behind x T (key.Wait n)) < weight T = wait-lighter x n T found.0.1 in
-    let same : weight U ≡ weight (left_behind x T (key.Wait n)) = ap weight next in
-    (subst (IsPartly x S) (sym next) (partly-more x S T (key.Wait n) partly), omega arith)
+    let w = for-it x n (row T (key.Wait n)) found.0.1 in
+    let is : U ≡ left_behind x T (key.Wait n) = next ∙ behind-none x T (key.Wait n) w.0 w.1 w.2 in
+    let same : weight U ≡ weight (left_behind x T (key.Wait n)) = ap weight is in
+    (subst (IsPartly x S) (sym is) (partly-more x S T (key.Wait n) partly), omega arith)
 
 pub waits-end : (x : ℕ) (T : State) (found : Option ℕ) → ((n : ℕ) → found ≡ Some n → ⊥) → IsNext (waits_where T (is_for x)) None found → (n : ℕ) → IsLeft x T (key.Wait n)
 waits-end x T (Some m) none h = absurd (none m refl)

@@ -81,7 +81,7 @@ passed-end q low None list none last passed n there = by (is_passed low n) refl
 -- ---- the keys that were put
 
 pub woken-longer : (B T : State) → LastsLonger (HasWoken B T)
-woken-longer B T (key.Wait n) list later longer h = longer n h
+woken-longer B T (key.Wait n) list later longer h = λ w there met. longer n (h w there met)
 woken-longer B T (key.Entry p g) list later longer (inl new) = inl new
 woken-longer B T (key.Entry p g) list later longer (inr h) = inr (λ n t. longer n (h n t))
 woken-longer B T (key.Object x) list later longer (inl new) = inl new
@@ -175,7 +175,7 @@ module _ (s : Stepping) (list : List ℕ) (began : IsConsistent s.beginning) (di
     by_entry stood false t = by_held stood (ap as_entry (differs (key.Entry w.process w.handle) t)) (entry s.current w.process w.handle) refl
 
     by_wait : (b : Bool) → listed s.touched (key.Wait n) ≡ b → among list n ≡ true
-    by_wait true t = all (key.Wait n) t
+    by_wait true t = all (key.Wait n) t w there met
     by_wait false t = by_entry (ap as_wait (sym (differs (key.Wait n) t)) ∙ there) (listed s.touched (key.Entry w.process w.handle)) refl
 
   pub met-woken : HasMet s.beginning s.current list

@@ -1,7 +1,6 @@
 -- Used by proofs only: no public clause depends on them.
 pub mod ToldObjects
 pub mod RemovedObject
-pub mod RowsUnderKeys
 pub mod NearObjects
 pub mod RaisedWaits
 pub mod LostObjects

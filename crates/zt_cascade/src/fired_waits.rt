@@ -9,7 +9,7 @@ ghost use Rattle.zt_cascade.specs.ProofsOnly.RaisedWaits.{HasRoomFor, fire_numbe
 
 use crate::raised_waits::woken;
 use std::alloc::{AllocError, Global};
-use zt_ports::{fire, is_met};
+use zt_ports::fire;
 use zt_store::Step;
 
 /// Fires the waits that are met, by rising number. The step began consistent, so that only those can be met that this
@@ -35,12 +35,8 @@ fn fire_number(step: &mut Step, number: u64) -> Result<(), AllocError>
     ensures ahead { IsAhead step.old step.new }
     ensures ok { OnOk result (step.new.current ≡ fire_number step.old.beginning step.old.current number) }
 {
-    let Some(wait) = step.wait(number) else {
-        return Ok(());
-    };
-    if is_met(step, &wait) {
-        fire(step, number, &wait)
-    } else {
-        Ok(())
+    match step.wait(number) {
+        Some(wait) => fire(step, number, &wait),
+        None => Ok(()),
     }
 }

@@ -6,7 +6,6 @@ mod fired_waits;
 pub mod laws;
 mod lost_objects;
 mod raised_waits;
-mod removed_object;
 mod removed_rows;
 mod settled_signals;
 mod worklist;

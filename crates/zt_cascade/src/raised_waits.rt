@@ -5,10 +5,11 @@ ghost use Rattle.zt_rows.specs.Reads.{object};
 ghost use Rattle.zt_rows.specs.State.{row};
 ghost use Rattle.zt_rows.specs.Tests.{has_all, signals_at};
 ghost use Rattle.zt_index.specs.Criteria.{is_at, is_on};
-ghost use Rattle.zt_cascade.specs.ProofsOnly.RaisedWaits.{HasMet, HasWoken, HasWokenAt, IsLonger, Lists};
+ghost use Rattle.zt_cascade.specs.ProofsOnly.RaisedWaits.{HasMet, HasWoken, HasWokenAt, IsLonger, Lists, ListsMet};
 
 use crate::settled_signals::object_in;
 use std::alloc::{AllocError, Global};
+use zt_ports::is_met;
 use zt_rows::{HandleValue, Koid, ObjectRow, Row, RowKey};
 use zt_store::Step;
 
@@ -28,8 +29,8 @@ pub(crate) fn woken(step: &Step, alloc: Global) -> Result<Vec<u64>, AllocError>
     Err(AllocError)
 }
 
-/// Adds to the list the waits that can have come to be met since the row under the key was put: the wait itself, those
-/// on an entry that was there, and those at an object that was there and on which a signal rose.
+/// Adds to the list the waits that can have come to be met since the row under the key was put: the wait itself, if it is
+/// met, those on an entry that was there, and those at an object that was there and on which a signal rose.
 fn add_woken(
     step: &Step,
     key: RowKey,
@@ -41,7 +42,7 @@ fn add_woken(
     ensures longer { OnOk result (IsLonger list.old.items list.new.items) }
 {
     match key {
-        RowKey::Wait(number) => list.push(number)?,
+        RowKey::Wait(number) => add_if_met(step, number, list)?,
         RowKey::Entry(process, handle) => {
             if first.is_some() {
                 add_waits_on(step, process, handle, list)?;
@@ -49,6 +50,20 @@ fn add_woken(
         }
         RowKey::Object(koid) => add_waits_near(step, koid, object_in(first), list)?,
         _ => {}
+    }
+    Ok(())
+}
+
+/// Adds to the list the wait of this number, if it is met.
+fn add_if_met(step: &Step, number: u64, list: &mut Vec<u64>) -> Result<(), AllocError>
+    ensures listed { OnOk result (ListsMet step.now.beginning step.now.current number list.new.items) }
+    ensures longer { OnOk result (IsLonger list.old.items list.new.items) }
+{
+    let Some(wait) = step.wait(number) else {
+        return Ok(());
+    };
+    if is_met(step, &wait) {
+        list.push(number)?;
     }
     Ok(())
 }

@@ -1,20 +1,20 @@
-ghost use Rattle.std.specs.Prelude.{◌≡◌, ◌≤◌, ◌<◌, ◌+◌, ◌++◌, ℕ, true, OnOk, Option, length};
+ghost use Rattle.std.specs.Prelude.{◌≡◌, ◌≤◌, ◌<◌, ◌+◌, ◌++◌, ◌==◌, ◌&&◌, ℕ, true, OnOk, Option, length};
 ghost use Rattle.zt_rows.specs.declared.keys.RowKey.{RowKey};
 ghost use Rattle.zt_rows.specs.declared.keys.RowKey.TheVariants as key;
 ghost use Rattle.zt_rows.specs.Collect.{without};
 ghost use Rattle.zt_rows.specs.Reads.{message, object};
 ghost use Rattle.zt_rows.specs.Room.{SuitsKey};
-ghost use Rattle.zt_rows.specs.State.{row};
-ghost use Rattle.zt_rows.specs.Tests.{among};
+ghost use Rattle.zt_rows.specs.State.{put, row};
+ghost use Rattle.zt_rows.specs.Tests.{among, is_endpoint};
 ghost use Rattle.zt_store.specs.ProofsOnly.StepView.{IsAhead};
 ghost use Rattle.zt_store.specs.KoidSets.{only};
 ghost use Rattle.zt_cascade.specs.JoinedLinks.{IsJoined};
-ghost use Rattle.zt_cascade.specs.ProofsOnly.RemovedObject.{IsLeft, AreHandlesListed, IsPartly, handles_in, koids, weight};
+ghost use Rattle.zt_cascade.specs.ProofsOnly.RemovedObject.{left_behind, IsLeft, AreHandlesListed, IsPartly, handles_in, koids, weight};
 ghost use Rattle.zt_cascade.specs.OneByOne.{IsLetGo};
 
-use crate::removed_object::leave;
 use std::alloc::AllocError;
-use zt_rows::{Held, Koid, ObjectRow, RowKey};
+use zt_bits::Kind;
+use zt_rows::{Held, Koid, ObjectRow, Row, RowKey};
 use zt_store::Step;
 
 /// Takes the object out with what it owns, and adds to the list what it may let go.
@@ -50,8 +50,46 @@ fn take_row(step: &mut Step, koid: Koid, found: &ObjectRow) -> Result<(), AllocE
     ensures messages { OnOk result ((n : ℕ) → message step.new.current koid n ≡ message step.old.current koid n) }
     ensures lighter { OnOk result (weight step.new.current + 1 ≤ weight step.old.current) }
 {
-    leave(step, koid, RowKey::Object(koid))?;
-    leave(step, koid, RowKey::Object(found.link))
+    change(step, RowKey::Object(koid), None)?;
+    cut_link(step, koid, found.link)
+}
+
+/// Puts the row under the key.
+#[inline(always)]
+fn change(step: &mut Step, key: RowKey, row: Option<Row>) -> Result<(), AllocError>
+    requires { SuitsKey key row }
+    ensures ahead { IsAhead step.old step.new }
+    ensures ok { OnOk result (step.new.current ≡ put step.old.current key row) }
+{
+    step.put(key, row)
+}
+
+/// Cuts the link of the object of this koid, if it is an endpoint and its peer is the one that went.
+#[inline(always)]
+fn cut_link(step: &mut Step, went: Koid, koid: Koid) -> Result<(), AllocError>
+    requires { object step.old.current went ≡ Option.None }
+    ensures ahead { IsAhead step.old step.new }
+    ensures ok { OnOk result (step.new.current ≡ left_behind went step.old.current (key.Object koid)) }
+{
+    let Some(object) = step.object(koid) else {
+        return Ok(());
+    };
+    if !has_peer(&object, went) {
+        return Ok(());
+    }
+    let object = ObjectRow {
+        link: Koid(0),
+        ..object
+    };
+    change(step, RowKey::Object(koid), Some(Row::Object(object)))
+}
+
+/// Whether it is an endpoint and this is its peer.
+fn has_peer(object: &ObjectRow, peer: Koid) -> bool
+    ensures { result ≡ (is_endpoint object.now.kind && (object.now.link == peer)) }
+{
+    let is_endpoint = object.kind == Kind::Channel || object.kind == Kind::EventPair;
+    is_endpoint && object.link == peer
 }
 
 /// Takes the queue of the endpoint away, and adds to the list what its messages name.
@@ -64,7 +102,7 @@ fn take_messages(step: &mut Step, endpoint: Koid, list: &mut Vec<Koid>) -> Resul
 {
     while let Some(number) = step.first_message(endpoint) {
         note_handles(step, endpoint, number, list)?;
-        leave(step, endpoint, RowKey::Msg(endpoint, number))?;
+        change(step, RowKey::Msg(endpoint, number), None)?;
     }
     Ok(())
 }
@@ -102,7 +140,7 @@ fn take_packets(step: &mut Step, port: Koid) -> Result<(), AllocError>
     ensures gone { OnOk result ((n : ℕ) → row step.new.current (key.Packet port n) ≡ Option.None) }
 {
     while let Some(number) = step.first_packet(port) {
-        leave(step, port, RowKey::Packet(port, number))?;
+        change(step, RowKey::Packet(port, number), None)?;
     }
     Ok(())
 }
@@ -115,7 +153,7 @@ fn take_waits(step: &mut Step, koid: Koid) -> Result<(), AllocError>
     ensures waits { OnOk result ((n : ℕ) → IsLeft koid step.new.current (key.Wait n)) }
 {
     'waits: while let Some(number) = step.wait_for(koid, None) {
-        leave(step, koid, RowKey::Wait(number))?;
+        change(step, RowKey::Wait(number), None)?;
     }
     Ok(())
 }

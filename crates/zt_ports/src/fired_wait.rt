@@ -1,4 +1,4 @@
-ghost use Rattle.std.specs.Prelude.{◌≡◌, ◌<◌, ◌+◌, ◌^◌, OnOk, OnErr};
+ghost use Rattle.std.specs.Prelude.{◌≡◌, ◌<◌, ◌+◌, ◌^◌, true, OnOk, OnErr};
 ghost use Rattle.zt_rows.specs.Settle.{fire, is_met, news, observed, signals_by};
 ghost use Rattle.zt_rows.specs.Reads.{entry};
 ghost use Rattle.zt_rows.specs.Tests.{next_at, object_signals};
@@ -12,20 +12,22 @@ use zt_bits::Signals;
 use zt_rows::{ObjectRow, Packet, RowKey, Wait};
 use zt_store::Step;
 
-/// Where the wait of this number is met, takes it away and puts the news at the end of its port.
+/// Where the wait of this number is met, takes it away and puts the news at the end of its port. Only then has there to be
+/// room in it.
 pub fn fire(step: &mut Step, number: u64, wait: &Wait) -> Result<(), AllocError>
-    requires { next_at step.old.current wait.now.port + 1 < 2 ^ 64 }
+    requires { is_met step.old.beginning step.old.current wait.now ≡ true → next_at step.old.current wait.now.port + 1 < 2 ^ 64 }
     ensures ok { OnOk result (Advanced step.old step.new (fire step.old.beginning step.old.current (number, wait.now))) }
     ensures err { OnErr result (AsBegun step.old step.new) }
     ensures kept { Keeps step.old.places step.new.places }
 {
-    if !is_met(step, wait) {
+    let observed = observed(step, wait);
+    if !meets(step, wait, observed) {
         return Ok(());
     }
     let Some(port) = step.object(wait.port) else {
         return Ok(());
     };
-    let parcel = news(wait, observed(step, wait));
+    let parcel = news(wait, observed);
     step.put(RowKey::Wait(number), None)?;
     push_packet(step, wait.port, &port, parcel)
 }
@@ -34,11 +36,18 @@ pub fn fire(step: &mut Step, number: u64, wait: &Wait) -> Result<(), AllocError>
 pub fn is_met(step: &Step, wait: &Wait) -> bool
     ensures { result ≡ is_met step.now.beginning step.now.current wait.now }
 {
-    let observed = observed(step, wait);
+    meets(step, wait, observed(step, wait))
+}
+
+/// The same, where these signals are all that stand on what the wait's handle names.
+fn meets(step: &Step, wait: &Wait, signals: Signals) -> bool
+    requires { signals.0 ≡ observed step.now.current wait.now }
+    ensures { result ≡ is_met step.now.beginning step.now.current wait.now }
+{
     let awaited = if wait.edge {
-        observed.difference(observed_then(step, wait))
+        signals.difference(observed_then(step, wait))
     } else {
-        observed
+        signals
     };
     wait.signals.intersects(awaited)
 }

@@ -42,6 +42,7 @@ impl WaitGroup {
 }
 
 /// Takes away the waits that are picked, and tells whether there was any.
+#[inline(always)]
 pub(crate) fn drop_picked(step: &mut Step, picked: WaitGroup) -> Result<bool, AllocError>
     ensures ok { OnOk result (Advanced step.old step.new (change (without_waits (picks picked)) step.old.current)) }
     ensures any { IfOk result (λ any. any ≡ any_row (is_wait_where (picks picked)) step.old.current) }

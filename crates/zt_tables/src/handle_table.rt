@@ -20,6 +20,7 @@ pub fn find(store: &Store, process: Koid, value: HandleValue) -> Option<Held>
 
 /// Gives the process a handle, by its next value. A process without a row counts as one that had no handle
 /// so far.
+#[inline(always)]
 pub fn install(step: &mut Step, process: Koid, held: Held) -> Result<HandleValue, AllocError>
     requires { next_at step.old.current process < 2 ^ 30 }
     ensures value { IfOk result (λ value. value ≡ value_of (next_at step.old.current process)) }
@@ -40,6 +41,7 @@ pub fn install(step: &mut Step, process: Koid, held: Held) -> Result<HandleValue
 }
 
 /// Takes the entry away, and answers what it held. No later handle gets its value.
+#[inline(always)]
 pub fn remove(
     step: &mut Step,
     process: Koid,
@@ -73,6 +75,7 @@ pub fn duplicate(
 }
 
 /// The row of the process, or that of an ended one that had no handle.
+#[inline(always)]
 fn owner_of(step: &Step, process: Koid) -> ObjectRow
     ensures row { result ≡ caller step.now.current process }
     ensures next { result.next ≡ next_at step.now.current process }

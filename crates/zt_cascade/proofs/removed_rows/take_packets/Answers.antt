@@ -8,17 +8,17 @@ use Rattle.zt_cascade.proofs.removed_rows.take_packets.Goals as goal
 pub loop-number-smaller : goal.loop-number-smaller
 loop-number-smaller c =
     let some : IsSome (row c.loop-number.step.current (key.Packet c.args.port c.in-Some.number)) = assumption (c.in-Some.ensures) in
-    (packets-step c.args.port c.in-Some.number c.args.step.now.current c.loop-number.step.current c.leave.new.step.current
-    some c.loop-number.invariant.suited c.loop-number.invariant.partly c.in_ok-leave.ensures.ok).2
+    (packets-step c.args.port c.in-Some.number c.args.step.now.current c.loop-number.step.current c.change.new.step.current
+    some c.loop-number.invariant.suited c.loop-number.invariant.partly c.in_ok-change.ensures.ok).2
 
 pub loop-number-preserved : goal.loop-number-preserved
 loop-number-preserved c =
     let some : IsSome (row c.loop-number.step.current (key.Packet c.args.port c.in-Some.number)) = assumption (c.in-Some.ensures) in
     let w =
-    packets-step c.args.port c.in-Some.number c.args.step.now.current c.loop-number.step.current c.leave.new.step.current
-    some c.loop-number.invariant.suited c.loop-number.invariant.partly c.in_ok-leave.ensures.ok in
+    packets-step c.args.port c.in-Some.number c.args.step.now.current c.loop-number.step.current c.change.new.step.current
+    some c.loop-number.invariant.suited c.loop-number.invariant.partly c.in_ok-change.ensures.ok in
     record {
-      ahead = ahead-then c.args.step.now c.loop-number.step c.leave.new.step c.loop-number.invariant.ahead c.leave.ensures.ahead;
+      ahead = ahead-then c.args.step.now c.loop-number.step c.change.new.step c.loop-number.invariant.ahead c.change.ensures.ahead;
       partly = w.0;
       suited = w.1;
     }
