@@ -15,6 +15,7 @@ pub mod WayLaws
 pub mod ForkLaws
 pub mod ListedLaws
 pub mod NoteListLaws
+pub mod LetGoLaws
 pub mod NotedLaws
 pub mod WholeLaws
 pub mod ChangedLaws

@@ -1,5 +1,5 @@
 -- What the other laws want to know of lists: the element at a place of a longer list, and the last one.
-use Rattle.std.proofs.Common.{◌≡◌, ℕ, zero, suc, ◌-◌, ◌≤◌, ◌<◌, ◌⊎◌, List, [], ◌∷◌, ◌++◌, length, map, get_or, set, Some, refl, ◌∙◌, ap, inl, inr, length-append, arith}
+use Rattle.std.proofs.Common.{◌≡◌, ℕ, zero, suc, ◌+◌, ◌-◌, ◌≤◌, ◌<◌, ◌⊎◌, List, [], ◌∷◌, ◌++◌, length, map, get_or, set, Some, refl, sym, ◌∙◌, ap, inl, inr, length-append, arith}
 use Rattle.std.specs.Prelude.{slice_get}
 use Rattle.std.proofs.lemmas.Bool.{cases_lt}
 use Rattle.std.proofs.Math.Seq.{get_or-append_seam}
@@ -10,6 +10,19 @@ module _ {A : Type 0} where
   get-left [] ys i h = absurd (omega (arith, h))
   get-left (x ∷ xs) ys zero h = refl
   get-left (x ∷ xs) ys (suc i) h = get-left xs ys i (omega (arith, h))
+
+  pub get-right : (xs ys : List A) (i : ℕ) → slice_get (xs ++ ys) (length xs + i) ≡ slice_get ys i
+  get-right [] ys i = let e : length {A = A} [] + i ≡ i = omega arith in ap (slice_get ys) e
+  get-right (x ∷ xs) ys i = let e : length (x ∷ xs) + i ≡ suc (length xs + i) = omega arith in ap (slice_get (x ∷ xs ++ ys)) e ∙ get-right xs ys i
+
+  -- what stands at a place of two lists stands in one of them
+  pub either : (xs ys : List A) (i : ℕ) (y : A) → slice_get (xs ++ ys) i ≡ Some y → (slice_get xs i ≡ Some y) ⊎ (slice_get ys (i - length xs) ≡ Some y)
+  either xs ys i y at = elim (cases_lt i (length xs)) [
+    | inl l ↦ inl (sym (get-left xs ys i l) ∙ at)
+    | inr past ↦
+        let n : length xs + (i - length xs) ≡ i = omega (arith, past) in
+        inr (sym (get-right xs ys (i - length xs)) ∙ ap (slice_get (xs ++ ys)) n ∙ at)
+  ]
 
   pub get-seam : (xs : List A) (x : A) (ys : List A) → slice_get (xs ++ x ∷ ys) (length xs) ≡ Some x
   get-seam [] x ys = refl

@@ -9,14 +9,13 @@ use Rattle.std.proofs.lemmas.List.{append_assoc, flat_map_more, get_or-set_same,
 use Rattle.std.proofs.lemmas.Option.{get_or_from_slice_get, none-some, same_Some, slice_get-map, slice_get_past, slice_get_read, slice_get_within}
 use Rattle.std.proofs.Math.Seq.{take-append_seam, take-length}
 use Rattle.zt_rows.specs.declared.keys.RowKey.{RowKey}
-use Rattle.zt_rows.specs.declared.keys.RowKey.TheVariants as key
 use Rattle.zt_rows.specs.declared.rows.Row.{Row}
-use Rattle.zt_rows.specs.State.{State, row}
+use Rattle.zt_rows.specs.State.{State}
 use Rattle.zt_store.specs.RecordLook.{held}
 use Rattle.zt_rows.specs.Tests.{among}
 use Rattle.zt_rows.proofs.ChangeLaws.{Rows}
 use Rattle.zt_history.specs.declared.object_notes.ObjectNote.{ObjectNote}
-use Rattle.zt_history.specs.declared.row_happenings.RowHappening.{RowHappening}
+use Rattle.zt_history.specs.declared.object_notes.Sought.{Sought}
 use Rattle.zt_history.specs.Tree.{Made, path}
 use Rattle.zt_history.specs.TreeInvariant.{Falls}
 use Rattle.zt_history.specs.ProofsOnly.Branches.{without_last}
@@ -287,12 +286,7 @@ key-there R i q within read =
 
 -- what is noted of a key is by the row that the record has under it
 pub by-row : (m : ℕ) (R : Rows) (T : State) (q : RowKey) (r : Option Row) → held R q ≡ Some r → note_before m r T q ≡ note_under m R T q
-by-row m R T (key.Object x) r e = ap (λ h. note_over m x h (row T (key.Object x))) (sym e)
-by-row m R T key.Counters r e = refl
-by-row m R T (key.Entry _ _) r e = refl
-by-row m R T (key.Msg _ _) r e = refl
-by-row m R T (key.Packet _ _) r e = refl
-by-row m R T (key.Wait _) r e = refl
+by-row m R T q r e = ap (λ h. note_over m h T q) (sym e)
 
 pub notes-next : (m : ℕ) (R : Rows) (T : State) (keys : List RowKey) (i : ℕ) (q : RowKey) (start now new : List ChangeNote) → i < length keys → q ≡ get_or keys i q
     → now ≡ start ++ notes_under m R T (take i keys) → new ≡ now ++ note_under m R T q → new ≡ start ++ notes_under m R T (take (i + 1) keys)
@@ -308,13 +302,13 @@ notes-all m R T keys i start now whole is = is ∙ ap (λ ks. start ++ notes_und
 
 -- from the place before `next` on, of the object x, for a moment on the path to `at`: the changes behind were none that is
 -- looked for
-pub record IsSearched (list : List ObjectNote) (made : List Made) (what : RowHappening) (x at next : ℕ) : Type 0 where
+pub record IsSearched (list : List ObjectNote) (made : List Made) (what : Sought) (x at next : ℕ) : Type 0 where
   pub n : ℕ
   pub within : n ≤ length list
   pub next_is : next ≡ last_of x list n
   pub none : HasNoneFrom (notes_in list) made what x at n
 
-pub searched-start : (list : List ObjectNote) (made : List Made) (what : RowHappening) (x at next : ℕ) → next ≡ last_of x list (length list) → IsSearched list made what x at next
+pub searched-start : (list : List ObjectNote) (made : List Made) (what : Sought) (x at next : ℕ) → next ≡ last_of x list (length list) → IsSearched list made what x at next
 searched-start list made what x at next is = record {
   n = length list;
   within = omega arith;
@@ -323,7 +317,7 @@ searched-start list made what x at next is = record {
 }
 
 -- nothing is left, so there is none
-pub searched-none : (list : List ObjectNote) (made : List Made) (what : RowHappening) (x at : ℕ) → IsSearched list made what x at 0 → HasNoneFrom (notes_in list) made what x at 0
+pub searched-none : (list : List ObjectNote) (made : List Made) (what : Sought) (x at : ℕ) → IsSearched list made what x at 0 → HasNoneFrom (notes_in list) made what x at 0
 searched-none list made what x at is = λ j n low there. elim (cases_lt j is.n) [
   | inl l ↦
       let c = noted_there j n there in
@@ -341,10 +335,8 @@ searched-none list made what x at is = λ j n low there. elim (cases_lt j is.n) 
 
 -- ---- one step along it
 
-module _ (list : List ObjectNote) (made : List Made) (falls : Falls made) (what : RowHappening) (x at next : ℕ)
-    (linked : AreLinked list) (rising : AreRising (notes_in list)) (is : IsSearched list made what x at next)
-    (i : ℕ) (c : ObjectNote) (place_is : next ≡ suc i) (there : slice_get list i ≡ Some c) (nearer : ℕ) (early : nearer ≤ c.moment)
-    (near : (m : ℕ) → m ≤ c.moment → among (path made nearer) m ≡ among (path made at) m) where
+module _ (list : List ObjectNote) (made : List Made) (what : Sought) (x at next : ℕ) (linked : AreLinked list) (is : IsSearched list made what x at next)
+    (i : ℕ) (c : ObjectNote) (place_is : next ≡ suc i) (there : slice_get list i ≡ Some c) where
   its : (i < is.n) × (is_of x (slice_get list i) ≡ true)
   its = last_of-its x list is.n i (sym is.next_is ∙ place_is)
 
@@ -354,29 +346,8 @@ module _ (list : List ObjectNote) (made : List Made) (falls : Falls made) (what 
   noted : slice_get (notes_in list) i ≡ Some (note_as c)
   noted = slice_get-map note_as list i ∙ ap (option_map note_as) there
 
-  -- it is on the path where the last moment there that is no later is its own
-  on_path : among (path made at) c.moment ≡ (nearer == c.moment)
-  on_path = sym (near c.moment (omega arith)) ∙ stands nearer refl (cases_lt nearer c.moment)
-    where
-      stands : (m : ℕ) → nearer ≡ m → (nearer < c.moment) ⊎ (c.moment ≤ nearer) → among (path made nearer) c.moment ≡ (nearer == c.moment)
-      stands m e (inl l) = off (among (path made nearer) c.moment) refl ∙ sym (ne_eqb nearer c.moment (λ e. omega (arith, e, l)))
-        where
-          off : (b : Bool) → among (path made nearer) c.moment ≡ b → among (path made nearer) c.moment ≡ false
-          off true on = absurd (omega (arith, among-early made falls nearer c.moment on, l))
-          off false on = on
-      stands zero e (inr g) = absurd (omega (arith, e, g, rising.some i (note_as c) noted))
-      stands (suc k) e (inr g) =
-          let same : c.moment ≡ suc k = omega (arith, e, g, early) in
-          (λ j. among (path made (e j)) (same j)) ∙ among-self made falls k ∙ sym (eq-eqb nearer c.moment (e ∙ sym same))
-
-  found_is : is_found made what x at (note_as c) ≡ ((nearer == c.moment) && tells what (note_as c))
-  found_is = ap (λ b. b && (tells what (note_as c) && among (path made at) c.moment)) its_koid ∙ ap (λ b. tells what (note_as c) && b) on_path ∙ turned (tells what (note_as c)) (nearer == c.moment)
-    where
-      turned : (a b : Bool) → (a && b) ≡ (b && a)
-      turned true true = refl
-      turned true false = refl
-      turned false true = refl
-      turned false false = refl
+  pub found_is : is_found made what x at (note_as c) ≡ (tells what (note_as c) && among (path made at) c.moment)
+  found_is = ap (λ b. b && (tells what (note_as c) && among (path made at) c.moment)) its_koid
 
   behind : HasNoneFrom (notes_in list) made what x at (suc i)
   behind j n low at_j = elim (cases_lt j is.n) [
@@ -392,21 +363,17 @@ module _ (list : List ObjectNote) (made : List Made) (falls : Falls made) (what 
           ap (λ n. is_found made what x at n) (sym same)
           ∙ ap (λ b. b && (tells what (note_as d) && among (path made at) d.moment)) (sym (ap (is_of x) e) ∙ no)
 
-  pub searched-found : ((nearer == c.moment) && tells what (note_as c)) ≡ true → IsLastFound (notes_in list) made what x at nearer
+  pub searched-found : (tells what (note_as c) && among (path made at) c.moment) ≡ true → IsLastFound (notes_in list) made what x at c.moment
   searched-found both = record {
     place = i;
     note = note_as c;
     there = noted;
-    at_moment = sym (eqb-true nearer c.moment (left_true (nearer == c.moment) (tells what (note_as c)) both));
+    at_moment = refl;
     found = found_is ∙ both;
     last = behind;
   }
-    where
-      left_true : (a b : Bool) → (a && b) ≡ true → a ≡ true
-      left_true true b e = refl
-      left_true false b e = e
 
-  pub searched-next : ((nearer == c.moment) && tells what (note_as c)) ≡ false → IsSearched list made what x at c.earlier
+  pub searched-next : (tells what (note_as c) && among (path made at) c.moment) ≡ false → IsSearched list made what x at c.earlier
   searched-next not_both = record {
     n = i;
     within = omega (arith, its.0, is.within);
@@ -422,3 +389,22 @@ module _ (list : List ObjectNote) (made : List Made) (falls : Falls made) (what 
 
   pub searched-less : c.earlier < next
   searched-less = omega (arith, linked i c there, last_of-early c.koid list i, place_is)
+
+-- a change is of a moment on the path where the last moment there that is no later is its own
+pub on_path : (list : List ObjectNote) (made : List Made) → Falls made → AreRising (notes_in list) → (at i : ℕ) (c : ObjectNote) → slice_get list i ≡ Some c → (nearer : ℕ) → nearer ≤ c.moment
+    → ((m : ℕ) → m ≤ c.moment → among (path made nearer) m ≡ among (path made at) m) → among (path made at) c.moment ≡ (nearer == c.moment)
+on_path list made falls rising at i c there nearer early near = sym (near c.moment (omega arith)) ∙ stands nearer refl (cases_lt nearer c.moment)
+  where
+    noted : slice_get (notes_in list) i ≡ Some (note_as c)
+    noted = slice_get-map note_as list i ∙ ap (option_map note_as) there
+
+    stands : (m : ℕ) → nearer ≡ m → (nearer < c.moment) ⊎ (c.moment ≤ nearer) → among (path made nearer) c.moment ≡ (nearer == c.moment)
+    stands m e (inl l) = off (among (path made nearer) c.moment) refl ∙ sym (ne_eqb nearer c.moment (λ e. omega (arith, e, l)))
+      where
+        off : (b : Bool) → among (path made nearer) c.moment ≡ b → among (path made nearer) c.moment ≡ false
+        off true on = absurd (omega (arith, among-early made falls nearer c.moment on, l))
+        off false on = on
+    stands zero e (inr g) = absurd (omega (arith, e, g, rising.some i (note_as c) noted))
+    stands (suc k) e (inr g) =
+        let same : c.moment ≡ suc k = omega (arith, e, g, early) in
+        (λ j. among (path made (e j)) (same j)) ∙ among-self made falls k ∙ sym (eq-eqb nearer c.moment (e ∙ sym same))

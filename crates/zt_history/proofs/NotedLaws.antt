@@ -1,5 +1,5 @@
 -- What is noted of the objects beside a tree: with one moment more and one less, true of each moment, and all that shows.
-use Rattle.std.proofs.Common.{◌≡◌, ℕ, zero, suc, ◌+◌, ◌-◌, ◌≤◌, ◌<◌, ◌⊎◌, Bool, true, false, not, ◌&&◌, ◌||◌, cond, List, [], ◌∷◌, ◌++◌, length, map, filter, Option, Some, None, refl, sym, ◌∙◌, ap, subst, inl, inr, arith, append-nil}
+use Rattle.std.proofs.Common.{◌≡◌, ℕ, zero, suc, ◌+◌, ◌-◌, ◌≤◌, ◌<◌, Bool, true, false, not, ◌&&◌, ◌||◌, cond, List, [], ◌∷◌, ◌++◌, length, map, filter, Option, Some, None, refl, sym, ◌∙◌, ap, subst, inl, inr, arith, append-nil}
 use Rattle.std.specs.Prelude.{◌==◌, if◌then◌else◌, slice_get}
 use Rattle.std.specs.List.{AllByRecursion, flat_map, last_or, list_any}
 use Rattle.std.proofs.lemmas.Bool.{cases_lt, eqb-true, eq-eqb, true≢false}
@@ -18,36 +18,26 @@ use Rattle.zt_rows.specs.Step.{step}
 use Rattle.zt_rows.specs.Tests.{among}
 use Rattle.zt_rows.proofs.ChangeLaws.{among-changed, find-before, same_where_not_differ}
 use Rattle.zt_store.specs.RecordLook.{held}
+use Rattle.zt_history.specs.declared.object_notes.Sought.{Sought}
+use Rattle.zt_history.specs.declared.object_notes.Sought.TheVariants as sought
 use Rattle.zt_history.specs.declared.row_happenings.RowHappening.{RowHappening}
 use Rattle.zt_history.specs.declared.row_happenings.RowHappening.TheVariants as happening
-use Rattle.zt_history.specs.RowHappenings.{is_alone, is_living, is_there, last_shown, shows, shows_at}
+use Rattle.zt_history.specs.LetGo.{last_let_go, lets_go}
+use Rattle.zt_history.specs.RowHappenings.{is_alone, is_living, is_there, last_shown, shows}
 use Rattle.zt_history.specs.Tree.{Made, parent_of, parent_at, path, state_at}
-use Rattle.zt_history.specs.TreeInvariant.{Falls}
+use Rattle.zt_history.specs.TreeInvariant.{AreMoments, Falls}
 use Rattle.zt_history.specs.ProofsOnly.Branches.{without_last}
-use Rattle.zt_history.specs.ProofsOnly.ObjectNotes.{AreNoted, AreRising, ChangeNote, IsCut, NotedChanges, TellsLast, is_found, next_koids_to, note_of, note_over, note_under, noted, notes_at, notes_of, notes_to, tells}
+use Rattle.zt_history.specs.ProofsOnly.ObjectNotes.{AreNoted, AreRising, ChangeNote, IsCut, NotedChanges, TellsLast, gone_note, gone_of, is_found, next_koids_to, note_before, note_of, note_over, note_under, noted, notes_at, notes_of, notes_to, tells}
 use Rattle.zt_history.proofs.NoteListLaws.{cut-front}
 use Rattle.zt_history.proofs.GrownLaws.{length-push, made_at-end, state-end}
-use Rattle.zt_history.proofs.ListLaws.{get-left, get-last}
+use Rattle.zt_history.proofs.LetGoLaws.{IsTyped, at-lets_go, before-there, differ-let_go, gone-in, lets_go-at}
+use Rattle.zt_history.proofs.ListLaws.{either, get-left, get-last, get-right}
 use Rattle.zt_history.proofs.MoreLaws.{falls-push, parent-early, parent-more, state-more}
 use Rattle.zt_history.proofs.PathLaws.{among-early, among-other, among-self, among-step, by_parents, path-opening, path-step}
-use Rattle.zt_history.proofs.RunLaws.{state-opening}
+use Rattle.zt_history.proofs.RunLaws.{moment-consistent, state-opening}
 use Rattle.zt_history.proofs.TreeLaws.{without_last-push}
 
 -- ---- places of lists
-
-module _ {A : Type 0} where
-  get-right : (xs ys : List A) (i : ℕ) → slice_get (xs ++ ys) (length xs + i) ≡ slice_get ys i
-  get-right [] ys i = let e : length {A = A} [] + i ≡ i = omega arith in ap (slice_get ys) e
-  get-right (x ∷ xs) ys i = let e : length (x ∷ xs) + i ≡ suc (length xs + i) = omega arith in ap (slice_get (x ∷ xs ++ ys)) e ∙ get-right xs ys i
-
-  -- what stands at a place of two lists stands in one of them
-  either : (xs ys : List A) (i : ℕ) (y : A) → slice_get (xs ++ ys) i ≡ Some y → (slice_get xs i ≡ Some y) ⊎ (slice_get ys (i - length xs) ≡ Some y)
-  either xs ys i y at = elim (cases_lt i (length xs)) [
-    | inl l ↦ inl (sym (get-left xs ys i l) ∙ at)
-    | inr past ↦
-        let n : length xs + (i - length xs) ≡ i = omega (arith, past) in
-        inr (sym (get-right xs ys (i - length xs)) ∙ ap (slice_get (xs ++ ys)) n ∙ at)
-  ]
 
 module _ {A B : Type 0} (f : A → List B) where
   get-flat_map : (xs : List A) (i : ℕ) (y : B) → slice_get (flat_map f xs) i ≡ Some y → (x : A) × (j : ℕ) × (slice_get (f x) j ≡ Some y)
@@ -66,6 +56,21 @@ module _ {A B : Type 0} (f : A → List B) where
   has-flat_map (z ∷ xs) (suc k) x j y at there =
       let rest = has-flat_map xs k x j y at there in
       (length (f z) + rest.0, get-right (f z) (flat_map f xs) rest.0 ∙ rest.1)
+
+-- ---- what is looked for
+
+-- it happened to the object by a call that led from S to T
+abbrev pub happens : Sought → ℕ → State → State → Bool
+happens (sought.Shown what) x S T = shows what (row S (key.Object x)) (row T (key.Object x))
+happens sought.LetGo x S T = lets_go x S T
+
+-- the same by a moment's call
+abbrev pub happens_at : Sought → ℕ → List Made → ℕ → Bool
+happens_at what x made m = happens what x (state_at made (parent_at made m)) (state_at made m)
+
+-- the last moment on the path to `at` at which it did
+abbrev pub last_happening : Sought → ℕ → List Made → ℕ → Option ℕ
+last_happening what x made at = last_or None (filter (happens_at what x made) (path made at))
 
 -- ---- what is noted of one moment
 
@@ -109,12 +114,13 @@ module _ (m x : ℕ) (r s : Option Row) where
     made = shows happening.Made r s;
     ended = shows happening.Ended r s;
     peer_closed = shows happening.PeerClosed r s;
+    let_go = false;
   }
 
   abbrev shown : Bool
   shown = shows happening.Made r s || (shows happening.Ended r s || shows happening.PeerClosed r s)
 
-  one-tells : (what : RowHappening) → tells what one ≡ shows what r s
+  one-tells : (what : RowHappening) → tells (sought.Shown what) one ≡ shows what r s
   one-tells happening.Made = refl
   one-tells happening.Ended = refl
   one-tells happening.PeerClosed = refl
@@ -133,23 +139,41 @@ module _ (m x : ℕ) (r s : Option Row) where
 -- a note of the record of a call
 pub record IsNoteOf (m : ℕ) (S T : State) (n : ChangeNote) : Type 0 where
   pub at : n.moment ≡ m
-  pub true_of : (what : RowHappening) → tells what n ≡ shows what (row S (key.Object n.koid)) (row T (key.Object n.koid))
+  pub true_of : (what : Sought) → tells what n ≡ true → happens what n.koid S T ≡ true
 
 module _ (m : ℕ) (S T : State) where
-  over-in : (x i : ℕ) (n : ChangeNote) (b : Bool) → slice_get (note_over m x (cond b (Some (row S (key.Object x))) None) (row T (key.Object x))) i ≡ Some n → IsNoteOf m S T n
-  over-in x i n true at =
-      let same = note-in m x (row S (key.Object x)) (row T (key.Object x)) i n at in
-      subst (IsNoteOf m S T) same (record { at = refl; true_of = one-tells m x (row S (key.Object x)) (row T (key.Object x)) })
-  over-in x i n false at = absurd (none-some n at)
+  of-shown : (x i : ℕ) (n : ChangeNote) → slice_get (note_of m x (row S (key.Object x)) (row T (key.Object x))) i ≡ Some n → IsNoteOf m S T n
+  of-shown x i n at = subst (IsNoteOf m S T) (note-in m x (row S (key.Object x)) (row T (key.Object x)) i n at) (record { at = refl; true_of = told })
+    where
+      told : (what : Sought) → tells what (one m x (row S (key.Object x)) (row T (key.Object x))) ≡ true → happens what x S T ≡ true
+      told (sought.Shown what) e = sym (one-tells m x (row S (key.Object x)) (row T (key.Object x)) what) ∙ e
+      told sought.LetGo e = absurd (true≢false (sym e))
+
+  of-gone : (k : RowKey) (i : ℕ) (n : ChangeNote) → slice_get (gone_of m (row S k) (row T k) T) i ≡ Some n → IsNoteOf m S T n
+  of-gone k i n at =
+      let its = gone-in m (row T k) T (row S k) i n at in
+      subst (IsNoteOf m S T) its.is (record { at = refl; true_of = told its.koid (lets_go-at S T its.koid k its.named its.gone) })
+    where
+      told : (x : ℕ) → lets_go x S T ≡ true → (what : Sought) → tells what (gone_note m x) ≡ true → happens what x S T ≡ true
+      told x gone (sought.Shown happening.Made) e = absurd (true≢false (sym e))
+      told x gone (sought.Shown happening.Ended) e = absurd (true≢false (sym e))
+      told x gone (sought.Shown happening.PeerClosed) e = absurd (true≢false (sym e))
+      told x gone sought.LetGo e = gone
+
+  before-in : (k : RowKey) (i : ℕ) (n : ChangeNote) → slice_get (note_before m (row S k) T k) i ≡ Some n → IsNoteOf m S T n
+  before-in (key.Object x) i n at = of-shown x i n at
+  before-in key.Counters i n at = of-gone key.Counters i n at
+  before-in (key.Entry p h) i n at = of-gone (key.Entry p h) i n at
+  before-in (key.Msg e k) i n at = of-gone (key.Msg e k) i n at
+  before-in (key.Packet p k) i n at = of-gone (key.Packet p k) i n at
+  before-in (key.Wait k) i n at = of-gone (key.Wait k) i n at
 
   under-in : (k : RowKey) (i : ℕ) (n : ChangeNote) → slice_get (note_under m (before S T) T k) i ≡ Some n → IsNoteOf m S T n
-  under-in (key.Object x) i n at =
-      over-in x i n (differ_at S T (key.Object x)) (ap (λ o. slice_get (note_over m x o (row T (key.Object x))) i) (sym (find-before S T (key.Object x))) ∙ at)
-  under-in key.Counters i n at = absurd (none-some n at)
-  under-in (key.Entry p h) i n at = absurd (none-some n at)
-  under-in (key.Msg e k) i n at = absurd (none-some n at)
-  under-in (key.Packet p k) i n at = absurd (none-some n at)
-  under-in (key.Wait k) i n at = absurd (none-some n at)
+  under-in k i n at = by (differ_at S T k) (ap (λ o. slice_get (note_over m o T k) i) (sym (find-before S T k)) ∙ at)
+    where
+      by : (b : Bool) → slice_get (note_over m (cond b (Some (row S k)) None) T k) i ≡ Some n → IsNoteOf m S T n
+      by true at = before-in k i n at
+      by false at = absurd (none-some n at)
 
   pub notes-in : (i : ℕ) (n : ChangeNote) → slice_get (notes_of m (before S T) T) i ≡ Some n → IsNoteOf m S T n
   notes-in i n at =
@@ -173,39 +197,55 @@ module _ (m : ℕ) (S T : State) where
   unfolding before
   keys-before = keys-under (changed S T)
 
-  pub notes-there : (x : ℕ) (what : RowHappening) → shows what (row S (key.Object x)) (row T (key.Object x)) ≡ true
-      → (i : ℕ) × (n : ChangeNote) × (slice_get (notes_of m (before S T) T) i ≡ Some n) × (n.koid ≡ x) × (n.moment ≡ m) × (tells what n ≡ true)
-  notes-there x what e =
-      let k : RowKey = key.Object x in
-      let differ : differ_at S T k ≡ true = differs (differ_at S T k) refl in
+  -- what is noted under a key where the rows differ stands among all that is noted
+  under-there : (k : RowKey) (j : ℕ) (n : ChangeNote) → differ_at S T k ≡ true → slice_get (note_before m (row S k) T k) j ≡ Some n
+      → (i : ℕ) × (slice_get (notes_of m (before S T) T) i ≡ Some n)
+  under-there k j n differ at =
       let there = listed k (changed S T) (among-changed S T k ∙ differ) in
-      let at : slice_get (map (λ e. e.0) (before S T)) there.0 ≡ Some k = ap (λ ks. slice_get ks there.0) keys-before ∙ there.1 in
+      let place : slice_get (map (λ e. e.0) (before S T)) there.0 ≡ Some k = ap (λ ks. slice_get ks there.0) keys-before ∙ there.1 in
       let has : held (before S T) k ≡ Some (row S k) = find-before S T k ∙ ap (λ b. cond b (Some (row S k)) None) differ in
-      let n : ChangeNote = one m x (row S k) (row T k) in
-      let here : slice_get (note_under m (before S T) T k) 0 ≡ Some n =
-      ap (λ o. slice_get (note_over m x o (row T k)) 0) has ∙ note-there m x (row S k) (row T k) what e in
-      let f = has-flat_map (note_under m (before S T) T) (map (λ e. e.0) (before S T)) there.0 k 0 n at here in
-      (f.0, n, f.1, refl, refl, one-tells m x (row S k) (row T k) what ∙ e)
+      let here : slice_get (note_under m (before S T) T k) j ≡ Some n = ap (λ o. slice_get (note_over m o T k) j) has ∙ at in
+      has-flat_map (note_under m (before S T) T) (map (λ e. e.0) (before S T)) there.0 k j n place here
+
+  differ-shown : (x : ℕ) (what : RowHappening) → shows what (row S (key.Object x)) (row T (key.Object x)) ≡ true → differ_at S T (key.Object x) ≡ true
+  differ-shown x what e = by (differ_at S T (key.Object x)) refl
     where
-      differs : (b : Bool) → differ_at S T (key.Object x) ≡ b → differ_at S T (key.Object x) ≡ true
-      differs true is = is
-      differs false is =
+      by : (b : Bool) → differ_at S T (key.Object x) ≡ b → differ_at S T (key.Object x) ≡ true
+      by true is = is
+      by false is =
           let same = same_where_not_differ S T (key.Object x) is in
           absurd (true≢false (sym e ∙ ap (λ r. shows what r (row T (key.Object x))) same ∙ shows-same what (row T (key.Object x))))
 
+  pub notes-there : IsTyped S → (x : ℕ) (what : Sought) → happens what x S T ≡ true
+      → (i : ℕ) × (n : ChangeNote) × (slice_get (notes_of m (before S T) T) i ≡ Some n) × (n.koid ≡ x) × (n.moment ≡ m) × (tells what n ≡ true)
+  notes-there typed x (sought.Shown what) e =
+      let r = row S (key.Object x) in
+      let s = row T (key.Object x) in
+      let f = under-there (key.Object x) 0 (one m x r s) (differ-shown x what e) (note-there m x r s what e) in
+      (f.0, one m x r s, f.1, refl, refl, one-tells m x r s what ∙ e)
+  notes-there typed x sought.LetGo e =
+      let where_named = at-lets_go S T x e in
+      let its = before-there m S T typed x where_named.0 where_named.1 where_named.2 in
+      let f = under-there where_named.0 its.0 (gone_note m x) (differ-let_go S T x where_named.0 where_named.1 where_named.2) its.1 in
+      (f.0, gone_note m x, f.1, refl, refl, refl)
+
 -- ---- what is noted of all moments so far
+
+-- each row of each state is of its key's variant
+abbrev AreTyped : List Made → Type 0
+AreTyped made = (m : ℕ) → m ≤ length made → IsTyped (state_at made m)
 
 module _ (made : List Made) where
   -- a note of one of the first k moments
   pub record IsNoteTo (k : ℕ) (n : ChangeNote) : Type 0 where
     pub some : 0 < n.moment
     pub low : n.moment ≤ k
-    pub true_of : (what : RowHappening) → tells what n ≡ shows_at what n.koid made n.moment
+    pub true_of : (what : Sought) → tells what n ≡ true → happens_at what n.koid made n.moment ≡ true
 
-  at-in : (m i : ℕ) (n : ChangeNote) → slice_get (notes_at made m) i ≡ Some n → (n.moment ≡ m) × ((what : RowHappening) → tells what n ≡ shows_at what n.koid made n.moment)
+  at-in : (m i : ℕ) (n : ChangeNote) → slice_get (notes_at made m) i ≡ Some n → (n.moment ≡ m) × ((what : Sought) → tells what n ≡ true → happens_at what n.koid made n.moment ≡ true)
   at-in m i n at =
       let is = notes-in m (state_at made (parent_at made m)) (state_at made m) i n at in
-      (is.at, λ what. is.true_of what ∙ ap (λ m. shows_at what n.koid made m) (sym is.at))
+      (is.at, λ what e. ap (λ m. happens_at what n.koid made m) is.at ∙ is.true_of what e)
 
   pub to-in : (k i : ℕ) (n : ChangeNote) → slice_get (notes_to made k) i ≡ Some n → IsNoteTo k n
   to-in zero i n at = absurd (none-some n at)
@@ -218,16 +258,17 @@ module _ (made : List Made) where
         record { some = omega (arith, is.0); low = omega (arith, is.0); true_of = is.1 }
   ]
 
-  pub to-there : (k m x : ℕ) (what : RowHappening) → 0 < m → m ≤ k → shows_at what x made m ≡ true
+  pub to-there : Falls made → AreTyped made → (k m x : ℕ) (what : Sought) → k ≤ length made → 0 < m → m ≤ k → happens_at what x made m ≡ true
       → (i : ℕ) × (n : ChangeNote) × (slice_get (notes_to made k) i ≡ Some n) × (n.koid ≡ x) × (n.moment ≡ m) × (tells what n ≡ true)
-  to-there zero m x what some low e = absurd (omega (arith, some, low))
-  to-there (suc k) m x what some low e = elim (cases_lt m (suc k)) [
+  to-there falls typed zero m x what all some low e = absurd (omega (arith, some, low))
+  to-there falls typed (suc k) m x what all some low e = elim (cases_lt m (suc k)) [
     | inl l ↦
-        let rest = to-there k m x what some (omega (arith, l)) e in
+        let rest = to-there falls typed k m x what (omega (arith, all)) some (omega (arith, l)) e in
         (rest.0, rest.1, get-left (notes_to made k) (notes_at made (suc k)) rest.0 (slice_get_within (notes_to made k) rest.0 rest.1 rest.2) ∙ rest.2, rest.3, rest.4, rest.5)
     | inr g ↦
         let same : m ≡ suc k = omega (arith, low, g) in
-        let here = notes-there (suc k) (state_at made (parent_at made (suc k))) (state_at made (suc k)) x what (ap (shows_at what x made) (sym same) ∙ e) in
+        let above : IsTyped (state_at made (parent_at made (suc k))) = typed (parent_at made (suc k)) (omega (arith, all, parent-early made falls (suc k))) in
+        let here = notes-there (suc k) (state_at made (parent_at made (suc k))) (state_at made (suc k)) above x what (ap (happens_at what x made) (sym same) ∙ e) in
         (length (notes_to made k) + here.0, here.1, get-right (notes_to made k) (notes_at made (suc k)) here.0 ∙ here.2, here.3, here.4 ∙ sym same, here.5)
   ]
 
@@ -410,9 +451,12 @@ module _ (made : List Made) (falls : Falls made) (P : ℕ → Bool) where
           one-more i ∙ ap (λ b. if b then Some (suc i) else last_or None (filter P (path made (parent_at made (suc i))))) (none (suc i) (among-self made falls i))
           ∙ rest (λ k up. none k (among-up i k up))
 
-module _ (made : List Made) (falls : Falls made) (what : RowHappening) (x at : ℕ) (within : at ≤ length made) where
+module _ (made : List Made) (stand : AreMoments made) (what : Sought) (x at : ℕ) (within : at ≤ length made) where
   abbrev P : ℕ → Bool
-  P = shows_at what x made
+  P = happens_at what x made
+
+  typed : AreTyped made
+  typed m low = (moment-consistent made stand m low).sound.typed
 
   -- what is found tells of the moment
   found-parts : (n : ChangeNote) → is_found made what x at n ≡ true → (n.koid ≡ x) × (tells what n ≡ true) × (among (path made at) n.moment ≡ true)
@@ -432,22 +476,21 @@ module _ (made : List Made) (falls : Falls made) (what : RowHappening) (x at : �
   some-on zero on = absurd (true≢false (sym on ∙ none at))
     where
       none : (at : ℕ) → among (path made at) 0 ≡ false
-      none = by_parents made falls (λ at. among (path made at) 0 ≡ false) (ap (λ p. among p 0) (path-opening made)) (λ i rest. among-other made falls i 0 (λ e. omega (arith, e)) ∙ rest)
+      none = by_parents made stand.falls (λ at. among (path made at) 0 ≡ false) (ap (λ p. among p 0) (path-opening made)) (λ i rest. among-other made stand.falls i 0 (λ e. omega (arith, e)) ∙ rest)
   some-on (suc m) on = omega arith
 
   noted-on : (notes : List ChangeNote) → notes ≡ notes_to made (length made) → (m : ℕ) → among (path made at) m ≡ true → P m ≡ true
       → (i : ℕ) × (n : ChangeNote) × (slice_get notes i ≡ Some n) × (n.moment ≡ m) × (is_found made what x at n ≡ true)
   noted-on notes are m on e =
-      let low : m ≤ length made = omega (arith, among-early made falls at m on, within) in
-      let t = to-there made (length made) m x what (some-on m on) low e in
+      let low : m ≤ length made = omega (arith, among-early made stand.falls at m on, within) in
+      let t = to-there made stand.falls typed (length made) m x what (omega arith) (some-on m on) low e in
       (t.0, t.1, ap (λ notes. slice_get notes t.0) are ∙ t.2, t.4, found-whole t.1 t.3 t.5 (ap (among (path made at)) t.4 ∙ on))
 
-  pub tells-shown : (notes : List ChangeNote) → notes ≡ notes_to made (length made) → (result : Option ℕ) → TellsLast notes made what x at result → result ≡ last_shown what x made at
-  unfolding last_shown
-  tells-shown notes are (Some m) is =
+  pub tells-happening : (notes : List ChangeNote) → notes ≡ notes_to made (length made) → (result : Option ℕ) → TellsLast notes made what x at result → result ≡ last_happening what x made at
+  tells-happening notes are (Some m) is =
       let parts = found-parts is.note is.found in
       let true_note = to-in made (length made) is.place is.note (ap (λ notes. slice_get notes is.place) (sym are) ∙ is.there) in
-      let passes : P m ≡ true = (λ j. shows_at what (sym parts.0 j) made (sym is.at_moment j)) ∙ sym (true_note.true_of what) ∙ parts.1 in
+      let passes : P m ≡ true = (λ j. happens_at what (sym parts.0 j) made (sym is.at_moment j)) ∙ true_note.true_of what parts.1 in
       let on : among (path made at) m ≡ true = ap (among (path made at)) (sym is.at_moment) ∙ parts.2 in
       let most : (k : ℕ) → among (path made at) k ≡ true → P k ≡ true → k ≤ m = λ k up e.
       let t = noted-on notes are k up e in
@@ -457,10 +500,20 @@ module _ (made : List Made) (falls : Falls made) (what : RowHappening) (x at : �
             let rising = subst AreRising (sym are) (to-rising made (length made)) in
             omega (arith, rising.later t.0 is.place t.1 is.note h t.2 is.there, t.3, is.at_moment)
       ] in
-      sym (last-found made falls P m passes at on most)
-  tells-shown notes are None none =
-      sym (last-none made falls P at (λ k up. by k up (P k) refl))
+      sym (last-found made stand.falls P m passes at on most)
+  tells-happening notes are None none =
+      sym (last-none made stand.falls P at (λ k up. by k up (P k) refl))
     where
       by : (k : ℕ) → among (path made at) k ≡ true → (b : Bool) → P k ≡ b → P k ≡ false
       by k up true e = let t = noted-on notes are k up e in absurd (true≢false (sym t.4 ∙ none t.0 t.1 (omega arith) t.2))
       by k up false e = e
+
+-- the two that are asked for
+
+pub last-shown : (what : RowHappening) (x : ℕ) (made : List Made) (at : ℕ) → last_happening (sought.Shown what) x made at ≡ last_shown what x made at
+unfolding last_shown
+last-shown what x made at = refl
+
+pub last-let_go : (x : ℕ) (made : List Made) (at : ℕ) → last_happening sought.LetGo x made at ≡ last_let_go x made at
+unfolding last_let_go
+last-let_go x made at = refl

@@ -4,5 +4,6 @@ pub mod HistoryRefusals
 pub mod Timeline
 pub mod TreeInvariant
 pub mod RowHappenings
+pub mod LetGo
 -- Used by proofs only: no public clause depends on them.
 pub mod ProofsOnly

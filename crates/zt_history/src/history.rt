@@ -7,13 +7,14 @@ ghost use Rattle.zt_rows.specs.Step.{run};
 ghost use Rattle.zt_history.specs.Tree.{call_at, reply_at, parent_at, path, end_of, state_at, calls_to, replies_to, head_at, name_at, branch_named};
 ghost use Rattle.zt_history.specs.HistoryRefusals.{IsHistoryRefusal, moment_on};
 ghost use Rattle.zt_history.specs.ProofsOnly.Forks.{IsAbove};
+ghost use Rattle.zt_history.specs.LetGo.{last_let_go};
 ghost use Rattle.zt_history.specs.RowHappenings.{last_shown};
 ghost use Rattle.zt_history.specs.TreeInvariant.{recorded_at, Falls, IsTree};
 ghost use Rattle.zt_history.specs.Timeline.{at_opening, moved_to, unmoved, IsPath};
 
 use crate::branches::{BranchId, Branches};
 use crate::moments::Moments;
-use crate::object_notes::ObjectNotes;
+use crate::object_notes::{ObjectNotes, Sought};
 use crate::resting_store::RestingStore;
 use crate::row_happenings::RowHappening;
 use std::alloc::{AllocError, Global};
@@ -204,13 +205,23 @@ impl History {
         self.notes.next_koid(moment)
     }
 
-    /// The last moment on the path to one at which it happened to the object. It takes no memory, and a look at each change
-    /// of the object, with as many at parents and jumps for each as the logarithm of the path's length.
+    /// The last moment on the path to one at which it happened to the object. It takes no memory, and a look at each note of
+    /// the object, with as many at parents and jumps for each that is of this kind as the logarithm of the path's length.
     pub fn last_shown(&self, what: RowHappening, koid: Koid, at: Moment) -> Option<Moment>
         requires { at ≤ length self.now.tree.made }
         ensures { result ≡ last_shown what koid self.now.tree.made at }
     {
-        self.notes.find(&self.moments, what, koid, at)
+        self.notes
+            .find(&self.moments, Sought::Shown(what), koid, at)
+    }
+
+    /// The last moment on the path to one at which a name of the object went, an entry's or a message's, while the object
+    /// stayed. It takes no memory, and costs as much as `last_shown`.
+    pub fn last_let_go(&self, koid: Koid, at: Moment) -> Option<Moment>
+        requires { at ≤ length self.now.tree.made }
+        ensures { result ≡ last_let_go koid self.now.tree.made at }
+    {
+        self.notes.find(&self.moments, Sought::LetGo, koid, at)
     }
 
     /// The moments after the opening up to a moment: what `along` is to be given to go there. It takes memory for the

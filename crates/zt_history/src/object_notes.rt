@@ -1,16 +1,19 @@
-//! What the calls did to each object, as its row shows it: kept beside the moments, so that the moment of it is found by the
-//! changes of that object alone.
-ghost use Rattle.std.specs.Prelude.{◌≡◌, ◌≤◌, ◌<◌, ◌+◌, ◌++◌, ◌∷◌, [], Some, IfOk, OnOk, OnErr, length, slice_get, take};
+//! What the calls did to each object, as its row shows it, and which names of it they let go while it stayed: kept beside the
+//! moments, so that the moment of it is found by the changes of that object alone.
+ghost use Rattle.std.specs.Prelude.{◌≡◌, ◌==◌, ◌≤◌, ◌<◌, ◌+◌, ◌++◌, ◌∷◌, [], Some, IfOk, OnOk, OnErr, length, slice_get, take};
+ghost use Rattle.std.specs.List.{list_any};
 ghost use Rattle.std.specs.Option.{option_copied};
 ghost use Rattle.zt_rows.specs.Handles.{next_koid};
+ghost use Rattle.zt_rows.specs.State.{row};
+ghost use Rattle.zt_history.specs.LetGo.{names};
 ghost use Rattle.zt_history.specs.ProofsOnly.Branches.{without_last};
-ghost use Rattle.zt_history.specs.ProofsOnly.ObjectNotes.{AreChained, AreLinked, AreRising, IsCut, IsLonger, IsSameEnd, TellsLast, end_at, ends_at, last_of, note_as, note_before, note_of, noted, notes_in, notes_of, shown_as, tells};
+ghost use Rattle.zt_history.specs.ProofsOnly.ObjectNotes.{AreChained, AreLinked, AreRising, IsCut, IsLonger, IsSameEnd, TellsLast, end_at, ends_at, last_of, gone_name, gone_names, is_let_go, note_as, note_before, note_of, note_with, noted, notes_in, notes_of, tells};
 
 use crate::moments::Moments;
-use crate::row_happenings::{RowHappening, ShownChanges, shown_changes};
+use crate::row_happenings::{NOTHING_SHOWN, RowHappening, ShownChanges, shown_changes};
 use std::alloc::{AllocError, Global};
 use std::marker::Model;
-use zt_rows::{Koid, Moment, Row, RowKey};
+use zt_rows::{Held, Koid, Moment, Row, RowKey};
 use zt_store::{Record, Store};
 
 /// What a moment's call did to an object, and the place behind that of the object's earlier change, 0 where it has none.
@@ -22,6 +25,16 @@ pub(crate) struct ObjectNote {
     pub(crate) made: bool,
     pub(crate) ended: bool,
     pub(crate) peer_closed: bool,
+    pub(crate) let_go: bool,
+}
+
+/// What is looked for among the changes of an object.
+#[derive(Clone, Copy)]
+pub(crate) enum Sought {
+    /// That this shows in its row.
+    Shown(RowHappening),
+    /// That a name of it went while it stayed.
+    LetGo,
 }
 
 /// The changes in the order of their moments, for each koid the place behind that of its last one, and the next koid at each
@@ -105,7 +118,7 @@ impl ObjectNotes {
     pub(crate) fn find(
         &self,
         moments: &Moments,
-        what: RowHappening,
+        what: Sought,
         koid: Koid,
         at: Moment,
     ) -> Option<Moment>
@@ -122,7 +135,7 @@ fn found(
     list: &Vec<ObjectNote>,
     end: usize,
     moments: &Moments,
-    what: RowHappening,
+    what: Sought,
     koid: Koid,
     at: Moment,
 ) -> Option<Moment>
@@ -135,9 +148,8 @@ fn found(
     let mut next = end;
     while next > 0 {
         let change = &list[next - 1];
-        let near = moments.no_later(at, change.moment);
-        if near == change.moment && tells(what, change) {
-            return Some(near);
+        if tells(what, change) && moments.no_later(at, change.moment) == change.moment {
+            return Some(change.moment);
         }
         next = change.earlier as usize;
     }
@@ -155,7 +167,8 @@ fn end_of(last: &Vec<u32>, koid: Koid) -> usize
     }
 }
 
-/// Notes what a moment's call did to each object of its record. Where memory is refused some of it is noted.
+/// Notes what a moment's call did to each object of its record, and which names there it let go. Where memory is refused some
+/// of it is noted.
 fn note_all(
     list: &mut Vec<ObjectNote>,
     last: &mut Vec<u32>,
@@ -182,8 +195,8 @@ fn note_all(
     Ok(())
 }
 
-/// Notes what a moment's call did to the object of a key, if it is an object's, by the row before it. Where memory is refused
-/// nothing is noted.
+/// Notes what a moment's call did to the object of a key, if it is an object's, and else that it let go of what the row before
+/// it named. Where memory is refused some of it is noted.
 fn note_under(
     list: &mut Vec<ObjectNote>,
     last: &mut Vec<u32>,
@@ -198,10 +211,17 @@ fn note_under(
     ensures chained { AreChained list.new.items last.new.items }
 {
     let asked = key;
-    let RowKey::Object(koid) = key else {
-        return Ok(());
-    };
-    note_one(list, last, moment, koid, before, store.row(asked))
+    if let RowKey::Object(koid) = key {
+        return note_one(list, last, moment, koid, before, store.row(asked));
+    }
+    match before {
+        Some(Row::Entry(held)) => note_name(list, last, moment, held.koid, &asked, store),
+        Some(Row::Msg(message)) => {
+            let handles = message.handles().as_slice();
+            note_names(list, last, moment, handles, &asked, store)
+        }
+        _ => Ok(()),
+    }
 }
 
 /// Notes what a moment's call did to an object, by its row before it and behind it, where it did anything. Where memory is
@@ -221,35 +241,112 @@ fn note_one(
 {
     let shown = shown_changes(before, after);
     if shown.made || shown.ended || shown.peer_closed {
-        return push_change(list, last, moment, koid, shown);
+        return push_change(list, last, moment, koid, shown, false);
     }
     Ok(())
 }
 
+/// Notes that a moment's call let go of each name among the handles of a message, which stood under the key before, where it
+/// did. Where memory is refused some of it is noted.
+fn note_names(
+    list: &mut Vec<ObjectNote>,
+    last: &mut Vec<u32>,
+    moment: Moment,
+    handles: &[Held],
+    key: &RowKey,
+    store: &Store,
+) -> Result<(), AllocError>
+    requires { AreChained list.old.items last.old.items }
+    ensures ok { OnOk result (notes_in list.new.items ≡ notes_in list.old.items ++ gone_names moment (row store.now.state key.now) store.now.state handles.now) }
+    ensures kept { IsLonger list.old.items list.new.items }
+    ensures chained { AreChained list.new.items last.new.items }
+{
+    for held in handles {
+        note_name(list, last, moment, held.koid, key, store)?;
+    }
+    Ok(())
+}
+
+/// Notes that a moment's call let go of a name of an object, which stood under the key before, if it did. Where memory is
+/// refused nothing is noted.
+#[inline(never)]
+fn note_name(
+    list: &mut Vec<ObjectNote>,
+    last: &mut Vec<u32>,
+    moment: Moment,
+    koid: Koid,
+    key: &RowKey,
+    store: &Store,
+) -> Result<(), AllocError>
+    requires { AreChained list.old.items last.old.items }
+    ensures ok { OnOk result (notes_in list.new.items ≡ notes_in list.old.items ++ gone_name moment (row store.now.state key.now) store.now.state koid) }
+    ensures kept { IsLonger list.old.items list.new.items }
+    ensures chained { AreChained list.new.items last.new.items }
+{
+    if is_let_go(koid, key, store) {
+        return push_change(list, last, moment, koid, NOTHING_SHOWN, true);
+    }
+    Ok(())
+}
+
+/// Whether the object is there, and no row under the key names it.
+fn is_let_go(koid: Koid, key: &RowKey, store: &Store) -> bool
+    ensures { result ≡ is_let_go koid (row store.now.state key.now) store.now.state }
+{
+    store.object(koid).is_some() && !names(koid, store.row(*key))
+}
+
+/// Whether the row names the object: as what an entry holds, or as what a handle of a message holds.
+fn names(koid: Koid, row: Option<&Row>) -> bool
+    ensures { result ≡ names koid (option_copied row.entry) }
+{
+    match row {
+        Some(Row::Entry(held)) => held.koid == koid,
+        Some(Row::Msg(message)) => any_names(koid, message.handles().as_slice()),
+        _ => false,
+    }
+}
+
+/// Whether one of the handles names the object.
+fn any_names(koid: Koid, handles: &[Held]) -> bool
+    ensures { result ≡ list_any (λ held. held.koid == koid) handles.now }
+{
+    for held in handles {
+        if held.koid == koid {
+            return true;
+        }
+    }
+    false
+}
+
 /// Adds a change of an object as its last one. Where memory is refused none is added.
+#[inline(always)]
 fn push_change(
     list: &mut Vec<ObjectNote>,
     last: &mut Vec<u32>,
     moment: Moment,
     koid: Koid,
     shown: ShownChanges,
+    let_go: bool,
 ) -> Result<(), AllocError>
     requires { AreChained list.old.items last.old.items }
-    ensures ok { OnOk result (notes_in list.new.items ≡ notes_in list.old.items ++ shown_as moment koid shown ∷ []) }
+    ensures ok { OnOk result (notes_in list.new.items ≡ notes_in list.old.items ++ note_with moment koid shown let_go ∷ []) }
     ensures kept { IsLonger list.old.items list.new.items }
     ensures chained { AreChained list.new.items last.new.items }
 {
     let number = in_four_bytes(koid.0)?;
     let end = in_four_bytes(list.len() as u64 + 1)?;
     cover(last, number)?;
-    list.push(ObjectNote {
+    list.reserve(1)?;
+    list.push_reserved(ObjectNote {
         koid: number,
         earlier: last[number as usize],
         moment,
         made: shown.made,
         ended: shown.ended,
         peer_closed: shown.peer_closed,
-    })?;
+        let_go,
+    });
     last[number as usize] = end;
     Ok(())
 }
@@ -320,13 +417,14 @@ fn drop_change(list: &mut Vec<ObjectNote>, last: &mut Vec<u32>)
     }
 }
 
-/// Whether the change is that this happened.
-fn tells(what: RowHappening, change: &ObjectNote) -> bool
+/// Whether the change is what is looked for.
+fn tells(what: Sought, change: &ObjectNote) -> bool
     ensures { result ≡ tells what (note_as change.now) }
 {
     match what {
-        RowHappening::Made => change.made,
-        RowHappening::Ended => change.ended,
-        RowHappening::PeerClosed => change.peer_closed,
+        Sought::Shown(RowHappening::Made) => change.made,
+        Sought::Shown(RowHappening::Ended) => change.ended,
+        Sought::Shown(RowHappening::PeerClosed) => change.peer_closed,
+        Sought::LetGo => change.let_go,
     }
 }

@@ -25,6 +25,13 @@ pub(crate) struct ShownChanges {
     pub(crate) peer_closed: bool,
 }
 
+/// That nothing happened.
+pub(crate) const NOTHING_SHOWN: ShownChanges = ShownChanges {
+    made: false,
+    ended: false,
+    peer_closed: false,
+};
+
 /// What shows in the row before and the row after.
 pub(crate) fn shown_changes(before: Option<&Row>, after: Option<&Row>) -> ShownChanges
     ensures made { result.made ≡ shows RowHappening.Made (option_copied before.entry) (option_copied after.entry) }
@@ -43,11 +50,7 @@ pub(crate) fn shown_changes(before: Option<&Row>, after: Option<&Row>) -> ShownC
             ended: before.life == Life::Live,
             peer_closed: false,
         },
-        (None, None) => ShownChanges {
-            made: false,
-            ended: false,
-            peer_closed: false,
-        },
+        (None, None) => NOTHING_SHOWN,
     }
 }
 
@@ -68,11 +71,7 @@ fn changes_between(before: &ObjectRow, after: &ObjectRow) -> ShownChanges
     ensures peer_closed { result.peer_closed ≡ (not (is_cut_off before.now) && is_cut_off after.now) }
 {
     if is_alike(before, after) {
-        return ShownChanges {
-            made: false,
-            ended: false,
-            peer_closed: false,
-        };
+        return NOTHING_SHOWN;
     }
     ShownChanges {
         made: false,

@@ -1,50 +1,70 @@
 -- What is noted of the objects beside the moments: what each call did to them, chained for each object, and the next koid.
 -- Used by proofs only.
-use Rattle.std.specs.Prelude.{◌≡◌, ℕ, zero, suc, ◌==◌, ◌-◌, ◌≤◌, ◌<◌, Bool, true, false, ◌&&◌, ◌||◌, if◌then◌else◌, List, [], ◌∷◌, ◌++◌, length, map, Option, None, Some, slice_get, slice_index_or}
+use Rattle.std.specs.Prelude.{◌≡◌, ℕ, zero, suc, ◌==◌, ◌-◌, ◌≤◌, ◌<◌, Bool, true, false, not, ◌&&◌, ◌||◌, if◌then◌else◌, List, [], ◌∷◌, ◌++◌, length, map, Option, None, Some, slice_get, slice_index_or}
 use Rattle.std.specs.List.{AllByRecursion, flat_map}
 use Rattle.zt_rows.specs.declared.keys.RowKey.{RowKey}
 use Rattle.zt_rows.specs.declared.keys.RowKey.TheVariants as key
+use Rattle.zt_rows.specs.declared.rows.Held.{Held}
 use Rattle.zt_rows.specs.declared.rows.Row.{Row}
+use Rattle.zt_rows.specs.declared.rows.Row.TheVariants as rows
 use Rattle.zt_rows.specs.Change.{before}
 use Rattle.zt_rows.specs.Handles.{next_koid}
 use Rattle.zt_rows.specs.State.{State, row}
-use Rattle.zt_rows.specs.Tests.{among}
+use Rattle.zt_rows.specs.Tests.{among, exists}
 use Rattle.zt_store.specs.RecordLook.{held}
 use Rattle.zt_history.specs.declared.object_notes.ObjectNote.{ObjectNote}
-use Rattle.zt_history.specs.declared.row_happenings.RowHappening.{RowHappening}
+use Rattle.zt_history.specs.declared.object_notes.Sought.{Sought}
+use Rattle.zt_history.specs.declared.object_notes.Sought.TheVariants as sought
 use Rattle.zt_history.specs.declared.row_happenings.RowHappening.TheVariants as happening
 use Rattle.zt_history.specs.declared.row_happenings.ShownChanges.{ShownChanges}
+use Rattle.zt_history.specs.LetGo.{names}
 use Rattle.zt_history.specs.RowHappenings.{shows}
 use Rattle.zt_history.specs.Tree.{Made, parent_at, path, state_at}
 
--- what a moment's call did to an object
+-- what a moment's call did to an object: that it showed in its row, or that a name of it went while it stayed
 pub record ChangeNote : Type 0 where
   pub moment : ℕ
   pub koid : ℕ
   pub made : Bool
   pub ended : Bool
   pub peer_closed : Bool
+  pub let_go : Bool
 
 pub record NotedChanges : Type 0 where
   pub notes : List ChangeNote
   pub next_koids : List ℕ
 
 abbrev pub note_as : ObjectNote → ChangeNote
-note_as c = record { moment = c.moment; koid = c.koid; made = c.made; ended = c.ended; peer_closed = c.peer_closed }
+note_as c = record {
+  moment = c.moment;
+  koid = c.koid;
+  made = c.made;
+  ended = c.ended;
+  peer_closed = c.peer_closed;
+  let_go = c.let_go;
+}
 
 abbrev pub notes_in : List ObjectNote → List ChangeNote
 notes_in list = map note_as list
 
-abbrev pub tells : RowHappening → ChangeNote → Bool
-tells happening.Made n = n.made
-tells happening.Ended n = n.ended
-tells happening.PeerClosed n = n.peer_closed
+abbrev pub tells : Sought → ChangeNote → Bool
+tells (sought.Shown happening.Made) n = n.made
+tells (sought.Shown happening.Ended) n = n.ended
+tells (sought.Shown happening.PeerClosed) n = n.peer_closed
+tells sought.LetGo n = n.let_go
 
 -- ---- what is noted of a moment
 
 -- of an object, as the code found it
-abbrev pub shown_as : ℕ → ℕ → ShownChanges → ChangeNote
-shown_as m x shown = record { moment = m; koid = x; made = shown.made; ended = shown.ended; peer_closed = shown.peer_closed }
+abbrev pub note_with : ℕ → ℕ → ShownChanges → Bool → ChangeNote
+note_with m x shown gone = record {
+  moment = m;
+  koid = x;
+  made = shown.made;
+  ended = shown.ended;
+  peer_closed = shown.peer_closed;
+  let_go = gone;
+}
 
 -- of an object, by its row before the call and after it; nothing where nothing shows
 abbrev pub note_of : ℕ → ℕ → Option Row → Option Row → List ChangeNote
@@ -56,23 +76,51 @@ note_of m x r s =
       made = shows happening.Made r s;
       ended = shows happening.Ended r s;
       peer_closed = shows happening.PeerClosed r s;
+      let_go = false;
     } ∷ []
     else []
 
--- the same where a record has the row before it
-abbrev pub note_over : ℕ → ℕ → Option (Option Row) → Option Row → List ChangeNote
-note_over m x None s = []
-note_over m x (Some r) s = note_of m x r s
+-- the object is there in T, and the row s where a name of it stood does not name it
+abbrev pub is_let_go : ℕ → Option Row → State → Bool
+is_let_go x s T = exists T x && not (names x s)
 
--- of what stands under a key of the record R of the call, which led to T
-abbrev pub note_under : ℕ → List (RowKey × Option Row) → State → RowKey → List ChangeNote
-note_under m R T (key.Object x) = note_over m x (held R (key.Object x)) (row T (key.Object x))
-note_under m R T _ = []
+abbrev pub gone_note : ℕ → ℕ → ChangeNote
+gone_note m x = record {
+  moment = m;
+  koid = x;
+  made = false;
+  ended = false;
+  peer_closed = false;
+  let_go = true;
+}
 
--- the same of a key, by the row before the call
+-- that a name of an object went, by the row s after it; nothing where it did not
+abbrev pub gone_name : ℕ → Option Row → State → ℕ → List ChangeNote
+gone_name m s T x = if is_let_go x s T then gone_note m x ∷ [] else []
+
+-- the same of the handles of a message
+abbrev pub gone_names : ℕ → Option Row → State → List Held → List ChangeNote
+gone_names m s T handles = flat_map (λ held. gone_name m s T held.koid) handles
+
+-- the same of what a row named before the call
+abbrev pub gone_of : ℕ → Option Row → Option Row → State → List ChangeNote
+gone_of m (Some (rows.Entry held)) s T = gone_name m s T held.koid
+gone_of m (Some (rows.Msg sent)) s T = gone_names m s T sent.handles
+gone_of m _ s T = []
+
+-- of what stands under a key, by the row before the call, which led to T: of an object what shows, else what is let go
 abbrev pub note_before : ℕ → Option Row → State → RowKey → List ChangeNote
 note_before m r T (key.Object x) = note_of m x r (row T (key.Object x))
-note_before m r T _ = []
+note_before m r T k = gone_of m r (row T k) T
+
+-- the same where a record has the row before it
+abbrev pub note_over : ℕ → Option (Option Row) → State → RowKey → List ChangeNote
+note_over m None T k = []
+note_over m (Some r) T k = note_before m r T k
+
+-- the same of a key of the record R of the call
+abbrev pub note_under : ℕ → List (RowKey × Option Row) → State → RowKey → List ChangeNote
+note_under m R T k = note_over m (held R k) T k
 
 abbrev pub notes_under : ℕ → List (RowKey × Option Row) → State → List RowKey → List ChangeNote
 notes_under m R T keys = flat_map (note_under m R T) keys
@@ -155,15 +203,15 @@ pub record AreRising (notes : List ChangeNote) : Type 0 where
   pub later : (i j : ℕ) (n k : ChangeNote) → i ≤ j → slice_get notes i ≡ Some n → slice_get notes j ≡ Some k → n.moment ≤ k.moment
 
 -- it is noted of the object at a moment on the path to `at`
-abbrev pub is_found : List Made → RowHappening → ℕ → ℕ → ChangeNote → Bool
+abbrev pub is_found : List Made → Sought → ℕ → ℕ → ChangeNote → Bool
 is_found made what x at n = (n.koid == x) && (tells what n && among (path made at) n.moment)
 
 -- of the changes from the i-th on, none is it
-abbrev pub HasNoneFrom : List ChangeNote → List Made → RowHappening → ℕ → ℕ → ℕ → Type 0
+abbrev pub HasNoneFrom : List ChangeNote → List Made → Sought → ℕ → ℕ → ℕ → Type 0
 HasNoneFrom notes made what x at i = (j : ℕ) (n : ChangeNote) → i ≤ j → slice_get notes j ≡ Some n → is_found made what x at n ≡ false
 
 -- the i-th is it, at this moment, and none behind it
-pub record IsLastFound (notes : List ChangeNote) (made : List Made) (what : RowHappening) (x at moment : ℕ) : Type 0 where
+pub record IsLastFound (notes : List ChangeNote) (made : List Made) (what : Sought) (x at moment : ℕ) : Type 0 where
   pub place : ℕ
   pub note : ChangeNote
   pub there : slice_get notes place ≡ Some note
@@ -171,6 +219,6 @@ pub record IsLastFound (notes : List ChangeNote) (made : List Made) (what : RowH
   pub found : is_found made what x at note ≡ true
   pub last : HasNoneFrom notes made what x at (suc place)
 
-abbrev pub TellsLast : List ChangeNote → List Made → RowHappening → ℕ → ℕ → Option ℕ → Type 0
+abbrev pub TellsLast : List ChangeNote → List Made → Sought → ℕ → ℕ → Option ℕ → Type 0
 TellsLast notes made what x at (Some moment) = IsLastFound notes made what x at moment
 TellsLast notes made what x at None = HasNoneFrom notes made what x at 0

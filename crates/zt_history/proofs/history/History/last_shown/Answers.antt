@@ -1,9 +1,10 @@
 -- What is noted of the object tells when it happened.
 use Rattle.std.proofs.Common.{◌≤◌, length, sym, ◌∙◌, ap, subst, arith}
+use Rattle.zt_history.specs.declared.object_notes.Sought.TheVariants as sought
 use Rattle.zt_history.specs.RowHappenings.{last_shown}
 use Rattle.zt_history.specs.Timeline.{Timeline}
 use Rattle.zt_history.specs.ProofsOnly.ObjectNotes.{AreRising}
-use Rattle.zt_history.proofs.NotedLaws.{tells-shown, to-rising}
+use Rattle.zt_history.proofs.NotedLaws.{last-shown, tells-happening, to-rising}
 use Rattle.zt_history.proofs.history.History.last_shown.Goals as goal
 
 pub find-requires : goal.find-requires
@@ -12,6 +13,7 @@ find-requires c = subst AreRising (sym c.self.invariant.noted.notes) (to-rising 
 pub returns : goal.returns
 returns c =
     let within : c.args.at ≤ length c.self.inside.moments.made = omega (arith, c.requires, ap (λ (h : Timeline). length h.tree.made) c.self.view_is) in
-    tells-shown c.self.inside.moments.made c.self.invariant.kept.moments_stand.falls c.args.what c.args.koid c.args.at within c.self.inside.notes.notes c.self.invariant.noted.notes
+    tells-happening c.self.inside.moments.made c.self.invariant.kept.moments_stand (sought.Shown c.args.what) c.args.koid c.args.at within c.self.inside.notes.notes c.self.invariant.noted.notes
     c.find.result c.find.ensures
+    ∙ last-shown c.args.what c.args.koid c.self.inside.moments.made c.args.at
     ∙ ap (λ (h : Timeline). last_shown c.args.what c.args.koid h.tree.made c.args.at) c.self.view_is
