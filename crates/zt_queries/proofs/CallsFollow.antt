@@ -41,7 +41,7 @@ use Rattle.zt_rows.proofs.SentLaws.{sent-held}
 use Rattle.zt_rows.proofs.ReceivedLaws.{first-message}
 use Rattle.zt_queries.specs.Reachability.{reached}
 use Rattle.zt_queries.proofs.ReachLaws.{in-all, entry-reached, message-reached}
-use Rattle.zt_queries.proofs.FollowLaws.{aged_itself, Was, is_old, was-raised, IsFresh, plain-fresh, is_known, AllKnown, known-reached, known-new, known-entry, Direct, direct-itself, direct-less, direct-object, direct-counters, direct-entry, direct-message, direct-taken, direct-end, direct-cancel, direct-install, direct-install_all, direct-made, direct-paired}
+use Rattle.zt_queries.proofs.FollowLaws.{aged_itself, Was, is_old, was-raised, IsFresh, plain-fresh, is_known, AllKnown, AllReached, known-reached, known-new, known-entry, Direct, direct-itself, direct-less, direct-object, direct-counters, direct-entry, direct-message, direct-taken, direct-end, direct-cancel, direct-install, direct-install_all, direct-made, direct-paired}
 
 -- ---- what changes waits and packets alone
 
@@ -155,10 +155,10 @@ module _ (S : State) (sound : IsSound S) (p : ℕ) (live : runs S p ≡ true) wh
       let same : next_at S x ≡ o.next = ap object_next there in
       omega arith
 
-  direct-push_message : (T : State) → Direct S T → (x : ℕ) (o : ObjectRow) → object S x ≡ Some o → (m : MessageContent) → AllKnown S m.handles → Direct S (push_message x o m T)
-  direct-push_message T d x o there m known =
+  direct-push_message : (T : State) → Direct S T → (x : ℕ) (o : ObjectRow) → object S x ≡ Some o → (m : MessageContent) → AllReached S m.handles → Direct S (push_message x o m T)
+  direct-push_message T d x o there m were =
       let U : State = put T (key.Msg x o.next) (Some (rows.Msg m)) in
-      let one : Direct S U = direct-message S T d x o.next (Some m) (λ k e. subst (λ (z : MessageContent). AllKnown S z.handles) (some_one m k e) known) (λ k e out. no-message x o there k e) in
+      let one : Direct S U = direct-message S T d x o.next (Some m) (λ k e. subst (λ (z : MessageContent). AllReached S z.handles) (some_one m k e) were) (λ k e out. no-message x o there k e) in
       direct-object S U one x (raised o) (was-raised S x o (was-there x o there))
 
   direct-channel_write : (h : ℕ) (bytes values : List ℕ) → Direct S (channel_write S p h bytes values).0
@@ -170,7 +170,7 @@ module _ (S : State) (sound : IsSound S) (p : ℕ) (live : runs S p ≡ true) wh
       after_some (Direct S) T (object S o.link) status.PeerClosed _ base (λ peer there.
       let w = sent-held S p h [] values all e in
       direct-push_message T base o.link peer there (record { bytes = bytes; handles = all })
-      (all_map all (λ one l is. known-entry S p is.0 one is.1) w.0))))
+      (all_map all (λ one l is. entry-reached S p is.0 one is.1) w.0))))
 
   -- a message of an endpoint that the caller holds leaves its queue
   direct-popped : (x n : ℕ) → among (reached S) x ≡ true → Direct S (put S (key.Msg x n) None)

@@ -100,7 +100,7 @@ none-last : (test : ℕ → Bool) (xs : List ℕ) → ((i q : ℕ) → slice_get
 none-last test [] h = refl
 none-last test (x ∷ xs) h = rw (h 0 x refl) (none-last test xs (λ i q e. h (suc i) q e))
 
-one-last : (xs : List ℕ) (q : ℕ) → length xs ≤ 1 → among xs q ≡ true → last_or None xs ≡ Some q
+pub one-last : (xs : List ℕ) (q : ℕ) → length xs ≤ 1 → among xs q ≡ true → last_or None xs ≡ Some q
 one-last [] q few h = cc
 one-last (x ∷ []) q few h = by (x == q) refl
   where

@@ -32,7 +32,7 @@ use Rattle.zt_rows.proofs.TakeLaws.{object-taken, counters-taken, message-taken,
 use Rattle.zt_rows.proofs.EndLaws.{ended, object-end, counters-end, ended-was}
 use Rattle.zt_rows.proofs.FramedLaws.{shaped, Framed, shaped-there, turned}
 use Rattle.zt_queries.specs.Reachability.{reached, HoldsAllNamed}
-use Rattle.zt_queries.proofs.ReachLaws.{in-all, entry-reached, message-reached}
+use Rattle.zt_queries.proofs.ReachLaws.{all-in, in-all, entry-reached, message-reached}
 
 -- ---- objects that age
 
@@ -119,11 +119,19 @@ pub record Follows (S T : State) : Type 0 where
 pub known-closed : (S T : State) → Follows S T → HoldsAllNamed T (is_known S)
 known-closed S T f = record { entries = f.entries; messages = f.messages }
 
--- by a call's direct change nothing goes, and no message that nothing reaches is read
+-- all that the handles name was reached
+abbrev pub AllReached : State → List Held → Type 0
+AllReached S all = AllByRecursion (λ held. among (reached S) held.koid ≡ true) all
+
+all-known : (S : State) (all : List Held) → AllReached S all → AllKnown S all
+all-known S all were = in-all (λ (held : Held). is_known S held.koid ≡ true) all (λ held l. known-reached S held.koid (all-in (λ (held : Held). among (reached S) held.koid ≡ true) all were held l))
+
+-- by a call's direct change nothing goes, no message that nothing reaches is read, and what is sent was reached
 pub record Direct (S T : State) : Type 0 where
   pub follows : Follows S T
   pub there : (x : ℕ) → exists S x ≡ true → exists T x ≡ true
   pub unread : (e n : ℕ) (m : MessageContent) → message S e n ≡ Some m → among (reached S) e ≡ false → message T e n ≡ Some m
+  pub added : (e n : ℕ) (m : MessageContent) → message T e n ≡ Some m → (message S e n ≡ Some m) ⊎ AllReached S m.handles
 
 pub low-koid : (S : State) → IsSound S → (x : ℕ) → exists S x ≡ true → x < next_koid S
 low-koid S sound x e = let w = some-exists S x e in (sound.of_objects x w.0 w.1).high
@@ -141,6 +149,7 @@ direct-itself S sound = record {
   };
   there = λ x e. e;
   unread = λ e n m h out. h;
+  added = λ e n m h. inl h;
 }
 
 -- ---- changes that calls are made of
@@ -157,6 +166,7 @@ module _ (S T : State) (d : Direct S T) where
     };
     there = λ x e. ap (λ r. is_some r) (objects x) ∙ d.there x e;
     unread = λ e n m h out. messages e n ∙ d.unread e n m h out;
+    added = λ e n m h. d.added e n m (sym (messages e n) ∙ h);
   }
 
   -- an object is put that is new or aged
@@ -180,6 +190,7 @@ module _ (S T : State) (d : Direct S T) where
           | false ↦ λ h. ap (λ r. is_some r) h ∙ d.there x e
         ] (at x);
         unread = λ e n m h out. ap as_message (row-put T (key.Object y) (Some (rows.Object q)) (key.Msg e n)) ∙ d.unread e n m h out;
+        added = λ e n m h. d.added e n m (sym (ap as_message (row-put T (key.Object y) (Some (rows.Object q)) (key.Msg e n))) ∙ h);
       }
 
   -- counters are put that give out no koid twice
@@ -197,6 +208,7 @@ module _ (S T : State) (d : Direct S T) where
         };
         there = λ x e. ap (λ r. is_some r) (at x) ∙ d.there x e;
         unread = λ e n m h out. ap as_message (row-put T key.Counters (Some (rows.Counters c)) (key.Msg e n)) ∙ d.unread e n m h out;
+        added = λ e n m h. d.added e n m (sym (ap as_message (row-put T key.Counters (Some (rows.Counters c)) (key.Msg e n))) ∙ h);
       }
 
   -- an entry is put that names what is known
@@ -217,15 +229,16 @@ module _ (S T : State) (d : Direct S T) where
         };
         there = λ x e. ap (λ r. is_some r) (at x) ∙ d.there x e;
         unread = λ e n m f out. ap as_message (row-put T (key.Entry p h) (Some (rows.Entry held)) (key.Msg e n)) ∙ d.unread e n m f out;
+        added = λ e n m f. d.added e n m (sym (ap as_message (row-put T (key.Entry p h) (Some (rows.Entry held)) (key.Msg e n))) ∙ f);
       }
 
   as-message : (r : Option MessageContent) → as_message (option_map rows.Msg r) ≡ r
   as-message (Some m) = refl
   as-message None = refl
 
-  -- a message is put that names what is known, or goes, where no message is lost that nothing reached
-  pub direct-message : (e n : ℕ) (new : Option MessageContent) → ((m : MessageContent) → new ≡ Some m → AllKnown S m.handles) → ((m : MessageContent) → message S e n ≡ Some m → among (reached S) e ≡ false → ⊥) → Direct S (put T (key.Msg e n) (option_map rows.Msg new))
-  direct-message e n new known kept =
+  -- a message is put that names what was reached, or goes, where no message is lost that nothing reached
+  pub direct-message : (e n : ℕ) (new : Option MessageContent) → ((m : MessageContent) → new ≡ Some m → AllReached S m.handles) → ((m : MessageContent) → message S e n ≡ Some m → among (reached S) e ≡ false → ⊥) → Direct S (put T (key.Msg e n) (option_map rows.Msg new))
+  direct-message e n new were kept =
       let U : State = put T (key.Msg e n) (option_map rows.Msg new) in
       let same : counters U ≡ counters T = ap as_counters (row-put T (key.Msg e n) (option_map rows.Msg new) key.Counters) in
       let at : (x : ℕ) → object U x ≡ object T x = (λ x. ap as_object (row-put T (key.Msg e n) (option_map rows.Msg new) (key.Object x))) in
@@ -239,7 +252,7 @@ module _ (S T : State) (d : Direct S T) where
           objects = λ x q g. d.follows.objects x q (sym (at x) ∙ g);
           entries = λ p h held g. d.follows.entries p h held (sym (ap as_entry (row-put T (key.Msg e n) (option_map rows.Msg new) (key.Entry p h))) ∙ g);
           messages = λ f l m h owner. elim ((f == e) && (l == n)) as (λ b. cond b new (message T f l) ≡ Some m → AllKnown S m.handles) [
-            | true ↦ λ g. known m g
+            | true ↦ λ g. all-known S m.handles (were m g)
             | false ↦ λ g. d.follows.messages f l m g owner
           ] (sym (message_at f l) ∙ h);
         };
@@ -251,6 +264,10 @@ module _ (S T : State) (d : Direct S T) where
               absurd (kept m (ap (λ z. message S z n) (sym owner) ∙ ap (message S f) (sym number) ∙ h) (ap (among (reached S)) (sym owner) ∙ out))
           | false ↦ λ t. d.unread f l m h out
         ] refl);
+        added = λ f l m h. elim ((f == e) && (l == n)) as (λ b. cond b new (message T f l) ≡ Some m → (message S f l ≡ Some m) ⊎ AllReached S m.handles) [
+          | true ↦ λ g. inr (were m g)
+          | false ↦ λ g. d.added f l m g
+        ] (sym (message_at f l) ∙ h);
       }
 
   -- ---- what calls are made of
@@ -304,6 +321,7 @@ module _ (S T : State) (d : Direct S T) where
         };
         there = λ x e. ap (λ r. is_some r) (object-end ending how T x) ∙ still-ended ending how x (object T x) ∙ d.there x e;
         unread = λ e n m h out. ap as_message (row-change (left_by ending how) T (key.Msg e n)) ∙ message-ending ending how e n (row T (key.Msg e n)) ∙ d.unread e n m h out;
+        added = λ e n m h. d.added e n m (sym (ap as_message (row-change (left_by ending how) T (key.Msg e n)) ∙ message-ending ending how e n (row T (key.Msg e n))) ∙ h);
       }
 
   -- ---- what is cancelled

@@ -25,7 +25,7 @@ use Rattle.zt_rows.specs.Handles.{next_koid}
 use Rattle.zt_rows.specs.Step.{IsCall, direct, step}
 use Rattle.zt_rows.specs.Consistent.{IsChild, has_parent, SoundObject, IsSound, IsConsistent}
 use Rattle.zt_rows.proofs.RowLaws.{In, row-in, in-row, filter_map-in, in-filter_map, list_any-in, in-list_any, or_true, or_left, or_right, and_left, and_right, and_both, true≢false, same_test, not_true}
-use Rattle.zt_rows.proofs.ReadLaws.{some_one, exists-some, some-exists, kind_at-some, object-row, message-without, stayed, stays}
+use Rattle.zt_rows.proofs.ReadLaws.{some_one, exists-some, some-exists, kind_at-some, object-row, message-without, message-stayed, stayed, stays}
 use Rattle.zt_rows.proofs.SupportLaws.{KeptBy, by_entry, by_message, by_child, by_itself, supported-kept, kept-supported}
 use Rattle.zt_rows.proofs.SoundLaws.{runs-some, some-runs}
 use Rattle.zt_rows.proofs.CollectLaws.{sound-collect, supported-stays}
@@ -37,7 +37,7 @@ use Rattle.zt_rows.proofs.CallLaws.{sound-direct}
 use Rattle.zt_queries.specs.Reachability.{reached}
 use Rattle.zt_queries.specs.Leaks.{keeps_above, is_above, is_kept, is_lost, is_leaked, lost_at, leaks}
 use Rattle.zt_queries.proofs.ReachLaws.{in-map, map-in, among-in, in-among, entry-reached, message-reached, reached-least}
-use Rattle.zt_queries.proofs.FollowLaws.{Aged, Was, is_new, is_old, IsFresh, is_known, known-closed, known-low, Follows, Direct, low-koid, follows-without, follows-framed}
+use Rattle.zt_queries.proofs.FollowLaws.{Aged, Was, is_new, is_old, AllReached, IsFresh, is_known, known-closed, known-low, Follows, Direct, low-koid, follows-without, follows-framed}
 use Rattle.zt_queries.proofs.CallsFollow.{direct-call}
 
 -- ---- the whole call
@@ -51,6 +51,18 @@ follows-step S sound p live c is =
     let d : Direct S T = direct-call S sound p live c in
     let left : Follows S (collect T) = subst (Follows S) (sym w.1) (follows-without S T w.0 d.follows) in
     follows-framed S (collect T) (settle S (collect T)) (framed-settle S (collect T) (sound-collect T (sound-direct S p c sound live is))) left
+
+-- a message after a call was there before it, or names what was reached
+pub step-added : (S : State) → IsSound S → (p : ℕ) → runs S p ≡ true → (c : Call) → IsCall c → (e n : ℕ) (m : MessageContent) → message (step S p c).0 e n ≡ Some m
+    → (message S e n ≡ Some m) ⊎ AllReached S m.handles
+unfolding step
+step-added S sound p live c is e n m there =
+    let T : State = (direct S p c).0 in
+    let w = collect-set T in
+    let d : Direct S T = direct-call S sound p live c in
+    let f : Framed (collect T) (settle S (collect T)) = framed-settle S (collect T) (sound-collect T (sound-direct S p c sound live is)) in
+    let left : message (without T w.0) e n ≡ Some m = sym (ap (λ Z. message Z e n) w.1) ∙ sym (f.of_messages e n) ∙ there in
+    d.added e n m (message-stayed w.0 T e n m left).1
 
 -- ---- what leaked is
 
@@ -156,7 +168,7 @@ pub ruleset list_laws = (listed-is)
 
 -- ---- what is above an object
 
-in-upward : (x l : ℕ) (above : ℕ → List ℕ) → In x (upward l above) → (0 < l) × ((x ≡ l) ⊎ In x (above l))
+pub in-upward : (x l : ℕ) (above : ℕ → List ℕ) → In x (upward l above) → (0 < l) × ((x ≡ l) ⊎ In x (above l))
 in-upward x zero above m = absurd m
 in-upward x (suc l) above m = (omega arith, m)
 
@@ -232,7 +244,7 @@ module _ (S U : State) (sound : IsSound S) (f : Follows S U) where
   later-known : (x : ℕ) → among (reached U) x ≡ true → is_known S x ≡ true
   later-known x e = reached-least U (is_known S) (known-closed S U f) x e
 
-  later-reached : (x : ℕ) → x < next_koid S → among (reached U) x ≡ true → among (reached S) x ≡ true
+  pub later-reached : (x : ℕ) → x < next_koid S → among (reached U) x ≡ true → among (reached S) x ≡ true
   later-reached x low e = known-low S x (later-known x e) low
 
   aged-process : (o q : ObjectRow) → Aged o q → is_live_process q ≡ true → is_live_process o ≡ true
@@ -415,6 +427,22 @@ module _ (S : State) (consistent : IsConsistent S) where
       let left : exists (without T w.0) x ≡ true = exists-some (without T w.0) x (unlinked w.0 q.0) (stays w.0 T x q.0 q.1 stays_in) in
       let f : Framed (collect T) (settle S (collect T)) = framed-settle S (collect T) (sound-collect T (sound-direct S p c consistent.sound live is)) in
       exists-shaped (collect T) (settle S (collect T)) f.of_shapes x ∙ ap (λ Z. exists Z x) w.1 ∙ left
+
+  -- no message at a strayed endpoint goes
+  pub strayed-reads : (p : ℕ) → runs S p ≡ true → (c : Call) → IsCall c → (e : ℕ) (o : ObjectRow) → object S e ≡ Some o → o.kind ≡ kind.Channel → among (reached S) e ≡ false
+      → (n : ℕ) (m : MessageContent) → message S e n ≡ Some m → message (step S p c).0 e n ≡ Some m
+  unfolding step
+  strayed-reads p live c is e o at made out n m there =
+      let T : State = (direct S p c).0 in
+      let d : Direct S T = direct-call S consistent.sound p live c in
+      let w = collect-set T in
+      let away : strayed S e ≡ true =
+      and_both (on_object (λ (o : ObjectRow). is_endpoint o.kind) (object S e)) _ (ap (on_object (λ (o : ObjectRow). is_endpoint o.kind)) at ∙ ap is_endpoint made) (ap not out) in
+      let stays_in : w.0 e ≡ false = not_true (w.0 e) (λ t. true≢false (strayed S e) away (false_of (strayed S e) (w.2 rest (strayed-last T d) e t))) in
+      let still : message T e n ≡ Some m = d.unread e n m there out in
+      let left : message (without T w.0) e n ≡ Some m = message-without w.0 T e n ∙ ap (λ b. cond b None (message T e n)) stays_in ∙ still in
+      let f : Framed (collect T) (settle S (collect T)) = framed-settle S (collect T) (sound-collect T (sound-direct S p c consistent.sound live is)) in
+      f.of_messages e n ∙ ap (λ Z. message Z e n) w.1 ∙ left
 
   -- ---- the laws
 

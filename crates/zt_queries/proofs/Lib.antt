@@ -18,3 +18,6 @@ pub mod SinceLaws
 pub mod FirstLeakLaws
 pub mod StayLaws
 pub mod NeverLaws
+pub mod NameLaws
+pub mod LetGoLaws
+pub mod NameSearchLaws

@@ -255,7 +255,7 @@ module _ (S : State) (path : List (ℕ × State)) (x : ℕ) (consistent : IsCons
 -- ---- out of reach for good
 
 -- what a sound state reaches is there
-reached-there : (S : State) → IsSound S → (x : ℕ) → among (reached S) x ≡ true → exists S x ≡ true
+pub reached-there : (S : State) → IsSound S → (x : ℕ) → among (reached S) x ≡ true → exists S x ≡ true
 reached-there S sound x e = reached-least S (exists S) (record {
   entries = λ p h held there. (sound.of_entries p h held there).names;
   messages = λ e n m there owner. (sound.of_messages e n m there).names;

@@ -92,7 +92,7 @@ unheld (e ∷ es) q h =
     let apart : is_eq (rowkey_cmp q e.0) ≡ false = rowkey_eq-cmp q e.0 ∙ rowkey_eq-laws.symm q e.0 ∙ left_false (rowkey_eq e.0 q) (listed (map (λ x. x.0) es) q) h in
     ap (λ b. if b then Some e.1 else entries.find rowkey_cmp q es) apart ∙ unheld es q (right_false (rowkey_eq e.0 q) (listed (map (λ x. x.0) es) q) h)
 
-take_whole : {A : Type 0} (xs : List A) (i : ℕ) → length xs ≤ i → take i xs ≡ xs
+pub take_whole : {A : Type 0} (xs : List A) (i : ℕ) → length xs ≤ i → take i xs ≡ xs
 take_whole [] zero h = refl
 take_whole [] (suc i) h = refl
 take_whole (x ∷ xs) zero h = absurd (omega (arith, h))

@@ -34,7 +34,7 @@ module _ (made : List Made) (falls : Falls made) where
   pub on-parent : (i q : ℕ) → q < suc i → among (path made (suc i)) q ≡ true → among (path made (parent_at made (suc i))) q ≡ true
   on-parent i q low on = sym (among-other made falls i q (λ e. omega (arith, e, low))) ∙ on
 
-  on-child : (i q : ℕ) → among (path made (parent_at made (suc i))) q ≡ true → among (path made (suc i)) q ≡ true
+  pub on-child : (i q : ℕ) → among (path made (parent_at made (suc i))) q ≡ true → among (path made (suc i)) q ≡ true
   on-child i q on = among-step made falls i q ∙ ap (λ b. b || (suc i == q || false)) on
 
   itself : (i q : ℕ) → suc i ≤ q → among (path made (suc i)) q ≡ true → q ≡ suc i
@@ -55,7 +55,7 @@ module _ (made : List Made) (falls : Falls made) where
       ]
 
   -- and no others
-  all-on : (q m : ℕ) → among (path made m) q ≡ true → (n : ℕ) → among (path made n) m ≡ true → among (path made n) q ≡ true
+  pub all-on : (q m : ℕ) → among (path made m) q ≡ true → (n : ℕ) → among (path made n) m ≡ true → among (path made n) q ≡ true
   all-on q m first = by_parents made falls (λ n. among (path made n) m ≡ true → among (path made n) q ≡ true) base step
     where
       base : among (path made 0) m ≡ true → among (path made 0) q ≡ true
@@ -142,7 +142,7 @@ tree-stays t is m n x within leads e = stays t.made is.moments m n x within (lea
 -- ---- where it begins
 
 -- by the call of a moment on the path
-abbrev Begun : List Made → ℕ → ℕ → Type 0
+abbrev pub Begun : List Made → ℕ → ℕ → Type 0
 Begun made x m = (q : ℕ) × (among (path made m) q ≡ true) × (at_moment (leaked x) made q ≡ true)
 
 module _ (made : List Made) (falls : Falls made) (x : ℕ) where
@@ -155,7 +155,7 @@ module _ (made : List Made) (falls : Falls made) (x : ℕ) where
     and_both (not (is_leaked (state_at made (parent_at made (suc i))) x)) (is_leaked (state_at made (suc i)) x) (ap not f) e,
   )
 
-  begun : (m : ℕ) → is_leaked (state_at made m) x ≡ true → Begun made x m
+  pub begun : (m : ℕ) → is_leaked (state_at made m) x ≡ true → Begun made x m
   begun = by_parents made falls (λ m. is_leaked (state_at made m) x ≡ true → Begun made x m) base step
     where
       base : is_leaked (state_at made 0) x ≡ true → Begun made x 0

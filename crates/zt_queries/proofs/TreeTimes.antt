@@ -128,7 +128,7 @@ among-filter test (y ∷ xs) i h t = by (y == i) refl (test y) refl (λ g. among
     by false e false f rest = rw f (rest (sym (ap (λ c. c || among xs i) e) ∙ h))
 
 -- and the other way about
-filter-among : (test : ℕ → Bool) (xs : List ℕ) (i : ℕ) → among (filter test xs) i ≡ true → (among xs i ≡ true) × (test i ≡ true)
+pub filter-among : (test : ℕ → Bool) (xs : List ℕ) (i : ℕ) → among (filter test xs) i ≡ true → (among xs i ≡ true) × (test i ≡ true)
 filter-among test [] i h = absurd (true≢false (sym h))
 filter-among test (y ∷ xs) i h = by (test y) refl h (λ g. filter-among test xs i g)
   where

@@ -4,3 +4,4 @@ pub mod LeakGraph
 pub mod ReachabilitySearch
 pub mod RowHappenings
 pub mod FirstLeak
+pub mod NameSearch

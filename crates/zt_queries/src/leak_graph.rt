@@ -5,6 +5,7 @@ pub mod first_leak;
 pub(crate) mod graph;
 pub mod leak_list;
 pub(crate) mod moved_graph;
+pub(crate) mod name_search;
 pub(crate) mod never_leaked;
 pub(crate) mod reachability;
 pub(crate) mod unleaked_signs;

@@ -6,7 +6,7 @@ ghost use Rattle.zt_rows.specs.State.{State};
 ghost use Rattle.zt_rows.specs.Support.{root_job};
 ghost use Rattle.zt_queries.specs.Happenings.{leaked};
 ghost use Rattle.zt_queries.specs.Leaks.{is_leaked};
-ghost use Rattle.zt_queries.specs.HappeningTimes.{IsRefusedWhen, at_moment, when_on};
+ghost use Rattle.zt_queries.specs.HappeningTimes.{IsRefusedWhen, at_moment, happens, last_on, when_on};
 ghost use Rattle.zt_queries.specs.LaterMoments.{TellsWhenLeaked};
 ghost use Rattle.zt_queries.specs.ProofsOnly.RowHappenings.{AreWays};
 ghost use Rattle.zt_queries.specs.ProofsOnly.LeakGraph.{IsGraph};
@@ -16,6 +16,7 @@ use crate::happening_times::is_known;
 use crate::leak_graph::graph::{Graph, GraphNode, copy_of, node_of};
 use crate::leak_graph::leak_list::{is_leaked, reachability_of};
 use crate::leak_graph::moved_graph::{go_back, go_forth, graph_at};
+use crate::leak_graph::name_search::{LeakTime, told_by_names};
 use crate::leak_graph::never_leaked::is_never_leaked;
 use crate::leak_graph::reachability::entered;
 use crate::leak_graph::unleaked_signs::{is_unleaked_at, last_there, unleaked_before};
@@ -29,11 +30,16 @@ use zt_rows::{Koid, Moment, ROOT_JOB, Refusal};
 /// at none before it, and from it on no process reaches the object, which is leaked or gone; where none is answered, it is
 /// leaked at none of them.
 ///
-/// Where the object went by a call that took away an entry that names it, or is there at the position and shows there that it
-/// is not leaked, it never was, and this reads no more than `ended` and takes no memory. The same is told, behind the lists of
-/// two paths, by what the object's own row or the records show of the moment at which it was there last. Else it is found in a
-/// graph that the records of the path move, without a store: since what is leaked stays so, half of the moments that are left
-/// are passed over by each look at what is reached. It takes memory for two such graphs.
+/// Where the object went by a call that took away an entry that names it, or is named at the position by an entry that was put
+/// when it was made or last let go, it never was, and this reads no more than `ended` and takes no memory. Where it is there at
+/// the position and is neither a job nor a process, the notes of what it and the endpoints above it let go lead to the messages
+/// that name them: this costs a look at each of these moments, and takes memory for those endpoints and messages. Where an entry
+/// turns up among these names, that takes a walk over entries up to the first one.
+///
+/// What is left, as an object that is gone or a position elsewhere, is told behind the lists of two paths: by what the object's
+/// own row or the records show of the moment at which it was there last, or else in a graph that the records of the path move,
+/// without a store: since what is leaked stays so, half of the moments that are left are passed over by each look at what is
+/// reached. It takes memory for two such graphs.
 pub fn leaked_since(
     alloc: Global,
     history: &History,
@@ -51,6 +57,25 @@ pub fn leaked_since(
     if is_never_leaked(history, at, koid) {
         return Ok(None);
     }
+    let told = told_by_names(alloc, history, at, koid)?;
+    if let LeakTime::Known(found) = told {
+        return Ok(found);
+    }
+    let found = searched_since(alloc, history, at, koid)?;
+    Ok(found)
+}
+
+/// The same by a graph, where nothing tells without one.
+fn searched_since(
+    alloc: Global,
+    history: &History,
+    at: Moment,
+    koid: Koid,
+) -> Result<Option<Moment>, Refusal>
+    requires there { at ≤ length history.now.tree.made }
+    ensures found { IfOk result (λ found. found ≡ last_on (happens happening.Leaked koid) history.now.tree.made at) }
+    ensures refused { IfErr result (λ refusal. refusal ≡ Refusal.OutOfMemory) }
+{
     let ways = ways_to(history, at)?;
     match last_leaked(alloc, history, &ways, koid) {
         Ok(found) => Ok(found),

@@ -12,7 +12,7 @@ ghost use Rattle.zt_queries.specs.HappeningTimes.{happens, is_known, last_on};
 ghost use Rattle.zt_queries.specs.Leaks.{is_leaked};
 ghost use Rattle.zt_queries.specs.ProofsOnly.FirstLeak.{HoldsRowsOf, PassesUnleaked, is_passing_kind, is_passing_in};
 
-use crate::leak_graph::unleaked_signs::{is_entered, is_sure, names, tells_unleaked};
+use crate::leak_graph::unleaked_signs::{is_sure, names, tells_unleaked};
 use crate::path_pair::is_there;
 use zt_bits::Kind;
 use zt_history::{History, RowHappening};
@@ -42,18 +42,24 @@ fn stands_unleaked(history: &History, koid: Koid) -> bool
     is_there(row) && (is_sure(row, koid) || is_entered_here(history, koid))
 }
 
-/// Whether there is at the position an entry that names the object.
+/// Whether there is at the position an entry that names the object and was put by the call that made it, or by the last that
+/// took a name of it away: mostly there is, where a process holds it.
 fn is_entered_here(history: &History, koid: Koid) -> bool
     ensures { result ≡ true → is_leaked (state_at history.now.tree.made history.now.position) koid ≡ false }
 {
-    is_entered_as_made(history, koid) || is_entered(history.store(), koid)
+    let position = history.position();
+    is_entered_by(
+        history,
+        history.last_shown(RowHappening::Made, koid, position),
+        koid,
+    ) || is_entered_by(history, history.last_let_go(koid, position), koid)
 }
 
-/// Whether there is at the position an entry that names the object and was put by the call that made it: mostly there is.
-fn is_entered_as_made(history: &History, koid: Koid) -> bool
+/// Whether there is at the position an entry that names the object and was put by the call of this moment, if there is one.
+fn is_entered_by(history: &History, moment: Option<Moment>, koid: Koid) -> bool
     ensures { result ≡ true → is_leaked (state_at history.now.tree.made history.now.position) koid ≡ false }
 {
-    let Some(moment) = history.last_shown(RowHappening::Made, koid, history.position()) else {
+    let Some(moment) = moment else {
         return false;
     };
     match history.record_of(moment) {

@@ -1,6 +1,6 @@
 -- The keys come one after another, until there are so many supports or no key is left.
-use Rattle.std.proofs.Common.{subst, arith}
-use Rattle.zt_queries.proofs.HoldLaws.{fewer_keys, walk-begins, walk-ends, walk-goes, walk-stops}
+use Rattle.std.proofs.Common.{subst}
+use Rattle.zt_queries.proofs.HoldLaws.{fewer_keys, walk-begins, walk-goes}
 use Rattle.zt_queries.proofs.KeyLaws.{IsWalkedTo, walked-first, walked-on}
 use Rattle.zt_queries.proofs.support_list.add_supports.Goals as goal
 

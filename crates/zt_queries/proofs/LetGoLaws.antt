@@ -1,0 +1,370 @@
+-- An object that is no task, and that nothing names but messages at endpoints of which the same holds, was leaked by the last
+-- call by which one of these lost a name.
+use Rattle.std.proofs.Common.{◌≡◌, ◌≤◌, ◌<◌, ℕ, zero, suc, Bool, true, false, cond, not, ◌&&◌, List, [], ◌∷◌, ◌++◌, fold, max, length, ◌⊎◌, inl, inr, refl, sym, ap, ◌∙◌, subst, arith, append-nil}
+use Rattle.std.specs.Prelude.{Option, None, Some, ◌==◌, filter, if◌then◌else◌}
+use Rattle.std.specs.List.{last_or, list_any}
+use Rattle.std.proofs.lemmas.Bool.{cases_lt, eq-eqb}
+use Rattle.std.proofs.lemmas.List.Elements.{filter-append}
+use Rattle.zt_rows.specs.declared.calls.Happening.TheVariants as happening
+use Rattle.zt_rows.specs.declared.keys.RowKey.{RowKey}
+use Rattle.zt_rows.specs.declared.keys.RowKey.TheVariants as key
+use Rattle.zt_rows.specs.declared.rows.Held.{Held}
+use Rattle.zt_rows.specs.Contents.{MessageContent}
+use Rattle.zt_rows.specs.State.{State, row}
+use Rattle.zt_rows.specs.Reads.{entry, message, object}
+use Rattle.zt_rows.specs.Tests.{among, exists}
+use Rattle.zt_rows.specs.Handles.{next_koid}
+use Rattle.zt_rows.specs.Consistent.{IsConsistent}
+use Rattle.zt_rows.proofs.RowLaws.{In, list_any-in, in-list_any, or_left, or_right, and_left, and_right, and_both, true≢false, not_true}
+use Rattle.zt_rows.proofs.ReadLaws.{some_one, exists-some, entry-row}
+use Rattle.zt_history.specs.TreeInvariant.{AreMoments, Falls}
+use Rattle.zt_history.specs.Tree.{Made, parent_at, path, state_at}
+use Rattle.zt_history.proofs.PathLaws.{path-opening, path-step, by_parents, among-self, among-other, among-early}
+use Rattle.zt_history.proofs.RunLaws.{made-there, parent-within, moment-consistent}
+use Rattle.zt_queries.specs.Happenings.{leaked, IsCallStep}
+use Rattle.zt_queries.specs.HappeningTimes.{at_moment, happens, last_on}
+use Rattle.zt_queries.specs.Leaks.{is_leaked}
+use Rattle.zt_queries.specs.Reachability.{reached, HoldsAllNamed}
+use Rattle.zt_history.specs.LetGo.{names, lets_go_at, last_let_go}
+use Rattle.zt_queries.specs.ProofsOnly.NameSearch.{is_plain, stands_plain, waits_at, HoldsEndpoints, IsNameSearch, later, last_of_all}
+use Rattle.zt_queries.proofs.ReachLaws.{among-in, in-among, in-all, reached-least}
+use Rattle.zt_queries.proofs.FollowLaws.{low-koid}
+use Rattle.zt_queries.proofs.OnceLaws.{given-stays, has_leaked, leaked-begins, leaked-goes-on, next-follows, of_object, unreached}
+use Rattle.zt_queries.proofs.StayLaws.{all-on, begun, earlier-on, kept-on, on-child, on-parent}
+use Rattle.zt_queries.proofs.TreeTimes.{among-filter, filter-among, next-made, once}
+use Rattle.zt_queries.proofs.FirstLeakLaws.{one-last}
+use Rattle.zt_queries.proofs.NameLaws.{NamedBy, in_entry, in_message, named-by, message-names, out-named, lets-none, none-lets, out-stays, out-came, out-goes-on, plain-was, plain-before, plain-leaked}
+
+-- ---- the last of a list
+
+last_or-push : (o : Option ℕ) (xs : List ℕ) (y : ℕ) → last_or o (xs ++ y ∷ []) ≡ Some y
+last_or-push o [] y = refl
+last_or-push o (x ∷ xs) y = last_or-push (Some x) xs y
+
+none_is : (r : ℕ) {A : Type 0} → ◌≡◌ {A = Option ℕ} None (Some r) → A
+none_is r e = cc
+
+module _ (made : List Made) (falls : Falls made) (P : ℕ → Bool) where
+  one-more : (i : ℕ) → last_or None (filter P (path made (suc i))) ≡ (if P (suc i) then Some (suc i) else last_or None (filter P (path made (parent_at made (suc i)))))
+  one-more i =
+      let xs = path made (parent_at made (suc i)) in
+      ap (λ p. last_or None (filter P p)) (path-step made falls i)
+      ∙ ap (last_or None) (filter-append P xs (suc i ∷ []))
+      ∙ by xs (P (suc i))
+    where
+      by : (xs : List ℕ) (b : Bool) → last_or None (filter P xs ++ cond b (suc i ∷ []) []) ≡ (if b then Some (suc i) else last_or None (filter P xs))
+      by xs true = last_or-push None (filter P xs) (suc i)
+      by xs false = ap (last_or None) (append-nil (filter P xs))
+
+  -- what passes, and is not before another that does, is the last
+  last-found : (m : ℕ) → P m ≡ true → (at : ℕ) → among (path made at) m ≡ true → ((k : ℕ) → among (path made at) k ≡ true → P k ≡ true → k ≤ m)
+      → last_or None (filter P (path made at)) ≡ Some m
+  last-found m passes =
+      by_parents made falls (λ at. among (path made at) m ≡ true → ((k : ℕ) → among (path made at) k ≡ true → P k ≡ true → k ≤ m) → last_or None (filter P (path made at)) ≡ Some m) base step_up
+    where
+      base : among (path made 0) m ≡ true → ((k : ℕ) → among (path made 0) k ≡ true → P k ≡ true → k ≤ m) → last_or None (filter P (path made 0)) ≡ Some m
+      base on most = absurd (true≢false (among (path made 0) m) on (ap (λ p. among p m) (path-opening made)))
+
+      step_up : (i : ℕ) → (among (path made (parent_at made (suc i))) m ≡ true → ((k : ℕ) → among (path made (parent_at made (suc i))) k ≡ true → P k ≡ true → k ≤ m) → last_or None (filter P (path made (parent_at made (suc i)))) ≡ Some m)
+          → among (path made (suc i)) m ≡ true → ((k : ℕ) → among (path made (suc i)) k ≡ true → P k ≡ true → k ≤ m) → last_or None (filter P (path made (suc i))) ≡ Some m
+      step_up i rest on most = by (P (suc i)) refl
+        where
+          by : (b : Bool) → P (suc i) ≡ b → last_or None (filter P (path made (suc i))) ≡ Some m
+          by true e =
+              let same : suc i ≡ m = omega (arith, most (suc i) (among-self made falls i) e, among-early made falls (suc i) m on) in
+              one-more i ∙ ap (λ b. if b then Some (suc i) else last_or None (filter P (path made (parent_at made (suc i))))) e ∙ ap Some same
+          by false e =
+              let apart : m ≡ suc i → ⊥ = λ same. true≢false (P m) passes (ap P same ∙ e) in
+              one-more i ∙ ap (λ b. if b then Some (suc i) else last_or None (filter P (path made (parent_at made (suc i))))) e
+              ∙ rest (sym (among-other made falls i m apart) ∙ on) (λ k up. most k (on-child made falls i k up))
+
+last_or-among : (o : Option ℕ) (xs : List ℕ) (r : ℕ) → last_or o xs ≡ Some r → (o ≡ Some r) ⊎ (among xs r ≡ true)
+last_or-among o [] r e = inl e
+last_or-among o (x ∷ xs) r e = elim (last_or-among (Some x) xs r e) [
+  | inl same ↦ inr (or_left (x == r) _ (eq-eqb x r (some_one x r same)))
+  | inr l ↦ inr (or_right (x == r) _ l)
+]
+
+last-among : (xs : List ℕ) (r : ℕ) → last_or None xs ≡ Some r → among xs r ≡ true
+last-among xs r e = elim (last_or-among None xs r e) [ inl n ↦ none_is r n | inr l ↦ l ]
+
+-- ---- the latest of some moments
+
+by_both : (q : ℕ) (a b : Option ℕ) → ((r : ℕ) → a ≡ Some r → r ≤ q) → ((r : ℕ) → b ≡ Some r → r ≤ q) → (r : ℕ) → later a b ≡ Some r → r ≤ q
+by_both q None b f g r e = g r e
+by_both q (Some m) None f g r e = f r e
+by_both q (Some m) (Some n) f g r e = let same : max m n ≡ r = some_one (max m n) r e in omega (arith, same, f m refl, g n refl)
+
+later-first : (q : ℕ) (a b : Option ℕ) → a ≡ Some q → ((r : ℕ) → b ≡ Some r → r ≤ q) → later a b ≡ Some q
+later-first q a None e g = ap (λ o. later o None) e
+later-first q a (Some n) e g = ap (λ o. later o (Some n)) e ∙ ap Some (omega (arith, g n refl))
+
+later-second : (q : ℕ) (a b : Option ℕ) → b ≡ Some q → ((r : ℕ) → a ≡ Some r → r ≤ q) → later a b ≡ Some q
+later-second q None b e f = e
+later-second q (Some m) b e f = ap (later (Some m)) e ∙ ap Some (omega (arith, f m refl))
+
+-- where none is behind q, and q is one of them, it is the latest
+latest : (f : ℕ → Option ℕ) (q : ℕ) (ys : List ℕ) → ((y : ℕ) → In y ys → (r : ℕ) → f y ≡ Some r → r ≤ q) → (best : Option ℕ) → ((r : ℕ) → best ≡ Some r → r ≤ q)
+    → (best ≡ Some q) ⊎ ((y : ℕ) × In y ys × (f y ≡ Some q)) → fold (λ b y. later b (f y)) best ys ≡ Some q
+latest f q [] low best up (inl e) = e
+latest f q [] low best up (inr w) = absurd w.1
+latest f q (y ∷ ys) low best up (inl e) =
+    latest f q ys (λ z m. low z (inr m)) (later best (f y)) (by_both q best (f y) up (low y (inl refl))) (inl (later-first q best (f y) e (low y (inl refl))))
+latest f q (y ∷ ys) low best up (inr w) =
+    latest f q ys (λ z m. low z (inr m)) (later best (f y)) (by_both q best (f y) up (low y (inl refl))) (elim w.1 [
+      | inl same ↦ inl (later-second q best (f y) (ap f (sym same) ∙ w.2) up)
+      | inr m ↦ inr (w.0, m, w.2)
+    ])
+
+-- ---- what is out of reach and was there
+
+abbrev is_out : State → ℕ → Bool
+is_out S y = exists S y && not (among (reached S) y)
+
+out-unreached : (S : State) (y : ℕ) → is_out S y ≡ true → among (reached S) y ≡ false
+out-unreached S y e = off (among (reached S) y) (and_right (exists S y) _ e)
+  where
+    off : (b : Bool) → not b ≡ true → b ≡ false
+    off true e = cc
+    off false e = refl
+
+out-low : (S : State) (y : ℕ) → IsConsistent S → is_out S y ≡ true → y < next_koid S
+out-low S y c e = low-koid S c.sound y (and_left (exists S y) _ e)
+
+-- its koid was given out, and it is out of reach
+abbrev away : ℕ → State → Type 0
+away y S = (y < next_koid S) × (among (reached S) y ≡ false)
+
+out-away : (S : State) (y : ℕ) → IsConsistent S → is_out S y ≡ true → away y S
+out-away S y c e = (out-low S y c e, out-unreached S y e)
+
+away-goes-on : (y : ℕ) (S T : State) → IsConsistent S → IsCallStep S T → away y S → away y T
+away-goes-on y S T c n a = (given-stays S T y (next-follows S T c n) a.0, out-goes-on S T c n y a.0 a.1)
+
+-- and what named it in the first state names it
+abbrev still : State → ℕ → State → Type 0
+still U y S = away y S × ((k : RowKey) → names y (row U k) ≡ true → names y (row S k) ≡ true)
+
+still-goes-on : (U : State) (y : ℕ) (S T : State) → IsConsistent S → IsCallStep S T → still U y S → still U y T
+still-goes-on U y S T c n s = (away-goes-on y S T c n s.0, λ k e. out-stays S T c n y s.0.1 k (s.1 k e))
+
+-- and the messages that name it were there in the first state
+abbrev came : State → ℕ → State → Type 0
+came U y S = away y S × ((e l : ℕ) (m : MessageContent) (held : Held) → message S e l ≡ Some m → In held m.handles → held.koid ≡ y → message U e l ≡ Some m)
+
+came-goes-on : (U : State) (y : ℕ) (S T : State) → IsConsistent S → IsCallStep S T → came U y S → came U y T
+came-goes-on U y S T c n s =
+    (away-goes-on y S T c n s.0, λ e l m held there h same. s.1 e l m held (out-came S T c n y s.0.1 e l m held there h same) h same)
+
+-- what was given out and is no task was none in the first state
+abbrev was_plain : State → ℕ → State → Type 0
+was_plain U y S = (y < next_koid S) × (stands_plain S y ≡ true → stands_plain U y ≡ true)
+
+was_plain-goes-on : (U : State) (y : ℕ) (S T : State) → IsConsistent S → IsCallStep S T → was_plain U y S → was_plain U y T
+was_plain-goes-on U y S T c n s = (given-stays S T y (next-follows S T c n) s.0, λ p. s.1 (plain-was S T c n y s.0 p))
+
+plain-exists : (S : State) (y : ℕ) → stands_plain S y ≡ true → exists S y ≡ true
+plain-exists S y p = let w = of_object is_plain (object S y) p in exists-some S y w.0 w.1
+
+-- ---- from one moment of a path on
+
+module _ (made : List Made) (are : AreMoments made) (at x : ℕ) (within : at ≤ length made) (ends : List ℕ) (s : IsNameSearch (state_at made at) x ends) (plain : stands_plain (state_at made at) x ≡ true) where
+  abbrev S : State
+  S = state_at made at
+
+  consistent : (q : ℕ) → among (path made at) q ≡ true → IsConsistent (state_at made q)
+  consistent q on = moment-consistent made are q (omega (arith, among-early made are.falls at q on, within))
+
+  last-consistent : IsConsistent S
+  last-consistent = moment-consistent made are at within
+
+  -- beside what a message names and is out of reach since a moment, its endpoint was out of reach at that moment
+  holds-out : (q : ℕ) → among (path made at) q ≡ true → HoldsEndpoints S (is_out (state_at made q))
+  holds-out q on e l y named out = by (named-by S last-consistent.sound y (key.Msg e l) named)
+    where
+      U : State
+      U = state_at made q
+
+      begins : came U y U
+      begins = (out-away U y (consistent q on) out, λ f n m held there h same. there)
+
+      was : came U y S
+      was = kept-on made are (came U y) (came-goes-on U y) q begins at within on
+
+      there_then : (f n : ℕ) (m : MessageContent) (held : Held) → message S f n ≡ Some m → In held m.handles → held.koid ≡ y → is_out U f ≡ true
+      there_then f n m held there h same =
+          let before : message U f n ≡ Some m = was.1 f n m held there h same in
+          let w = out-named U (consistent q on).sound y (out-unreached U y out) (key.Msg f n) (subst (λ z. names z (row U (key.Msg f n)) ≡ true) same (message-names U f n m held before h)) in
+          let is : w.0 ≡ f = ap owner (sym w.2) in
+          subst (λ z. is_out U z ≡ true) is (and_both (exists U w.0) _ w.7 (ap not w.6))
+        where
+          owner : RowKey → ℕ
+          owner (key.Msg g k) = g
+          owner _ = 0
+
+      by : NamedBy S (key.Msg e l) y → is_out U e ≡ true
+      by (in_entry p h held is there same) = cc
+      by (in_message f n m held is there h same) = subst (λ z. is_out U z ≡ true) (ap owner (sym is)) (there_then f n m held there h same)
+        where
+          owner : RowKey → ℕ
+          owner (key.Msg g k) = g
+          owner _ = 0
+
+  -- ---- the call by which it was leaked
+
+  own : (m q : ℕ) → among (path made m) q ≡ true → among (path made m) m ≡ true
+  own zero q on = absurd (true≢false (among (path made 0) q) on (ap (λ l. among l q) (path-opening made)))
+  own (suc i) q on = among-self made are.falls i
+
+  off : (b : Bool) → not b ≡ true → b ≡ false
+  off true e = cc
+  off false e = refl
+
+  module _ (i : ℕ) (on : among (path made at) (suc i) ≡ true) (leaks : at_moment (leaked x) made (suc i) ≡ true) where
+    abbrev P : State
+    P = state_at made (parent_at made (suc i))
+
+    abbrev T : State
+    T = state_at made (suc i)
+
+    there : suc i ≤ length made
+    there = omega (arith, among-early made are.falls at (suc i) on, within)
+
+    leaked-then : is_leaked T x ≡ true
+    leaked-then = and_right (not (is_leaked P x)) (is_leaked T x) leaks
+
+    leads : (m : ℕ) → among (path made at) m ≡ true → among (path made m) (suc i) ≡ true → has_leaked x (state_at made m)
+    leads m on_m later =
+        kept-on made are (has_leaked x) (λ S T c n p. leaked-goes-on S T x c n p) (suc i) (leaked-begins T x (consistent (suc i) on) leaked-then) m
+        (omega (arith, among-early made are.falls at m on_m, within)) later
+
+    plain-then : (m : ℕ) → among (path made at) m ≡ true → among (path made m) (suc i) ≡ true → stands_plain (state_at made m) x ≡ true
+    plain-then m on_m later =
+        (kept-on made are (was_plain (state_at made m) x) (was_plain-goes-on (state_at made m) x) m ((leads m on_m later).0, λ p. p) at within on_m).1 plain
+
+    -- from then on all of these are out of reach
+    all-out : (m : ℕ) → among (path made at) m ≡ true → among (path made m) (suc i) ≡ true → (y : ℕ) → among ends y ≡ true → is_out (state_at made m) y ≡ true
+    all-out m on_m later y h =
+        s.above (is_out (state_at made m)) (holds-out m on_m)
+        (and_both (exists (state_at made m) x) _ (plain-exists (state_at made m) x (plain-then m on_m later)) (ap not (unreached (state_at made m) x (consistent m on_m) (leads m on_m later))))
+        y h
+
+    -- none of them loses a name later
+    none-later : (r : ℕ) → among (path made at) r ≡ true → suc i < r → (y : ℕ) → among ends y ≡ true → lets_go_at y made r ≡ false
+    none-later zero on_r low y h = absurd (omega (arith, low))
+    none-later (suc j) on_r low y h =
+        let up : ℕ = parent_at made (suc j) in
+        let inside : suc j ≤ length made = omega (arith, among-early made are.falls at (suc j) on_r, within) in
+        let later : among (path made up) (suc i) ≡ true = on-parent made are.falls j (suc i) low (earlier-on made are.falls (suc i) (suc j) (omega (arith, low)) at on on_r) in
+        let on_up : among (path made at) up ≡ true = all-on made are.falls up (suc j) (on-child made are.falls j up (own up (suc i) later)) at on_r in
+        let e = made-there made are j inside in
+        lets-none y (state_at made up) (state_at made (suc j))
+        (out-stays (state_at made up) (state_at made (suc j)) (consistent up on_up) (next-made made are (leaked 0) j e.0 e.1) y (out-unreached (state_at made up) y (all-out up on_up later y h)))
+
+    -- ---- one of them lost a name then
+
+    itself : among (path made (suc i)) (suc i) ≡ true
+    itself = among-self made are.falls i
+
+    before : IsConsistent P
+    before = moment-consistent made are (parent_at made (suc i)) (parent-within made are i there)
+
+    steps : IsCallStep P T
+    steps = let e = made-there made are i there in next-made made are (leaked 0) i e.0 e.1
+
+    abbrev others : ℕ → Bool
+    others y = not (among ends y)
+
+    no_member : (y : ℕ) → (among ends y ≡ true → ⊥) → others y ≡ true
+    no_member y h = ap not (not_true (among ends y) h)
+
+    module _ (none : (y : ℕ) → among ends y ≡ true → lets_go_at y made (suc i) ≡ false) where
+      kept : (y : ℕ) → among ends y ≡ true → (k : RowKey) → names y (row P k) ≡ true → names y (row T k) ≡ true
+      kept y h = none-lets y P T (none y h) (and_left (exists T y) _ (all-out (suc i) on itself y h))
+
+      out-then : (y : ℕ) → among ends y ≡ true → among (reached T) y ≡ false
+      out-then y h = out-unreached T y (all-out (suc i) on itself y h)
+
+      no-entry : (p h : ℕ) (held : Held) → entry P p h ≡ Some held → among ends held.koid ≡ true → ⊥
+      no-entry p h held e g =
+          let named : names held.koid (row P (key.Entry p h)) ≡ true = ap (names held.koid) (entry-row P p h held e) ∙ eq-eqb held.koid held.koid refl in
+          let w = out-named T (consistent (suc i) on).sound held.koid (out-then held.koid g) (key.Entry p h) (kept held.koid g (key.Entry p h) named) in
+          let apart : key.Entry p h ≡ key.Msg w.0 w.1 = w.2 in
+          cc
+
+      at_member : (e l : ℕ) (m : MessageContent) → message P e l ≡ Some m → (held : Held) → In held m.handles → among ends held.koid ≡ true → among ends e ≡ true
+      at_member e l m was held h g =
+          let y : ℕ = held.koid in
+          let named : names y (row T (key.Msg e l)) ≡ true = kept y g (key.Msg e l) (message-names P e l m held was h) in
+          let later : still T y S = kept-on made are (still T y) (still-goes-on T y) (suc i) (out-away T y (consistent (suc i) on) (all-out (suc i) on itself y g), λ k f. f) at within on in
+          s.guarded y g (key.Msg e l) (later.1 (key.Msg e l) named)
+
+      closed : HoldsAllNamed P others
+      closed = record {
+        entries = λ p h held e. no_member held.koid (no-entry p h held e);
+        messages = λ e l m was out. in-all (λ (held : Held). others held.koid ≡ true) m.handles (λ held h.
+            no_member held.koid (λ g. true≢false (among ends e) (at_member e l m was held h g) (off (among ends e) out)));
+      }
+
+      not-then : ⊥
+      not-then =
+          let out : among (reached P) x ≡ false = not_true (among (reached P) x) (λ t. true≢false (among ends x) s.itself (off (among ends x) (reached-least P others closed x t))) in
+          let was : stands_plain P x ≡ true = plain-before P T before steps x (plain-then (suc i) on itself) (out-then x s.itself) in
+          true≢false (is_leaked P x) (plain-leaked P before x was out) (off (is_leaked P x) (and_left (not (is_leaked P x)) (is_leaked T x) leaks))
+
+    one-then : (y : ℕ) × In y ends × (lets_go_at y made (suc i) ≡ true)
+    one-then = by (list_any (λ y. lets_go_at y made (suc i)) ends) refl
+      where
+        by : (b : Bool) → list_any (λ y. lets_go_at y made (suc i)) ends ≡ b → (y : ℕ) × In y ends × (lets_go_at y made (suc i) ≡ true)
+        by true t = in-list_any (λ y. lets_go_at y made (suc i)) ends t
+        by false f =
+            absurd (not-then (λ y h. not_true (lets_go_at y made (suc i)) (λ t.
+            true≢false (list_any (λ z. lets_go_at z made (suc i)) ends) (list_any-in (λ z. lets_go_at z made (suc i)) y ends (among-in y ends h) t) f)))
+
+    -- ---- what was found
+
+    no-later : (y : ℕ) → among ends y ≡ true → (r : ℕ) → among (path made at) r ≡ true → lets_go_at y made r ≡ true → r ≤ suc i
+    no-later y h r on_r goes = elim (cases_lt (suc i) r) [
+      | inl l ↦ absurd (true≢false (lets_go_at y made r) goes (none-later r on_r l y h))
+      | inr g ↦ omega (arith, g)
+    ]
+
+    found-then : last_of_all made at ends ≡ Some (suc i)
+    unfolding last_let_go
+    found-then =
+        latest (λ y. last_let_go y made at) (suc i) ends
+        (λ y h r e. let w = filter-among (lets_go_at y made) (path made at) r (last-among (filter (lets_go_at y made) (path made at)) r e) in no-later y (in-among y ends h) r w.0 w.1)
+        None
+        (λ r e. none_is r e)
+        (inr (one-then.0, one-then.1, last-found made are.falls (lets_go_at one-then.0 made) (suc i) one-then.2 at on (no-later one-then.0 (in-among one-then.0 ends one-then.1))))
+
+  -- ---- the moment at which it was leaked
+
+  others_of : HoldsAllNamed S (λ y. not (among ends y))
+  others_of = record {
+    entries = λ p h held e. ap not (not_true (among ends held.koid) (λ g. no_wait p h (s.guarded held.koid g (key.Entry p h) (ap (names held.koid) (entry-row S p h held e) ∙ eq-eqb held.koid held.koid refl))));
+    messages = λ e l m was out. in-all (λ (held : Held). not (among ends held.koid) ≡ true) m.handles (λ held h.
+        ap not (not_true (among ends held.koid) (λ g. true≢false (among ends e) (s.guarded held.koid g (key.Msg e l) (message-names S e l m held was h)) (off (among ends e) out))));
+  }
+    where
+      no_wait : (p h : ℕ) → waits_at ends (key.Entry p h) ≡ true → ⊥
+      no_wait p h e = cc
+
+  leaked-now : is_leaked S x ≡ true
+  leaked-now =
+      plain-leaked S last-consistent x plain (not_true (among (reached S) x) (λ t.
+      true≢false (among ends x) s.itself (off (among ends x) (reached-least S (λ y. not (among ends y)) others_of x t))))
+
+  pub leaked-by : last_on (happens happening.Leaked x) made at ≡ last_of_all made at ends
+  unfolding last_on
+  leaked-by = let b = begun made are.falls x at leaked-now in by b.0 b.1 b.2
+    where
+      unmade : (b : Bool) → (not b && b) ≡ true → ⊥
+      unmade true e = cc
+      unmade false e = cc
+
+      by : (q : ℕ) → among (path made at) q ≡ true → at_moment (leaked x) made q ≡ true → last_or None (filter (at_moment (leaked x) made) (path made at)) ≡ last_of_all made at ends
+      by zero on leaks = absurd (unmade (is_leaked (state_at made 0) x) leaks)
+      by (suc i) on leaks =
+          one-last (filter (at_moment (leaked x) made) (path made at)) (suc i) (once made are at within x happening.Leaked) (among-filter (at_moment (leaked x) made) (path made at) (suc i) on leaks)
+          ∙ sym (found-then i on leaks)
