@@ -24,7 +24,7 @@ use Rattle.zt_rows.specs.State.{State, row}
 use Rattle.zt_rows.specs.Support.{entry_support, child_support, message_supports, children, itself, root_job, supports, support_count}
 use Rattle.zt_queries.specs.declared.support_list.Source.{Source}
 use Rattle.zt_queries.specs.declared.support_list.Source.TheVariants as part
-use Rattle.zt_queries.specs.ProofsOnly.Holders.{AddsUpTo, keys_left, supports_at, supports_in}
+use Rattle.zt_queries.specs.ProofsOnly.Holders.{AddsUpTo, keys_left, supports_at, supports_by, supports_in}
 use Rattle.zt_queries.proofs.KeyLaws.{IsWalkedTo, left-first, left-on, row-at}
 
 -- ---- the rows under the keys are the rows
@@ -32,7 +32,7 @@ use Rattle.zt_queries.proofs.KeyLaws.{IsWalkedTo, left-first, left-on, row-at}
 some_same : {A : Type 0} (x y : A) → Some x ≡ Some y → x ≡ y
 some_same x y e = cc
 
-row_of : (S : State) (i : ℕ) (e : RowKey × Row) → slice_get S.rows i ≡ Some e → row S e.0 ≡ Some e.1
+pub row_of : (S : State) (i : ℕ) (e : RowKey × Row) → slice_get S.rows i ≡ Some e → row S e.0 ≡ Some e.1
 row_of S i e at =
     let key : slice_get (keys S) i ≡ Some e.0 = slice_get-map (λ (q : RowKey × Row). q.0) S.rows i ∙ ap (option_map (λ (q : RowKey × Row). q.0)) at in
     let found = row-at S i e.0 key in
@@ -64,6 +64,10 @@ entries_in x S = one_each (entry_support x) S.rows
 
 pub children_in : (x : ℕ) (S : State) → supports_in part.Children x S ≡ filter_map (child_support x) S.rows
 children_in x S = one_each (child_support x) S.rows
+
+-- the live children of a job, of any list of rows
+pub children_among : (x : ℕ) (es : List (RowKey × Row)) → flat_map (supports_by part.Children x) es ≡ filter_map (child_support x) es
+children_among x es = one_each (child_support x) es
 
 -- ---- keys, one after another
 
@@ -235,3 +239,19 @@ all_parts x S o a b c d e count own others named there at_first is_count is_own 
     self
     ∙ ap (λ l. l ++ I) (sym (append-nil d) ∙ third ∙ ap (λ l. c ++ l) (append-nil C) ∙ ap (λ l. l ++ C) named_all)
     ∙ whole
+
+-- the same of the rows of a state, listed, part by part
+pub parts_listed : (x : ℕ) (S : State) (o : ObjectRow) (es : List (RowKey × Row)) (a b c d e : List Support) → object S x ≡ Some o → es ≡ S.rows → a ≡ []
+    → b ≡ a ++ flat_map (supports_by part.Entries x) es → c ≡ b ++ flat_map (supports_by part.Messages x) es
+    → d ≡ c ++ children (Some o) x es → e ≡ d ++ itself (Some o) x → e ≡ supports S x
+unfolding supports
+parts_listed x S o es a b c d e there are at_first entries messages below self =
+    let E = filter_map (entry_support x) S.rows in
+    let M = flat_map (message_supports x) S.rows in
+    let C = children (Some o) x S.rows in
+    let first : b ≡ E = entries ∙ ap (λ l. l ++ flat_map (supports_by part.Entries x) es) at_first ∙ ap (flat_map (supports_by part.Entries x)) are ∙ entries_in x S in
+    let second : c ≡ E ++ M = messages ∙ ap (λ l. l ++ flat_map (supports_by part.Messages x) es) first ∙ ap (λ l. E ++ flat_map (supports_by part.Messages x) l) are in
+    let third : d ≡ (E ++ M) ++ C = below ∙ ap (λ l. l ++ children (Some o) x es) second ∙ ap (λ l. (E ++ M) ++ children (Some o) x l) are in
+    self
+    ∙ ap (λ l. l ++ itself (Some o) x) third
+    ∙ ap (λ (q : Option ObjectRow). ((E ++ M) ++ children q x S.rows) ++ itself q x) (sym there)

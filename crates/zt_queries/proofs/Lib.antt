@@ -6,6 +6,7 @@ pub mod OnceLaws
 pub mod WorkedLeaks
 pub mod KeyLaws
 pub mod CopyLaws
+pub mod FrozenLaws
 pub mod HoldLaws
 pub mod GraphLaws
 pub mod ReachabilityLaws

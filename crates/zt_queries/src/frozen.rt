@@ -1,28 +1,34 @@
 ghost use Rattle.std.specs.Prelude.{◌≡◌, IfOk, IfErr};
 ghost use Rattle.zt_history.specs.Tree.{calls_to};
+ghost use Rattle.zt_rows.specs.Reads.{object};
 ghost use Rattle.zt_queries.specs.FrozenCopy.{at_position};
 
+use crate::row_list::{object_among, rows_of};
 use std::alloc::{AllocError, Global};
 use std::marker::Model;
 use zt_history::{History, push_call};
-use zt_rows::{Call, Koid, Moment, Refusal};
-use zt_store::Store;
+use zt_rows::{Call, Koid, Moment, ObjectRow, Refusal, Row, RowKey};
 
 /// A copy of a history at its position: the state there, and the calls on the path to it. It stays as it is,
-/// whatever becomes of the history.
+/// whatever becomes of the history. It takes memory for the rows that are there and for the calls alone.
 #[derive(Drop)]
 pub struct Frozen {
-    store: Store,
+    /// The rows of the state with their keys, in the keys' order.
+    rows: Vec<(RowKey, Row)>,
     moment: Moment,
     calls: Vec<(Koid, Call)>,
 }
 
 impl Model for Frozen {
+    ghost use Rattle.std.specs.Prelude.{◌≡◌};
+    ghost use Rattle.zt_rows.specs.State.{state_of};
     ghost use Rattle.zt_queries.specs.FrozenCopy.{Snapshot};
 
     ghost Value = { Snapshot };
 
-    ghost view = { λ f. record { moment = f.moment; state = f.store.state; calls = f.calls.items } };
+    ghost view = { λ f. record { moment = f.moment; state = state_of f.rows.items; calls = f.calls.items } };
+
+    ghost invariant = { λ f. (state_of f.rows.items).rows ≡ f.rows.items };
 }
 
 impl Frozen {
@@ -48,11 +54,18 @@ impl Frozen {
         self.calls.as_slice()
     }
 
-    /// The store of the state.
-    pub(crate) fn store(&self) -> &Store
-        ensures { result.now.state ≡ self.now.state }
+    /// The rows of the state with their keys, in the keys' order. It takes no memory.
+    pub(crate) fn rows(&self) -> &[(RowKey, Row)]
+        ensures { result.now ≡ self.now.state.rows }
     {
-        &self.store
+        self.rows.as_slice()
+    }
+
+    /// The object of this koid in the state. It takes no memory.
+    pub(crate) fn object(&self, koid: Koid) -> Option<ObjectRow>
+        ensures { result ≡ object self.now.state koid }
+    {
+        object_among(self.rows(), koid)
     }
 }
 
@@ -60,8 +73,10 @@ impl Frozen {
 fn copied(alloc: Global, history: &History) -> Result<Frozen, AllocError>
     ensures { IfOk result (λ frozen. frozen ≡ at_position history.now) }
 {
+    let mut rows = rows_of(alloc, history.store())?;
+    rows.shrink_to_fit();
     Ok(Frozen {
-        store: history.store().copy()?,
+        rows,
         moment: history.position(),
         calls: calls_to(alloc, history)?,
     })

@@ -6,6 +6,7 @@ mod happening_times;
 pub mod laws;
 mod leak_graph;
 mod path_pair;
+mod row_list;
 mod shown_rows;
 mod support_list;
 

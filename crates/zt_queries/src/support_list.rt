@@ -1,5 +1,5 @@
 ghost use Rattle.std.specs.Prelude.{◌≡◌, ◌==◌, ◌||◌, ◌-◌, ◌++◌, ◌∷◌, [], Some, Ok, IfOk, IfErr, OnOk, length, if◌then◌else◌};
-ghost use Rattle.std.specs.List.{cons_option};
+ghost use Rattle.std.specs.List.{cons_option, flat_map};
 ghost use Rattle.zt_rows.specs.Change.{keys};
 ghost use Rattle.zt_rows.specs.Reads.{object, is_live_job, is_live_process};
 ghost use Rattle.zt_rows.specs.State.{row};
@@ -30,7 +30,13 @@ pub fn holders(alloc: Global, frozen: &Frozen, koid: Koid) -> Result<Items<Suppo
     ensures ok { IfOk result (λ found. holders_on frozen.now.state koid ≡ Ok found) }
     ensures refused { IfErr result (IsHistoryRefusal (holders_on frozen.now.state koid)) }
 {
-    holders_in(alloc, frozen.store(), koid)
+    match frozen.object(koid) {
+        Some(held) => {
+            let found = frozen_supports(alloc, frozen, koid, &held)?;
+            Ok(Items::new(found))
+        }
+        None => Err(Refusal::NoObject),
+    }
 }
 
 /// What keeps an object at a history's position, in the same order. Refused where there is no such object.
@@ -51,6 +57,56 @@ fn holders_in(alloc: Global, store: &Store, koid: Koid) -> Result<Items<Support>
     };
     let found = supports_of(alloc, store, koid, &held)?;
     Ok(Items::new(found))
+}
+
+/// What keeps the object of the koid in a copy of a history, where this is its row.
+fn frozen_supports(
+    alloc: Global,
+    frozen: &Frozen,
+    koid: Koid,
+    found: &ObjectRow,
+) -> Result<Vec<Support>, AllocError>
+    requires { object frozen.now.state koid ≡ Some found.now }
+    ensures { IfOk result (λ list. list.items ≡ supports frozen.now.state koid) }
+{
+    let rows = frozen.rows();
+    let mut list = Vec::new(alloc);
+    add_listed(&mut list, rows, Source::Entries, koid)?;
+    add_listed(&mut list, rows, Source::Messages, koid)?;
+    add_listed_children(&mut list, rows, koid, found)?;
+    add_itself(&mut list, koid, found)?;
+    Ok(list)
+}
+
+/// Puts the live children of a live job behind the others, in the order of the rows.
+#[tactic(auto, using(crate::proofs::HoldLaws::children_among))]
+fn add_listed_children(
+    list: &mut Vec<Support>,
+    rows: &[(RowKey, Row)],
+    koid: Koid,
+    found: &ObjectRow,
+) -> Result<(), AllocError>
+    ensures { OnOk result (list.new.items ≡ list.old.items ++ children (Some found.now) koid rows.now) }
+{
+    if is_live_job(found) {
+        add_listed(list, rows, Source::Children, koid)?;
+    }
+    Ok(())
+}
+
+/// Puts the supports that come from one part of the rows behind the others, in the order of the rows.
+fn add_listed(
+    list: &mut Vec<Support>,
+    rows: &[(RowKey, Row)],
+    part: Source,
+    koid: Koid,
+) -> Result<(), AllocError>
+    ensures { OnOk result (list.new.items ≡ list.old.items ++ flat_map (supports_by part koid) rows.now) }
+{
+    for (key, row) in rows {
+        add_given(list, *key, row, part, koid)?;
+    }
+    Ok(())
 }
 
 /// What keeps the object of the koid, of which this is the row. Each kind is looked for until there are as many as the store

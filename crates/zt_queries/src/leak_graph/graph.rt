@@ -7,6 +7,7 @@ ghost use Rattle.zt_rows.specs.State.{row};
 ghost use Rattle.zt_rows.specs.declared.keys.RowKey.{RowKey};
 ghost use Rattle.zt_queries.specs.ProofsOnly.LeakGraph.{IsGraph, first_of, graph_row, graph_row_if, node, link_of};
 
+use crate::frozen::Frozen;
 use crate::support_list::keys_of;
 use std::alloc::{AllocError, Global};
 use std::collections::BTreeMap;
@@ -83,6 +84,26 @@ fn draw(alloc: Global, graph: &mut Graph, store: &Store, key: RowKey) -> Result<
         Some(found) => graph_row_of(alloc, found)?,
         None => None,
     };
+    drop(place(graph, key, drawn)?);
+    Ok(())
+}
+
+/// The graph of a copy of a history.
+pub(crate) fn frozen_graph(alloc: Global, frozen: &Frozen) -> Result<Graph, AllocError>
+    ensures { IfOk result (λ graph. IsGraph graph frozen.now.state) }
+{
+    let mut graph = BTreeMap::new(alloc);
+    for (key, row) in frozen.rows() {
+        draw_row(alloc, &mut graph, *key, row)?;
+    }
+    Ok(graph)
+}
+
+/// Puts into the graph what this row gives, under its key.
+fn draw_row(alloc: Global, graph: &mut Graph, key: RowKey, row: &Row) -> Result<(), AllocError>
+    ensures { OnOk result ((q : RowKey) → get rowkey_cmp graph.new q ≡ (if rowkey_eq key q then graph_row row.now else get rowkey_cmp graph.old q)) }
+{
+    let drawn = graph_row_of(alloc, row)?;
     drop(place(graph, key, drawn)?);
     Ok(())
 }

@@ -2,6 +2,7 @@ ghost use Rattle.std.specs.Prelude.{◌≡◌, ◌++◌, ◌∷◌, [], IfOk, If
 ghost use Rattle.std.specs.List.{filter_map};
 ghost use Rattle.std.specs.Ordering.{nat_cmp};
 ghost use Rattle.std.specs.BTreeSet.{contains};
+ghost use Rattle.zt_rows.specs.Change.{keys};
 ghost use Rattle.zt_rows.specs.State.{State};
 ghost use Rattle.zt_history.specs.Tree.{state_at};
 ghost use Rattle.zt_queries.specs.Leaks.{leaks, is_leaked};
@@ -9,8 +10,9 @@ ghost use Rattle.zt_queries.specs.ProofsOnly.LeakGraph.{IsGraph, is_left, left_a
 ghost use Rattle.zt_queries.specs.ProofsOnly.ReachabilitySearch.{IsSurvey};
 
 use crate::frozen::Frozen;
-use crate::leak_graph::graph::{Graph, GraphNode, graph_of, node_of};
+use crate::leak_graph::graph::{Graph, GraphNode, frozen_graph, graph_of, node_of};
 use crate::leak_graph::reachability::{above_in, reached_in};
+use crate::row_list::keys_among;
 use crate::support_list::keys_of;
 use std::alloc::{AllocError, Global};
 use std::collections::BTreeSet;
@@ -25,7 +27,7 @@ pub fn leaks(alloc: Global, frozen: &Frozen) -> Result<Items<(Koid, Kind)>, Refu
     ensures ok { IfOk result (λ found. found ≡ leaks frozen.now.state) }
     ensures refused { IfErr result (λ refusal. refusal ≡ Refusal.OutOfMemory) }
 {
-    Ok(leaks_in(alloc, frozen.store())?)
+    Ok(frozen_leaks(alloc, frozen)?)
 }
 
 /// All leaked objects at a history's position, in the same order.
@@ -41,9 +43,29 @@ fn leaks_in(alloc: Global, store: &Store) -> Result<Items<(Koid, Kind)>, AllocEr
     ensures { IfOk result (λ found. found ≡ leaks store.now.state) }
 {
     let graph = graph_of(alloc, store)?;
-    let found = reachability_of(alloc, &graph)?;
-    let keys = keys_of(alloc, store)?;
-    let list = listed(alloc, &graph, &found, keys.as_slice())?;
+    let row_keys = keys_of(alloc, store)?;
+    leaks_drawn(alloc, &graph, row_keys.as_slice())
+}
+
+/// All leaked objects of a copy of a history, in the same order.
+fn frozen_leaks(alloc: Global, frozen: &Frozen) -> Result<Items<(Koid, Kind)>, AllocError>
+    ensures { IfOk result (λ found. found ≡ leaks frozen.now.state) }
+{
+    let graph = frozen_graph(alloc, frozen)?;
+    let row_keys = keys_among(alloc, frozen.rows())?;
+    leaks_drawn(alloc, &graph, row_keys.as_slice())
+}
+
+/// All leaked objects of the state of a graph, of which these are the keys, in the same order.
+fn leaks_drawn(
+    alloc: Global,
+    graph: &Graph,
+    row_keys: &[RowKey],
+) -> Result<Items<(Koid, Kind)>, AllocError>
+    ensures { IfOk result (λ found. (S : State) → IsGraph graph.now S → row_keys.now ≡ keys S → found ≡ leaks S) }
+{
+    let found = reachability_of(alloc, graph)?;
+    let list = listed(alloc, graph, &found, row_keys)?;
     Ok(Items::new(list))
 }
 

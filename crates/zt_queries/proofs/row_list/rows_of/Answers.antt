@@ -3,7 +3,7 @@ use Rattle.std.proofs.Common.{◌≡◌, sym, ◌∙◌, ap, length, Some}
 use Rattle.std.specs.List.{slice_get}
 use Rattle.zt_rows.specs.Change.{keys}
 use Rattle.zt_queries.proofs.KeyLaws.{next_key-first, take_none, has_row, copied_more, following_more, fewer_left, none_left}
-use Rattle.zt_queries.proofs.shown_rows.rows_of.Goals as goal
+use Rattle.zt_queries.proofs.row_list.rows_of.Goals as goal
 
 pub loop-next-init : goal.loop-next-init
 loop-next-init c = record {
@@ -29,4 +29,4 @@ loop-next-preserved c =
 
 pub returns : goal.returns
 returns c =
-    c.new.ensures ∙ none_left c.args.store.now.state c.loop-next.rows.items c.loop-next.next c.loop-next.invariant.copied c.loop-next.invariant.following c.in_default.not-Some
+    none_left c.args.store.now.state c.loop-next.rows.items c.loop-next.next c.loop-next.invariant.copied c.loop-next.invariant.following c.in_default.not-Some

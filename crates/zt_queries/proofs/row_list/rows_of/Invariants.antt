@@ -1,7 +1,7 @@
 -- So many rows are copied as stand before the next key.
 use Rattle.std.proofs.Common.{◌≡◌, ◌-◌, map, length, take}
 use Rattle.std.specs.List.{slice_get}
-use Rattle.zt_queries.proofs.shown_rows.rows_of.Given as goal
+use Rattle.zt_queries.proofs.row_list.rows_of.Given as goal
 
 abbrev pub invariant-loop-next : goal.invariant-loop-next
 invariant-loop-next l = record {
