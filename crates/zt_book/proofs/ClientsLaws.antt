@@ -1,7 +1,8 @@
 -- What a command does to the clients and to their history, and what the session's checks say of it.
-use Rattle.std.proofs.Common.{◌≡◌, ℕ, zero, suc, ◌-◌, ◌≤◌, ◌<◌, Bool, true, false, List, [], ◌∷◌, ◌++◌, length, get_or, Option, Some, None, Result, Ok, Err, refl, sym, ◌∙◌, ap, subst, inl, inr, arith}
+use Rattle.std.proofs.Common.{◌≡◌, ℕ, zero, suc, ◌+◌, ◌-◌, ◌≤◌, ◌<◌, Bool, true, false, List, [], ◌∷◌, ◌++◌, length, length-append, get_or, Option, Some, None, Result, Ok, Err, refl, sym, ◌∙◌, ap, subst, inl, inr, arith}
 use Rattle.std.specs.Prelude.{is_some, IfErr, IsSome, slice_get, replicate}
-use Rattle.std.proofs.lemmas.List.{length-replicate}
+use Rattle.std.proofs.lemmas.List.{get_or_append_left, length-replicate}
+use Rattle.std.proofs.Math.Seq.{get_or-append_seam}
 use Rattle.std.proofs.lemmas.List.Elements.{All-replicate}
 use Rattle.std.proofs.lemmas.Bool.{le-leb, lt-leb, lt-ltb, le-ltb}
 use Rattle.zt_rows.specs.declared.calls.Answer.{Answer}
@@ -87,10 +88,6 @@ module _ (M : Session) (client : ℕ) where
   pub back-far : (count : ℕ) → length (path M.tree.made (position_of M client)) < count → IsCommandRefusal (back_by M client count) refusal.AtStart
   unfolding back_by
   back-far count h = rw (lt-leb count (length (path M.tree.made (position_of M client))) h) refl
-
-  pub back-near : (count : ℕ) → count ≤ length (path M.tree.made (position_of M client)) → IsCommandRefusal (back_by M client count) refusal.OutOfMemory
-  unfolding back_by
-  back-near count h = rw (le-leb count (length (path M.tree.made (position_of M client))) h) refl
 
   pub back-done : (count moment : ℕ) → count ≤ length (path M.tree.made (position_of M client)) → moment ≡ ancestor (path M.tree.made (position_of M client)) count
       → back_by M client count ≡ Ok (answer.At moment, standing M client (At moment))
@@ -295,6 +292,36 @@ first_or made falls m h (suc n) = path-bounded made falls (length made) m h n
 
 pub ancestor-within : (made : List Made) → Falls made → (m count : ℕ) → m ≤ length made → ancestor (path made m) count ≤ length made
 ancestor-within made falls m count h = first_or made falls m h (length (path made m) - count)
+
+-- the parent has one moment less above it
+pub parent-far : (made : List Made) → Falls made → (m count : ℕ) → suc count ≤ length (path made m) → count ≤ length (path made (parent_at made m))
+parent-far made falls zero count h = absurd (omega (arith, ap length (path-opening made)))
+parent-far made falls (suc i) count h =
+    omega (arith, ap length (path-step made falls i) ∙ length-append (path made (parent_at made (suc i))) (suc i ∷ []))
+
+-- a step nearer, the ancestor is one of the parent's
+pub ancestor-parent : (made : List Made) → Falls made → (m count : ℕ) → suc count ≤ length (path made m)
+    → ancestor (path made (parent_at made m)) count ≡ ancestor (path made m) (suc count)
+ancestor-parent made falls zero count h = absurd (omega (arith, ap length (path-opening made)))
+ancestor-parent made falls (suc i) count h =
+    let up : List ℕ = path made (parent_at made (suc i)) in
+    let step : path made (suc i) ≡ up ++ suc i ∷ [] = path-step made falls i in
+    let many : length (path made (suc i)) ≡ length up + 1 = ap length step ∙ length-append up (suc i ∷ []) in
+    let near : length (path made (suc i)) - suc count ≡ length up - count = omega arith in
+    sym (
+    (λ k. get_or (0 ∷ step k) (near k) 0)
+    ∙ get_or_append_left (0 ∷ up) (suc i ∷ []) 0 (length up - count) (omega arith)
+    )
+
+-- no step away it is the moment itself
+pub ancestor-none : (made : List Made) → Falls made → (m : ℕ) → ancestor (path made m) 0 ≡ m
+ancestor-none made falls zero = ap (λ way. ancestor way 0) (path-opening made)
+ancestor-none made falls (suc i) =
+    let up : List ℕ = path made (parent_at made (suc i)) in
+    let step : path made (suc i) ≡ up ++ suc i ∷ [] = path-step made falls i in
+    let many : length (path made (suc i)) ≡ length up + 1 = ap length step ∙ length-append up (suc i ∷ []) in
+    let all : length (path made (suc i)) - 0 ≡ suc (length up) = omega arith in
+    (λ k. get_or (0 ∷ step k) (all k) 0) ∙ get_or-append_seam (0 ∷ up) (suc i) [] 0
 
 -- ---- when something happened
 

@@ -1,6 +1,6 @@
 -- One call more behind calls that are loaded in a row, and the session that they are loaded as.
-use Rattle.std.proofs.Common.{◌≡◌, ℕ, suc, ◌+◌, ◌≤◌, false, List, [], ◌∷◌, ◌++◌, length, map, Result, Ok, Err, refl, sym, ◌∙◌, ap, subst, arith, zero-add}
-use Rattle.std.specs.Prelude.{Bool, true, nat_lt, nat_le}
+use Rattle.std.proofs.Common.{◌≡◌, ℕ, suc, ◌+◌, ◌≤◌, false, List, [], ◌∷◌, ◌++◌, length, Result, Ok, Err, refl, sym, ◌∙◌, ap, subst, arith, zero-add}
+use Rattle.std.specs.Prelude.{Bool, true, nat_le}
 use Rattle.std.proofs.lemmas.Bool.{le-leb, le-ltb}
 use Rattle.std.proofs.lemmas.List.{length-map, map-append}
 use Rattle.zt_rows.specs.CallsInARow.{as_moment, moments_from, in_a_row}
@@ -10,8 +10,8 @@ use Rattle.zt_rows.specs.declared.saved.SavedCall.{SavedCall}
 use Rattle.zt_history.specs.HistoryRefusals.{most_moments, moment_on, IsHistoryRefusal}
 use Rattle.zt_history.specs.Tree.{Made, Branch, Tree, opening_tree, last_moment, made_by, grown_at, head_moved, headed}
 use Rattle.zt_book.specs.Log.{loaded, IsUnloadedBy}
-use Rattle.zt_book.specs.SavedSessions.{◌>>=◌, at_item, in_turn, with_moment, with_branches, seated, loaded_tree, loaded_saved, over_loaded}
-use Rattle.zt_book.specs.Session.{Session, session_over}
+use Rattle.zt_book.specs.SavedSessions.{◌>>=◌, at_item, in_turn, with_moment, with_branches, seated, loaded_saved, over_loaded}
+use Rattle.zt_book.specs.Session.{session_over}
 use Rattle.zt_book.specs.ProofsOnly.CallsInARow.{calls_of, IsInARow}
 use Rattle.zt_book.specs.ProofsOnly.Log.{fault_at}
 use Rattle.zt_book.proofs.KeptLaws.{turn-apart, same_Ok, moment-apart, moments-kept}

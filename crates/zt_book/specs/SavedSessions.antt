@@ -38,6 +38,10 @@ saved_of_session M = record {
   cursors = map (λ client. saved_place M.tree.branches client.cursor) M.clients;
 }
 
+-- the branches and the cursors alone
+abbrev pub without_moments : Saved → Saved
+without_moments saved = record saved { moments = [] }
+
 -- ---- items in turn
 
 -- the first fault ends it

@@ -3,7 +3,7 @@ ghost use Rattle.zt_rows.specs.declared.calls.Command.TheVariants as command;
 ghost use Rattle.zt_history.specs.Timeline.{Timeline};
 ghost use Rattle.zt_history.specs.Tree.{Tree};
 ghost use Rattle.zt_book.specs.Session.{serve, client_of, most_rows, position_of, IsCommandRefusal};
-ghost use Rattle.zt_book.specs.SavedSessions.{loaded_saved, saved_of_session, unanswered};
+ghost use Rattle.zt_book.specs.SavedSessions.{loaded_saved, saved_of_session, unanswered, without_moments};
 ghost use Rattle.zt_book.specs.Log.{IsBegun, IsCounted, IsWholeLog, standing_of, first_book, book_at, book_over, loaded, snapshot_at, IsUnloaded};
 
 use crate::client::Client;
@@ -218,6 +218,14 @@ impl Book {
         ensures refused { IfErr result (λ refusal. refusal ≡ Refusal.OutOfMemory) }
     {
         Ok(self.all_clients.saved()?)
+    }
+
+    /// As `save`, without the moments: the branches, and where each client stands.
+    pub fn save_places(&self) -> Result<Saved, Refusal>
+        ensures ok { IfOk result (λ saved. saved ≡ without_moments (saved_of_session self.now.session)) }
+        ensures refused { IfErr result (λ refusal. refusal ≡ Refusal.OutOfMemory) }
+    {
+        Ok(self.all_clients.saved_places()?)
     }
 
     /// The tree, with a store at one of its moments. It takes no memory.

@@ -86,8 +86,13 @@ impl CallsInARow {
     }
 }
 
-/// Makes the moment of a call at another one.
-fn make_at(history: &mut History, parent: Moment, process: Koid, call: Call) -> Result<(), Refusal>
+/// Makes the moment of a call at another one, and keeps the call.
+pub(crate) fn make_at(
+    history: &mut History,
+    parent: Moment,
+    process: Koid,
+    call: Call,
+) -> Result<(), Refusal>
     ensures ok { OnOk result (with_moment history.old.tree (record { parent = parent; process = process; call = call }) ≡ Ok history.new.tree) }
     ensures refused { IfErr result (IsHistoryRefusal (with_moment history.old.tree (record { parent = parent; process = process; call = call }))) }
     ensures err { OnErr result (history.new.tree ≡ history.old.tree) }

@@ -1,12 +1,15 @@
-ghost use Rattle.std.specs.Prelude.{◌≡◌, ◌≤◌, ◌<◌, ◌∷◌, Ok, IfOk, IfErr, OnOk, OnErr, length, slice_index_or};
+ghost use Rattle.std.specs.Prelude.{◌≡◌, ◌≤◌, ◌<◌, Ok, IfOk, IfErr, OnOk, OnErr, length};
+ghost use Rattle.zt_history.specs.Tree.{path};
+ghost use Rattle.zt_history.specs.TreeInvariant.{Falls};
 ghost use Rattle.zt_queries.specs.HappeningTimes.{when_on, IsRefusedWhen};
-ghost use Rattle.zt_book.specs.Session.{asked, serve, event_at, client_of, standing, call_by, goto_by, back_by, branch_by, follow_by, show_to, holders_to, leaks_to, when_to, pin_to, IsCommandRefusal};
+ghost use Rattle.zt_book.specs.Session.{ancestor, asked, serve, event_at, client_of, standing, call_by, goto_by, back_by, branch_by, follow_by, show_to, holders_to, leaks_to, when_to, pin_to, IsCommandRefusal};
 ghost use Rattle.zt_book.specs.ProofsOnly.Clients.{IsCursor, IsOneMore, session_before};
 
 use crate::branch_name::is_name;
 use crate::client::Cursor;
 use crate::clients::Clients;
 use std::alloc::AllocError;
+use zt_history::History;
 use zt_queries::{ended, holders_at, leaked_since, leaks_at, made, peer_closed, rows_at};
 use zt_rows::{
     Answer, CLIENT_ROWS, Call, Command, Event, Happening, Items, Koid, Moment, Refusal, Reply,
@@ -113,10 +116,7 @@ impl Clients {
         if count > depth {
             return Err(Refusal::AtStart);
         }
-        let Ok(way) = self.history.path(position) else {
-            return Err(Refusal::OutOfMemory);
-        };
-        let moment = ancestor(way.as_slice(), depth - count);
+        let moment = ancestor(&self.history, position, count);
         self.stand(client, Cursor::At(moment));
         Ok(Answer::At(moment))
     }
@@ -350,13 +350,15 @@ fn new_moment(made: (Moment, Reply)) -> Answer
     Answer::Called(moment, reply)
 }
 
-/// The moment so many steps behind the opening on a path.
-fn ancestor(way: &[Moment], depth: u32) -> Moment
-    requires { depth ≤ length way.now }
-    ensures { result ≡ slice_index_or (0 ∷ way.now) depth 0 }
+/// The moment so many steps above another. It takes no memory, and a look at each moment between.
+fn ancestor(history: &History, moment: Moment, count: u32) -> Moment
+    requires falls { Falls history.now.tree.made }
+    requires far { count ≤ length (path history.now.tree.made moment) }
+    ensures { result ≡ ancestor (path history.now.tree.made moment) count }
 {
-    if depth == 0 {
-        return Moment(0);
+    let mut at = moment;
+    for _ in 0..count {
+        at = history.parent_of(at);
     }
-    way[depth as usize - 1]
+    at
 }

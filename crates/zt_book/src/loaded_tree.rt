@@ -4,6 +4,7 @@ ghost use Rattle.zt_book.specs.SavedSessions.{in_turn, loaded_tree, with_moment,
 ghost use Rattle.zt_book.specs.Log.{IsUnloadedBy};
 
 use crate::branch_name::is_name;
+use crate::calls_in_a_row::make_at;
 use crate::load_progress::LoadProgress;
 use crate::loaded_history::{MAIN, fault};
 use std::alloc::Global;
@@ -65,7 +66,7 @@ fn put_all_moments<P: LoadProgress>(
             return Ok(());
         };
         give_back(&mut left);
-        match put_moment(history, &saved) {
+        match make_at(history, saved.parent, saved.process, saved.call) {
             Ok(()) => told.loaded(place + 1, count),
             Err(reason) => return Err(fault(place as u64, reason)),
         }

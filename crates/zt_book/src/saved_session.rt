@@ -1,7 +1,7 @@
 ghost use Rattle.std.specs.Prelude.{◌≡◌, ◌<◌, ◌++◌, [], ◌∷◌, IfOk, OnOk, length, map};
 ghost use Rattle.std.specs.List.{filter_map};
 ghost use Rattle.zt_history.specs.Tree.{head_at, name_at};
-ghost use Rattle.zt_book.specs.SavedSessions.{saved_branch, saved_call, saved_of_session, saved_place};
+ghost use Rattle.zt_book.specs.SavedSessions.{saved_branch, saved_call, saved_of_session, saved_place, without_moments};
 ghost use Rattle.zt_book.specs.ProofsOnly.Clients.{IsCursor};
 ghost use Rattle.zt_book.specs.ProofsOnly.SavedSessions.{saved_at, saved_client};
 
@@ -16,12 +16,28 @@ impl Clients {
     pub(crate) fn saved(&self) -> Result<Saved, AllocError>
         ensures { IfOk result (λ saved. saved ≡ saved_of_session self.now.session) }
     {
+        let moments = saved_moments(*self.clients.allocator(), &self.history)?;
+        let Saved {
+            moments: _,
+            branches,
+            cursors,
+        } = self.saved_places()?;
+        Ok(Saved {
+            moments,
+            branches,
+            cursors,
+        })
+    }
+
+    /// The same without its moments.
+    pub(crate) fn saved_places(&self) -> Result<Saved, AllocError>
+        ensures { IfOk result (λ saved. saved ≡ without_moments (saved_of_session self.now.session)) }
+    {
         let alloc = *self.clients.allocator();
-        let moments = saved_moments(alloc, &self.history)?;
         let branches = saved_branches(alloc, &self.history)?;
         let cursors = self.saved_cursors(alloc)?;
         Ok(Saved {
-            moments,
+            moments: Items::new(Vec::new(alloc)),
             branches,
             cursors,
         })

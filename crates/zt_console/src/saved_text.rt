@@ -1,17 +1,18 @@
-ghost use Rattle.std.specs.Prelude.{◌≡◌, IfOk, IfErr};
+ghost use Rattle.std.specs.Prelude.{◌≡◌, ◌++◌, [], ◌∷◌, IfOk, IfErr, OnOk, map, string_bytes};
 ghost use Rattle.zt_history.specs.Tree.{head_at};
-ghost use Rattle.std.specs.List.{filter_map};
+ghost use Rattle.std.specs.List.{filter_map, flat_map};
 ghost use Rattle.zt_history.specs.HistoryRefusals.{IsHistoryRefusal, moment_on};
 ghost use Rattle.zt_history.specs.Tree.{call_at, calls_to};
-ghost use Rattle.zt_book.specs.SavedSessions.{saved_of_session};
+ghost use Rattle.zt_book.specs.SavedSessions.{saved_call, saved_of_session};
+ghost use Rattle.zt_book.specs.ProofsOnly.SavedSessions.{saved_at};
 ghost use Rattle.zt_text.specs.Calls.{session_text};
-ghost use Rattle.zt_text.specs.SavedTexts.{saved_text};
+ghost use Rattle.zt_text.specs.SavedTexts.{saved_call_line, saved_text};
 
 use std::alloc::{AllocError, Global};
 use zt_book::Book;
 use zt_history::{BranchId, History, push_call};
 use zt_rows::{Call, Koid, Moment, Refusal};
-use zt_text::{print_saved, print_session};
+use zt_text::{print_session, put_moment, put_places};
 
 /// The session text of the path to the head of `main`, the first branch. It loads as that path again.
 #[tactic(auto, using(crate::proofs::SaveLaws::main_there, crate::proofs::SaveLaws::memory_alone))]
@@ -27,13 +28,47 @@ pub fn main_text(alloc: Global, book: &Book) -> Result<Vec<u8>, Refusal>
 
 /// The session text of the whole tree, of version 2, with its branches and where each client stands. It loads as that tree
 /// again, with the clients where they stand; what they pinned and were answered is no part of it.
+#[tactic(auto, unfolding(zt_text::specs::SavedTexts::saved_text))]
 pub fn tree_text(alloc: Global, book: &Book) -> Result<Vec<u8>, Refusal>
     ensures ok { IfOk result (λ text. text.items ≡ saved_text (saved_of_session book.now.session)) }
     ensures refused { IfErr result (λ refusal. refusal ≡ Refusal.OutOfMemory) }
 {
-    match book.save() {
-        Ok(saved) => Ok(print_saved(alloc, &saved)?),
-        Err(refusal) => Err(refusal),
+    let mut moments = String::new(alloc);
+    moments.push_str("zxtt 2\n")?;
+    put_moments(&mut moments, book.history())?;
+    let places = match book.save_places() {
+        Ok(places) => places,
+        Err(refusal) => return Err(refusal),
+    };
+    let mut text = moments.into_bytes();
+    put_places(
+        alloc,
+        &mut text,
+        places.branches.as_slice(),
+        places.cursors.as_slice(),
+    )?;
+    Ok(text)
+}
+
+/// A line for each moment after the opening.
+fn put_moments(text: &mut String, history: &History) -> Result<(), AllocError>
+    ensures { OnOk result (string_bytes text.new ≡ string_bytes text.old ++ flat_map saved_call_line (map saved_call history.now.tree.made)) }
+{
+    let last = history.last();
+    for number in 0..last.0 {
+        put_line(text, history, Moment(number + 1))?;
+    }
+    Ok(())
+}
+
+/// The line of a moment: nothing for the opening, nor beyond the last moment.
+fn put_line(text: &mut String, history: &History, moment: Moment) -> Result<(), AllocError>
+    ensures { OnOk result (string_bytes text.new ≡ string_bytes text.old ++ flat_map saved_call_line (filter_map (saved_at history.now.tree.made) (moment ∷ []))) }
+{
+    let parent = history.parent_of(moment);
+    match history.call_of(moment) {
+        Some((process, call)) => put_moment(text, parent, process, call),
+        None => Ok(()),
     }
 }
 

@@ -32,7 +32,7 @@ pub use printed_rows::{
     RefusalLine, print_refusal, print_reply, print_rows, put_bytes, put_critical, put_key,
     put_life, put_mask, put_reply,
 };
-pub use printed_saved::print_saved;
+pub use printed_saved::{print_saved, put_moment, put_places};
 pub use read_lines::{LINE_BYTES, Line, read_line};
 pub use saved_text::read_saved;
 pub use session_calls::SessionCalls;

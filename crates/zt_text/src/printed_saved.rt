@@ -8,7 +8,7 @@ ghost use Rattle.zt_text.specs.SavedTexts.{saved_call_line, branch_line, cursor_
 use crate::printed_answers::print_name;
 use crate::printed_calls::put_call;
 use std::alloc::{AllocError, Global};
-use zt_rows::{Cursor, Moment, Saved, SavedBranch, SavedCall};
+use zt_rows::{Call, Cursor, Koid, Moment, Saved, SavedBranch, SavedCall};
 
 /// The session text of a tree, of version 2.
 #[tactic(auto, unfolding(crate::specs::SavedTexts::saved_text))]
@@ -19,8 +19,12 @@ pub fn print_saved(alloc: Global, saved: &Saved) -> Result<Vec<u8>, AllocError>
     calls.push_str("zxtt 2\n")?;
     put_calls(&mut calls, saved.moments.as_slice())?;
     let mut text = calls.into_bytes();
-    put_branches(alloc, &mut text, saved.branches.as_slice())?;
-    put_cursors(alloc, &mut text, saved.cursors.as_slice())?;
+    put_places(
+        alloc,
+        &mut text,
+        saved.branches.as_slice(),
+        saved.cursors.as_slice(),
+    )?;
     Ok(text)
 }
 
@@ -29,19 +33,37 @@ fn put_calls(text: &mut String, moments: &[SavedCall]) -> Result<(), AllocError>
     ensures { OnOk result (string_bytes text.new ≡ string_bytes text.old ++ flat_map saved_call_line moments.now) }
 {
     for made in moments {
-        put_saved_call(text, made)?;
+        put_moment(text, made.parent, made.process, &made.call)?;
     }
     Ok(())
 }
 
-/// The line of a moment.
+/// The line of a moment behind a text: where its call was made, the process and the call.
 #[tactic(auto, unfolding(crate::specs::Calls::shown_call))]
-fn put_saved_call(text: &mut String, made: &SavedCall) -> Result<(), AllocError>
-    ensures { OnOk result (string_bytes text.new ≡ string_bytes text.old ++ saved_call_line made.now) }
+pub fn put_moment(
+    text: &mut String,
+    parent: Moment,
+    process: Koid,
+    call: &Call,
+) -> Result<(), AllocError>
+    ensures { OnOk result (string_bytes text.new ≡ string_bytes text.old ++ saved_call_line (record { parent = parent; process = process; call = call.now })) }
 {
-    write!(text, "call {} ", made.parent.0)?;
-    put_call(text, made.process, &made.call)?;
+    write!(text, "call {} ", parent.0)?;
+    put_call(text, process, call)?;
     text.push_str("\n")
+}
+
+/// The lines of these branches and cursors behind a text.
+pub fn put_places(
+    alloc: Global,
+    text: &mut Vec<u8>,
+    branches: &[SavedBranch],
+    cursors: &[Cursor],
+) -> Result<(), AllocError>
+    ensures { OnOk result (text.new.items ≡ text.old.items ++ (flat_map branch_line branches.now ++ cursor_lines 1 cursors.now)) }
+{
+    put_branches(alloc, text, branches)?;
+    put_cursors(alloc, text, cursors)
 }
 
 /// A line for each branch.

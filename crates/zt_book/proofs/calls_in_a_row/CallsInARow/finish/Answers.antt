@@ -5,7 +5,7 @@ use Rattle.zt_history.specs.Tree.{Tree, head_moved, last_moment}
 use Rattle.zt_rows.specs.CallsInARow.{in_a_row}
 use Rattle.zt_book.specs.Log.{BookView}
 use Rattle.zt_book.specs.SavedSessions.{loaded_saved}
-use Rattle.zt_book.specs.Session.{Session, session_over}
+use Rattle.zt_book.specs.Session.{session_over}
 use Rattle.zt_book.specs.ProofsOnly.CallsInARow.{calls_of}
 use Rattle.zt_book.proofs.BegunLaws.{calls-begun}
 use Rattle.zt_book.proofs.GrowingRows.{calls-loaded, row-session}
