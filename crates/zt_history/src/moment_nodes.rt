@@ -11,7 +11,7 @@ use zt_bits::Status;
 use zt_rows::{Call, Koid, Moment, Reply};
 
 /// In how many moments ahead of one an equal call or reply is looked for.
-const NEAR: usize = 4;
+const NEAR: usize = 12;
 
 /// What is kept of one moment beside its parent: `call` and `reply` are places in lists of these, and those that it owns were
 /// put there for it.
