@@ -59,20 +59,23 @@ sure-unleaked S x sure = not_true (is_leaked S x) (λ t.
     let w = some-exists S x lost.there in
     true≢false (is_sure (row S (key.Object x)) x) sure (sure-by S x w.0 w.1 lost.not_root lost.not_running))
 
-entered-unleaked : (S : State) (x p h : ℕ) (o : Option Held) → entry S p h ≡ o → entry_names o x ≡ true → is_leaked S x ≡ false
-entered-unleaked S x p h (Some held) there named =
-    let same : held.koid ≡ x = eqb-true held.koid x named in
-    not_true (is_leaked S x) (λ t.
-    true≢false (among (reached S) x) (ap (among (reached S)) (sym same) ∙ entry-reached S p h held there) (leaked-lost S x t).unreached)
-entered-unleaked S x p h None there named = cc
+pub reached-unleaked : (S : State) (x : ℕ) → among (reached S) x ≡ true → is_leaked S x ≡ false
+reached-unleaked S x known = not_true (is_leaked S x) (λ t. true≢false (among (reached S) x) known (leaked-lost S x t).unreached)
+
+entered-reached : (S : State) (x p h : ℕ) (o : Option Held) → entry S p h ≡ o → entry_names o x ≡ true → among (reached S) x ≡ true
+entered-reached S x p h (Some held) there named = ap (among (reached S)) (sym (eqb-true held.koid x named)) ∙ entry-reached S p h held there
+entered-reached S x p h None there named = cc
+
+pub named-reached : (S : State) (k : RowKey) (x : ℕ) → names_object k (row S k) x ≡ true → among (reached S) x ≡ true
+named-reached S (key.Entry p h) x named = entered-reached S x p h (entry S p h) refl named
+named-reached S key.Counters x named = cc
+named-reached S (key.Object y) x named = cc
+named-reached S (key.Msg e n) x named = cc
+named-reached S (key.Packet p n) x named = cc
+named-reached S (key.Wait n) x named = cc
 
 pub named-unleaked : (S : State) (k : RowKey) (x : ℕ) → names_object k (row S k) x ≡ true → is_leaked S x ≡ false
-named-unleaked S (key.Entry p h) x named = entered-unleaked S x p h (entry S p h) refl named
-named-unleaked S key.Counters x named = cc
-named-unleaked S (key.Object y) x named = cc
-named-unleaked S (key.Msg e n) x named = cc
-named-unleaked S (key.Packet p n) x named = cc
-named-unleaked S (key.Wait n) x named = cc
+named-unleaked S k x named = reached-unleaked S x (named-reached S k x named)
 
 -- ---- the opening
 
@@ -246,5 +249,5 @@ named-held : (k : RowKey) (q : Option (Option Row)) (x : ℕ) (r : Option Row) �
 named-held k (Some s) x r h e = ap (λ t. names_object k t x) (sym e) ∙ h
 named-held k None x r h e = cc
 
-pub named-tells : (R : List (RowKey × Option Row)) (S : State) (k : RowKey) (x : ℕ) → names_in k (held R k) x ≡ true → HoldsRowsOf (Some R) S → is_leaked S x ≡ false
-named-tells R S k x named behind = named-unleaked S k x (named-held k (held R k) x (row S k) named (behind.same k))
+pub named-tells : (R : List (RowKey × Option Row)) (S : State) (k : RowKey) (x : ℕ) → names_in k (held R k) x ≡ true → HoldsRowsOf (Some R) S → among (reached S) x ≡ true
+named-tells R S k x named behind = named-reached S k x (named-held k (held R k) x (row S k) named (behind.same k))

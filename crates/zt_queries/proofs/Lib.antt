@@ -22,3 +22,4 @@ pub mod NeverLaws
 pub mod NameLaws
 pub mod LetGoLaws
 pub mod NameSearchLaws
+pub mod RecordReachLaws

@@ -8,4 +8,5 @@ pub(crate) mod moved_graph;
 pub(crate) mod name_search;
 pub(crate) mod never_leaked;
 pub(crate) mod reachability;
+pub(crate) mod record_reach;
 pub(crate) mod unleaked_signs;

@@ -11,9 +11,10 @@ use Rattle.zt_rows.specs.declared.rows.Row.{Row}
 use Rattle.zt_rows.specs.State.{State, row}
 use Rattle.zt_rows.specs.Reads.{as_object, as_entry, is_live_process, object, on_object}
 use Rattle.zt_rows.specs.Support.{root_job}
-use Rattle.zt_rows.specs.Tests.{exists}
+use Rattle.zt_rows.specs.Tests.{among, exists}
 use Rattle.zt_history.specs.Tree.{Made, end_of, state_at}
 use Rattle.zt_queries.specs.Leaks.{is_leaked}
+use Rattle.zt_queries.specs.Reachability.{reached}
 use Rattle.zt_queries.specs.ProofsOnly.RowHappenings.{row_over}
 
 -- ---- places of a path
@@ -86,3 +87,11 @@ pub record PassesUnleaked (S : State) (x : ℕ) : Type 0 where
 -- the record, if there is one, has rows of this state
 pub record HoldsRowsOf (R : Option (List (RowKey × Option Row))) (S : State) : Type 0 where
   pub same : (k : RowKey) → row_over R k (row S k) ≡ row S k
+
+-- the record shows that x is reached in a state of which it has rows
+abbrev pub ShowsReached : List (RowKey × Option Row) → ℕ → Type 0
+ShowsReached R x = (S : State) → HoldsRowsOf (Some R) S → among (reached S) x ≡ true
+
+-- or that x is reached there where y is
+abbrev pub ShowsReachedWith : List (RowKey × Option Row) → ℕ → ℕ → Type 0
+ShowsReachedWith R x y = (S : State) → HoldsRowsOf (Some R) S → among (reached S) y ≡ true → among (reached S) x ≡ true

@@ -31,8 +31,9 @@ use zt_rows::{Koid, Moment, ROOT_JOB, Refusal};
 /// leaked at none of them.
 ///
 /// Where the object went by a call that took away an entry that names it, or is named at the position by an entry that was put
-/// when it was made or last let go, it never was, and this reads no more than `ended` and takes no memory. Where it is there at
-/// the position and is neither a job nor a process, the notes of what it and the endpoints above it let go lead to the messages
+/// when it was made or last let go, it never was, and this reads no more than `ended` and takes no memory. So it is where it went
+/// with the endpoint at which a message waited that names it, and that with the next, up to an entry: this goes some times over
+/// the rows that the call changed, and takes no memory. Where it is there at the position and is neither a job nor a process, the notes of what it and the endpoints above it let go lead to the messages
 /// that name them: this costs a look at each of these moments, and takes memory for those endpoints and messages. Where an entry
 /// turns up among these names, that takes a walk over entries up to the first one.
 ///

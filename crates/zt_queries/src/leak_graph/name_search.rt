@@ -232,7 +232,7 @@ impl NameSearch {
 }
 
 /// How often a row names the object, where it is that of a message.
-fn times_named(row: Option<&Row>, koid: Koid) -> u64
+pub(crate) fn times_named(row: Option<&Row>, koid: Koid) -> u64
     ensures { result ≡ times_named koid (option_copied row.entry) }
 {
     match row {

@@ -12,7 +12,8 @@ ghost use Rattle.zt_queries.specs.HappeningTimes.{happens, is_known, last_on};
 ghost use Rattle.zt_queries.specs.Leaks.{is_leaked};
 ghost use Rattle.zt_queries.specs.ProofsOnly.FirstLeak.{HoldsRowsOf, PassesUnleaked, is_passing_kind, is_passing_in};
 
-use crate::leak_graph::unleaked_signs::{is_sure, names, tells_unleaked};
+use crate::leak_graph::record_reach::tells_reached;
+use crate::leak_graph::unleaked_signs::{is_sure, names};
 use crate::path_pair::is_there;
 use zt_bits::Kind;
 use zt_history::{History, RowHappening};
@@ -89,7 +90,7 @@ fn went_unleaked(history: &History, moment: Moment, koid: Koid) -> bool
     let Some(record) = history.record_of(moment) else {
         return false;
     };
-    is_passing(record, koid) && tells_unleaked(record, koid)
+    is_passing(record, koid) && tells_reached(record, koid)
 }
 
 /// Whether the record has the object, of a kind that is gone when it ends: no process and no job.

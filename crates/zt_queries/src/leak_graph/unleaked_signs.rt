@@ -8,7 +8,7 @@ ghost use Rattle.zt_rows.specs.Tests.{exists};
 ghost use Rattle.zt_store.specs.RecordLook.{held};
 ghost use Rattle.zt_history.specs.TreeInvariant.{recorded_at};
 ghost use Rattle.zt_queries.specs.Leaks.{is_leaked};
-ghost use Rattle.zt_queries.specs.ProofsOnly.FirstLeak.{state_after, IsLast, is_sure, names_object, names_in, has_none, HoldsRowsOf};
+ghost use Rattle.zt_queries.specs.ProofsOnly.FirstLeak.{state_after, IsLast, is_sure, names_object, names_in, has_none, HoldsRowsOf, ShowsReached};
 ghost use Rattle.zt_queries.specs.ProofsOnly.RowHappenings.{AreWays};
 
 use crate::path_pair::{PathPair, is_there, object_in, row_at_fork, row_over};
@@ -149,12 +149,16 @@ fn shows_unleaked(history: &History, moment: Moment, koid: Koid) -> bool
 }
 
 /// Whether the record has that the object is not there, or an entry that names it.
-pub(crate) fn tells_unleaked(change: &Record, koid: Koid) -> bool
+fn tells_unleaked(change: &Record, koid: Koid) -> bool
     ensures { result ≡ true → (S : State) → HoldsRowsOf (Some change.now) S → is_leaked S koid ≡ false }
 {
-    if has_none(change, koid) {
-        return true;
-    }
+    has_none(change, koid) || is_entered_in(change, koid)
+}
+
+/// Whether the record has an entry that names the object.
+pub(crate) fn is_entered_in(change: &Record, koid: Koid) -> bool
+    ensures { result ≡ true → ShowsReached change.now koid }
+{
     for key in change.keys() {
         if names_under(change, *key, koid) {
             return true;
