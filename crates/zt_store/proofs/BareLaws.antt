@@ -1,25 +1,30 @@
 -- Bare rows, each beside its key or at the place of its key in another list: what they stand for, and an exchange of them with
 -- a state's rows, one after another.
 use Rattle.std.proofs.Common.{◌≡◌, ℕ, zero, suc, ◌+◌, ◌<◌, ◌≤◌, true, List, [], ◌∷◌, ◌++◌, map, get_or, set, length, Option, None, Some, refl, sym, ap, ◌∙◌, subst, arith}
-use Rattle.std.specs.List.{slice_get, zip}
+use Rattle.std.specs.List.{IsDistinct, slice_get, zip}
+use Rattle.std.specs.Global.{Vec}
 use Rattle.std.specs.Option.{option_map}
-use Rattle.std.proofs.lemmas.List.{get_or-map, get_or_default, length-map, map-set}
+use Rattle.std.specs.Vec.{with_items}
+use Rattle.std.proofs.lemmas.List.{get_or-map, get_or_default, length-map, map-append, with_items_is}
 use Rattle.std.proofs.lemmas.Option.{slice_get-get_or, slice_get-map}
 use Rattle.zt_rows.specs.declared.keys.RowKey.{RowKey}
 use Rattle.zt_rows.specs.declared.rows.Row.{Row}
+use Rattle.zt_rows.specs.Keys.{rowkey_eq}
 use Rattle.zt_rows.specs.State.{State, row, put}
 use Rattle.zt_rows.specs.Change.{before, exchange}
 use Rattle.zt_rows.specs.Room.{SuitsKey}
 use Rattle.zt_cells.specs.BareRows.{row_under}
-use Rattle.zt_store.specs.Places.{Places, fits, fits_row}
+use Rattle.zt_store.specs.Places.{Places, fits_row}
 use Rattle.zt_store.specs.StoreView.{Stored}
+use Rattle.zt_store.specs.ProofsOnly.ChangedRows.{first_at, no_first}
+use Rattle.zt_store.specs.ProofsOnly.FirstRows.{Firsts}
 use Rattle.zt_store.specs.ProofsOnly.KeptRows.{AreOf, pairs_of, rows_of, under_keys}
 use Rattle.zt_store.specs.ProofsOnly.RecordRows.{IsBareRecord, IsRecord}
 use Rattle.zt_store.specs.ProofsOnly.StoreView.{AllSuit, standing}
-use Rattle.zt_store.proofs.Fitting.{Rows, fits-at, suits-at}
-use Rattle.zt_store.proofs.Exchanges.{IsSwapping, keys_of, swapping-next}
-use Rattle.zt_store.proofs.RecordLaws.{record-before}
-use Rattle.zt_store.proofs.SideBySide.{beside-end, beside-fits, beside-record, beside-start, beside-step, beside-suits}
+use Rattle.zt_store.proofs.Fitting.{Rows}
+use Rattle.zt_store.proofs.Exchanges.{IsSwapping, keys_of}
+use Rattle.zt_store.proofs.RecordLaws.{distinct-record, record-before, record-exchanged}
+use Rattle.zt_store.proofs.SideBySide.{beside-end, beside-fits, beside-step, beside-suits}
 
 abbrev pub Bares : Type 0
 Bares = List (RowKey × Row)
@@ -40,16 +45,13 @@ pub keys-rows_of : (F : Bares) → keys_of (rows_of F) ≡ map (λ e. e.0) F
 keys-rows_of [] = refl
 keys-rows_of (e ∷ F) = ap (λ ks. e.0 ∷ ks) (keys-rows_of F)
 
-pub rows_of-set : (F : Bares) (i : ℕ) (k : RowKey) (r : Row) → rows_of (set F i (k, r)) ≡ set (rows_of F) i (k, row_under k r)
-rows_of-set F i k r = map-set held_by F i (k, r)
+pub rows_of-at : (F : Bares) (i : ℕ) → i < length F → held_by (first_at F i) ≡ get_or (rows_of F) i (held_by (first_at F i))
+rows_of-at F i within = sym (get_or-map held_by F i no_first (held_by (first_at F i)) within)
 
-pub rows_of-at : (F : Bares) (i : ℕ) (e : RowKey × Row) → i < length F → e ≡ get_or F i e → held_by e ≡ get_or (rows_of F) i (held_by e)
-rows_of-at F i e within at = ap held_by at ∙ sym (get_or-map held_by F i e (held_by e) within)
-
-pub key-read : (F : Bares) (i : ℕ) (e : RowKey × Row) → i < length F → e ≡ get_or F i e → Some e.0 ≡ slice_get (keys_of (rows_of F)) i
-key-read F i e within at =
-    let here : slice_get F i ≡ Some e = slice_get-get_or F i e within ∙ ap Some (sym at) in
-    ap (option_map (λ (x : RowKey × Row). x.0)) (sym here) ∙ sym (slice_get-map (λ (x : RowKey × Row). x.0) F i) ∙ ap (λ ks. slice_get ks i) (sym (keys-rows_of F))
+pub key-read : (F : Bares) (i : ℕ) (k : RowKey) → i < length F → k ≡ (first_at F i).0 → Some k ≡ slice_get (keys_of (rows_of F)) i
+key-read F i k within read =
+    let here : slice_get F i ≡ Some (first_at F i) = slice_get-get_or F i no_first within in
+    ap Some read ∙ ap (option_map (λ (x : RowKey × Row). x.0)) (sym here) ∙ sym (slice_get-map (λ (x : RowKey × Row). x.0) F i) ∙ ap (λ ks. slice_get ks i) (sym (keys-rows_of F))
 
 none-past : (ks : List RowKey) (i : ℕ) → length ks ≤ i → None ≡ slice_get ks i
 none-past [] i over = refl
@@ -59,56 +61,6 @@ none-past (k ∷ ks) (suc i) over = none-past ks i (omega (arith, over))
 pub key-past : (F : Bares) (i : ℕ) → length F ≤ i → None ≡ slice_get (keys_of (rows_of F)) i
 key-past F i over =
     none-past (keys_of (rows_of F)) i (omega (arith, over, ap length (keys-rows_of F), length-map F (λ (e : RowKey × Row). e.0)))
-
--- the last of the rows becomes another
-rows_of-last : (F : Bares) (k : RowKey) (b v : Row) (n : ℕ) → n ≡ length F → rows_of (set (F ++ (k, b) ∷ []) n (k, v)) ≡ rows_of F ++ (k, row_under k v) ∷ []
-rows_of-last [] k b v zero at = refl
-rows_of-last [] k b v (suc n) at = absurd (omega (arith, at))
-rows_of-last (e ∷ F) k b v zero at = absurd (omega (arith, at))
-rows_of-last (e ∷ F) k b v (suc n) at = ap (λ R. held_by e ∷ R) (rows_of-last F k b v n (omega (arith, at)))
-
-last-at : (F : Bares) (x d : RowKey × Row) (n : ℕ) → n ≡ length F → get_or (F ++ x ∷ []) n d ≡ x
-last-at [] x d zero at = refl
-last-at [] x d (suc n) at = absurd (omega (arith, at))
-last-at (e ∷ F) x d zero at = absurd (omega (arith, at))
-last-at (e ∷ F) x d (suc n) at = last-at F x d n (omega (arith, at))
-
--- the same where it was pushed, and read as e
-module _ (F more : Bares) (k : RowKey) (b : Row) (n : ℕ) (e : RowKey × Row) (at : n ≡ length F) (pushed : more ≡ F ++ (k, b) ∷ []) (read : e ≡ get_or more n e) where
-  pub read_last : ◌≡◌ {A = RowKey × Row} e (k, b)
-  read_last = read ∙ ap (λ R. get_or R n e) pushed ∙ last-at F (k, b) e n at
-
-  pub rows_of-push_last : (v : Row) → rows_of (set more n (e.0, v)) ≡ rows_of F ++ (k, row_under k v) ∷ []
-  rows_of-push_last v = (λ j. rows_of (set (pushed j) n ((read_last j).0, v))) ∙ rows_of-last F k b v n at
-
--- ---- the same in the words of a loop, where e is the entry at i
-
-module _ (S : State) (R : Rows) (p : Places) (i : ℕ) (F : Bares) (e : RowKey × Row) (within : i < length F) (at : e ≡ get_or F i e) where
-  inside : i < length (rows_of F)
-  inside = omega (arith, within, length-rows_of F)
-
-  pub bare-fits : (T : State) (places : Places) → IsSwapping S R p i T (rows_of F) → places ≡ p → fits_row places (get_or F i e).0 (row_under (get_or F i e).0 (get_or F i e).1) ≡ true
-  bare-fits T places is same =
-      subst (λ (x : RowKey × Row). fits_row places x.0 (row_under x.0 x.1) ≡ true) at
-      (subst (λ x. fits_row x e.0 (row_under e.0 e.1) ≡ true) (sym same) (fits-at p (rows_of F) i (held_by e) inside (rows_of-at F i e within at) is.placed))
-
-  pub bare-suits : (T : State) → IsSwapping S R p i T (rows_of F) → SuitsKey (get_or F i e).0 (row_under (get_or F i e).0 (get_or F i e).1)
-  bare-suits T is =
-      subst (λ (x : RowKey × Row). SuitsKey x.0 (row_under x.0 x.1)) at (suits-at (rows_of F) i (held_by e) inside (rows_of-at F i e within at) is.suited)
-
-  pub bare-step : (store new : Stored) (v : Row) → IsSwapping S R p i store.state (rows_of F) → store.places ≡ p
-      → new ≡ standing store (put store.state (get_or F i e).0 (row_under (get_or F i e).0 (get_or F i e).1)) → row_under (get_or F i e).0 v ≡ row store.state (get_or F i e).0
-      → SuitsKey (get_or F i e).0 (row_under (get_or F i e).0 v) → fits_row new.places (get_or F i e).0 (row_under (get_or F i e).0 v) ≡ true
-      → IsSwapping S R p (i + 1) new.state (rows_of (set F i ((get_or F i e).0, v))) × (new.places ≡ p)
-  bare-step store new v is same stands was suits fit =
-      let f : RowKey × Row = get_or F i e in
-      let again : f ≡ get_or F i f = get_or_default F i e f within in
-      let places : new.places ≡ p = ap (λ s. s.places) stands ∙ same in
-      let next : IsSwapping S R p (i + 1) (put store.state f.0 (row_under f.0 f.1)) (set (rows_of F) i (f.0, row_under f.0 v)) =
-      swapping-next S R p i store.state (rows_of F) (held_by f) (row_under f.0 v) is inside (rows_of-at F i f within again) was suits (subst (λ x. fits_row x f.0 (row_under f.0 v) ≡ true) places fit) in
-      let listed : IsSwapping S R p (i + 1) (put store.state f.0 (row_under f.0 f.1)) (rows_of (set F i (f.0, v))) =
-      subst (IsSwapping S R p (i + 1) (put store.state f.0 (row_under f.0 f.1))) (sym (rows_of-set F i f.0 v)) next in
-      (subst (λ T. IsSwapping S R p (i + 1) T (rows_of (set F i (f.0, v)))) (sym (ap (λ s. s.state) stands)) listed, places)
 
 -- ---- rows at the places of their keys
 
@@ -156,18 +108,59 @@ module _ (S : State) (R : Rows) (p : Places) (i : ℕ) (ks : List RowKey) (rs : 
       (subst (λ x. new ≡ standing store (put store.state k x)) same_row stands) was suits fit in
       (subst (λ os. IsSwapping S R p (i + 1) new.state (zip ks os)) (sym (under_keys-set ks rs i k came even within key_at)) next.0, next.1)
 
-pub pairs-start : (S : State) (ks : List RowKey) (rs : List Row) (p : Places) → IsBareRecord ks rs → fits p (pairs_of ks rs) ≡ true → IsSwapping S (pairs_of ks rs) p 0 S (pairs_of ks rs)
-pairs-start S ks rs p is placed = beside-start S ks (under_keys ks rs) p is.recorded placed
+pub rows_of-zip : (ks : List RowKey) (rs : List Row) → rows_of (zip ks rs) ≡ pairs_of ks rs
+rows_of-zip [] rs = refl
+rows_of-zip (k ∷ ks) [] = refl
+rows_of-zip (k ∷ ks) (r ∷ rs) = ap (λ R. (k, row_under k r) ∷ R) (rows_of-zip ks rs)
 
-pub pairs-end : (S T : State) (ks : List RowKey) (rs qs : List Row) (p : Places) (i : ℕ) → IsBareRecord ks rs → IsSwapping S (pairs_of ks rs) p i T (pairs_of ks qs) → length qs ≡ length ks → length qs ≤ i → ◌≡◌ {A = State × Rows} (T, pairs_of ks qs) (exchange S (pairs_of ks rs))
-pairs-end S T ks rs qs p i is swapping even over =
+-- the same of what is lent of a step's first rows
+pub rows_of-lent : (f : Firsts) (ks xs : List RowKey) (rs ys : List Row) (n : ℕ) → ◌≡◌ {A = Firsts} (record { rows = zip ks rs; room = n }) f → xs ≡ ks → ys ≡ rs → rows_of f.rows ≡ pairs_of xs ys
+rows_of-lent f ks xs rs ys n seen keys rows = sym (ap (λ g. rows_of g.rows) seen) ∙ rows_of-zip ks rs ∙ sym (λ j. pairs_of (keys j) (rows j))
+
+-- the same where the rows were written over others
+pub rows_of-written : (ks : List RowKey) (v : Vec Row) (rs : List Row) → length rs ≡ length v.items → rows_of (zip ks (with_items v rs).items) ≡ pairs_of ks rs
+rows_of-written ks v rs same = ap (λ qs. rows_of (zip ks qs)) (with_items_is v rs (omega (arith, same, v.ok.0))) ∙ rows_of-zip ks rs
+
+-- one more behind them, which became another there
+exchanged_behind : (ks : List RowKey) (rs : List Row) (k : RowKey) (b v : Row) (n : ℕ) → length rs ≡ length ks → n ≡ length rs → zip (ks ++ k ∷ []) (set (rs ++ b ∷ []) n v) ≡ zip ks rs ++ (k, v) ∷ []
+exchanged_behind [] [] k b v zero even at = refl
+exchanged_behind [] [] k b v (suc n) even at = absurd (omega (arith, at))
+exchanged_behind [] (r ∷ rs) k b v n even at = absurd (omega (arith, even))
+exchanged_behind (x ∷ ks) [] k b v n even at = absurd (omega (arith, even))
+exchanged_behind (x ∷ ks) (r ∷ rs) k b v zero even at = absurd (omega (arith, at))
+exchanged_behind (x ∷ ks) (r ∷ rs) k b v (suc n) even at = ap (λ R. (x, r) ∷ R) (exchanged_behind ks rs k b v n (omega (arith, even)) (omega (arith, at)))
+
+last-at : (rs : List Row) (x d : Row) (n : ℕ) → n ≡ length rs → get_or (rs ++ x ∷ []) n d ≡ x
+last-at [] x d zero at = refl
+last-at [] x d (suc n) at = absurd (omega (arith, at))
+last-at (r ∷ rs) x d zero at = absurd (omega (arith, at))
+last-at (r ∷ rs) x d (suc n) at = last-at rs x d n (omega (arith, at))
+
+module _ (ks more : List RowKey) (rs pushed : List Row) (k : RowKey) (b e : Row) (n : ℕ) (even : length rs ≡ length ks) (at : n ≡ length rs) (keys : more ≡ ks ++ k ∷ []) (rows : pushed ≡ rs ++ b ∷ []) (read : e ≡ get_or pushed n e) where
+  pub read_behind : e ≡ b
+  read_behind = read ∙ ap (λ R. get_or R n e) rows ∙ last-at rs b e n at
+
+  pub rows_of-behind : (v : Row) (o : Option Row) → row_under k v ≡ o → rows_of (zip more (set pushed n v)) ≡ rows_of (zip ks rs) ++ (k, o) ∷ []
+  rows_of-behind v o was =
+      (λ j. rows_of (zip (keys j) (set (rows j) n v))) ∙ ap rows_of (exchanged_behind ks rs k b v n even at) ∙ map-append held_by (zip ks rs) ((k, v) ∷ [])
+      ∙ ap (λ x. rows_of (zip ks rs) ++ (k, x) ∷ []) was
+
+pub pairs-end : (S T : State) (ks : List RowKey) (rs qs : List Row) (p : Places) (i : ℕ) → IsSwapping S (pairs_of ks rs) p i T (pairs_of ks qs) → length qs ≡ length ks → length qs ≤ i → ◌≡◌ {A = State × Rows} (T, pairs_of ks qs) (exchange S (pairs_of ks rs))
+pairs-end S T ks rs qs p i swapping even over =
     let size = length-under_keys ks qs even in
     beside-end S T ks (under_keys ks rs) (under_keys ks qs) p i swapping size (omega (arith, size, even, over))
 
-pub pairs-record : (S T : State) (ks : List RowKey) (rs qs : List Row) (p : Places) (i : ℕ) → IsBareRecord ks rs → IsSwapping S (pairs_of ks rs) p i T (pairs_of ks qs) → length qs ≡ length ks → length qs ≤ i → IsBareRecord ks qs
-pairs-record S T ks rs qs p i is swapping even over =
-    let size = length-under_keys ks qs even in
-    record { even = even; recorded = beside-record S T ks (under_keys ks rs) (under_keys ks qs) p i is.recorded swapping size (omega (arith, size, even, over)) }
+pub distinct-pairs : (ks : List RowKey) (rs : List Row) → IsBareRecord ks rs → IsDistinct rowkey_eq (keys_of (pairs_of ks rs))
+distinct-pairs ks rs is = distinct-record ks (under_keys ks rs) is.recorded
+
+pub suited-pairs : (ks : List RowKey) (rs : List Row) → IsBareRecord ks rs → AllSuit (pairs_of ks rs)
+suited-pairs ks rs is = is.recorded.suited
+
+pub pairs-record : (S T : State) (ks : List RowKey) (rs qs : List Row) → IsBareRecord ks rs → length qs ≡ length ks → ◌≡◌ {A = State × Rows} (T, pairs_of ks qs) (exchange S (pairs_of ks rs)) → AllSuit (pairs_of ks qs) → IsBareRecord ks qs
+pairs-record S T ks rs qs is even exchanged suited = record {
+  even = even;
+  recorded = record-exchanged S T ks (under_keys ks rs) (under_keys ks qs) is.recorded (length-under_keys ks qs even) exchanged suited;
+}
 
 -- ---- a record of what was before
 

@@ -4,16 +4,13 @@ use Rattle.std.specs.Prelude.{◌==◌, if◌then◌else◌, slice_get}
 use Rattle.std.proofs.lemmas.Bool.{cases_lt, eq-eqb, eqb-true}
 use Rattle.std.specs.Global.{Vec}
 use Rattle.std.specs.Vec.{with_items}
-use Rattle.std.proofs.lemmas.List.{with_items_is, length-append, length-map, length-set, length-take-le, get_or-set_same, get_or-set_other, get_or-replicate, take_all, take_more, take-append-le, take-take}
+use Rattle.std.proofs.lemmas.List.{with_items_is, length-append, length-set, length-take-le, get_or-set_same, get_or-set_other, get_or-replicate, take_all, take_more, take-append-le, take-take}
 use Rattle.std.proofs.lemmas.List.Folds.{list_any-append}
-use Rattle.std.specs.Option.{option_map}
-use Rattle.std.proofs.lemmas.Option.{get_or_from_slice_get, slice_get-get_or, slice_get-map, slice_get_within}
+use Rattle.std.proofs.lemmas.Option.{get_or_from_slice_get, slice_get-get_or, slice_get_within}
 use Rattle.zt_rows.specs.declared.keys.RowKey.{RowKey}
-use Rattle.zt_rows.specs.declared.rows.Row.{Row}
 use Rattle.zt_rows.specs.Keys.{rowkey_eq}
 use Rattle.zt_rows.specs.ProofsOnly.KeyOrder.{rowkey_eq-equal, rowkey_eq-laws}
 use Rattle.zt_store.specs.StepView.{listed}
-use Rattle.zt_store.proofs.BareLaws.{Bares, bare_keys}
 use Rattle.zt_store.specs.ProofsOnly.KeyPlaces.{AreChained, IsChainedTo, bucket_of, last_in, link_of, mixed_of, number_behind}
 use Rattle.zt_store.specs.declared.key_places.KeyLink.{KeyLink}
 
@@ -190,27 +187,23 @@ slice_get-last : (ks : List RowKey) (k : RowKey) → slice_get (ks ++ k ∷ []) 
 slice_get-last [] k = refl
 slice_get-last (x ∷ ks) k = slice_get-last ks k
 
--- the key of the i-th row, where d stands for what is read beyond the end
-pub key-read : (R : Bares) (i : ℕ) (d : RowKey × Row) → i < length R → slice_get (bare_keys R) i ≡ Some (get_or R i d).0
-key-read R i d within = slice_get-map (λ (e : RowKey × Row). e.0) R i ∙ ap (option_map (λ (e : RowKey × Row). e.0)) (slice_get-get_or R i d within)
-
-bare_keys-length : (R : Bares) → length (bare_keys R) ≡ length R
-bare_keys-length R = length-map R (λ (e : RowKey × Row). e.0)
+pub key-read : (R : List RowKey) (i : ℕ) (x : RowKey) → i < length R → x ≡ get_or R i x → slice_get R i ≡ Some x
+key-read R i x within read = slice_get-get_or R i x within ∙ ap Some (sym read)
 
 -- where one more key was chained in room that was made for it
-pub chained-push : (R : Bares) (k : RowKey) (last lent_last new_last : List ℕ) (v : KeyLink) (links pushed lent_links new_links : List KeyLink) → AreChained last links (bare_keys R)
+pub chained-push : (R : List RowKey) (k : RowKey) (last lent_last new_last : List ℕ) (v : KeyLink) (links pushed lent_links new_links : List KeyLink) → AreChained last links R
     → pushed ≡ links ++ v ∷ [] → lent_last ≡ last → lent_links ≡ pushed → length new_links ≡ length lent_links
     → ((ks : List RowKey) → slice_get ks (length R) ≡ Some k → IsChainedTo (length lent_last) lent_last lent_links ks (length R) → IsChainedTo (length new_last) new_last new_links ks (length R + 1))
-    → AreChained new_last new_links (bare_keys R ++ k ∷ [])
+    → AreChained new_last new_links (R ++ k ∷ [])
 chained-push R k last lent_last new_last v links pushed lent_links new_links is room lent lent_too even more =
-    let ks : List RowKey = bare_keys R ++ k ∷ [] in
-    let size : length ks ≡ length R + 1 = omega (arith, length-append (bare_keys R) (k ∷ []), bare_keys-length R) in
-    let there : slice_get ks (length R) ≡ Some k = ap (slice_get ks) (sym (bare_keys-length R)) ∙ slice_get-last (bare_keys R) k in
-    let over : IsChainedTo (length last) last (links ++ v ∷ []) ks (length R) = subst (IsChainedTo (length last) last (links ++ v ∷ []) ks) (bare_keys-length R) (chained-room last links (bare_keys R) k v is) in
+    let ks : List RowKey = R ++ k ∷ [] in
+    let size : length ks ≡ length R + 1 = omega (arith, length-append R (k ∷ [])) in
+    let there : slice_get ks (length R) ≡ Some k = slice_get-last R k in
+    let over : IsChainedTo (length last) last (links ++ v ∷ []) ks (length R) = chained-room last links R k v is in
     let made : IsChainedTo (length last) last lent_links ks (length R) = subst (λ xs. IsChainedTo (length last) last xs ks (length R)) (sym (lent_too ∙ room)) over in
     let given : IsChainedTo (length lent_last) lent_last lent_links ks (length R) = subst (λ xs. IsChainedTo (length xs) xs lent_links ks (length R)) (sym lent) made in
     record {
-      even = omega (arith, size, even, ap length lent_too, ap length room, length-append links (v ∷ []), is.even, bare_keys-length R);
+      even = omega (arith, size, even, ap length lent_too, ap length room, length-append links (v ∷ []), is.even);
       chained = subst (IsChainedTo (length new_last) new_last new_links ks) (sym size) (more ks there given);
     }
 
@@ -293,37 +286,37 @@ module _ (last : List ℕ) (links : List KeyLink) (ks : List RowKey) (q x : RowK
 pub looking-end : (n : ℕ) (ks : List RowKey) (q : RowKey) (number : ℕ) → IsLookingBack n ks q number → number ≡ 0 → listed ks q ≡ false
 looking-end n ks q number is none = is.left ∙ ap (λ m. listed (take m ks) q) none
 
--- where the number is that of a row that is looked at
-module _ (last : List ℕ) (links : List KeyLink) (R : Bares) (q : RowKey) (number : ℕ) (is : AreChained last links (bare_keys R)) (some : 0 < number) (looking : IsLookingBack (length last) (bare_keys R) q number) where
+-- where the number is that of a key that is looked at
+module _ (last : List ℕ) (links : List KeyLink) (R : List RowKey) (q : RowKey) (number : ℕ) (is : AreChained last links R) (some : 0 < number) (looking : IsLookingBack (length last) R q number) where
   pub number-within : number - 1 < length R
-  number-within = omega (arith, some, looking-within (length last) (bare_keys R) q number looking, bare_keys-length R)
+  number-within = omega (arith, some, looking-within (length last) R q number looking)
 
   pub number-linked : number - 1 < length links
-  number-linked = omega (arith, some, looking-within (length last) (bare_keys R) q number looking, is.even)
+  number-linked = omega (arith, some, looking-within (length last) R q number looking, is.even)
 
-  at_place : IsLookingBack (length last) (bare_keys R) q ((number - 1) + 1)
+  at_place : IsLookingBack (length last) R q ((number - 1) + 1)
   at_place =
       let same : number ≡ (number - 1) + 1 = omega (arith, some) in
-      subst (IsLookingBack (length last) (bare_keys R) q) same looking
+      subst (IsLookingBack (length last) R q) same looking
 
-  -- where d and e stand for what is read beyond the end
-  module _ (d : RowKey × Row) where
-    pub number-key : slice_get (bare_keys R) (number - 1) ≡ Some (get_or R (number - 1) d).0
-    number-key = key-read R (number - 1) d number-within
+  -- where x is read as the key, and e stands for what is read beyond the end
+  module _ (x : RowKey) (read : x ≡ get_or R (number - 1) x) where
+    pub number-key : slice_get R (number - 1) ≡ Some x
+    number-key = key-read R (number - 1) x number-within read
 
-    pub number-found : rowkey_eq (get_or R (number - 1) d).0 q ≡ true → slice_get (bare_keys R) (number - 1) ≡ Some q
-    number-found same = number-key ∙ ap Some (rowkey_eq-equal (get_or R (number - 1) d).0 q same)
+    pub number-found : rowkey_eq x q ≡ true → slice_get R (number - 1) ≡ Some q
+    number-found same = number-key ∙ ap Some (rowkey_eq-equal x q same)
 
-    pub number-mixed : (e : KeyLink) → (get_or links (number - 1) e).mixed ≡ mixed_of (get_or R (number - 1) d).0
-    number-mixed e = ap (λ (l : KeyLink). l.mixed) (link_is last links (bare_keys R) q (get_or R (number - 1) d).0 (number - 1) is at_place number-key e)
+    pub number-mixed : (e : KeyLink) → (get_or links (number - 1) e).mixed ≡ mixed_of x
+    number-mixed e = ap (λ (l : KeyLink). l.mixed) (link_is last links R q x (number - 1) is at_place number-key e)
 
-    number-before : (e : KeyLink) → (get_or links (number - 1) e).before ≡ last_in (length last) (bucket_of (length last) q) (take (number - 1) (bare_keys R))
-    number-before e = next_is last links (bare_keys R) q (get_or R (number - 1) d).0 (number - 1) is at_place number-key e
+    number-before : (e : KeyLink) → (get_or links (number - 1) e).before ≡ last_in (length last) (bucket_of (length last) q) (take (number - 1) R)
+    number-before e = next_is last links R q x (number - 1) is at_place number-key e
 
     pub number-falls : (e : KeyLink) → (get_or links (number - 1) e).before < number
     number-falls e =
-        omega (arith, some, looking-falls last links (bare_keys R) q (get_or R (number - 1) d).0 (number - 1) is at_place number-key (get_or links (number - 1) e).before (number-before e))
+        omega (arith, some, looking-falls last links R q x (number - 1) is at_place number-key (get_or links (number - 1) e).before (number-before e))
 
-    pub number-next : (e : KeyLink) → rowkey_eq (get_or R (number - 1) d).0 q ≡ false → IsLookingBack (length last) (bare_keys R) q (get_or links (number - 1) e).before
+    pub number-next : (e : KeyLink) → rowkey_eq x q ≡ false → IsLookingBack (length last) R q (get_or links (number - 1) e).before
     number-next e apart =
-        looking-next last links (bare_keys R) q (get_or R (number - 1) d).0 (number - 1) is at_place number-key (get_or links (number - 1) e).before (number-before e) apart
+        looking-next last links R q x (number - 1) is at_place number-key (get_or links (number - 1) e).before (number-before e) apart

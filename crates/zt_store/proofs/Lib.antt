@@ -14,6 +14,8 @@ pub mod InsertLaws
 pub mod Endings
 pub mod HeldLaws
 pub mod TakenRows
+pub mod ArrangedRows
+pub mod FirstRowLaws
 pub mod StoreLaws
 pub mod AheadLaws
 pub mod AlikeLaws

@@ -10,11 +10,9 @@ use Rattle.zt_rows.specs.Change.{exchange}
 use Rattle.zt_rows.specs.Room.{SuitsKey}
 use Rattle.zt_store.specs.Places.{Places, fits, fits_row}
 use Rattle.zt_store.specs.StoreView.{Stored}
-use Rattle.zt_store.specs.ProofsOnly.RecordRows.{IsRecord}
 use Rattle.zt_store.specs.ProofsOnly.StoreView.{standing}
 use Rattle.zt_store.proofs.Fitting.{Rows, fits-all, fits-at, fits-next, fits-not, suits-at}
-use Rattle.zt_store.proofs.Exchanges.{IsSwapping, swapping-end, swapping-next, swapping-start}
-use Rattle.zt_store.proofs.RecordLaws.{distinct-record, record-exchanged}
+use Rattle.zt_store.proofs.Exchanges.{IsSwapping, swapping-end, swapping-next}
 
 length-beside : (ks : List RowKey) (rs : List (Option Row)) → length rs ≡ length ks → length (zip ks rs) ≡ length ks
 length-beside ks rs even = sym (length-map (zip ks rs) (λ (e : RowKey × Option Row). e.0)) ∙ ap length (firsts-zip ks rs even)
@@ -29,9 +27,6 @@ zip-set (x ∷ ks) (r ∷ rs) (suc i) k v within at = ap (λ R. (x, r) ∷ R) (z
 pair-at : (ks : List RowKey) (rs : List (Option Row)) (i : ℕ) (k : RowKey) (v : Option Row) → length rs ≡ length ks → i < length ks → k ≡ get_or ks i k → v ≡ get_or rs i v → ◌≡◌ {A = RowKey × Option Row} (k, v) (get_or (zip ks rs) i (k, v))
 pair-at ks rs i k v even within key_at row_at =
     (λ j. (key_at j, row_at j)) ∙ sym (get_or-zip ks rs i (k, v) within (omega (arith, within, even)))
-
-pub beside-start : (S : State) (ks : List RowKey) (rs : List (Option Row)) (p : Places) → IsRecord ks rs → fits p (zip ks rs) ≡ true → IsSwapping S (zip ks rs) p 0 S (zip ks rs)
-beside-start S ks rs p is placed = swapping-start S (zip ks rs) p (distinct-record ks rs is) is.suited placed
 
 -- in the words of a loop, where k is the key at i, and d stands for what is read beyond the end
 module _ (S : State) (R : Rows) (p : Places) (i : ℕ) (ks : List RowKey) (rs : List (Option Row)) (k : RowKey) (d : Option Row) (even : length rs ≡ length ks) (within : i < length ks) (key_at : k ≡ get_or ks i k) where
@@ -64,10 +59,6 @@ module _ (S : State) (R : Rows) (p : Places) (i : ℕ) (ks : List RowKey) (rs : 
 pub beside-end : (S T : State) (ks : List RowKey) (rs qs : List (Option Row)) (p : Places) (i : ℕ) → IsSwapping S (zip ks rs) p i T (zip ks qs) → length qs ≡ length ks → length qs ≤ i → ◌≡◌ {A = State × Rows} (T, zip ks qs) (exchange S (zip ks rs))
 beside-end S T ks rs qs p i is even over =
     swapping-end S (zip ks rs) p i T (zip ks qs) is (omega (arith, over, length-beside ks qs even, even))
-
-pub beside-record : (S T : State) (ks : List RowKey) (rs qs : List (Option Row)) (p : Places) (i : ℕ) → IsRecord ks rs → IsSwapping S (zip ks rs) p i T (zip ks qs) → length qs ≡ length ks → length qs ≤ i → IsRecord ks qs
-beside-record S T ks rs qs p i is swapping even over =
-    record-exchanged S T ks rs qs is even (beside-end S T ks rs qs p i swapping even over) swapping.suited
 
 -- ---- whether all fit, key by key
 

@@ -2,7 +2,7 @@
 use Rattle.std.proofs.Common.{◌≡◌, ℕ, ◌+◌, ◌<◌, ◌≤◌, List, [], ◌∷◌, ◌++◌, map, take, get_or, set, length, refl, sym, ap, ◌∙◌, arith, get_or-set_other}
 use Rattle.std.specs.Prelude.{nat_eq}
 use Rattle.std.proofs.lemmas.Bool.{eqb-false}
-use Rattle.std.proofs.lemmas.List.{get_or_default, length-map, length-set, length-take, map-append, take_all, take_more, take_more_set}
+use Rattle.std.proofs.lemmas.List.{length-map, length-set, length-take, map-append, take_all, take_more, take_more_set}
 use Rattle.std.proofs.lemmas.List.Elements.{All-get_or}
 use Rattle.std.proofs.lemmas.Map.Keys.{apart_from_distinct}
 use Rattle.zt_rows.specs.declared.keys.RowKey.{RowKey}
@@ -15,6 +15,9 @@ use Rattle.zt_store.proofs.BareLaws.{Bares}
 pub record IsTaking (F : Bares) (order : List ℕ) (i : ℕ) (R : Bares) : Type 0 where
   pub even : length R ≡ length F
   pub left : (j : ℕ) → i ≤ j → j < length order → first_at R (get_or order j 0) ≡ first_at F (get_or order j 0)
+
+pub taking-within : (F : Bares) (order : List ℕ) (i : ℕ) (R : Bares) → IsOrder order (length F) → IsTaking F order i R → i < length order → get_or order i 0 < length R
+taking-within F order i R places is within = omega (arith, is.even, All-get_or (λ j. j < length F) order i 0 within places.within)
 
 pub taking-start : (F : Bares) (order : List ℕ) → IsTaking F order 0 F
 taking-start F order = record { even = refl; left = λ j low within. refl }
@@ -68,47 +71,41 @@ picked-next f F order i xs x so_far came within =
     (λ j. so_far j ++ came j ∷ []) ∙ sym (map-append f (picked F (take i order)) (first_at F (get_or order i 0) ∷ []))
     ∙ ap (map f) (sym (map-append (first_at F) (take i order) (get_or order i 0 ∷ []))) ∙ ap (λ places. map f (picked F places)) (sym (take_more order i 0 within))
 
--- where d stands for what is read beyond the end, and v for what is left in the place
-module _ (F : Bares) (order : List ℕ) (i : ℕ) (R : Bares) (d : RowKey × Row) (v : Row) (places : IsOrder order (length F)) (is : IsTaking F order i R) (within : i < length order) where
-  pub taking-within : get_or order i 0 < length R
-  taking-within = omega (arith, is.even, All-get_or (λ j. j < length F) order i 0 within places.within)
-
-  taken-at : get_or R (get_or order i 0) d ≡ first_at F (get_or order i 0)
-  taken-at = get_or_default R (get_or order i 0) d no_first taking-within ∙ is.left i (omega arith) within
-
-  taking-next : IsTaking F order (i + 1) (set R (get_or order i 0) ((get_or R (get_or order i 0) d).0, v))
+-- where k and x are taken, v is left in the place, and Q are the rows then
+module _ (F : Bares) (order : List ℕ) (i : ℕ) (R Q : Bares) (k : RowKey) (x v : Row) (places : IsOrder order (length F)) (is : IsTaking F order i R) (within : i < length order)
+    (was : ◌≡◌ {A = RowKey × Row} (k, x) (first_at R (get_or order i 0))) (put : Q ≡ set R (get_or order i 0) (k, v)) where
+  taking-next : IsTaking F order (i + 1) Q
   taking-next = record {
-    even = length-set R (get_or order i 0) ((get_or R (get_or order i 0) d).0, v) ∙ is.even;
+    even = ap length put ∙ length-set R (get_or order i 0) (k, v) ∙ is.even;
     left = λ j low there.
-        get_or-set_other R (get_or order i 0) (get_or order j 0) ((get_or R (get_or order i 0) d).0, v) no_first
+        ap (λ rows. first_at rows (get_or order j 0)) put
+        ∙ get_or-set_other R (get_or order i 0) (get_or order j 0) (k, v) no_first
         (λ same. eqb-false (get_or order i 0) (get_or order j 0) (apart_from_distinct nat_eq order i j 0 places.apart (omega (arith, low)) there) (sym same))
         ∙ is.left j (omega (arith, low)) there;
   }
 
-  module _ (ks : List RowKey) (rs : List Row) (x : Row) (came : x ≡ (get_or R (get_or order i 0) d).1) where
-    key : (get_or R (get_or order i 0) d).0 ≡ (first_at F (get_or order i 0)).0
-    key = ap (λ (e : RowKey × Row). e.0) taken-at
+  module _ (ks : List RowKey) (rs : List Row) where
+    taken : ◌≡◌ {A = RowKey × Row} (k, x) (first_at F (get_or order i 0))
+    taken = was ∙ is.left i (omega arith) within
+
+    key : k ≡ (first_at F (get_or order i 0)).0
+    key = ap (λ (e : RowKey × Row). e.0) taken
 
     row : x ≡ (first_at F (get_or order i 0)).1
-    row = came ∙ ap (λ (e : RowKey × Row). e.1) taken-at
+    row = ap (λ (e : RowKey × Row). e.1) taken
 
     -- into as many places
-    pub filling-next : IsFilling F order i ks rs R → IsFilling F order (i + 1) (set ks i (get_or R (get_or order i 0) d).0) (set rs i x) (set R (get_or order i 0) ((get_or R (get_or order i 0) d).0, v))
+    pub filling-next : IsFilling F order i ks rs R → IsFilling F order (i + 1) (set ks i k) (set rs i x) Q
     filling-next filling = record {
-      keys =
-          take_more_set ks i (get_or R (get_or order i 0) d).0 (omega (arith, within, filling.key_places))
-          ∙ picked-next (λ (e : RowKey × Row). e.0) F order i (take i ks) _ filling.keys key within;
-      rows =
-          take_more_set rs i x (omega (arith, within, filling.row_places))
-          ∙ picked-next (λ (e : RowKey × Row). e.1) F order i (take i rs) _ filling.rows row within;
+      keys = take_more_set ks i k (omega (arith, within, filling.key_places)) ∙ picked-next (λ (e : RowKey × Row). e.0) F order i (take i ks) _ filling.keys key within;
+      rows = take_more_set rs i x (omega (arith, within, filling.row_places)) ∙ picked-next (λ (e : RowKey × Row). e.1) F order i (take i rs) _ filling.rows row within;
       taking = taking-next;
-      key_places = length-set ks i (get_or R (get_or order i 0) d).0 ∙ filling.key_places;
+      key_places = length-set ks i k ∙ filling.key_places;
       row_places = length-set rs i x ∙ filling.row_places;
     }
 
     -- behind those in two lists
-    pub pushing-next : (keys : List RowKey) (rows : List Row) → IsPushing F order i ks rs R → keys ≡ ks ++ (get_or R (get_or order i 0) d).0 ∷ [] → rows ≡ rs ++ x ∷ []
-        → IsPushing F order (i + 1) keys rows (set R (get_or order i 0) ((get_or R (get_or order i 0) d).0, v))
+    pub pushing-next : (keys : List RowKey) (rows : List Row) → IsPushing F order i ks rs R → keys ≡ ks ++ k ∷ [] → rows ≡ rs ++ x ∷ [] → IsPushing F order (i + 1) keys rows Q
     pushing-next keys rows pushing more_keys more_rows = record {
       keys = more_keys ∙ picked-next (λ (e : RowKey × Row). e.0) F order i ks _ pushing.keys key within;
       rows = more_rows ∙ picked-next (λ (e : RowKey × Row). e.1) F order i rs _ pushing.rows row within;

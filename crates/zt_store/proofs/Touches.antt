@@ -1,10 +1,10 @@
 -- What a step's parts say of the step: which keys were put, what stood under them, and what one more put makes of it.
-use Rattle.std.proofs.Common.{◌≡◌, ℕ, ◌+◌, ◌<◌, ◌≤◌, Bool, true, false, cond, List, [], ◌∷◌, ◌++◌, take, get_or, length, map, Option, Some, None, is_some, refl, sym, ap, ◌∙◌, subst, unwrap_or, arith}
+use Rattle.std.proofs.Common.{◌≡◌, ℕ, ◌+◌, ◌<◌, ◌≤◌, Bool, true, false, cond, List, [], ◌∷◌, ◌++◌, take, get_or, length, Option, Some, None, is_some, refl, sym, ap, ◌∙◌, subst, unwrap_or, arith}
 use Rattle.std.specs.Prelude.{slice_get}
 use Rattle.std.specs.FinMap.Entries as entries
 use Rattle.std.specs.List.{IsDistinct}
 use Rattle.std.specs.Map.{lookup}
-use Rattle.std.proofs.lemmas.List.{get_or-map, get_or_default, length-map, map-append, length-append, take_all, take_more}
+use Rattle.std.proofs.lemmas.List.{length-map, map-append, length-append, take_all, take_more}
 use Rattle.std.proofs.lemmas.List.Folds.{list_any-append}
 use Rattle.std.proofs.lemmas.Map.Entries.{lookup_from_place}
 use Rattle.std.proofs.lemmas.Map.Keys.{IsDistinct-push, any_passes_from_place}
@@ -26,7 +26,6 @@ use Rattle.zt_store.specs.ProofsOnly.KeyPlaces.{AreNoted}
 use Rattle.zt_store.specs.declared.key_places.KeyPlaces.{KeyPlaces}
 use Rattle.zt_store.proofs.KeyPlaceLaws.{alone}
 use Rattle.zt_store.proofs.Fitting.{Rows, fits-nil, fits-push, suits-push}
-use Rattle.zt_store.proofs.BareLaws.{Bares}
 use Rattle.zt_store.proofs.Exchanges.{keys_of, key_equality, find-lookup, row-unlisted, with_rows-put_listed, with_rows-push}
 
 -- how a step over the store with these first rows is seen
@@ -56,23 +55,13 @@ place-listed ks k (Some i) at = sym (any_passes_from_place (rowkey_eq k) ks i k 
 
 -- ---- a look at each key
 
-key-at : (R : Bares) (i : ℕ) (e : RowKey × Row) → i < length R → e ≡ get_or R i e → get_or (map (λ (x : RowKey × Row). x.0) R) i e.0 ≡ e.0
-key-at R i e within at = get_or-map (λ (x : RowKey × Row). x.0) R i e e.0 within ∙ ap (λ (x : RowKey × Row). x.0) (sym at)
+pub among-next : (ks : List RowKey) (i : ℕ) (x : RowKey) (k : RowKey) (b : Bool) → i < length ks → x ≡ get_or ks i x → listed (take i ks) k ≡ false → b ≡ rowkey_eq k x → b ≡ false → listed (take (i + 1) ks) k ≡ false
+among-next ks i x k b within read out test apart =
+    ap (λ xs. listed xs k) (take_more ks i x within ∙ ap (λ y. take i ks ++ y ∷ []) (sym read)) ∙ list_any-append (rowkey_eq k) (take i ks) (x ∷ [])
+    ∙ alone (listed (take i ks) k) (rowkey_eq k x) out (sym test ∙ apart)
 
--- where d stands for what is read beyond the end
-pub among-next : (R : Bares) (i : ℕ) (d : RowKey × Row) (k : RowKey) (b : Bool) → i < length R → listed (take i (map (λ (x : RowKey × Row). x.0) R)) k ≡ false → b ≡ rowkey_eq k (get_or R i d).0 → b ≡ false
-    → listed (take (i + 1) (map (λ (x : RowKey × Row). x.0) R)) k ≡ false
-among-next R i d k b within out test apart =
-    let e : RowKey × Row = get_or R i d in
-    let size : i < length (map (λ (x : RowKey × Row). x.0) R) = omega (arith, within, length-map R (λ (x : RowKey × Row). x.0)) in
-    let more : take (i + 1) (map (λ (x : RowKey × Row). x.0) R) ≡ take i (map (λ (x : RowKey × Row). x.0) R) ++ e.0 ∷ [] =
-    take_more (map (λ (x : RowKey × Row). x.0) R) i e.0 size ∙ ap (λ x. take i (map (λ (x : RowKey × Row). x.0) R) ++ x ∷ []) (key-at R i e within (get_or_default R i d e within)) in
-    ap (λ xs. listed xs k) more ∙ list_any-append (rowkey_eq k) (take i (map (λ (x : RowKey × Row). x.0) R)) (e.0 ∷ [])
-    ∙ alone (listed (take i (map (λ (x : RowKey × Row). x.0) R)) k) (rowkey_eq k e.0) out (sym test ∙ apart)
-
-pub among-none : (R : Bares) (i : ℕ) (k : RowKey) → length R ≤ i → listed (take i (map (λ (x : RowKey × Row). x.0) R)) k ≡ false → listed (map (λ (x : RowKey × Row). x.0) R) k ≡ false
-among-none R i k over out =
-    ap (λ ks. listed ks k) (sym (take_all i (map (λ (x : RowKey × Row). x.0) R) (omega (arith, over, length-map R (λ (x : RowKey × Row). x.0))))) ∙ out
+pub among-none : (ks : List RowKey) (i : ℕ) (k : RowKey) → length ks ≤ i → listed (take i ks) k ≡ false → listed ks k ≡ false
+among-none ks i k over out = ap (λ xs. listed xs k) (sym (take_all i ks over)) ∙ out
 
 module _ (store : Stored) (firsts : Rows) (places : KeyPlaces) (room : ℕ) (step : Stepping) (is : IsTouching store firsts places room) (seen : stepping_of store firsts ≡ step) where
   pub is_touched : (k : RowKey) (found : Option ℕ) (b : Bool) → b ≡ is_some found → IsPlaceOf step.touched k found → b ≡ listed step.touched k
@@ -178,10 +167,6 @@ touching-push old new firsts more places more_places room more_room k v n is kep
       placed = ap (fits new.places) pushed ∙ fits-push new.places firsts k v (kept firsts is.placed) fit;
       roomy = omega (arith, ap length pushed, length-append firsts ((k, v) ∷ []), counted, roomy);
     }
-
--- one more behind the list that was reserved
-pub pushed_behind : {A : Type 0} (xs ys zs : List A) (x : A) → zs ≡ ys ++ x ∷ [] → ys ≡ xs → zs ≡ xs ++ x ∷ []
-pushed_behind xs ys zs x pushed same = pushed ∙ ap (λ es. es ++ x ∷ []) same
 
 pub places-kept : (old made new : Stored) (T : State) → new ≡ standing made T → Keeps old.places made.places → Keeps old.places new.places
 places-kept old made new T stands kept = subst (λ p. Keeps old.places p) (sym (ap (λ s. s.places) stands)) kept

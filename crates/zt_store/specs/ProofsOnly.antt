@@ -1,6 +1,7 @@
 -- Used by proofs only: no public clause depends on them.
 pub mod StoreView
 pub mod KeptRows
+pub mod FirstRows
 pub mod ChangedRows
 pub mod RecordRows
 pub mod StepView

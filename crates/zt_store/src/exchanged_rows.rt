@@ -1,15 +1,18 @@
-ghost use Rattle.std.specs.Prelude.{◌≡◌, true, List, map};
+ghost use Rattle.std.specs.Prelude.{◌≡◌, ◌<◌, [], ◌∷◌, ◌++◌, true, List, length, map};
 ghost use Rattle.std.specs.List.{IsDistinct};
 ghost use Rattle.zt_rows.specs.Change.{exchange};
 ghost use Rattle.zt_rows.specs.Keys.{rowkey_eq};
 ghost use Rattle.zt_rows.specs.Path.{end_of, exchange_back, records_of};
-ghost use Rattle.zt_rows.specs.State.{State};
-ghost use Rattle.zt_store.specs.Places.{fits};
+ghost use Rattle.zt_rows.specs.Room.{SuitsKey};
+ghost use Rattle.zt_rows.specs.State.{State, put, row};
+ghost use Rattle.zt_cells.specs.BareRows.{row_under};
+ghost use Rattle.zt_store.specs.Places.{fits, fits_row};
 ghost use Rattle.zt_store.specs.RecordRows.{all_fit};
 ghost use Rattle.zt_store.specs.ProofsOnly.KeptRows.{keys_in, rows_in, rows_of, pairs_of};
 ghost use Rattle.zt_store.specs.ProofsOnly.RecordRows.{IsBareRecord};
-ghost use Rattle.zt_store.specs.ProofsOnly.StoreView.{AllSuit};
+ghost use Rattle.zt_store.specs.ProofsOnly.StoreView.{AllSuit, standing};
 
+use crate::first_rows::FirstRows;
 use crate::kept_rows::{KeptRows, RowBlock, RowLists};
 use crate::record::Record;
 use crate::store::Store;
@@ -80,24 +83,53 @@ fn exchange_under(store: &mut Store, keys: &[RowKey], rows: &mut [Row])
     ensures places { store.new.places ≡ store.old.places }
     ensures fits { fits store.new.places (pairs_of keys.now rows.new) ≡ true }
 {
-    for place in 0..rows.len() {
-        store.exchange(&keys[place], &mut rows[place]);
-    }
+    exchange_each(store, keys, rows);
 }
 
-/// Exchanges the bare rows with the store's under their keys, of which each is listed once. It takes no memory.
-pub(crate) fn exchange_rows(store: &mut Store, rows: &mut [(RowKey, Row)])
-    requires distinct { IsDistinct rowkey_eq (map (λ e. e.0) (rows_of rows.old)) }
-    requires suited { AllSuit (rows_of rows.old) }
-    requires placed { fits store.old.places (rows_of rows.old) ≡ true }
-    ensures exchanged { (store.new.state, rows_of rows.new) ≡ exchange store.old.state (rows_of rows.old) }
+/// Exchanges a step's first rows with the store's under their keys. It takes no memory.
+pub(crate) fn exchange_rows(store: &mut Store, firsts: &mut FirstRows)
+    requires distinct { IsDistinct rowkey_eq (map (λ e. e.0) (rows_of firsts.old.rows)) }
+    requires suited { AllSuit (rows_of firsts.old.rows) }
+    requires placed { fits store.old.places (rows_of firsts.old.rows) ≡ true }
+    ensures exchanged { (store.new.state, rows_of firsts.new.rows) ≡ exchange store.old.state (rows_of firsts.old.rows) }
     ensures places { store.new.places ≡ store.old.places }
-    ensures suited { AllSuit (rows_of rows.new) }
-    ensures fits { fits store.new.places (rows_of rows.new) ≡ true }
+    ensures suited { AllSuit (rows_of firsts.new.rows) }
+    ensures fits { fits store.new.places (rows_of firsts.new.rows) ≡ true }
 {
-    for i in 0..rows.len() {
-        let entry = &mut rows[i];
-        store.exchange(&entry.0, &mut entry.1);
+    exchange_each(store, firsts.keys.as_slice(), firsts.rows.as_mut_slice());
+}
+
+/// Puts the bare row behind the first rows, and exchanges it there with what stands under the key. It takes no memory.
+#[inline(always)]
+pub(crate) fn exchange_behind(store: &mut Store, firsts: &mut FirstRows, key: &RowKey, bare: Row)
+    requires room { length firsts.old.rows < firsts.old.room }
+    requires placed { fits_row store.old.places key.now (row_under key.now bare) ≡ true }
+    requires suited { SuitsKey key.now (row_under key.now bare) }
+    ensures put { store.new ≡ standing store.old (put store.old.state key.now (row_under key.now bare)) }
+    ensures behind { rows_of firsts.new.rows ≡ rows_of firsts.old.rows ++ (key.now, row store.old.state key.now) ∷ [] }
+    ensures fit { fits_row store.new.places key.now (row store.old.state key.now) ≡ true }
+    ensures suited { SuitsKey key.now (row store.old.state key.now) }
+{
+    let place = firsts.len();
+    firsts.keys.push_reserved(*key);
+    firsts.rows.push_reserved(bare);
+    store.exchange(key, &mut firsts.rows[place]);
+}
+
+/// Exchanges the bare rows with the store's, each under the key at its place, where each key is listed once. It takes no memory.
+fn exchange_each(store: &mut Store, keys: &[RowKey], rows: &mut [Row])
+    requires even { length rows.old ≡ length keys.now }
+    requires distinct { IsDistinct rowkey_eq (map (λ e. e.0) (pairs_of keys.now rows.old)) }
+    requires suited { AllSuit (pairs_of keys.now rows.old) }
+    requires placed { fits store.old.places (pairs_of keys.now rows.old) ≡ true }
+    ensures exchanged { (store.new.state, pairs_of keys.now rows.new) ≡ exchange store.old.state (pairs_of keys.now rows.old) }
+    ensures places { store.new.places ≡ store.old.places }
+    ensures even { length rows.new ≡ length keys.now }
+    ensures suited { AllSuit (pairs_of keys.now rows.new) }
+    ensures fits { fits store.new.places (pairs_of keys.now rows.new) ≡ true }
+{
+    for place in 0..rows.len() {
+        store.exchange(&keys[place], &mut rows[place]);
     }
 }
 

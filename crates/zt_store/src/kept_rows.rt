@@ -1,12 +1,15 @@
-ghost use Rattle.std.specs.Prelude.{◌≡◌, ◌≤◌, length, vec_capacity, IfOk, OnOk, OnErr};
+ghost use Rattle.std.specs.Prelude.{◌≡◌, ◌≤◌, [], length, vec_capacity, IfOk, OnOk, OnErr};
 ghost use Rattle.zt_store.specs.ProofsOnly.ChangedRows.{IsOrder, picked};
 ghost use Rattle.zt_store.specs.ProofsOnly.KeptRows.{AreOf, keys_in, rows_in, room_of};
 
+use crate::first_rows::FirstRows;
 use std::alloc::{AllocError, Global};
 use std::array;
-use std::mem::{replace, swap};
 use zt_cells::NO_ROW;
 use zt_rows::{Row, RowKey};
+
+/// From how many rows on a record takes the memory in which its step listed them. Of fewer the next step has more use.
+const MANY: usize = 512;
 
 /// Some keys and as many bare rows in one block of memory of just their size.
 #[derive(Drop)]
@@ -37,15 +40,15 @@ pub(crate) enum KeptRows {
 }
 
 impl KeptRows {
-    /// Takes the rows at these places, in this order and with copies of their keys, into memory of just their size. Where it is
-    /// refused nothing changes.
+    /// Takes the rows at these places, in this order and with copies of their keys, into memory of just their size: few into fresh
+    /// memory, and many with that in which they stand, where the others are let go. Where memory is refused nothing changes.
     pub fn take(
         alloc: Global,
-        firsts: &mut [(RowKey, Row)],
+        firsts: &mut FirstRows,
         order: &[usize],
     ) -> Result<KeptRows, AllocError>
-        requires { IsOrder order.now (length firsts.old) }
-        ensures ok { IfOk result (λ kept. AreOf (keys_in kept) (rows_in kept) (picked firsts.old order.now)) }
+        requires { IsOrder order.now (length firsts.old.rows) }
+        ensures ok { IfOk result (λ kept. AreOf (keys_in kept) (rows_in kept) (picked firsts.old.rows order.now)) }
         ensures err { OnErr result (firsts.new ≡ firsts.old) }
     {
         Ok(match order.len() {
@@ -56,11 +59,7 @@ impl KeptRows {
             4 => KeptRows::Four(RowBlock::take(alloc, firsts, order)?),
             5 => KeptRows::Five(RowBlock::take(alloc, firsts, order)?),
             6 => KeptRows::Six(RowBlock::take(alloc, firsts, order)?),
-            count => {
-                let mut lists = RowLists::with_room(alloc, count)?;
-                lists.take(firsts, order);
-                KeptRows::Many(lists)
-            }
+            _ => KeptRows::Many(take_many(alloc, firsts, order)?),
         })
     }
 
@@ -115,16 +114,37 @@ impl KeptRows {
     }
 }
 
+/// The same into two lists.
+fn take_many(
+    alloc: Global,
+    firsts: &mut FirstRows,
+    order: &[usize],
+) -> Result<Box<RowLists>, AllocError>
+    requires { IsOrder order.now (length firsts.old.rows) }
+    ensures ok { IfOk result (λ lists. AreOf lists.value.keys.items lists.value.rows.items (picked firsts.old.rows order.now)) }
+    ensures err { OnErr result (firsts.new ≡ firsts.old) }
+{
+    let count = order.len();
+    if count >= MANY {
+        if let Ok(lists) = firsts.give_memory(alloc, order) {
+            return Ok(lists);
+        }
+    }
+    let mut lists = RowLists::with_room(alloc, count)?;
+    lists.take(firsts, order);
+    Ok(lists)
+}
+
 impl<const N: usize> RowBlock<N> {
     /// Takes the rows at these places, with copies of their keys, into a new block. Where memory is refused nothing changes.
     fn take(
         alloc: Global,
-        firsts: &mut [(RowKey, Row)],
+        firsts: &mut FirstRows,
         order: &[usize],
     ) -> Result<Box<RowBlock<N>>, AllocError>
-        requires order { IsOrder order.now (length firsts.old) }
+        requires order { IsOrder order.now (length firsts.old.rows) }
         requires count { length order.now ≡ N }
-        ensures ok { IfOk result (λ block. AreOf block.value.keys block.value.rows (picked firsts.old order.now)) }
+        ensures ok { IfOk result (λ block. AreOf block.value.keys block.value.rows (picked firsts.old.rows order.now)) }
         ensures err { OnErr result (firsts.new ≡ firsts.old) }
     {
         let empty = RowBlock {
@@ -140,16 +160,14 @@ impl<const N: usize> RowBlock<N> {
 
 /// Takes the rows at these places, with copies of their keys, into as many places.
 #[inline(always)]
-fn take_into(keys: &mut [RowKey], rows: &mut [Row], firsts: &mut [(RowKey, Row)], order: &[usize])
-    requires order { IsOrder order.now (length firsts.old) }
+fn take_into(keys: &mut [RowKey], rows: &mut [Row], firsts: &mut FirstRows, order: &[usize])
+    requires order { IsOrder order.now (length firsts.old.rows) }
     requires keys { length keys.old ≡ length order.now }
     requires rows { length rows.old ≡ length order.now }
-    ensures { AreOf keys.new rows.new (picked firsts.old order.now) }
+    ensures { AreOf keys.new rows.new (picked firsts.old.rows order.now) }
 {
     for place in 0..order.len() {
-        let first = &mut firsts[order[place]];
-        keys[place] = first.0;
-        swap(&mut rows[place], &mut first.1);
+        keys[place] = firsts.exchange(order[place], &mut rows[place]);
     }
 }
 
@@ -161,6 +179,18 @@ impl RowLists {
         let lists = RowLists {
             keys: Vec::with_capacity(alloc, count)?,
             rows: Vec::with_capacity(alloc, count)?,
+        };
+        Ok(Box::new(alloc, lists)?)
+    }
+
+    /// Empty lists without memory.
+    pub fn empty(alloc: Global) -> Result<Box<RowLists>, AllocError>
+        ensures keys { IfOk result (λ lists. lists.value.keys.items ≡ []) }
+        ensures rows { IfOk result (λ lists. lists.value.rows.items ≡ []) }
+    {
+        let lists = RowLists {
+            keys: Vec::new(alloc),
+            rows: Vec::new(alloc),
         };
         Ok(Box::new(alloc, lists)?)
     }
@@ -183,10 +213,10 @@ impl RowLists {
     }
 
     /// Takes the rows at these places, with copies of their keys, and gives back the room for more. It takes no memory.
-    pub fn take(&mut self, firsts: &mut [(RowKey, Row)], order: &[usize])
-        requires order { IsOrder order.now (length firsts.old) }
+    pub fn take(&mut self, firsts: &mut FirstRows, order: &[usize])
+        requires order { IsOrder order.now (length firsts.old.rows) }
         requires room { length order.now ≤ room_of self.old }
-        ensures { AreOf self.new.keys.items self.new.rows.items (picked firsts.old order.now) }
+        ensures { AreOf self.new.keys.items self.new.rows.items (picked firsts.old.rows order.now) }
     {
         push_rows(&mut self.keys, &mut self.rows, firsts, order);
         self.keys.shrink_to_fit();
@@ -195,22 +225,18 @@ impl RowLists {
 }
 
 /// Leaves just the rows at these places, and their keys, in the lists.
-fn push_rows(
-    keys: &mut Vec<RowKey>,
-    rows: &mut Vec<Row>,
-    firsts: &mut [(RowKey, Row)],
-    order: &[usize],
-)
-    requires order { IsOrder order.now (length firsts.old) }
+fn push_rows(keys: &mut Vec<RowKey>, rows: &mut Vec<Row>, firsts: &mut FirstRows, order: &[usize])
+    requires order { IsOrder order.now (length firsts.old.rows) }
     requires keys { length order.now ≤ vec_capacity keys.old }
     requires rows { length order.now ≤ vec_capacity rows.old }
-    ensures { AreOf keys.new.items rows.new.items (picked firsts.old order.now) }
+    ensures { AreOf keys.new.items rows.new.items (picked firsts.old.rows order.now) }
 {
     keys.clear();
     rows.clear();
     for place in 0..order.len() {
-        let first = &mut firsts[order[place]];
-        keys.push_reserved(first.0);
-        rows.push_reserved(replace(&mut first.1, NO_ROW));
+        let mut row = NO_ROW;
+        let key = firsts.exchange(order[place], &mut row);
+        keys.push_reserved(key);
+        rows.push_reserved(row);
     }
 }

@@ -1,11 +1,11 @@
-ghost use Rattle.std.specs.Prelude.{◌≡◌, ◌<◌, ◌≤◌, ◌+◌, ◌-◌, ◌^◌, [], ◌∷◌, ◌++◌, List, Some, length, map, slice_get, OnOk, OnErr};
+ghost use Rattle.std.specs.Prelude.{◌≡◌, ◌<◌, ◌≤◌, ◌+◌, ◌-◌, ◌^◌, [], ◌∷◌, ◌++◌, List, Some, length, slice_get, OnOk, OnErr};
 ghost use Rattle.zt_rows.specs.Keys.{variant, first_number, rowkey_eq, second_number};
 ghost use Rattle.zt_rows.specs.declared.keys.RowKey.{RowKey};
 ghost use Rattle.zt_store.specs.ProofsOnly.KeyPlaces.{AreChained, AreNoted, IsChainedTo, bucket_of, mixed_of};
 ghost use Rattle.zt_store.specs.ProofsOnly.StepRows.{IsPlaceOf};
 
 use std::alloc::{AllocError, Global};
-use zt_rows::{Row, RowKey};
+use zt_rows::RowKey;
 
 /// How many keys are looked through one by one. Where more come, all are spread over buckets.
 const FEW: usize = 8;
@@ -63,78 +63,78 @@ impl KeyPlaces {
 
     /// Where the key stands in the list. It takes no memory.
     #[inline(always)]
-    pub(crate) fn place(&self, firsts: &[(RowKey, Row)], key: &RowKey) -> Option<usize>
-        requires { AreNoted self.now (map (λ e. e.0) firsts.now) }
-        ensures { IsPlaceOf (map (λ e. e.0) firsts.now) key.now result }
+    pub(crate) fn place(&self, keys: &[RowKey], key: &RowKey) -> Option<usize>
+        requires { AreNoted self.now keys.now }
+        ensures { IsPlaceOf keys.now key.now result }
     {
         if self.last.is_empty() {
-            place_among(firsts, key)
+            place_among(keys, key)
         } else {
-            chained_place(self.last.as_slice(), self.links.as_slice(), firsts, key)
+            chained_place(self.last.as_slice(), self.links.as_slice(), keys, key)
         }
     }
 
     /// Notes that the key will stand behind those of the list. Where memory is refused, the list's are found still.
     #[inline(always)]
-    pub(crate) fn note(&mut self, firsts: &[(RowKey, Row)], key: &RowKey) -> Result<(), AllocError>
-        requires { AreNoted self.old (map (λ e. e.0) firsts.now) }
-        ensures ok { OnOk result (AreNoted self.new (map (λ e. e.0) firsts.now ++ key.now ∷ [])) }
-        ensures err { OnErr result (AreNoted self.new (map (λ e. e.0) firsts.now)) }
+    pub(crate) fn note(&mut self, keys: &[RowKey], key: &RowKey) -> Result<(), AllocError>
+        requires { AreNoted self.old keys.now }
+        ensures ok { OnOk result (AreNoted self.new (keys.now ++ key.now ∷ [])) }
+        ensures err { OnErr result (AreNoted self.new keys.now) }
     {
-        if self.last.is_empty() && firsts.len() < FEW {
+        if self.last.is_empty() && keys.len() < FEW {
             return Ok(());
         }
-        self.note_chained(firsts, key)
+        self.note_chained(keys, key)
     }
 
     /// The same, with buckets.
     #[inline(never)]
-    fn note_chained(&mut self, firsts: &[(RowKey, Row)], key: &RowKey) -> Result<(), AllocError>
-        requires { AreNoted self.old (map (λ e. e.0) firsts.now) }
-        ensures ok { OnOk result (AreNoted self.new (map (λ e. e.0) firsts.now ++ key.now ∷ [])) }
-        ensures err { OnErr result (AreNoted self.new (map (λ e. e.0) firsts.now)) }
+    fn note_chained(&mut self, keys: &[RowKey], key: &RowKey) -> Result<(), AllocError>
+        requires { AreNoted self.old keys.now }
+        ensures ok { OnOk result (AreNoted self.new (keys.now ++ key.now ∷ [])) }
+        ensures err { OnErr result (AreNoted self.new keys.now) }
     {
-        if firsts.len() >= MOST_KEYS {
+        if keys.len() >= MOST_KEYS {
             return Err(AllocError);
         }
-        self.make_buckets(firsts)?;
+        self.make_buckets(keys)?;
         self.links.push(NO_LINK)?;
         chain(
             self.last.as_mut_slice(),
             self.links.as_mut_slice(),
-            firsts.len(),
+            keys.len(),
             key,
         );
         Ok(())
     }
 
     /// Makes more buckets, where there are no more of them than keys.
-    fn make_buckets(&mut self, firsts: &[(RowKey, Row)]) -> Result<(), AllocError>
-        requires noted { AreNoted self.old (map (λ e. e.0) firsts.now) }
-        requires few { length firsts.now < 2 ^ 32 - 1 }
+    fn make_buckets(&mut self, keys: &[RowKey]) -> Result<(), AllocError>
+        requires noted { AreNoted self.old keys.now }
+        requires few { length keys.now < 2 ^ 32 - 1 }
         ensures some { OnOk result (0 < length self.new.last.items) }
-        ensures ok { OnOk result (AreChained self.new.last.items self.new.links.items (map (λ e. e.0) firsts.now)) }
-        ensures err { OnErr result (AreNoted self.new (map (λ e. e.0) firsts.now)) }
+        ensures ok { OnOk result (AreChained self.new.last.items self.new.links.items keys.now) }
+        ensures err { OnErr result (AreNoted self.new keys.now) }
     {
-        if firsts.len() < self.last.len() {
+        if keys.len() < self.last.len() {
             return Ok(());
         }
-        self.double_buckets(firsts)
+        self.double_buckets(keys)
     }
 
     /// Makes twice as many buckets, and spreads the keys over them.
-    fn double_buckets(&mut self, firsts: &[(RowKey, Row)]) -> Result<(), AllocError>
-        requires noted { AreNoted self.old (map (λ e. e.0) firsts.now) }
-        requires few { length firsts.now < 2 ^ 32 - 1 }
-        requires full { length self.old.last.items ≤ length firsts.now }
+    fn double_buckets(&mut self, keys: &[RowKey]) -> Result<(), AllocError>
+        requires noted { AreNoted self.old keys.now }
+        requires few { length keys.now < 2 ^ 32 - 1 }
+        requires full { length self.old.last.items ≤ length keys.now }
         ensures some { OnOk result (0 < length self.new.last.items) }
-        ensures ok { OnOk result (AreChained self.new.last.items self.new.links.items (map (λ e. e.0) firsts.now)) }
-        ensures err { OnErr result (AreNoted self.new (map (λ e. e.0) firsts.now)) }
+        ensures ok { OnOk result (AreChained self.new.last.items self.new.links.items keys.now) }
+        ensures err { OnErr result (AreNoted self.new keys.now) }
     {
         let buckets = (2 * self.last.len()).max(FIRST_BUCKETS);
-        self.links.resize(firsts.len(), NO_LINK)?;
+        self.links.resize(keys.len(), NO_LINK)?;
         self.last.resize(buckets, 0)?;
-        chain_all(self.last.as_mut_slice(), self.links.as_mut_slice(), firsts);
+        chain_all(self.last.as_mut_slice(), self.links.as_mut_slice(), keys);
         Ok(())
     }
 
@@ -149,11 +149,11 @@ impl KeyPlaces {
 }
 
 /// Where the key stands, by a look at each.
-fn place_among(firsts: &[(RowKey, Row)], key: &RowKey) -> Option<usize>
-    ensures { IsPlaceOf (map (λ e. e.0) firsts.now) key.now result }
+fn place_among(keys: &[RowKey], key: &RowKey) -> Option<usize>
+    ensures { IsPlaceOf keys.now key.now result }
 {
-    for place in 0..firsts.len() {
-        if *key == firsts[place].0 {
+    for place in 0..keys.len() {
+        if *key == keys[place] {
             return Some(place);
         }
     }
@@ -162,22 +162,17 @@ fn place_among(firsts: &[(RowKey, Row)], key: &RowKey) -> Option<usize>
 
 /// Where the key stands, by a look at those of its bucket.
 #[inline(never)]
-fn chained_place(
-    last: &[u32],
-    links: &[KeyLink],
-    firsts: &[(RowKey, Row)],
-    key: &RowKey,
-) -> Option<usize>
+fn chained_place(last: &[u32], links: &[KeyLink], keys: &[RowKey], key: &RowKey) -> Option<usize>
     requires some { 0 < length last.now }
-    requires chained { AreChained last.now links.now (map (λ e. e.0) firsts.now) }
-    ensures { IsPlaceOf (map (λ e. e.0) firsts.now) key.now result }
+    requires chained { AreChained last.now links.now keys.now }
+    ensures { IsPlaceOf keys.now key.now result }
 {
     let mixed = mixed(key);
     let mut number = last[bucket(mixed, last.len())] as usize;
     'chain: while number > 0 {
         let place = number - 1;
         let link = links[place];
-        if is_same(link, &firsts[place].0, mixed, key) {
+        if is_same(link, &keys[place], mixed, key) {
             return Some(place);
         }
         number = link.before as usize;
@@ -196,15 +191,15 @@ fn is_same(link: KeyLink, first: &RowKey, mixed: u32, key: &RowKey) -> bool
 }
 
 /// Chains the keys of the list, and no others.
-fn chain_all(last: &mut [u32], links: &mut [KeyLink], firsts: &[(RowKey, Row)])
+fn chain_all(last: &mut [u32], links: &mut [KeyLink], keys: &[RowKey])
     requires some { 0 < length last.old }
-    requires room { length firsts.now ≤ length links.old }
-    requires few { length firsts.now < 2 ^ 32 - 1 }
-    ensures { IsChainedTo (length last.new) last.new links.new (map (λ e. e.0) firsts.now) (length firsts.now) }
+    requires room { length keys.now ≤ length links.old }
+    requires few { length keys.now < 2 ^ 32 - 1 }
+    ensures { IsChainedTo (length last.new) last.new links.new keys.now (length keys.now) }
 {
     last.fill(0);
-    for place in 0..firsts.len() {
-        chain(last, links, place, &firsts[place].0);
+    for place in 0..keys.len() {
+        chain(last, links, place, &keys[place]);
     }
 }
 

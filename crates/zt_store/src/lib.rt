@@ -2,8 +2,10 @@
 //! undone and made again.
 #![tactic(auto)]
 
+mod arranged_rows;
 mod changed_rows;
 mod exchanged_rows;
+mod first_rows;
 mod kept_rows;
 mod key_columns;
 mod key_places;

@@ -10,6 +10,7 @@ ghost use Rattle.zt_store.specs.ProofsOnly.KeptRows.{AreOf, keys_in, room_in, ro
 ghost use Rattle.zt_store.specs.ProofsOnly.StoreView.{AllSuit};
 
 use crate::changed_rows::find_changed;
+use crate::first_rows::FirstRows;
 use crate::kept_rows::{KeptRows, RowLists};
 use crate::store::Store;
 use std::alloc::{AllocError, Global};
@@ -131,12 +132,12 @@ impl RecordLists {
 
     /// The record of those of a step's first rows that differ from the rows now, in memory that has room for no others. It asks
     /// for memory, and takes that of these lists where it is refused.
-    pub(crate) fn record_of(&mut self, store: &Store, firsts: &mut [(RowKey, Row)]) -> Record
-        requires room { length firsts.old ≤ self.old }
-        requires distinct { IsDistinct rowkey_eq (map (λ e. e.0) (rows_of firsts.old)) }
-        requires suited { AllSuit (rows_of firsts.old) }
-        requires placed { fits store.now.places (rows_of firsts.old) ≡ true }
-        ensures recorded { result ≡ before (with_rows store.now.state (rows_of firsts.old)) store.now.state }
+    pub(crate) fn record_of(&mut self, store: &Store, firsts: &mut FirstRows) -> Record
+        requires room { length firsts.old.rows ≤ self.old }
+        requires distinct { IsDistinct rowkey_eq (map (λ e. e.0) (rows_of firsts.old.rows)) }
+        requires suited { AllSuit (rows_of firsts.old.rows) }
+        requires placed { fits store.now.places (rows_of firsts.old.rows) ≡ true }
+        ensures recorded { result ≡ before (with_rows store.now.state (rows_of firsts.old.rows)) store.now.state }
         ensures fits { fits store.now.places result ≡ true }
     {
         find_changed(store, firsts, &mut self.order);
@@ -175,14 +176,10 @@ fn grow_lists(
 }
 
 /// Takes the rows at these places into the lists, which are then given away.
-fn give(
-    lists: &mut Option<Box<RowLists>>,
-    firsts: &mut [(RowKey, Row)],
-    order: &[usize],
-) -> KeptRows
-    requires order { IsOrder order.now (length firsts.old) }
+fn give(lists: &mut Option<Box<RowLists>>, firsts: &mut FirstRows, order: &[usize]) -> KeptRows
+    requires order { IsOrder order.now (length firsts.old.rows) }
     requires room { length order.now ≤ room_in lists.old }
-    ensures { AreOf (keys_in result) (rows_in result) (picked firsts.old order.now) }
+    ensures { AreOf (keys_in result) (rows_in result) (picked firsts.old.rows order.now) }
 {
     match lists.take() {
         Some(mut lists) => {

@@ -1,4 +1,4 @@
-ghost use Rattle.std.specs.Prelude.{◌≡◌, ◌<◌, ◌+◌, ◌^◌, ◌↔◌, [], true, false, IsTrue, IfOk, OnOk, Option, if◌then◌else◌};
+ghost use Rattle.std.specs.Prelude.{◌≡◌, ◌<◌, ◌+◌, ◌^◌, ◌↔◌, [], ℕ, true, false, IsTrue, IfOk, OnOk, Option, None, if◌then◌else◌};
 ghost use Rattle.std.specs.Option.{option_copied};
 ghost use Rattle.zt_rows.specs.declared.keys.RowKey.{RowKey};
 ghost use Rattle.zt_rows.specs.declared.keys.RowKey.TheVariants as key_variant;
@@ -20,6 +20,7 @@ ghost use Rattle.zt_store.specs.Places.{Keeps, fits, fits_row, no_places};
 ghost use Rattle.zt_store.specs.StoreView.{Stored};
 ghost use Rattle.zt_store.specs.ProofsOnly.StoreView.{standing};
 
+use crate::first_rows::FirstRows;
 use crate::key_columns::{handle_of, has_room, key_after, packet_of};
 use crate::record::{Record, RecordLists};
 use std::alloc::{AllocError, Global};
@@ -68,11 +69,13 @@ pub struct Store {
     packet_counts: PacketCounts,
     index: Index,
     /// What a step lists its first rows in, kept from step to step.
-    spare: Vec<(RowKey, Row)>,
+    spare: FirstRows,
     /// Room for a step's record, kept from step to step.
     lists: RecordLists,
     /// A list of koids for a step, kept from step to step.
     koids: Vec<Koid>,
+    /// A list of numbers for a step, kept from step to step.
+    numbers: Vec<u64>,
 }
 
 /// Lets all parts go in one call, so that a function that owns a store is proved without going through them at each of its
@@ -87,6 +90,7 @@ impl Drop for Store {
             spare: _spare,
             lists: _lists,
             koids: _koids,
+            numbers: _numbers,
         } = self;
     }
 }
@@ -116,9 +120,10 @@ impl Store {
             support_counts: SupportCounts::new(alloc),
             packet_counts: PacketCounts::new(alloc),
             index: Index::new(alloc),
-            spare: Vec::new(alloc),
+            spare: FirstRows::new(alloc),
             lists: RecordLists::new(alloc),
             koids: Vec::new(alloc),
+            numbers: Vec::new(alloc),
         }
     }
 
@@ -251,6 +256,14 @@ impl Store {
         self.cells.first_packet(port)
     }
 
+    /// Whether there ever was a wait here: a place for one, once made, is never given up. It takes no memory.
+    pub fn ever_had_waits(&self) -> bool
+        ensures places { IsTrue result ↔ (0 < self.now.places.sizes.waits) }
+        ensures none { result ≡ false → (n : ℕ) → wait self.now.state n ≡ None }
+    {
+        self.cells.waits_end() > 0
+    }
+
     /// The least number above the low one, or of all, of a wait that the process made on the handle. It takes no
     /// memory, and looks at waits that share a bucket with the handle alone.
     pub fn wait_on(&self, process: Koid, handle: HandleValue, low: Option<u64>) -> Option<u64>
@@ -347,9 +360,10 @@ impl Store {
             support_counts: self.support_counts.copy()?,
             packet_counts: self.packet_counts.copy()?,
             index: self.index.copy()?,
-            spare: Vec::new(self.alloc()),
+            spare: FirstRows::new(self.alloc()),
             lists: RecordLists::new(self.alloc()),
             koids: Vec::new(self.alloc()),
+            numbers: Vec::new(self.alloc()),
         })
     }
 
@@ -357,12 +371,12 @@ impl Store {
         self.cells.alloc()
     }
 
-    /// An empty list of rows for a step, in memory that an earlier step left.
-    pub(crate) fn take_spare(&mut self) -> Vec<(RowKey, Row)>
+    /// Lists of no rows for a step, in memory that an earlier step left.
+    pub(crate) fn take_spare(&mut self) -> FirstRows
         ensures same { self.new ≡ self.old }
-        ensures empty { result.items ≡ [] }
+        ensures empty { result.rows ≡ [] }
     {
-        let fresh = Vec::new(self.alloc());
+        let fresh = FirstRows::new(self.alloc());
         let mut spare = replace(&mut self.spare, fresh);
         spare.clear();
         spare
@@ -384,13 +398,22 @@ impl Store {
         replace(&mut self.koids, fresh)
     }
 
+    /// A list of numbers, in memory that an earlier step left.
+    pub(crate) fn take_numbers(&mut self) -> Vec<u64>
+        ensures { self.new ≡ self.old }
+    {
+        let fresh = Vec::new(self.alloc());
+        replace(&mut self.numbers, fresh)
+    }
+
     /// Keeps the memory of a step's lists for later steps, in the place of the empty ones that the step left, which have no
     /// memory to be given back.
     pub(crate) fn keep_spare(
         &mut self,
-        spare: Vec<(RowKey, Row)>,
+        spare: FirstRows,
         lists: RecordLists,
         koids: Vec<Koid>,
+        numbers: Vec<u64>,
     )
         ensures { self.new ≡ self.old }
     {
@@ -398,6 +421,7 @@ impl Store {
         self.spare.clear();
         forget(replace(&mut self.lists, lists));
         forget(replace(&mut self.koids, koids));
+        forget(replace(&mut self.numbers, numbers));
     }
 
     /// What holds of the rows: each suits its key.

@@ -1,27 +1,11 @@
-use Rattle.std.proofs.Common.{arith, refl, ◌∙◌}
-use Rattle.std.proofs.lemmas.List.{length-set}
-use Rattle.zt_store.proofs.BareLaws.{pairs-start, pairs-fits, pairs-suits, pairs-step, pairs-end, pairs-record}
+use Rattle.zt_store.proofs.BareLaws.{distinct-pairs, pairs-record, suited-pairs}
 use Rattle.zt_store.proofs.exchanged_rows.exchange_under.Goals as goal
 
-pub loop-place-init : goal.loop-place-init
-loop-place-init c = (pairs-start _ _ _ _ c.requires.recorded c.requires.placed, refl, c.requires.recorded.even)
+pub exchange_each-requires-clause-distinct : goal.exchange_each-requires-clause-distinct
+exchange_each-requires-clause-distinct c = distinct-pairs _ _ c.requires.recorded
 
-pub exchange-requires-clause-placed : goal.exchange-requires-clause-placed
-exchange-requires-clause-placed c =
-    pairs-fits _ _ _ _ _ _ _ c.index-rows-place.result c.loop-place.invariant.2 (omega (arith, c.loop-place.invariant.2)) c.index-keys-place.is _ _ c.loop-place.invariant.0 c.loop-place.invariant.1
-
-pub exchange-requires-clause-suited : goal.exchange-requires-clause-suited
-exchange-requires-clause-suited c =
-    pairs-suits _ _ _ _ _ _ _ c.index-rows-place.result c.loop-place.invariant.2 (omega (arith, c.loop-place.invariant.2)) c.index-keys-place.is _ c.loop-place.invariant.0
-
-pub loop-place-preserved : goal.loop-place-preserved
-loop-place-preserved c =
-    let next = pairs-step _ _ _ _ _ _ _ c.index-rows-place.result c.loop-place.invariant.2 (omega (arith, c.loop-place.invariant.2)) c.index-keys-place.is c.loop-place.store c.exchange.new.self c.exchange.new.kept
-    c.loop-place.invariant.0 c.loop-place.invariant.1 c.exchange.ensures.put c.exchange.ensures.was c.exchange.ensures.suited c.exchange.ensures.fit in
-    (next.0, next.1, length-set c.loop-place.rows c.loop-place.place c.exchange.new.kept ∙ c.loop-place.invariant.2)
-
-pub returns-clause-exchanged : goal.returns-clause-exchanged
-returns-clause-exchanged c = pairs-end _ _ _ _ _ _ _ c.requires.recorded c.loop-place.invariant.0 c.loop-place.invariant.2 (omega (arith, c.loop-place.auto.rows, c.loop-place-test.false))
+pub exchange_each-requires-clause-suited : goal.exchange_each-requires-clause-suited
+exchange_each-requires-clause-suited c = suited-pairs _ _ c.requires.recorded
 
 pub returns-clause-recorded : goal.returns-clause-recorded
-returns-clause-recorded c = pairs-record _ _ _ _ _ _ _ c.requires.recorded c.loop-place.invariant.0 c.loop-place.invariant.2 (omega (arith, c.loop-place.auto.rows, c.loop-place-test.false))
+returns-clause-recorded c = pairs-record _ _ _ _ _ c.requires.recorded c.exchange_each.ensures.even c.exchange_each.ensures.exchanged c.exchange_each.ensures.suited

@@ -1,6 +1,7 @@
 use Rattle.std.proofs.Common.{◌≡◌, ℕ, List, refl, ap, subst, sym, ◌∙◌}
 use Rattle.zt_store.specs.Places.{fits}
 use Rattle.zt_store.specs.ProofsOnly.ChangedRows.{picked}
+use Rattle.zt_store.specs.ProofsOnly.FirstRows.{Firsts}
 use Rattle.zt_store.specs.ProofsOnly.KeptRows.{AreOf, keys_in, rows_in}
 use Rattle.zt_store.specs.declared.kept_rows.KeptRows.{KeptRows}
 use Rattle.zt_store.proofs.BareLaws.{Bares, filled-bare, pairs-filled}
@@ -13,11 +14,11 @@ same_are rows kept F G order places rows_is firsts_are places_are is =
     subst (λ k. AreOf (keys_in k) (rows_in k) (picked G places)) (sym rows_is)
     (subst (λ H. AreOf (keys_in rows) (rows_in rows) (picked H places)) firsts_are (subst (λ p. AreOf (keys_in rows) (rows_in rows) (picked F p)) places_are is))
 
-are_of : (c : goal.Joined-take) → AreOf (keys_in c.match-take.rows) (rows_in c.match-take.rows) (picked c.args.firsts.now c.find_changed.new.order.items)
+are_of : (c : goal.Joined-take) → AreOf (keys_in c.match-take.rows) (rows_in c.match-take.rows) (picked c.args.firsts.now.rows c.find_changed.new.order.items)
 are_of c =
     elim c.match-take.branch [
       | in-Ok w ↦ same_are _ _ _ _ _ _ w.rows-is refl c.as_slice.ensures.value w.in-Ok.ensures.ok
-      | in-Err w ↦ same_are _ _ _ _ _ _ w.rows-is w.in-Err.ensures.err w.as_slice-in-Err.ensures.value w.give-rows.ensures
+      | in-Err w ↦ same_are _ _ _ _ _ _ w.rows-is (ap (λ (f : Firsts). f.rows) w.in-Err.ensures.err) w.as_slice-in-Err.ensures.value w.give-rows.ensures
     ]
 
 pub invariant_of-result : goal.invariant_of-result

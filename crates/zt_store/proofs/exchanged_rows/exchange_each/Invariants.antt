@@ -1,7 +1,7 @@
 use Rattle.std.proofs.Common.{◌≡◌, length}
 use Rattle.zt_store.specs.ProofsOnly.KeptRows.{pairs_of}
 use Rattle.zt_store.proofs.Exchanges.{IsSwapping}
-use Rattle.zt_store.proofs.exchanged_rows.exchange_under.Given as goal
+use Rattle.zt_store.proofs.exchanged_rows.exchange_each.Given as goal
 
 abbrev pub invariant-loop-place : goal.invariant-loop-place
 invariant-loop-place l =
