@@ -1,3 +1,4 @@
+pub mod PutOrder
 pub mod ChainLaws
 pub mod BelowLaws
 pub mod MemberLaws

@@ -40,6 +40,7 @@ pub fn make_process(step: &mut Step, job: Koid, given: Option<Held>) -> Result<K
 }
 
 /// The object at the next koid.
+#[tactic(auto, using(crate::proofs::PutOrder::object_last))]
 fn make(step: &mut Step, object: ObjectRow) -> Result<Koid, AllocError>
     requires { next_koid step.old.current + 1 < 2 ^ 64 }
     ensures koid { IfOk result (λ koid. koid ≡ next_koid step.old.current) }
@@ -54,8 +55,8 @@ fn make(step: &mut Step, object: ObjectRow) -> Result<Koid, AllocError>
         next_koid: Koid(koid.0 + 1),
         ..counters
     };
-    step.put(RowKey::Object(koid), Some(Row::Object(object)))?;
     step.put(RowKey::Counters, Some(Row::Counters(raised)))?;
+    step.put(RowKey::Object(koid), Some(Row::Object(object)))?;
     Ok(koid)
 }
 

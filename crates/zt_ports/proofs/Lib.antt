@@ -1,3 +1,4 @@
+pub mod PutOrder
 pub mod FrontLaws
 pub mod PacketLaws
 pub mod CancelLaws

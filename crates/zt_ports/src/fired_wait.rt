@@ -14,6 +14,7 @@ use zt_store::Step;
 
 /// Where the wait of this number is met, takes it away and puts the news at the end of its port. Only then has there to be
 /// room in it.
+#[tactic(auto, using(crate::proofs::PutOrder::wait_last))]
 pub fn fire(step: &mut Step, number: u64, wait: &Wait) -> Result<(), AllocError>
     requires { is_met step.old.beginning step.old.current wait.now ≡ true → next_at step.old.current wait.now.port + 1 < 2 ^ 64 }
     ensures ok { OnOk result (Advanced step.old step.new (fire step.old.beginning step.old.current (number, wait.now))) }
@@ -28,8 +29,8 @@ pub fn fire(step: &mut Step, number: u64, wait: &Wait) -> Result<(), AllocError>
         return Ok(());
     };
     let parcel = news(wait, observed);
-    step.put(RowKey::Wait(number), None)?;
-    push_packet(step, wait.port, &port, parcel)
+    push_packet(step, wait.port, &port, parcel)?;
+    step.put(RowKey::Wait(number), None)
 }
 
 /// Whether one of the signals waited for stands; for a wait on an edge, one that did not stand when the step began.

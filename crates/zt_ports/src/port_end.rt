@@ -25,6 +25,7 @@ pub fn queue(step: &mut Step, port: Koid, packet: Packet) -> Result<(), AllocErr
 }
 
 /// Puts the packet at the end of the port with this row.
+#[tactic(auto, using(crate::proofs::PutOrder::packet_last))]
 pub(crate) fn push_packet(
     step: &mut Step,
     koid: Koid,
@@ -36,10 +37,10 @@ pub(crate) fn push_packet(
     ensures err { OnErr result (AsBegun step.old step.new) }
     ensures kept { Keeps step.old.places step.new.places }
 {
-    step.put(RowKey::Packet(koid, port.next), Some(Row::Packet(packet)))?;
-    let port = ObjectRow {
+    let raised = ObjectRow {
         next: port.next + 1,
         ..*port
     };
-    step.put(RowKey::Object(koid), Some(Row::Object(port)))
+    step.put(RowKey::Object(koid), Some(Row::Object(raised)))?;
+    step.put(RowKey::Packet(koid, port.next), Some(Row::Packet(packet)))
 }

@@ -1,2 +1,3 @@
+pub mod PutOrder
 pub mod FrontLaws
 pub mod TakenLaws

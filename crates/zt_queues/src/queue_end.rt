@@ -11,6 +11,7 @@ use zt_store::Step;
 
 /// Adds the message at the end of the endpoint's queue, by the endpoint's next number. Where there is no such
 /// object, nothing changes.
+#[tactic(auto, using(crate::proofs::PutOrder::message_last))]
 pub fn push(step: &mut Step, endpoint: Koid, message: Message) -> Result<(), AllocError>
     requires { next_at step.old.current endpoint + 1 < 2 ^ 64 }
     ensures ok { OnOk result (Advanced step.old step.new (pushed step.old.current endpoint message)) }
@@ -24,6 +25,6 @@ pub fn push(step: &mut Step, endpoint: Koid, message: Message) -> Result<(), All
         next: object.next + 1,
         ..object
     };
-    step.put(RowKey::Msg(endpoint, object.next), Some(Row::Msg(message)))?;
-    step.put(RowKey::Object(endpoint), Some(Row::Object(raised)))
+    step.put(RowKey::Object(endpoint), Some(Row::Object(raised)))?;
+    step.put(RowKey::Msg(endpoint, object.next), Some(Row::Msg(message)))
 }

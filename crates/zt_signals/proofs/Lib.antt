@@ -1,3 +1,4 @@
+pub mod PutOrder
 pub mod DerivedLaws
 pub mod NextKeyLaws
 pub mod ColumnLaws

@@ -13,6 +13,7 @@ use zt_rows::{Counters, HandleValue, Koid, Row, RowKey, Wait};
 use zt_store::Step;
 
 /// Adds a wait, by the next wait number.
+#[tactic(auto, using(crate::proofs::PutOrder::wait_last))]
 pub fn add_wait(step: &mut Step, wait: Wait) -> Result<(), AllocError>
     requires { (counters step.old.current).next_wait + 1 < 2 ^ 64 }
     ensures ok { let S = step.old.current in OnOk result (Advanced step.old step.new (add_wait (counters S) wait S)) }
@@ -24,8 +25,8 @@ pub fn add_wait(step: &mut Step, wait: Wait) -> Result<(), AllocError>
         next_wait: counters.next_wait + 1,
         ..counters
     };
-    step.put(RowKey::Wait(counters.next_wait), Some(Row::Wait(wait)))?;
-    step.put(RowKey::Counters, Some(Row::Counters(raised)))
+    step.put(RowKey::Counters, Some(Row::Counters(raised)))?;
+    step.put(RowKey::Wait(counters.next_wait), Some(Row::Wait(wait)))
 }
 
 /// Takes away the waits that the process made on the handle. They are found by the handle, so that other waits are

@@ -1,4 +1,4 @@
-ghost use Rattle.std.specs.Prelude.{◌≡◌, ◌<◌, ◌^◌, IfOk, OnErr};
+ghost use Rattle.std.specs.Prelude.{◌≡◌, ◌<◌, ◌+◌, ◌^◌, IfOk, OnErr};
 ghost use Rattle.zt_rows.specs.Reads.{entry};
 ghost use Rattle.zt_rows.specs.Tests.{next_at};
 ghost use Rattle.zt_rows.specs.Handles.{caller, install, value_of};
@@ -20,6 +20,7 @@ pub fn find(store: &Store, process: Koid, value: HandleValue) -> Option<Held>
 
 /// Gives the process a handle, by its next value. A process without a row counts as one that had no handle
 /// so far.
+#[tactic(auto, using(crate::proofs::PutOrder::entry_last))]
 #[inline(always)]
 pub fn install(step: &mut Step, process: Koid, held: Held) -> Result<HandleValue, AllocError>
     requires { next_at step.old.current process < 2 ^ 30 }
@@ -30,14 +31,44 @@ pub fn install(step: &mut Step, process: Koid, held: Held) -> Result<HandleValue
     ensures kept { Keeps step.old.places step.new.places }
 {
     let owner = owner_of(step, process);
-    let value = HandleValue((4 * owner.next + 3) as u32);
+    let value = value_of(owner.next);
     let raised = ObjectRow {
         next: owner.next + 1,
         ..owner
     };
-    step.put(RowKey::Entry(process, value), Some(Row::Entry(held)))?;
     step.put(RowKey::Object(process), Some(Row::Object(raised)))?;
+    step.put(RowKey::Entry(process, value), Some(Row::Entry(held)))?;
     Ok(value)
+}
+
+/// Gives the process two handles in turn, by its next two values. It does the same as two calls of `install`, and puts the
+/// process's row once.
+#[tactic(auto, using(crate::proofs::PutOrder::entries_last))]
+pub fn install_pair(
+    step: &mut Step,
+    process: Koid,
+    first: Held,
+    second: Held,
+) -> Result<(HandleValue, HandleValue), AllocError>
+    requires { next_at step.old.current process + 1 < 2 ^ 30 }
+    ensures values { let n = next_at step.old.current process in
+        IfOk result (λ values. values ≡ (value_of n, value_of (n + 1))) }
+    ensures installed { let S = step.old.current in let T = install process (caller S process) first S in
+        IfOk result (λ _. Advanced step.old step.new (install process (caller T process) second T)) }
+    ensures err { OnErr result (AsBegun step.old step.new) }
+    ensures kept { Keeps step.old.places step.new.places }
+{
+    let owner = owner_of(step, process);
+    let near = value_of(owner.next);
+    let far = value_of(owner.next + 1);
+    let raised = ObjectRow {
+        next: owner.next + 2,
+        ..owner
+    };
+    step.put(RowKey::Object(process), Some(Row::Object(raised)))?;
+    step.put(RowKey::Entry(process, near), Some(Row::Entry(first)))?;
+    step.put(RowKey::Entry(process, far), Some(Row::Entry(second)))?;
+    Ok((near, far))
 }
 
 /// Takes the entry away, and answers what it held. No later handle gets its value.
@@ -72,6 +103,15 @@ pub fn duplicate(
     ensures kept { Keeps step.old.places step.new.places }
 {
     install(step, process, Held { rights, ..held })
+}
+
+/// The value of the handle that a process receives as the n-th, counted from 0.
+#[inline(always)]
+fn value_of(n: u64) -> HandleValue
+    requires { n < 2 ^ 30 }
+    ensures { result ≡ value_of n }
+{
+    HandleValue((4 * n + 3) as u32)
 }
 
 /// The row of the process, or that of an ended one that had no handle.

@@ -3,4 +3,4 @@
 
 mod handle_table;
 
-pub use handle_table::{duplicate, find, install, remove};
+pub use handle_table::{duplicate, find, install, install_pair, remove};
