@@ -8,23 +8,25 @@ ghost use Rattle.zt_cascade.specs.PacketRoom.{FiresWithin};
 ghost use Rattle.zt_cascade.specs.ProofsOnly.RaisedWaits.{HasRoomFor, fire_number};
 
 use crate::raised_waits::woken;
-use std::alloc::{AllocError, Global};
+use std::alloc::AllocError;
 use zt_ports::fire;
 use zt_store::Step;
 
 /// Fires the waits that are met, by rising number. The step began consistent, so that only those can be met that this
 /// step may have woken: no other wait is looked at. Refused, the step stands in the middle of it.
-pub(crate) fn fire_all(step: &mut Step, alloc: Global) -> Result<(), AllocError>
+pub(crate) fn fire_all(step: &mut Step) -> Result<(), AllocError>
     requires began { IsConsistent step.old.beginning }
     requires room { let S = step.old.current in FiresWithin step.old.beginning S (fold (fire step.old.beginning) S (waits S)) }
     ensures ahead { IsAhead step.old step.new }
     ensures ok { OnOk result (step.new.current ≡ fold (fire step.old.beginning) step.old.current (waits step.old.current)) }
 {
-    let mut numbers = woken(step, alloc)?;
+    let list = step.take_numbers();
+    let mut numbers = woken(step, list)?;
     numbers.sort_unstable();
     for number in &numbers {
         fire_number(step, *number)?;
     }
+    step.keep_numbers(numbers);
     Ok(())
 }
 

@@ -23,14 +23,14 @@ use zt_store::Step;
 /// consistent, so that only what is near a key that it put can have other signals than before. The work grows with
 /// these keys and with the waits on what changed, and not with the rows that there are. Refused for memory,
 /// the step is as it was begun.
-pub fn settle(step: &mut Step, alloc: Global) -> Result<(), AllocError>
+pub fn settle(step: &mut Step, _alloc: Global) -> Result<(), AllocError>
     requires began { IsConsistent step.old.beginning }
     requires room { HasRoomToFire step.old.beginning step.old.current }
     ensures ok { OnOk result (Advanced step.old step.new (settle step.old.beginning step.old.current)) }
     ensures err { OnErr result (AsBegun step.old step.new) }
     ensures kept { Keeps step.old.places step.new.places }
 {
-    let done = settle_all(step, alloc);
+    let done = settle_all(step);
     if done.is_err() {
         step.reset();
     }
@@ -38,14 +38,14 @@ pub fn settle(step: &mut Step, alloc: Global) -> Result<(), AllocError>
 }
 
 /// Writes the derived signals anew and fires waits. Refused, the step stands in the middle of it.
-fn settle_all(step: &mut Step, alloc: Global) -> Result<(), AllocError>
+fn settle_all(step: &mut Step) -> Result<(), AllocError>
     requires began { IsConsistent step.old.beginning }
     requires room { HasRoomToFire step.old.beginning step.old.current }
     ensures ahead { IsAhead step.old step.new }
     ensures ok { OnOk result (step.new.current ≡ settle step.old.beginning step.old.current) }
 {
     renew_near(step)?;
-    fire_all(step, alloc)
+    fire_all(step)
 }
 
 /// Writes the derived signals anew of all that is near a key that was put in this step.
