@@ -11,7 +11,7 @@ use Rattle.zt_bits.specs.declared.statuses.Status.TheVariants as status
 use Rattle.zt_bits.specs.Tables.{asked_rights}
 use Rattle.std.specs.Prelude.{Some, Ok, ok_or}
 use Rattle.zt_rows.specs.Reads.{counters, object, entry, runs}
-use Rattle.zt_rows.specs.Tests.{next_at, is_endpoint, raised}
+use Rattle.zt_rows.specs.Tests.{next_at, is_endpoint}
 use Rattle.zt_rows.specs.Room.{HasRoom}
 use Rattle.zt_rows.specs.Handles.{◌>>=◌, answered, caller, value_of, whole, fresh, next_koid, install, make, make_pair, take_out}
 use Rattle.zt_rows.specs.ObjectCalls.{create, create_pair, received, handle_replace}
@@ -19,7 +19,7 @@ use Rattle.zt_rows.specs.Consistent.{IsSound}
 use Rattle.zt_store.specs.StepView.{Stepping, Advanced}
 use Rattle.zt_tables.specs.Entries.{with_rights}
 use Rattle.zt_calls.proofs.GoingOn.{further, reached}
-use Rattle.zt_calls.proofs.CallerLaws.{room-installs, caller-same, next-same, caller-next, object-of-made, object-of-paired, object-of-rest, caller-of-installed, next-of-installed}
+use Rattle.zt_calls.proofs.CallerLaws.{room-installs, caller-same, next-same, caller-next, object-of-made, object-of-paired, object-of-rest, caller-of-installed}
 
 -- a step went on to a state in which the caller's row is the same, and the caller received a handle there
 pub installed_on : (s t u : Stepping) (T : State) (p value : ℕ) (held : Held) → Advanced s t T → object T p ≡ object s.current p → Advanced t u (install p (caller t.current p) held t.current) → value ≡ value_of (next_at t.current p) → (Advanced s u (install p (caller s.current p) held T)) × (value ≡ value_of (caller s.current p).next)
@@ -50,31 +50,32 @@ create-does s t u p value koid k held sound live named made is installed valued 
 
 -- ---- a pair is made
 
-pub pair-fits : (s t : Stepping) (p : ℕ) (k : Kind) → HasRoom s.current → IsSound s.current → is_endpoint k ≡ true → runs s.current p ≡ true → Advanced s t (make_pair (counters s.current) k s.current) → next_at t.current p < 2 ^ 30
+pub pair-fits : (s t : Stepping) (p : ℕ) (k : Kind) → HasRoom s.current → IsSound s.current → is_endpoint k ≡ true → runs s.current p ≡ true → Advanced s t (make_pair (counters s.current) k s.current) → next_at t.current p + 1 < 2 ^ 30
 pair-fits s t p k room sound ends live made =
     let n : next_at t.current p ≤ 2 ^ 30 - 64 = fits_on s t (make_pair (counters s.current) k s.current) p made (object-of-paired s.current p k sound ends live) room live in
     omega arith
 
-pub second-fits : (s t u : Stepping) (p : ℕ) (k : Kind) (held : Held) → HasRoom s.current → IsSound s.current → is_endpoint k ≡ true → runs s.current p ≡ true → Advanced s t (make_pair (counters s.current) k s.current) → Advanced t u (install p (caller t.current p) held t.current) → next_at u.current p < 2 ^ 30
-second-fits s t u p k held room sound ends live made installed =
-    let first : next_at t.current p ≤ 2 ^ 30 - 64 = fits_on s t (make_pair (counters s.current) k s.current) p made (object-of-paired s.current p k sound ends live) room live in
-    let n : next_at u.current p ≡ (caller t.current p).next + 1 = ap (λ S. next_at S p) installed.1 ∙ next-of-installed t.current p (caller t.current p) held in
-    let m : (caller t.current p).next ≡ next_at t.current p = caller-next t.current p in
-    omega arith
+-- the process receives both in turn
+abbrev both_installed : ℕ → Held → Held → State → State
+both_installed p a b S = let T = install p (caller S p) a S in install p (caller T p) b T
 
-pub pair-does : (s t u v : Stepping) (p first second near far : ℕ) (k : Kind) (a b : Held) → IsSound s.current → is_endpoint k ≡ true → runs s.current p ≡ true → near ≡ next_koid s.current → far ≡ next_koid s.current + 1 → Advanced s t (make_pair (counters s.current) k s.current) → a ≡ whole near k → Advanced t u (install p (caller t.current p) a t.current) → first ≡ value_of (next_at t.current p) → b ≡ whole far k → Advanced u v (install p (caller u.current p) b u.current) → second ≡ value_of (next_at u.current p) → (Advanced s v (create_pair k s.current p).0) × (reply.Handles first second ≡ (create_pair k s.current p).1)
-pair-does s t u v p first second near far k a b sound ends live one two made is installed valued other again value =
+pub pair-does : (s t u : Stepping) (p near far : ℕ) (values : ℕ × ℕ) (k : Kind) (a b : Held) → IsSound s.current → is_endpoint k ≡ true → runs s.current p ≡ true → near ≡ next_koid s.current → far ≡ next_koid s.current + 1 → Advanced s t (make_pair (counters s.current) k s.current) → a ≡ whole near k → b ≡ whole far k → Advanced t u (both_installed p a b t.current) → values ≡ (value_of (next_at t.current p), value_of (next_at t.current p + 1)) → (Advanced s u (create_pair k s.current p).0) × (reply.Handles values.0 values.1 ≡ (create_pair k s.current p).1)
+pair-does s t u p near far values k a b sound ends live one two made is other installed valued =
     let S : State = s.current in
     let me : ObjectRow = caller S p in
     let T : State = make_pair (counters S) k S in
-    let w = installed_on s t u T p first a made (object-of-paired S p k sound ends live) installed valued in
-    let U : State = install p me (whole (next_koid S) k) T in
-    let came : Advanced s u U = reached s u _ _ w.0 (ap (λ h. install p me h T) (is ∙ ap (λ x. whole x k) one)) in
-    let there : Advanced s v (install p (caller U p) b U) = further s u v U (λ S. install p (caller S p) b S) came again in
-    let owner : caller U p ≡ raised me = caller-of-installed T p me (whole (next_koid S) k) in
-    let at : next_at u.current p ≡ me.next + 1 = ap (λ S. next_at S p) came.1 ∙ next-of-installed T p me (whole (next_koid S) k) in (
-      reached s v _ _ there (ap (λ o. install p o b U) owner ∙ ap (λ h. install p (raised me) h U) (other ∙ ap (λ x. whole x k) two)),
-      λ i. reply.Handles (w.1 i) ((value ∙ ap value_of at) i),
+    let A : Held = whole (next_koid S) k in
+    let B : Held = whole (next_koid S + 1) k in
+    let U : State = install p me A T in
+    let same : object T p ≡ object S p = object-of-paired S p k sound ends live in
+    let there : Advanced s u (both_installed p a b T) = further s t u T (both_installed p a b) made installed in
+    let at : next_at t.current p ≡ me.next = ap (λ V. next_at V p) made.1 ∙ next-same S T p same ∙ sym (caller-next S p) in (
+      reached s u _ _ there (
+          ap (λ h. both_installed p h b T) (is ∙ ap (λ x. whole x k) one)
+          ∙ ap (λ h. both_installed p A h T) (other ∙ ap (λ x. whole x k) two)
+          ∙ ap (λ o. let V : State = install p o A T in install p (caller V p) B V) (caller-same S T p same)
+          ∙ ap (λ o. install p o B U) (caller-of-installed T p me A)),
+      ap (λ (h : ℕ × ℕ). reply.Handles h.0 h.1) valued ∙ ap (λ n. reply.Handles (value_of n) (value_of (n + 1))) at,
     )
 
 -- ---- a handle takes the place of another

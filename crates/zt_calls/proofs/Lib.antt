@@ -1,4 +1,5 @@
 pub mod ListLemmas
+pub mod PutOrder
 pub mod GoingOn
 pub mod CallerLaws
 pub mod RoomLaws

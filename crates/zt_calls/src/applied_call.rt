@@ -81,12 +81,38 @@ pub fn apply_to(
     if !runs(resting.store(), process) {
         return Err(Refusal::NoProcess);
     }
+    match run_on(alloc, resting, process, call) {
+        Ok(answer) => Ok(answer),
+        Err(_) => Err(Refusal::OutOfMemory),
+    }
+}
+
+/// Runs one call of a process that is known to run, as `apply_to` does: it is refused for want of memory alone.
+#[tactic(auto, unfolding(zt_rows::specs::Step::step))]
+pub fn run_on(
+    alloc: Global,
+    resting: &mut Step,
+    process: Koid,
+    call: &Call,
+) -> Result<(Reply, Record), AllocError>
+    requires rest { IsAtRest resting.old }
+    requires room { HasRoom resting.old.current }
+    requires consistent { IsConsistent resting.old.current }
+    requires running { runs resting.old.current process ≡ true }
+    ensures rest { IsAtRest resting.new }
+    ensures ok { IfOk result (λ answer. (resting.new.current, answer.0) ≡ step resting.old.current process call.now) }
+    ensures recorded { IfOk result (λ answer. answer.1 ≡ before resting.old.current resting.new.current) }
+    ensures fits { IfOk result (λ answer. fits resting.new.places answer.1 ≡ true) }
+    ensures err { OnErr result (resting.new.current ≡ resting.old.current) }
+    ensures consistent { IsConsistent resting.new.current }
+    ensures kept { Keeps resting.old.places resting.new.places }
+{
     call.limits();
     match carried_out(alloc, resting, process, call) {
         Ok(reply) => Ok((reply, resting.take_record())),
-        Err(_) => {
+        Err(e) => {
             resting.reset();
-            Err(Refusal::OutOfMemory)
+            Err(e)
         }
     }
 }

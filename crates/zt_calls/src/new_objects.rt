@@ -20,6 +20,7 @@ pub fn whole(koid: Koid, kind: Kind) -> Held
 }
 
 /// A new live object of the kind, at the next koid.
+#[tactic(auto, using(crate::proofs::PutOrder::object_last))]
 pub fn new_object(step: &mut Step, kind: Kind, link: Koid) -> Result<Koid, AllocError>
     requires { next_koid step.old.current < 2 ^ 63 }
     ensures koid { IfOk result (λ koid. koid ≡ next_koid step.old.current) }
@@ -34,15 +35,16 @@ pub fn new_object(step: &mut Step, kind: Kind, link: Koid) -> Result<Koid, Alloc
         next_koid: Koid(koid.0 + 1),
         ..counters
     };
+    step.put(RowKey::Counters, Some(Row::Counters(raised)))?;
     step.put(
         RowKey::Object(koid),
         Some(Row::Object(ObjectRow::new(kind, link))),
     )?;
-    step.put(RowKey::Counters, Some(Row::Counters(raised)))?;
     Ok(koid)
 }
 
 /// Two new live objects of the kind, at the next two koids, each the other's peer.
+#[tactic(auto, using(crate::proofs::PutOrder::objects_last))]
 pub fn new_pair(step: &mut Step, kind: Kind) -> Result<(Koid, Koid), AllocError>
     requires { next_koid step.old.current < 2 ^ 63 }
     ensures koids { let k = next_koid step.old.current in IfOk result (λ koids. koids ≡ (k, k + 1)) }
@@ -58,6 +60,7 @@ pub fn new_pair(step: &mut Step, kind: Kind) -> Result<(Koid, Koid), AllocError>
         next_koid: Koid(near.0 + 2),
         ..counters
     };
+    step.put(RowKey::Counters, Some(Row::Counters(raised)))?;
     step.put(
         RowKey::Object(near),
         Some(Row::Object(ObjectRow::new(kind, far))),
@@ -66,6 +69,5 @@ pub fn new_pair(step: &mut Step, kind: Kind) -> Result<(Koid, Koid), AllocError>
         RowKey::Object(far),
         Some(Row::Object(ObjectRow::new(kind, near))),
     )?;
-    step.put(RowKey::Counters, Some(Row::Counters(raised)))?;
     Ok((near, far))
 }

@@ -14,7 +14,7 @@ use zt_bits::{Kind, Rights, Signals, Status};
 use zt_rows::{HandleValue, Koid, Reply};
 use zt_signals::set_bits;
 use zt_store::Step;
-use zt_tables::install;
+use zt_tables::{install, install_pair};
 
 /// Makes an object of the kind, and answers with the caller's handle to it.
 pub(crate) fn create(step: &mut Step, process: Koid, kind: Kind) -> Result<Reply, Failure>
@@ -39,8 +39,7 @@ pub fn create_pair(step: &mut Step, process: Koid, kind: Kind) -> Result<Reply, 
     ensures kept { Keeps step.old.places step.new.places }
 {
     let (near, far) = new_pair(step, kind)?;
-    let first = install(step, process, whole(near, kind))?;
-    let second = install(step, process, whole(far, kind))?;
+    let (first, second) = install_pair(step, process, whole(near, kind), whole(far, kind))?;
     Ok(Reply::Handles(first, second))
 }
 

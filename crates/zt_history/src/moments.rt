@@ -369,9 +369,7 @@ fn carried_out(
     ensures err_notes { OnErr result (notes.new ≡ notes.old) }
     ensures kept { Keeps store.old.places store.new.places }
 {
-    let Ok((reply, mut change)) = store.apply(alloc, process, call) else {
-        return Err(AllocError);
-    };
+    let (reply, mut change) = store.apply(alloc, process, call)?;
     match answered_and_noted(&reply, wanted, notes, moment, &change, store.store()) {
         Ok(answer) => Ok(AnsweredCall {
             reply,

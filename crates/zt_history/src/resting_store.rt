@@ -1,4 +1,4 @@
-ghost use Rattle.std.specs.Prelude.{◌≡◌, ◌↔◌, ◌⊎◌, true, false, IfOk, IfErr, OnErr, IsErrOf};
+ghost use Rattle.std.specs.Prelude.{◌≡◌, true, IfOk, OnErr};
 ghost use Rattle.zt_rows.specs.Change.{before, exchange};
 ghost use Rattle.zt_rows.specs.Consistent.{IsConsistent};
 ghost use Rattle.zt_rows.specs.Opening.{opening};
@@ -9,8 +9,8 @@ ghost use Rattle.zt_store.specs.Places.{Keeps, fits};
 
 use std::alloc::{AllocError, Global};
 use std::marker::Model;
-use zt_calls::apply_to;
-use zt_rows::{Call, Koid, Refusal, Reply};
+use zt_calls::run_on;
+use zt_rows::{Call, Koid, Reply};
 use zt_store::{Record, Step, Store};
 
 /// A store that calls are run on where it stands: it is that of a step which has put nothing yet, each time that a call is over.
@@ -58,24 +58,23 @@ impl RestingStore {
         self.step.swap(kept);
     }
 
-    /// Runs one call of a process, as `apply` of the calls does.
+    /// Runs one call of a process that runs, as `apply` of the calls does.
     pub(crate) fn apply(
         &mut self,
         alloc: Global,
         process: Koid,
         call: &Call,
-    ) -> Result<(Reply, Record), Refusal>
+    ) -> Result<(Reply, Record), AllocError>
         requires room { HasRoom self.old.state }
         requires consistent { IsConsistent self.old.state }
+        requires running { runs self.old.state process ≡ true }
         ensures ok { IfOk result (λ answer. (self.new.state, answer.0) ≡ step self.old.state process call.now) }
         ensures recorded { IfOk result (λ answer. answer.1 ≡ before self.old.state self.new.state) }
         ensures fits { IfOk result (λ answer. fits self.new.places answer.1 ≡ true) }
-        ensures no_process { IsErrOf result Refusal.NoProcess ↔ (runs self.old.state process ≡ false) }
-        ensures refusals { IfErr result (λ refusal. (refusal ≡ Refusal.NoProcess) ⊎ (refusal ≡ Refusal.OutOfMemory)) }
         ensures err { OnErr result (self.new.state ≡ self.old.state) }
         ensures consistent { IsConsistent self.new.state }
         ensures kept { Keeps self.old.places self.new.places }
     {
-        apply_to(alloc, &mut self.step, process, call)
+        run_on(alloc, &mut self.step, process, call)
     }
 }

@@ -1,11 +1,9 @@
 -- The state after the step is consistent, since the call's process runs.
-use Rattle.std.proofs.Common.{◌≡◌, true, ap, sym, refl, ◌∙◌}
+use Rattle.std.proofs.Common.{◌≡◌, ap, sym, refl}
 use Rattle.zt_rows.specs.State.{State}
-use Rattle.zt_rows.specs.Reads.{runs}
 use Rattle.zt_store.specs.StepView.{Stepping}
-use Rattle.zt_store.specs.StoreView.{Stored}
 use Rattle.zt_calls.proofs.CallerLaws.{consistent_after}
-use Rattle.zt_calls.proofs.applied_call.apply_to.Goals as goal
+use Rattle.zt_calls.proofs.applied_call.run_on.Goals as goal
 
 pub carried_out-requires-clause-begun : goal.carried_out-requires-clause-begun
 carried_out-requires-clause-begun c = sym (ap (λ (s : Stepping). s.beginning) c.requires.rest)
@@ -13,6 +11,5 @@ carried_out-requires-clause-begun c = sym (ap (λ (s : Stepping). s.beginning) c
 pub returns-in-Ok-clause-consistent : goal.returns-in-Ok-clause-consistent
 returns-in-Ok-clause-consistent c =
     let S : State = c.args.resting.now.current in
-    let running : runs S c.args.process ≡ true = ap (λ (s : Stored). runs s.state c.args.process) (sym c.store.ensures) ∙ sym c.runs.ensures ∙ c.if-not-runs.false in
     let left : c.take_record.new.self.current ≡ c.carried_out.new.step.current = ap (λ (s : Stepping). s.current) c.take_record.ensures.next in
-    consistent_after S S c.carried_out.new.step.current c.take_record.new.self.current c.args.process c.args.call.now c.in-Ok.reply refl left c.in-Ok.ensures.ok c.requires.consistent running c.limits.ensures
+    consistent_after S S c.carried_out.new.step.current c.take_record.new.self.current c.args.process c.args.call.now c.in-Ok.reply refl left c.in-Ok.ensures.ok c.requires.consistent c.requires.running c.limits.ensures
