@@ -1,5 +1,5 @@
--- An object that is no task, and that nothing names but messages at endpoints of which the same holds, was leaked by the last
--- call by which one of these lost a name.
+-- An object that is neither a job nor a process that runs, and that nothing names but messages at endpoints of which the same
+-- holds, was leaked by the last call by which one of these lost a name or the object ended.
 use Rattle.std.proofs.Common.{◌≡◌, ◌≤◌, ◌<◌, ℕ, zero, suc, Bool, true, false, cond, not, ◌&&◌, List, [], ◌∷◌, ◌++◌, fold, max, length, ◌⊎◌, inl, inr, refl, sym, ap, ◌∙◌, subst, arith, append-nil}
 use Rattle.std.specs.Prelude.{Option, None, Some, ◌==◌, filter, if◌then◌else◌}
 use Rattle.std.specs.List.{last_or, list_any}
@@ -14,9 +14,10 @@ use Rattle.zt_rows.specs.State.{State, row}
 use Rattle.zt_rows.specs.Reads.{entry, message, object}
 use Rattle.zt_rows.specs.Tests.{among, exists}
 use Rattle.zt_rows.specs.Handles.{next_koid}
+use Rattle.zt_rows.specs.Support.{root_job}
 use Rattle.zt_rows.specs.Consistent.{IsConsistent}
 use Rattle.zt_rows.proofs.RowLaws.{In, list_any-in, in-list_any, or_left, or_right, and_left, and_right, and_both, true≢false, not_true}
-use Rattle.zt_rows.proofs.ReadLaws.{some_one, exists-some, entry-row}
+use Rattle.zt_rows.proofs.ReadLaws.{some_one, entry-row}
 use Rattle.zt_history.specs.TreeInvariant.{AreMoments, Falls}
 use Rattle.zt_history.specs.Tree.{Made, parent_at, path, state_at}
 use Rattle.zt_history.proofs.PathLaws.{path-opening, path-step, by_parents, among-self, among-other, among-early}
@@ -26,14 +27,17 @@ use Rattle.zt_queries.specs.HappeningTimes.{at_moment, happens, last_on}
 use Rattle.zt_queries.specs.Leaks.{is_leaked}
 use Rattle.zt_queries.specs.Reachability.{reached, HoldsAllNamed}
 use Rattle.zt_history.specs.LetGo.{names, lets_go_at, last_let_go}
-use Rattle.zt_queries.specs.ProofsOnly.NameSearch.{is_plain, stands_plain, waits_at, HoldsEndpoints, IsNameSearch, later, last_of_all}
+use Rattle.zt_history.specs.RowHappenings.{shows_at, last_shown}
+use Rattle.zt_history.specs.declared.row_happenings.RowHappening.TheVariants as turn
+use Rattle.zt_queries.specs.ProofsOnly.NameSearch.{stands_passive, is_bare, IsBareFrom, waits_at, HoldsEndpoints, IsNameSearch, later, last_of_names, last_of_all, IsLastOfNames}
 use Rattle.zt_queries.proofs.ReachLaws.{among-in, in-among, in-all, reached-least}
 use Rattle.zt_queries.proofs.FollowLaws.{low-koid}
-use Rattle.zt_queries.proofs.OnceLaws.{given-stays, has_leaked, leaked-begins, leaked-goes-on, next-follows, of_object, unreached}
+use Rattle.zt_queries.proofs.OnceLaws.{exists-old, given-stays, has_leaked, leaked-begins, leaked-goes-on, next-follows, of_object, unreached}
 use Rattle.zt_queries.proofs.StayLaws.{all-on, begun, earlier-on, kept-on, on-child, on-parent}
 use Rattle.zt_queries.proofs.TreeTimes.{among-filter, filter-among, next-made, once}
 use Rattle.zt_queries.proofs.FirstLeakLaws.{one-last}
-use Rattle.zt_queries.proofs.NameLaws.{NamedBy, in_entry, in_message, named-by, message-names, out-named, lets-none, none-lets, out-stays, out-came, out-goes-on, plain-was, plain-before, plain-leaked}
+use Rattle.zt_queries.proofs.JobLaws.{bare-leaked}
+use Rattle.zt_queries.proofs.NameLaws.{NamedBy, in_entry, in_message, named-by, message-names, out-named, lets-none, none-lets, out-stays, out-came, out-goes-on, passive-leaked, stands_no_job, no_job-exists, passive-no_job, no_job-was, no_job-before, leaked-no-end}
 
 -- ---- the last of a list
 
@@ -116,6 +120,84 @@ latest f q (y ∷ ys) low best up (inr w) =
       | inr m ↦ inr (w.0, m, w.2)
     ])
 
+-- where none is behind q, the latest is not
+all-low : (f : ℕ → Option ℕ) (q : ℕ) (ys : List ℕ) → ((y : ℕ) → In y ys → (r : ℕ) → f y ≡ Some r → r ≤ q) → (best : Option ℕ) → ((r : ℕ) → best ≡ Some r → r ≤ q)
+    → (r : ℕ) → fold (λ b y. later b (f y)) best ys ≡ Some r → r ≤ q
+all-low f q [] low best up r e = up r e
+all-low f q (y ∷ ys) low best up r e = all-low f q ys (λ z m. low z (inr m)) (later best (f y)) (by_both q best (f y) up (low y (inl refl))) r e
+
+-- the latest is not before one of them
+later-up : (a b : Option ℕ) (r : ℕ) → (a ≡ Some r) ⊎ (b ≡ Some r) → (l : ℕ) × (later a b ≡ Some l) × (r ≤ l)
+later-up None b r (inl e) = none_is r e
+later-up None b r (inr e) = (r, e, omega arith)
+later-up (Some m) None r (inl e) = (m, refl, omega (arith, some_one m r e))
+later-up (Some m) None r (inr e) = none_is r e
+later-up (Some m) (Some n) r (inl e) = (max m n, refl, omega (arith, some_one m r e))
+later-up (Some m) (Some n) r (inr e) = (max m n, refl, omega (arith, some_one n r e))
+
+best-up : (f : ℕ → Option ℕ) (ys : List ℕ) (r : ℕ) (best : Option ℕ) → best ≡ Some r → (l : ℕ) × (fold (λ b y. later b (f y)) best ys ≡ Some l) × (r ≤ l)
+best-up f [] r best e = (r, e, omega arith)
+best-up f (y ∷ ys) r best e =
+    let u = later-up best (f y) r (inl e) in
+    let w = best-up f ys u.0 (later best (f y)) u.1 in
+    let a : r ≤ u.0 = u.2 in
+    let b : u.0 ≤ w.0 = w.2 in
+    (w.0, w.1, omega arith)
+
+fold-up : (f : ℕ → Option ℕ) (ys : List ℕ) (y : ℕ) → In y ys → (r : ℕ) → f y ≡ Some r → (best : Option ℕ) → (l : ℕ) × (fold (λ b y. later b (f y)) best ys ≡ Some l) × (r ≤ l)
+fold-up f [] y m r e best = absurd m
+fold-up f (z ∷ ys) y (inl same) r e best =
+    let u = later-up best (f z) r (inr (ap f (sym same) ∙ e)) in
+    let w = best-up f ys u.0 (later best (f z)) u.1 in
+    let a : r ≤ u.0 = u.2 in
+    let b : u.0 ≤ w.0 = w.2 in
+    (w.0, w.1, omega arith)
+fold-up f (z ∷ ys) y (inr m) r e best = fold-up f ys y m r e (later best (f z))
+
+-- it is one of them
+fold-one : (f : ℕ → Option ℕ) (P : ℕ → Type 0) (ys : List ℕ) → ((y : ℕ) → In y ys → (r : ℕ) → f y ≡ Some r → P r) → (best : Option ℕ) → ((r : ℕ) → best ≡ Some r → P r)
+    → (r : ℕ) → fold (λ b y. later b (f y)) best ys ≡ Some r → P r
+fold-one f P [] each best first r e = first r e
+fold-one f P (y ∷ ys) each best first r e = fold-one f P ys (λ z m. each z (inr m)) (later best (f y)) (λ q g. one q best (f y) g first (each y (inl refl))) r e
+  where
+    max-one : (m n q : ℕ) → max m n ≡ q → (m ≡ q) ⊎ (n ≡ q)
+    max-one m n q e = elim (cases_lt m n) [
+      | inl l ↦ inr (omega (arith, l, e))
+      | inr g ↦ inl (omega (arith, g, e))
+    ]
+
+    one : (q : ℕ) (a b : Option ℕ) → later a b ≡ Some q → ((r : ℕ) → a ≡ Some r → P r) → ((r : ℕ) → b ≡ Some r → P r) → P q
+    one q None b e g h = h q e
+    one q (Some m) None e g h = g q e
+    one q (Some m) (Some n) e g h = elim (max-one m n q (some_one (max m n) q e)) [
+      | inl s ↦ g q (ap Some s)
+      | inr s ↦ h q (ap Some s)
+    ]
+
+pub names-on : (made : List Made) (at : ℕ) (ends : List ℕ) (r : ℕ) → last_of_names made at ends ≡ Some r → among (path made at) r ≡ true
+unfolding last_let_go
+names-on made at ends r e =
+    fold-one (λ y. last_let_go y made at) (λ q. among (path made at) q ≡ true) ends
+    (λ y m q g. (filter-among (lets_go_at y made) (path made at) q (last-among (filter (lets_go_at y made) (path made at)) q g)).0) None (λ q g. none_is q g) r e
+
+-- nor is the last that passes
+last-up : (made : List Made) → Falls made → (P : ℕ → Bool) (r : ℕ) → P r ≡ true → (at : ℕ) → among (path made at) r ≡ true → (l : ℕ) × (last_or None (filter P (path made at)) ≡ Some l) × (r ≤ l)
+last-up made falls P r passes = by_parents made falls (λ at. among (path made at) r ≡ true → (l : ℕ) × (last_or None (filter P (path made at)) ≡ Some l) × (r ≤ l)) base step_up
+  where
+    base : among (path made 0) r ≡ true → (l : ℕ) × (last_or None (filter P (path made 0)) ≡ Some l) × (r ≤ l)
+    base on = absurd (true≢false (among (path made 0) r) on (ap (λ p. among p r) (path-opening made)))
+
+    step_up : (i : ℕ) → (among (path made (parent_at made (suc i))) r ≡ true → (l : ℕ) × (last_or None (filter P (path made (parent_at made (suc i)))) ≡ Some l) × (r ≤ l))
+        → among (path made (suc i)) r ≡ true → (l : ℕ) × (last_or None (filter P (path made (suc i))) ≡ Some l) × (r ≤ l)
+    step_up i rest on = by (P (suc i)) refl
+      where
+        by : (b : Bool) → P (suc i) ≡ b → (l : ℕ) × (last_or None (filter P (path made (suc i))) ≡ Some l) × (r ≤ l)
+        by true e = (suc i, one-more made falls P i ∙ ap (λ b. if b then Some (suc i) else last_or None (filter P (path made (parent_at made (suc i))))) e, among-early made falls (suc i) r on)
+        by false e =
+            let apart : r ≡ suc i → ⊥ = λ same. true≢false (P r) passes (ap P same ∙ e) in
+            let w = rest (sym (among-other made falls i r apart) ∙ on) in
+            (w.0, one-more made falls P i ∙ ap (λ b. if b then Some (suc i) else last_or None (filter P (path made (parent_at made (suc i))))) e ∙ w.1, w.2)
+
 -- ---- what is out of reach and was there
 
 abbrev is_out : State → ℕ → Bool
@@ -156,19 +238,23 @@ came-goes-on : (U : State) (y : ℕ) (S T : State) → IsConsistent S → IsCall
 came-goes-on U y S T c n s =
     (away-goes-on y S T c n s.0, λ e l m held there h same. s.1 e l m held (out-came S T c n y s.0.1 e l m held there h same) h same)
 
--- what was given out and is no task was none in the first state
-abbrev was_plain : State → ℕ → State → Type 0
-was_plain U y S = (y < next_koid S) × (stands_plain S y ≡ true → stands_plain U y ≡ true)
+-- what was given out and is there and no job was so in the first state
+abbrev was_no_job : State → ℕ → State → Type 0
+was_no_job U y S = (y < next_koid S) × (stands_no_job S y ≡ true → stands_no_job U y ≡ true)
 
-was_plain-goes-on : (U : State) (y : ℕ) (S T : State) → IsConsistent S → IsCallStep S T → was_plain U y S → was_plain U y T
-was_plain-goes-on U y S T c n s = (given-stays S T y (next-follows S T c n) s.0, λ p. s.1 (plain-was S T c n y s.0 p))
+was_no_job-goes-on : (U : State) (y : ℕ) (S T : State) → IsConsistent S → IsCallStep S T → was_no_job U y S → was_no_job U y T
+was_no_job-goes-on U y S T c n s = (given-stays S T y (next-follows S T c n) s.0, λ p. s.1 (no_job-was S T c n y s.0 p))
 
-plain-exists : (S : State) (y : ℕ) → stands_plain S y ≡ true → exists S y ≡ true
-plain-exists S y p = let w = of_object is_plain (object S y) p in exists-some S y w.0 w.1
+-- what was given out and is there was so in the first state
+abbrev was_there : State → ℕ → State → Type 0
+was_there U y S = (y < next_koid S) × (exists S y ≡ true → exists U y ≡ true)
+
+was_there-goes-on : (U : State) (y : ℕ) (S T : State) → IsConsistent S → IsCallStep S T → was_there U y S → was_there U y T
+was_there-goes-on U y S T c n s = (given-stays S T y (next-follows S T c n) s.0, λ e. s.1 (exists-old S T y (next-follows S T c n) s.0 e))
 
 -- ---- from one moment of a path on
 
-module _ (made : List Made) (are : AreMoments made) (at x : ℕ) (within : at ≤ length made) (ends : List ℕ) (s : IsNameSearch (state_at made at) x ends) (plain : stands_plain (state_at made at) x ≡ true) where
+module _ (made : List Made) (are : AreMoments made) (at x : ℕ) (within : at ≤ length made) (ends : List ℕ) (s : IsNameSearch (state_at made at) x ends) (there_now : exists (state_at made at) x ≡ true) where
   abbrev S : State
   S = state_at made at
 
@@ -238,30 +324,63 @@ module _ (made : List Made) (are : AreMoments made) (at x : ℕ) (within : at �
         kept-on made are (has_leaked x) (λ S T c n p. leaked-goes-on S T x c n p) (suc i) (leaked-begins T x (consistent (suc i) on) leaked-then) m
         (omega (arith, among-early made are.falls at m on_m, within)) later
 
-    plain-then : (m : ℕ) → among (path made at) m ≡ true → among (path made m) (suc i) ≡ true → stands_plain (state_at made m) x ≡ true
-    plain-then m on_m later =
-        (kept-on made are (was_plain (state_at made m) x) (was_plain-goes-on (state_at made m) x) m ((leads m on_m later).0, λ p. p) at within on_m).1 plain
+    no_job-then : stands_passive S x ≡ true → (m : ℕ) → among (path made at) m ≡ true → among (path made m) (suc i) ≡ true → stands_no_job (state_at made m) x ≡ true
+    no_job-then passive m on_m later =
+        (kept-on made are (was_no_job (state_at made m) x) (was_no_job-goes-on (state_at made m) x) m ((leads m on_m later).0, λ p. p) at within on_m).1 (passive-no_job S x passive)
+
+    there-then : (m : ℕ) → among (path made at) m ≡ true → among (path made m) (suc i) ≡ true → exists (state_at made m) x ≡ true
+    there-then m on_m later =
+        (kept-on made are (was_there (state_at made m) x) (was_there-goes-on (state_at made m) x) m ((leads m on_m later).0, λ e. e) at within on_m).1 there_now
 
     -- from then on all of these are out of reach
     all-out : (m : ℕ) → among (path made at) m ≡ true → among (path made m) (suc i) ≡ true → (y : ℕ) → among ends y ≡ true → is_out (state_at made m) y ≡ true
     all-out m on_m later y h =
         s.above (is_out (state_at made m)) (holds-out m on_m)
-        (and_both (exists (state_at made m) x) _ (plain-exists (state_at made m) x (plain-then m on_m later)) (ap not (unreached (state_at made m) x (consistent m on_m) (leads m on_m later))))
+        (and_both (exists (state_at made m) x) _ (there-then m on_m later) (ap not (unreached (state_at made m) x (consistent m on_m) (leads m on_m later))))
         y h
 
-    -- none of them loses a name later
+    -- ---- a later moment
+
+    module _ (j : ℕ) (low : suc i < suc j) (on_r : among (path made at) (suc j) ≡ true) where
+      abbrev up : ℕ
+      up = parent_at made (suc j)
+
+      later_on : among (path made (suc j)) (suc i) ≡ true
+      later_on = earlier-on made are.falls (suc i) (suc j) (omega (arith, low)) at on on_r
+
+      later_up : among (path made up) (suc i) ≡ true
+      later_up = on-parent made are.falls j (suc i) low later_on
+
+      on_up : among (path made at) up ≡ true
+      on_up = all-on made are.falls up (suc j) (on-child made are.falls j up (own up (suc i) later_up)) at on_r
+
+      steps_up : IsCallStep (state_at made up) (state_at made (suc j))
+      steps_up =
+          let inside : suc j ≤ length made = omega (arith, among-early made are.falls at (suc j) on_r, within) in
+          let e = made-there made are j inside in
+          next-made made are (leaked 0) j e.0 e.1
+
+      -- none of them loses a name then
+      none-then : (y : ℕ) → among ends y ≡ true → lets_go_at y made (suc j) ≡ false
+      none-then y h =
+          lets-none y (state_at made up) (state_at made (suc j))
+          (out-stays (state_at made up) (state_at made (suc j)) (consistent up on_up) steps_up y (out-unreached (state_at made up) y (all-out up on_up later_up y h)))
+
+      -- nor does the object end
+      no-end-then : stands_passive S x ≡ true → shows_at turn.Ended x made (suc j) ≡ false
+      no-end-then passive =
+          leaked-no-end (state_at made up) (state_at made (suc j)) (consistent up on_up) steps_up x (no_job-then passive (suc j) on_r later_on)
+          ((leads up on_up later_up).1 (there-then up on_up later_up))
+
     none-later : (r : ℕ) → among (path made at) r ≡ true → suc i < r → (y : ℕ) → among ends y ≡ true → lets_go_at y made r ≡ false
     none-later zero on_r low y h = absurd (omega (arith, low))
-    none-later (suc j) on_r low y h =
-        let up : ℕ = parent_at made (suc j) in
-        let inside : suc j ≤ length made = omega (arith, among-early made are.falls at (suc j) on_r, within) in
-        let later : among (path made up) (suc i) ≡ true = on-parent made are.falls j (suc i) low (earlier-on made are.falls (suc i) (suc j) (omega (arith, low)) at on on_r) in
-        let on_up : among (path made at) up ≡ true = all-on made are.falls up (suc j) (on-child made are.falls j up (own up (suc i) later)) at on_r in
-        let e = made-there made are j inside in
-        lets-none y (state_at made up) (state_at made (suc j))
-        (out-stays (state_at made up) (state_at made (suc j)) (consistent up on_up) (next-made made are (leaked 0) j e.0 e.1) y (out-unreached (state_at made up) y (all-out up on_up later y h)))
+    none-later (suc j) on_r low y h = none-then j low on_r y h
 
-    -- ---- one of them lost a name then
+    no-end-later : stands_passive S x ≡ true → (r : ℕ) → among (path made at) r ≡ true → suc i < r → shows_at turn.Ended x made r ≡ false
+    no-end-later passive zero on_r low = absurd (omega (arith, low))
+    no-end-later passive (suc j) on_r low = no-end-then j low on_r passive
+
+    -- ---- one of them lost a name then, or the object ended
 
     itself : among (path made (suc i)) (suc i) ≡ true
     itself = among-self made are.falls i
@@ -271,6 +390,9 @@ module _ (made : List Made) (are : AreMoments made) (at x : ℕ) (within : at �
 
     steps : IsCallStep P T
     steps = let e = made-there made are i there in next-made made are (leaked 0) i e.0 e.1
+
+    unleaked-before : is_leaked P x ≡ false
+    unleaked-before = off (is_leaked P x) (and_left (not (is_leaked P x)) (is_leaked T x) leaks)
 
     abbrev others : ℕ → Bool
     others y = not (among ends y)
@@ -306,20 +428,24 @@ module _ (made : List Made) (are : AreMoments made) (at x : ℕ) (within : at �
             no_member held.koid (λ g. true≢false (among ends e) (at_member e l m was held h g) (off (among ends e) out)));
       }
 
-      not-then : ⊥
-      not-then =
-          let out : among (reached P) x ≡ false = not_true (among (reached P) x) (λ t. true≢false (among ends x) s.itself (off (among ends x) (reached-least P others closed x t))) in
-          let was : stands_plain P x ≡ true = plain-before P T before steps x (plain-then (suc i) on itself) (out-then x s.itself) in
-          true≢false (is_leaked P x) (plain-leaked P before x was out) (off (is_leaked P x) (and_left (not (is_leaked P x)) (is_leaked T x) leaks))
+      out-before : among (reached P) x ≡ false
+      out-before = not_true (among (reached P) x) (λ t. true≢false (among ends x) s.itself (off (among ends x) (reached-least P others closed x t)))
 
-    one-then : (y : ℕ) × In y ends × (lets_go_at y made (suc i) ≡ true)
-    one-then = by (list_any (λ y. lets_go_at y made (suc i)) ends) refl
+      ends-then : stands_passive S x ≡ true → shows_at turn.Ended x made (suc i) ≡ true
+      ends-then passive =
+          elim (no_job-before P T before steps x (no_job-then passive (suc i) on itself) leaked-then out-before) [
+            | inl was ↦ absurd (true≢false (is_leaked P x) was unleaked-before)
+            | inr over ↦ over
+          ]
+
+    one-then : stands_passive S x ≡ true → (shows_at turn.Ended x made (suc i) ≡ true) ⊎ ((y : ℕ) × In y ends × (lets_go_at y made (suc i) ≡ true))
+    one-then passive = by (list_any (λ y. lets_go_at y made (suc i)) ends) refl
       where
-        by : (b : Bool) → list_any (λ y. lets_go_at y made (suc i)) ends ≡ b → (y : ℕ) × In y ends × (lets_go_at y made (suc i) ≡ true)
-        by true t = in-list_any (λ y. lets_go_at y made (suc i)) ends t
+        by : (b : Bool) → list_any (λ y. lets_go_at y made (suc i)) ends ≡ b → (shows_at turn.Ended x made (suc i) ≡ true) ⊎ ((y : ℕ) × In y ends × (lets_go_at y made (suc i) ≡ true))
+        by true t = inr (in-list_any (λ y. lets_go_at y made (suc i)) ends t)
         by false f =
-            absurd (not-then (λ y h. not_true (lets_go_at y made (suc i)) (λ t.
-            true≢false (list_any (λ z. lets_go_at z made (suc i)) ends) (list_any-in (λ z. lets_go_at z made (suc i)) y ends (among-in y ends h) t) f)))
+            inl (ends-then (λ y h. not_true (lets_go_at y made (suc i)) (λ t.
+            true≢false (list_any (λ z. lets_go_at z made (suc i)) ends) (list_any-in (λ z. lets_go_at z made (suc i)) y ends (among-in y ends h) t) f)) passive)
 
     -- ---- what was found
 
@@ -329,14 +455,29 @@ module _ (made : List Made) (are : AreMoments made) (at x : ℕ) (within : at �
       | inr g ↦ omega (arith, g)
     ]
 
-    found-then : last_of_all made at ends ≡ Some (suc i)
+    no-later-end : stands_passive S x ≡ true → (r : ℕ) → among (path made at) r ≡ true → shows_at turn.Ended x made r ≡ true → r ≤ suc i
+    no-later-end passive r on_r over = elim (cases_lt (suc i) r) [
+      | inl l ↦ absurd (true≢false (shows_at turn.Ended x made r) over (no-end-later passive r on_r l))
+      | inr g ↦ omega (arith, g)
+    ]
+
+    names-low : (y : ℕ) → In y ends → (r : ℕ) → last_let_go y made at ≡ Some r → r ≤ suc i
     unfolding last_let_go
-    found-then =
-        latest (λ y. last_let_go y made at) (suc i) ends
-        (λ y h r e. let w = filter-among (lets_go_at y made) (path made at) r (last-among (filter (lets_go_at y made) (path made at)) r e) in no-later y (in-among y ends h) r w.0 w.1)
-        None
-        (λ r e. none_is r e)
-        (inr (one-then.0, one-then.1, last-found made are.falls (lets_go_at one-then.0 made) (suc i) one-then.2 at on (no-later one-then.0 (in-among one-then.0 ends one-then.1))))
+    names-low y h r e = let w = filter-among (lets_go_at y made) (path made at) r (last-among (filter (lets_go_at y made) (path made at)) r e) in no-later y (in-among y ends h) r w.0 w.1
+
+    end-low : stands_passive S x ≡ true → (r : ℕ) → last_shown turn.Ended x made at ≡ Some r → r ≤ suc i
+    unfolding last_shown
+    end-low passive r e = let w = filter-among (shows_at turn.Ended x made) (path made at) r (last-among (filter (shows_at turn.Ended x made) (path made at)) r e) in no-later-end passive r w.0 w.1
+
+    found-then : stands_passive S x ≡ true → last_of_all made at x ends ≡ Some (suc i)
+    unfolding last_let_go last_shown
+    found-then passive = elim (one-then passive) [
+      | inl over ↦ later-first (suc i) (last_shown turn.Ended x made at) (last_of_names made at ends)
+          (last-found made are.falls (shows_at turn.Ended x made) (suc i) over at on (no-later-end passive)) (all-low (λ y. last_let_go y made at) (suc i) ends names-low None (λ r e. none_is r e))
+      | inr goes ↦ later-second (suc i) (last_shown turn.Ended x made at) (last_of_names made at ends)
+          (latest (λ y. last_let_go y made at) (suc i) ends names-low None (λ r e. none_is r e)
+          (inr (goes.0, goes.1, last-found made are.falls (lets_go_at goes.0 made) (suc i) goes.2 at on (no-later goes.0 (in-among goes.0 ends goes.1))))) (end-low passive)
+    ]
 
   -- ---- the moment at which it was leaked
 
@@ -350,21 +491,104 @@ module _ (made : List Made) (are : AreMoments made) (at x : ℕ) (within : at �
       no_wait : (p h : ℕ) → waits_at ends (key.Entry p h) ≡ true → ⊥
       no_wait p h e = cc
 
-  leaked-now : is_leaked S x ≡ true
-  leaked-now =
-      plain-leaked S last-consistent x plain (not_true (among (reached S) x) (λ t.
-      true≢false (among ends x) s.itself (off (among ends x) (reached-least S (λ y. not (among ends y)) others_of x t))))
+  unreached-now : among (reached S) x ≡ false
+  unreached-now = not_true (among (reached S) x) (λ t. true≢false (among ends x) s.itself (off (among ends x) (reached-least S (λ y. not (among ends y)) others_of x t)))
 
-  pub leaked-by : last_on (happens happening.Leaked x) made at ≡ last_of_all made at ends
+  -- where it is leaked at the end, the moment at which it was is the one of which that is shown
+  one-leak : (m : ℕ) → is_leaked S x ≡ true → ((i : ℕ) → among (path made at) (suc i) ≡ true → at_moment (leaked x) made (suc i) ≡ true → m ≡ suc i)
+      → last_on (happens happening.Leaked x) made at ≡ Some m
   unfolding last_on
-  leaked-by = let b = begun made are.falls x at leaked-now in by b.0 b.1 b.2
+  one-leak m now is = let b = begun made are.falls x at now in by b.0 b.1 b.2
     where
       unmade : (b : Bool) → (not b && b) ≡ true → ⊥
       unmade true e = cc
       unmade false e = cc
 
-      by : (q : ℕ) → among (path made at) q ≡ true → at_moment (leaked x) made q ≡ true → last_or None (filter (at_moment (leaked x) made) (path made at)) ≡ last_of_all made at ends
+      by : (q : ℕ) → among (path made at) q ≡ true → at_moment (leaked x) made q ≡ true → last_or None (filter (at_moment (leaked x) made) (path made at)) ≡ Some m
       by zero on leaks = absurd (unmade (is_leaked (state_at made 0) x) leaks)
       by (suc i) on leaks =
           one-last (filter (at_moment (leaked x) made) (path made at)) (suc i) (once made are at within x happening.Leaked) (among-filter (at_moment (leaked x) made) (path made at) (suc i) on leaks)
-          ∙ sym (found-then i on leaks)
+          ∙ ap Some (sym (is i on leaks))
+
+  pub leaked-by : stands_passive S x ≡ true → last_on (happens happening.Leaked x) made at ≡ last_of_all made at x ends
+  unfolding last_on
+  leaked-by passive = let b = begun made are.falls x at (passive-leaked S last-consistent x passive unreached-now) in by b.0 b.1 b.2
+    where
+      unmade : (b : Bool) → (not b && b) ≡ true → ⊥
+      unmade true e = cc
+      unmade false e = cc
+
+      by : (q : ℕ) → among (path made at) q ≡ true → at_moment (leaked x) made q ≡ true → last_or None (filter (at_moment (leaked x) made) (path made at)) ≡ last_of_all made at x ends
+      by zero on leaks = absurd (unmade (is_leaked (state_at made 0) x) leaks)
+      by (suc i) on leaks =
+          one-last (filter (at_moment (leaked x) made) (path made at)) (suc i) (once made are at within x happening.Leaked) (among-filter (at_moment (leaked x) made) (path made at) (suc i) on leaks)
+          ∙ sym (found-then i on leaks passive)
+
+  -- ---- a job that is bare from a moment on
+
+  module _ (no_root : (x == root_job) ≡ false) (m : ℕ) (on_m : among (path made at) m ≡ true) (low : (r : ℕ) → last_of_names made at ends ≡ Some r → r ≤ m)
+      (bare : IsBareFrom made at x m) where
+    bare-out : (n : ℕ) → among (path made at) n ≡ true → m ≤ n → among (reached (state_at made n)) x ≡ false → is_leaked (state_at made n) x ≡ true
+    bare-out n on_n up out =
+        let w = of_object is_bare (object (state_at made n) x) (bare n on_n up) in
+        bare-leaked (state_at made n) (consistent n on_n) x w.0 w.1 w.2 no_root out
+
+    -- every name that went did so up to that moment
+    none-behind : (i : ℕ) → among (path made at) (suc i) ≡ true → m < suc i → (y : ℕ) → among ends y ≡ true → lets_go_at y made (suc i) ≡ false
+    unfolding last_let_go
+    none-behind i on high y h = not_true (lets_go_at y made (suc i)) (λ t.
+        let l = last-up made are.falls (lets_go_at y made) (suc i) t at on in
+        let f = fold-up (λ z. last_let_go z made at) ends y (among-in y ends h) l.0 (last-is y l.0 l.1) None in
+        let a : suc i ≤ l.0 = l.2 in
+        let b : l.0 ≤ f.0 = f.2 in
+        let c : f.0 ≤ m = low f.0 f.1 in
+        omega arith)
+      where
+        last-is : (z r : ℕ) → last_or None (filter (lets_go_at z made) (path made at)) ≡ Some r → last_let_go z made at ≡ Some r
+        last-is z r e = e
+
+    not-behind : (i : ℕ) → among (path made at) (suc i) ≡ true → at_moment (leaked x) made (suc i) ≡ true → suc i ≤ m
+    not-behind i on leaks = elim (cases_lt m (suc i)) [
+      | inl l ↦
+          let up : ℕ = parent_at made (suc i) in
+          let later : among (path made up) m ≡ true = on-parent made are.falls i m l (earlier-on made are.falls m (suc i) (omega (arith, l)) at on_m on) in
+          let on_up : among (path made at) up ≡ true = all-on made are.falls up (suc i) (on-child made are.falls i up (own up m later)) at on in
+          absurd (true≢false (is_leaked (state_at made up) x)
+          (bare-out up on_up (among-early made are.falls up m later) (out-before i on leaks (none-behind i on l)))
+          (unleaked-before i on leaks))
+      | inr g ↦ omega (arith, g)
+    ]
+
+    now-leaked : is_leaked S x ≡ true
+    now-leaked = bare-out at (own at m on_m) (among-early made are.falls at m on_m) unreached-now
+
+    pub bare-by-names : last_of_names made at ends ≡ Some m → last_on (happens happening.Leaked x) made at ≡ Some m
+    bare-by-names is = one-leak m now-leaked (λ i on leaks.
+        let a : suc i ≤ m = not-behind i on leaks in
+        let b : m ≤ suc i = all-low (λ y. last_let_go y made at) (suc i) ends (names-low i on leaks) None (λ r e. none_is r e) m is in
+        omega arith)
+
+    pub bare-by-child : is_leaked (state_at made (parent_at made m)) x ≡ false → last_on (happens happening.Leaked x) made at ≡ Some m
+    bare-by-child kept = one-leak m now-leaked (λ i on leaks.
+        let a : suc i ≤ m = not-behind i on leaks in
+        elim (cases_lt (suc i) m) [
+          | inl l ↦ absurd (crossed m on_m i on leaks l kept)
+          | inr g ↦ omega (arith, g, a)
+        ])
+      where
+        crossed : (m : ℕ) → among (path made at) m ≡ true → (i : ℕ) (on : among (path made at) (suc i) ≡ true) (leaks : at_moment (leaked x) made (suc i) ≡ true) → suc i < m → is_leaked (state_at made (parent_at made m)) x ≡ false → ⊥
+        crossed zero on_r i on leaks l kept = omega (arith, l)
+        crossed (suc j) on_r i on leaks l kept =
+            true≢false (is_leaked (state_at made (parent_at made (suc j))) x)
+            ((leads i on leaks (parent_at made (suc j)) (on_up i on leaks j l on_r) (later_up i on leaks j l on_r)).1
+            (there-then i on leaks (parent_at made (suc j)) (on_up i on leaks j l on_r) (later_up i on leaks j l on_r)))
+            kept
+
+-- the same as it is found
+pub told-by : (made : List Made) (are : AreMoments made) (at x : ℕ) (within : at ≤ length made) → stands_passive (state_at made at) x ≡ true
+    → (latest ended told : Option ℕ) → IsLastOfNames made at x latest → ended ≡ last_shown turn.Ended x made at → told ≡ later ended latest → last_on (happens happening.Leaked x) made at ≡ told
+told-by made are at x within passive latest ended told names is_end is =
+    leaked-by made are at x within names.ends names.search (no_job-exists (state_at made at) x (passive-no_job (state_at made at) x passive)) passive
+    ∙ ap (λ o. later o (last_of_names made at names.ends)) (sym is_end)
+    ∙ ap (later ended) (sym names.last)
+    ∙ sym is

@@ -20,6 +20,8 @@ pub mod FirstLeakLaws
 pub mod StayLaws
 pub mod NeverLaws
 pub mod NameLaws
+pub mod JobLaws
 pub mod LetGoLaws
+pub mod BareLaws
 pub mod NameSearchLaws
 pub mod RecordReachLaws

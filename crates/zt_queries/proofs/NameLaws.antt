@@ -1,5 +1,6 @@
 -- What a call does to the rows that name an object out of reach: none of them goes, and none comes. An object that is neither
--- a job nor a process is leaked where it is out of reach.
+-- a job nor a process that runs is leaked where it is out of reach; and what is no job and leaked was so before the call, or it
+-- was reached there, or the call ended it.
 use Rattle.std.proofs.Common.{◌≡◌, ◌<◌, ℕ, suc, ◌+◌, Bool, true, false, not, ◌&&◌, ◌||◌, List, ◌⊎◌, inl, inr, refl, sym, ap, ◌∙◌, subst, arith}
 use Rattle.std.specs.Prelude.{Option, None, Some, ◌==◌}
 use Rattle.std.specs.List.{list_any}
@@ -24,17 +25,19 @@ use Rattle.zt_rows.specs.Consistent.{IsSound, IsConsistent}
 use Rattle.zt_rows.proofs.RowLaws.{In, row-in, in-row, list_any-in, in-list_any, or_true, and_left, and_right, and_both, true≢false, not_true}
 use Rattle.zt_rows.proofs.ReadLaws.{some_one, exists-some, kind_at-some, message-row}
 use Rattle.zt_rows.proofs.SupportLaws.{KeptBy, by_entry, by_message, by_child, by_itself, supported-kept}
-use Rattle.zt_rows.proofs.SoundLaws.{runs-some}
+use Rattle.zt_rows.proofs.SoundLaws.{runs-some, some-runs}
 use Rattle.zt_rows.proofs.AboveLaws.{above-live}
-use Rattle.zt_queries.specs.Happenings.{IsCallStep}
+use Rattle.zt_queries.specs.Happenings.{lives, ended, IsCallStep}
 use Rattle.zt_queries.specs.Leaks.{is_leaked}
 use Rattle.zt_queries.specs.Reachability.{reached}
 use Rattle.zt_history.specs.LetGo.{names, lets_go}
-use Rattle.zt_queries.specs.ProofsOnly.NameSearch.{is_plain, stands_plain, HoldsEndpoints, AreAbove}
+use Rattle.zt_queries.specs.ProofsOnly.NameSearch.{is_passive, stands_passive, HoldsEndpoints, AreAbove}
+use Rattle.zt_queries.specs.ProofsOnly.FirstLeak.{is_passing_kind}
 use Rattle.zt_queries.proofs.ReachLaws.{in-among, all-in, entry-reached, message-reached}
-use Rattle.zt_queries.proofs.FollowLaws.{AllReached, Follows, low-koid}
-use Rattle.zt_queries.proofs.LeakLaws.{in-upward, later-reached, leaked-lost, lost-leaked, strayed-reads, step-added}
-use Rattle.zt_queries.proofs.OnceLaws.{next-consistent, next-follows, of_object, reached-there, was-old}
+use Rattle.zt_queries.proofs.FollowLaws.{Aged, AllReached, Follows, low-koid}
+use Rattle.zt_queries.proofs.LeakLaws.{Lost, in-upward, later-reached, leaked-lost, lost-leaked, strayed-reads, step-added}
+use Rattle.zt_queries.proofs.NeverLaws.{passes, passing-lives}
+use Rattle.zt_queries.proofs.OnceLaws.{next-consistent, next-follows, of_object, off, reached-there, was-old}
 
 -- ---- the rows that name an object
 
@@ -117,31 +120,15 @@ none-lets y S T none there k e = by (row S k) refl e
 
 -- ---- kinds
 
-pub plain-kind : (k : Kind) → not (is_task k) ≡ true → is_task k ≡ false
-plain-kind kind.Job e = cc
-plain-kind kind.Process e = cc
-plain-kind kind.Channel e = refl
-plain-kind kind.Event e = refl
-plain-kind kind.EventPair e = refl
-plain-kind kind.Port e = refl
+passing-kind : (k : Kind) → is_job k ≡ false → is_process k ≡ false → is_passing_kind k ≡ true
+passing-kind kind.Job e f = cc
+passing-kind kind.Process e f = cc
+passing-kind kind.Channel e f = refl
+passing-kind kind.Event e f = refl
+passing-kind kind.EventPair e f = refl
+passing-kind kind.Port e f = refl
 
-job-task : (k : Kind) → is_job k ≡ true → is_task k ≡ true
-job-task kind.Job e = refl
-job-task kind.Process e = cc
-job-task kind.Channel e = cc
-job-task kind.Event e = cc
-job-task kind.EventPair e = cc
-job-task kind.Port e = cc
-
-process-task : (k : Kind) → is_process k ≡ true → is_task k ≡ true
-process-task kind.Process e = refl
-process-task kind.Job e = cc
-process-task kind.Channel e = cc
-process-task kind.Event e = cc
-process-task kind.EventPair e = cc
-process-task kind.Port e = cc
-
-task-ends : (k : Kind) → is_task k ≡ true → is_endpoint k ≡ false
+pub task-ends : (k : Kind) → is_task k ≡ true → is_endpoint k ≡ false
 task-ends kind.Job e = refl
 task-ends kind.Process e = refl
 task-ends kind.Channel e = cc
@@ -149,7 +136,7 @@ task-ends kind.Event e = cc
 task-ends kind.EventPair e = cc
 task-ends kind.Port e = cc
 
--- ---- what is out of reach and no task is leaked
+-- ---- what is out of reach, and neither a job nor a process that runs, is leaked
 
 -- what is above a task is a live job
 above-job : (S : State) → IsSound S → (y : ℕ) (o : ObjectRow) → object S y ≡ Some o → is_task o.kind ≡ true → (x : ℕ) → In x (chain S y) → (q : ObjectRow) × (object S x ≡ Some q) × (is_live_job q ≡ true)
@@ -172,7 +159,7 @@ above-job S sound y o there task x m = by (is_live_job o || is_live_process o) r
         let same : link_at S y ≡ o.link = ap object_link there in
         absurd (omega arith)
 
-keeps-task : (k : Kind) (b c : Bool) → ((is_process k && b) || (is_job k && c)) ≡ true → is_task k ≡ true
+pub keeps-task : (k : Kind) (b c : Bool) → ((is_process k && b) || (is_job k && c)) ≡ true → is_task k ≡ true
 keeps-task kind.Job b c e = refl
 keeps-task kind.Process b c e = refl
 keeps-task kind.Channel b c e = cc
@@ -180,23 +167,28 @@ keeps-task kind.Event b c e = cc
 keeps-task kind.EventPair b c e = cc
 keeps-task kind.Port b c e = cc
 
-pub plain-leaked : (S : State) → IsConsistent S → (x : ℕ) → stands_plain S x ≡ true → among (reached S) x ≡ false → is_leaked S x ≡ true
-plain-leaked S c x p out =
+pub passive-leaked : (S : State) → IsConsistent S → (x : ℕ) → stands_passive S x ≡ true → among (reached S) x ≡ false → is_leaked S x ≡ true
+passive-leaked S c x p out =
     lost-leaked S x (record {
       there = exists-some S x at.0 at.1;
       unreached = out;
-      not_root = not_true (x == root_job) (λ t. let w = kind_at-some S root_job kind.Job c.sound.root in plain w.0 (ap (object S) (eqb-true x root_job t) ∙ w.1) (ap is_task w.2));
-      not_running = not_true (runs S x) (λ t. let w = runs-some S x t in plain w.0 w.1 (process-task w.0.kind (and_left (is_process w.0.kind) _ w.2)));
+      not_root = not_true (x == root_job) (λ t. let w = kind_at-some S root_job kind.Job c.sound.root in no-job w.0 (ap (object S) (eqb-true x root_job t) ∙ w.1) (ap is_job w.2));
+      not_running = not_true (runs S x) (λ t.
+          let w = runs-some S x t in
+          true≢false (is_live_process w.0) w.2 (off (is_live_process w.0) (and_right (not (is_job w.0.kind)) _ (passive w.0 w.1))));
       not_above = λ y o there keeps l.
           let w = above-job S c.sound y o there (keeps-task o.kind (is_live o.life) (among (reached S) y) keeps) x l in
-          plain w.0 w.1 (job-task w.0.kind (and_left (is_job w.0.kind) _ w.2));
+          no-job w.0 w.1 (and_left (is_job w.0.kind) _ w.2);
     })
   where
-    at : (o : ObjectRow) × (object S x ≡ Some o) × (is_plain o ≡ true)
-    at = of_object is_plain (object S x) p
+    at : (o : ObjectRow) × (object S x ≡ Some o) × (is_passive o ≡ true)
+    at = of_object is_passive (object S x) p
 
-    plain : (o : ObjectRow) → object S x ≡ Some o → is_task o.kind ≡ true → ⊥
-    plain o there t = true≢false (is_task o.kind) t (plain-kind o.kind (ap (λ (z : ObjectRow). is_plain z) (some_one o at.0 (sym there ∙ at.1)) ∙ at.2))
+    passive : (o : ObjectRow) → object S x ≡ Some o → is_passive o ≡ true
+    passive o there = ap (λ (z : ObjectRow). is_passive z) (some_one o at.0 (sym there ∙ at.1)) ∙ at.2
+
+    no-job : (o : ObjectRow) → object S x ≡ Some o → is_job o.kind ≡ true → ⊥
+    no-job o there t = true≢false (is_job o.kind) t (off (is_job o.kind) (and_left (not (is_job o.kind)) _ (passive o there)))
 
 -- what is above a leaked object is leaked with it
 pub above-leaked : (S : State) → IsConsistent S → (x : ℕ) (ends : List ℕ) → AreAbove S x ends → (y : ℕ) → among ends y ≡ true → is_leaked S x ≡ true → is_leaked S y ≡ true
@@ -210,8 +202,26 @@ above-leaked S c x ends above y there leaks = above (is_leaked S) holds leaks y 
     holds e n z named out =
         let w = out-named S c.sound z (leaked-lost S z out).unreached (key.Msg e n) named in
         let o = kind_at-some S w.0 kind.Channel (c.sound.of_messages w.0 w.1 w.3 w.4).owner in
-        let plain : stands_plain S w.0 ≡ true = ap (on_object is_plain) o.1 ∙ ap (λ (k : Kind). not (is_task k)) o.2 in
-        subst (λ v. is_leaked S v ≡ true) (sym (ap owner w.2)) (plain-leaked S c w.0 plain w.6)
+        let passive : stands_passive S w.0 ≡ true = ap (on_object is_passive) o.1 ∙ ap (λ (k : Kind). not (is_job k) && not (is_process k && is_live o.0.life)) o.2 in
+        subst (λ v. is_leaked S v ≡ true) (sym (ap owner w.2)) (passive-leaked S c w.0 passive w.6)
+
+-- ---- what is no job
+
+abbrev no_job : ObjectRow → Bool
+no_job o = not (is_job o.kind)
+
+-- the object is there, and is no job
+abbrev pub stands_no_job : State → ℕ → Bool
+stands_no_job S x = on_object no_job (object S x)
+
+pub no_job-exists : (S : State) (y : ℕ) → stands_no_job S y ≡ true → exists S y ≡ true
+no_job-exists S y p = let w = of_object no_job (object S y) p in exists-some S y w.0 w.1
+
+pub passive-no_job : (S : State) (y : ℕ) → stands_passive S y ≡ true → stands_no_job S y ≡ true
+passive-no_job S y p = let w = of_object is_passive (object S y) p in ap (on_object no_job) w.1 ∙ and_left (not (is_job w.0.kind)) _ w.2
+
+abbrev living : ObjectRow → Bool
+living o = is_live o.life
 
 -- ---- one call
 
@@ -247,23 +257,24 @@ module _ (S T : State) (c : IsConsistent S) (n : IsCallStep S T) where
   pub out-goes-on : (y : ℕ) → y < next_koid S → among (reached S) y ≡ false → among (reached T) y ≡ false
   out-goes-on y low out = not_true (among (reached T) y) (λ t. true≢false (among (reached S) y) (later-reached S T c.sound follows y low t) out)
 
-  -- ---- what is no task
+  -- ---- what is no job
 
-  pub plain-was : (y : ℕ) → y < next_koid S → stands_plain T y ≡ true → stands_plain S y ≡ true
-  plain-was y low e =
-      let w = of_object is_plain (object T y) e in
+  -- it was none
+  pub no_job-was : (y : ℕ) → y < next_koid S → stands_no_job T y ≡ true → stands_no_job S y ≡ true
+  no_job-was y low e =
+      let w = of_object no_job (object T y) e in
       let o = was-old S T y follows low w.0 w.1 in
-      ap (on_object is_plain) o.1 ∙ ap (λ (k : Kind). not (is_task k)) (sym o.2.kind) ∙ w.2
+      ap (on_object no_job) o.1 ∙ ap (λ (k : Kind). not (is_job k)) (sym o.2.kind) ∙ w.2
 
-  -- an object that is no task and out of reach was there before the call: what a call makes is named by an entry
-  plain-there : (y : ℕ) → stands_plain T y ≡ true → among (reached T) y ≡ false → exists S y ≡ true
-  plain-there y p out = by (supported-kept T y (after.supported y (exists-some T y at.0 at.1)))
+  -- where it is leaked it was there before the call: what a call makes is named by an entry
+  no_job-there : (y : ℕ) → stands_no_job T y ≡ true → is_leaked T y ≡ true → exists S y ≡ true
+  no_job-there y p leaks = by (supported-kept T y (after.supported y lost.there))
     where
-      at : (o : ObjectRow) × (object T y ≡ Some o) × (is_plain o ≡ true)
-      at = of_object is_plain (object T y) p
+      lost : Lost T y
+      lost = leaked-lost T y leaks
 
-      plain : (o : ObjectRow) → object T y ≡ Some o → is_task o.kind ≡ true → ⊥
-      plain o there t = true≢false (is_task o.kind) t (plain-kind o.kind (ap (λ (z : ObjectRow). is_plain z) (some_one o at.0 (sym there ∙ at.1)) ∙ at.2))
+      at : (o : ObjectRow) × (object T y ≡ Some o) × (no_job o ≡ true)
+      at = of_object no_job (object T y) p
 
       sent : (e l : ℕ) (m : MessageContent) (held : Held) → In held m.handles → held.koid ≡ y → (message S e l ≡ Some m) ⊎ AllReached S m.handles → exists S y ≡ true
       sent e l m held h same (inl was) =
@@ -272,16 +283,55 @@ module _ (S T : State) (c : IsConsistent S) (n : IsCallStep S T) where
           ap (exists S) (sym same) ∙ reached-there S c.sound held.koid (all-in (λ (g : Held). among (reached S) g.koid ≡ true) m.handles all held h)
 
       by : KeptBy T y → exists S y ≡ true
-      by (by_entry p h held there same) = absurd (true≢false (among (reached T) y) (ap (among (reached T)) (sym same) ∙ entry-reached T p h held there) out)
+      by (by_entry p h held there same) = absurd (true≢false (among (reached T) y) (ap (among (reached T)) (sym same) ∙ entry-reached T p h held there) lost.unreached)
       by (by_message e l m held there h same) = sent e l m held h same (added e l m there)
-      by (by_child o z q there live child task same) = absurd (plain o there (job-task o.kind (and_left (is_job o.kind) _ live)))
+      by (by_child o z q there live child task same) =
+          let none : no_job o ≡ true = ap (λ (u : ObjectRow). no_job u) (some_one o at.0 (sym there ∙ at.1)) ∙ at.2 in
+          absurd (true≢false (is_job o.kind) (and_left (is_job o.kind) _ live) (off (is_job o.kind) none))
       by (by_itself o there t) = elim (or_true (is_live_process o) _ t) [
-        | inl l ↦ absurd (plain o there (process-task o.kind (and_left (is_process o.kind) _ l)))
-        | inr r ↦
-            let w = kind_at-some T root_job kind.Job after.sound.root in
-            absurd (plain w.0 (ap (object T) (eqb-true y root_job r) ∙ w.1) (ap is_task w.2))
+        | inl l ↦ absurd (true≢false (runs T y) (some-runs T y o there l) lost.not_running)
+        | inr r ↦ absurd (true≢false (y == root_job) r lost.not_root)
       ]
 
-  -- so it was no task and there
-  pub plain-before : (y : ℕ) → stands_plain T y ≡ true → among (reached T) y ≡ false → stands_plain S y ≡ true
-  plain-before y p out = plain-was y (low-koid S c.sound y (plain-there y p out)) p
+  -- and was leaked, where nothing reached it there; or it ended by the call
+  pub no_job-before : (y : ℕ) → stands_no_job T y ≡ true → is_leaked T y ≡ true → among (reached S) y ≡ false → (is_leaked S y ≡ true) ⊎ (ended y S T ≡ true)
+  no_job-before y p leaks out = by (is_live_process at.0) refl
+    where
+      low : y < next_koid S
+      low = low-koid S c.sound y (no_job-there y p leaks)
+
+      at : (o : ObjectRow) × (object S y ≡ Some o) × (no_job o ≡ true)
+      at = of_object no_job (object S y) (no_job-was y low p)
+
+      over : (is_live_process at.0 ≡ true) → lives T y ≡ true → ⊥
+      over t l =
+          let q = of_object living (object T y) l in
+          let o = was-old S T y follows low q.0 q.1 in
+          let same : o.0 ≡ at.0 = some_one o.0 at.0 (sym o.1 ∙ at.1) in
+          let process : is_process q.0.kind ≡ true = ap is_process (o.2.kind ∙ ap (λ (z : ObjectRow). z.kind) same) ∙ and_left (is_process at.0.kind) _ t in
+          true≢false (runs T y) (some-runs T y q.0 q.1 (and_both (is_process q.0.kind) _ process q.2)) (leaked-lost T y leaks).not_running
+
+      by : (b : Bool) → is_live_process at.0 ≡ b → (is_leaked S y ≡ true) ⊎ (ended y S T ≡ true)
+      by true t = inr (and_both (lives S y) _ (ap (on_object living) at.1 ∙ and_right (is_process at.0.kind) _ t) (ap not (not_true (lives T y) (over t))))
+      by false f = inl (passive-leaked S c y (ap (on_object is_passive) at.1 ∙ and_both (not (is_job at.0.kind)) _ at.2 (ap not f)) out)
+
+  -- what was leaked does not end while it stays
+  pub leaked-no-end : (y : ℕ) → stands_no_job T y ≡ true → is_leaked S y ≡ true → ended y S T ≡ false
+  leaked-no-end y p leaks = not_true (ended y S T) (λ t. by (is_process at.0.kind) refl (and_left (lives S y) _ t) (and_right (lives S y) _ t))
+    where
+      low : y < next_koid S
+      low = low-koid S c.sound y (leaked-lost S y leaks).there
+
+      at : (q : ObjectRow) × (object T y ≡ Some q) × (no_job q ≡ true)
+      at = of_object no_job (object T y) p
+
+      was : (o : ObjectRow) × (object S y ≡ Some o) × Aged o at.0
+      was = was-old S T y follows low at.0 at.1
+
+      by : (b : Bool) → is_process at.0.kind ≡ b → lives S y ≡ true → not (lives T y) ≡ true → ⊥
+      by true t l gone =
+          let life : is_live was.0.life ≡ true = sym (ap (on_object living) was.1) ∙ l in
+          true≢false (runs S y) (some-runs S y was.0 was.1 (and_both (is_process was.0.kind) _ (ap is_process (sym was.2.kind) ∙ t) life)) (leaked-lost S y leaks).not_running
+      by false f l gone =
+          let passing : is_passing_kind at.0.kind ≡ true = passing-kind at.0.kind (off (is_job at.0.kind) at.2) f in
+          true≢false (lives T y) (passing-lives T y after (ap (on_object passes) at.1 ∙ passing)) (off (lives T y) gone)

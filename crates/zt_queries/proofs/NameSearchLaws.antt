@@ -29,7 +29,7 @@ use Rattle.zt_history.specs.TreeInvariant.{AreMoments}
 use Rattle.zt_history.specs.Tree.{Made, parent_of, parent_at}
 use Rattle.zt_history.proofs.RunLaws.{parent-within}
 use Rattle.zt_history.specs.LetGo.{names, last_let_go}
-use Rattle.zt_queries.specs.ProofsOnly.NameSearch.{waits_at, IsGuarded, AreAbove, IsNameSearch, Widens, with_end, times_named, is_one, IsNameCount, IsPartSearch, later, last_of_all}
+use Rattle.zt_queries.specs.ProofsOnly.NameSearch.{waits_at, IsGuarded, AreAbove, IsNameSearch, Widens, with_end, times_named, is_one, IsNameCount, IsPartSearch, later, last_of_names}
 use Rattle.zt_queries.proofs.SinceLaws.{take_whole}
 
 -- ---- more endpoints
@@ -258,12 +258,12 @@ module _ (S : State) (x : ℕ) (old new : List ℕ) (place named : ℕ) (low : p
     ];
   }
 
-  pub latest-goes : (made : List Made) (m : ℕ) (latest next : Option ℕ) → latest ≡ last_of_all made m (take place old) → next ≡ later latest (last_let_go named made m) → next ≡ last_of_all made m (take (place + 1) new)
+  pub latest-goes : (made : List Made) (m : ℕ) (latest next : Option ℕ) → latest ≡ last_of_names made m (take place old) → next ≡ later latest (last_let_go named made m) → next ≡ last_of_names made m (take (place + 1) new)
   latest-goes made m latest next so_far is_next =
       is_next
       ∙ ap (λ o. later o (last_let_go named made m)) so_far
       ∙ sym (fold-push (λ best y. later best (last_let_go y made m)) None (take place old) named)
-      ∙ ap (last_of_all made m) (sym (take-next old w.rest new place named w.whole low is))
+      ∙ ap (last_of_names made m) (sym (take-next old w.rest new place named w.whole low is))
 
 pub part-ends : (S : State) (x : ℕ) (ends : List ℕ) (place : ℕ) → length ends ≤ place → IsPartSearch S x ends place → IsNameSearch S x ends
 part-ends S x ends place past p = record {
@@ -272,8 +272,8 @@ part-ends S x ends place past p = record {
   guarded = λ y h. p.guarded y (ap (λ l. among l y) (take_whole ends place past) ∙ h);
 }
 
-pub latest-ends : (made : List Made) (m : ℕ) (ends : List ℕ) (place : ℕ) (latest : Option ℕ) → length ends ≤ place → latest ≡ last_of_all made m (take place ends) → latest ≡ last_of_all made m ends
-latest-ends made m ends place latest past is = is ∙ ap (last_of_all made m) (take_whole ends place past)
+pub latest-ends : (made : List Made) (m : ℕ) (ends : List ℕ) (place : ℕ) (latest : Option ℕ) → length ends ≤ place → latest ≡ last_of_names made m (take place ends) → latest ≡ last_of_names made m ends
+latest-ends made m ends place latest past is = is ∙ ap (last_of_names made m) (take_whole ends place past)
 
 -- ---- moments
 

@@ -38,7 +38,7 @@ use Rattle.zt_queries.proofs.WhenLaws.{when-known}
 
 -- ---- kinds of objects that are gone when they end
 
-abbrev passes : ObjectRow → Bool
+abbrev pub passes : ObjectRow → Bool
 passes o = is_passing_kind o.kind
 
 may-live : (k : Kind) (how : Life) → is_passing_kind k ≡ true → may_be k how ≡ true → is_live how ≡ true
@@ -57,7 +57,7 @@ may-live kind.Port life.Live p m = refl
 may-live kind.Port life.Killed p m = cc
 may-live kind.Port (life.Exited n) p m = cc
 
-passing-lives : (S : State) (x : ℕ) → IsConsistent S → on_object passes (object S x) ≡ true → lives S x ≡ true
+pub passing-lives : (S : State) (x : ℕ) → IsConsistent S → on_object passes (object S x) ≡ true → lives S x ≡ true
 passing-lives S x c p =
     let w = of_object passes (object S x) p in
     ap (on_object (λ (o : ObjectRow). is_live o.life)) w.1 ∙ may-live w.0.kind w.0.life w.2 (c.sound.of_objects x w.0 w.1).lives

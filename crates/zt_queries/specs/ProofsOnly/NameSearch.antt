@@ -1,6 +1,6 @@
 -- Where the names of an object stand that is out of reach: in messages, at endpoints whose names stand in messages in turn;
--- and the last moment at which one of these lost a name. This project's own. Used by proofs only.
-use Rattle.std.specs.Prelude.{◌≡◌, ◌≤◌, ◌==◌, ℕ, Bool, true, false, not, if◌then◌else◌, ⊤, List, [], ◌∷◌, ◌++◌, fold, count_by, length, take, max, Option, None, Some}
+-- and the last moment at which one of these lost a name, or the object ended. This project's own. Used by proofs only.
+use Rattle.std.specs.Prelude.{◌≡◌, ◌≤◌, ◌==◌, ◌&&◌, ℕ, Bool, true, false, not, if◌then◌else◌, ⊤, List, [], ◌∷◌, ◌++◌, fold, count_by, length, take, max, Option, None, Some}
 use Rattle.std.specs.List.{list_any}
 use Rattle.zt_rows.specs.declared.calls.Happening.TheVariants as happening
 use Rattle.zt_rows.specs.declared.keys.RowKey.{RowKey}
@@ -10,22 +10,26 @@ use Rattle.zt_rows.specs.declared.rows.Row.{Row}
 use Rattle.zt_rows.specs.declared.rows.Row.TheVariants as rows
 use Rattle.zt_rows.specs.Keys.{rowkey_eq}
 use Rattle.zt_rows.specs.State.{State, row}
-use Rattle.zt_rows.specs.Reads.{object, on_object}
-use Rattle.zt_rows.specs.Tests.{among, is_task}
-use Rattle.zt_history.specs.Tree.{Made}
+use Rattle.zt_rows.specs.Reads.{as_object, object, on_object, is_job, is_live_process}
+use Rattle.zt_rows.specs.Tests.{among, has_all}
+use Rattle.zt_history.specs.Tree.{Made, path, state_at}
+use Rattle.zt_history.specs.declared.row_happenings.RowHappening.TheVariants as turn
+use Rattle.zt_history.specs.RowHappenings.{last_shown}
 use Rattle.zt_index.specs.KoidCounts.{named_by}
 use Rattle.zt_index.specs.ProofsOnly.KoidCounts.{total}
 use Rattle.zt_queries.specs.declared.leak_graph.name_search.LeakTime.{LeakTime}
 use Rattle.zt_queries.specs.declared.leak_graph.name_search.LeakTime.TheVariants as leak_time
+use Rattle.zt_queries.specs.declared.leak_graph.name_search.FoundNames.{FoundNames}
+use Rattle.zt_queries.specs.declared.leak_graph.name_search.FoundNames.TheVariants as found_names
 use Rattle.zt_queries.specs.HappeningTimes.{happens, last_on}
 use Rattle.zt_history.specs.LetGo.{names, last_let_go}
 
--- the object is there, and is neither a job nor a process
-abbrev pub is_plain : ObjectRow → Bool
-is_plain o = not (is_task o.kind)
+-- the object is there, and is neither a job nor a process that runs: nothing keeps it but what names it
+abbrev pub is_passive : ObjectRow → Bool
+is_passive o = not (is_job o.kind) && not (is_live_process o)
 
-abbrev pub stands_plain : State → ℕ → Bool
-stands_plain S x = on_object is_plain (object S x)
+abbrev pub stands_passive : State → ℕ → Bool
+stands_passive S x = on_object is_passive (object S x)
 
 -- the key of a message that waits at one of these
 abbrev pub waits_at : List ℕ → RowKey → Bool
@@ -61,8 +65,18 @@ later (Some a) None = Some a
 later (Some a) (Some b) = Some (max a b)
 
 -- the last moment on the path to m at which one of these lost a name
-abbrev pub last_of_all : List Made → ℕ → List ℕ → Option ℕ
-last_of_all made m ys = fold (λ best y. later best (last_let_go y made m)) None ys
+abbrev pub last_of_names : List Made → ℕ → List ℕ → Option ℕ
+last_of_names made m ys = fold (λ best y. later best (last_let_go y made m)) None ys
+
+-- or x ended
+abbrev pub last_of_all : List Made → ℕ → ℕ → List ℕ → Option ℕ
+last_of_all made m x ys = later (last_shown turn.Ended x made m) (last_of_names made m ys)
+
+-- all names of x and of the endpoints above it are in messages at these, and one of them lost a name last at this moment
+pub record IsLastOfNames (made : List Made) (m x : ℕ) (latest : Option ℕ) : Type 0 where
+  pub ends : List ℕ
+  pub search : IsNameSearch (state_at made m) x ends
+  pub last : latest ≡ last_of_names made m ends
 
 -- ---- what a search has found
 
@@ -103,3 +117,28 @@ pub record IsPartSearch (S : State) (x : ℕ) (ends : List ℕ) (place : ℕ) : 
 abbrev pub IsToldBy : List Made → ℕ → ℕ → LeakTime → Type 0
 IsToldBy made at x (leak_time.Known found) = last_on (happens happening.Leaked x) made at ≡ found
 IsToldBy made at x leak_time.Unknown = ⊤
+
+-- what is found by the names of x is so
+abbrev pub AreFound : List Made → ℕ → ℕ → FoundNames → Type 0
+AreFound made m x (found_names.All latest) = IsLastOfNames made m x latest
+AreFound made m x (found_names.Told told) = IsToldBy made m x told
+
+-- ---- jobs
+
+-- it is a job on which the signals stand that it has no jobs and no processes
+abbrev pub is_bare : ObjectRow → Bool
+is_bare o = is_job o.kind && has_all o.signals.0 0x30
+
+-- it is a job on which the signal does not stand that it has no processes
+abbrev pub has_process : ObjectRow → Bool
+has_process o = is_job o.kind && not (has_all o.signals.0 0x20)
+
+abbrev pub is_bare_row : Option Row → Bool
+is_bare_row r = on_object is_bare (as_object r)
+
+abbrev pub has_process_row : Option Row → Bool
+has_process_row r = on_object has_process (as_object r)
+
+-- at every moment from m on that is on the path to the last one it is such a job
+abbrev pub IsBareFrom : List Made → ℕ → ℕ → ℕ → Type 0
+IsBareFrom made at x m = (n : ℕ) → among (path made at) n ≡ true → m ≤ n → is_bare_row (row (state_at made n) (key.Object x)) ≡ true

@@ -33,14 +33,16 @@ use zt_rows::{Koid, Moment, ROOT_JOB, Refusal};
 /// Where the object went by a call that took away an entry that names it, or is named at the position by an entry that was put
 /// when it was made or last let go, it never was, and this reads no more than `ended` and takes no memory. So it is where it went
 /// with the endpoint at which a message waited that names it, and that with the next, up to an entry: this goes some times over
-/// the rows that the call changed, and takes no memory. Where it is there at the position and is neither a job nor a process, the notes of what it and the endpoints above it let go lead to the messages
-/// that name them: this costs a look at each of these moments, and takes memory for those endpoints and messages. Where an entry
-/// turns up among these names, that takes a walk over entries up to the first one.
+/// the rows that the call changed, and takes no memory. Where it is there at the position and is neither a job nor a process that
+/// runs, the notes of what it and the endpoints above it let go lead to the messages that name them: this costs a look at each of
+/// these moments, and takes memory for those endpoints and messages. Where an entry turns up among these names, that takes a walk
+/// over entries up to the first one. So it is of a job with no live child there, and beside that it costs a look at each record of
+/// the path since it was leaked.
 ///
-/// What is left, as an object that is gone or a position elsewhere, is told behind the lists of two paths: by what the object's
-/// own row or the records show of the moment at which it was there last, or else in a graph that the records of the path move,
-/// without a store: since what is leaked stays so, half of the moments that are left are passed over by each look at what is
-/// reached. It takes memory for two such graphs.
+/// What is left, as an object that is gone, a job with a live child or of which the last child that ended was a job, or a
+/// position elsewhere, is told behind the lists of two paths: by what the object's own row or the records show of the moment at
+/// which it was there last, or else in a graph that the records of the path move, without a store: since what is leaked stays so,
+/// half of the moments that are left are passed over by each look at what is reached. It takes memory for two such graphs.
 pub fn leaked_since(
     alloc: Global,
     history: &History,

@@ -1,19 +1,27 @@
 //! When an object was leaked, by the names that were let go: it was leaked by the call by which the last name went that a
-//! process could use, its own or that of an endpoint above it. The names that are left stand in messages at endpoints of which
-//! the same holds. Each such message came at a moment at which what it names lost an entry, so the notes of what was let go
-//! lead to it, and the count of its names tells when all are found.
-ghost use Rattle.std.specs.Prelude.{◌≡◌, ◌≤◌, ◌==◌, ◌∷◌, [], true, Some, IfOk, OnOk, length, count_by};
+//! process could use, its own or that of an endpoint above it, or, if it is a process, by the call that ended it, where that came
+//! later. The names that are left stand in messages at endpoints of which the same holds. Each such message came at a moment at
+//! which what it names lost an entry, so the notes of what was let go lead to it, and the count of its names tells when all are
+//! found. A job without a live child is kept by its names alone too, as long as it has none: so it was leaked by that call, or by
+//! the one by which its last child ended, which the records tell.
+ghost use Rattle.std.specs.Prelude.{◌≡◌, ◌≤◌, ◌==◌, ◌∷◌, [], false, true, Some, IfOk, OnOk, length, count_by};
 ghost use Rattle.std.specs.Option.{option_copied};
-ghost use Rattle.zt_rows.specs.Tests.{exists, is_task};
+ghost use Rattle.zt_rows.specs.declared.keys.RowKey.TheVariants as key_variant;
+ghost use Rattle.zt_rows.specs.State.{row};
+ghost use Rattle.zt_rows.specs.Support.{root_job};
+ghost use Rattle.zt_rows.specs.Tests.{exists};
 ghost use Rattle.zt_history.specs.Tree.{state_at};
 ghost use Rattle.zt_queries.specs.Leaks.{is_leaked};
-ghost use Rattle.zt_queries.specs.ProofsOnly.NameSearch.{stands_plain, IsGuarded, later, Widens, with_end, IsNameCount, times_named, IsToldBy};
+ghost use Rattle.zt_queries.specs.ProofsOnly.NameSearch.{AreFound, IsLastOfNames, has_process_row, is_bare, is_bare_row, is_passive, stands_passive, IsGuarded, later, Widens, with_end, IsNameCount, times_named, IsToldBy};
 
 use crate::leak_graph::unleaked_signs::is_entered;
+use crate::path_pair::{object_in, row_over};
+use crate::support_list::is_live_process;
+use bitflags::Flags;
 use std::alloc::{AllocError, Global};
-use zt_bits::Kind;
-use zt_history::History;
-use zt_rows::{Held, Koid, Moment, Row, RowKey};
+use zt_bits::{Kind, Signals};
+use zt_history::{History, RowHappening};
+use zt_rows::{Held, Koid, Moment, ObjectRow, ROOT_JOB, Row, RowKey};
 use zt_store::{Record, Store};
 
 /// So many endpoints at most are gone through, one above the other: each is compared with those before it.
@@ -53,6 +61,14 @@ impl Drop for NameSearch {
     }
 }
 
+/// What is found by the names of an object and of the endpoints above it.
+enum FoundNames {
+    /// All of them are in messages, and this is the last moment at which one was let go, if there is one.
+    All(Option<Moment>),
+    /// Not all are, and this is told without them.
+    Told(LeakTime),
+}
+
 /// The moment on the path to one at which the object was leaked, if any, where the names at the position tell.
 pub(crate) fn told_by_names(
     alloc: Global,
@@ -68,21 +84,110 @@ pub(crate) fn told_by_names(
     }
     match history.store().object(koid) {
         Some(found) => {
-            if is_task(found.kind) {
-                Ok(told_by_entries(history, koid, koid))
+            if is_passive(&found) {
+                told_of_passive(alloc, history, koid)
+            } else if is_bare(&found) && koid != ROOT_JOB {
+                told_of_job(alloc, history, koid)
             } else {
-                search_names(alloc, history, koid)
+                Ok(told_by_entries(history, koid, koid))
             }
         }
         None => Ok(LeakTime::Unknown),
     }
 }
 
-/// Whether objects of the kind run until they are ended.
-fn is_task(kind: Kind) -> bool
-    ensures { result ≡ is_task kind }
+/// Whether it is neither a job nor a process that runs, so that nothing keeps it but what names it.
+fn is_passive(object: &ObjectRow) -> bool
+    ensures { result ≡ is_passive object.now }
 {
-    matches!(kind, Kind::Job | Kind::Process)
+    object.kind != Kind::Job && !is_live_process(object)
+}
+
+/// Whether it is a job with no live child, as its signals show it.
+fn is_bare(object: &ObjectRow) -> bool
+    ensures { result ≡ is_bare object.now }
+{
+    object.kind == Kind::Job
+        && object
+            .signals
+            .contains(Signals::NO_JOBS.union(Signals::NO_PROCESSES))
+}
+
+/// The same of an object that is neither a job nor a process that runs: of the moment at which it ended, if it is a process, and
+/// those at which it or an endpoint above it was let go, the last is the one.
+fn told_of_passive(alloc: Global, history: &History, koid: Koid) -> Result<LeakTime, AllocError>
+    requires { stands_passive (state_at history.now.tree.made history.now.position) koid ≡ true }
+    ensures { IfOk result (IsToldBy history.now.tree.made history.now.position koid) }
+{
+    let ended = history.last_shown(RowHappening::Ended, koid, history.position());
+    match search_names(alloc, history, koid)? {
+        FoundNames::All(latest) => Ok(LeakTime::Known(later(ended, latest))),
+        FoundNames::Told(told) => Ok(told),
+    }
+}
+
+/// The same of a job, other than the root job, with no live child.
+fn told_of_job(alloc: Global, history: &History, koid: Koid) -> Result<LeakTime, AllocError>
+    requires bare { is_bare_row (row (state_at history.now.tree.made history.now.position) (key_variant.Object koid)) ≡ true }
+    requires no_root { (koid == root_job) ≡ false }
+    ensures { IfOk result (IsToldBy history.now.tree.made history.now.position koid) }
+{
+    match search_names(alloc, history, koid)? {
+        FoundNames::All(latest) => Ok(told_behind(history, koid, latest)),
+        FoundNames::Told(told) => Ok(told),
+    }
+}
+
+/// The same where all names are found, with the last moment at which one was let go. The records of the path are gone back over,
+/// up to that moment or to the last by whose call the job lost its last child: where that was a process, the job was kept before.
+fn told_behind(history: &History, koid: Koid, latest: Option<Moment>) -> LeakTime
+    requires bare { is_bare_row (row (state_at history.now.tree.made history.now.position) (key_variant.Object koid)) ≡ true }
+    requires no_root { (koid == root_job) ≡ false }
+    requires names { IsLastOfNames history.now.tree.made history.now.position koid latest }
+    ensures { IsToldBy history.now.tree.made history.now.position koid result }
+{
+    let key = RowKey::Object(koid);
+    let last = latest.unwrap_or(Moment(0));
+    let mut moment = history.position();
+    let mut row = history.store().row(key);
+    for _ in 0..history.depth_of(moment) {
+        if moment == Moment(0) {
+            return LeakTime::Unknown;
+        }
+        if moment == last {
+            return LeakTime::Known(Some(moment));
+        }
+        row = row_over(history, moment, &key, row);
+        if !is_bare_row(row) {
+            return if has_process_row(row) {
+                LeakTime::Known(Some(moment))
+            } else {
+                LeakTime::Unknown
+            };
+        }
+        moment = history.parent_of(moment);
+    }
+    LeakTime::Unknown
+}
+
+/// Whether it is the row of a job with no live child.
+fn is_bare_row(row: Option<&Row>) -> bool
+    ensures { result ≡ is_bare_row (option_copied row.entry) }
+{
+    match object_in(row) {
+        Some(found) => is_bare(&found),
+        None => false,
+    }
+}
+
+/// Whether it is the row of a job with a live process as its child, as its signals show it.
+fn has_process_row(row: Option<&Row>) -> bool
+    ensures { result ≡ has_process_row (option_copied row.entry) }
+{
+    match object_in(row) {
+        Some(found) => { found.kind == Kind::Job && !found.signals.contains(Signals::NO_PROCESSES) }
+        None => false,
+    }
 }
 
 /// That the object was not leaked on the path to the position, where an entry there names one that is leaked with it.
@@ -100,26 +205,26 @@ fn told_by_entries(history: &History, koid: Koid, named: Koid) -> LeakTime
     }
 }
 
-/// The same of an object that is no task, from the messages that name it upwards.
-fn search_names(alloc: Global, history: &History, koid: Koid) -> Result<LeakTime, AllocError>
-    requires { stands_plain (state_at history.now.tree.made history.now.position) koid ≡ true }
-    ensures { IfOk result (IsToldBy history.now.tree.made history.now.position koid) }
+/// Looks for all names of an object and of the endpoints above it, from the messages that name it upwards.
+fn search_names(alloc: Global, history: &History, koid: Koid) -> Result<FoundNames, AllocError>
+    requires { exists (state_at history.now.tree.made history.now.position) koid ≡ true }
+    ensures { IfOk result (AreFound history.now.tree.made history.now.position koid) }
 {
     let position = history.position();
     let mut search = NameSearch::new(alloc, koid)?;
     let mut latest = None;
     for place in 0..MOST_ENDS {
         if place >= search.ends.len() {
-            return Ok(LeakTime::Known(latest));
+            return Ok(FoundNames::All(latest));
         }
         let named = search.ends[place];
         let whole = search.find_names(history, named)?;
         if !whole {
-            return Ok(told_by_entries(history, koid, named));
+            return Ok(FoundNames::Told(told_by_entries(history, koid, named)));
         }
         latest = later(latest, history.last_let_go(named, position));
     }
-    Ok(LeakTime::Unknown)
+    Ok(FoundNames::Told(LeakTime::Unknown))
 }
 
 /// The later of two moments, of which there may be none.

@@ -1,23 +1,22 @@
 -- Each endpoint that was looked at is named by messages alone that wait at these; where all were, the last of them to lose a
--- name tells.
-use Rattle.std.proofs.Common.{◌≤◌, ◌<◌, length, sym, ap, ◌∙◌, arith}
+-- name is found.
+use Rattle.std.proofs.Common.{◌≤◌, ◌<◌, length, ap, ◌∙◌, arith}
 use Rattle.zt_history.specs.Tree.{state_at}
 use Rattle.zt_history.proofs.RunLaws.{moment-consistent}
 use Rattle.zt_history.specs.LetGo.{last_let_go}
 use Rattle.zt_queries.specs.ProofsOnly.NameSearch.{later}
-use Rattle.zt_queries.proofs.LetGoLaws.{leaked-by}
 use Rattle.zt_queries.proofs.NameLaws.{above-leaked}
 use Rattle.zt_queries.proofs.NameSearchLaws.{at-place, part-goes, part-ends, latest-goes, latest-ends}
 use Rattle.zt_queries.proofs.leak_graph.name_search.search_names.Goals as goal
 
 pub returns-then-place-len : goal.returns-then-place-len
 returns-then-place-len c =
-    let within : c.args.history.now.position ≤ length c.args.history.now.tree.made = omega (arith, c.position-position.ensures.within, c.position-position.ensures.position) in
     let past : length c.loop-place.search.ends.items ≤ c.loop-place.place = omega (arith, c.len.ensures, c.if-place-len.true) in
-    leaked-by c.args.history.now.tree.made c.position-position.ensures.tree.moments c.args.history.now.position c.args.koid within c.loop-place.search.ends.items
-    (part-ends (state_at c.args.history.now.tree.made c.args.history.now.position) c.args.koid c.loop-place.search.ends.items c.loop-place.place past c.loop-place.invariant.part)
-    c.requires
-    ∙ sym (latest-ends c.args.history.now.tree.made c.args.history.now.position c.loop-place.search.ends.items c.loop-place.place c.loop-place.latest past c.loop-place.invariant.latest)
+    record {
+      ends = c.loop-place.search.ends.items;
+      search = part-ends (state_at c.args.history.now.tree.made c.args.history.now.position) c.args.koid c.loop-place.search.ends.items c.loop-place.place past c.loop-place.invariant.part;
+      last = latest-ends c.args.history.now.tree.made c.args.history.now.position c.loop-place.search.ends.items c.loop-place.place c.loop-place.latest past c.loop-place.invariant.latest;
+    }
 
 pub told_by_entries-requires-clause-with : goal.told_by_entries-requires-clause-with
 told_by_entries-requires-clause-with c = λ leaks.
