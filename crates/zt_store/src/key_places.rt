@@ -16,9 +16,10 @@ const FIRST_BUCKETS: usize = 32;
 /// How many keys there are at most, so that the number of each is one that a chain can hold.
 const MOST_KEYS: usize = u32::MAX as usize;
 
-/// Odd numbers without a pattern, by which the parts of a key are multiplied.
-const FIRST_FACTOR: u64 = 0x9e3779b97f4a7c15;
+/// By this the first number of a key is multiplied: numbers in a row stay so in the upper half.
+const FIRST_FACTOR: u64 = 0x1_0000_0000;
 
+/// Odd numbers without a pattern, by which the other parts of a key are multiplied.
 const SECOND_FACTOR: u64 = 0xc2b2ae3d27d4eb4f;
 
 const VARIANT_FACTOR: u64 = 0x165667b19e3779f9;
@@ -231,7 +232,9 @@ fn bucket(mixed: u32, buckets: usize) -> usize
     mixed as usize & (buckets - 1)
 }
 
-/// A number of which each digit depends on the key's variant and numbers, so that keys in a row are spread.
+/// A number that depends on the key's variant and numbers. Keys whose first numbers are in a row, as those of objects that were made
+/// one after another, come to buckets in a row, which are near in memory: a call that ends many things goes through them so. All others
+/// are spread.
 #[inline(always)]
 fn mixed(key: &RowKey) -> u32
     ensures { result ≡ mixed_of key.now }

@@ -9,7 +9,7 @@ use Rattle.zt_store.specs.declared.key_places.KeyPlaces.{KeyPlaces}
 -- what is mixed of the key's parts; nothing is used of it but that it is the key's
 unfoldable pub mixed_of : RowKey → ℕ
 mixed_of k =
-    ((first_number k * 0x9e3779b97f4a7c15 % 2 ^ 64 + second_number k * 0xc2b2ae3d27d4eb4f % 2 ^ 64) % 2 ^ 64 + variant k * 0x165667b19e3779f9 % 2 ^ 64) % 2 ^ 64 / 2 ^ 32
+    ((first_number k * 0x100000000 % 2 ^ 64 + second_number k * 0xc2b2ae3d27d4eb4f % 2 ^ 64) % 2 ^ 64 + variant k * 0x165667b19e3779f9 % 2 ^ 64) % 2 ^ 64 / 2 ^ 32
 
 -- the key's bucket of n
 unfoldable pub bucket_of : ℕ → RowKey → ℕ
