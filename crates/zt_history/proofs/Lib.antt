@@ -16,6 +16,7 @@ pub mod ForkLaws
 pub mod ListedLaws
 pub mod NoteListLaws
 pub mod LetGoLaws
+pub mod LostChildLaws
 pub mod NotedLaws
 pub mod WholeLaws
 pub mod ChangedLaws

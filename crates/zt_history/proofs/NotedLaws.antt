@@ -18,19 +18,22 @@ use Rattle.zt_rows.specs.Step.{step}
 use Rattle.zt_rows.specs.Tests.{among}
 use Rattle.zt_rows.proofs.ChangeLaws.{among-changed, find-before, same_where_not_differ}
 use Rattle.zt_store.specs.RecordLook.{held}
+use Rattle.zt_history.specs.declared.object_notes.Noted.TheVariants as did
 use Rattle.zt_history.specs.declared.object_notes.Sought.{Sought}
 use Rattle.zt_history.specs.declared.object_notes.Sought.TheVariants as sought
 use Rattle.zt_history.specs.declared.row_happenings.RowHappening.{RowHappening}
 use Rattle.zt_history.specs.declared.row_happenings.RowHappening.TheVariants as happening
 use Rattle.zt_history.specs.LetGo.{last_let_go, lets_go}
+use Rattle.zt_history.specs.LostChild.{last_lost_child, loses_child}
 use Rattle.zt_history.specs.RowHappenings.{is_alone, is_living, is_there, last_shown, shows}
 use Rattle.zt_history.specs.Tree.{Made, parent_of, parent_at, path, state_at}
 use Rattle.zt_history.specs.TreeInvariant.{AreMoments, Falls}
 use Rattle.zt_history.specs.ProofsOnly.Branches.{without_last}
-use Rattle.zt_history.specs.ProofsOnly.ObjectNotes.{AreNoted, AreRising, ChangeNote, IsCut, NotedChanges, TellsLast, gone_note, gone_of, is_found, next_koids_to, note_before, note_of, note_over, note_under, noted, notes_at, notes_of, notes_to, tells}
+use Rattle.zt_history.specs.ProofsOnly.ObjectNotes.{AreNoted, AreRising, ChangeNote, IsCut, NotedChanges, TellsLast, gone_note, gone_of, is_found, loss_of, lost_note, next_koids_to, note_before, note_of, note_over, note_under, note_with, noted, notes_at, notes_of, notes_to, shown_by, tells}
 use Rattle.zt_history.proofs.NoteListLaws.{cut-front}
 use Rattle.zt_history.proofs.GrownLaws.{length-push, made_at-end, state-end}
 use Rattle.zt_history.proofs.LetGoLaws.{IsTyped, at-lets_go, before-there, differ-let_go, gone-in, lets_go-at}
+use Rattle.zt_history.proofs.LostChildLaws.{at-loses_child, before-lost, differ-lost, loses_child-at, loss-in}
 use Rattle.zt_history.proofs.ListLaws.{either, get-left, get-last, get-right}
 use Rattle.zt_history.proofs.MoreLaws.{falls-push, parent-early, parent-more, state-more}
 use Rattle.zt_history.proofs.PathLaws.{among-early, among-other, among-self, among-step, by_parents, path-opening, path-step}
@@ -63,6 +66,7 @@ module _ {A B : Type 0} (f : A → List B) where
 abbrev pub happens : Sought → ℕ → State → State → Bool
 happens (sought.Shown what) x S T = shows what (row S (key.Object x)) (row T (key.Object x))
 happens sought.LetGo x S T = lets_go x S T
+happens sought.LostChild x S T = loses_child x S T
 
 -- the same by a moment's call
 abbrev pub happens_at : Sought → ℕ → List Made → ℕ → Bool
@@ -108,14 +112,7 @@ any-shown happening.PeerClosed r s e =
 
 module _ (m x : ℕ) (r s : Option Row) where
   abbrev one : ChangeNote
-  one = record {
-    moment = m;
-    koid = x;
-    made = shows happening.Made r s;
-    ended = shows happening.Ended r s;
-    peer_closed = shows happening.PeerClosed r s;
-    let_go = false;
-  }
+  one = note_with m x (did.Shown (shown_by r s))
 
   abbrev shown : Bool
   shown = shows happening.Made r s || (shows happening.Ended r s || shows happening.PeerClosed r s)
@@ -148,6 +145,7 @@ module _ (m : ℕ) (S T : State) where
       told : (what : Sought) → tells what (one m x (row S (key.Object x)) (row T (key.Object x))) ≡ true → happens what x S T ≡ true
       told (sought.Shown what) e = sym (one-tells m x (row S (key.Object x)) (row T (key.Object x)) what) ∙ e
       told sought.LetGo e = absurd (true≢false (sym e))
+      told sought.LostChild e = absurd (true≢false (sym e))
 
   of-gone : (k : RowKey) (i : ℕ) (n : ChangeNote) → slice_get (gone_of m (row S k) (row T k) T) i ≡ Some n → IsNoteOf m S T n
   of-gone k i n at =
@@ -155,13 +153,28 @@ module _ (m : ℕ) (S T : State) where
       subst (IsNoteOf m S T) its.is (record { at = refl; true_of = told its.koid (lets_go-at S T its.koid k its.named its.gone) })
     where
       told : (x : ℕ) → lets_go x S T ≡ true → (what : Sought) → tells what (gone_note m x) ≡ true → happens what x S T ≡ true
-      told x gone (sought.Shown happening.Made) e = absurd (true≢false (sym e))
-      told x gone (sought.Shown happening.Ended) e = absurd (true≢false (sym e))
-      told x gone (sought.Shown happening.PeerClosed) e = absurd (true≢false (sym e))
+      told x gone (sought.Shown what) e = absurd (true≢false (sym e))
       told x gone sought.LetGo e = gone
+      told x gone sought.LostChild e = absurd (true≢false (sym e))
+
+  of-lost : (y i : ℕ) (n : ChangeNote) → slice_get (loss_of m (row S (key.Object y)) (row T (key.Object y)) T) i ≡ Some n → IsNoteOf m S T n
+  of-lost y i n at =
+      let its = loss-in m (row T (key.Object y)) T (row S (key.Object y)) i n at in
+      subst (IsNoteOf m S T) its.is (record { at = refl; true_of = told its.koid (loses_child-at S T its.koid (key.Object y) its.child its.lost) })
+    where
+      told : (x : ℕ) → loses_child x S T ≡ true → (what : Sought) → tells what (lost_note m x) ≡ true → happens what x S T ≡ true
+      told x lost (sought.Shown what) e = absurd (true≢false (sym e))
+      told x lost sought.LetGo e = absurd (true≢false (sym e))
+      told x lost sought.LostChild e = lost
 
   before-in : (k : RowKey) (i : ℕ) (n : ChangeNote) → slice_get (note_before m (row S k) T k) i ≡ Some n → IsNoteOf m S T n
-  before-in (key.Object x) i n at = of-shown x i n at
+  before-in (key.Object x) i n at =
+      let r = row S (key.Object x) in
+      let s = row T (key.Object x) in
+      elim (either (note_of m x r s) (loss_of m r s T) i n at) [
+        | inl here ↦ of-shown x i n here
+        | inr there ↦ of-lost x (i - length (note_of m x r s)) n there
+      ]
   before-in key.Counters i n at = of-gone key.Counters i n at
   before-in (key.Entry p h) i n at = of-gone (key.Entry p h) i n at
   before-in (key.Msg e k) i n at = of-gone (key.Msg e k) i n at
@@ -221,13 +234,20 @@ module _ (m : ℕ) (S T : State) where
   notes-there typed x (sought.Shown what) e =
       let r = row S (key.Object x) in
       let s = row T (key.Object x) in
-      let f = under-there (key.Object x) 0 (one m x r s) (differ-shown x what e) (note-there m x r s what e) in
+      let there = note-there m x r s what e in
+      let here = get-left (note_of m x r s) (loss_of m r s T) 0 (slice_get_within (note_of m x r s) 0 (one m x r s) there) ∙ there in
+      let f = under-there (key.Object x) 0 (one m x r s) (differ-shown x what e) here in
       (f.0, one m x r s, f.1, refl, refl, one-tells m x r s what ∙ e)
   notes-there typed x sought.LetGo e =
       let where_named = at-lets_go S T x e in
       let its = before-there m S T typed x where_named.0 where_named.1 where_named.2 in
       let f = under-there where_named.0 its.0 (gone_note m x) (differ-let_go S T x where_named.0 where_named.1 where_named.2) its.1 in
       (f.0, gone_note m x, f.1, refl, refl, refl)
+  notes-there typed x sought.LostChild e =
+      let where_child = at-loses_child S T x e in
+      let its = before-lost m S T typed x where_child.0 where_child.1 where_child.2 in
+      let f = under-there where_child.0 its.0 (lost_note m x) (differ-lost S T x where_child.0 where_child.1 where_child.2) its.1 in
+      (f.0, lost_note m x, f.1, refl, refl, refl)
 
 -- ---- what is noted of all moments so far
 
@@ -508,7 +528,7 @@ module _ (made : List Made) (stand : AreMoments made) (what : Sought) (x at : �
       by k up true e = let t = noted-on notes are k up e in absurd (true≢false (sym t.4 ∙ none t.0 t.1 (omega arith) t.2))
       by k up false e = e
 
--- the two that are asked for
+-- those that are asked for
 
 pub last-shown : (what : RowHappening) (x : ℕ) (made : List Made) (at : ℕ) → last_happening (sought.Shown what) x made at ≡ last_shown what x made at
 unfolding last_shown
@@ -517,3 +537,7 @@ last-shown what x made at = refl
 pub last-let_go : (x : ℕ) (made : List Made) (at : ℕ) → last_happening sought.LetGo x made at ≡ last_let_go x made at
 unfolding last_let_go
 last-let_go x made at = refl
+
+pub last-lost_child : (x : ℕ) (made : List Made) (at : ℕ) → last_happening sought.LostChild x made at ≡ last_lost_child x made at
+unfolding last_lost_child
+last-lost_child x made at = refl

@@ -5,5 +5,6 @@ pub mod Timeline
 pub mod TreeInvariant
 pub mod RowHappenings
 pub mod LetGo
+pub mod LostChild
 -- Used by proofs only: no public clause depends on them.
 pub mod ProofsOnly

@@ -8,6 +8,7 @@ ghost use Rattle.zt_history.specs.Tree.{call_at, reply_at, parent_at, path, end_
 ghost use Rattle.zt_history.specs.HistoryRefusals.{IsHistoryRefusal, moment_on};
 ghost use Rattle.zt_history.specs.ProofsOnly.Forks.{IsAbove};
 ghost use Rattle.zt_history.specs.LetGo.{last_let_go};
+ghost use Rattle.zt_history.specs.LostChild.{last_lost_child};
 ghost use Rattle.zt_history.specs.RowHappenings.{last_shown};
 ghost use Rattle.zt_history.specs.TreeInvariant.{recorded_at, Falls, IsTree};
 ghost use Rattle.zt_history.specs.Timeline.{at_opening, moved_to, unmoved, IsPath};
@@ -222,6 +223,15 @@ impl History {
         ensures { result ≡ last_let_go koid self.now.tree.made at }
     {
         self.notes.find(&self.moments, Sought::LetGo, koid, at)
+    }
+
+    /// The last moment on the path to one at which a live process or job whose parent is the object ended or went, while the
+    /// object stayed. It takes no memory, and costs as much as `last_shown`.
+    pub fn last_lost_child(&self, koid: Koid, at: Moment) -> Option<Moment>
+        requires { at ≤ length self.now.tree.made }
+        ensures { result ≡ last_lost_child koid self.now.tree.made at }
+    {
+        self.notes.find(&self.moments, Sought::LostChild, koid, at)
     }
 
     /// The moments after the opening up to a moment: what `along` is to be given to go there. It takes memory for the

@@ -1,19 +1,22 @@
-//! What the calls did to each object, as its row shows it, and which names of it they let go while it stayed: kept beside the
-//! moments, so that the moment of it is found by the changes of that object alone.
-ghost use Rattle.std.specs.Prelude.{◌≡◌, ◌==◌, ◌≤◌, ◌<◌, ◌+◌, ◌++◌, ◌∷◌, [], Some, IfOk, OnOk, OnErr, length, slice_get, take};
+//! What the calls did to each object, as its row shows it, and which names and which live children it lost by them while it
+//! stayed: kept beside the moments, so that the moment of it is found by the changes of that object alone.
+ghost use Rattle.std.specs.Prelude.{◌≡◌, ◌==◌, ◌||◌, ◌≤◌, ◌<◌, ◌+◌, ◌++◌, ◌∷◌, [], Some, IfOk, OnOk, OnErr, length, slice_get, take};
 ghost use Rattle.std.specs.List.{list_any};
 ghost use Rattle.std.specs.Option.{option_copied};
 ghost use Rattle.zt_rows.specs.Handles.{next_koid};
+ghost use Rattle.zt_rows.specs.Reads.{is_live_job, is_live_process};
 ghost use Rattle.zt_rows.specs.State.{row};
 ghost use Rattle.zt_history.specs.LetGo.{names};
+ghost use Rattle.zt_history.specs.LostChild.{is_child_row};
 ghost use Rattle.zt_history.specs.ProofsOnly.Branches.{without_last};
-ghost use Rattle.zt_history.specs.ProofsOnly.ObjectNotes.{AreChained, AreLinked, AreRising, IsCut, IsLonger, IsSameEnd, TellsLast, end_at, ends_at, last_of, gone_name, gone_names, is_let_go, note_as, note_before, note_of, note_with, noted, notes_in, notes_of, tells};
+ghost use Rattle.zt_history.specs.ProofsOnly.ObjectNotes.{AreChained, AreLinked, AreRising, IsCut, IsLonger, IsSameEnd, TellsLast, end_at, ends_at, last_of, gone_name, gone_names, has_shown, is_let_go, is_lost, loss_of, lost_child, note_as, note_before, note_object, note_of, note_with, noted, notes_in, notes_of, parent_in, parent_of, tells};
 
 use crate::moments::Moments;
-use crate::row_happenings::{NOTHING_SHOWN, RowHappening, ShownChanges, shown_changes};
+use crate::row_happenings::{RowHappening, ShownChanges, shown_changes};
 use std::alloc::{AllocError, Global};
 use std::marker::Model;
-use zt_rows::{Held, Koid, Moment, Row, RowKey};
+use zt_bits::Kind;
+use zt_rows::{Held, Koid, Life, Moment, ObjectRow, Row, RowKey};
 use zt_store::{Record, Store};
 
 /// What a moment's call did to an object, and the place behind that of the object's earlier change, 0 where it has none.
@@ -22,10 +25,21 @@ pub(crate) struct ObjectNote {
     pub(crate) koid: u32,
     pub(crate) earlier: u32,
     pub(crate) moment: Moment,
-    pub(crate) made: bool,
-    pub(crate) ended: bool,
-    pub(crate) peer_closed: bool,
-    pub(crate) let_go: bool,
+    pub(crate) what: Noted,
+}
+
+// There are many of them: each takes sixteen bytes.
+const _: () = prove_eq!(size_of::<ObjectNote>(), 16);
+
+/// What a moment's call did to an object.
+#[derive(Clone, Copy)]
+pub(crate) enum Noted {
+    /// This shows in its row.
+    Shown(ShownChanges),
+    /// A name of it went while it stayed.
+    LetGo,
+    /// A live child of it is none any more, while it stayed.
+    LostChild,
 }
 
 /// What is looked for among the changes of an object.
@@ -35,6 +49,8 @@ pub(crate) enum Sought {
     Shown(RowHappening),
     /// That a name of it went while it stayed.
     LetGo,
+    /// That a live child of it is none any more, while it stayed.
+    LostChild,
 }
 
 /// The changes in the order of their moments, for each koid the place behind that of its last one, and the next koid at each
@@ -195,8 +211,8 @@ fn note_all(
     Ok(())
 }
 
-/// Notes what a moment's call did to the object of a key, if it is an object's, and else that it let go of what the row before
-/// it named. Where memory is refused some of it is noted.
+/// Notes what a moment's call did to the object of a key and to its parent, if it is an object's, and else that it let go of
+/// what the row before it named. Where memory is refused some of it is noted.
 fn note_under(
     list: &mut Vec<ObjectNote>,
     last: &mut Vec<u32>,
@@ -212,7 +228,7 @@ fn note_under(
 {
     let asked = key;
     if let RowKey::Object(koid) = key {
-        return note_one(list, last, moment, koid, before, store.row(asked));
+        return note_object(list, last, moment, koid, before, store);
     }
     match before {
         Some(Row::Entry(held)) => note_name(list, last, moment, held.koid, &asked, store),
@@ -222,6 +238,26 @@ fn note_under(
         }
         _ => Ok(()),
     }
+}
+
+/// Notes what a moment's call did to an object, and that the object's parent lost it as a child, where it did. Where memory is
+/// refused some of it is noted.
+fn note_object(
+    list: &mut Vec<ObjectNote>,
+    last: &mut Vec<u32>,
+    moment: Moment,
+    koid: Koid,
+    before: Option<&Row>,
+    store: &Store,
+) -> Result<(), AllocError>
+    requires { AreChained list.old.items last.old.items }
+    ensures ok { OnOk result (notes_in list.new.items ≡ notes_in list.old.items ++ note_object moment koid (option_copied before.entry) store.now.state) }
+    ensures kept { IsLonger list.old.items list.new.items }
+    ensures chained { AreChained list.new.items last.new.items }
+{
+    let after = store.row(RowKey::Object(koid));
+    note_one(list, last, moment, koid, before, after)?;
+    note_loss(list, last, moment, before, after, store)
 }
 
 /// Notes what a moment's call did to an object, by its row before it and behind it, where it did anything. Where memory is
@@ -241,9 +277,97 @@ fn note_one(
 {
     let shown = shown_changes(before, after);
     if shown.made || shown.ended || shown.peer_closed {
-        return push_change(list, last, moment, koid, shown, false);
+        return push_change(list, last, moment, koid, Noted::Shown(shown));
     }
     Ok(())
+}
+
+/// Notes that the parent of the live process or job of the row before lost it as a child, if it did: most rows are of no such.
+/// Where memory is refused nothing is noted.
+fn note_loss(
+    list: &mut Vec<ObjectNote>,
+    last: &mut Vec<u32>,
+    moment: Moment,
+    before: Option<&Row>,
+    after: Option<&Row>,
+    store: &Store,
+) -> Result<(), AllocError>
+    requires { AreChained list.old.items last.old.items }
+    ensures ok { OnOk result (notes_in list.new.items ≡ notes_in list.old.items ++ loss_of moment (option_copied before.entry) (option_copied after.entry) store.now.state) }
+    ensures kept { IsLonger list.old.items list.new.items }
+    ensures chained { AreChained list.new.items last.new.items }
+{
+    match parent_in(before) {
+        Some(parent) => note_lost(list, last, moment, parent, after, store),
+        None => Ok(()),
+    }
+}
+
+/// Notes that an object lost a live child by a moment's call, by the row behind it where the child stood, if it did. Where
+/// memory is refused nothing is noted.
+#[inline(never)]
+fn note_lost(
+    list: &mut Vec<ObjectNote>,
+    last: &mut Vec<u32>,
+    moment: Moment,
+    parent: Koid,
+    after: Option<&Row>,
+    store: &Store,
+) -> Result<(), AllocError>
+    requires { AreChained list.old.items last.old.items }
+    ensures ok { OnOk result (notes_in list.new.items ≡ notes_in list.old.items ++ lost_child moment (option_copied after.entry) store.now.state parent) }
+    ensures kept { IsLonger list.old.items list.new.items }
+    ensures chained { AreChained list.new.items last.new.items }
+{
+    if is_lost(parent, after, store) {
+        return push_change(list, last, moment, parent, Noted::LostChild);
+    }
+    Ok(())
+}
+
+/// Whether the object is there, and the row is none of a live child of it.
+fn is_lost(parent: Koid, after: Option<&Row>, store: &Store) -> bool
+    ensures { result ≡ is_lost parent (option_copied after.entry) store.now.state }
+{
+    !is_child_row(parent, after) && store.object(parent).is_some()
+}
+
+/// Whether the row is that of a live process or job whose parent is the object.
+fn is_child_row(parent: Koid, row: Option<&Row>) -> bool
+    ensures { result ≡ is_child_row parent (option_copied row.entry) }
+{
+    match row {
+        Some(Row::Object(task)) => is_live_task(task) && task.link == parent,
+        _ => false,
+    }
+}
+
+/// The parent of the live process or job of the row, if it is the row of one.
+fn parent_in(row: Option<&Row>) -> Option<Koid>
+    ensures { result ≡ parent_in (option_copied row.entry) }
+{
+    match row {
+        Some(Row::Object(task)) => parent_of(task),
+        _ => None,
+    }
+}
+
+/// The parent of the object, if it is a live process or job.
+fn parent_of(task: &ObjectRow) -> Option<Koid>
+    ensures { result ≡ parent_of task.now }
+{
+    if is_live_task(task) {
+        Some(task.link)
+    } else {
+        None
+    }
+}
+
+/// Whether it is a process or a job that has not ended.
+fn is_live_task(object: &ObjectRow) -> bool
+    ensures { result ≡ (is_live_job object.now || is_live_process object.now) }
+{
+    matches!(object.kind, Kind::Job | Kind::Process) && object.life == Life::Live
 }
 
 /// Notes that a moment's call let go of each name among the handles of a message, which stood under the key before, where it
@@ -284,7 +408,7 @@ fn note_name(
     ensures chained { AreChained list.new.items last.new.items }
 {
     if is_let_go(koid, key, store) {
-        return push_change(list, last, moment, koid, NOTHING_SHOWN, true);
+        return push_change(list, last, moment, koid, Noted::LetGo);
     }
     Ok(())
 }
@@ -326,11 +450,10 @@ fn push_change(
     last: &mut Vec<u32>,
     moment: Moment,
     koid: Koid,
-    shown: ShownChanges,
-    let_go: bool,
+    what: Noted,
 ) -> Result<(), AllocError>
     requires { AreChained list.old.items last.old.items }
-    ensures ok { OnOk result (notes_in list.new.items ≡ notes_in list.old.items ++ note_with moment koid shown let_go ∷ []) }
+    ensures ok { OnOk result (notes_in list.new.items ≡ notes_in list.old.items ++ note_with moment koid what ∷ []) }
     ensures kept { IsLonger list.old.items list.new.items }
     ensures chained { AreChained list.new.items last.new.items }
 {
@@ -342,10 +465,7 @@ fn push_change(
         koid: number,
         earlier: last[number as usize],
         moment,
-        made: shown.made,
-        ended: shown.ended,
-        peer_closed: shown.peer_closed,
-        let_go,
+        what,
     });
     last[number as usize] = end;
     Ok(())
@@ -421,10 +541,21 @@ fn drop_change(list: &mut Vec<ObjectNote>, last: &mut Vec<u32>)
 fn tells(what: Sought, change: &ObjectNote) -> bool
     ensures { result ≡ tells what (note_as change.now) }
 {
-    match what {
-        Sought::Shown(RowHappening::Made) => change.made,
-        Sought::Shown(RowHappening::Ended) => change.ended,
-        Sought::Shown(RowHappening::PeerClosed) => change.peer_closed,
-        Sought::LetGo => change.let_go,
+    match (what, change.what) {
+        (Sought::Shown(happening), Noted::Shown(shown)) => has_shown(happening, shown),
+        (Sought::LetGo, Noted::LetGo) => true,
+        (Sought::LostChild, Noted::LostChild) => true,
+        _ => false,
+    }
+}
+
+/// Whether this is among what happened.
+fn has_shown(happening: RowHappening, shown: ShownChanges) -> bool
+    ensures { result ≡ has_shown happening shown }
+{
+    match happening {
+        RowHappening::Made => shown.made,
+        RowHappening::Ended => shown.ended,
+        RowHappening::PeerClosed => shown.peer_closed,
     }
 }

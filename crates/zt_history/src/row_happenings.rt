@@ -26,7 +26,7 @@ pub(crate) struct ShownChanges {
 }
 
 /// That nothing happened.
-pub(crate) const NOTHING_SHOWN: ShownChanges = ShownChanges {
+const NOTHING_SHOWN: ShownChanges = ShownChanges {
     made: false,
     ended: false,
     peer_closed: false,

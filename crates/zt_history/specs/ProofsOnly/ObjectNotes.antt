@@ -5,79 +5,80 @@ use Rattle.std.specs.List.{AllByRecursion, flat_map}
 use Rattle.zt_rows.specs.declared.keys.RowKey.{RowKey}
 use Rattle.zt_rows.specs.declared.keys.RowKey.TheVariants as key
 use Rattle.zt_rows.specs.declared.rows.Held.{Held}
+use Rattle.zt_rows.specs.declared.rows.ObjectRow.{ObjectRow}
 use Rattle.zt_rows.specs.declared.rows.Row.{Row}
 use Rattle.zt_rows.specs.declared.rows.Row.TheVariants as rows
 use Rattle.zt_rows.specs.Change.{before}
 use Rattle.zt_rows.specs.Handles.{next_koid}
+use Rattle.zt_rows.specs.Reads.{is_live_job, is_live_process}
 use Rattle.zt_rows.specs.State.{State, row}
 use Rattle.zt_rows.specs.Tests.{among, exists}
 use Rattle.zt_store.specs.RecordLook.{held}
+use Rattle.zt_history.specs.declared.object_notes.Noted.{Noted}
+use Rattle.zt_history.specs.declared.object_notes.Noted.TheVariants as did
 use Rattle.zt_history.specs.declared.object_notes.ObjectNote.{ObjectNote}
 use Rattle.zt_history.specs.declared.object_notes.Sought.{Sought}
 use Rattle.zt_history.specs.declared.object_notes.Sought.TheVariants as sought
+use Rattle.zt_history.specs.declared.row_happenings.RowHappening.{RowHappening}
 use Rattle.zt_history.specs.declared.row_happenings.RowHappening.TheVariants as happening
 use Rattle.zt_history.specs.declared.row_happenings.ShownChanges.{ShownChanges}
 use Rattle.zt_history.specs.LetGo.{names}
+use Rattle.zt_history.specs.LostChild.{is_child_row}
 use Rattle.zt_history.specs.RowHappenings.{shows}
 use Rattle.zt_history.specs.Tree.{Made, parent_at, path, state_at}
 
--- what a moment's call did to an object: that it showed in its row, or that a name of it went while it stayed
+-- what a moment's call did to an object: that it showed in its row, or that a name or a live child of it went while it stayed
 pub record ChangeNote : Type 0 where
   pub moment : ℕ
   pub koid : ℕ
-  pub made : Bool
-  pub ended : Bool
-  pub peer_closed : Bool
-  pub let_go : Bool
+  pub what : Noted
 
 pub record NotedChanges : Type 0 where
   pub notes : List ChangeNote
   pub next_koids : List ℕ
 
 abbrev pub note_as : ObjectNote → ChangeNote
-note_as c = record {
-  moment = c.moment;
-  koid = c.koid;
-  made = c.made;
-  ended = c.ended;
-  peer_closed = c.peer_closed;
-  let_go = c.let_go;
-}
+note_as c = record { moment = c.moment; koid = c.koid; what = c.what }
 
 abbrev pub notes_in : List ObjectNote → List ChangeNote
 notes_in list = map note_as list
 
+-- it is among what shows
+abbrev pub has_shown : RowHappening → ShownChanges → Bool
+has_shown happening.Made shown = shown.made
+has_shown happening.Ended shown = shown.ended
+has_shown happening.PeerClosed shown = shown.peer_closed
+
+abbrev pub is_told : Sought → Noted → Bool
+is_told (sought.Shown what) (did.Shown shown) = has_shown what shown
+is_told (sought.Shown what) _ = false
+is_told sought.LetGo did.LetGo = true
+is_told sought.LetGo _ = false
+is_told sought.LostChild did.LostChild = true
+is_told sought.LostChild _ = false
+
 abbrev pub tells : Sought → ChangeNote → Bool
-tells (sought.Shown happening.Made) n = n.made
-tells (sought.Shown happening.Ended) n = n.ended
-tells (sought.Shown happening.PeerClosed) n = n.peer_closed
-tells sought.LetGo n = n.let_go
+tells what n = is_told what n.what
 
 -- ---- what is noted of a moment
 
--- of an object, as the code found it
-abbrev pub note_with : ℕ → ℕ → ShownChanges → Bool → ChangeNote
-note_with m x shown gone = record {
-  moment = m;
-  koid = x;
-  made = shown.made;
-  ended = shown.ended;
-  peer_closed = shown.peer_closed;
-  let_go = gone;
+-- of an object
+abbrev pub note_with : ℕ → ℕ → Noted → ChangeNote
+note_with m x what = record { moment = m; koid = x; what = what }
+
+-- what shows in its row before the call and after it
+abbrev pub shown_by : Option Row → Option Row → ShownChanges
+shown_by r s = record {
+  made = shows happening.Made r s;
+  ended = shows happening.Ended r s;
+  peer_closed = shows happening.PeerClosed r s;
 }
 
--- of an object, by its row before the call and after it; nothing where nothing shows
+-- that, and nothing where nothing shows
 abbrev pub note_of : ℕ → ℕ → Option Row → Option Row → List ChangeNote
 note_of m x r s =
     if shows happening.Made r s || (shows happening.Ended r s || shows happening.PeerClosed r s)
-    then record {
-      moment = m;
-      koid = x;
-      made = shows happening.Made r s;
-      ended = shows happening.Ended r s;
-      peer_closed = shows happening.PeerClosed r s;
-      let_go = false;
-    } ∷ []
+    then note_with m x (did.Shown (shown_by r s)) ∷ []
     else []
 
 -- the object is there in T, and the row s where a name of it stood does not name it
@@ -85,14 +86,7 @@ abbrev pub is_let_go : ℕ → Option Row → State → Bool
 is_let_go x s T = exists T x && not (names x s)
 
 abbrev pub gone_note : ℕ → ℕ → ChangeNote
-gone_note m x = record {
-  moment = m;
-  koid = x;
-  made = false;
-  ended = false;
-  peer_closed = false;
-  let_go = true;
-}
+gone_note m x = note_with m x did.LetGo
 
 -- that a name of an object went, by the row s after it; nothing where it did not
 abbrev pub gone_name : ℕ → Option Row → State → ℕ → List ChangeNote
@@ -108,9 +102,42 @@ gone_of m (Some (rows.Entry held)) s T = gone_name m s T held.koid
 gone_of m (Some (rows.Msg sent)) s T = gone_names m s T sent.handles
 gone_of m _ s T = []
 
--- of what stands under a key, by the row before the call, which led to T: of an object what shows, else what is let go
+-- the parent of a live process or job
+abbrev pub parent_of : ObjectRow → Option ℕ
+parent_of o = if is_live_job o || is_live_process o then Some o.link else None
+
+-- the same of one that stands in a row
+abbrev pub parent_in : Option Row → Option ℕ
+parent_in (Some (rows.Object o)) = parent_of o
+parent_in _ = None
+
+-- the object is there in T, and the row s where a live child of it stood is none of one
+abbrev pub is_lost : ℕ → Option Row → State → Bool
+is_lost x s T = exists T x && not (is_child_row x s)
+
+abbrev pub lost_note : ℕ → ℕ → ChangeNote
+lost_note m x = note_with m x did.LostChild
+
+-- that a live child of it is none any more, by the row s after it; nothing where it is
+abbrev pub lost_child : ℕ → Option Row → State → ℕ → List ChangeNote
+lost_child m s T x = if is_lost x s T then lost_note m x ∷ [] else []
+
+-- the same of a parent, where there is one
+abbrev pub lost_by : ℕ → Option Row → State → Option ℕ → List ChangeNote
+lost_by m s T None = []
+lost_by m s T (Some x) = lost_child m s T x
+
+-- the same of the parent of what stood in the row r before the call
+abbrev pub loss_of : ℕ → Option Row → Option Row → State → List ChangeNote
+loss_of m r s T = lost_by m s T (parent_in r)
+
+-- of an object and its parent, by the row before the call, which led to T
+abbrev pub note_object : ℕ → ℕ → Option Row → State → List ChangeNote
+note_object m x r T = note_of m x r (row T (key.Object x)) ++ loss_of m r (row T (key.Object x)) T
+
+-- of what stands under a key: of an object what shows and what its parent lost, else what is let go
 abbrev pub note_before : ℕ → Option Row → State → RowKey → List ChangeNote
-note_before m r T (key.Object x) = note_of m x r (row T (key.Object x))
+note_before m r T (key.Object x) = note_object m x r T
 note_before m r T k = gone_of m r (row T k) T
 
 -- the same where a record has the row before it
