@@ -173,7 +173,7 @@ in-upward x zero above m = absurd m
 in-upward x (suc l) above m = (omega arith, m)
 
 -- what a sound object is linked to is there
-linked-there : (S : State) → IsSound S → (y : ℕ) → 0 < link_at S y → exists S (link_at S y) ≡ true
+pub linked-there : (S : State) → IsSound S → (y : ℕ) → 0 < link_at S y → exists S (link_at S y) ≡ true
 linked-there S sound y h = by_object (object S y) refl
   where
     by_object : (r : Option ObjectRow) → object S y ≡ r → exists S (link_at S y) ≡ true
@@ -318,7 +318,7 @@ module _ (S U : State) (sound : IsSound S) (f : Follows S U) where
 -- ---- a leaked endpoint does not go
 
 -- an endpoint out of reach
-abbrev strayed : State → ℕ → Bool
+abbrev pub strayed : State → ℕ → Bool
 strayed S x = on_object (λ o. is_endpoint o.kind) (object S x) && not (among (reached S) x)
 
 endpoint_of : (r : Option ObjectRow) → on_object (λ o. is_endpoint o.kind) r ≡ true → (o : ObjectRow) × (r ≡ Some o) × (is_endpoint o.kind ≡ true)
@@ -350,22 +350,22 @@ process-no-endpoint kind.EventPair e f = cc
 process-no-endpoint kind.Port e f = cc
 
 -- a message of a strayed endpoint names the object
-record Named (S : State) (x : ℕ) : Type 0 where
-  endpoint : ℕ
-  number : ℕ
-  content : MessageContent
-  held : Held
-  there : message S endpoint number ≡ Some content
-  among_handles : In held content.handles
-  names : held.koid ≡ x
-  out : strayed S endpoint ≡ true
+pub record Named (S : State) (x : ℕ) : Type 0 where
+  pub endpoint : ℕ
+  pub number : ℕ
+  pub content : MessageContent
+  pub held : Held
+  pub there : message S endpoint number ≡ Some content
+  pub among_handles : In held content.handles
+  pub names : held.koid ≡ x
+  pub out : strayed S endpoint ≡ true
 
 module _ (S : State) (consistent : IsConsistent S) where
-  out-of-reach : (x : ℕ) → strayed S x ≡ true → among (reached S) x ≡ false
+  pub out-of-reach : (x : ℕ) → strayed S x ≡ true → among (reached S) x ≡ false
   out-of-reach x e = false_of (among (reached S) x) (and_right (on_object (λ (o : ObjectRow). is_endpoint o.kind) (object S x)) _ e)
 
   -- a strayed endpoint is named by a message of a strayed endpoint
-  strayed-named : (x : ℕ) → strayed S x ≡ true → Named S x
+  pub strayed-named : (x : ℕ) → strayed S x ≡ true → Named S x
   strayed-named x e = by_support (supported-kept S x (consistent.supported x (exists-some S x at.0 at.1)))
     where
       at : (o : ObjectRow) × (object S x ≡ Some o) × (is_endpoint o.kind ≡ true)

@@ -11,13 +11,13 @@ use Rattle.zt_rows.specs.declared.keys.RowKey.TheVariants as key
 use Rattle.zt_rows.specs.declared.rows.Held.{Held}
 use Rattle.zt_rows.specs.Contents.{MessageContent}
 use Rattle.zt_rows.specs.State.{State, row}
-use Rattle.zt_rows.specs.Reads.{entry, message, object}
+use Rattle.zt_rows.specs.Reads.{entry, message}
 use Rattle.zt_rows.specs.Tests.{among, exists}
 use Rattle.zt_rows.specs.Handles.{next_koid}
 use Rattle.zt_rows.specs.Support.{root_job}
 use Rattle.zt_rows.specs.Consistent.{IsConsistent}
 use Rattle.zt_rows.proofs.RowLaws.{In, list_any-in, in-list_any, or_left, or_right, and_left, and_right, and_both, true≢false, not_true}
-use Rattle.zt_rows.proofs.ReadLaws.{some_one, entry-row}
+use Rattle.zt_rows.proofs.ReadLaws.{some_one, some-exists, entry-row}
 use Rattle.zt_history.specs.TreeInvariant.{AreMoments, Falls}
 use Rattle.zt_history.specs.Tree.{Made, parent_at, path, state_at}
 use Rattle.zt_history.proofs.PathLaws.{path-opening, path-step, by_parents, among-self, among-other, among-early}
@@ -27,17 +27,30 @@ use Rattle.zt_queries.specs.HappeningTimes.{at_moment, happens, last_on}
 use Rattle.zt_queries.specs.Leaks.{is_leaked}
 use Rattle.zt_queries.specs.Reachability.{reached, HoldsAllNamed}
 use Rattle.zt_history.specs.LetGo.{names, lets_go_at, last_let_go}
+use Rattle.zt_history.specs.LostChild.{is_child_row}
 use Rattle.zt_history.specs.RowHappenings.{shows_at, last_shown}
 use Rattle.zt_history.specs.declared.row_happenings.RowHappening.TheVariants as turn
-use Rattle.zt_queries.specs.ProofsOnly.NameSearch.{stands_passive, is_bare, IsBareFrom, waits_at, HoldsEndpoints, IsNameSearch, later, last_of_names, last_of_all, IsLastOfNames}
+use Rattle.zt_queries.specs.ProofsOnly.NameSearch.{stands_passive, waits_at, HoldsEndpoints, HoldsChildren, AreAbove, IsNameSearch, later, last_of_names, last_of_all, IsLastOfNames}
 use Rattle.zt_queries.proofs.ReachLaws.{among-in, in-among, in-all, reached-least}
 use Rattle.zt_queries.proofs.FollowLaws.{low-koid}
-use Rattle.zt_queries.proofs.OnceLaws.{exists-old, given-stays, has_leaked, leaked-begins, leaked-goes-on, next-follows, of_object, unreached}
+use Rattle.zt_queries.proofs.OnceLaws.{exists-old, given-stays, has_leaked, leaked-begins, leaked-goes-on, next-follows}
 use Rattle.zt_queries.proofs.StayLaws.{all-on, begun, earlier-on, kept-on, on-child, on-parent}
 use Rattle.zt_queries.proofs.TreeTimes.{among-filter, filter-among, next-made, once}
 use Rattle.zt_queries.proofs.FirstLeakLaws.{one-last}
-use Rattle.zt_queries.proofs.JobLaws.{bare-leaked}
-use Rattle.zt_queries.proofs.NameLaws.{NamedBy, in_entry, in_message, named-by, message-names, out-named, lets-none, none-lets, out-stays, out-came, out-goes-on, passive-leaked, stands_no_job, no_job-exists, passive-no_job, no_job-was, no_job-before, leaked-no-end}
+use Rattle.zt_queries.proofs.LeakLaws.{Lost, leaked-lost}
+use Rattle.zt_queries.proofs.ChildLaws.{child-came, child-leaked}
+use Rattle.zt_queries.proofs.NameLaws.{NamedBy, in_entry, in_message, named-by, message-names, out-named, endpoint-leaked, child-object, object-child, lets-none, none-lets, out-stays, out-came, out-goes-on, passive-leaked, stands_no_job, no_job-exists, passive-no_job, no_job-was, no_job-before, leaked-no-end}
+
+-- ---- what is above a leaked object is leaked with it
+
+pub holds-endpoints : (S : State) → IsConsistent S → HoldsEndpoints S (is_leaked S)
+holds-endpoints S c e n y named leaks = endpoint-leaked S c e n y named (leaked-lost S y leaks).unreached
+
+pub holds-children : (S : State) → IsConsistent S → HoldsChildren S (is_leaked S)
+holds-children S c z y child leaks = let w = child-object S y z child in (child-leaked S c y z w.0 leaks w.1 w.2 w.3).0
+
+pub above-leaked : (S : State) → IsConsistent S → (x : ℕ) (ends : List ℕ) → AreAbove S x ends → (y : ℕ) → among ends y ≡ true → is_leaked S x ≡ true → is_leaked S y ≡ true
+above-leaked S c x ends above y there leaks = above (is_leaked S) (holds-endpoints S c) (holds-children S c) leaks y there
 
 -- ---- the last of a list
 
@@ -45,7 +58,7 @@ last_or-push : (o : Option ℕ) (xs : List ℕ) (y : ℕ) → last_or o (xs ++ y
 last_or-push o [] y = refl
 last_or-push o (x ∷ xs) y = last_or-push (Some x) xs y
 
-none_is : (r : ℕ) {A : Type 0} → ◌≡◌ {A = Option ℕ} None (Some r) → A
+pub none_is : (r : ℕ) {A : Type 0} → ◌≡◌ {A = Option ℕ} None (Some r) → A
 none_is r e = cc
 
 module _ (made : List Made) (falls : Falls made) (P : ℕ → Bool) where
@@ -61,7 +74,7 @@ module _ (made : List Made) (falls : Falls made) (P : ℕ → Bool) where
       by xs false = ap (last_or None) (append-nil (filter P xs))
 
   -- what passes, and is not before another that does, is the last
-  last-found : (m : ℕ) → P m ≡ true → (at : ℕ) → among (path made at) m ≡ true → ((k : ℕ) → among (path made at) k ≡ true → P k ≡ true → k ≤ m)
+  pub last-found : (m : ℕ) → P m ≡ true → (at : ℕ) → among (path made at) m ≡ true → ((k : ℕ) → among (path made at) k ≡ true → P k ≡ true → k ≤ m)
       → last_or None (filter P (path made at)) ≡ Some m
   last-found m passes =
       by_parents made falls (λ at. among (path made at) m ≡ true → ((k : ℕ) → among (path made at) k ≡ true → P k ≡ true → k ≤ m) → last_or None (filter P (path made at)) ≡ Some m) base step_up
@@ -89,7 +102,7 @@ last_or-among o (x ∷ xs) r e = elim (last_or-among (Some x) xs r e) [
   | inr l ↦ inr (or_right (x == r) _ l)
 ]
 
-last-among : (xs : List ℕ) (r : ℕ) → last_or None xs ≡ Some r → among xs r ≡ true
+pub last-among : (xs : List ℕ) (r : ℕ) → last_or None xs ≡ Some r → among xs r ≡ true
 last-among xs r e = elim (last_or-among None xs r e) [ inl n ↦ none_is r n | inr l ↦ l ]
 
 -- ---- the latest of some moments
@@ -99,16 +112,16 @@ by_both q None b f g r e = g r e
 by_both q (Some m) None f g r e = f r e
 by_both q (Some m) (Some n) f g r e = let same : max m n ≡ r = some_one (max m n) r e in omega (arith, same, f m refl, g n refl)
 
-later-first : (q : ℕ) (a b : Option ℕ) → a ≡ Some q → ((r : ℕ) → b ≡ Some r → r ≤ q) → later a b ≡ Some q
+pub later-first : (q : ℕ) (a b : Option ℕ) → a ≡ Some q → ((r : ℕ) → b ≡ Some r → r ≤ q) → later a b ≡ Some q
 later-first q a None e g = ap (λ o. later o None) e
 later-first q a (Some n) e g = ap (λ o. later o (Some n)) e ∙ ap Some (omega (arith, g n refl))
 
-later-second : (q : ℕ) (a b : Option ℕ) → b ≡ Some q → ((r : ℕ) → a ≡ Some r → r ≤ q) → later a b ≡ Some q
+pub later-second : (q : ℕ) (a b : Option ℕ) → b ≡ Some q → ((r : ℕ) → a ≡ Some r → r ≤ q) → later a b ≡ Some q
 later-second q None b e f = e
 later-second q (Some m) b e f = ap (later (Some m)) e ∙ ap Some (omega (arith, f m refl))
 
 -- where none is behind q, and q is one of them, it is the latest
-latest : (f : ℕ → Option ℕ) (q : ℕ) (ys : List ℕ) → ((y : ℕ) → In y ys → (r : ℕ) → f y ≡ Some r → r ≤ q) → (best : Option ℕ) → ((r : ℕ) → best ≡ Some r → r ≤ q)
+pub latest : (f : ℕ → Option ℕ) (q : ℕ) (ys : List ℕ) → ((y : ℕ) → In y ys → (r : ℕ) → f y ≡ Some r → r ≤ q) → (best : Option ℕ) → ((r : ℕ) → best ≡ Some r → r ≤ q)
     → (best ≡ Some q) ⊎ ((y : ℕ) × In y ys × (f y ≡ Some q)) → fold (λ b y. later b (f y)) best ys ≡ Some q
 latest f q [] low best up (inl e) = e
 latest f q [] low best up (inr w) = absurd w.1
@@ -121,7 +134,7 @@ latest f q (y ∷ ys) low best up (inr w) =
     ])
 
 -- where none is behind q, the latest is not
-all-low : (f : ℕ → Option ℕ) (q : ℕ) (ys : List ℕ) → ((y : ℕ) → In y ys → (r : ℕ) → f y ≡ Some r → r ≤ q) → (best : Option ℕ) → ((r : ℕ) → best ≡ Some r → r ≤ q)
+pub all-low : (f : ℕ → Option ℕ) (q : ℕ) (ys : List ℕ) → ((y : ℕ) → In y ys → (r : ℕ) → f y ≡ Some r → r ≤ q) → (best : Option ℕ) → ((r : ℕ) → best ≡ Some r → r ≤ q)
     → (r : ℕ) → fold (λ b y. later b (f y)) best ys ≡ Some r → r ≤ q
 all-low f q [] low best up r e = up r e
 all-low f q (y ∷ ys) low best up r e = all-low f q ys (λ z m. low z (inr m)) (later best (f y)) (by_both q best (f y) up (low y (inl refl))) r e
@@ -181,7 +194,7 @@ names-on made at ends r e =
     (λ y m q g. (filter-among (lets_go_at y made) (path made at) q (last-among (filter (lets_go_at y made) (path made at)) q g)).0) None (λ q g. none_is q g) r e
 
 -- nor is the last that passes
-last-up : (made : List Made) → Falls made → (P : ℕ → Bool) (r : ℕ) → P r ≡ true → (at : ℕ) → among (path made at) r ≡ true → (l : ℕ) × (last_or None (filter P (path made at)) ≡ Some l) × (r ≤ l)
+pub last-up : (made : List Made) → Falls made → (P : ℕ → Bool) (r : ℕ) → P r ≡ true → (at : ℕ) → among (path made at) r ≡ true → (l : ℕ) × (last_or None (filter P (path made at)) ≡ Some l) × (r ≤ l)
 last-up made falls P r passes = by_parents made falls (λ at. among (path made at) r ≡ true → (l : ℕ) × (last_or None (filter P (path made at)) ≡ Some l) × (r ≤ l)) base step_up
   where
     base : among (path made 0) r ≡ true → (l : ℕ) × (last_or None (filter P (path made 0)) ≡ Some l) × (r ≤ l)
@@ -238,6 +251,25 @@ came-goes-on : (U : State) (y : ℕ) (S T : State) → IsConsistent S → IsCall
 came-goes-on U y S T c n s =
     (away-goes-on y S T c n s.0, λ e l m held there h same. s.1 e l m held (out-came S T c n y s.0.1 e l m held there h same) h same)
 
+-- it is out of reach, and its live child was so in the first state
+abbrev child_came : State → ℕ → ℕ → State → Type 0
+child_came U y z S = away y S × (is_child_row y (row S (key.Object z)) ≡ true → is_child_row y (row U (key.Object z)) ≡ true)
+
+child_came-goes-on : (U : State) (y z : ℕ) → 0 < y → (S T : State) → IsConsistent S → IsCallStep S T → child_came U y z S → child_came U y z T
+child_came-goes-on U y z some S T c n s = (
+  away-goes-on y S T c n s.0,
+  λ h.
+      let r = child-object T y z h in
+      let q = child-came S T c n y z r.0 some s.0.1 r.1 r.2 r.3 in
+      s.1 (object-child S y z q.0 q.1 q.2 q.3),
+)
+
+pub some-koid : (S : State) → IsConsistent S → (y : ℕ) → exists S y ≡ true → 0 < y
+some-koid S c y there =
+    let w = some-exists S y there in
+    let low : root_job ≤ y = (c.sound.of_objects y w.0 w.1).low in
+    omega (arith, low)
+
 -- what was given out and is there and no job was so in the first state
 abbrev was_no_job : State → ℕ → State → Type 0
 was_no_job U y S = (y < next_koid S) × (stands_no_job S y ≡ true → stands_no_job U y ≡ true)
@@ -246,10 +278,10 @@ was_no_job-goes-on : (U : State) (y : ℕ) (S T : State) → IsConsistent S → 
 was_no_job-goes-on U y S T c n s = (given-stays S T y (next-follows S T c n) s.0, λ p. s.1 (no_job-was S T c n y s.0 p))
 
 -- what was given out and is there was so in the first state
-abbrev was_there : State → ℕ → State → Type 0
+abbrev pub was_there : State → ℕ → State → Type 0
 was_there U y S = (y < next_koid S) × (exists S y ≡ true → exists U y ≡ true)
 
-was_there-goes-on : (U : State) (y : ℕ) (S T : State) → IsConsistent S → IsCallStep S T → was_there U y S → was_there U y T
+pub was_there-goes-on : (U : State) (y : ℕ) (S T : State) → IsConsistent S → IsCallStep S T → was_there U y S → was_there U y T
 was_there-goes-on U y S T c n s = (given-stays S T y (next-follows S T c n) s.0, λ e. s.1 (exists-old S T y (next-follows S T c n) s.0 e))
 
 -- ---- from one moment of a path on
@@ -258,43 +290,53 @@ module _ (made : List Made) (are : AreMoments made) (at x : ℕ) (within : at �
   abbrev S : State
   S = state_at made at
 
-  consistent : (q : ℕ) → among (path made at) q ≡ true → IsConsistent (state_at made q)
+  pub consistent : (q : ℕ) → among (path made at) q ≡ true → IsConsistent (state_at made q)
   consistent q on = moment-consistent made are q (omega (arith, among-early made are.falls at q on, within))
 
-  last-consistent : IsConsistent S
+  pub last-consistent : IsConsistent S
   last-consistent = moment-consistent made are at within
 
-  -- beside what a message names and is out of reach since a moment, its endpoint was out of reach at that moment
-  holds-out : (q : ℕ) → among (path made at) q ≡ true → HoldsEndpoints S (is_out (state_at made q))
-  holds-out q on e l y named out = by (named-by S last-consistent.sound y (key.Msg e l) named)
+  -- beside what a message names and is leaked since a moment, its endpoint was leaked at that moment
+  holds-ends : (q : ℕ) → among (path made at) q ≡ true → HoldsEndpoints S (is_leaked (state_at made q))
+  holds-ends q on e l y named leaks = by (named-by S last-consistent.sound y (key.Msg e l) named)
     where
       U : State
       U = state_at made q
 
-      begins : came U y U
-      begins = (out-away U y (consistent q on) out, λ f n m held there h same. there)
+      lost : Lost U y
+      lost = leaked-lost U y leaks
 
       was : came U y S
-      was = kept-on made are (came U y) (came-goes-on U y) q begins at within on
+      was = kept-on made are (came U y) (came-goes-on U y) q ((low-koid U (consistent q on).sound y lost.there, lost.unreached), λ f n m held there h same. there) at within on
 
-      there_then : (f n : ℕ) (m : MessageContent) (held : Held) → message S f n ≡ Some m → In held m.handles → held.koid ≡ y → is_out U f ≡ true
+      there_then : (f n : ℕ) (m : MessageContent) (held : Held) → message S f n ≡ Some m → In held m.handles → held.koid ≡ y → is_leaked U f ≡ true
       there_then f n m held there h same =
-          let before : message U f n ≡ Some m = was.1 f n m held there h same in
-          let w = out-named U (consistent q on).sound y (out-unreached U y out) (key.Msg f n) (subst (λ z. names z (row U (key.Msg f n)) ≡ true) same (message-names U f n m held before h)) in
-          let is : w.0 ≡ f = ap owner (sym w.2) in
-          subst (λ z. is_out U z ≡ true) is (and_both (exists U w.0) _ w.7 (ap not w.6))
+          endpoint-leaked U (consistent q on) f n y
+          (subst (λ z. names z (row U (key.Msg f n)) ≡ true) same (message-names U f n m held (was.1 f n m held there h same) h)) lost.unreached
+
+      by : NamedBy S (key.Msg e l) y → is_leaked U e ≡ true
+      by (in_entry p h held is there same) = cc
+      by (in_message f n m held is there h same) = subst (λ z. is_leaked U z ≡ true) (ap owner (sym is)) (there_then f n m held there h same)
         where
           owner : RowKey → ℕ
           owner (key.Msg g k) = g
           owner _ = 0
 
-      by : NamedBy S (key.Msg e l) y → is_out U e ≡ true
-      by (in_entry p h held is there same) = cc
-      by (in_message f n m held is there h same) = subst (λ z. is_out U z ≡ true) (ap owner (sym is)) (there_then f n m held there h same)
-        where
-          owner : RowKey → ℕ
-          owner (key.Msg g k) = g
-          owner _ = 0
+  -- and beside a job its live children
+  holds-below : (q : ℕ) → among (path made at) q ≡ true → HoldsChildren S (is_leaked (state_at made q))
+  holds-below q on z y child leaks =
+      let w = child-object U y z (was.1 child) in
+      (child-leaked U (consistent q on) y z w.0 leaks w.1 w.2 w.3).0
+    where
+      U : State
+      U = state_at made q
+
+      lost : Lost U y
+      lost = leaked-lost U y leaks
+
+      was : child_came U y z S
+      was = kept-on made are (child_came U y z) (child_came-goes-on U y z (some-koid U (consistent q on) y lost.there)) q
+          ((low-koid U (consistent q on).sound y lost.there, lost.unreached), λ h. h) at within on
 
   -- ---- the call by which it was leaked
 
@@ -316,10 +358,10 @@ module _ (made : List Made) (are : AreMoments made) (at x : ℕ) (within : at �
     there : suc i ≤ length made
     there = omega (arith, among-early made are.falls at (suc i) on, within)
 
-    leaked-then : is_leaked T x ≡ true
+    pub leaked-then : is_leaked T x ≡ true
     leaked-then = and_right (not (is_leaked P x)) (is_leaked T x) leaks
 
-    leads : (m : ℕ) → among (path made at) m ≡ true → among (path made m) (suc i) ≡ true → has_leaked x (state_at made m)
+    pub leads : (m : ℕ) → among (path made at) m ≡ true → among (path made m) (suc i) ≡ true → has_leaked x (state_at made m)
     leads m on_m later =
         kept-on made are (has_leaked x) (λ S T c n p. leaked-goes-on S T x c n p) (suc i) (leaked-begins T x (consistent (suc i) on) leaked-then) m
         (omega (arith, among-early made are.falls at m on_m, within)) later
@@ -328,33 +370,36 @@ module _ (made : List Made) (are : AreMoments made) (at x : ℕ) (within : at �
     no_job-then passive m on_m later =
         (kept-on made are (was_no_job (state_at made m) x) (was_no_job-goes-on (state_at made m) x) m ((leads m on_m later).0, λ p. p) at within on_m).1 (passive-no_job S x passive)
 
-    there-then : (m : ℕ) → among (path made at) m ≡ true → among (path made m) (suc i) ≡ true → exists (state_at made m) x ≡ true
+    pub there-then : (m : ℕ) → among (path made at) m ≡ true → among (path made m) (suc i) ≡ true → exists (state_at made m) x ≡ true
     there-then m on_m later =
         (kept-on made are (was_there (state_at made m) x) (was_there-goes-on (state_at made m) x) m ((leads m on_m later).0, λ e. e) at within on_m).1 there_now
 
-    -- from then on all of these are out of reach
-    all-out : (m : ℕ) → among (path made at) m ≡ true → among (path made m) (suc i) ≡ true → (y : ℕ) → among ends y ≡ true → is_out (state_at made m) y ≡ true
+    -- from then on all of these are leaked
+    pub all-leaked : (m : ℕ) → among (path made at) m ≡ true → among (path made m) (suc i) ≡ true → (y : ℕ) → among ends y ≡ true → is_leaked (state_at made m) y ≡ true
+    all-leaked m on_m later y h =
+        s.above (is_leaked (state_at made m)) (holds-ends m on_m) (holds-below m on_m) ((leads m on_m later).1 (there-then m on_m later)) y h
+
+    pub all-out : (m : ℕ) → among (path made at) m ≡ true → among (path made m) (suc i) ≡ true → (y : ℕ) → among ends y ≡ true → is_out (state_at made m) y ≡ true
     all-out m on_m later y h =
-        s.above (is_out (state_at made m)) (holds-out m on_m)
-        (and_both (exists (state_at made m) x) _ (there-then m on_m later) (ap not (unreached (state_at made m) x (consistent m on_m) (leads m on_m later))))
-        y h
+        let lost = leaked-lost (state_at made m) y (all-leaked m on_m later y h) in
+        and_both (exists (state_at made m) y) _ lost.there (ap not lost.unreached)
 
     -- ---- a later moment
 
     module _ (j : ℕ) (low : suc i < suc j) (on_r : among (path made at) (suc j) ≡ true) where
-      abbrev up : ℕ
+      abbrev pub up : ℕ
       up = parent_at made (suc j)
 
-      later_on : among (path made (suc j)) (suc i) ≡ true
+      pub later_on : among (path made (suc j)) (suc i) ≡ true
       later_on = earlier-on made are.falls (suc i) (suc j) (omega (arith, low)) at on on_r
 
-      later_up : among (path made up) (suc i) ≡ true
+      pub later_up : among (path made up) (suc i) ≡ true
       later_up = on-parent made are.falls j (suc i) low later_on
 
-      on_up : among (path made at) up ≡ true
+      pub on_up : among (path made at) up ≡ true
       on_up = all-on made are.falls up (suc j) (on-child made are.falls j up (own up (suc i) later_up)) at on_r
 
-      steps_up : IsCallStep (state_at made up) (state_at made (suc j))
+      pub steps_up : IsCallStep (state_at made up) (state_at made (suc j))
       steps_up =
           let inside : suc j ≤ length made = omega (arith, among-early made are.falls at (suc j) on_r, within) in
           let e = made-there made are j inside in
@@ -382,19 +427,19 @@ module _ (made : List Made) (are : AreMoments made) (at x : ℕ) (within : at �
 
     -- ---- one of them lost a name then, or the object ended
 
-    itself : among (path made (suc i)) (suc i) ≡ true
+    pub itself : among (path made (suc i)) (suc i) ≡ true
     itself = among-self made are.falls i
 
-    before : IsConsistent P
+    pub before : IsConsistent P
     before = moment-consistent made are (parent_at made (suc i)) (parent-within made are i there)
 
-    steps : IsCallStep P T
+    pub steps : IsCallStep P T
     steps = let e = made-there made are i there in next-made made are (leaked 0) i e.0 e.1
 
-    unleaked-before : is_leaked P x ≡ false
+    pub unleaked-before : is_leaked P x ≡ false
     unleaked-before = off (is_leaked P x) (and_left (not (is_leaked P x)) (is_leaked T x) leaks)
 
-    abbrev others : ℕ → Bool
+    abbrev pub others : ℕ → Bool
     others y = not (among ends y)
 
     no_member : (y : ℕ) → (among ends y ≡ true → ⊥) → others y ≡ true
@@ -419,16 +464,16 @@ module _ (made : List Made) (are : AreMoments made) (at x : ℕ) (within : at �
           let y : ℕ = held.koid in
           let named : names y (row T (key.Msg e l)) ≡ true = kept y g (key.Msg e l) (message-names P e l m held was h) in
           let later : still T y S = kept-on made are (still T y) (still-goes-on T y) (suc i) (out-away T y (consistent (suc i) on) (all-out (suc i) on itself y g), λ k f. f) at within on in
-          s.guarded y g (key.Msg e l) (later.1 (key.Msg e l) named)
+          (s.held y g).guarded (key.Msg e l) (later.1 (key.Msg e l) named)
 
-      closed : HoldsAllNamed P others
+      pub closed : HoldsAllNamed P others
       closed = record {
         entries = λ p h held e. no_member held.koid (no-entry p h held e);
         messages = λ e l m was out. in-all (λ (held : Held). others held.koid ≡ true) m.handles (λ held h.
             no_member held.koid (λ g. true≢false (among ends e) (at_member e l m was held h g) (off (among ends e) out)));
       }
 
-      out-before : among (reached P) x ≡ false
+      pub out-before : among (reached P) x ≡ false
       out-before = not_true (among (reached P) x) (λ t. true≢false (among ends x) s.itself (off (among ends x) (reached-least P others closed x t)))
 
       ends-then : stands_passive S x ≡ true → shows_at turn.Ended x made (suc i) ≡ true
@@ -449,7 +494,7 @@ module _ (made : List Made) (are : AreMoments made) (at x : ℕ) (within : at �
 
     -- ---- what was found
 
-    no-later : (y : ℕ) → among ends y ≡ true → (r : ℕ) → among (path made at) r ≡ true → lets_go_at y made r ≡ true → r ≤ suc i
+    pub no-later : (y : ℕ) → among ends y ≡ true → (r : ℕ) → among (path made at) r ≡ true → lets_go_at y made r ≡ true → r ≤ suc i
     no-later y h r on_r goes = elim (cases_lt (suc i) r) [
       | inl l ↦ absurd (true≢false (lets_go_at y made r) goes (none-later r on_r l y h))
       | inr g ↦ omega (arith, g)
@@ -461,7 +506,7 @@ module _ (made : List Made) (are : AreMoments made) (at x : ℕ) (within : at �
       | inr g ↦ omega (arith, g)
     ]
 
-    names-low : (y : ℕ) → In y ends → (r : ℕ) → last_let_go y made at ≡ Some r → r ≤ suc i
+    pub names-low : (y : ℕ) → In y ends → (r : ℕ) → last_let_go y made at ≡ Some r → r ≤ suc i
     unfolding last_let_go
     names-low y h r e = let w = filter-among (lets_go_at y made) (path made at) r (last-among (filter (lets_go_at y made) (path made at)) r e) in no-later y (in-among y ends h) r w.0 w.1
 
@@ -481,21 +526,21 @@ module _ (made : List Made) (are : AreMoments made) (at x : ℕ) (within : at �
 
   -- ---- the moment at which it was leaked
 
-  others_of : HoldsAllNamed S (λ y. not (among ends y))
+  pub others_of : HoldsAllNamed S (λ y. not (among ends y))
   others_of = record {
-    entries = λ p h held e. ap not (not_true (among ends held.koid) (λ g. no_wait p h (s.guarded held.koid g (key.Entry p h) (ap (names held.koid) (entry-row S p h held e) ∙ eq-eqb held.koid held.koid refl))));
+    entries = λ p h held e. ap not (not_true (among ends held.koid) (λ g. no_wait p h ((s.held held.koid g).guarded (key.Entry p h) (ap (names held.koid) (entry-row S p h held e) ∙ eq-eqb held.koid held.koid refl))));
     messages = λ e l m was out. in-all (λ (held : Held). not (among ends held.koid) ≡ true) m.handles (λ held h.
-        ap not (not_true (among ends held.koid) (λ g. true≢false (among ends e) (s.guarded held.koid g (key.Msg e l) (message-names S e l m held was h)) (off (among ends e) out))));
+        ap not (not_true (among ends held.koid) (λ g. true≢false (among ends e) ((s.held held.koid g).guarded (key.Msg e l) (message-names S e l m held was h)) (off (among ends e) out))));
   }
     where
       no_wait : (p h : ℕ) → waits_at ends (key.Entry p h) ≡ true → ⊥
       no_wait p h e = cc
 
-  unreached-now : among (reached S) x ≡ false
+  pub unreached-now : among (reached S) x ≡ false
   unreached-now = not_true (among (reached S) x) (λ t. true≢false (among ends x) s.itself (off (among ends x) (reached-least S (λ y. not (among ends y)) others_of x t)))
 
   -- where it is leaked at the end, the moment at which it was is the one of which that is shown
-  one-leak : (m : ℕ) → is_leaked S x ≡ true → ((i : ℕ) → among (path made at) (suc i) ≡ true → at_moment (leaked x) made (suc i) ≡ true → m ≡ suc i)
+  pub one-leak : (m : ℕ) → is_leaked S x ≡ true → ((i : ℕ) → among (path made at) (suc i) ≡ true → at_moment (leaked x) made (suc i) ≡ true → m ≡ suc i)
       → last_on (happens happening.Leaked x) made at ≡ Some m
   unfolding last_on
   one-leak m now is = let b = begun made are.falls x at now in by b.0 b.1 b.2
@@ -524,17 +569,10 @@ module _ (made : List Made) (are : AreMoments made) (at x : ℕ) (within : at �
           one-last (filter (at_moment (leaked x) made) (path made at)) (suc i) (once made are at within x happening.Leaked) (among-filter (at_moment (leaked x) made) (path made at) (suc i) on leaks)
           ∙ sym (found-then i on leaks passive)
 
-  -- ---- a job that is bare from a moment on
+  -- ---- where every name that went did so up to a moment
 
-  module _ (no_root : (x == root_job) ≡ false) (m : ℕ) (on_m : among (path made at) m ≡ true) (low : (r : ℕ) → last_of_names made at ends ≡ Some r → r ≤ m)
-      (bare : IsBareFrom made at x m) where
-    bare-out : (n : ℕ) → among (path made at) n ≡ true → m ≤ n → among (reached (state_at made n)) x ≡ false → is_leaked (state_at made n) x ≡ true
-    bare-out n on_n up out =
-        let w = of_object is_bare (object (state_at made n) x) (bare n on_n up) in
-        bare-leaked (state_at made n) (consistent n on_n) x w.0 w.1 w.2 no_root out
-
-    -- every name that went did so up to that moment
-    none-behind : (i : ℕ) → among (path made at) (suc i) ≡ true → m < suc i → (y : ℕ) → among ends y ≡ true → lets_go_at y made (suc i) ≡ false
+  module _ (m : ℕ) (low : (r : ℕ) → last_of_names made at ends ≡ Some r → r ≤ m) where
+    pub none-behind : (i : ℕ) → among (path made at) (suc i) ≡ true → m < suc i → (y : ℕ) → among ends y ≡ true → lets_go_at y made (suc i) ≡ false
     unfolding last_let_go
     none-behind i on high y h = not_true (lets_go_at y made (suc i)) (λ t.
         let l = last-up made are.falls (lets_go_at y made) (suc i) t at on in
@@ -547,42 +585,14 @@ module _ (made : List Made) (are : AreMoments made) (at x : ℕ) (within : at �
         last-is : (z r : ℕ) → last_or None (filter (lets_go_at z made) (path made at)) ≡ Some r → last_let_go z made at ≡ Some r
         last-is z r e = e
 
-    not-behind : (i : ℕ) → among (path made at) (suc i) ≡ true → at_moment (leaked x) made (suc i) ≡ true → suc i ≤ m
-    not-behind i on leaks = elim (cases_lt m (suc i)) [
-      | inl l ↦
-          let up : ℕ = parent_at made (suc i) in
-          let later : among (path made up) m ≡ true = on-parent made are.falls i m l (earlier-on made are.falls m (suc i) (omega (arith, l)) at on_m on) in
-          let on_up : among (path made at) up ≡ true = all-on made are.falls up (suc i) (on-child made are.falls i up (own up m later)) at on in
-          absurd (true≢false (is_leaked (state_at made up) x)
-          (bare-out up on_up (among-early made are.falls up m later) (out-before i on leaks (none-behind i on l)))
-          (unleaked-before i on leaks))
-      | inr g ↦ omega (arith, g)
-    ]
-
-    now-leaked : is_leaked S x ≡ true
-    now-leaked = bare-out at (own at m on_m) (among-early made are.falls at m on_m) unreached-now
-
-    pub bare-by-names : last_of_names made at ends ≡ Some m → last_on (happens happening.Leaked x) made at ≡ Some m
-    bare-by-names is = one-leak m now-leaked (λ i on leaks.
-        let a : suc i ≤ m = not-behind i on leaks in
-        let b : m ≤ suc i = all-low (λ y. last_let_go y made at) (suc i) ends (names-low i on leaks) None (λ r e. none_is r e) m is in
-        omega arith)
-
-    pub bare-by-child : is_leaked (state_at made (parent_at made m)) x ≡ false → last_on (happens happening.Leaked x) made at ≡ Some m
-    bare-by-child kept = one-leak m now-leaked (λ i on leaks.
-        let a : suc i ≤ m = not-behind i on leaks in
-        elim (cases_lt (suc i) m) [
-          | inl l ↦ absurd (crossed m on_m i on leaks l kept)
-          | inr g ↦ omega (arith, g, a)
-        ])
-      where
-        crossed : (m : ℕ) → among (path made at) m ≡ true → (i : ℕ) (on : among (path made at) (suc i) ≡ true) (leaks : at_moment (leaked x) made (suc i) ≡ true) → suc i < m → is_leaked (state_at made (parent_at made m)) x ≡ false → ⊥
-        crossed zero on_r i on leaks l kept = omega (arith, l)
-        crossed (suc j) on_r i on leaks l kept =
-            true≢false (is_leaked (state_at made (parent_at made (suc j))) x)
-            ((leads i on leaks (parent_at made (suc j)) (on_up i on leaks j l on_r) (later_up i on leaks j l on_r)).1
-            (there-then i on leaks (parent_at made (suc j)) (on_up i on leaks j l on_r) (later_up i on leaks j l on_r)))
-            kept
+  -- what is leaked before a moment is so before its call
+  pub crossed : (m : ℕ) → among (path made at) m ≡ true → (i : ℕ) (on : among (path made at) (suc i) ≡ true) (leaks : at_moment (leaked x) made (suc i) ≡ true) → suc i < m → is_leaked (state_at made (parent_at made m)) x ≡ false → ⊥
+  crossed zero on_r i on leaks l kept = omega (arith, l)
+  crossed (suc j) on_r i on leaks l kept =
+      true≢false (is_leaked (state_at made (parent_at made (suc j))) x)
+      ((leads i on leaks (parent_at made (suc j)) (on_up i on leaks j l on_r) (later_up i on leaks j l on_r)).1
+      (there-then i on leaks (parent_at made (suc j)) (on_up i on leaks j l on_r) (later_up i on leaks j l on_r)))
+      kept
 
 -- the same as it is found
 pub told-by : (made : List Made) (are : AreMoments made) (at x : ℕ) (within : at ≤ length made) → stands_passive (state_at made at) x ≡ true

@@ -21,7 +21,9 @@ pub mod StayLaws
 pub mod NeverLaws
 pub mod NameLaws
 pub mod JobLaws
+pub mod ChildLaws
 pub mod LetGoLaws
-pub mod BareLaws
+pub mod LostChildLaws
+pub mod EndedJobLaws
 pub mod NameSearchLaws
 pub mod RecordReachLaws

@@ -1,7 +1,7 @@
 -- What a call does to the rows that name an object out of reach: none of them goes, and none comes. An object that is neither
 -- a job nor a process that runs is leaked where it is out of reach; and what is no job and leaked was so before the call, or it
 -- was reached there, or the call ended it.
-use Rattle.std.proofs.Common.{◌≡◌, ◌<◌, ℕ, suc, ◌+◌, Bool, true, false, not, ◌&&◌, ◌||◌, List, ◌⊎◌, inl, inr, refl, sym, ap, ◌∙◌, subst, arith}
+use Rattle.std.proofs.Common.{◌≡◌, ◌<◌, ℕ, suc, ◌+◌, Bool, true, false, not, ◌&&◌, ◌||◌, ◌⊎◌, inl, inr, refl, sym, ap, ◌∙◌, subst, arith}
 use Rattle.std.specs.Prelude.{Option, None, Some, ◌==◌}
 use Rattle.std.specs.List.{list_any}
 use Rattle.std.proofs.lemmas.Bool.{eqb-true, eq-eqb}
@@ -15,7 +15,7 @@ use Rattle.zt_rows.specs.declared.rows.Row.{Row}
 use Rattle.zt_rows.specs.declared.rows.Row.TheVariants as rows
 use Rattle.zt_rows.specs.Contents.{MessageContent}
 use Rattle.zt_rows.specs.State.{State, row}
-use Rattle.zt_rows.specs.Reads.{as_entry, as_message, object, entry, message, is_job, is_process, is_live, is_live_process, is_live_job, on_object, runs}
+use Rattle.zt_rows.specs.Reads.{as_entry, as_message, as_object, object, entry, message, is_job, is_process, is_live, is_live_process, is_live_job, on_object, runs}
 use Rattle.zt_rows.specs.Tests.{among, exists, is_endpoint, is_task, link_at, object_link}
 use Rattle.zt_rows.specs.Room.{suits}
 use Rattle.zt_rows.specs.Support.{root_job}
@@ -23,7 +23,7 @@ use Rattle.zt_rows.specs.End.{chain, links}
 use Rattle.zt_rows.specs.Handles.{next_koid}
 use Rattle.zt_rows.specs.Consistent.{IsSound, IsConsistent}
 use Rattle.zt_rows.proofs.RowLaws.{In, row-in, in-row, list_any-in, in-list_any, or_true, and_left, and_right, and_both, true≢false, not_true}
-use Rattle.zt_rows.proofs.ReadLaws.{some_one, exists-some, kind_at-some, message-row}
+use Rattle.zt_rows.proofs.ReadLaws.{some_one, exists-some, kind_at-some, message-row, object-row}
 use Rattle.zt_rows.proofs.SupportLaws.{KeptBy, by_entry, by_message, by_child, by_itself, supported-kept}
 use Rattle.zt_rows.proofs.SoundLaws.{runs-some, some-runs}
 use Rattle.zt_rows.proofs.AboveLaws.{above-live}
@@ -31,7 +31,8 @@ use Rattle.zt_queries.specs.Happenings.{lives, ended, IsCallStep}
 use Rattle.zt_queries.specs.Leaks.{is_leaked}
 use Rattle.zt_queries.specs.Reachability.{reached}
 use Rattle.zt_history.specs.LetGo.{names, lets_go}
-use Rattle.zt_queries.specs.ProofsOnly.NameSearch.{is_passive, stands_passive, HoldsEndpoints, AreAbove}
+use Rattle.zt_history.specs.LostChild.{is_child_row}
+use Rattle.zt_queries.specs.ProofsOnly.NameSearch.{is_passive, stands_passive}
 use Rattle.zt_queries.specs.ProofsOnly.FirstLeak.{is_passing_kind}
 use Rattle.zt_queries.proofs.ReachLaws.{in-among, all-in, entry-reached, message-reached}
 use Rattle.zt_queries.proofs.FollowLaws.{Aged, AllReached, Follows, low-koid}
@@ -190,20 +191,30 @@ passive-leaked S c x p out =
     no-job : (o : ObjectRow) → object S x ≡ Some o → is_job o.kind ≡ true → ⊥
     no-job o there t = true≢false (is_job o.kind) t (off (is_job o.kind) (and_left (not (is_job o.kind)) _ (passive o there)))
 
--- what is above a leaked object is leaked with it
-pub above-leaked : (S : State) → IsConsistent S → (x : ℕ) (ends : List ℕ) → AreAbove S x ends → (y : ℕ) → among ends y ≡ true → is_leaked S x ≡ true → is_leaked S y ≡ true
-above-leaked S c x ends above y there leaks = above (is_leaked S) holds leaks y there
+-- an endpoint at which a message waits that names what is out of reach is leaked
+pub endpoint-leaked : (S : State) → IsConsistent S → (e n y : ℕ) → names y (row S (key.Msg e n)) ≡ true → among (reached S) y ≡ false → is_leaked S e ≡ true
+endpoint-leaked S c e n y named out =
+    let w = out-named S c.sound y out (key.Msg e n) named in
+    let o = kind_at-some S w.0 kind.Channel (c.sound.of_messages w.0 w.1 w.3 w.4).owner in
+    let passive : stands_passive S w.0 ≡ true = ap (on_object is_passive) o.1 ∙ ap (λ (k : Kind). not (is_job k) && not (is_process k && is_live o.0.life)) o.2 in
+    subst (λ v. is_leaked S v ≡ true) (sym (ap owner w.2)) (passive-leaked S c w.0 passive w.6)
   where
     owner : RowKey → ℕ
-    owner (key.Msg e n) = e
+    owner (key.Msg f l) = f
     owner _ = 0
 
-    holds : HoldsEndpoints S (is_leaked S)
-    holds e n z named out =
-        let w = out-named S c.sound z (leaked-lost S z out).unreached (key.Msg e n) named in
-        let o = kind_at-some S w.0 kind.Channel (c.sound.of_messages w.0 w.1 w.3 w.4).owner in
-        let passive : stands_passive S w.0 ≡ true = ap (on_object is_passive) o.1 ∙ ap (λ (k : Kind). not (is_job k) && not (is_process k && is_live o.0.life)) o.2 in
-        subst (λ v. is_leaked S v ≡ true) (sym (ap owner w.2)) (passive-leaked S c w.0 passive w.6)
+-- ---- live children
+
+pub child-object : (S : State) (y z : ℕ) → is_child_row y (row S (key.Object z)) ≡ true → (q : ObjectRow) × (object S z ≡ Some q) × ((is_live_job q || is_live_process q) ≡ true) × (q.link ≡ y)
+child-object S y z h = by (row S (key.Object z)) refl h
+  where
+    by : (r : Option Row) → row S (key.Object z) ≡ r → is_child_row y r ≡ true → (q : ObjectRow) × (object S z ≡ Some q) × ((is_live_job q || is_live_process q) ≡ true) × (q.link ≡ y)
+    by (Some (rows.Object q)) there e = (q, ap as_object there, and_left (is_live_job q || is_live_process q) _ e, eqb-true q.link y (and_right (is_live_job q || is_live_process q) _ e))
+    by None there e = cc
+    by _ there e = cc
+
+pub object-child : (S : State) (y z : ℕ) (q : ObjectRow) → object S z ≡ Some q → (is_live_job q || is_live_process q) ≡ true → q.link ≡ y → is_child_row y (row S (key.Object z)) ≡ true
+object-child S y z q there live link = ap (is_child_row y) (object-row S z q there) ∙ and_both (is_live_job q || is_live_process q) _ live (eq-eqb q.link y link)
 
 -- ---- what is no job
 

@@ -1,9 +1,10 @@
--- What a search for the names of an object finds: each message that it takes in is taken from the count of the names, so where
--- none are left nothing else names the object.
-use Rattle.std.proofs.Common.{◌≡◌, ◌≤◌, ◌<◌, ℕ, zero, suc, ◌+◌, ◌-◌, Bool, true, false, cond, ◌||◌, List, [], ◌∷◌, ◌++◌, fold, length, take, get_or, count_by, inl, inr, refl, sym, ap, ◌∙◌, subst, arith, append-nil, append_assoc, length-append}
-use Rattle.std.specs.Prelude.{Option, None, Some, Result, Ok, Err, OnOk, ◌==◌, if◌then◌else◌}
+-- What a search for what keeps an object finds: each message that it takes in is taken from the count of the names, so where
+-- none are left nothing else names the object; and the live children of a job, one after another.
+use Rattle.std.proofs.Common.{◌≡◌, ◌≤◌, ◌<◌, ℕ, zero, suc, ◌+◌, ◌-◌, ◌^◌, Bool, true, false, cond, ◌||◌, List, [], ◌∷◌, ◌++◌, fold, length, take, get_or, count_by, inl, inr, refl, sym, ap, ◌∙◌, subst, arith, append-nil, append_assoc, length-append}
+use Rattle.std.specs.Prelude.{Option, None, Some, Result, Ok, Err, OnOk, ◌==◌, if◌then◌else◌, nat_le}
 use Rattle.std.specs.List.{list_any, slice_get}
-use Rattle.std.proofs.lemmas.Bool.{eqb-true, eq-eqb}
+use Rattle.std.specs.Option.{option_map_or}
+use Rattle.std.proofs.lemmas.Bool.{cases_lt, eqb-true, eq-eqb, leb-true, le-leb}
 use Rattle.std.proofs.lemmas.List.{take-append-le, take_more}
 use Rattle.std.proofs.lemmas.List.Folds.{list_any-append}
 use Rattle.std.proofs.lemmas.List.Sums.{sum_by-cons}
@@ -11,25 +12,32 @@ use Rattle.std.proofs.lemmas.Option.{slice_get_within}
 use Rattle.zt_rows.specs.declared.keys.RowKey.{RowKey}
 use Rattle.zt_rows.specs.declared.keys.RowKey.TheVariants as key
 use Rattle.zt_rows.specs.declared.rows.Held.{Held}
+use Rattle.zt_rows.specs.declared.rows.ObjectRow.{ObjectRow}
 use Rattle.zt_rows.specs.declared.rows.Row.{Row}
 use Rattle.zt_rows.specs.declared.rows.Row.TheVariants as rows
 use Rattle.zt_rows.specs.Keys.{rowkey_eq}
 use Rattle.zt_rows.specs.ProofsOnly.KeyOrder.{rowkey_eq-equal, rowkey_eq-laws}
+use Rattle.zt_rows.specs.Reads.{as_object, is_live_job, object}
 use Rattle.zt_rows.specs.State.{State, row, put}
 use Rattle.zt_rows.specs.Support.{support_count}
 use Rattle.zt_rows.specs.Room.{suits}
-use Rattle.zt_rows.specs.Tests.{among}
+use Rattle.zt_rows.specs.Settle.{is_child_job_of, is_child_process_of}
+use Rattle.zt_rows.specs.Tests.{among, count_row}
 use Rattle.zt_rows.specs.Consistent.{IsSound}
-use Rattle.zt_rows.proofs.RowLaws.{In, list_any-in, or_left, or_right, or_true}
+use Rattle.zt_rows.proofs.RowLaws.{In, list_any-in, or_left, or_right, or_true, true≢false}
 use Rattle.zt_rows.proofs.StateLaws.{row-put-other}
+use Rattle.zt_index.specs.Chains.{IsBehind, IsNext}
+use Rattle.zt_index.specs.Criteria.{is_below, objects_where}
 use Rattle.zt_index.specs.KoidCounts.{named_by}
+use Rattle.zt_index.specs.ProofsOnly.KoidCounts.{keeps_tasks, numbers_of, total}
 use Rattle.zt_index.proofs.Counts.{support_count-numbers}
-use Rattle.zt_index.proofs.Totals.{share, share-within, total-put}
+use Rattle.zt_index.proofs.Totals.{count-total, share, share-within, total-put}
+use Rattle.zt_history.specs.LostChild.{is_child_row}
 use Rattle.zt_history.specs.TreeInvariant.{AreMoments}
 use Rattle.zt_history.specs.Tree.{Made, parent_of, parent_at}
 use Rattle.zt_history.proofs.RunLaws.{parent-within}
-use Rattle.zt_history.specs.LetGo.{names, last_let_go}
-use Rattle.zt_queries.specs.ProofsOnly.NameSearch.{waits_at, IsGuarded, AreAbove, IsNameSearch, Widens, with_end, times_named, is_one, IsNameCount, IsPartSearch, later, last_of_names}
+use Rattle.zt_history.specs.LetGo.{names}
+use Rattle.zt_queries.specs.ProofsOnly.NameSearch.{waits_at, IsGuarded, AreAbove, IsHeldBy, IsNameSearch, Widens, with_end, times_named, is_one, IsNameCount, IsPartSearch, later}
 use Rattle.zt_queries.proofs.SinceLaws.{take_whole}
 
 -- ---- more endpoints
@@ -63,17 +71,37 @@ widens-end S y e n ends named = by (among ends e)
     one z h = elim (or_true (e == z) false h) [ inl s ↦ eqb-true e z s | inr f ↦ cc ]
 
     above : (x : ℕ) → among ends y ≡ true → AreAbove S x ends → AreAbove S x (ends ++ e ∷ [])
-    above x h up set holds first z there = elim (or_true (among ends z) _ (sym (list_any-append (λ w. w == z) ends (e ∷ [])) ∙ there)) [
-      | inl old ↦ up set holds first z old
-      | inr new ↦ subst (λ w. set w ≡ true) (one z new) (holds e n y named (up set holds first y h))
+    above x h up set holds below first z there = elim (or_true (among ends z) _ (sym (list_any-append (λ w. w == z) ends (e ∷ [])) ∙ there)) [
+      | inl old ↦ up set holds below first z old
+      | inr new ↦ subst (λ w. set w ≡ true) (one z new) (holds e n y named (up set holds below first y h))
     ]
 
     by : (b : Bool) → Widens S y ends (if b then ends else ends ++ e ∷ [])
     by true = widens-itself S y ends
     by false = record { rest = e ∷ []; whole = refl; above = above }
 
+-- a live child of y
+pub widens-child : (S : State) (y c : ℕ) (ends : List ℕ) → is_child_row y (row S (key.Object c)) ≡ true → Widens S y ends (ends ++ c ∷ [])
+widens-child S y c ends child = record { rest = c ∷ []; whole = refl; above = above }
+  where
+    one : (z : ℕ) → among (c ∷ []) z ≡ true → c ≡ z
+    one z h = elim (or_true (c == z) false h) [ inl s ↦ eqb-true c z s | inr f ↦ cc ]
+
+    above : (x : ℕ) → among ends y ≡ true → AreAbove S x ends → AreAbove S x (ends ++ c ∷ [])
+    above x h up set holds below first z there = elim (or_true (among ends z) _ (sym (list_any-append (λ w. w == z) ends (c ∷ [])) ∙ there)) [
+      | inl old ↦ up set holds below first z old
+      | inr new ↦ subst (λ w. set w ≡ true) (one z new) (below c y child (up set holds below first y h))
+    ]
+
 pub guarded-more : (S : State) (y z : ℕ) (old new : List ℕ) → Widens S z old new → IsGuarded S old y → IsGuarded S new y
 guarded-more S y z old new w g k h = ap (λ l. waits_at l k) w.whole ∙ waits-more old w.rest k (g k h)
+
+pub held-more : (S : State) (y z : ℕ) (old new : List ℕ) → Widens S z old new → IsHeldBy S old y → IsHeldBy S new y
+held-more S y z old new w h = record {
+  guarded = guarded-more S y z old new w h.guarded;
+  children = λ c child. ap (λ l. among l c) w.whole ∙ among-more old w.rest c (h.children c child);
+  calm = h.calm;
+}
 
 -- the endpoint is there then
 end-there : (ends : List ℕ) (e : ℕ) → among (with_end ends e) e ≡ true
@@ -132,10 +160,22 @@ named-some y _ _ s e = cc
 
 -- ---- what is left of the count
 
-pub count-begins : (S : State) (y : ℕ) (ends : List ℕ) (messages : List RowKey) (left : ℕ) → messages ≡ [] → left ≡ support_count S y → IsNameCount S y ends messages left
-count-begins S y ends messages left none is = record {
+-- the supports of an object are its names at least, and those of a live job its live children too
+pub names-few : (S : State) (y count : ℕ) → count ≡ support_count S y → total (named_by y) S ≤ count
+names-few S y count is = omega (arith, is, support_count-numbers S y)
+
+pub job-names-few : (S : State) (y count jobs processes : ℕ) (o : ObjectRow) → object S y ≡ Some o → is_live_job o ≡ true → count ≡ support_count S y
+    → jobs ≡ count_row (is_child_job_of y) S → processes ≡ count_row (is_child_process_of y) S → total (named_by y) S ≤ count - jobs - processes
+job-names-few S y count jobs processes o there live is are_jobs are_processes =
+    let tasks : cond {A = ℕ} (keeps_tasks (object S y)) ((numbers_of S y).jobs + (numbers_of S y).processes) 0 ≡ (numbers_of S y).jobs + (numbers_of S y).processes =
+    ap (λ (r : Option ObjectRow). cond {A = ℕ} (keeps_tasks r) ((numbers_of S y).jobs + (numbers_of S y).processes) 0) there
+    ∙ ap (λ b. cond {A = ℕ} b ((numbers_of S y).jobs + (numbers_of S y).processes) 0) live in
+    omega (arith, is, support_count-numbers S y, tasks, are_jobs, are_processes, count-total (is_child_job_of y) S, count-total (is_child_process_of y) S)
+
+pub count-begins : (S : State) (y : ℕ) (ends : List ℕ) (messages : List RowKey) (left : ℕ) → messages ≡ [] → total (named_by y) S ≤ left → IsNameCount S y ends messages left
+count-begins S y ends messages left none few = record {
   others = S;
-  few = omega (arith, is, support_count-numbers S y);
+  few = few;
   same = λ k h. refl;
   waiting = λ k h. let f : false ≡ true = sym (ap (λ ms. is_one ms k) none) ∙ h in cc;
 }
@@ -238,42 +278,85 @@ at-place old place named low is =
     in-get_or (x ∷ xs) zero d h = inl refl
     in-get_or (x ∷ xs) (suc i) d h = inr (in-get_or xs i d (omega (arith, h)))
 
-pub part-begins : (S : State) (x : ℕ) (ends : List ℕ) → ends ≡ x ∷ [] → IsPartSearch S x ends 0
-part-begins S x ends is = record {
-  within = omega arith;
-  itself = ap (λ l. among l x) is ∙ or_left (x == x) false (eq-eqb x x refl);
-  above = λ set holds first y there. subst (λ z. set z ≡ true) (one_of x y (ap (λ l. among l y) (sym is) ∙ there)) first;
-  guarded = λ y h. let f : false ≡ true = ap (λ l. among (take 0 l) y) (sym is) ∙ h in cc;
-}
-
 module _ (S : State) (x : ℕ) (old new : List ℕ) (place named : ℕ) (low : place < length old) (is : named ≡ get_or old place named) (w : Widens S named old new) where
-  pub part-goes : IsPartSearch S x old place → IsGuarded S new named → IsPartSearch S x new (place + 1)
+  pub part-goes : IsPartSearch S x old place → IsHeldBy S new named → IsPartSearch S x new (place + 1)
   part-goes p g = record {
     within = omega (arith, low, ap length w.whole, length-append old w.rest);
     itself = ap (λ l. among l x) w.whole ∙ among-more old w.rest x p.itself;
     above = w.above x (at-place old place named low is) p.above;
-    guarded = λ y h. elim (or_true (among (take place old) y) _ (sym (list_any-append (λ z. z == y) (take place old) (named ∷ [])) ∙ ap (λ l. among l y) (sym (take-next old w.rest new place named w.whole low is)) ∙ h)) [
-      | inl before ↦ guarded-more S y named old new w (p.guarded y before)
-      | inr one ↦ subst (IsGuarded S new) (one_of named y one) g
+    held = λ y h. elim (or_true (among (take place old) y) _ (sym (list_any-append (λ z. z == y) (take place old) (named ∷ [])) ∙ ap (λ l. among l y) (sym (take-next old w.rest new place named w.whole low is)) ∙ h)) [
+      | inl before ↦ held-more S y named old new w (p.held y before)
+      | inr one ↦ subst (IsHeldBy S new) (one_of named y one) g
     ];
   }
 
-  pub latest-goes : (made : List Made) (m : ℕ) (latest next : Option ℕ) → latest ≡ last_of_names made m (take place old) → next ≡ later latest (last_let_go named made m) → next ≡ last_of_names made m (take (place + 1) new)
-  latest-goes made m latest next so_far is_next =
+  -- the latest of what each of these has
+  pub latest-goes : (f : ℕ → Option ℕ) (latest next : Option ℕ) → latest ≡ fold (λ best y. later best (f y)) None (take place old) → next ≡ later latest (f named)
+      → next ≡ fold (λ best y. later best (f y)) None (take (place + 1) new)
+  latest-goes f latest next so_far is_next =
       is_next
-      ∙ ap (λ o. later o (last_let_go named made m)) so_far
-      ∙ sym (fold-push (λ best y. later best (last_let_go y made m)) None (take place old) named)
-      ∙ ap (last_of_names made m) (sym (take-next old w.rest new place named w.whole low is))
+      ∙ ap (λ o. later o (f named)) so_far
+      ∙ sym (fold-push (λ best y. later best (f y)) None (take place old) named)
+      ∙ ap (fold (λ best y. later best (f y)) None) (sym (take-next old w.rest new place named w.whole low is))
 
 pub part-ends : (S : State) (x : ℕ) (ends : List ℕ) (place : ℕ) → length ends ≤ place → IsPartSearch S x ends place → IsNameSearch S x ends
 part-ends S x ends place past p = record {
   itself = p.itself;
   above = p.above;
-  guarded = λ y h. p.guarded y (ap (λ l. among l y) (take_whole ends place past) ∙ h);
+  held = λ y h. p.held y (ap (λ l. among l y) (take_whole ends place past) ∙ h);
 }
 
-pub latest-ends : (made : List Made) (m : ℕ) (ends : List ℕ) (place : ℕ) (latest : Option ℕ) → length ends ≤ place → latest ≡ last_of_names made m (take place ends) → latest ≡ last_of_names made m ends
-latest-ends made m ends place latest past is = is ∙ ap (last_of_names made m) (take_whole ends place past)
+pub latest-ends : (f : ℕ → Option ℕ) (ends : List ℕ) (place : ℕ) (latest : Option ℕ) → length ends ≤ place → latest ≡ fold (λ best y. later best (f y)) None (take place ends) → latest ≡ fold (λ best y. later best (f y)) None ends
+latest-ends f ends place latest past is = is ∙ ap (fold (λ best y. later best (f y)) None) (take_whole ends place past)
+
+-- ---- the children of a job, by rising koid
+
+abbrev pub is_passed : Option ℕ → ℕ → Bool
+is_passed None n = false
+is_passed (Some low) n = nat_le n low
+
+-- how many numbers there are above the low one
+abbrev pub left_above : Option ℕ → ℕ
+left_above None = 2 ^ 64 + 1
+left_above (Some n) = 2 ^ 64 - n
+
+child-passes : (S : State) (y z : ℕ) → is_child_row y (row S (key.Object z)) ≡ objects_where S (is_below y) z
+child-passes S y z = by (row S (key.Object z))
+  where
+    by : (r : Option Row) → is_child_row y r ≡ option_map_or (is_below y) (as_object r) false
+    by (Some (rows.Object o)) = refl
+    by None = refl
+    by (Some (rows.Counters _)) = refl
+    by (Some (rows.Entry _)) = refl
+    by (Some (rows.Msg _)) = refl
+    by (Some (rows.Packet _)) = refl
+    by (Some (rows.Wait _)) = refl
+
+-- those that were passed are among these
+abbrev pub ArePassedIn : State → ℕ → Option ℕ → List ℕ → Type 0
+ArePassedIn S y low ends = (z : ℕ) → is_child_row y (row S (key.Object z)) ≡ true → is_passed low z ≡ true → among ends z ≡ true
+
+module _ (S : State) (y : ℕ) (low : Option ℕ) where
+  pub next-child : (n : ℕ) → IsNext (objects_where S (is_below y)) low (Some n) → is_child_row y (row S (key.Object n)) ≡ true
+  next-child n next = child-passes S y n ∙ next.0.1
+
+  pub passed-more : (n : ℕ) (ends more : List ℕ) → IsNext (objects_where S (is_below y)) low (Some n) → more ≡ ends ++ n ∷ [] → ArePassedIn S y low ends → ArePassedIn S y (Some n) more
+  passed-more n ends more next longer all z child e =
+      ap (λ l. among l z) longer ∙ list_any-append (λ k. k == z) ends (n ∷ []) ∙ by (is_passed low z) refl
+    where
+      behind : (b : Option ℕ) → is_passed b z ≡ false → IsBehind (λ a b. a < b) b z
+      behind None f = tt
+      behind (Some l) f = leb-false l z f
+        where
+          leb-false : (a b : ℕ) → nat_le b a ≡ false → a < b
+          leb-false a b f = elim (cases_lt a b) [ inl lt ↦ lt | inr ge ↦ absurd (true≢false (nat_le b a) (le-leb b a ge) f) ]
+
+      by : (b : Bool) → is_passed low z ≡ b → (among ends z || among (n ∷ []) z) ≡ true
+      by true t = or_left (among ends z) _ (all z child t)
+      by false f = or_right (among ends z) _ (elim (cases_lt z n) [
+        | inl lt ↦ absurd (true≢false (objects_where S (is_below y) z) (sym (child-passes S y z) ∙ child) (next.1 z (behind low f) lt))
+        | inr ge ↦ or_left (n == z) false (eq-eqb n z (omega (arith, ge, leb-true z n e)))
+      ])
 
 -- ---- moments
 

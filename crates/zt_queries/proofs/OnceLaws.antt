@@ -111,11 +111,11 @@ pub of_object : (test : ObjectRow → Bool) (r : Option ObjectRow) → on_object
 of_object test (Some o) e = (o, refl, e)
 of_object test None e = cc
 
-lives-exists : (S : State) (x : ℕ) → lives S x ≡ true → exists S x ≡ true
+pub lives-exists : (S : State) (x : ℕ) → lives S x ≡ true → exists S x ≡ true
 lives-exists S x e = let w = of_object (λ (o : ObjectRow). is_live o.life) (object S x) e in exists-some S x w.0 w.1
 
 -- what lives lived before
-lived : (S T : State) (x : ℕ) → Follows S T → given x S → lives T x ≡ true → lives S x ≡ true
+pub lived : (S T : State) (x : ℕ) → Follows S T → given x S → lives T x ≡ true → lives S x ≡ true
 lived S T x f g e =
     let w = of_object (λ (o : ObjectRow). is_live o.life) (object T x) e in
     let o = was-old S T x f g w.0 w.1 in

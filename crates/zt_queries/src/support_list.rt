@@ -356,7 +356,7 @@ fn add_place(
 }
 
 /// Whether it is a job that has not ended.
-fn is_live_job(found: &ObjectRow) -> bool
+pub(crate) fn is_live_job(found: &ObjectRow) -> bool
     ensures { result ≡ is_live_job found.now }
 {
     found.kind == Kind::Job && found.life == Life::Live

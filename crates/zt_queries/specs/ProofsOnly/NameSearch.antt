@@ -1,6 +1,7 @@
--- Where the names of an object stand that is out of reach: in messages, at endpoints whose names stand in messages in turn;
--- and the last moment at which one of these lost a name, or the object ended. This project's own. Used by proofs only.
-use Rattle.std.specs.Prelude.{◌≡◌, ◌≤◌, ◌==◌, ◌&&◌, ℕ, Bool, true, false, not, if◌then◌else◌, ⊤, List, [], ◌∷◌, ◌++◌, fold, count_by, length, take, max, Option, None, Some}
+-- What keeps an object that is out of reach: names in messages, at endpoints whose names stand in messages in turn, and the live
+-- jobs below a live job; and the last moment at which one of these lost a name or a child, or the object ended. This project's
+-- own. Used by proofs only.
+use Rattle.std.specs.Prelude.{◌≡◌, ◌≤◌, ◌==◌, ◌&&◌, ℕ, Bool, true, false, not, if◌then◌else◌, ⊤, List, [], ◌∷◌, ◌++◌, fold, count_by, length, take, max, nat_lt, Option, None, Some}
 use Rattle.std.specs.List.{list_any}
 use Rattle.zt_rows.specs.declared.calls.Happening.TheVariants as happening
 use Rattle.zt_rows.specs.declared.keys.RowKey.{RowKey}
@@ -10,9 +11,10 @@ use Rattle.zt_rows.specs.declared.rows.Row.{Row}
 use Rattle.zt_rows.specs.declared.rows.Row.TheVariants as rows
 use Rattle.zt_rows.specs.Keys.{rowkey_eq}
 use Rattle.zt_rows.specs.State.{State, row}
-use Rattle.zt_rows.specs.Reads.{as_object, object, on_object, is_job, is_live_process}
-use Rattle.zt_rows.specs.Tests.{among, has_all}
-use Rattle.zt_history.specs.Tree.{Made, path, state_at}
+use Rattle.zt_rows.specs.Reads.{as_object, object, on_object, is_job, is_live, is_live_process}
+use Rattle.zt_rows.specs.Settle.{is_child_process_of}
+use Rattle.zt_rows.specs.Tests.{among, count_row, has_all}
+use Rattle.zt_history.specs.Tree.{Made, state_at}
 use Rattle.zt_history.specs.declared.row_happenings.RowHappening.TheVariants as turn
 use Rattle.zt_history.specs.RowHappenings.{last_shown}
 use Rattle.zt_index.specs.KoidCounts.{named_by}
@@ -23,6 +25,7 @@ use Rattle.zt_queries.specs.declared.leak_graph.name_search.FoundNames.{FoundNam
 use Rattle.zt_queries.specs.declared.leak_graph.name_search.FoundNames.TheVariants as found_names
 use Rattle.zt_queries.specs.HappeningTimes.{happens, last_on}
 use Rattle.zt_history.specs.LetGo.{names, last_let_go}
+use Rattle.zt_history.specs.LostChild.{is_child_row, last_lost_child}
 
 -- the object is there, and is neither a job nor a process that runs: nothing keeps it but what names it
 abbrev pub is_passive : ObjectRow → Bool
@@ -48,15 +51,29 @@ IsGuarded S ends y = (k : RowKey) → names y (row S k) ≡ true → waits_at en
 abbrev pub HoldsEndpoints : State → (ℕ → Bool) → Type 0
 HoldsEndpoints S set = (e n y : ℕ) → names y (row S (key.Msg e n)) ≡ true → set y ≡ true → set e ≡ true
 
+-- beside a job the set has its live children
+abbrev pub HoldsChildren : State → (ℕ → Bool) → Type 0
+HoldsChildren S set = (z y : ℕ) → is_child_row y (row S (key.Object z)) ≡ true → set y ≡ true → set z ≡ true
+
 -- each of these is in every such set that has x
 abbrev pub AreAbove : State → ℕ → List ℕ → Type 0
-AreAbove S x ends = (set : ℕ → Bool) → HoldsEndpoints S set → set x ≡ true → (y : ℕ) → among ends y ≡ true → set y ≡ true
+AreAbove S x ends = (set : ℕ → Bool) → HoldsEndpoints S set → HoldsChildren S set → set x ≡ true → (y : ℕ) → among ends y ≡ true → set y ≡ true
 
--- the object, with endpoints at which messages wait that name others of these; nothing else names any of them
+-- the live children of y are among these
+abbrev pub AreChildrenIn : State → List ℕ → ℕ → Type 0
+AreChildrenIn S ends y = (z : ℕ) → is_child_row y (row S (key.Object z)) ≡ true → among ends z ≡ true
+
+-- what keeps y are messages that wait at one of these, and live jobs among them
+pub record IsHeldBy (S : State) (ends : List ℕ) (y : ℕ) : Type 0 where
+  pub guarded : IsGuarded S ends y
+  pub children : AreChildrenIn S ends y
+  pub calm : count_row (is_child_process_of y) S ≡ 0
+
+-- the object, with what keeps it and others of these, and nothing else keeps any of them
 pub record IsNameSearch (S : State) (x : ℕ) (ends : List ℕ) : Type 0 where
   pub itself : among ends x ≡ true
   pub above : AreAbove S x ends
-  pub guarded : (y : ℕ) → among ends y ≡ true → IsGuarded S ends y
+  pub held : (y : ℕ) → among ends y ≡ true → IsHeldBy S ends y
 
 -- the later of two moments, of which there may be none
 abbrev pub later : Option ℕ → Option ℕ → Option ℕ
@@ -68,7 +85,11 @@ later (Some a) (Some b) = Some (max a b)
 abbrev pub last_of_names : List Made → ℕ → List ℕ → Option ℕ
 last_of_names made m ys = fold (λ best y. later best (last_let_go y made m)) None ys
 
--- or x ended
+-- or a live child
+abbrev pub last_of_children : List Made → ℕ → List ℕ → Option ℕ
+last_of_children made m ys = fold (λ best y. later best (last_lost_child y made m)) None ys
+
+-- a name, or x ended
 abbrev pub last_of_all : List Made → ℕ → ℕ → List ℕ → Option ℕ
 last_of_all made m x ys = later (last_shown turn.Ended x made m) (last_of_names made m ys)
 
@@ -77,6 +98,13 @@ pub record IsLastOfNames (made : List Made) (m x : ℕ) (latest : Option ℕ) : 
   pub ends : List ℕ
   pub search : IsNameSearch (state_at made m) x ends
   pub last : latest ≡ last_of_names made m ends
+
+-- and one of them lost a live child last at that one
+pub record IsLastOfBoth (made : List Made) (m x : ℕ) (named lost : Option ℕ) : Type 0 where
+  pub ends : List ℕ
+  pub search : IsNameSearch (state_at made m) x ends
+  pub names : named ≡ last_of_names made m ends
+  pub children : lost ≡ last_of_children made m ends
 
 -- ---- what a search has found
 
@@ -106,12 +134,12 @@ pub record IsNameCount (S : State) (y : ℕ) (ends : List ℕ) (messages : List 
   pub same : (k : RowKey) → is_one messages k ≡ false → row others k ≡ row S k
   pub waiting : (k : RowKey) → is_one messages k ≡ true → waits_at ends k ≡ true
 
--- the same search before all of these were looked at: nothing else names one of so many
+-- the same search before all of these were looked at: nothing else keeps one of so many
 pub record IsPartSearch (S : State) (x : ℕ) (ends : List ℕ) (place : ℕ) : Type 0 where
   pub within : place ≤ length ends
   pub itself : among ends x ≡ true
   pub above : AreAbove S x ends
-  pub guarded : (y : ℕ) → among (take place ends) y ≡ true → IsGuarded S ends y
+  pub held : (y : ℕ) → among (take place ends) y ≡ true → IsHeldBy S ends y
 
 -- what is told of the moment at which x was leaked is so
 abbrev pub IsToldBy : List Made → ℕ → ℕ → LeakTime → Type 0
@@ -120,25 +148,24 @@ IsToldBy made at x leak_time.Unknown = ⊤
 
 -- what is found by the names of x is so
 abbrev pub AreFound : List Made → ℕ → ℕ → FoundNames → Type 0
-AreFound made m x (found_names.All latest) = IsLastOfNames made m x latest
+AreFound made m x (found_names.All named lost) = IsLastOfBoth made m x named lost
 AreFound made m x (found_names.Told told) = IsToldBy made m x told
 
 -- ---- jobs
 
--- it is a job on which the signals stand that it has no jobs and no processes
-abbrev pub is_bare : ObjectRow → Bool
-is_bare o = is_job o.kind && has_all o.signals.0 0x30
+-- it is a job that has ended
+abbrev pub is_ended_job : ObjectRow → Bool
+is_ended_job o = is_job o.kind && not (is_live o.life)
 
 -- it is a job on which the signal does not stand that it has no processes
 abbrev pub has_process : ObjectRow → Bool
 has_process o = is_job o.kind && not (has_all o.signals.0 0x20)
 
-abbrev pub is_bare_row : Option Row → Bool
-is_bare_row r = on_object is_bare (as_object r)
-
 abbrev pub has_process_row : Option Row → Bool
 has_process_row r = on_object has_process (as_object r)
 
--- at every moment from m on that is on the path to the last one it is such a job
-abbrev pub IsBareFrom : List Made → ℕ → ℕ → ℕ → Type 0
-IsBareFrom made at x m = (n : ℕ) → among (path made at) n ≡ true → m ≤ n → is_bare_row (row (state_at made n) (key.Object x)) ≡ true
+-- the first of two moments, if it is there and not before the second
+abbrev pub unless_before : Option ℕ → Option ℕ → Option ℕ
+unless_before None b = None
+unless_before (Some m) None = Some m
+unless_before (Some m) (Some n) = if nat_lt m n then None else Some m

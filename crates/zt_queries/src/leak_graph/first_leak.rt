@@ -36,13 +36,13 @@ use zt_rows::{Koid, Moment, ROOT_JOB, Refusal};
 /// the rows that the call changed, and takes no memory. Where it is there at the position and is neither a job nor a process that
 /// runs, the notes of what it and the endpoints above it let go lead to the messages that name them: this costs a look at each of
 /// these moments, and takes memory for those endpoints and messages. Where an entry turns up among these names, that takes a walk
-/// over entries up to the first one. So it is of a job with no live child there, and beside that it costs a look at each record of
-/// the path since it was leaked.
+/// over entries up to the first one. So it is of a job, with what it and the live jobs below it let go and what children they lost.
 ///
-/// What is left, as an object that is gone, a job with a live child or of which the last child that ended was a job, or a
-/// position elsewhere, is told behind the lists of two paths: by what the object's own row or the records show of the moment at
-/// which it was there last, or else in a graph that the records of the path move, without a store: since what is leaked stays so,
-/// half of the moments that are left are passed over by each look at what is reached. It takes memory for two such graphs.
+/// What is left, as an object that is gone, one that was let go very often, a job that was killed out of reach with none but jobs
+/// below it, or a position elsewhere, is told behind the lists of two paths: by what the object's own row or the records show of
+/// the moment at which it was there last, or else in a graph that the records of the path move, without a store: since what is
+/// leaked stays so, half of the moments that are left are passed over by each look at what is reached. It takes memory for two such
+/// graphs.
 pub fn leaked_since(
     alloc: Global,
     history: &History,

@@ -1,30 +1,35 @@
-//! When an object was leaked, by the names that were let go: it was leaked by the call by which the last name went that a
-//! process could use, its own or that of an endpoint above it, or, if it is a process, by the call that ended it, where that came
-//! later. The names that are left stand in messages at endpoints of which the same holds. Each such message came at a moment at
-//! which what it names lost an entry, so the notes of what was let go lead to it, and the count of its names tells when all are
-//! found. A job without a live child is kept by its names alone too, as long as it has none: so it was leaked by that call, or by
-//! the one by which its last child ended, which the records tell.
+//! When an object was leaked, by what was let go: it was leaked by the call by which the last name went that a process could use,
+//! its own or that of an endpoint above it, or, if it is a process, by the call that ended it, where that came later. The names
+//! that are left stand in messages at endpoints of which the same holds. Each such message came at a moment at which what it names
+//! lost an entry, so the notes of what was let go lead to it, and the count of its names tells when all are found. A live job is
+//! kept by its live children too, which are jobs of which the same holds: so it was leaked by the last call by which a name went or
+//! a child ended, its own or that of such an endpoint or job. A job that ended was leaked by the last call by which a name went, or
+//! by the one by which its last child ended, which the records tell.
 ghost use Rattle.std.specs.Prelude.{◌≡◌, ◌≤◌, ◌==◌, ◌∷◌, [], false, true, Some, IfOk, OnOk, length, count_by};
 ghost use Rattle.std.specs.Option.{option_copied};
 ghost use Rattle.zt_rows.specs.declared.keys.RowKey.TheVariants as key_variant;
+ghost use Rattle.zt_rows.specs.Reads.{is_live_job, object, on_object};
 ghost use Rattle.zt_rows.specs.State.{row};
 ghost use Rattle.zt_rows.specs.Support.{root_job};
 ghost use Rattle.zt_rows.specs.Tests.{exists};
-ghost use Rattle.zt_history.specs.Tree.{state_at};
+ghost use Rattle.zt_history.specs.LostChild.{last_lost_child};
+ghost use Rattle.zt_history.specs.Tree.{parent_at, state_at};
 ghost use Rattle.zt_queries.specs.Leaks.{is_leaked};
-ghost use Rattle.zt_queries.specs.ProofsOnly.NameSearch.{AreFound, IsLastOfNames, has_process_row, is_bare, is_bare_row, is_passive, stands_passive, IsGuarded, later, Widens, with_end, IsNameCount, times_named, IsToldBy};
+ghost use Rattle.zt_index.specs.KoidCounts.{named_by};
+ghost use Rattle.zt_index.specs.ProofsOnly.KoidCounts.{total};
+ghost use Rattle.zt_queries.specs.ProofsOnly.NameSearch.{AreFound, AreChildrenIn, IsHeldBy, IsLastOfNames, has_process_row, is_ended_job, is_passive, stands_passive, IsGuarded, later, unless_before, Widens, with_end, IsNameCount, times_named, IsToldBy};
 
 use crate::leak_graph::unleaked_signs::is_entered;
 use crate::path_pair::{object_in, row_over};
-use crate::support_list::is_live_process;
+use crate::support_list::{is_live_job, is_live_process};
 use bitflags::Flags;
 use std::alloc::{AllocError, Global};
 use zt_bits::{Kind, Signals};
 use zt_history::{History, RowHappening};
-use zt_rows::{Held, Koid, Moment, ObjectRow, ROOT_JOB, Row, RowKey};
+use zt_rows::{Held, Koid, Life, Moment, ObjectRow, ROOT_JOB, Row, RowKey};
 use zt_store::{Record, Store};
 
-/// So many endpoints at most are gone through, one above the other: each is compared with those before it.
+/// So many endpoints and jobs at most are gone through: each endpoint is compared with those before it.
 const MOST_ENDS: usize = 65_536;
 
 /// At so many moments at most it is looked for the messages that name one object: each look passes over the notes of those
@@ -39,9 +44,9 @@ pub(crate) enum LeakTime {
     Unknown,
 }
 
-/// A search for what names an object and the endpoints above it.
+/// A search for what keeps an object: what names it and the endpoints above it, and the live jobs below it.
 struct NameSearch {
-    /// The object, and the endpoints that were found above it.
+    /// The object, and the endpoints and jobs that were found to keep it or others of these.
     ends: Vec<Koid>,
     /// The messages that were found to name the one of these that is looked at.
     messages: Vec<RowKey>,
@@ -61,10 +66,15 @@ impl Drop for NameSearch {
     }
 }
 
-/// What is found by the names of an object and of the endpoints above it.
+/// What is found by what keeps an object.
+#[derive(Clone, Copy)]
 enum FoundNames {
-    /// All of them are in messages, and this is the last moment at which one was let go, if there is one.
-    All(Option<Moment>),
+    /// All names are in messages, and all live children are jobs of which the same holds. These are the last moment at which one
+    /// of the names was let go, and that at which one of the jobs lost a child, if there are any.
+    All {
+        names: Option<Moment>,
+        children: Option<Moment>,
+    },
     /// Not all are, and this is told without them.
     Told(LeakTime),
 }
@@ -86,8 +96,10 @@ pub(crate) fn told_by_names(
         Some(found) => {
             if is_passive(&found) {
                 told_of_passive(alloc, history, koid)
-            } else if is_bare(&found) && koid != ROOT_JOB {
+            } else if is_live_job(&found) && koid != ROOT_JOB {
                 told_of_job(alloc, history, koid)
+            } else if is_ended_job(&found) && koid != ROOT_JOB {
+                told_of_ended_job(alloc, history, koid)
             } else {
                 Ok(told_by_entries(history, koid, koid))
             }
@@ -103,14 +115,11 @@ fn is_passive(object: &ObjectRow) -> bool
     object.kind != Kind::Job && !is_live_process(object)
 }
 
-/// Whether it is a job with no live child, as its signals show it.
-fn is_bare(object: &ObjectRow) -> bool
-    ensures { result ≡ is_bare object.now }
+/// Whether it is a job that has ended.
+fn is_ended_job(object: &ObjectRow) -> bool
+    ensures { result ≡ is_ended_job object.now }
 {
-    object.kind == Kind::Job
-        && object
-            .signals
-            .contains(Signals::NO_JOBS.union(Signals::NO_PROCESSES))
+    object.kind == Kind::Job && object.life != Life::Live
 }
 
 /// The same of an object that is neither a job nor a process that runs: of the moment at which it ended, if it is a process, and
@@ -121,62 +130,87 @@ fn told_of_passive(alloc: Global, history: &History, koid: Koid) -> Result<LeakT
 {
     let ended = history.last_shown(RowHappening::Ended, koid, history.position());
     match search_names(alloc, history, koid)? {
-        FoundNames::All(latest) => Ok(LeakTime::Known(later(ended, latest))),
+        FoundNames::All { names, .. } => Ok(LeakTime::Known(later(ended, names))),
         FoundNames::Told(told) => Ok(told),
     }
 }
 
-/// The same of a job, other than the root job, with no live child.
+/// The same of a live job other than the root job: of the moments at which it, a job below it or an endpoint above these was let
+/// go, and those at which such a job lost a child, the last is the one.
 fn told_of_job(alloc: Global, history: &History, koid: Koid) -> Result<LeakTime, AllocError>
-    requires bare { is_bare_row (row (state_at history.now.tree.made history.now.position) (key_variant.Object koid)) ≡ true }
+    requires live { on_object is_live_job (object (state_at history.now.tree.made history.now.position) koid) ≡ true }
     requires no_root { (koid == root_job) ≡ false }
     ensures { IfOk result (IsToldBy history.now.tree.made history.now.position koid) }
 {
+    history.position();
     match search_names(alloc, history, koid)? {
-        FoundNames::All(latest) => Ok(told_behind(history, koid, latest)),
+        FoundNames::All { names, children } => Ok(LeakTime::Known(later(children, names))),
         FoundNames::Told(told) => Ok(told),
     }
 }
 
-/// The same where all names are found, with the last moment at which one was let go. The records of the path are gone back over,
-/// up to that moment or to the last by whose call the job lost its last child: where that was a process, the job was kept before.
-fn told_behind(history: &History, koid: Koid, latest: Option<Moment>) -> LeakTime
-    requires bare { is_bare_row (row (state_at history.now.tree.made history.now.position) (key_variant.Object koid)) ≡ true }
+/// The same of a job that has ended, other than the root job.
+fn told_of_ended_job(alloc: Global, history: &History, koid: Koid) -> Result<LeakTime, AllocError>
+    requires ended { on_object is_ended_job (object (state_at history.now.tree.made history.now.position) koid) ≡ true }
     requires no_root { (koid == root_job) ≡ false }
-    requires names { IsLastOfNames history.now.tree.made history.now.position koid latest }
-    ensures { IsToldBy history.now.tree.made history.now.position koid result }
+    ensures { IfOk result (IsToldBy history.now.tree.made history.now.position koid) }
 {
-    let key = RowKey::Object(koid);
-    let last = latest.unwrap_or(Moment(0));
-    let mut moment = history.position();
-    let mut row = history.store().row(key);
-    for _ in 0..history.depth_of(moment) {
-        if moment == Moment(0) {
-            return LeakTime::Unknown;
-        }
-        if moment == last {
-            return LeakTime::Known(Some(moment));
-        }
-        row = row_over(history, moment, &key, row);
-        if !is_bare_row(row) {
-            return if has_process_row(row) {
-                LeakTime::Known(Some(moment))
-            } else {
-                LeakTime::Unknown
-            };
-        }
-        moment = history.parent_of(moment);
+    history.position();
+    match search_names(alloc, history, koid)? {
+        FoundNames::All { names, .. } => Ok(told_behind(history, koid, names)),
+        FoundNames::Told(told) => Ok(told),
     }
-    LeakTime::Unknown
 }
 
-/// Whether it is the row of a job with no live child.
-fn is_bare_row(row: Option<&Row>) -> bool
-    ensures { result ≡ is_bare_row (option_copied row.entry) }
+/// The same where all names are found, with the last moment at which one was let go. Where the job lost no child later, that is
+/// the one; else that by which it lost its last child, if it is shown to have been kept before.
+fn told_behind(history: &History, koid: Koid, names: Option<Moment>) -> LeakTime
+    requires ended { on_object is_ended_job (object (state_at history.now.tree.made history.now.position) koid) ≡ true }
+    requires no_root { (koid == root_job) ≡ false }
+    requires names { IsLastOfNames history.now.tree.made history.now.position koid names }
+    ensures { IsToldBy history.now.tree.made history.now.position koid result }
 {
-    match object_in(row) {
-        Some(found) => is_bare(&found),
-        None => false,
+    match history.last_lost_child(koid, history.position()) {
+        Some(child) => match unless_before(names, Some(child)) {
+            Some(name) => LeakTime::Known(Some(name)),
+            None => {
+                if was_kept(history, koid, child) {
+                    LeakTime::Known(Some(child))
+                } else {
+                    LeakTime::Unknown
+                }
+            }
+        },
+        None => match names {
+            Some(last) => LeakTime::Known(Some(last)),
+            None => LeakTime::Unknown,
+        },
+    }
+}
+
+/// The first of two moments, if it is there and not before the second.
+fn unless_before(first: Option<Moment>, second: Option<Moment>) -> Option<Moment>
+    ensures { result ≡ unless_before first second }
+{
+    match (first, second) {
+        (Some(a), Some(b)) => { if a < b { None } else { Some(a) } }
+        (other, None) => other,
+        (None, Some(_)) => None,
+    }
+}
+
+/// Whether it is shown that the job was not leaked before the call of this moment, by which it lost a child: it ended later, or a
+/// process ran below it.
+fn was_kept(history: &History, koid: Koid, moment: Moment) -> bool
+    requires lost { last_lost_child koid history.now.tree.made history.now.position ≡ Some moment }
+    requires ended { on_object is_ended_job (object (state_at history.now.tree.made history.now.position) koid) ≡ true }
+    requires no_root { (koid == root_job) ≡ false }
+    ensures { result ≡ true → is_leaked (state_at history.now.tree.made (parent_at history.now.tree.made moment)) koid ≡ false }
+{
+    let over = history.last_shown(RowHappening::Ended, koid, history.position());
+    match unless_before(Some(moment), over) {
+        Some(_) => has_process_row(row_over(history, moment, &RowKey::Object(koid), None)),
+        None => true,
     }
 }
 
@@ -190,7 +224,8 @@ fn has_process_row(row: Option<&Row>) -> bool
     }
 }
 
-/// That the object was not leaked on the path to the position, where an entry there names one that is leaked with it.
+/// That the object was not leaked on the path to the position, where an entry there names one that is leaked with it, or a process
+/// runs below that one.
 fn told_by_entries(history: &History, koid: Koid, named: Koid) -> LeakTime
     requires there { exists (state_at history.now.tree.made history.now.position) koid ≡ true }
     requires with { is_leaked (state_at history.now.tree.made history.now.position) koid ≡ true
@@ -198,31 +233,33 @@ fn told_by_entries(history: &History, koid: Koid, named: Koid) -> LeakTime
     ensures { IsToldBy history.now.tree.made history.now.position koid result }
 {
     history.position();
-    if is_entered(history.store(), named) {
+    let store = history.store();
+    if store.child_processes(named) > 0 || is_entered(store, named) {
         LeakTime::Known(None)
     } else {
         LeakTime::Unknown
     }
 }
 
-/// Looks for all names of an object and of the endpoints above it, from the messages that name it upwards.
+/// Looks for all that keeps an object: from the messages that name it upwards, and from its live children downwards.
 fn search_names(alloc: Global, history: &History, koid: Koid) -> Result<FoundNames, AllocError>
     requires { exists (state_at history.now.tree.made history.now.position) koid ≡ true }
     ensures { IfOk result (AreFound history.now.tree.made history.now.position koid) }
 {
     let position = history.position();
     let mut search = NameSearch::new(alloc, koid)?;
-    let mut latest = None;
+    let (mut names, mut children) = (None, None);
     for place in 0..MOST_ENDS {
         if place >= search.ends.len() {
-            return Ok(FoundNames::All(latest));
+            return Ok(FoundNames::All { names, children });
         }
         let named = search.ends[place];
-        let whole = search.find_names(history, named)?;
+        let whole = search.find_all(history, named)?;
         if !whole {
             return Ok(FoundNames::Told(told_by_entries(history, koid, named)));
         }
-        latest = later(latest, history.last_let_go(named, position));
+        names = later(names, history.last_let_go(named, position));
+        children = later(children, history.last_lost_child(named, position));
     }
     Ok(FoundNames::Told(LeakTime::Unknown))
 }
@@ -252,6 +289,35 @@ impl NameSearch {
         })
     }
 
+    /// Adds the endpoints at which messages wait that name this one, and its live children; and whether it is shown that nothing
+    /// else at the position keeps it, and no process runs as its child.
+    fn find_all(&mut self, history: &History, koid: Koid) -> Result<bool, AllocError>
+        ensures wider { OnOk result (Widens (state_at history.now.tree.made history.now.position) koid self.old.ends.items self.new.ends.items) }
+        ensures held { IfOk result (λ whole. whole ≡ true
+            → IsHeldBy (state_at history.now.tree.made history.now.position) self.new.ends.items koid) }
+    {
+        history.position();
+        let store = history.store();
+        if store.child_processes(koid) > 0 {
+            return Ok(false);
+        }
+        self.add_children(store, koid)?;
+        self.find_names(history, koid)
+    }
+
+    /// Adds the live children of this one.
+    fn add_children(&mut self, store: &Store, koid: Koid) -> Result<(), AllocError>
+        ensures wider { OnOk result (Widens store.now.state koid self.old.ends.items self.new.ends.items) }
+        ensures children { OnOk result (AreChildrenIn store.now.state self.new.ends.items koid) }
+    {
+        let mut low = None;
+        while let Some(task) = store.task_below(koid, low) {
+            self.ends.push(task)?;
+            low = Some(task);
+        }
+        Ok(())
+    }
+
     /// Adds the endpoints at which messages wait that name this one; and whether it is shown that nothing else at the position
     /// names it. The moments at which it was let go are looked at from the last on, until all its names are found.
     fn find_names(&mut self, history: &History, koid: Koid) -> Result<bool, AllocError>
@@ -261,7 +327,7 @@ impl NameSearch {
     {
         let store = history.store();
         self.messages.clear();
-        self.left = store.count(koid);
+        self.left = names_of(store, koid);
         let mut next = history.last_let_go(koid, history.position());
         for _ in 0..MOST_LOOKS {
             if self.left == 0 {
@@ -333,6 +399,25 @@ impl NameSearch {
             self.ends.push(endpoint)?;
         }
         Ok(())
+    }
+}
+
+/// How many rows and places in rows name the object, at most: its supports, but for live children where it is a live job.
+fn names_of(store: &Store, koid: Koid) -> u64
+    ensures { total (named_by koid) store.now.state ≤ result }
+{
+    let count = store.count(koid);
+    match store.object(koid) {
+        Some(found) => {
+            if is_live_job(&found) {
+                count
+                    .saturating_sub(store.child_jobs(koid))
+                    .saturating_sub(store.child_processes(koid))
+            } else {
+                count
+            }
+        }
+        None => count,
     }
 }
 

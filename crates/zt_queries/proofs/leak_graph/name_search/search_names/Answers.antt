@@ -1,21 +1,25 @@
--- Each endpoint that was looked at is named by messages alone that wait at these; where all were, the last of them to lose a
--- name is found.
+-- Each of these that was looked at is kept by others of them alone; where all were, the last of them to lose a name is found, and
+-- the last to lose a child.
 use Rattle.std.proofs.Common.{◌≤◌, ◌<◌, length, ap, ◌∙◌, arith}
+use Rattle.zt_history.specs.LetGo.{last_let_go}
+use Rattle.zt_history.specs.LostChild.{last_lost_child}
 use Rattle.zt_history.specs.Tree.{state_at}
 use Rattle.zt_history.proofs.RunLaws.{moment-consistent}
-use Rattle.zt_history.specs.LetGo.{last_let_go}
 use Rattle.zt_queries.specs.ProofsOnly.NameSearch.{later}
-use Rattle.zt_queries.proofs.NameLaws.{above-leaked}
+use Rattle.zt_queries.proofs.LetGoLaws.{above-leaked}
 use Rattle.zt_queries.proofs.NameSearchLaws.{at-place, part-goes, part-ends, latest-goes, latest-ends}
 use Rattle.zt_queries.proofs.leak_graph.name_search.search_names.Goals as goal
 
 pub returns-then-place-len : goal.returns-then-place-len
 returns-then-place-len c =
     let past : length c.loop-place.search.ends.items ≤ c.loop-place.place = omega (arith, c.len.ensures, c.if-place-len.true) in
+    let made = c.args.history.now.tree.made in
+    let at = c.args.history.now.position in
     record {
       ends = c.loop-place.search.ends.items;
-      search = part-ends (state_at c.args.history.now.tree.made c.args.history.now.position) c.args.koid c.loop-place.search.ends.items c.loop-place.place past c.loop-place.invariant.part;
-      last = latest-ends c.args.history.now.tree.made c.args.history.now.position c.loop-place.search.ends.items c.loop-place.place c.loop-place.latest past c.loop-place.invariant.latest;
+      search = part-ends (state_at made at) c.args.koid c.loop-place.search.ends.items c.loop-place.place past c.loop-place.invariant.part;
+      names = latest-ends (λ y. last_let_go y made at) c.loop-place.search.ends.items c.loop-place.place c.loop-place.names past c.loop-place.invariant.names;
+      children = latest-ends (λ y. last_lost_child y made at) c.loop-place.search.ends.items c.loop-place.place c.loop-place.children past c.loop-place.invariant.children;
     }
 
 pub told_by_entries-requires-clause-with : goal.told_by_entries-requires-clause-with
@@ -31,11 +35,16 @@ told_by_entries-requires-clause-with c = λ leaks.
 pub loop-place-preserved : goal.loop-place-preserved
 loop-place-preserved c =
     let low : c.loop-place.place < length c.loop-place.search.ends.items = omega (arith, c.len.ensures, c.if-place-len.false) in
+    let made = c.args.history.now.tree.made in
+    let at = c.args.history.now.position in
     record {
-      part = part-goes (state_at c.args.history.now.tree.made c.args.history.now.position) c.args.koid c.loop-place.search.ends.items c.find_names.new.self.ends.items c.loop-place.place c.index-named.result.now
+      part = part-goes (state_at made at) c.args.koid c.loop-place.search.ends.items c.find_all.new.self.ends.items c.loop-place.place c.index-named.result.now
           low c.index-named.ensures c.in_ok-whole.ensures.wider c.loop-place.invariant.part
-          (c.in_ok-whole.ensures.guarded c.if-not-whole.false);
-      latest = latest-goes (state_at c.args.history.now.tree.made c.args.history.now.position) c.args.koid c.loop-place.search.ends.items c.find_names.new.self.ends.items c.loop-place.place c.index-named.result.now
-          low c.index-named.ensures c.in_ok-whole.ensures.wider c.args.history.now.tree.made c.args.history.now.position c.loop-place.latest c.later-latest.result c.loop-place.invariant.latest
-          (c.later-latest.ensures ∙ ap (λ o. later c.loop-place.latest o) (c.last_let_go.ensures ∙ ap (last_let_go c.index-named.result.now c.args.history.now.tree.made) c.position-position.ensures.position));
+          (c.in_ok-whole.ensures.held c.if-not-whole.false);
+      names = latest-goes (state_at made at) c.args.koid c.loop-place.search.ends.items c.find_all.new.self.ends.items c.loop-place.place c.index-named.result.now
+          low c.index-named.ensures c.in_ok-whole.ensures.wider (λ y. last_let_go y made at) c.loop-place.names c.later-names.result c.loop-place.invariant.names
+          (c.later-names.ensures ∙ ap (λ o. later c.loop-place.names o) (c.last_let_go.ensures ∙ ap (last_let_go c.index-named.result.now made) c.position-position.ensures.position));
+      children = latest-goes (state_at made at) c.args.koid c.loop-place.search.ends.items c.find_all.new.self.ends.items c.loop-place.place c.index-named.result.now
+          low c.index-named.ensures c.in_ok-whole.ensures.wider (λ y. last_lost_child y made at) c.loop-place.children c.later-children.result c.loop-place.invariant.children
+          (c.later-children.ensures ∙ ap (λ o. later c.loop-place.children o) (c.last_lost_child.ensures ∙ ap (last_lost_child c.index-named.result.now made) c.position-position.ensures.position));
     }

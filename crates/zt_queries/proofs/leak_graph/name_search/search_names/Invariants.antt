@@ -1,11 +1,12 @@
--- So many of the endpoints were looked at.
+-- So many of them were looked at.
 use Rattle.std.proofs.Common.{◌≡◌, take}
 use Rattle.zt_history.specs.Tree.{state_at}
-use Rattle.zt_queries.specs.ProofsOnly.NameSearch.{IsPartSearch, last_of_names}
+use Rattle.zt_queries.specs.ProofsOnly.NameSearch.{IsPartSearch, last_of_children, last_of_names}
 use Rattle.zt_queries.proofs.leak_graph.name_search.search_names.Given as goal
 
 abbrev pub invariant-loop-place : goal.invariant-loop-place
 invariant-loop-place l = record {
   part : IsPartSearch (state_at l.history.tree.made l.history.position) l.koid l.search.ends.items l.place;
-  latest : l.latest ≡ last_of_names l.history.tree.made l.history.position (take l.place l.search.ends.items);
+  names : l.names ≡ last_of_names l.history.tree.made l.history.position (take l.place l.search.ends.items);
+  children : l.children ≡ last_of_children l.history.tree.made l.history.position (take l.place l.search.ends.items);
 }

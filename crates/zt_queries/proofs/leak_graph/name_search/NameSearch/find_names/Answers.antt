@@ -1,7 +1,8 @@
 -- All names are left to be found at first; where none is left, what was found are all.
-use Rattle.std.proofs.Common.{◌≤◌, length, ap, sym, subst, ◌∙◌, arith}
+use Rattle.std.proofs.Common.{◌≤◌, length, sym, subst, arith}
 use Rattle.zt_rows.specs.State.{State}
-use Rattle.zt_rows.specs.Support.{support_count}
+use Rattle.zt_index.specs.KoidCounts.{named_by}
+use Rattle.zt_index.specs.ProofsOnly.KoidCounts.{total}
 use Rattle.zt_history.specs.Tree.{state_at}
 use Rattle.zt_history.proofs.RunLaws.{moment-consistent}
 use Rattle.zt_queries.specs.ProofsOnly.NameSearch.{Widens, IsNameCount}
@@ -11,8 +12,8 @@ use Rattle.zt_queries.proofs.leak_graph.name_search.NameSearch.find_names.Goals 
 pub loop-init : goal.loop-init
 loop-init c = record {
   wider = widens-itself (state_at c.args.history.now.tree.made c.args.history.now.position) c.args.koid c.args.self.now.ends.items;
-  counted = count-begins (state_at c.args.history.now.tree.made c.args.history.now.position) c.args.koid c.args.self.now.ends.items c.clear.new.self.items c.count-self.result c.clear.ensures.items
-      (c.count-self.ensures ∙ ap (λ S. support_count S c.args.koid) c.store-store.ensures.state);
+  counted = count-begins (state_at c.args.history.now.tree.made c.args.history.now.position) c.args.koid c.args.self.now.ends.items c.clear.new.self.items c.names_of-self.result c.clear.ensures.items
+      (subst (λ (S : State). total (named_by c.args.koid) S ≤ c.names_of-self.result) c.store-store.ensures.state c.names_of-self.ensures);
 }
 
 pub returns-then-self-eq0-clause-guarded : goal.returns-then-self-eq0-clause-guarded
