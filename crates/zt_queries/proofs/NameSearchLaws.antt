@@ -24,6 +24,7 @@ use Rattle.zt_rows.specs.Room.{suits}
 use Rattle.zt_rows.specs.Settle.{is_child_job_of, is_child_process_of}
 use Rattle.zt_rows.specs.Tests.{among, count_row}
 use Rattle.zt_rows.specs.Consistent.{IsSound}
+use Rattle.zt_rows.proofs.ReadLaws.{some_one}
 use Rattle.zt_rows.proofs.RowLaws.{In, list_any-in, or_left, or_right, or_true, true≢false}
 use Rattle.zt_rows.proofs.StateLaws.{row-put-other}
 use Rattle.zt_index.specs.Chains.{IsBehind, IsNext}
@@ -81,8 +82,8 @@ widens-end S y e n ends named = by (among ends e)
     by false = record { rest = e ∷ []; whole = refl; above = above }
 
 -- a live child of y
-pub widens-child : (S : State) (y c : ℕ) (ends : List ℕ) → is_child_row y (row S (key.Object c)) ≡ true → Widens S y ends (ends ++ c ∷ [])
-widens-child S y c ends child = record { rest = c ∷ []; whole = refl; above = above }
+pub widens-child : (S : State) (y c : ℕ) (ends : List ℕ) → is_child_row y (row S (key.Object c)) ≡ true → Widens S y ends (with_end ends c)
+widens-child S y c ends child = by (among ends c)
   where
     one : (z : ℕ) → among (c ∷ []) z ≡ true → c ≡ z
     one z h = elim (or_true (c == z) false h) [ inl s ↦ eqb-true c z s | inr f ↦ cc ]
@@ -92,6 +93,10 @@ widens-child S y c ends child = record { rest = c ∷ []; whole = refl; above = 
       | inl old ↦ up set holds below first z old
       | inr new ↦ subst (λ w. set w ≡ true) (one z new) (below c y child (up set holds below first y h))
     ]
+
+    by : (b : Bool) → Widens S y ends (if b then ends else ends ++ c ∷ [])
+    by true = widens-itself S y ends
+    by false = record { rest = c ∷ []; whole = refl; above = above }
 
 pub guarded-more : (S : State) (y z : ℕ) (old new : List ℕ) → Widens S z old new → IsGuarded S old y → IsGuarded S new y
 guarded-more S y z old new w g k h = ap (λ l. waits_at l k) w.whole ∙ waits-more old w.rest k (g k h)
@@ -269,6 +274,18 @@ take-next old rest new place named whole low is =
 one_of : (x y : ℕ) → among (x ∷ []) y ≡ true → x ≡ y
 one_of x y h = elim (or_true (x == y) false h) [ inl s ↦ eqb-true x y s | inr f ↦ cc ]
 
+-- where nothing is read, the place is past the end
+pub past-end : (xs : List ℕ) (place : ℕ) → slice_get xs place ≡ None → length xs ≤ place
+past-end [] place h = omega arith
+past-end (x ∷ xs) zero h = cc
+past-end (x ∷ xs) (suc place) h = omega (arith, past-end xs place h)
+
+-- what is read at a place stands there
+pub read-at : (xs : List ℕ) (place named : ℕ) → slice_get xs place ≡ Some named → named ≡ get_or xs place named
+read-at [] place named h = cc
+read-at (x ∷ xs) zero named h = some_one named x (sym h)
+read-at (x ∷ xs) (suc place) named h = read-at xs place named h
+
 pub at-place : (old : List ℕ) (place named : ℕ) → place < length old → named ≡ get_or old place named → among old named ≡ true
 at-place old place named low is =
     list_any-in (λ z. z == named) named old (subst (λ z. In z old) (sym is) (in-get_or old place named low)) (eq-eqb named named refl)
@@ -340,10 +357,13 @@ module _ (S : State) (y : ℕ) (low : Option ℕ) where
   pub next-child : (n : ℕ) → IsNext (objects_where S (is_below y)) low (Some n) → is_child_row y (row S (key.Object n)) ≡ true
   next-child n next = child-passes S y n ∙ next.0.1
 
-  pub passed-more : (n : ℕ) (ends more : List ℕ) → IsNext (objects_where S (is_below y)) low (Some n) → more ≡ ends ++ n ∷ [] → ArePassedIn S y low ends → ArePassedIn S y (Some n) more
-  passed-more n ends more next longer all z child e =
-      ap (λ l. among l z) longer ∙ list_any-append (λ k. k == z) ends (n ∷ []) ∙ by (is_passed low z) refl
+  pub passed-more : (n : ℕ) (ends more : List ℕ) → IsNext (objects_where S (is_below y)) low (Some n) → more ≡ with_end ends n → ArePassedIn S y low ends → ArePassedIn S y (Some n) more
+  passed-more n ends more next longer all z child e = ap (λ l. among l z) longer ∙ by (is_passed low z) refl
     where
+      kept : (b : Bool) → among ends z ≡ true → among (if b then ends else ends ++ n ∷ []) z ≡ true
+      kept true h = h
+      kept false h = among-more ends (n ∷ []) z h
+
       behind : (b : Option ℕ) → is_passed b z ≡ false → IsBehind (λ a b. a < b) b z
       behind None f = tt
       behind (Some l) f = leb-false l z f
@@ -351,12 +371,12 @@ module _ (S : State) (y : ℕ) (low : Option ℕ) where
           leb-false : (a b : ℕ) → nat_le b a ≡ false → a < b
           leb-false a b f = elim (cases_lt a b) [ inl lt ↦ lt | inr ge ↦ absurd (true≢false (nat_le b a) (le-leb b a ge) f) ]
 
-      by : (b : Bool) → is_passed low z ≡ b → (among ends z || among (n ∷ []) z) ≡ true
-      by true t = or_left (among ends z) _ (all z child t)
-      by false f = or_right (among ends z) _ (elim (cases_lt z n) [
+      by : (b : Bool) → is_passed low z ≡ b → among (with_end ends n) z ≡ true
+      by true t = kept (among ends n) (all z child t)
+      by false f = elim (cases_lt z n) [
         | inl lt ↦ absurd (true≢false (objects_where S (is_below y) z) (sym (child-passes S y z) ∙ child) (next.1 z (behind low f) lt))
-        | inr ge ↦ or_left (n == z) false (eq-eqb n z (omega (arith, ge, leb-true z n e)))
-      ])
+        | inr ge ↦ let same : n ≡ z = omega (arith, ge, leb-true z n e) in subst (λ k. among (with_end ends n) k ≡ true) same (end-there ends n)
+      ]
 
 -- ---- moments
 

@@ -23,14 +23,15 @@ use crate::leak_graph::unleaked_signs::is_entered;
 use crate::path_pair::{object_in, row_over};
 use crate::support_list::{is_live_job, is_live_process};
 use bitflags::Flags;
+use indexmap::IndexSet;
 use std::alloc::{AllocError, Global};
 use zt_bits::{Kind, Signals};
 use zt_history::{History, RowHappening};
 use zt_rows::{Held, Koid, Life, Moment, ObjectRow, ROOT_JOB, Row, RowKey};
 use zt_store::{Record, Store};
 
-/// So many endpoints and jobs at most are gone through: each endpoint is compared with those before it.
-const MOST_ENDS: usize = 65_536;
+/// So many endpoints and jobs at most are gone through, which are more than there can be objects.
+const MOST_ENDS: usize = 4_194_304;
 
 /// At so many moments at most it is looked for the messages that name one object: each look passes over the notes of those
 /// before it.
@@ -46,8 +47,9 @@ pub(crate) enum LeakTime {
 
 /// A search for what keeps an object: what names it and the endpoints above it, and the live jobs below it.
 struct NameSearch {
-    /// The object, and the endpoints and jobs that were found to keep it or others of these.
-    ends: Vec<Koid>,
+    /// The koids of the object, and of the endpoints and jobs that were found to keep it or others of these, in the order in which
+    /// they were found.
+    ends: IndexSet<u64>,
     /// The messages that were found to name the one of these that is looked at.
     messages: Vec<RowKey>,
     /// How many names of that one are left to be found, at most.
@@ -250,10 +252,10 @@ fn search_names(alloc: Global, history: &History, koid: Koid) -> Result<FoundNam
     let mut search = NameSearch::new(alloc, koid)?;
     let (mut names, mut children) = (None, None);
     for place in 0..MOST_ENDS {
-        if place >= search.ends.len() {
+        let Some(end) = search.ends.get_index(place) else {
             return Ok(FoundNames::All { names, children });
-        }
-        let named = search.ends[place];
+        };
+        let named = Koid(*end);
         let whole = search.find_all(history, named)?;
         if !whole {
             return Ok(FoundNames::Told(told_by_entries(history, koid, named)));
@@ -278,10 +280,10 @@ fn later(first: Option<Moment>, second: Option<Moment>) -> Option<Moment>
 impl NameSearch {
     /// A search that has the object alone.
     fn new(alloc: Global, koid: Koid) -> Result<NameSearch, AllocError>
-        ensures { IfOk result (λ search. search.ends.items ≡ koid ∷ []) }
+        ensures { IfOk result (λ search. search.ends.keys ≡ koid ∷ []) }
     {
-        let mut ends = Vec::new(alloc);
-        ends.push(koid)?;
+        let mut ends = IndexSet::new(alloc);
+        ends.insert(koid.0)?;
         Ok(NameSearch {
             ends,
             messages: Vec::new(alloc),
@@ -292,9 +294,9 @@ impl NameSearch {
     /// Adds the endpoints at which messages wait that name this one, and its live children; and whether it is shown that nothing
     /// else at the position keeps it, and no process runs as its child.
     fn find_all(&mut self, history: &History, koid: Koid) -> Result<bool, AllocError>
-        ensures wider { OnOk result (Widens (state_at history.now.tree.made history.now.position) koid self.old.ends.items self.new.ends.items) }
+        ensures wider { OnOk result (Widens (state_at history.now.tree.made history.now.position) koid self.old.ends.keys self.new.ends.keys) }
         ensures held { IfOk result (λ whole. whole ≡ true
-            → IsHeldBy (state_at history.now.tree.made history.now.position) self.new.ends.items koid) }
+            → IsHeldBy (state_at history.now.tree.made history.now.position) self.new.ends.keys koid) }
     {
         history.position();
         let store = history.store();
@@ -307,12 +309,12 @@ impl NameSearch {
 
     /// Adds the live children of this one.
     fn add_children(&mut self, store: &Store, koid: Koid) -> Result<(), AllocError>
-        ensures wider { OnOk result (Widens store.now.state koid self.old.ends.items self.new.ends.items) }
-        ensures children { OnOk result (AreChildrenIn store.now.state self.new.ends.items koid) }
+        ensures wider { OnOk result (Widens store.now.state koid self.old.ends.keys self.new.ends.keys) }
+        ensures children { OnOk result (AreChildrenIn store.now.state self.new.ends.keys koid) }
     {
         let mut low = None;
         while let Some(task) = store.task_below(koid, low) {
-            self.ends.push(task)?;
+            self.add_end(task)?;
             low = Some(task);
         }
         Ok(())
@@ -321,9 +323,9 @@ impl NameSearch {
     /// Adds the endpoints at which messages wait that name this one; and whether it is shown that nothing else at the position
     /// names it. The moments at which it was let go are looked at from the last on, until all its names are found.
     fn find_names(&mut self, history: &History, koid: Koid) -> Result<bool, AllocError>
-        ensures wider { OnOk result (Widens (state_at history.now.tree.made history.now.position) koid self.old.ends.items self.new.ends.items) }
+        ensures wider { OnOk result (Widens (state_at history.now.tree.made history.now.position) koid self.old.ends.keys self.new.ends.keys) }
         ensures guarded { IfOk result (λ whole. whole ≡ true
-            → IsGuarded (state_at history.now.tree.made history.now.position) self.new.ends.items koid) }
+            → IsGuarded (state_at history.now.tree.made history.now.position) self.new.ends.keys koid) }
     {
         let store = history.store();
         self.messages.clear();
@@ -349,9 +351,9 @@ impl NameSearch {
         store: &Store,
         koid: Koid,
     ) -> Result<(), AllocError>
-        ensures wider { OnOk result (Widens store.now.state koid self.old.ends.items self.new.ends.items) }
-        ensures counted { OnOk result (IsNameCount store.now.state koid self.old.ends.items self.old.messages.items self.old.left
-            → IsNameCount store.now.state koid self.new.ends.items self.new.messages.items self.new.left) }
+        ensures wider { OnOk result (Widens store.now.state koid self.old.ends.keys self.new.ends.keys) }
+        ensures counted { OnOk result (IsNameCount store.now.state koid self.old.ends.keys self.old.messages.items self.old.left
+            → IsNameCount store.now.state koid self.new.ends.keys self.new.messages.items self.new.left) }
     {
         match record {
             Some(record) => self.look_under(record.keys(), store, koid),
@@ -361,9 +363,9 @@ impl NameSearch {
 
     /// The same of some keys.
     fn look_under(&mut self, keys: &[RowKey], store: &Store, koid: Koid) -> Result<(), AllocError>
-        ensures wider { OnOk result (Widens store.now.state koid self.old.ends.items self.new.ends.items) }
-        ensures counted { OnOk result (IsNameCount store.now.state koid self.old.ends.items self.old.messages.items self.old.left
-            → IsNameCount store.now.state koid self.new.ends.items self.new.messages.items self.new.left) }
+        ensures wider { OnOk result (Widens store.now.state koid self.old.ends.keys self.new.ends.keys) }
+        ensures counted { OnOk result (IsNameCount store.now.state koid self.old.ends.keys self.old.messages.items self.old.left
+            → IsNameCount store.now.state koid self.new.ends.keys self.new.messages.items self.new.left) }
     {
         for key in keys {
             self.look_at(*key, store, koid)?;
@@ -373,9 +375,9 @@ impl NameSearch {
 
     /// The same of one key. A message is taken in once.
     fn look_at(&mut self, key: RowKey, store: &Store, koid: Koid) -> Result<(), AllocError>
-        ensures wider { OnOk result (Widens store.now.state koid self.old.ends.items self.new.ends.items) }
-        ensures counted { OnOk result (IsNameCount store.now.state koid self.old.ends.items self.old.messages.items self.old.left
-            → IsNameCount store.now.state koid self.new.ends.items self.new.messages.items self.new.left) }
+        ensures wider { OnOk result (Widens store.now.state koid self.old.ends.keys self.new.ends.keys) }
+        ensures counted { OnOk result (IsNameCount store.now.state koid self.old.ends.keys self.old.messages.items self.old.left
+            → IsNameCount store.now.state koid self.new.ends.keys self.new.messages.items self.new.left) }
     {
         let RowKey::Msg(endpoint, _) = key else {
             return Ok(());
@@ -389,15 +391,13 @@ impl NameSearch {
         self.add_end(endpoint)
     }
 
-    /// Puts the endpoint behind the others, where it is not one of them.
-    fn add_end(&mut self, endpoint: Koid) -> Result<(), AllocError>
-        ensures ends { OnOk result (self.new.ends.items ≡ with_end self.old.ends.items endpoint) }
+    /// Puts the koid behind the others, where it is not one of them.
+    fn add_end(&mut self, koid: Koid) -> Result<(), AllocError>
+        ensures ends { OnOk result (self.new.ends.keys ≡ with_end self.old.ends.keys koid) }
         ensures messages { self.new.messages ≡ self.old.messages }
         ensures left { self.new.left ≡ self.old.left }
     {
-        if !self.ends.contains(&endpoint) {
-            self.ends.push(endpoint)?;
-        }
+        self.ends.insert(koid.0)?;
         Ok(())
     }
 }

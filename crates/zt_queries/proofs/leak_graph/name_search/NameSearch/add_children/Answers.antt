@@ -13,9 +13,9 @@ loop-task-preserved c =
     let y : ℕ = c.args.koid in
     let passes : ℕ → Bool = objects_where S (is_below y) in
     let next : IsNext passes c.loop-task.low (Some c.in-Some.task) = subst (IsNext passes c.loop-task.low) c.in-Some.is c.task_below.ensures in
-    let wider : Widens S y c.loop-task.self.ends.items c.push.new.self.items =
-    subst (Widens S y c.loop-task.self.ends.items) (sym c.in_ok-push.ensures.items) (widens-child S y c.in-Some.task c.loop-task.self.ends.items (next-child S y c.loop-task.low c.in-Some.task next)) in
+    let wider : Widens S y c.loop-task.self.ends.keys c.add_end.new.self.ends.keys =
+    subst (Widens S y c.loop-task.self.ends.keys) (sym c.in_ok-add_end.ensures.ends) (widens-child S y c.in-Some.task c.loop-task.self.ends.keys (next-child S y c.loop-task.low c.in-Some.task next)) in
     record {
-      wider = widens-widens S y c.args.self.now.ends.items c.loop-task.self.ends.items c.push.new.self.items c.loop-task.invariant.wider wider;
-      passed = passed-more S y c.loop-task.low c.in-Some.task c.loop-task.self.ends.items c.push.new.self.items next c.in_ok-push.ensures.items c.loop-task.invariant.passed;
+      wider = widens-widens S y c.args.self.now.ends.keys c.loop-task.self.ends.keys c.add_end.new.self.ends.keys c.loop-task.invariant.wider wider;
+      passed = passed-more S y c.loop-task.low c.in-Some.task c.loop-task.self.ends.keys c.add_end.new.self.ends.keys next c.in_ok-add_end.ensures.ends c.loop-task.invariant.passed;
     }

@@ -5,8 +5,8 @@ use Rattle.zt_queries.proofs.leak_graph.name_search.NameSearch.add_children.Give
 
 abbrev pub invariant-loop-task : goal.invariant-loop-task
 invariant-loop-task l = record {
-  wider : Widens l.store.state l.koid l.fn.self.ends.items l.self.ends.items;
-  passed : ArePassedIn l.store.state l.koid l.low l.self.ends.items;
+  wider : Widens l.store.state l.koid l.fn.self.ends.keys l.self.ends.keys;
+  passed : ArePassedIn l.store.state l.koid l.low l.self.ends.keys;
 }
 
 abbrev pub decreases-loop-task : goal.decreases-loop-task

@@ -10,5 +10,5 @@ pub returns-clause-wider : goal.returns-clause-wider
 returns-clause-wider c =
     let S : State = state_at c.args.history.now.tree.made c.args.history.now.position in
     on_ok c.find_names.result _ _ c.find_names.ensures.wider (λ more.
-    widens-widens S c.args.koid c.args.self.now.ends.items c.add_children.new.self.ends.items c.find_names.new.self.ends.items
-    (subst (λ (T : State). Widens T c.args.koid c.args.self.now.ends.items c.add_children.new.self.ends.items) c.store-store.ensures.state c.in_ok-add_children.ensures.wider) more)
+    widens-widens S c.args.koid c.args.self.now.ends.keys c.add_children.new.self.ends.keys c.find_names.new.self.ends.keys
+    (subst (λ (T : State). Widens T c.args.koid c.args.self.now.ends.keys c.add_children.new.self.ends.keys) c.store-store.ensures.state c.in_ok-add_children.ensures.wider) more)

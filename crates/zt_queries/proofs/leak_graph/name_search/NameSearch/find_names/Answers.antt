@@ -11,14 +11,14 @@ use Rattle.zt_queries.proofs.leak_graph.name_search.NameSearch.find_names.Goals 
 
 pub loop-init : goal.loop-init
 loop-init c = record {
-  wider = widens-itself (state_at c.args.history.now.tree.made c.args.history.now.position) c.args.koid c.args.self.now.ends.items;
-  counted = count-begins (state_at c.args.history.now.tree.made c.args.history.now.position) c.args.koid c.args.self.now.ends.items c.clear.new.self.items c.names_of-self.result c.clear.ensures.items
+  wider = widens-itself (state_at c.args.history.now.tree.made c.args.history.now.position) c.args.koid c.args.self.now.ends.keys;
+  counted = count-begins (state_at c.args.history.now.tree.made c.args.history.now.position) c.args.koid c.args.self.now.ends.keys c.clear.new.self.items c.names_of-self.result c.clear.ensures.items
       (subst (λ (S : State). total (named_by c.args.koid) S ≤ c.names_of-self.result) c.store-store.ensures.state c.names_of-self.ensures);
 }
 
 pub returns-then-self-eq0-clause-guarded : goal.returns-then-self-eq0-clause-guarded
 returns-then-self-eq0-clause-guarded c = λ all.
-    count-ends (state_at c.args.history.now.tree.made c.args.history.now.position) c.args.koid c.loop.self.ends.items c.loop.self.messages.items c.loop.self.left
+    count-ends (state_at c.args.history.now.tree.made c.args.history.now.position) c.args.koid c.loop.self.ends.keys c.loop.self.messages.items c.loop.self.left
     (moment-consistent c.args.history.now.tree.made c.position.ensures.tree.moments c.args.history.now.position (omega (arith, c.position.ensures.within, c.position.ensures.position))).sound
     (omega (arith, c.if-self-eq0.true)) c.loop.invariant.counted
 
@@ -28,8 +28,8 @@ last_let_go-next-requires-in-loop c =
 
 pub loop-preserved : goal.loop-preserved
 loop-preserved c = record {
-  wider = widens-widens (state_at c.args.history.now.tree.made c.args.history.now.position) c.args.koid c.args.self.now.ends.items c.loop.self.ends.items c.look_into.new.self.ends.items c.loop.invariant.wider
-      (subst (λ (S : State). Widens S c.args.koid c.loop.self.ends.items c.look_into.new.self.ends.items) c.store-store.ensures.state c.in_ok-look_into.ensures.wider);
-  counted = subst (λ (S : State). IsNameCount S c.args.koid c.look_into.new.self.ends.items c.look_into.new.self.messages.items c.look_into.new.self.left) c.store-store.ensures.state
-      (c.in_ok-look_into.ensures.counted (subst (λ (S : State). IsNameCount S c.args.koid c.loop.self.ends.items c.loop.self.messages.items c.loop.self.left) (sym c.store-store.ensures.state) c.loop.invariant.counted));
+  wider = widens-widens (state_at c.args.history.now.tree.made c.args.history.now.position) c.args.koid c.args.self.now.ends.keys c.loop.self.ends.keys c.look_into.new.self.ends.keys c.loop.invariant.wider
+      (subst (λ (S : State). Widens S c.args.koid c.loop.self.ends.keys c.look_into.new.self.ends.keys) c.store-store.ensures.state c.in_ok-look_into.ensures.wider);
+  counted = subst (λ (S : State). IsNameCount S c.args.koid c.look_into.new.self.ends.keys c.look_into.new.self.messages.items c.look_into.new.self.left) c.store-store.ensures.state
+      (c.in_ok-look_into.ensures.counted (subst (λ (S : State). IsNameCount S c.args.koid c.loop.self.ends.keys c.loop.self.messages.items c.loop.self.left) (sym c.store-store.ensures.state) c.loop.invariant.counted));
 }

@@ -5,6 +5,6 @@ use Rattle.zt_queries.proofs.leak_graph.name_search.NameSearch.find_names.Given 
 
 abbrev pub invariant-loop : goal.invariant-loop
 invariant-loop l = record {
-  wider : Widens (state_at l.history.tree.made l.history.position) l.koid l.fn.self.ends.items l.self.ends.items;
-  counted : IsNameCount (state_at l.history.tree.made l.history.position) l.koid l.self.ends.items l.self.messages.items l.self.left;
+  wider : Widens (state_at l.history.tree.made l.history.position) l.koid l.fn.self.ends.keys l.self.ends.keys;
+  counted : IsNameCount (state_at l.history.tree.made l.history.position) l.koid l.self.ends.keys l.self.messages.items l.self.left;
 }
