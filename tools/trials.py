@@ -2,6 +2,7 @@
 are told and counted. Everything has a time limit, so that a program that hangs is told and ended."""
 import os
 import re
+import signal
 import socket
 import subprocess
 import sys
@@ -12,6 +13,9 @@ TOP = os.path.dirname(os.path.dirname(os.path.abspath(__file__)))
 LIMIT = 60  # seconds for what takes less than one
 MOST = 1 << 28  # bytes that are read of a program; the longest answers have some million
 END = time.monotonic() + 600  # what has not begun by then is not tried
+
+# Who begins a tool behind '&' ignores interrupts, and so would the programs that it tries, which are to end by one.
+signal.signal(signal.SIGINT, signal.default_int_handler)
 
 
 class Trouble(Exception):
