@@ -56,6 +56,7 @@ impl CallsInARow {
 
     /// Loads one call more. Refused, the number is that of the call, from 0, or 0 for want of memory: whatever calls stand behind
     /// it, that is why a tree of them all is not loaded.
+    #[inline(always)]
     pub fn push(&mut self, process: Koid, call: Call) -> Result<(), (u64, Refusal)>
         ensures ok { OnOk result (self.new ≡ self.old ++ (process, call) ∷ []) }
         ensures refused { IfErr result (λ fault. (clients : ℕ) (behind : List (ℕ × Call)) → clients ≤ 4
@@ -87,6 +88,7 @@ impl CallsInARow {
 }
 
 /// Makes the moment of a call at another one, and keeps the call.
+#[inline(always)]
 pub(crate) fn make_at(
     history: &mut History,
     parent: Moment,

@@ -53,6 +53,7 @@ impl History {
 
     /// Runs a call of a process at any moment as `call_at` does, and keeps the call itself, so that neither it nor its reply
     /// is copied. Refused, the call is let go.
+    #[inline(always)]
     pub fn take_call_at(
         &mut self,
         parent: Moment,

@@ -92,6 +92,7 @@ impl Chains {
     }
 
     /// Makes items that are in no bucket, until there are so many.
+    #[inline(always)]
     pub fn grow(&mut self, len: usize) -> Result<(), AllocError>
         requires few { len < 2 ^ 32 }
         ensures same { (n : ℕ) → bucket_at self.new n ≡ bucket_at self.old n }

@@ -145,6 +145,7 @@ impl RowChains {
     }
 
     /// Puts the object of this koid into the bucket of its parent, if it is a live job or process, or into none.
+    #[inline(always)]
     fn set_below(&mut self, koid: Koid, object: Option<ObjectRow>)
         requires { koid < length self.old.parents }
         ensures { self.new ≡ index_below self.old koid object }
@@ -153,6 +154,7 @@ impl RowChains {
     }
 
     /// Puts the waits on the handle into the bucket of the object that it will name, or into none.
+    #[inline(always)]
     fn rename(&mut self, cells: &Cells, process: Koid, handle: HandleValue, held: Option<Held>)
         requires { IsIndexed cells.now self.old }
         ensures handles { self.new.handles ≡ self.old.handles }

@@ -211,7 +211,7 @@ impl SupportCounts {
     }
 
     /// Makes numbers for the koid, which has none.
-    #[inline(never)]
+    #[inline(always)]
     fn add_to(&mut self, koid: Koid) -> Result<(), AllocError>
         requires { length self.old ≤ koid }
         ensures same { (x : ℕ) → numbers_at self.new x ≡ numbers_at self.old x }

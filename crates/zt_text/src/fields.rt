@@ -322,7 +322,7 @@ impl<'a> Fields<'a> {
 }
 
 /// The number of no more than `most` that the next field writes, which is cut out and then read.
-#[inline(never)]
+#[inline(always)]
 #[tactic(auto, unfolding(crate::specs::Fields::field))]
 fn number_cut<'a>(fields: Fields<'a>, most: u64) -> Result<(u64, Fields<'a>), Refusal>
     ensures ok { result ≡ field (decimal_of most) fields.entry }
@@ -336,7 +336,7 @@ fn number_cut<'a>(fields: Fields<'a>, most: u64) -> Result<(u64, Fields<'a>), Re
 }
 
 /// The bits of the mask that the next field writes, which is cut out and then read.
-#[inline(never)]
+#[inline(always)]
 #[tactic(auto, unfolding(crate::specs::Fields::field))]
 fn mask_cut<'a>(fields: Fields<'a>) -> Result<(u32, Fields<'a>), Refusal>
     ensures { result ≡ field mask_of fields.entry }

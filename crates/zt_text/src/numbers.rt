@@ -9,6 +9,7 @@ ghost use Rattle.zt_text.specs.Numbers.{has_leading_zero, decimal_of, negative, 
 pub const DIGITS_THAT_FIT: usize = 19;
 
 /// The number that the bytes write in decimal digits, without leading zeros and up to `most`.
+#[inline(never)]
 #[tactic(auto, unfolding(crate::specs::Numbers::decimal_of))]
 pub fn decimal(bytes: &[u8], most: u64) -> Option<u64>
     ensures value { result ≡ decimal_of most bytes.now }

@@ -24,7 +24,8 @@ pub fn call(alloc: Global, fields: Fields<'_>) -> Result<Call, Refusal>
     }
 }
 
-/// The call of this name, with the arguments behind it.
+/// The call of this name, with the arguments behind it. What reads them is taken into it but for a parcel's, as fields go through
+/// memory at a call.
 #[inline(always)]
 #[tactic(auto, unfolding(crate::specs::ProofsOnly::CallNames::call_with))]
 fn call_named(alloc: Global, name: CallName, rest: Fields<'_>) -> Result<Call, Refusal>
@@ -55,6 +56,7 @@ fn call_named(alloc: Global, name: CallName, rest: Fields<'_>) -> Result<Call, R
     }
 }
 
+#[inline(always)]
 #[tactic(auto, unfolding(crate::specs::ReadCalls::job_create))]
 fn job_create(fields: Fields<'_>) -> Result<Call, Refusal>
     ensures { result ≡ job_create fields.entry }
@@ -64,6 +66,7 @@ fn job_create(fields: Fields<'_>) -> Result<Call, Refusal>
     Ok(Call::JobCreate { job })
 }
 
+#[inline(always)]
 #[tactic(auto, unfolding(crate::specs::ReadCalls::spawn))]
 fn spawn(fields: Fields<'_>) -> Result<Call, Refusal>
     ensures { result ≡ spawn fields.entry }
@@ -74,6 +77,7 @@ fn spawn(fields: Fields<'_>) -> Result<Call, Refusal>
     Ok(Call::Spawn { job, argument })
 }
 
+#[inline(always)]
 #[tactic(auto, unfolding(crate::specs::ReadCalls::job_set_critical))]
 fn job_set_critical(fields: Fields<'_>) -> Result<Call, Refusal>
     ensures { result ≡ job_set_critical fields.entry }
@@ -84,6 +88,7 @@ fn job_set_critical(fields: Fields<'_>) -> Result<Call, Refusal>
     Ok(Call::JobSetCritical { job, process })
 }
 
+#[inline(always)]
 #[tactic(auto, unfolding(crate::specs::ReadCalls::task_kill))]
 fn task_kill(fields: Fields<'_>) -> Result<Call, Refusal>
     ensures { result ≡ task_kill fields.entry }
@@ -93,6 +98,7 @@ fn task_kill(fields: Fields<'_>) -> Result<Call, Refusal>
     Ok(Call::TaskKill { handle })
 }
 
+#[inline(always)]
 #[tactic(auto, unfolding(crate::specs::ReadCalls::process_exit))]
 fn process_exit(fields: Fields<'_>) -> Result<Call, Refusal>
     ensures { result ≡ process_exit fields.entry }
@@ -102,6 +108,7 @@ fn process_exit(fields: Fields<'_>) -> Result<Call, Refusal>
     Ok(Call::ProcessExit { code })
 }
 
+#[inline(always)]
 #[tactic(auto, unfolding(crate::specs::ReadCalls::port_create))]
 fn port_create(fields: Fields<'_>) -> Result<Call, Refusal>
     ensures { result ≡ port_create fields.entry }
@@ -110,6 +117,7 @@ fn port_create(fields: Fields<'_>) -> Result<Call, Refusal>
     Ok(Call::PortCreate)
 }
 
+#[inline(always)]
 #[tactic(auto, unfolding(crate::specs::ReadCalls::object_wait_async))]
 fn object_wait_async(fields: Fields<'_>) -> Result<Call, Refusal>
     ensures { result ≡ object_wait_async fields.entry }
@@ -128,6 +136,7 @@ fn object_wait_async(fields: Fields<'_>) -> Result<Call, Refusal>
     })
 }
 
+#[inline(always)]
 #[tactic(auto, unfolding(crate::specs::ReadCalls::port_queue))]
 fn port_queue(fields: Fields<'_>) -> Result<Call, Refusal>
     ensures { result ≡ port_queue fields.entry }
@@ -139,6 +148,7 @@ fn port_queue(fields: Fields<'_>) -> Result<Call, Refusal>
     Ok(Call::PortQueue { port, key, bytes })
 }
 
+#[inline(always)]
 #[tactic(auto, unfolding(crate::specs::ReadCalls::port_wait))]
 fn port_wait(fields: Fields<'_>) -> Result<Call, Refusal>
     ensures { result ≡ port_wait fields.entry }
@@ -148,6 +158,7 @@ fn port_wait(fields: Fields<'_>) -> Result<Call, Refusal>
     Ok(Call::PortWait { port })
 }
 
+#[inline(always)]
 #[tactic(auto, unfolding(crate::specs::ReadCalls::port_cancel))]
 fn port_cancel(fields: Fields<'_>) -> Result<Call, Refusal>
     ensures { result ≡ port_cancel fields.entry }
@@ -159,6 +170,7 @@ fn port_cancel(fields: Fields<'_>) -> Result<Call, Refusal>
     Ok(Call::PortCancel { port, source, key })
 }
 
+#[inline(always)]
 #[tactic(auto, unfolding(crate::specs::ReadCalls::channel_create))]
 fn channel_create(fields: Fields<'_>) -> Result<Call, Refusal>
     ensures { result ≡ channel_create fields.entry }
@@ -188,6 +200,7 @@ fn write_call(alloc: Global, fields: Fields<'_>) -> Result<Call, Refusal>
     channel_write(fields)?.to_call(alloc)
 }
 
+#[inline(always)]
 #[tactic(auto, unfolding(crate::specs::ReadCalls::channel_read))]
 fn channel_read(fields: Fields<'_>) -> Result<Call, Refusal>
     ensures { result ≡ channel_read fields.entry }
@@ -204,6 +217,7 @@ fn channel_read(fields: Fields<'_>) -> Result<Call, Refusal>
     })
 }
 
+#[inline(always)]
 #[tactic(auto, unfolding(crate::specs::ReadCalls::event_create))]
 fn event_create(fields: Fields<'_>) -> Result<Call, Refusal>
     ensures { result ≡ event_create fields.entry }
@@ -212,6 +226,7 @@ fn event_create(fields: Fields<'_>) -> Result<Call, Refusal>
     Ok(Call::EventCreate)
 }
 
+#[inline(always)]
 #[tactic(auto, unfolding(crate::specs::ReadCalls::eventpair_create))]
 fn eventpair_create(fields: Fields<'_>) -> Result<Call, Refusal>
     ensures { result ≡ eventpair_create fields.entry }
@@ -220,6 +235,7 @@ fn eventpair_create(fields: Fields<'_>) -> Result<Call, Refusal>
     Ok(Call::EventPairCreate)
 }
 
+#[inline(always)]
 #[tactic(auto, unfolding(crate::specs::ReadCalls::handle_close))]
 fn handle_close(fields: Fields<'_>) -> Result<Call, Refusal>
     ensures { result ≡ handle_close fields.entry }
@@ -229,6 +245,7 @@ fn handle_close(fields: Fields<'_>) -> Result<Call, Refusal>
     Ok(Call::HandleClose { handle })
 }
 
+#[inline(always)]
 #[tactic(auto, unfolding(crate::specs::ReadCalls::handle_duplicate))]
 fn handle_duplicate(fields: Fields<'_>) -> Result<Call, Refusal>
     ensures { result ≡ handle_duplicate fields.entry }
@@ -239,6 +256,7 @@ fn handle_duplicate(fields: Fields<'_>) -> Result<Call, Refusal>
     Ok(Call::HandleDuplicate { handle, rights })
 }
 
+#[inline(always)]
 #[tactic(auto, unfolding(crate::specs::ReadCalls::handle_replace))]
 fn handle_replace(fields: Fields<'_>) -> Result<Call, Refusal>
     ensures { result ≡ handle_replace fields.entry }
@@ -249,6 +267,7 @@ fn handle_replace(fields: Fields<'_>) -> Result<Call, Refusal>
     Ok(Call::HandleReplace { handle, rights })
 }
 
+#[inline(always)]
 #[tactic(auto, unfolding(crate::specs::ReadCalls::object_signal))]
 fn object_signal(fields: Fields<'_>) -> Result<Call, Refusal>
     ensures { result ≡ object_signal fields.entry }
@@ -260,6 +279,7 @@ fn object_signal(fields: Fields<'_>) -> Result<Call, Refusal>
     Ok(Call::ObjectSignal { handle, clear, set })
 }
 
+#[inline(always)]
 #[tactic(auto, unfolding(crate::specs::ReadCalls::object_signal_peer))]
 fn object_signal_peer(fields: Fields<'_>) -> Result<Call, Refusal>
     ensures { result ≡ object_signal_peer fields.entry }

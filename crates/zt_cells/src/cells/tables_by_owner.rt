@@ -97,6 +97,7 @@ impl TablesByOwner {
     }
 
     /// Exchanges the row, or none, with what stands at the owner's place. It takes no memory.
+    #[inline(always)]
     pub fn exchange(&mut self, owner: usize, index: usize, kept: &mut Row)
         requires { index < length (table self.old owner) }
         ensures put { self.new ≡ set_at self.old owner index (row_in kept.old) }
