@@ -1,4 +1,4 @@
-ghost use Rattle.std.specs.Prelude.{◌≡◌, ◌↔◌, ◌⊎◌, true, false, IfOk, IfErr, OnErr, IsErrOf};
+ghost use Rattle.std.specs.Prelude.{◌≡◌, ◌↔◌, ◌⊎◌, true, false, IfOk, IfErr, OnOk, OnErr, IsErrOf};
 ghost use Rattle.zt_rows.specs.Reads.{runs};
 ghost use Rattle.zt_rows.specs.Room.{HasRoom};
 ghost use Rattle.zt_rows.specs.Step.{IsCall, direct, completed, step};
@@ -16,7 +16,7 @@ use crate::object_calls::{event_create, eventpair_create, object_signal, object_
 use crate::port_calls::{object_wait_async, port_cancel, port_create, port_queue, port_wait};
 use std::alloc::{AllocError, Global};
 use std::mem;
-use zt_bits::Kind;
+use zt_bits::{Kind, Status};
 use zt_cascade::{release_lost, settle};
 use zt_rows::{Call, Koid, Life, Refusal, Reply};
 use zt_store::{Record, Step, Store};
@@ -81,35 +81,38 @@ pub fn apply_to(
     if !runs(resting.store(), process) {
         return Err(Refusal::NoProcess);
     }
-    match run_on(alloc, resting, process, call) {
-        Ok(answer) => Ok(answer),
+    let mut reply = Reply::Status(Status::Ok);
+    match run_on(alloc, resting, process, call, &mut reply) {
+        Ok(record) => Ok((reply, record)),
         Err(_) => Err(Refusal::OutOfMemory),
     }
 }
 
-/// Runs one call of a process that is known to run, as `apply_to` does: it is refused for want of memory alone.
+/// Runs one call of a process that is known to run, as `apply_to` does, and leaves its reply where the caller says, since a reply is
+/// large and goes through memory at each return. It is refused for want of memory alone.
 #[tactic(auto, unfolding(zt_rows::specs::Step::step))]
 pub fn run_on(
     alloc: Global,
     resting: &mut Step,
     process: Koid,
     call: &Call,
-) -> Result<(Reply, Record), AllocError>
+    reply: &mut Reply,
+) -> Result<Record, AllocError>
     requires rest { IsAtRest resting.old }
     requires room { HasRoom resting.old.current }
     requires consistent { IsConsistent resting.old.current }
     requires running { runs resting.old.current process ≡ true }
     ensures rest { IsAtRest resting.new }
-    ensures ok { IfOk result (λ answer. (resting.new.current, answer.0) ≡ step resting.old.current process call.now) }
-    ensures recorded { IfOk result (λ answer. answer.1 ≡ before resting.old.current resting.new.current) }
-    ensures fits { IfOk result (λ answer. fits resting.new.places answer.1 ≡ true) }
+    ensures ok { OnOk result ((resting.new.current, reply.new) ≡ step resting.old.current process call.now) }
+    ensures recorded { IfOk result (λ change. change ≡ before resting.old.current resting.new.current) }
+    ensures fits { IfOk result (λ change. fits resting.new.places change ≡ true) }
     ensures err { OnErr result (resting.new.current ≡ resting.old.current) }
     ensures consistent { IsConsistent resting.new.current }
     ensures kept { Keeps resting.old.places resting.new.places }
 {
     call.limits();
-    match carried_out(alloc, resting, process, call) {
-        Ok(reply) => Ok((reply, resting.take_record())),
+    match carried_out(alloc, resting, process, call, reply) {
+        Ok(()) => Ok(resting.take_record()),
         Err(e) => {
             resting.reset();
             Err(e)
@@ -130,37 +133,44 @@ fn carried_out(
     step: &mut Step,
     process: Koid,
     call: &Call,
-) -> Result<Reply, AllocError>
+    reply: &mut Reply,
+) -> Result<(), AllocError>
     requires room { HasRoom step.old.current }
     requires consistent { IsConsistent step.old.current }
     requires running { runs step.old.current process ≡ true }
     requires begun { step.old.current ≡ step.old.beginning }
     requires limits { IsCall call.now }
     ensures beginning { step.new.beginning ≡ step.old.beginning }
-    ensures ok { IfOk result (λ reply. (step.new.current, reply) ≡ completed step.old.current (direct step.old.current process call.now)) }
+    ensures ok { OnOk result ((step.new.current, reply.new) ≡ completed step.old.current (direct step.old.current process call.now)) }
     ensures kept { Keeps step.old.places step.new.places }
 {
-    let reply = direct(alloc, step, process, call)?;
+    direct(alloc, step, process, call, reply)?;
     release_lost(step)?;
-    settle(step, alloc)?;
-    Ok(reply)
+    settle(step, alloc)
 }
 
 /// The checks of the call in order, and then its change of rows.
-fn direct(alloc: Global, step: &mut Step, process: Koid, call: &Call) -> Result<Reply, AllocError>
+fn direct(
+    alloc: Global,
+    step: &mut Step,
+    process: Koid,
+    call: &Call,
+    reply: &mut Reply,
+) -> Result<(), AllocError>
     requires room { HasRoom step.old.current }
     requires sound { IsSound step.old.current }
     requires running { runs step.old.current process ≡ true }
     ensures beginning { step.new.beginning ≡ step.old.beginning }
-    ensures ok { IfOk result (λ reply. (step.new.current, reply) ≡ direct step.old.current process call.now) }
+    ensures ok { OnOk result ((step.new.current, reply.new) ≡ direct step.old.current process call.now) }
     ensures err { OnErr result (AsBegun step.old step.new) }
     ensures kept { Keeps step.old.places step.new.places }
 {
-    match answered(alloc, step, process, call) {
-        Ok(reply) => Ok(reply),
-        Err(Failure::Status(status)) => Ok(Reply::Status(status)),
-        Err(Failure::OutOfMemory) => Err(AllocError),
-    }
+    *reply = match answered(alloc, step, process, call) {
+        Ok(reply) => reply,
+        Err(Failure::Status(status)) => Reply::Status(status),
+        Err(Failure::OutOfMemory) => return Err(AllocError),
+    };
+    Ok(())
 }
 
 /// The function of the call, with the call's arguments.

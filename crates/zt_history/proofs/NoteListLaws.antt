@@ -280,9 +280,8 @@ first-all start list n few same = sym (take_all n list few) ∙ same
 
 -- ---- what a loop over keys notes
 
-pub key-there : (R : Rows) (i : ℕ) (q : RowKey) → i < length (map (λ e. e.0) R) → q ≡ get_or (map (λ e. e.0) R) i q → option_map (λ e. e.0) (slice_get R i) ≡ Some q
-key-there R i q within read =
-    sym (slice_get-map (λ (e : RowKey × Option Row). e.0) R i) ∙ slice_get_read (map (λ e. e.0) R) (length (map (λ e. e.0) R)) i q refl within read
+pub key-read : (R : Rows) (i : ℕ) (q : RowKey) → option_map (λ e. e.0) (slice_get R i) ≡ Some q → q ≡ get_or (map (λ e. e.0) R) i q
+key-read R i q there = sym (get_or_from_slice_get (map (λ e. e.0) R) i q q (slice_get-map (λ (e : RowKey × Option Row). e.0) R i ∙ there))
 
 -- what is noted of a key is by the row that the record has under it
 pub by-row : (m : ℕ) (R : Rows) (T : State) (q : RowKey) (r : Option Row) → held R q ≡ Some r → note_before m r T q ≡ note_under m R T q

@@ -133,6 +133,7 @@ impl MomentNodes {
     }
 
     /// One more at the end.
+    #[inline(always)]
     pub(crate) fn push(
         &mut self,
         parent: Moment,
@@ -243,6 +244,7 @@ fn shared_status(status: Status) -> u32
 }
 
 /// Where the call stands in the list, at whose end it is put unless it stands there already.
+#[inline(always)]
 fn put_call(calls: &mut Vec<Call>, nodes: &Vec<StoredNode>, call: Call) -> KeptAt
     requires shared { HasShared shared_calls calls.old.items }
     requires within { AreWithin (λ n. n.call) nodes.now.items calls.old.items }
@@ -291,6 +293,7 @@ fn near_call(calls: &Vec<Call>, nodes: &Vec<StoredNode>, call: &Call) -> Option<
 }
 
 /// Where the reply stands in the list, at whose end it is put unless it stands there already.
+#[inline(always)]
 fn put_reply(replies: &mut Vec<Reply>, nodes: &Vec<StoredNode>, reply: Reply) -> KeptAt
     requires shared { HasShared shared_replies replies.old.items }
     requires within { AreWithin (λ n. n.reply) nodes.now.items replies.old.items }

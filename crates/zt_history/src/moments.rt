@@ -1,4 +1,4 @@
-ghost use Rattle.std.specs.Prelude.{◌≡◌, ◌<◌, ◌≤◌, ◌+◌, ◌-◌, ◌++◌, ◌∷◌, [], ℕ, true, if◌then◌else◌, Some, None, IfOk, OnOk, OnErr, IfSome, length, reverse, slice_get};
+ghost use Rattle.std.specs.Prelude.{◌≡◌, ◌<◌, ◌≤◌, ◌+◌, ◌-◌, ◌++◌, ◌∷◌, [], ℕ, true, if◌then◌else◌, IfOk, OnOk, OnErr, IfSome, length, reverse, slice_get};
 ghost use Rattle.std.specs.Option.{option_copied, option_map};
 ghost use Rattle.zt_rows.specs.Change.{before};
 ghost use Rattle.zt_rows.specs.Consistent.{IsConsistent};
@@ -17,6 +17,7 @@ ghost use Rattle.zt_history.specs.TreeInvariant.{Falls};
 ghost use Rattle.zt_history.specs.Tree.{call_at, parent_at, path, reply_at};
 
 use crate::moment_nodes::MomentNodes;
+use crate::new_moment::NO_ANSWER;
 use crate::object_notes::ObjectNotes;
 use crate::resting_store::RestingStore;
 use std::alloc::{AllocError, Global};
@@ -278,8 +279,8 @@ impl Moments {
     }
 
     /// Runs a call of a process at a moment, where the store stands, keeps what it made and notes what it did to each
-    /// object; answers a copy of the reply where one is wanted. Where memory is refused, the store's rows, the moments and
-    /// the notes are as before.
+    /// object; leaves a copy of the reply in the answer where one is wanted. Where memory is refused, the store's rows, the
+    /// moments and the notes are as before.
     pub(crate) fn run(
         &mut self,
         store: &mut RestingStore,
@@ -288,7 +289,8 @@ impl Moments {
         process: Koid,
         call: Call,
         wanted: bool,
-    ) -> Result<Option<Reply>, AllocError>
+        answer: &mut Reply,
+    ) -> Result<(), AllocError>
         requires few { length self.old.made < 1048576 }
         requires there { at ≤ length self.old.made }
         requires running { runs store.old.state process ≡ true }
@@ -297,7 +299,7 @@ impl Moments {
         requires consistent { IsConsistent store.old.state }
         requires few_koids { next_koid (step store.old.state process call).0 < 4294967296 }
         ensures ok { OnOk result (store.new.state ≡ (step store.old.state process call).0) }
-        ensures answer { IfOk result (λ answer. answer ≡ (if wanted then Some (step store.old.state process call).1 else None)) }
+        ensures answer { OnOk result (answer.new ≡ (if wanted then (step store.old.state process call).1 else answer.old)) }
         ensures made { OnOk result (self.new.made ≡ self.old.made ++ run_at at store.old.state process call ∷ []) }
         ensures recorded { OnOk result (self.new.records ≡ self.old.records ++ before store.old.state store.new.state ∷ []) }
         ensures fits { OnOk result (fits store.new.places (before store.old.state store.new.state) ≡ true) }
@@ -318,11 +320,14 @@ impl Moments {
         self.shortcuts.reserve(1)?;
         self.records.reserve(1)?;
         let alloc = *self.records.allocator();
-        let run = carried_out(alloc, store, notes, moment, process, &call, wanted)?;
+        let mut reply = NO_ANSWER;
+        let change = carried_out(
+            alloc, store, notes, moment, process, &call, &mut reply, wanted, answer,
+        )?;
         self.shortcuts.push_reserved(shortcut);
-        self.records.push_reserved(run.change);
-        self.nodes.push(at, depth, process, call, run.reply);
-        Ok(run.answer)
+        self.records.push_reserved(change);
+        self.nodes.push(at, depth, process, call, reply);
+        Ok(())
     }
 
     /// Drops the last moment. It takes no memory.
@@ -337,16 +342,9 @@ impl Moments {
     }
 }
 
-/// What a call that was run left: its reply, a copy of that where one is wanted, and its record.
-#[derive(Drop)]
-struct AnsweredCall {
-    reply: Reply,
-    answer: Option<Reply>,
-    change: Record,
-}
-
-/// Runs a call of a process, and notes what it did to each object as that of a moment. Where memory is refused, also for
-/// the notes or for a copy of the reply, the store's rows and the notes are as before.
+/// Runs a call of a process, notes what it did to each object as that of a moment, and leaves its reply, and a copy of that in
+/// the answer where one is wanted. Where memory is refused, also for the notes or for the copy, the store's rows and the notes
+/// are as before.
 fn carried_out(
     alloc: Global,
     store: &mut RestingStore,
@@ -354,28 +352,26 @@ fn carried_out(
     moment: Moment,
     process: Koid,
     call: &Call,
+    reply: &mut Reply,
     wanted: bool,
-) -> Result<AnsweredCall, AllocError>
+    answer: &mut Reply,
+) -> Result<Record, AllocError>
     requires running { runs store.old.state process ≡ true }
     requires room { HasRoom store.old.state }
     requires consistent { IsConsistent store.old.state }
     requires few { next_koid (step store.old.state process call.now).0 < 4294967296 }
-    ensures ok { IfOk result (λ run. (store.new.state, run.reply) ≡ step store.old.state process call.now) }
-    ensures answer { IfOk result (λ run. run.answer ≡ (if wanted then Some run.reply else None)) }
-    ensures recorded { IfOk result (λ run. run.change ≡ before store.old.state store.new.state) }
-    ensures fits { IfOk result (λ run. fits store.new.places run.change ≡ true) }
+    ensures ok { OnOk result ((store.new.state, reply.new) ≡ step store.old.state process call.now) }
+    ensures answer { OnOk result (answer.new ≡ (if wanted then reply.new else answer.old)) }
+    ensures recorded { IfOk result (λ change. change ≡ before store.old.state store.new.state) }
+    ensures fits { IfOk result (λ change. fits store.new.places change ≡ true) }
     ensures noted { OnOk result (notes.new ≡ noted notes.old moment (before store.old.state store.new.state) store.new.state) }
     ensures err { OnErr result (store.new.state ≡ store.old.state) }
     ensures err_notes { OnErr result (notes.new ≡ notes.old) }
     ensures kept { Keeps store.old.places store.new.places }
 {
-    let (reply, mut change) = store.apply(alloc, process, call)?;
-    match answered_and_noted(&reply, wanted, notes, moment, &change, store.store()) {
-        Ok(answer) => Ok(AnsweredCall {
-            reply,
-            answer,
-            change,
-        }),
+    let mut change = store.apply(alloc, process, call, reply)?;
+    match answered_and_noted(reply, wanted, answer, notes, moment, &change, store.store()) {
+        Ok(()) => Ok(change),
         Err(e) => {
             store.swap(&mut change);
             Err(e)
@@ -383,33 +379,24 @@ fn carried_out(
     }
 }
 
-/// A copy of the reply where one is wanted, once what the call did is noted. Where memory is refused nothing is.
+/// Notes what the call did, and leaves a copy of the reply in the answer where one is wanted. Where memory is refused nothing
+/// is noted.
 fn answered_and_noted(
     reply: &Reply,
     wanted: bool,
+    answer: &mut Reply,
     notes: &mut ObjectNotes,
     moment: Moment,
     change: &Record,
     store: &Store,
-) -> Result<Option<Reply>, AllocError>
+) -> Result<(), AllocError>
     requires few { next_koid store.now.state < 4294967296 }
-    ensures answer { IfOk result (λ answer. answer ≡ (if wanted then Some reply.now else None)) }
+    ensures answer { OnOk result (answer.new ≡ (if wanted then reply.now else answer.old)) }
     ensures noted { OnOk result (notes.new ≡ noted notes.old moment change.now store.now.state) }
     ensures err { OnErr result (notes.new ≡ notes.old) }
 {
-    let answer = copied_if(wanted, reply)?;
-    notes.note(moment, change, store)?;
-    Ok(answer)
-}
-
-/// A copy of the reply where one is wanted.
-fn copied_if(wanted: bool, reply: &Reply) -> Result<Option<Reply>, AllocError>
-    ensures { IfOk result (λ answer. answer ≡ (if wanted then Some reply.now else None)) }
-{
     if wanted {
-        let copied = reply.copy()?;
-        Ok(Some(copied))
-    } else {
-        Ok(None)
+        *answer = reply.copy()?;
     }
+    notes.note(moment, change, store)
 }

@@ -1,4 +1,4 @@
-ghost use Rattle.std.specs.Prelude.{◌≡◌, ◌<◌, ◌≤◌, true, if◌then◌else◌, Some, None, IfOk, IfErr, OnOk, OnErr, length};
+ghost use Rattle.std.specs.Prelude.{◌≡◌, ◌<◌, ◌≤◌, true, if◌then◌else◌, None, IfOk, IfErr, OnOk, OnErr, length};
 ghost use Rattle.zt_rows.specs.Reads.{runs};
 ghost use Rattle.zt_rows.specs.declared.calls.Call.{Call};
 ghost use Rattle.zt_history.specs.HistoryRefusals.{IsHistoryRefusal, call_under};
@@ -8,8 +8,12 @@ ghost use Rattle.zt_history.specs.Tree.{branch_named, made_by, state_at};
 use crate::branches::BranchId;
 use crate::history::{History, Undo};
 use std::alloc::AllocError;
+use zt_bits::Status;
 use zt_calls::runs;
 use zt_rows::{Call, Koid, LAST_MOMENT, Moment, Refusal, Reply};
+
+/// What stands where a reply comes, or where none is wanted.
+pub(crate) const NO_ANSWER: Reply = Reply::Status(Status::Ok);
 
 impl History {
     /// Moves the store to a moment. Where it stands there already it takes no memory; where memory is refused it stays
@@ -63,39 +67,39 @@ impl History {
     {
         self.forget();
         let call = call.copy()?;
-        match self.grow_by(process, call, true) {
-            Ok(Some(reply)) => Ok(reply),
-            Ok(None) => unreachable!(),
-            Err(e) => Err(e),
-        }
+        let mut answer = NO_ANSWER;
+        self.grow_by(process, call, true, &mut answer)?;
+        Ok(answer)
     }
 
-    /// Does the same with a call that it keeps, and answers a copy of the reply where one is wanted.
+    /// Does the same with a call that it keeps, and leaves a copy of the reply in the answer where one is wanted.
     pub(crate) fn grow_by(
         &mut self,
         process: Koid,
         call: Call,
         wanted: bool,
-    ) -> Result<Option<Reply>, AllocError>
+        answer: &mut Reply,
+    ) -> Result<(), AllocError>
         requires few { length self.old.tree.made < 1048576 }
         requires running { runs (state_at self.old.tree.made self.old.position) process ≡ true }
-        ensures answer { IfOk result (λ answer. answer ≡ (if wanted then Some (made_by self.old.tree.made self.old.position process call).reply else None)) }
+        ensures answer { OnOk result (answer.new ≡ (if wanted then (made_by self.old.tree.made self.old.position process call).reply else answer.old)) }
         ensures grown { OnOk result (self.new ≡ after_call_at self.old self.old.position process call) }
         ensures err { OnErr result (self.new ≡ unmoved self.old) }
     {
         call.limits();
         self.undo = Undo::Nothing;
         let position = self.position;
-        let answer = self.moments.run(
+        self.moments.run(
             &mut self.store,
             &mut self.notes,
             position,
             process,
             call,
             wanted,
+            answer,
         )?;
         self.position = self.moments.last();
-        Ok(answer)
+        Ok(())
     }
 
     /// Adds a branch of a name that none has. Where memory is refused nothing changes.

@@ -197,16 +197,9 @@ fn note_all(
     ensures kept { IsLonger list.old.items list.new.items }
     ensures chained { AreChained list.new.items last.new.items }
 {
-    let keys = change.keys();
-    for place in 0..keys.len() {
-        note_under(
-            list,
-            last,
-            moment,
-            keys[place],
-            change.held_at(place),
-            store,
-        )?;
+    let rows = change.rows();
+    for place in 0..rows.len() {
+        note_under(list, last, moment, rows.key(place), rows.row(place), store)?;
     }
     Ok(())
 }

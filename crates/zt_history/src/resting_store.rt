@@ -1,4 +1,4 @@
-ghost use Rattle.std.specs.Prelude.{◌≡◌, true, IfOk, OnErr};
+ghost use Rattle.std.specs.Prelude.{◌≡◌, true, IfOk, OnOk, OnErr};
 ghost use Rattle.zt_rows.specs.Change.{before, exchange};
 ghost use Rattle.zt_rows.specs.Consistent.{IsConsistent};
 ghost use Rattle.zt_rows.specs.Opening.{opening};
@@ -58,23 +58,24 @@ impl RestingStore {
         self.step.swap(kept);
     }
 
-    /// Runs one call of a process that runs, as `apply` of the calls does.
+    /// Runs one call of a process that runs, as `run_on` of the calls does.
     pub(crate) fn apply(
         &mut self,
         alloc: Global,
         process: Koid,
         call: &Call,
-    ) -> Result<(Reply, Record), AllocError>
+        reply: &mut Reply,
+    ) -> Result<Record, AllocError>
         requires room { HasRoom self.old.state }
         requires consistent { IsConsistent self.old.state }
         requires running { runs self.old.state process ≡ true }
-        ensures ok { IfOk result (λ answer. (self.new.state, answer.0) ≡ step self.old.state process call.now) }
-        ensures recorded { IfOk result (λ answer. answer.1 ≡ before self.old.state self.new.state) }
-        ensures fits { IfOk result (λ answer. fits self.new.places answer.1 ≡ true) }
+        ensures ok { OnOk result ((self.new.state, reply.new) ≡ step self.old.state process call.now) }
+        ensures recorded { IfOk result (λ change. change ≡ before self.old.state self.new.state) }
+        ensures fits { IfOk result (λ change. fits self.new.places change ≡ true) }
         ensures err { OnErr result (self.new.state ≡ self.old.state) }
         ensures consistent { IsConsistent self.new.state }
         ensures kept { Keeps self.old.places self.new.places }
     {
-        run_on(alloc, &mut self.step, process, call)
+        run_on(alloc, &mut self.step, process, call, reply)
     }
 }

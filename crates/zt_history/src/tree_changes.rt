@@ -6,6 +6,7 @@ ghost use Rattle.zt_history.specs.Tree.{last_moment, made_by};
 
 use crate::branches::BranchId;
 use crate::history::{History, Undo};
+use crate::new_moment::NO_ANSWER;
 use zt_rows::{Call, Koid, Moment, Refusal, Reply};
 
 impl History {
@@ -67,7 +68,8 @@ impl History {
         ensures err { OnErr result (IsMovedAtMost self.old self.new parent) }
     {
         self.stand_ready(parent, process)?;
-        self.grow_by(process, call, false)?;
+        let mut unwanted = NO_ANSWER;
+        self.grow_by(process, call, false, &mut unwanted)?;
         Ok(self.last())
     }
 

@@ -108,6 +108,11 @@ module _ (S : State) (R : Rows) (p : Places) (i : ℕ) (ks : List RowKey) (rs : 
       (subst (λ x. new ≡ standing store (put store.state k x)) same_row stands) was suits fit in
       (subst (λ os. IsSwapping S R p (i + 1) new.state (zip ks os)) (sym (under_keys-set ks rs i k came even within key_at)) next.0, next.1)
 
+pub length-pairs : (ks : List RowKey) (rs : List Row) → length rs ≡ length ks → length (pairs_of ks rs) ≡ length ks
+length-pairs [] rs even = refl
+length-pairs (k ∷ ks) [] even = absurd (omega (arith, even))
+length-pairs (k ∷ ks) (r ∷ rs) even = ap suc (length-pairs ks rs (omega (arith, even)))
+
 pub rows_of-zip : (ks : List RowKey) (rs : List Row) → rows_of (zip ks rs) ≡ pairs_of ks rs
 rows_of-zip [] rs = refl
 rows_of-zip (k ∷ ks) [] = refl
@@ -121,29 +126,18 @@ rows_of-lent f ks xs rs ys n seen keys rows = sym (ap (λ g. rows_of g.rows) see
 pub rows_of-written : (ks : List RowKey) (v : Vec Row) (rs : List Row) → length rs ≡ length v.items → rows_of (zip ks (with_items v rs).items) ≡ pairs_of ks rs
 rows_of-written ks v rs same = ap (λ qs. rows_of (zip ks qs)) (with_items_is v rs (omega (arith, same, v.ok.0))) ∙ rows_of-zip ks rs
 
--- one more behind them, which became another there
-exchanged_behind : (ks : List RowKey) (rs : List Row) (k : RowKey) (b v : Row) (n : ℕ) → length rs ≡ length ks → n ≡ length rs → zip (ks ++ k ∷ []) (set (rs ++ b ∷ []) n v) ≡ zip ks rs ++ (k, v) ∷ []
-exchanged_behind [] [] k b v zero even at = refl
-exchanged_behind [] [] k b v (suc n) even at = absurd (omega (arith, at))
-exchanged_behind [] (r ∷ rs) k b v n even at = absurd (omega (arith, even))
-exchanged_behind (x ∷ ks) [] k b v n even at = absurd (omega (arith, even))
-exchanged_behind (x ∷ ks) (r ∷ rs) k b v zero even at = absurd (omega (arith, at))
-exchanged_behind (x ∷ ks) (r ∷ rs) k b v (suc n) even at = ap (λ R. (x, r) ∷ R) (exchanged_behind ks rs k b v n (omega (arith, even)) (omega (arith, at)))
+-- one more behind them
+zip-behind : (ks : List RowKey) (rs : List Row) (k : RowKey) (v : Row) → length rs ≡ length ks → zip (ks ++ k ∷ []) (rs ++ v ∷ []) ≡ zip ks rs ++ (k, v) ∷ []
+zip-behind [] [] k v even = refl
+zip-behind [] (r ∷ rs) k v even = absurd (omega (arith, even))
+zip-behind (x ∷ ks) [] k v even = absurd (omega (arith, even))
+zip-behind (x ∷ ks) (r ∷ rs) k v even = ap (λ R. (x, r) ∷ R) (zip-behind ks rs k v (omega (arith, even)))
 
-last-at : (rs : List Row) (x d : Row) (n : ℕ) → n ≡ length rs → get_or (rs ++ x ∷ []) n d ≡ x
-last-at [] x d zero at = refl
-last-at [] x d (suc n) at = absurd (omega (arith, at))
-last-at (r ∷ rs) x d zero at = absurd (omega (arith, at))
-last-at (r ∷ rs) x d (suc n) at = last-at rs x d n (omega (arith, at))
-
-module _ (ks more : List RowKey) (rs pushed : List Row) (k : RowKey) (b e : Row) (n : ℕ) (even : length rs ≡ length ks) (at : n ≡ length rs) (keys : more ≡ ks ++ k ∷ []) (rows : pushed ≡ rs ++ b ∷ []) (read : e ≡ get_or pushed n e) where
-  pub read_behind : e ≡ b
-  read_behind = read ∙ ap (λ R. get_or R n e) rows ∙ last-at rs b e n at
-
-  pub rows_of-behind : (v : Row) (o : Option Row) → row_under k v ≡ o → rows_of (zip more (set pushed n v)) ≡ rows_of (zip ks rs) ++ (k, o) ∷ []
-  rows_of-behind v o was =
-      (λ j. rows_of (zip (keys j) (set (rows j) n v))) ∙ ap rows_of (exchanged_behind ks rs k b v n even at) ∙ map-append held_by (zip ks rs) ((k, v) ∷ [])
-      ∙ ap (λ x. rows_of (zip ks rs) ++ (k, x) ∷ []) was
+pub rows_of-behind : (ks more : List RowKey) (rs pushed : List Row) (k : RowKey) (v : Row) (o : Option Row) → length rs ≡ length ks → more ≡ ks ++ k ∷ [] → pushed ≡ rs ++ v ∷ [] → row_under k v ≡ o
+    → rows_of (zip more pushed) ≡ rows_of (zip ks rs) ++ (k, o) ∷ []
+rows_of-behind ks more rs pushed k v o even keys rows was =
+    (λ j. rows_of (zip (keys j) (rows j))) ∙ ap rows_of (zip-behind ks rs k v even) ∙ map-append held_by (zip ks rs) ((k, v) ∷ [])
+    ∙ ap (λ x. rows_of (zip ks rs) ++ (k, x) ∷ []) was
 
 pub pairs-end : (S T : State) (ks : List RowKey) (rs qs : List Row) (p : Places) (i : ℕ) → IsSwapping S (pairs_of ks rs) p i T (pairs_of ks qs) → length qs ≡ length ks → length qs ≤ i → ◌≡◌ {A = State × Rows} (T, pairs_of ks qs) (exchange S (pairs_of ks rs))
 pairs-end S T ks rs qs p i swapping even over =

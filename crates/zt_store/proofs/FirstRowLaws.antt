@@ -8,7 +8,6 @@ use Rattle.std.proofs.lemmas.Slice.Zip.{firsts-zip}
 use Rattle.zt_rows.specs.declared.keys.RowKey.{RowKey}
 use Rattle.zt_rows.specs.declared.rows.Row.{Row}
 use Rattle.zt_store.specs.ProofsOnly.ChangedRows.{first_at, key_at, picked, row_at}
-use Rattle.zt_store.specs.ProofsOnly.FirstRows.{Firsts}
 use Rattle.zt_store.specs.ProofsOnly.KeptRows.{AreOf}
 
 pub length-firsts : (ks : List RowKey) (rs : List Row) → length rs ≡ length ks → length (zip ks rs) ≡ length ks
@@ -41,10 +40,6 @@ firsts-set [] rs i k r within at = absurd (omega (arith, within))
 firsts-set (x ∷ ks) [] i k r within at = refl
 firsts-set (x ∷ ks) (y ∷ rs) zero k r within at = ap (λ q. (q, r) ∷ zip ks rs) (sym at)
 firsts-set (x ∷ ks) (y ∷ rs) (suc i) k r within at = ap (λ R. (x, y) ∷ R) (firsts-set ks rs i k r (omega (arith, within)) at)
-
--- the place behind them all
-pub last-place : (f : Firsts) (ks : List RowKey) (rs : List Row) (n i : ℕ) → ◌≡◌ {A = Firsts} (record { rows = zip ks rs; room = n }) f → length rs ≡ length ks → i ≡ length f.rows → i ≡ length rs
-last-place f ks rs n i seen even at = omega (arith, ap (λ g. length g.rows) seen, length-firsts ks rs even, even, at)
 
 pub front-written : {A : Type 0} (v : Vec A) (ws : List A) (n : ℕ) → length ws ≡ length v.items → take n (with_items v ws).items ≡ take n ws
 front-written v ws n same = ap (take n) (with_items_is v ws (omega (arith, same, v.ok.0)))

@@ -76,6 +76,11 @@ module _ (ks : List RowKey) (rs : List (Option Row)) (R : Rows) (is : IsRecord k
   pub place-rows : i < length rs
   place-rows = omega (arith, ap length seen, length-zip ks rs)
 
+  pub key-at-place : (k : RowKey) → k ≡ get_or ks i k → option_map (λ e. e.0) (slice_get R i) ≡ Some k
+  key-at-place k at =
+      ap (λ Q. option_map (λ e. e.0) (slice_get Q i)) (sym seen) ∙ sym (slice_get-map (λ (e : RowKey × Option Row). e.0) (zip ks rs) i)
+      ∙ ap (λ xs. slice_get xs i) (sym (listed-record ks rs is)) ∙ slice_get-get_or ks i k (omega (arith, place-rows, is.even)) ∙ ap Some (sym at)
+
   pub held-at : (v : Option Row) → v ≡ get_or rs i v → option_map (λ e. e.1) (slice_get R i) ≡ Some v
   held-at v at =
       ap (λ Q. option_map (λ e. e.1) (slice_get Q i)) (sym seen) ∙ sym (slice_get-map (λ (e : RowKey × Option Row). e.1) (zip ks rs) i)

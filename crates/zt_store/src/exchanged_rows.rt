@@ -99,7 +99,7 @@ pub(crate) fn exchange_rows(store: &mut Store, firsts: &mut FirstRows)
     exchange_each(store, firsts.keys.as_slice(), firsts.rows.as_mut_slice());
 }
 
-/// Puts the bare row behind the first rows, and exchanges it there with what stands under the key. It takes no memory.
+/// Exchanges the bare row with what stands under the key, which comes behind the first rows. It takes no memory.
 #[inline(always)]
 pub(crate) fn exchange_behind(store: &mut Store, firsts: &mut FirstRows, key: &RowKey, bare: Row)
     requires room { length firsts.old.rows < firsts.old.room }
@@ -110,10 +110,10 @@ pub(crate) fn exchange_behind(store: &mut Store, firsts: &mut FirstRows, key: &R
     ensures fit { fits_row store.new.places key.now (row store.old.state key.now) ≡ true }
     ensures suited { SuitsKey key.now (row store.old.state key.now) }
 {
-    let place = firsts.len();
+    let mut kept = bare;
+    store.exchange(key, &mut kept);
     firsts.keys.push_reserved(*key);
-    firsts.rows.push_reserved(bare);
-    store.exchange(key, &mut firsts.rows[place]);
+    firsts.rows.push_reserved(kept);
 }
 
 /// Exchanges the bare rows with the store's, each under the key at its place, where each key is listed once. It takes no memory.

@@ -5,6 +5,7 @@ ghost use Rattle.zt_store.specs.ProofsOnly.KeptRows.{AreOf, keys_in, rows_in, ro
 use crate::first_rows::FirstRows;
 use std::alloc::{AllocError, Global};
 use std::array;
+use std::mem::{forget, replace};
 use zt_cells::NO_ROW;
 use zt_rows::{Row, RowKey};
 
@@ -158,7 +159,7 @@ impl<const N: usize> RowBlock<N> {
     }
 }
 
-/// Takes the rows at these places, with copies of their keys, into as many places.
+/// Takes the rows at these places, with copies of their keys, into as many places, in which there is no row.
 #[inline(always)]
 fn take_into(keys: &mut [RowKey], rows: &mut [Row], firsts: &mut FirstRows, order: &[usize])
     requires order { IsOrder order.now (length firsts.old.rows) }
@@ -167,7 +168,10 @@ fn take_into(keys: &mut [RowKey], rows: &mut [Row], firsts: &mut FirstRows, orde
     ensures { AreOf keys.new rows.new (picked firsts.old.rows order.now) }
 {
     for place in 0..order.len() {
-        keys[place] = firsts.exchange(order[place], &mut rows[place]);
+        let mut row = NO_ROW;
+        keys[place] = firsts.exchange(order[place], &mut row);
+        // What stood there has nothing to let go, and is not asked.
+        forget(replace(&mut rows[place], row));
     }
 }
 

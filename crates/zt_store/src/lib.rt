@@ -14,6 +14,6 @@ mod step;
 mod store;
 
 pub use exchanged_rows::{swap, undo};
-pub use record::Record;
+pub use record::{Record, RecordRows};
 pub use step::Step;
 pub use store::Store;

@@ -47,6 +47,14 @@ impl Record {
         self.rows.keys()
     }
 
+    /// The keys and the rows at hand. It takes no memory.
+    pub fn rows(&self) -> RecordRows<'_>
+        ensures { result ≡ self.now }
+    {
+        let (keys, rows) = self.rows.keys_and_rows();
+        RecordRows { keys, rows }
+    }
+
     /// The row, or that there was none, under the key; nothing where the record does not have the key. It takes no
     /// memory, and as many looks as the number of the keys has binary digits.
     pub fn held(&self, key: RowKey) -> Option<Option<&Row>>
@@ -64,7 +72,57 @@ impl Record {
         ensures row { option_map (λ e. e.1) (slice_get self.now place) ≡ Some (option_copied result) }
         ensures held { (key : RowKey) → option_map (λ e. e.0) (slice_get self.now place) ≡ Some key → held self.now key ≡ Some (option_copied result) }
     {
-        let (keys, rows) = self.rows.keys_and_rows();
+        self.rows().row(place)
+    }
+}
+
+/// The keys and the rows of a record at hand. Who goes over all of them asks once in which form the record keeps them.
+#[derive(Drop)]
+pub struct RecordRows<'a> {
+    keys: &'a [RowKey],
+    rows: &'a [Row],
+}
+
+impl<'a> Model for RecordRows<'a> {
+    ghost use Rattle.std.specs.Prelude.{List, Option};
+    ghost use Rattle.zt_rows.specs.declared.keys.RowKey.{RowKey};
+    ghost use Rattle.zt_rows.specs.declared.rows.Row.{Row};
+    ghost use Rattle.zt_store.specs.ProofsOnly.RecordRows.{IsBareRecord};
+    ghost use Rattle.zt_store.specs.ProofsOnly.KeptRows.{pairs_of};
+
+    ghost Value = { List (RowKey × Option Row) };
+
+    ghost view = { λ r. pairs_of r.keys.now r.rows.now };
+
+    ghost invariant = { λ r. IsBareRecord r.keys.now r.rows.now };
+}
+
+impl<'a> RecordRows<'a> {
+    /// How many there are. It takes no memory.
+    pub fn len(&self) -> usize
+        ensures { result ≡ length self.now }
+    {
+        self.keys.len()
+    }
+
+    /// The key at the place. It takes no memory.
+    #[inline(always)]
+    pub fn key(&self, place: usize) -> RowKey
+        requires { place < length self.now }
+        ensures { option_map (λ e. e.0) (slice_get self.now place) ≡ Some result }
+    {
+        let keys = self.keys;
+        keys[place]
+    }
+
+    /// The row, or that there was none, under the key at the place. It takes no memory.
+    #[inline(always)]
+    pub fn row(&self, place: usize) -> Option<&'a Row>
+        requires { place < length self.now }
+        ensures row { option_map (λ e. e.1) (slice_get self.now place) ≡ Some (option_copied result) }
+        ensures held { (key : RowKey) → option_map (λ e. e.0) (slice_get self.now place) ≡ Some key → held self.now key ≡ Some (option_copied result) }
+    {
+        let (keys, rows) = (self.keys, self.rows);
         row_under(keys[place], &rows[place])
     }
 }

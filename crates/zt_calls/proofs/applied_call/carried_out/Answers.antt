@@ -15,7 +15,7 @@ use Rattle.zt_calls.proofs.applied_call.carried_out.Goals as goal
 pub release_lost-requires-clause-joined : goal.release_lost-requires-clause-joined
 release_lost-requires-clause-joined c =
     sound-joined c.direct.new.step.current
-    (sound_after c.args.step.now.current c.direct.new.step.current c.args.process c.args.call.now c.in_ok-reply.reply c.in_ok-reply.ensures.ok c.requires.consistent.sound c.requires.running c.requires.limits)
+    (sound_after c.args.step.now.current c.direct.new.step.current c.args.process c.args.call.now _ c.in_ok-direct.ensures.ok c.requires.consistent.sound c.requires.running c.requires.limits)
 
 pub release_lost-requires-clause-supported : goal.release_lost-requires-clause-supported
 release_lost-requires-clause-supported c =
@@ -30,7 +30,7 @@ pub settle-requires-clause-room : goal.settle-requires-clause-room
 settle-requires-clause-room c =
     let S : State = c.args.step.now.current in
     let made : State = (direct S c.args.process c.args.call.now).0 in
-    let left : c.direct.new.step.current ≡ made = ap (λ (d : State × Reply). d.0) c.in_ok-reply.ensures.ok in
+    let left : c.direct.new.step.current ≡ made = ap (λ (d : State × Reply). d.0) c.in_ok-direct.ensures.ok in
     let collected : c.release_lost.new.step.current ≡ collect made = c.in_ok-release_lost.ensures.ok.1 ∙ ap collect left in
     subst (λ B. HasRoomToFire B c.release_lost.new.step.current) (c.requires.begun ∙ sym c.direct.ensures.beginning ∙ sym c.in_ok-release_lost.ensures.ok.0)
     (subst (HasRoomToFire S) (sym collected) (room_after S c.args.process c.args.call.now c.requires.consistent c.requires.room c.requires.running c.requires.limits))

@@ -12,4 +12,4 @@ pub returns-in-Ok-clause-consistent : goal.returns-in-Ok-clause-consistent
 returns-in-Ok-clause-consistent c =
     let S : State = c.args.resting.now.current in
     let left : c.take_record.new.self.current ≡ c.carried_out.new.step.current = ap (λ (s : Stepping). s.current) c.take_record.ensures.next in
-    consistent_after S S c.carried_out.new.step.current c.take_record.new.self.current c.args.process c.args.call.now c.in-Ok.reply refl left c.in-Ok.ensures.ok c.requires.consistent c.requires.running c.limits.ensures
+    consistent_after S S c.carried_out.new.step.current c.take_record.new.self.current c.args.process c.args.call.now _ refl left c.in-Ok.ensures.ok c.requires.consistent c.requires.running c.limits.ensures

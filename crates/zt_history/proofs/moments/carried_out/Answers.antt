@@ -8,5 +8,5 @@ use Rattle.zt_history.proofs.moments.carried_out.Goals as goal
 pub returns-in-Err-clause-err : goal.returns-in-Err-clause-err
 returns-in-Err-clause-err c =
     ap (λ (x : State × Rows). x.0) c.swap.ensures.exchanged
-    ∙ ap (with_rows c.apply.new.self.state) c.in_ok-reply.ensures.recorded
+    ∙ ap (with_rows c.apply.new.self.state) c.in_ok-change.ensures.recorded
     ∙ with_rows-before c.args.store.now.state c.apply.new.self.state

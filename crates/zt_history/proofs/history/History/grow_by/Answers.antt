@@ -42,8 +42,8 @@ pub invariant_of-self : goal.invariant_of-self
 invariant_of-self c = record {
   kept =
       kept-refused c.self.inside.store c.self.inside.moments c.self.inside.branches c.self.inside.position c.self.inside.undo c.self.invariant.kept
-      c.run.new.store c.run.new.self c.in_err-answer.ensures.err c.in_err-answer.ensures.err_moments c.run.ensures.kept;
-  noted = noted-same c.self.inside.moments.made c.run.new.self.made c.self.inside.notes c.run.new.notes (ap (λ (m : Chronicle). m.made) c.in_err-answer.ensures.err_moments) c.in_err-answer.ensures.err_notes c.self.invariant.noted;
+      c.run.new.store c.run.new.self c.in_err-run.ensures.err c.in_err-run.ensures.err_moments c.run.ensures.kept;
+  noted = noted-same c.self.inside.moments.made c.run.new.self.made c.self.inside.notes c.run.new.notes (ap (λ (m : Chronicle). m.made) c.in_err-run.ensures.err_moments) c.in_err-run.ensures.err_notes c.self.invariant.noted;
 }
 
 pub invariant_of-self-2 : goal.invariant_of-self-2
@@ -55,8 +55,8 @@ invariant_of-self-2 c = record {
       (omega (arith, c.requires.few, ap (λ (h : Timeline). length h.tree.made) h))
       (ap (λ S. runs S c.args.process) (c.self.invariant.kept.history.here ∙ ap (λ (h : Timeline). state_at h.tree.made h.position) h) ∙ c.requires.running)
       c.limits.ensures
-      (both c.in_ok-answer.ensures.ok) c.in_ok-answer.ensures.made c.in_ok-answer.ensures.recorded c.run.ensures.kept c.in_ok-answer.ensures.fits c.last-self-inside.ensures.last;
-  noted = noted-grown c.self.inside.store c.run.new.store c.self.inside.moments c.run.new.self c.self.inside.notes c.run.new.notes c.self.inside.branches c.self.inside.position c.args.process _ c.self.inside.undo c.args.call (step c.self.inside.store.state c.args.process c.args.call).1 c.self.invariant.kept c.self.invariant.noted (both c.in_ok-answer.ensures.ok) c.in_ok-answer.ensures.made refl c.in_ok-answer.ensures.noted;
+      (both c.in_ok-run.ensures.ok) c.in_ok-run.ensures.made c.in_ok-run.ensures.recorded c.run.ensures.kept c.in_ok-run.ensures.fits c.last-self-inside.ensures.last;
+  noted = noted-grown c.self.inside.store c.run.new.store c.self.inside.moments c.run.new.self c.self.inside.notes c.run.new.notes c.self.inside.branches c.self.inside.position c.args.process _ c.self.inside.undo c.args.call (step c.self.inside.store.state c.args.process c.args.call).1 c.self.invariant.kept c.self.invariant.noted (both c.in_ok-run.ensures.ok) c.in_ok-run.ensures.made refl c.in_ok-run.ensures.noted;
 }
 
 pub returns-clause-grown : goal.returns-clause-grown
@@ -67,5 +67,5 @@ returns-clause-grown c =
     (omega (arith, c.requires.few, ap (λ (h : Timeline). length h.tree.made) h))
     (ap (λ S. runs S c.args.process) (c.self.invariant.kept.history.here ∙ ap (λ (h : Timeline). state_at h.tree.made h.position) h) ∙ c.requires.running)
     c.limits.ensures
-    (both c.in_ok-answer.ensures.ok) c.in_ok-answer.ensures.made c.in_ok-answer.ensures.recorded c.run.ensures.kept c.in_ok-answer.ensures.fits c.last-self-inside.ensures.last
+    (both c.in_ok-run.ensures.ok) c.in_ok-run.ensures.made c.in_ok-run.ensures.recorded c.run.ensures.kept c.in_ok-run.ensures.fits c.last-self-inside.ensures.last
     ∙ ap (λ (h : Timeline). after_call_at h h.position c.args.process c.args.call) h
