@@ -10,7 +10,7 @@ use Rattle.zt_rows.specs.declared.calls.Call.{Call}
 use Rattle.zt_rows.specs.declared.calls.Reply.{Reply}
 use Rattle.zt_history.specs.declared.moment_nodes.StoredNode.{StoredNode}
 use Rattle.zt_history.specs.ProofsOnly.Branches.{without_last}
-use Rattle.zt_history.specs.ProofsOnly.StoredNodes.{MomentNode, node_as, nodes_of, no_call, no_reply, shared_calls, shared_replies, HasShared, Fills, IsFilled, AreStored, IsPut, IsCut}
+use Rattle.zt_history.specs.ProofsOnly.StoredNodes.{MomentNode, node_as, nodes_of, no_call, no_reply, shared_calls, shared_replies, Fills, IsFilled, AreStored, IsPut, IsCut}
 use Rattle.zt_history.proofs.ListLaws.{get-left}
 use Rattle.zt_history.proofs.NodeLaws.{got}
 use Rattle.zt_history.proofs.TreeLaws.{last_apart, without_last-push}

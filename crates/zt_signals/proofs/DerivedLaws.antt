@@ -11,7 +11,7 @@ use Rattle.zt_rows.specs.declared.rows.Row.TheVariants as rows
 use Rattle.zt_rows.specs.declared.rows.ObjectRow.{ObjectRow}
 use Rattle.zt_rows.specs.Keys.{rowkey_eq}
 use Rattle.zt_rows.specs.ProofsOnly.KeyOrder.{rowkey_eq-equal}
-use Rattle.zt_rows.specs.State.{State, row, put}
+use Rattle.zt_rows.specs.State.{State, row}
 use Rattle.zt_rows.specs.Reads.{object}
 use Rattle.zt_rows.specs.Room.{SuitsKey}
 use Rattle.zt_rows.specs.Settle.{is_message_of, renewed, refreshed}
