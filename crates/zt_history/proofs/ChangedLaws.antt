@@ -1,5 +1,6 @@
 -- What a history keeps while a call makes a moment, while a branch is made, and while either is taken back.
 use Rattle.std.proofs.Common.{◌≡◌, ℕ, suc, ◌-◌, ◌≤◌, ◌<◌, true, List, [], ◌∷◌, ◌++◌, length, Some, None, refl, sym, ◌∙◌, ap, subst, arith, length-append}
+use Rattle.std.specs.Option.{option_map}
 use Rattle.zt_rows.specs.declared.calls.Call.{Call}
 use Rattle.zt_rows.specs.declared.calls.Reply.{Reply}
 use Rattle.zt_rows.specs.Change.{before}
@@ -14,11 +15,11 @@ use Rattle.zt_store.specs.StoreView.{Stored}
 use Rattle.zt_store.proofs.Fitting.{all_fit-kept}
 use Rattle.zt_history.specs.declared.history.Undo.{Undo}
 use Rattle.zt_history.specs.declared.history.Undo.TheVariants as undo
-use Rattle.zt_history.specs.Tree.{Made, Branch, parent_of, parent_at, made_by, head_at, headed, branch_named}
+use Rattle.zt_history.specs.Tree.{Made, Branch, parent_of, parent_at, reply_at, made_by, grown, head_at, headed, branch_named}
 use Rattle.zt_history.specs.HistoryRefusals.{most_moments}
 use Rattle.zt_history.specs.ProofsOnly.Branches.{without_last}
-use Rattle.zt_history.specs.Timeline.{Timeline, after_call_at}
-use Rattle.zt_history.specs.ProofsOnly.Timeline.{after_call}
+use Rattle.zt_history.specs.Timeline.{Timeline, after_call_at, moved_to}
+use Rattle.zt_history.specs.ProofsOnly.Timeline.{after_call, without_moment}
 use Rattle.zt_history.specs.TreeInvariant.{AreMoments, AreBranches, IsMade}
 use Rattle.zt_history.specs.ProofsOnly.TreeInvariant.{IsHistory}
 use Rattle.zt_history.specs.ProofsOnly.MomentNodes.{Chronicle, IsTurned, run_at}
@@ -190,7 +191,7 @@ module _ (store : Stored) (moments : Chronicle) (branches moved : List Branch) (
     before = Some (record { tree = record { made = moments_back i; branches = heads_back i }; position = up i });
   }
 
--- ---- a call that is taken back
+-- ---- the last moment is dropped
 
 -- the front of the list without its last moment
 front_stands : (made : List Made) → 0 < length made → AreMoments made → (front : List Made) × (e : Made) × (made ≡ front ++ e ∷ []) × AreMoments front × (e.parent ≤ length front) × (front ≡ without_last made)
@@ -206,20 +207,20 @@ front_stands made some are =
       refl,
     )
 
-pub kept-uncalled : (old new : Stored) (moments turned shorter : Chronicle) (branches moved : List Branch) (b p i head : ℕ)
-    → IsKept old moments branches p (undo.Call b) → IsTurned moments turned old new i → p ≡ suc i → head ≡ parent_at moments.made p
-    → shorter.made ≡ without_last turned.made → shorter.records ≡ without_last turned.records → moved ≡ headed branches b head
-    → IsKept new shorter moved head undo.Nothing
-kept-uncalled old new moments turned shorter branches moved b p i head is turn place up made recorded heads =
-    let back : IsKept new turned branches head undo.Nothing = kept-back old new moments turned branches (undo.Call b) i p turn place head (up ∙ ap (λ made. parent_at made p) (sym turn.made)) is in
-    let some : 0 < length turned.made = omega (arith, is.undo.0, ap length turn.made) in
+pub kept-dropped : (old new : Stored) (moments turned shorter : Chronicle) (branches : List Branch) (last : Undo) (p i head : ℕ)
+    → IsKept old moments branches p last → IsTurned moments turned old new i → p ≡ suc i → p ≡ length moments.made → head ≡ parent_at moments.made p
+    → shorter.made ≡ without_last turned.made → shorter.records ≡ without_last turned.records → AreBranches (length moments.made - 1) branches
+    → IsKept new shorter branches head undo.Nothing
+kept-dropped old new moments turned shorter branches last p i head is turn place end up made recorded heads =
+    let back : IsKept new turned branches head undo.Nothing = kept-back old new moments turned branches last i p turn place head (up ∙ ap (λ made. parent_at made p) (sym turn.made)) is in
+    let some : 0 < length turned.made = omega (arith, place, end, ap length turn.made) in
     let f = front_stands turned.made some back.moments_stand in
     let front : List Made = f.0 in
     let e : Made = f.1 in
     let some_records : 0 < length turned.records = omega (arith, some, back.history.many) in
     let r = last_apart turned.records some_records in
     let size : length turned.made ≡ suc (length front) = ap length f.2 ∙ omega (arith, length-append front (e ∷ [])) in
-    let there : head ≤ length front = omega (arith, up, place, is.moments_stand.falls i, ap (parent_at moments.made) place, size, is.undo.1, ap length turn.made) in
+    let there : head ≤ length front = omega (arith, up, place, is.moments_stand.falls i, ap (parent_at moments.made) place, size, end, ap length turn.made) in
     let whole : IsHistory (front ++ e ∷ []) head new (without_last turned.records ++ r.0 ∷ []) =
     subst (IsHistory (front ++ e ∷ []) head new) r.1 (let P : List Made → Type 0 = λ made. IsHistory made head new turned.records in subst P f.2 back.history) in
     let here : shorter.made ≡ front = made ∙ sym f.5 in
@@ -227,12 +228,30 @@ kept-uncalled old new moments turned shorter branches moved b p i head is turn p
       moments_stand = subst AreMoments (sym here) f.3;
       branches_stand =
           let n : length moments.made - 1 ≡ length shorter.made = omega (arith, size, ap length turn.made, ap length here) in
-          let h : headed branches b (parent_at moments.made (length moments.made)) ≡ moved = (λ j. headed branches b (parent_at moments.made (sym is.undo.1 j))) ∙ ap (headed branches b) (sym up) ∙ sym heads in
-          let P : ℕ → Type 0 = λ n. AreBranches n moved in
-          subst P n (subst (AreBranches (length moments.made - 1)) h is.undo.3);
+          let P : ℕ → Type 0 = λ n. AreBranches n branches in
+          subst P n heads;
       history =
           subst (IsHistory shorter.made head new) (sym recorded)
           (let P : List Made → Type 0 = λ made. IsHistory made head new (without_last turned.records) in
           subst P (sym here) (history-dropped front e f.3.falls f.4 head new (without_last turned.records) r.0 there whole));
       undo = tt;
     }
+
+-- ---- the moment that a call has just made
+
+module _ (h : Timeline) (m process : ℕ) (call : Call) where
+  pub reply-grown : reply_at (grown h.tree.made m process call) (suc (length h.tree.made)) ≡ Some (made_by h.tree.made m process call).reply
+  reply-grown = ap (option_map (λ (e : Made). e.reply)) (get-last h.tree.made (made_by h.tree.made m process call) (length h.tree.made) refl)
+
+  pub heads-grown : AreBranches (length h.tree.made) h.tree.branches → AreBranches (length (grown h.tree.made m process call) - 1) h.tree.branches
+  heads-grown stand =
+      let P : ℕ → Type 0 = λ n. AreBranches n h.tree.branches in
+      subst P (omega (arith, length-push h.tree.made (made_by h.tree.made m process call))) stand
+
+  -- dropped again, it leaves the history as it was, at the parent
+  pub dropped-grown : without_moment (after_call_at h m process call) ≡ moved_to h m
+  dropped-grown = λ i. record {
+    tree = record { made = without_last-push h.tree.made (made_by h.tree.made m process call) i; branches = h.tree.branches };
+    position = ap parent_of (get-last h.tree.made (made_by h.tree.made m process call) (length h.tree.made) refl) i;
+    before = None;
+  }

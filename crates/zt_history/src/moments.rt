@@ -1,4 +1,4 @@
-ghost use Rattle.std.specs.Prelude.{◌≡◌, ◌<◌, ◌≤◌, ◌+◌, ◌-◌, ◌++◌, ◌∷◌, [], ℕ, true, if◌then◌else◌, IfOk, OnOk, OnErr, IfSome, length, reverse, slice_get};
+ghost use Rattle.std.specs.Prelude.{◌≡◌, ◌<◌, ◌≤◌, ◌+◌, ◌-◌, ◌++◌, ◌∷◌, [], ℕ, true, IfOk, OnOk, OnErr, IfSome, length, reverse, slice_get};
 ghost use Rattle.std.specs.Option.{option_copied, option_map};
 ghost use Rattle.zt_rows.specs.Change.{before};
 ghost use Rattle.zt_rows.specs.Consistent.{IsConsistent};
@@ -17,13 +17,13 @@ ghost use Rattle.zt_history.specs.TreeInvariant.{Falls};
 ghost use Rattle.zt_history.specs.Tree.{call_at, parent_at, path, reply_at};
 
 use crate::moment_nodes::MomentNodes;
-use crate::new_moment::NO_ANSWER;
 use crate::object_notes::ObjectNotes;
 use crate::resting_store::RestingStore;
 use std::alloc::{AllocError, Global};
 use std::marker::Model;
+use zt_bits::Status;
 use zt_rows::{Call, Koid, Moment, Reply};
-use zt_store::{Record, Store};
+use zt_store::Record;
 
 /// Two ways up a moment's path: a jump to a moment further up, and the first moment of its run, the moments in a row of
 /// which each but the first was made at the one just before it.
@@ -279,8 +279,7 @@ impl Moments {
     }
 
     /// Runs a call of a process at a moment, where the store stands, keeps what it made and notes what it did to each
-    /// object; leaves a copy of the reply in the answer where one is wanted. Where memory is refused, the store's rows, the
-    /// moments and the notes are as before.
+    /// object. Where memory is refused, the store's rows, the moments and the notes are as before.
     pub(crate) fn run(
         &mut self,
         store: &mut RestingStore,
@@ -288,8 +287,6 @@ impl Moments {
         at: Moment,
         process: Koid,
         call: Call,
-        wanted: bool,
-        answer: &mut Reply,
     ) -> Result<(), AllocError>
         requires few { length self.old.made < 1048576 }
         requires there { at ≤ length self.old.made }
@@ -299,7 +296,6 @@ impl Moments {
         requires consistent { IsConsistent store.old.state }
         requires few_koids { next_koid (step store.old.state process call).0 < 4294967296 }
         ensures ok { OnOk result (store.new.state ≡ (step store.old.state process call).0) }
-        ensures answer { OnOk result (answer.new ≡ (if wanted then (step store.old.state process call).1 else answer.old)) }
         ensures made { OnOk result (self.new.made ≡ self.old.made ++ run_at at store.old.state process call ∷ []) }
         ensures recorded { OnOk result (self.new.records ≡ self.old.records ++ before store.old.state store.new.state ∷ []) }
         ensures fits { OnOk result (fits store.new.places (before store.old.state store.new.state) ≡ true) }
@@ -320,10 +316,8 @@ impl Moments {
         self.shortcuts.reserve(1)?;
         self.records.reserve(1)?;
         let alloc = *self.records.allocator();
-        let mut reply = NO_ANSWER;
-        let change = carried_out(
-            alloc, store, notes, moment, process, &call, &mut reply, wanted, answer,
-        )?;
+        let mut reply = Reply::Status(Status::Ok);
+        let change = carried_out(alloc, store, notes, moment, process, &call, &mut reply)?;
         self.shortcuts.push_reserved(shortcut);
         self.records.push_reserved(change);
         self.nodes.push(at, depth, process, call, reply);
@@ -342,9 +336,8 @@ impl Moments {
     }
 }
 
-/// Runs a call of a process, notes what it did to each object as that of a moment, and leaves its reply, and a copy of that in
-/// the answer where one is wanted. Where memory is refused, also for the notes or for the copy, the store's rows and the notes
-/// are as before.
+/// Runs a call of a process, notes what it did to each object as that of a moment, and leaves its reply. Where memory is refused,
+/// also for the notes, the store's rows and the notes are as before.
 fn carried_out(
     alloc: Global,
     store: &mut RestingStore,
@@ -353,15 +346,12 @@ fn carried_out(
     process: Koid,
     call: &Call,
     reply: &mut Reply,
-    wanted: bool,
-    answer: &mut Reply,
 ) -> Result<Record, AllocError>
     requires running { runs store.old.state process ≡ true }
     requires room { HasRoom store.old.state }
     requires consistent { IsConsistent store.old.state }
     requires few { next_koid (step store.old.state process call.now).0 < 4294967296 }
     ensures ok { OnOk result ((store.new.state, reply.new) ≡ step store.old.state process call.now) }
-    ensures answer { OnOk result (answer.new ≡ (if wanted then reply.new else answer.old)) }
     ensures recorded { IfOk result (λ change. change ≡ before store.old.state store.new.state) }
     ensures fits { IfOk result (λ change. fits store.new.places change ≡ true) }
     ensures noted { OnOk result (notes.new ≡ noted notes.old moment (before store.old.state store.new.state) store.new.state) }
@@ -370,33 +360,11 @@ fn carried_out(
     ensures kept { Keeps store.old.places store.new.places }
 {
     let mut change = store.apply(alloc, process, call, reply)?;
-    match answered_and_noted(reply, wanted, answer, notes, moment, &change, store.store()) {
+    match notes.note(moment, &change, store.store()) {
         Ok(()) => Ok(change),
         Err(e) => {
             store.swap(&mut change);
             Err(e)
         }
     }
-}
-
-/// Notes what the call did, and leaves a copy of the reply in the answer where one is wanted. Where memory is refused nothing
-/// is noted.
-fn answered_and_noted(
-    reply: &Reply,
-    wanted: bool,
-    answer: &mut Reply,
-    notes: &mut ObjectNotes,
-    moment: Moment,
-    change: &Record,
-    store: &Store,
-) -> Result<(), AllocError>
-    requires few { next_koid store.now.state < 4294967296 }
-    ensures answer { OnOk result (answer.new ≡ (if wanted then reply.now else answer.old)) }
-    ensures noted { OnOk result (notes.new ≡ noted notes.old moment change.now store.now.state) }
-    ensures err { OnErr result (notes.new ≡ notes.old) }
-{
-    if wanted {
-        *answer = reply.copy()?;
-    }
-    notes.note(moment, change, store)
 }

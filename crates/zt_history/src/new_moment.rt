@@ -1,19 +1,17 @@
-ghost use Rattle.std.specs.Prelude.{◌≡◌, ◌<◌, ◌≤◌, true, if◌then◌else◌, None, IfOk, IfErr, OnOk, OnErr, length};
+ghost use Rattle.std.specs.Prelude.{◌≡◌, ◌<◌, ◌≤◌, ◌-◌, true, Some, None, IsSome, IfOk, IfErr, OnOk, OnErr, length};
 ghost use Rattle.zt_rows.specs.Reads.{runs};
 ghost use Rattle.zt_rows.specs.declared.calls.Call.{Call};
 ghost use Rattle.zt_history.specs.HistoryRefusals.{IsHistoryRefusal, call_under};
 ghost use Rattle.zt_history.specs.Timeline.{IsMovedAtMost, after_branch, after_call_at, moved_to, unmoved};
-ghost use Rattle.zt_history.specs.Tree.{branch_named, made_by, state_at};
+ghost use Rattle.zt_history.specs.Tree.{branch_named, last_moment, made_by, reply_at, state_at};
+ghost use Rattle.zt_history.specs.TreeInvariant.{AreBranches};
+ghost use Rattle.zt_history.specs.ProofsOnly.Timeline.{without_moment};
 
 use crate::branches::BranchId;
 use crate::history::{History, Undo};
 use std::alloc::AllocError;
-use zt_bits::Status;
 use zt_calls::runs;
 use zt_rows::{Call, Koid, LAST_MOMENT, Moment, Refusal, Reply};
-
-/// What stands where a reply comes, or where none is wanted.
-pub(crate) const NO_ANSWER: Reply = Reply::Status(Status::Ok);
 
 impl History {
     /// Moves the store to a moment. Where it stands there already it takes no memory; where memory is refused it stays
@@ -66,40 +64,67 @@ impl History {
         ensures err { OnErr result (self.new ≡ unmoved self.old) }
     {
         self.forget();
+        self.limits();
         let call = call.copy()?;
-        let mut answer = NO_ANSWER;
-        self.grow_by(process, call, true, &mut answer)?;
-        Ok(answer)
+        self.grow_by(process, call)?;
+        match self.reply_here() {
+            Ok(reply) => Ok(reply),
+            Err(e) => {
+                self.drop_moment();
+                Err(e)
+            }
+        }
     }
 
-    /// Does the same with a call that it keeps, and leaves a copy of the reply in the answer where one is wanted.
-    pub(crate) fn grow_by(
-        &mut self,
-        process: Koid,
-        call: Call,
-        wanted: bool,
-        answer: &mut Reply,
-    ) -> Result<(), AllocError>
+    /// What holds of the branches of every history.
+    fn limits(&self)
+        ensures { AreBranches (last_moment self.now.tree) self.now.tree.branches }
+    {
+        let _branches = &self.branches;
+    }
+
+    /// A copy of the reply of the moment at which the store stands.
+    fn reply_here(&self) -> Result<Reply, AllocError>
+        requires { IsSome (reply_at self.now.tree.made self.now.position) }
+        ensures { IfOk result (λ reply. Some reply ≡ reply_at self.now.tree.made self.now.position) }
+    {
+        match self.moments.reply(self.position) {
+            Some(reply) => Ok(reply.copy()?),
+            None => unreachable!(),
+        }
+    }
+
+    /// Does the same with a call that it keeps, and copies neither it nor its reply.
+    pub(crate) fn grow_by(&mut self, process: Koid, call: Call) -> Result<(), AllocError>
         requires few { length self.old.tree.made < 1048576 }
         requires running { runs (state_at self.old.tree.made self.old.position) process ≡ true }
-        ensures answer { OnOk result (answer.new ≡ (if wanted then (made_by self.old.tree.made self.old.position process call).reply else answer.old)) }
         ensures grown { OnOk result (self.new ≡ after_call_at self.old self.old.position process call) }
         ensures err { OnErr result (self.new ≡ unmoved self.old) }
     {
         call.limits();
         self.undo = Undo::Nothing;
         let position = self.position;
-        self.moments.run(
-            &mut self.store,
-            &mut self.notes,
-            position,
-            process,
-            call,
-            wanted,
-            answer,
-        )?;
+        self.moments
+            .run(&mut self.store, &mut self.notes, position, process, call)?;
         self.position = self.moments.last();
         Ok(())
+    }
+
+    /// Drops the last moment, at which the store stands and at which no branch has its head, and moves the store to the parent.
+    /// It takes no memory.
+    pub(crate) fn drop_moment(&mut self)
+        requires some { 0 < last_moment self.old.tree }
+        requires last { self.old.position ≡ last_moment self.old.tree }
+        requires heads { AreBranches (last_moment self.old.tree - 1) self.old.tree.branches }
+        ensures { self.new ≡ without_moment self.old }
+    {
+        let last = self.position;
+        let parent = self.moments.parent(last);
+        self.moments.turn(&mut self.store, last);
+        self.moments.drop_last();
+        self.notes.drop_last(last);
+        self.position = parent;
+        self.undo = Undo::Nothing;
     }
 
     /// Adds a branch of a name that none has. Where memory is refused nothing changes.

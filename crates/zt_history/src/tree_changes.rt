@@ -6,7 +6,6 @@ ghost use Rattle.zt_history.specs.Tree.{last_moment, made_by};
 
 use crate::branches::BranchId;
 use crate::history::{History, Undo};
-use crate::new_moment::NO_ANSWER;
 use zt_rows::{Call, Koid, Moment, Refusal, Reply};
 
 impl History {
@@ -68,8 +67,7 @@ impl History {
         ensures err { OnErr result (IsMovedAtMost self.old self.new parent) }
     {
         self.stand_ready(parent, process)?;
-        let mut unwanted = NO_ANSWER;
-        self.grow_by(process, call, false, &mut unwanted)?;
+        self.grow_by(process, call)?;
         Ok(self.last())
     }
 
@@ -119,14 +117,10 @@ impl History {
         match undo {
             Undo::Nothing => unreachable!(),
             Undo::Call(id) => {
-                let last = self.position;
-                let head = self.moments.parent(last);
-                self.moments.turn(&mut self.store, last);
-                self.moments.drop_last();
-                self.notes.drop_last(last);
+                let head = self.moments.parent(self.position);
                 self.branches.set_head(id, head);
-                self.position = head;
                 self.undo = Undo::Nothing;
+                self.drop_moment();
             }
             Undo::Branch => {
                 self.branches.remove_last();
