@@ -372,6 +372,7 @@ impl Index {
 }
 
 /// Puts the waits on the handle into the bucket, or into none.
+#[inline(always)]
 fn move_all(
     cells: &Cells,
     handles: &Chains,
