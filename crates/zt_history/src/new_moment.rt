@@ -94,7 +94,7 @@ impl History {
         }
     }
 
-    /// Does the same with a call that it keeps, and copies neither it nor its reply.
+    /// Does what `grow` does with a call that it keeps, and copies neither it nor its reply.
     pub(crate) fn grow_by(&mut self, process: Koid, call: Call) -> Result<(), AllocError>
         requires few { length self.old.tree.made < 1048576 }
         requires running { runs (state_at self.old.tree.made self.old.position) process ≡ true }
