@@ -1,5 +1,5 @@
 -- Supports row by row, over the keys in their order.
-use Rattle.std.proofs.Common.{◌≡◌, ℕ, zero, suc, ◌<◌, ◌≤◌, ◌+◌, ◌-◌, ◌==◌, ◌&&◌, ◌||◌, Bool, true, false, cond, List, [], ◌∷◌, ◌++◌, map, length, take, Option, Some, None, count_by, refl, sym, ◌∙◌, ap, subst, subst₂, inl, inr, arith, length-append, append_assoc, append-nil}
+use Rattle.std.proofs.Common.{◌≡◌, ℕ, zero, suc, ◌<◌, ◌≤◌, ◌+◌, ◌-◌, ◌==◌, ◌&&◌, ◌||◌, Bool, true, false, cond, List, [], ◌∷◌, ◌++◌, map, length, take, drop, find, Option, Some, None, count_by, refl, sym, ◌∙◌, ap, subst, subst₂, inl, inr, arith, length-append, append_assoc, append-nil}
 use Rattle.std.specs.List.{slice_get, filter_map, flat_map, cons_option}
 use Rattle.std.proofs.lemmas.Bool.{cases_lt}
 use mir.Val.{bool_byte}
@@ -16,7 +16,7 @@ use Rattle.zt_rows.specs.declared.keys.RowKey.TheVariants as key
 use Rattle.zt_rows.specs.declared.rows.Row.TheVariants as rows
 use Rattle.zt_rows.specs.declared.supports.Support.TheVariants as support
 use Rattle.zt_rows.specs.Change.{keys}
-use Rattle.zt_rows.specs.Room.{next_key}
+use Rattle.zt_rows.specs.Room.{is_above, next_key}
 use Rattle.zt_rows.specs.Settle.{is_child_job_of, is_child_process_of}
 use Rattle.zt_rows.specs.Tests.{count_row}
 use Rattle.zt_rows.specs.Reads.{object, is_job, is_process, is_live, is_live_job, is_live_process}
@@ -24,8 +24,8 @@ use Rattle.zt_rows.specs.State.{State, row}
 use Rattle.zt_rows.specs.Support.{entry_support, child_support, message_supports, children, itself, root_job, supports, support_count}
 use Rattle.zt_queries.specs.declared.support_list.Source.{Source}
 use Rattle.zt_queries.specs.declared.support_list.Source.TheVariants as part
-use Rattle.zt_queries.specs.ProofsOnly.Holders.{AddsUpTo, keys_left, supports_at, supports_by, supports_in}
-use Rattle.zt_queries.proofs.KeyLaws.{IsWalkedTo, left-first, left-on, row-at}
+use Rattle.zt_queries.specs.ProofsOnly.Holders.{AddsUpTo, keys_left, rows_before, supports_at, supports_by, supports_in}
+use Rattle.zt_queries.proofs.KeyLaws.{IsWalkedTo, left-drop, left-on, row-at}
 
 -- ---- the rows under the keys are the rows
 
@@ -173,8 +173,49 @@ own_one false = refl
 abbrev pub given_by : Source → ℕ → State → List RowKey → List Support
 given_by which x S ks = flat_map (λ k. supports_at which x k (row S k)) ks
 
-pub walk-begins : (which : Source) (x : ℕ) (S : State) (ys : List Support) (next : Option RowKey) → next ≡ next_key S None → ys ++ given_by which x S (keys_left S next) ≡ ys ++ supports_in which x S
-walk-begins which x S ys next h = ap (λ ks. ys ++ given_by which x S ks) (left-first S next h) ∙ ap (λ l. ys ++ l) (by_keys which x S)
+-- before the rows that may give supports of a kind no row gives one
+none_before : (which : Source) (x : ℕ) (k : RowKey) (r : Row) → is_above (rows_before which) k ≡ false → supports_by which x (k, r) ≡ []
+none_before part.Entries x (key.Entry p h) r low = cc
+none_before part.Entries x key.Counters r low = refl
+none_before part.Entries x (key.Object _) r low = refl
+none_before part.Entries x (key.Msg _ _) r low = refl
+none_before part.Entries x (key.Packet _ _) r low = refl
+none_before part.Entries x (key.Wait _) r low = refl
+none_before part.Messages x (key.Msg e n) r low = cc
+none_before part.Messages x key.Counters r low = refl
+none_before part.Messages x (key.Object _) r low = refl
+none_before part.Messages x (key.Entry _ _) r low = refl
+none_before part.Messages x (key.Packet _ _) r low = refl
+none_before part.Messages x (key.Wait _) r low = refl
+none_before part.Children x k r low = cc
+
+none_there : (which : Source) (x : ℕ) (k : RowKey) (o : Option Row) → is_above (rows_before which) k ≡ false → supports_at which x k o ≡ []
+none_there which x k (Some r) low = none_before which x k r low
+none_there which x k None low = refl
+
+-- the first that is as asked stands at a place, and where what is not gives nothing, all comes from that place on
+abbrev FirstAt : {A B : Type 0} → (A → Bool) → (A → List B) → List A → Type 0
+FirstAt p f xs = (n : ℕ) × (find p xs ≡ slice_get xs n) × (flat_map f (drop n xs) ≡ flat_map f xs)
+
+first_beside : {A B : Type 0} (p : A → Bool) (f : A → List B) (x : A) (xs : List A) (b : Bool) → p x ≡ b → (p x ≡ false → f x ≡ []) → FirstAt p f xs → FirstAt p f (x ∷ xs)
+first_beside p f x xs true is none at = (0, ap (λ b. cond b (Some x) (find p xs)) is, refl)
+first_beside p f x xs false is none at =
+    (suc at.0, ap (λ b. cond b (Some x) (find p xs)) is ∙ at.1, at.2 ∙ sym (ap (λ l. l ++ flat_map f xs) (none is)))
+
+first_at : {A B : Type 0} (p : A → Bool) (f : A → List B) (xs : List A) → ((x : A) → p x ≡ false → f x ≡ []) → FirstAt p f xs
+first_at p f [] none = (0, refl, refl)
+first_at p f (x ∷ xs) none = first_beside p f x xs (p x) refl (none x) (first_at p f xs none)
+
+first_given : (which : Source) (x : ℕ) (S : State) → FirstAt (is_above (rows_before which)) (λ k. supports_at which x k (row S k)) (keys S)
+first_given which x S = first_at (is_above (rows_before which)) (λ k. supports_at which x k (row S k)) (keys S) (λ k low. none_there which x k (row S k) low)
+
+pub walk-first : (which : Source) (x : ℕ) (S : State) (next : Option RowKey) → next ≡ next_key S (rows_before which) → IsWalkedTo S next
+walk-first which x S next h = let at = first_given which x S in (at.0, h ∙ at.1)
+
+pub walk-begins : (which : Source) (x : ℕ) (S : State) (ys : List Support) (next : Option RowKey) → next ≡ next_key S (rows_before which) → ys ++ given_by which x S (keys_left S next) ≡ ys ++ supports_in which x S
+walk-begins which x S ys next h =
+    let at = first_given which x S in
+    ap (λ ks. ys ++ given_by which x S ks) (left-drop S at.0 next (h ∙ at.1)) ∙ ap (λ l. ys ++ l) (at.2 ∙ by_keys which x S)
 
 pub walk-goes : (which : Source) (x : ℕ) (S : State) (ys zs whole : List Support) (now next : Option RowKey) (k : RowKey) → now ≡ Some k → IsWalkedTo S now → next ≡ next_key S (Some k)
     → zs ≡ ys ++ supports_at which x k (row S k) → ys ++ given_by which x S (keys_left S now) ≡ whole → zs ++ given_by which x S (keys_left S next) ≡ whole

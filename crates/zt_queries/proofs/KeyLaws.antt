@@ -195,7 +195,7 @@ from_in (e ∷ es) (suc n) k s h =
     ∙ from_in es n k (right_of (entries.below_all rowkey_cmp e.0 es) (entries.is_sorted rowkey_cmp es) s) h
 
 -- from the key at a place on there are the keys behind that place
-left-drop : (S : State) (n : ℕ) (next : Option RowKey) → next ≡ slice_get (keys S) n → keys_left S next ≡ drop n (keys S)
+pub left-drop : (S : State) (n : ℕ) (next : Option RowKey) → next ≡ slice_get (keys S) n → keys_left S next ≡ drop n (keys S)
 left-drop S n (Some k) h = from_in S.rows n k S.sorted (sym h)
 left-drop S n None h = none_behind (keys S) n (sym h)
 
@@ -208,14 +208,8 @@ one_left (y ∷ ys) (suc n) x h = one_left ys n x h
 abbrev pub IsWalkedTo : State → Option RowKey → Type 0
 IsWalkedTo S next = (n : ℕ) × (next ≡ slice_get (keys S) n)
 
-pub walked-first : (S : State) (next : Option RowKey) → next ≡ next_key S None → IsWalkedTo S next
-walked-first S next h = (0, h ∙ next_key-first S)
-
 pub walked-on : (S : State) (k : RowKey) (next : Option RowKey) → IsWalkedTo S (Some k) → next ≡ next_key S (Some k) → IsWalkedTo S next
 walked-on S k next w h = (suc w.0, h ∙ next_key-after S w.0 k (sym w.1))
-
-pub left-first : (S : State) (next : Option RowKey) → next ≡ next_key S None → keys_left S next ≡ keys S
-left-first S next h = left-drop S 0 next (h ∙ next_key-first S)
 
 pub left-on : (S : State) (k : RowKey) (next : Option RowKey) → IsWalkedTo S (Some k) → next ≡ next_key S (Some k) → keys_left S (Some k) ≡ k ∷ keys_left S next
 left-on S k next w h =

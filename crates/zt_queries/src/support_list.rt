@@ -7,13 +7,15 @@ ghost use Rattle.zt_rows.specs.Support.{entry_support, child_support, message_su
 ghost use Rattle.zt_history.specs.HistoryRefusals.{IsHistoryRefusal};
 ghost use Rattle.zt_history.specs.Tree.{state_at};
 ghost use Rattle.zt_queries.specs.FrozenCopy.{holders_on};
-ghost use Rattle.zt_queries.specs.ProofsOnly.Holders.{AddsUpTo, supports_by, supports_at, supports_in};
+ghost use Rattle.zt_queries.specs.ProofsOnly.Holders.{AddsUpTo, rows_before, supports_by, supports_at, supports_in};
 
 use crate::frozen::Frozen;
 use std::alloc::{AllocError, Global};
 use zt_bits::Kind;
 use zt_history::History;
-use zt_rows::{Held, Items, Koid, Life, ObjectRow, ROOT_JOB, Refusal, Row, RowKey, Support};
+use zt_rows::{
+    HandleValue, Held, Items, Koid, Life, ObjectRow, ROOT_JOB, Refusal, Row, RowKey, Support,
+};
 use zt_store::Store;
 
 /// Where supports come from.
@@ -193,8 +195,21 @@ fn keeps_itself(koid: Koid, found: &ObjectRow) -> bool
     is_live_process(found) || koid == ROOT_JOB
 }
 
+/// Behind which key the rows begin that may give supports of this kind: those of one kind of key stand together, entries behind
+/// objects and messages behind entries.
+fn rows_before(part: Source) -> Option<RowKey>
+    ensures { result ≡ rows_before part }
+{
+    let last = Koid(u64::MAX);
+    match part {
+        Source::Entries => Some(RowKey::Object(last)),
+        Source::Messages => Some(RowKey::Entry(last, HandleValue(u32::MAX))),
+        Source::Children => None,
+    }
+}
+
 /// Puts the supports that come from one part of the rows behind the others, in the order of their rows, until there are so
-/// many.
+/// many. It goes over no rows before that part's.
 fn add_supports(
     list: &mut Vec<Support>,
     store: &Store,
@@ -204,14 +219,14 @@ fn add_supports(
 ) -> Result<(), AllocError>
     ensures { OnOk result (AddsUpTo list.old.items (supports_in part koid store.now.state) most list.new.items) }
 {
-    let mut next = store.after(None);
-    while let Some(key) = next {
-        if list.len() as u64 >= most {
+    let mut low = rows_before(part);
+    'keys: while (list.len() as u64) < most {
+        let Some(key) = store.after(low) else {
             return Ok(());
-        }
+        };
         let asked = key;
         add_under(list, store, asked, part, koid)?;
-        next = store.after(Some(key));
+        low = Some(key);
     }
     Ok(())
 }

@@ -1,9 +1,10 @@
 -- What keeps an object, as it is gathered: row by row, each kind of support for itself. This project's own.
 -- Used by proofs only.
-use Rattle.std.specs.Prelude.{◌≡◌, ◌<◌, ◌++◌, ℕ, List, [], ◌∷◌, Option, None, Some, cond, length}
+use Rattle.std.specs.Prelude.{◌≡◌, ◌<◌, ◌++◌, ◌-◌, ◌^◌, ℕ, List, [], ◌∷◌, Option, None, Some, cond, length}
 use Rattle.std.specs.List.{filter_map, flat_map}
 use Rattle.std.specs.Ordering.{is_eq}
 use Rattle.zt_rows.specs.declared.keys.RowKey.{RowKey}
+use Rattle.zt_rows.specs.declared.keys.RowKey.TheVariants as key
 use Rattle.zt_rows.specs.declared.rows.Row.{Row}
 use Rattle.zt_rows.specs.declared.supports.Support.{Support}
 use Rattle.zt_rows.specs.Change.{keys}
@@ -27,6 +28,12 @@ supports_at which x k None = []
 -- the supports of this kind that all rows give x
 abbrev pub supports_in : Source → ℕ → State → List Support
 supports_in which x S = flat_map (supports_by which x) S.rows
+
+-- the key behind which the rows begin that may give supports of this kind
+abbrev pub rows_before : Source → Option RowKey
+rows_before part.Entries = Some (key.Object (2 ^ 64 - 1))
+rows_before part.Messages = Some (key.Entry (2 ^ 64 - 1) (2 ^ 32 - 1))
+rows_before part.Children = None
 
 -- the supports were put behind the old ones, all of them or at least so many that there are `most`
 pub record AddsUpTo (old part : List Support) (most : ℕ) (new : List Support) : Type 0 where

@@ -1,22 +1,32 @@
 -- The keys come one after another, until there are so many supports or no key is left.
-use Rattle.std.proofs.Common.{subst}
-use Rattle.zt_queries.proofs.HoldLaws.{fewer_keys, walk-begins, walk-goes}
-use Rattle.zt_queries.proofs.KeyLaws.{IsWalkedTo, walked-first, walked-on}
+use Rattle.std.proofs.Common.{◌≡◌, Some, refl, sym, ◌∙◌, ap, subst}
+use Rattle.zt_rows.specs.Room.{next_key}
+use Rattle.zt_queries.proofs.HoldLaws.{fewer_keys, walk-begins, walk-first, walk-goes}
+use Rattle.zt_queries.proofs.KeyLaws.{IsWalkedTo, walked-on}
 use Rattle.zt_queries.proofs.support_list.add_supports.Goals as goal
 
-pub loop-next-init : goal.loop-next-init
-loop-next-init c = record {
-  walked = walked-first c.args.store.now.state c.after-next.result c.after-next.ensures;
-  so_far = walk-begins c.args.part c.args.koid c.args.store.now.state c.args.list.now.items c.after-next.result c.after-next.ensures;
-}
+pub keys-init : goal.keys-init
+keys-init c =
+    let S = c.args.store.now.state in
+    let first = ap (next_key S) c.rows_before-low.ensures in
+    record {
+      walked = walk-first c.args.part c.args.koid S (next_key S c.rows_before-low.result) first;
+      so_far = walk-begins c.args.part c.args.koid S c.args.list.now.items (next_key S c.rows_before-low.result) first;
+    }
 
-pub loop-next-smaller : goal.loop-next-smaller
-loop-next-smaller c =
-    fewer_keys c.args.store.now.state c.loop-next.next c.after-next-in-Some.result c.in-Some.key c.in-Some.is c.loop-next.invariant.walked c.after-next-in-Some.ensures
+pub keys-smaller : goal.keys-smaller
+keys-smaller c =
+    let S = c.args.store.now.state in
+    fewer_keys S (next_key S c.keys.low) (next_key S (Some c.in-Some.key)) c.in-Some.key (sym c.after.ensures ∙ c.in-Some.is) c.keys.invariant.walked refl
 
-pub loop-next-preserved : goal.loop-next-preserved
-loop-next-preserved c = record {
-  walked = walked-on c.args.store.now.state c.in-Some.key c.after-next-in-Some.result (subst (IsWalkedTo c.args.store.now.state) c.in-Some.is c.loop-next.invariant.walked) c.after-next-in-Some.ensures;
-  so_far = walk-goes c.args.part c.args.koid c.args.store.now.state c.loop-next.list.items c.add_under.new.list.items _ c.loop-next.next c.after-next-in-Some.result c.in-Some.key
-      c.in-Some.is c.loop-next.invariant.walked c.after-next-in-Some.ensures c.in_ok-add_under.ensures c.loop-next.invariant.so_far;
-}
+pub keys-preserved : goal.keys-preserved
+keys-preserved c =
+    let S = c.args.store.now.state in
+    let key = c.in-Some.key in
+    let next = next_key S (Some key) in
+    let here : next_key S c.keys.low ≡ Some key = sym c.after.ensures ∙ c.in-Some.is in
+    record {
+      walked = walked-on S key next (subst (IsWalkedTo S) here c.keys.invariant.walked) refl;
+      so_far = walk-goes c.args.part c.args.koid S c.keys.list.items c.add_under.new.list.items _ (next_key S c.keys.low) next key
+          here c.keys.invariant.walked refl c.in_ok-add_under.ensures c.keys.invariant.so_far;
+    }
