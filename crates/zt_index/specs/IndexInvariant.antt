@@ -16,10 +16,10 @@ use Rattle.zt_index.specs.Chains.{bucket_at}
 -- ---- buckets
 
 abbrev pub handle_bucket : ℕ → ℕ → ℕ
-handle_bucket p h = (p % 16384 * 10127 + h / 4) % 16384
+handle_bucket p h = (p % 8192 * 5063 + h / 4) % 8192
 
 abbrev pub koid_bucket : ℕ → ℕ
-koid_bucket x = x % 16384
+koid_bucket x = x % 8192
 
 abbrev pub bucket_on : Wait → ℕ
 bucket_on w = handle_bucket w.process w.handle

@@ -8,7 +8,7 @@ use std::alloc::{AllocError, Global};
 use std::marker::Model;
 
 /// How many buckets there are. A history has at most 2^20 moments, so that few items share a bucket by chance.
-pub(crate) const BUCKETS: usize = 1 << 14;
+pub(crate) const BUCKETS: usize = 1 << 13;
 
 /// How many items there are at most, so that the greatest of them is a number that a link can hold.
 pub(crate) const MOST_ITEMS: u64 = u32::MAX as u64;
@@ -111,7 +111,7 @@ impl Chains {
     #[inline(always)]
     pub fn set(&mut self, item: u64, bucket: Option<u64>)
         requires item { item < length self.old }
-        requires bucket { IfSome bucket (λ b. b < 2 ^ 14) }
+        requires bucket { IfSome bucket (λ b. b < 2 ^ 13) }
         ensures { self.new ≡ slice_set self.old item bucket }
     {
         place(&mut self.links, &mut self.ends, item, bucket);
@@ -148,7 +148,7 @@ impl Chains {
 fn make_ends(ends: &mut Vec<BucketEnds>) -> Result<(), AllocError>
     ensures same { (k : ℕ) → slice_index_or ends.new.items k no_ends ≡ slice_index_or ends.old.items k no_ends }
     ensures longer { vec_len ends.old ≤ vec_len ends.new }
-    ensures made { OnOk result (2 ^ 14 ≤ vec_len ends.new) }
+    ensures made { OnOk result (2 ^ 13 ≤ vec_len ends.new) }
 {
     if ends.len() >= BUCKETS {
         return Ok(());
@@ -159,10 +159,10 @@ fn make_ends(ends: &mut Vec<BucketEnds>) -> Result<(), AllocError>
 /// Makes the ends of the buckets that have none.
 #[inline(never)]
 fn add_ends(ends: &mut Vec<BucketEnds>) -> Result<(), AllocError>
-    requires { vec_len ends.old < 2 ^ 14 }
+    requires { vec_len ends.old < 2 ^ 13 }
     ensures same { (k : ℕ) → slice_index_or ends.new.items k no_ends ≡ slice_index_or ends.old.items k no_ends }
     ensures longer { vec_len ends.old ≤ vec_len ends.new }
-    ensures made { OnOk result (2 ^ 14 ≤ vec_len ends.new) }
+    ensures made { OnOk result (2 ^ 13 ≤ vec_len ends.new) }
 {
     ends.resize(BUCKETS, BucketEnds::bare())
 }
@@ -189,9 +189,9 @@ fn make_links(links: &mut Vec<BucketLink>, len: usize) -> Result<(), AllocError>
 #[inline(always)]
 fn place(links: &mut [BucketLink], ends: &mut [BucketEnds], item: u64, bucket: Option<u64>)
     requires item { item < length links.old }
-    requires bucket { IfSome bucket (λ b. b < 2 ^ 14) }
+    requires bucket { IfSome bucket (λ b. b < 2 ^ 13) }
     requires few { length links.old < 2 ^ 32 }
-    requires ended { 2 ^ 14 ≤ length ends.old }
+    requires ended { 2 ^ 13 ≤ length ends.old }
     requires chained { IsChained links.old ends.old }
     ensures chained { IsChained links.new ends.new }
     ensures buckets { buckets links.new ≡ slice_set (buckets links.old) item bucket }
@@ -204,12 +204,12 @@ fn place(links: &mut [BucketLink], ends: &mut [BucketEnds], item: u64, bucket: O
 }
 
 /// Takes the item out of its bucket, if it is in one, and puts it into the bucket, or into none.
-#[inline(never)]
+#[inline(always)]
 fn move_to(links: &mut [BucketLink], ends: &mut [BucketEnds], item: u64, bucket: Option<u64>)
     requires item { item < length links.old }
-    requires bucket { IfSome bucket (λ b. b < 2 ^ 14) }
+    requires bucket { IfSome bucket (λ b. b < 2 ^ 13) }
     requires few { length links.old < 2 ^ 32 }
-    requires ended { 2 ^ 14 ≤ length ends.old }
+    requires ended { 2 ^ 13 ≤ length ends.old }
     requires chained { IsChained links.old ends.old }
     ensures chained { IsChained links.new ends.new }
     ensures buckets { buckets links.new ≡ slice_set (buckets links.old) item bucket }
@@ -435,9 +435,9 @@ fn remind(links: &mut [BucketLink], item: u64)
 /// Puts the item, which is in no bucket, into the bucket.
 fn insert(links: &mut [BucketLink], ends: &mut [BucketEnds], item: u64, bucket: u64)
     requires item { item < length links.old }
-    requires bucket { bucket < 2 ^ 14 }
+    requires bucket { bucket < 2 ^ 13 }
     requires few { length links.old < 2 ^ 32 }
-    requires ended { 2 ^ 14 ≤ length ends.old }
+    requires ended { 2 ^ 13 ≤ length ends.old }
     requires free { bucket_at (buckets links.old) item ≡ None }
     requires chained { IsChained links.old ends.old }
     ensures chained { IsChained links.new ends.new }

@@ -383,7 +383,7 @@ fn move_all(
 )
     requires all { (n : ℕ) → waits_where cells.now.state (is_on process handle) n ≡ true → is_in handles.now (handle_bucket process handle) n ≡ true }
     requires room { (n : ℕ) → waits_where cells.now.state (is_on process handle) n ≡ true → n < length objects.old }
-    requires bucket { IfSome bucket (λ b. b < 2 ^ 14) }
+    requires bucket { IfSome bucket (λ b. b < 2 ^ 13) }
     ensures moved { (n : ℕ) → bucket_at objects.new n
         ≡ (if waits_where cells.now.state (is_on process handle) n then bucket else bucket_at objects.old n) }
     ensures length { length objects.new ≡ length objects.old }
@@ -442,12 +442,12 @@ fn held_in(row: Option<&Row>) -> Option<Held>
 
 /// How far the buckets of one process's handles lie from those of the next: odd, and near the golden section of the buckets, so
 /// that few handles of processes beside each other meet.
-const PROCESS_STEP: u64 = 10127;
+const PROCESS_STEP: u64 = 5063;
 
 /// The bucket of waits on the handle.
 fn handle_bucket(process: Koid, handle: HandleValue) -> u64
     ensures bucket { result ≡ handle_bucket process handle }
-    ensures few { result < 16384 }
+    ensures few { result < 8192 }
 {
     let buckets = BUCKETS as u64;
     (process.0 % buckets * PROCESS_STEP + u64::from(handle.0 / 4)) % buckets
@@ -457,7 +457,7 @@ fn handle_bucket(process: Koid, handle: HandleValue) -> u64
 /// below the job.
 fn koid_bucket(koid: Koid) -> u64
     ensures bucket { result ≡ koid_bucket koid }
-    ensures few { result < 16384 }
+    ensures few { result < 8192 }
 {
     koid.0 % BUCKETS as u64
 }
@@ -465,7 +465,7 @@ fn koid_bucket(koid: Koid) -> u64
 /// The bucket of the wait's handle.
 fn bucket_on(wait: &Option<Wait>) -> Option<u64>
     ensures bucket { result ≡ option_map bucket_on wait.now }
-    ensures few { IfSome result (λ b. b < 2 ^ 14) }
+    ensures few { IfSome result (λ b. b < 2 ^ 13) }
 {
     match wait {
         Some(wait) => Some(handle_bucket(wait.process, wait.handle)),
@@ -476,7 +476,7 @@ fn bucket_on(wait: &Option<Wait>) -> Option<u64>
 /// The bucket of the wait's port.
 fn bucket_for(wait: &Option<Wait>) -> Option<u64>
     ensures bucket { result ≡ option_map bucket_for wait.now }
-    ensures few { IfSome result (λ b. b < 2 ^ 14) }
+    ensures few { IfSome result (λ b. b < 2 ^ 13) }
 {
     match wait {
         Some(wait) => Some(koid_bucket(wait.port)),
@@ -487,7 +487,7 @@ fn bucket_for(wait: &Option<Wait>) -> Option<u64>
 /// The bucket of the wait's process.
 fn bucket_by(wait: &Option<Wait>) -> Option<u64>
     ensures bucket { result ≡ option_map bucket_by wait.now }
-    ensures few { IfSome result (λ b. b < 2 ^ 14) }
+    ensures few { IfSome result (λ b. b < 2 ^ 13) }
 {
     match wait {
         Some(wait) => Some(koid_bucket(wait.process)),
@@ -498,7 +498,7 @@ fn bucket_by(wait: &Option<Wait>) -> Option<u64>
 /// The bucket of the object's parent, if it is a live job or process.
 fn bucket_below(object: &Option<ObjectRow>) -> Option<u64>
     ensures bucket { result ≡ option_and_then bucket_below object.now }
-    ensures few { IfSome result (λ b. b < 2 ^ 14) }
+    ensures few { IfSome result (λ b. b < 2 ^ 13) }
 {
     match object {
         Some(object) if is_task(object) => Some(koid_bucket(object.link)),
@@ -516,7 +516,7 @@ fn is_task(object: &ObjectRow) -> bool
 /// The bucket of what the wait's handle names.
 fn bucket_of(cells: &Cells, wait: &Option<Wait>) -> Option<u64>
     ensures bucket { result ≡ option_and_then (bucket_of cells.now.state) wait.now }
-    ensures few { IfSome result (λ b. b < 2 ^ 14) }
+    ensures few { IfSome result (λ b. b < 2 ^ 13) }
 {
     match wait {
         Some(wait) => bucket_held(&cells.entry(wait.process, wait.handle)),
@@ -527,7 +527,7 @@ fn bucket_of(cells: &Cells, wait: &Option<Wait>) -> Option<u64>
 /// The bucket of what the entry names.
 fn bucket_held(held: &Option<Held>) -> Option<u64>
     ensures bucket { result ≡ option_map held_bucket held.now }
-    ensures few { IfSome result (λ b. b < 2 ^ 14) }
+    ensures few { IfSome result (λ b. b < 2 ^ 13) }
 {
     match held {
         Some(held) => Some(koid_bucket(held.koid)),

@@ -61,7 +61,7 @@ pub record IsChained (links : List BucketLink) (ends : List BucketEnds) : Type 0
 -- hold the greatest
 pub record AreChains (links : List BucketLink) (ends : List BucketEnds) : Type 0 where
   pub chained : IsChained links ends
-  pub ended : 0 < length links → 2 ^ 14 ≤ length ends
+  pub ended : 0 < length links → 2 ^ 13 ≤ length ends
   pub few : length links < 2 ^ 32
 
 -- none, or an item that passes and is not above the low one
