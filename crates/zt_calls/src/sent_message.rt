@@ -39,7 +39,7 @@ fn sent(
 ) -> Result<Items<Held>, Failure>
     ensures { Finds (sent step.now.current process channel [] values.now) result }
 {
-    let mut handles = Vec::new(alloc);
+    let mut handles = Vec::with_capacity(alloc, values.len())?;
     for (i, value) in values.iter().enumerate() {
         let held = sendable(step, process, channel, &values[..i], *value)?;
         let Ok(()) = handles.push(held) else {
