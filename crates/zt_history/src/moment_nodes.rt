@@ -7,6 +7,7 @@ ghost use Rattle.zt_history.specs.ProofsOnly.StoredNodes.{AreWithin, HasShared, 
 use crate::same_calls::{is_same_call, is_same_reply, may_come_again};
 use std::alloc::{AllocError, Global};
 use std::marker::Model;
+use std::mem;
 use zt_bits::Status;
 use zt_rows::{Call, Koid, Moment, Reply};
 
@@ -132,20 +133,21 @@ impl MomentNodes {
         Ok(())
     }
 
-    /// One more at the end.
+    /// One more at the end. Call and reply are taken from where they stand, in whose place others are left: they are large, and handed
+    /// from function to function they would go through memory at each.
     #[inline(always)]
     pub(crate) fn push(
         &mut self,
         parent: Moment,
         depth: u32,
         process: Koid,
-        call: Call,
-        reply: Reply,
+        call: &mut Call,
+        reply: &mut Reply,
     )
         requires room { self.old.room ≡ true }
         requires few { length self.old.list < 1048576 }
         requires small { process < 4294967296 }
-        ensures { self.new.list ≡ self.old.list ++ record { parent = parent; depth = depth; process = process; call = call; reply = reply } ∷ [] }
+        ensures { self.new.list ≡ self.old.list ++ record { parent = parent; depth = depth; process = process; call = call.old; reply = reply.old } ∷ [] }
     {
         let call = put_call(&mut self.calls, &self.nodes, call);
         let reply = put_reply(&mut self.replies, &self.nodes, reply);
@@ -243,23 +245,23 @@ fn shared_status(status: Status) -> u32
     }
 }
 
-/// Where the call stands in the list, at whose end it is put unless it stands there already.
+/// Where the call stands in the list, at whose end it is put unless it stands there already. One is left where it was taken.
 #[inline(always)]
-fn put_call(calls: &mut Vec<Call>, nodes: &Vec<StoredNode>, call: Call) -> KeptAt
+fn put_call(calls: &mut Vec<Call>, nodes: &Vec<StoredNode>, call: &mut Call) -> KeptAt
     requires shared { HasShared shared_calls calls.old.items }
     requires within { AreWithin (λ n. n.call) nodes.now.items calls.old.items }
     requires room { length calls.old.items < vec_capacity calls.old }
     requires few { length calls.old.items < 4294967296 }
-    ensures { IsPut no_call calls.old.items calls.new.items call result.place result.owned }
+    ensures { IsPut no_call calls.old.items calls.new.items call.old result.place result.owned }
 {
-    match call_there(calls, nodes, &call) {
+    match call_there(calls, nodes, call) {
         Some(place) => KeptAt {
             place,
             owned: false,
         },
         None => {
             let place = calls.len() as u32;
-            calls.push_reserved(call);
+            calls.push_reserved(mem::replace(call, Call::EventCreate));
             KeptAt { place, owned: true }
         }
     }
@@ -292,23 +294,23 @@ fn near_call(calls: &Vec<Call>, nodes: &Vec<StoredNode>, call: &Call) -> Option<
     None
 }
 
-/// Where the reply stands in the list, at whose end it is put unless it stands there already.
+/// Where the reply stands in the list, at whose end it is put unless it stands there already. One is left where it was taken.
 #[inline(always)]
-fn put_reply(replies: &mut Vec<Reply>, nodes: &Vec<StoredNode>, reply: Reply) -> KeptAt
+fn put_reply(replies: &mut Vec<Reply>, nodes: &Vec<StoredNode>, reply: &mut Reply) -> KeptAt
     requires shared { HasShared shared_replies replies.old.items }
     requires within { AreWithin (λ n. n.reply) nodes.now.items replies.old.items }
     requires room { length replies.old.items < vec_capacity replies.old }
     requires few { length replies.old.items < 4294967296 }
-    ensures { IsPut no_reply replies.old.items replies.new.items reply result.place result.owned }
+    ensures { IsPut no_reply replies.old.items replies.new.items reply.old result.place result.owned }
 {
-    match reply_there(replies, nodes, &reply) {
+    match reply_there(replies, nodes, reply) {
         Some(place) => KeptAt {
             place,
             owned: false,
         },
         None => {
             let place = replies.len() as u32;
-            replies.push_reserved(reply);
+            replies.push_reserved(mem::replace(reply, Reply::Status(Status::Ok)));
             KeptAt { place, owned: true }
         }
     }

@@ -279,14 +279,14 @@ impl Moments {
     }
 
     /// Runs a call of a process at a moment, where the store stands, keeps what it made and notes what it did to each
-    /// object. Where memory is refused, the store's rows, the moments and the notes are as before.
+    /// object. The call is taken from where it stands. Where memory is refused, the store's rows, the moments and the notes are as before.
     pub(crate) fn run(
         &mut self,
         store: &mut RestingStore,
         notes: &mut ObjectNotes,
         at: Moment,
         process: Koid,
-        call: Call,
+        call: &mut Call,
     ) -> Result<(), AllocError>
         requires few { length self.old.made < 1048576 }
         requires there { at ≤ length self.old.made }
@@ -294,9 +294,9 @@ impl Moments {
         requires small { process < 4294967296 }
         requires room { HasRoom store.old.state }
         requires consistent { IsConsistent store.old.state }
-        requires few_koids { next_koid (step store.old.state process call).0 < 4294967296 }
-        ensures ok { OnOk result (store.new.state ≡ (step store.old.state process call).0) }
-        ensures made { OnOk result (self.new.made ≡ self.old.made ++ run_at at store.old.state process call ∷ []) }
+        requires few_koids { next_koid (step store.old.state process call.old).0 < 4294967296 }
+        ensures ok { OnOk result (store.new.state ≡ (step store.old.state process call.old).0) }
+        ensures made { OnOk result (self.new.made ≡ self.old.made ++ run_at at store.old.state process call.old ∷ []) }
         ensures recorded { OnOk result (self.new.records ≡ self.old.records ++ before store.old.state store.new.state ∷ []) }
         ensures fits { OnOk result (fits store.new.places (before store.old.state store.new.state) ≡ true) }
         ensures noted { OnOk result (notes.new ≡ noted notes.old (length self.old.made + 1) (before store.old.state store.new.state) store.new.state) }
@@ -317,10 +317,10 @@ impl Moments {
         self.records.reserve(1)?;
         let alloc = *self.records.allocator();
         let mut reply = Reply::Status(Status::Ok);
-        let change = carried_out(alloc, store, notes, moment, process, &call, &mut reply)?;
+        let change = carried_out(alloc, store, notes, moment, process, call, &mut reply)?;
         self.shortcuts.push_reserved(shortcut);
         self.records.push_reserved(change);
-        self.nodes.push(at, depth, process, call, reply);
+        self.nodes.push(at, depth, process, call, &mut reply);
         Ok(())
     }
 

@@ -63,10 +63,8 @@ impl History {
         ensures grown { OnOk result (self.new ≡ after_call_at self.old self.old.position process call.now) }
         ensures err { OnErr result (self.new ≡ unmoved self.old) }
     {
-        self.forget();
         self.limits();
-        let call = call.copy()?;
-        self.grow_by(process, call)?;
+        self.grow_by_equal(process, call)?;
         match self.reply_here() {
             Ok(reply) => Ok(reply),
             Err(e) => {
@@ -74,6 +72,18 @@ impl History {
                 Err(e)
             }
         }
+    }
+
+    /// Does what `grow` does, with an equal call in memory of its own, and does not copy its reply.
+    fn grow_by_equal(&mut self, process: Koid, call: &Call) -> Result<(), AllocError>
+        requires few { length self.old.tree.made < 1048576 }
+        requires running { runs (state_at self.old.tree.made self.old.position) process ≡ true }
+        ensures grown { OnOk result (self.new ≡ after_call_at self.old self.old.position process call.now) }
+        ensures err { OnErr result (self.new ≡ unmoved self.old) }
+    {
+        self.forget();
+        let mut equal = call.copy()?;
+        self.grow_by(process, &mut equal)
     }
 
     /// What holds of the branches of every history.
@@ -94,11 +104,11 @@ impl History {
         }
     }
 
-    /// Does what `grow` does with a call that it keeps, and copies neither it nor its reply.
-    pub(crate) fn grow_by(&mut self, process: Koid, call: Call) -> Result<(), AllocError>
+    /// Does what `grow` does with a call that it keeps, leaving another in its place, and copies neither it nor its reply.
+    pub(crate) fn grow_by(&mut self, process: Koid, call: &mut Call) -> Result<(), AllocError>
         requires few { length self.old.tree.made < 1048576 }
         requires running { runs (state_at self.old.tree.made self.old.position) process ≡ true }
-        ensures grown { OnOk result (self.new ≡ after_call_at self.old self.old.position process call) }
+        ensures grown { OnOk result (self.new ≡ after_call_at self.old self.old.position process call.old) }
         ensures err { OnErr result (self.new ≡ unmoved self.old) }
     {
         call.limits();

@@ -58,7 +58,7 @@ impl History {
         &mut self,
         parent: Moment,
         process: Koid,
-        call: Call,
+        mut call: Call,
     ) -> Result<Moment, Refusal>
         ensures ok { IfOk result (λ moment. call_under self.old.tree parent process call ≡ Ok (answer.Called moment (made_by self.old.tree.made parent process call).reply, self.new.tree)) }
         ensures moved { OnOk result (self.new ≡ after_call_at self.old parent process call) }
@@ -67,7 +67,7 @@ impl History {
         ensures err { OnErr result (IsMovedAtMost self.old self.new parent) }
     {
         self.stand_ready(parent, process)?;
-        self.grow_by(process, call)?;
+        self.grow_by(process, &mut call)?;
         Ok(self.last())
     }
 

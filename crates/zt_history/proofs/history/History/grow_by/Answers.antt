@@ -25,7 +25,7 @@ pub run-requires-clause-few_koids : goal.run-requires-clause-few_koids
 run-requires-clause-few_koids c =
     let h = c.self.view_is in
     kept-few c.self.inside.store c.self.inside.moments c.self.inside.branches c.self.inside.position c.self.inside.undo c.self.invariant.kept
-    c.args.process c.args.call
+    c.args.process c.args.call.now
     (omega (arith, c.requires.few, ap (λ (h : Timeline). length h.tree.made) h))
     (ap (λ S. runs S c.args.process) (c.self.invariant.kept.history.here ∙ ap (λ (h : Timeline). state_at h.tree.made h.position) h) ∙ c.requires.running)
     c.limits.ensures
@@ -51,21 +51,21 @@ invariant_of-self-2 c = record {
   kept =
       let h = c.self.view_is in
       kept-grown c.self.inside.store c.self.inside.moments c.self.inside.branches c.self.inside.position c.self.inside.undo c.self.invariant.kept
-      c.args.process c.args.call (step c.self.inside.store.state c.args.process c.args.call).1 c.run.new.store c.run.new.self c.last-self-inside.result
+      c.args.process c.args.call.now (step c.self.inside.store.state c.args.process c.args.call.now).1 c.run.new.store c.run.new.self c.last-self-inside.result
       (omega (arith, c.requires.few, ap (λ (h : Timeline). length h.tree.made) h))
       (ap (λ S. runs S c.args.process) (c.self.invariant.kept.history.here ∙ ap (λ (h : Timeline). state_at h.tree.made h.position) h) ∙ c.requires.running)
       c.limits.ensures
       (both c.in_ok-run.ensures.ok) c.in_ok-run.ensures.made c.in_ok-run.ensures.recorded c.run.ensures.kept c.in_ok-run.ensures.fits c.last-self-inside.ensures.last;
-  noted = noted-grown c.self.inside.store c.run.new.store c.self.inside.moments c.run.new.self c.self.inside.notes c.run.new.notes c.self.inside.branches c.self.inside.position c.args.process _ c.self.inside.undo c.args.call (step c.self.inside.store.state c.args.process c.args.call).1 c.self.invariant.kept c.self.invariant.noted (both c.in_ok-run.ensures.ok) c.in_ok-run.ensures.made refl c.in_ok-run.ensures.noted;
+  noted = noted-grown c.self.inside.store c.run.new.store c.self.inside.moments c.run.new.self c.self.inside.notes c.run.new.notes c.self.inside.branches c.self.inside.position c.args.process _ c.self.inside.undo c.args.call.now (step c.self.inside.store.state c.args.process c.args.call.now).1 c.self.invariant.kept c.self.invariant.noted (both c.in_ok-run.ensures.ok) c.in_ok-run.ensures.made refl c.in_ok-run.ensures.noted;
 }
 
 pub returns-clause-grown : goal.returns-clause-grown
 returns-clause-grown c =
     let h = c.self.view_is in
     grown-seen c.self.inside.store c.self.inside.moments c.self.inside.branches c.self.inside.position c.self.inside.undo c.self.invariant.kept
-    c.args.process c.args.call (step c.self.inside.store.state c.args.process c.args.call).1 c.run.new.store c.run.new.self c.last-self-inside.result
+    c.args.process c.args.call.now (step c.self.inside.store.state c.args.process c.args.call.now).1 c.run.new.store c.run.new.self c.last-self-inside.result
     (omega (arith, c.requires.few, ap (λ (h : Timeline). length h.tree.made) h))
     (ap (λ S. runs S c.args.process) (c.self.invariant.kept.history.here ∙ ap (λ (h : Timeline). state_at h.tree.made h.position) h) ∙ c.requires.running)
     c.limits.ensures
     (both c.in_ok-run.ensures.ok) c.in_ok-run.ensures.made c.in_ok-run.ensures.recorded c.run.ensures.kept c.in_ok-run.ensures.fits c.last-self-inside.ensures.last
-    ∙ ap (λ (h : Timeline). after_call_at h h.position c.args.process c.args.call) h
+    ∙ ap (λ (h : Timeline). after_call_at h h.position c.args.process c.args.call.now) h

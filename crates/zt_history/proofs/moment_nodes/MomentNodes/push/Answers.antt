@@ -24,12 +24,12 @@ put_reply-reply-requires-clause-within c i n at =
 pub invariant_of-self : goal.invariant_of-self
 invariant_of-self c =
     let n : StoredNode = record { depth = c.args.depth; process = c.process.inside.0; call = c.put_call-call.result.place; reply = c.put_reply-reply.result.place; owns_call = c.put_call-call.result.owned; owns_reply = c.put_reply-reply.result.owned } in
-    stored-push c.self.inside.calls.items c.put_call-call.new.calls.items c.self.inside.replies.items c.put_reply-reply.new.replies.items c.self.inside.nodes.items c.push_reserved-2.new.self.items c.self.inside.parents.items c.push_reserved.new.self.items c.self.invariant n c.args.parent c.args.call c.args.reply
+    stored-push c.self.inside.calls.items c.put_call-call.new.calls.items c.self.inside.replies.items c.put_reply-reply.new.replies.items c.self.inside.nodes.items c.push_reserved-2.new.self.items c.self.inside.parents.items c.push_reserved.new.self.items c.self.invariant n c.args.parent c.args.call.now c.args.reply.now
     c.put_call-call.ensures c.put_reply-reply.ensures c.push_reserved-2.ensures.items c.push_reserved.ensures.items
 
 pub returns : goal.returns
 returns c =
     let n : StoredNode = record { depth = c.args.depth; process = c.process.inside.0; call = c.put_call-call.result.place; reply = c.put_reply-reply.result.place; owns_call = c.put_call-call.result.owned; owns_reply = c.put_reply-reply.result.owned } in
-    stored-pushed c.self.inside.calls.items c.put_call-call.new.calls.items c.self.inside.replies.items c.put_reply-reply.new.replies.items c.self.inside.nodes.items c.push_reserved-2.new.self.items c.self.inside.parents.items c.push_reserved.new.self.items c.self.invariant n c.args.parent c.args.call c.args.reply
+    stored-pushed c.self.inside.calls.items c.put_call-call.new.calls.items c.self.inside.replies.items c.put_reply-reply.new.replies.items c.self.inside.nodes.items c.push_reserved-2.new.self.items c.self.inside.parents.items c.push_reserved.new.self.items c.self.invariant n c.args.parent c.args.call.now c.args.reply.now
     c.put_call-call.ensures c.put_reply-reply.ensures c.push_reserved-2.ensures.items c.push_reserved.ensures.items
     c.args.process c.args.self.now.list c.process.view_is (ap (λ (l : NodeList). l.list) c.self.view_is)
