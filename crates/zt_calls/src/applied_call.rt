@@ -150,6 +150,7 @@ fn carried_out(
 }
 
 /// The checks of the call in order, and then its change of rows.
+#[inline(always)]
 fn direct(
     alloc: Global,
     step: &mut Step,
@@ -174,6 +175,7 @@ fn direct(
 }
 
 /// The function of the call, with the call's arguments.
+#[inline(always)]
 #[tactic(auto, unfolding(zt_rows::specs::Step::direct))]
 fn answered(alloc: Global, step: &mut Step, process: Koid, call: &Call) -> Result<Reply, Failure>
     requires room { HasRoom step.old.current }

@@ -298,7 +298,7 @@ fn note_loss(
 
 /// Notes that an object lost a live child by a moment's call, by the row behind it where the child stood, if it did. Where
 /// memory is refused nothing is noted.
-#[inline(never)]
+#[inline(always)]
 fn note_lost(
     list: &mut Vec<ObjectNote>,
     last: &mut Vec<u32>,
@@ -386,7 +386,7 @@ fn note_names(
 
 /// Notes that a moment's call let go of a name of an object, which stood under the key before, if it did. Where memory is
 /// refused nothing is noted.
-#[inline(never)]
+#[inline(always)]
 fn note_name(
     list: &mut Vec<ObjectNote>,
     last: &mut Vec<u32>,

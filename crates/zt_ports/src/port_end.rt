@@ -25,6 +25,7 @@ pub fn queue(step: &mut Step, port: Koid, packet: Packet) -> Result<(), AllocErr
 }
 
 /// Puts the packet at the end of the port with this row.
+#[inline(always)]
 #[tactic(auto, using(crate::proofs::PutOrder::packet_last))]
 pub(crate) fn push_packet(
     step: &mut Step,

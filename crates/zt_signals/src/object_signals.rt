@@ -11,6 +11,7 @@ use zt_rows::{Koid, ObjectRow, Row, RowKey};
 use zt_store::Step;
 
 /// Clears and then sets signals of the object. Where there is no such object, nothing changes.
+#[inline(always)]
 pub fn set_bits(step: &mut Step, koid: Koid, clear: Signals, set: Signals) -> Result<(), AllocError>
     ensures ok { OnOk result (Advanced step.old step.new (signals_set step.old.current koid clear.0 set.0)) }
     ensures err { OnErr result (AsBegun step.old step.new) }

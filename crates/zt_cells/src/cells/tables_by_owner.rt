@@ -87,6 +87,7 @@ impl TablesByOwner {
     }
 
     /// The first place of the owner with a row from this one on. It takes no memory.
+    #[inline(always)]
     pub fn next_from(&self, owner: usize, from: u64) -> Option<u64>
         ensures { IsNextCell (table self.now owner) from result }
     {
@@ -109,6 +110,7 @@ impl TablesByOwner {
     }
 
     /// Makes empty places for the owner until it has so many. An owner from 2^48 on is refused.
+    #[inline(always)]
     pub fn grow(&mut self, owner: usize, len: usize) -> Result<(), AllocError>
         requires { length (table self.old owner) ≤ len }
         ensures cells { (x n : ℕ) → cell_at self.new x n ≡ cell_at self.old x n }
