@@ -1,6 +1,6 @@
 -- The field in front of some bytes, which is read while its end is sought.
-use Rattle.std.proofs.Common.{◌≡◌, ℕ, zero, suc, ◌+◌, ◌-◌, ◌<◌, ◌≤◌, Bool, true, false, List, [], ◌∷◌, length, get_or, slice_index, take, drop, length-drop, Option, Some, None, refl, arith}
-use Rattle.std.specs.Prelude.{◌==◌, nat_lt, nat_eq, not, ◌&&◌, codes}
+use Rattle.std.proofs.Common.{◌≡◌, ℕ, zero, suc, ◌<◌, ◌≤◌, Bool, true, false, List, [], ◌∷◌, length, get_or, take, drop, Option, Some, None, refl, arith}
+use Rattle.std.specs.Prelude.{◌==◌, nat_lt, nat_eq, ◌&&◌, codes}
 use Rattle.std.specs.Char.{is_ascii_digit}
 use Rattle.std.specs.List.{list_all, starts_with}
 use Rattle.std.specs.Str.Parse.{digits_value}

@@ -1,10 +1,10 @@
 -- Numbers read digit by digit from the left: how the number so far bounds the whole, and what one byte that is no
 -- digit settles.
-use Rattle.std.proofs.Common.{◌≡◌, ℕ, ◌+◌, ◌*◌, ◌-◌, ◌^◌, ◌<◌, ◌≤◌, Bool, true, false, List, [], ◌∷◌, length, get_or, take, refl, ap, arith, lit≤, lit<, IsTrue, nat_eq, drop, Option, Some, None, length-drop}
+use Rattle.std.proofs.Common.{◌≡◌, ℕ, ◌+◌, ◌*◌, ◌-◌, ◌^◌, ◌<◌, ◌≤◌, Bool, true, false, ◌&&◌, List, [], ◌∷◌, length, get_or, take, refl, sym, ap, ◌∙◌, arith, lit≤, lit<, IsTrue, nat_eq, drop, Option, Some, None, length-drop}
 use Rattle.std.specs.Char.{digit_value, is_ascii_digit}
 use Rattle.std.specs.List.{list_all, starts_with}
 use Rattle.std.specs.Option.{SomeIff, option_map}
-use Rattle.std.specs.Prelude.{◌==◌, codes, ℤ, pos}
+use Rattle.std.specs.Prelude.{◌==◌, codes, ℤ, pos, if◌then◌else◌}
 use Rattle.std.proofs.lemmas.Bool.{eq-eqb}
 use Rattle.std.specs.Str.Parse.{digits_value}
 use Rattle.std.proofs.lemmas.Int.Digits.{digits_value_more}
@@ -14,6 +14,7 @@ use Rattle.std.proofs.lemmas.List.Folds.{list_all_at, list_all_more}
 use Rattle.std.proofs.lemmas.Bool.Decides.{nat_tests}
 use Rattle.std.proofs.lemmas.Grind.{pow_more}
 use Rattle.std.proofs.Math.Nat.{pow-le-pow_right}
+use Rattle.zt_rows.proofs.RowLaws.{and_left, and_right, true≢false}
 use Rattle.zt_text.specs.Numbers.{is_hex_digit, decimal_of, code_of, mask_of}
 
 -- the value of a digit
@@ -68,23 +69,17 @@ next_fits i n d low small digit = few_fit (i + 1) (n * 10 + d) (omega arith) (ro
 pub hex_small : (b : ℕ) → is_hex_digit b ≡ true → digit_value b < 16
 hex_small b h = grind (arith, nat_tests)
 
--- one hexadecimal digit more
-pub hex_room : (i n b : ℕ) → n < 16 ^ i → is_hex_digit b ≡ true → n * 16 + digit_value b < 16 ^ (i + 1)
-hex_room i n b small digit =
-    let e : 16 ^ (i + 1) ≡ 16 ^ i * 16 = pow_more 16 i in
-    let d : digit_value b < 16 = hex_small b digit in
-    omega arith
-
--- eight of them fit 32 bits
-pub hex_fits : (i n : ℕ) → i ≤ 8 → n < 16 ^ i → n < 2 ^ 32
-hex_fits i n low small = let most : 16 ^ i ≤ 16 ^ 8 = pow-le-pow_right (lit< tt) low in omega arith
-
-pub hex_next_fits : (i n b : ℕ) → i < 8 → n < 16 ^ i → is_hex_digit b ≡ true → n * 16 + digit_value b < 2 ^ 32
-hex_next_fits i n b low small digit = hex_fits (i + 1) (n * 16 + digit_value b) (omega arith) (hex_room i n b small digit)
-
 pub not_true : (b : Bool) → ¬ (IsTrue b) → b ≡ false
 not_true true h = absurd (h refl)
 not_true false h = refl
+
+not_false : (b : Bool) → (b ≡ false → ⊥) → b ≡ true
+not_false true h = refl
+not_false false h = absurd (h refl)
+
+first_false : (a b : Bool) → b ≡ true → (a && b) ≡ false → a ≡ false
+first_false true b t f = absurd (true≢false b t f)
+first_false false b t f = refl
 
 -- what a mask reads as, where its length and its beginning are those of one
 pub mask_is : (bs : List ℕ) (r : Option ℕ) → length bs ≡ 10 → starts_with nat_eq bs (codes "0x") ≡ true → SomeIff r (IsTrue (list_all is_hex_digit (drop 2 bs))) (digits_value 16 (drop 2 bs)) → r ≡ mask_of bs
@@ -111,6 +106,80 @@ pub hex_value_more : (bs : List ℕ) (i n : ℕ) → i < length bs → n ≡ dig
 hex_value_more bs i n low e =
     let step : digits_value 16 (take (i + 1) bs) ≡ digits_value 16 (take i bs) * 16 + digit_value (get_or bs i 0) = digits_value_more 16 bs i low in
     omega arith
+
+-- what is known behind the first bytes of the number and of the sum of what stands for each byte, 128 where it is no digit
+pub record IsHexSoFar (bs : List ℕ) (i n s : ℕ) : Type 0 where
+  pub good : list_all is_hex_digit (take i bs) ≡ true → (n ≡ digits_value 16 (take i bs)) × (n < 16 ^ i) × (s ≤ 15 * i)
+  pub bad : list_all is_hex_digit (take i bs) ≡ false → 128 ≤ s
+  pub few : s ≤ 128 * i
+  pub small : n + 9 ≤ 9 * 16 ^ i
+
+-- one byte more
+pub hex-so-far-more : (bs : List ℕ) (i n s v : ℕ) → i < length bs → v ≡ (if is_hex_digit (get_or bs i 0) then digit_value (get_or bs i 0) else 128) → IsHexSoFar bs i n s → IsHexSoFar bs (i + 1) (n * 16 + v) (s + v)
+hex-so-far-more bs i n s v low stands before = by (is_hex_digit (get_or bs i 0)) refl
+  where
+    b : ℕ
+    b = get_or bs i 0
+
+    more : 16 ^ (i + 1) ≡ 16 ^ i * 16
+    more = pow_more 16 i
+
+    all : list_all is_hex_digit (take (i + 1) bs) ≡ (list_all is_hex_digit (take i bs) && is_hex_digit b)
+    all = list_all_more is_hex_digit bs i 0 low
+
+    digit : is_hex_digit b ≡ true → IsHexSoFar bs (i + 1) (n * 16 + v) (s + v)
+    digit h =
+        let value : v ≡ digit_value b = stands ∙ ap (λ t. if t then digit_value b else 128) h in
+        let one : digit_value b < 16 = hex_small b h in
+        record {
+          good = λ e.
+              let was = before.good (and_left (list_all is_hex_digit (take i bs)) (is_hex_digit b) (sym all ∙ e)) in
+              let step : n * 16 + digit_value b ≡ digits_value 16 (take (i + 1) bs) = hex_value_more bs i n low was.0 in
+              (ap (λ k. n * 16 + k) value ∙ step, omega (arith, was.1, more), omega (arith, was.2));
+          bad = λ e.
+              let was : 128 ≤ s = before.bad (first_false (list_all is_hex_digit (take i bs)) (is_hex_digit b) h (sym all ∙ e)) in
+              omega arith;
+          few = let was : s ≤ 128 * i = before.few in omega arith;
+          small = let was : n + 9 ≤ 9 * 16 ^ i = before.small in omega (arith, more);
+        }
+
+    other : is_hex_digit b ≡ false → IsHexSoFar bs (i + 1) (n * 16 + v) (s + v)
+    other h =
+        let value : v ≡ 128 = stands ∙ ap (λ t. if t then digit_value b else 128) h in
+        record {
+          good = λ e. absurd (true≢false (is_hex_digit b) (and_right (list_all is_hex_digit (take i bs)) (is_hex_digit b) (sym all ∙ e)) h);
+          bad = λ _. omega arith;
+          few = let was : s ≤ 128 * i = before.few in omega arith;
+          small = let was : n + 9 ≤ 9 * 16 ^ i = before.small in omega (arith, more);
+        }
+
+    by : (h : Bool) → is_hex_digit b ≡ h → IsHexSoFar bs (i + 1) (n * 16 + v) (s + v)
+    by true e = digit e
+    by false e = other e
+
+-- the number and the sum of few bytes are within their sizes
+pub hex-so-far-fits : (bs : List ℕ) (i n s : ℕ) → i ≤ 8 → IsHexSoFar bs i n s → (n ≤ 9 * 16 ^ 8) × (s ≤ 1024)
+hex-so-far-fits bs i n s low before =
+    let most : 16 ^ i ≤ 16 ^ 8 = pow-le-pow_right (lit< tt) low in
+    let few : s ≤ 128 * i = before.few in
+    let small : n + 9 ≤ 9 * 16 ^ i = before.small in
+    (omega arith, omega arith)
+
+-- at the end of few bytes the sum tells whether all are digits
+pub hex-so-far-all : (bs : List ℕ) (i n s : ℕ) → length bs ≤ i → i ≤ 8 → IsHexSoFar bs i n s → s < 128 → IsTrue (list_all is_hex_digit bs) × (n ≡ digits_value 16 bs) × (n < 2 ^ 32)
+hex-so-far-all bs i n s past low before less =
+    let whole : take i bs ≡ bs = take_all i bs past in
+    let good : list_all is_hex_digit (take i bs) ≡ true = not_false (list_all is_hex_digit (take i bs)) (λ e. let more : 128 ≤ s = before.bad e in absurd (omega arith)) in
+    let was = before.good good in
+    let most : 16 ^ i ≤ 16 ^ 8 = pow-le-pow_right (lit< tt) low in
+    (sym (ap (list_all is_hex_digit) whole) ∙ good, was.0 ∙ ap (digits_value 16) whole, omega (arith, was.1))
+
+pub hex-so-far-none : (bs : List ℕ) (i n s : ℕ) → length bs ≤ i → i ≤ 8 → IsHexSoFar bs i n s → ¬ (s < 128) → ¬ (IsTrue (list_all is_hex_digit bs))
+hex-so-far-none bs i n s past low before more all =
+    let whole : take i bs ≡ bs = take_all i bs past in
+    let was = before.good (ap (list_all is_hex_digit) whole ∙ all) in
+    let few : s ≤ 15 * i = was.2 in
+    more (omega arith)
 
 -- the digits of a mask as a slice has them
 pub mask_digits : (bs : List ℕ) → length bs ≡ 10 → take (length bs - 2) (drop 2 bs) ≡ drop 2 bs

@@ -7,7 +7,7 @@ use Rattle.zt_rows.specs.declared.saved.Saved.{Saved}
 use Rattle.zt_rows.specs.declared.saved.SavedCall.{SavedCall}
 use Rattle.zt_text.specs.Lines.{lines_of}
 use Rattle.zt_text.specs.Session.{call_in, calls_in}
-use Rattle.zt_rows.specs.CallsInARow.{as_moment, moments_from, in_a_row}
+use Rattle.zt_rows.specs.CallsInARow.{as_moment, moments_from}
 use Rattle.zt_text.specs.SavedTexts.{IsUnreadTree}
 use Rattle.zt_text.specs.ProofsOnly.Session.{IsTaken, IsNotTaken}
 use Rattle.zt_text.specs.ProofsOnly.SavedTexts.{row_of, IsTakenInARow, IsRowOf, row_tree}

@@ -1,16 +1,14 @@
 -- The calls of a session text, read one after another.
-use Rattle.std.proofs.Common.{append_assoc, inl, inr, ◌≡◌, ℕ, suc, ◌+◌, ◌<◌, Bool, true, false, cond, not, List, [], ◌∷◌, ◌++◌, length, Option, Some, None, Result, Ok, Err, refl, sym, ap, subst, ◌∙◌, arith}
-use Rattle.std.specs.Prelude.{count_by, is_ok, is_some, codes, if◌then◌else◌}
+use Rattle.std.proofs.Common.{append_assoc, inl, inr, ◌≡◌, ℕ, suc, ◌+◌, ◌<◌, Bool, true, false, cond, List, [], ◌∷◌, ◌++◌, length, Option, Some, None, Result, Ok, Err, refl, sym, ap, subst, ◌∙◌, arith}
+use Rattle.std.specs.Prelude.{is_ok, is_some, codes}
 use Rattle.std.specs.Str.{bytes_eq}
-use Rattle.std.proofs.lemmas.List.{append-nil, nil_from_length}
+use Rattle.std.proofs.lemmas.List.{nil_from_length}
 use Rattle.std.specs.Cmp.Lexicographic.{bytes_decides}
 use Rattle.zt_rows.specs.declared.refusals.Refusal.{Refusal}
 use Rattle.zt_rows.specs.declared.calls.Call.{Call}
-use Rattle.zt_rows.specs.declared.saved.Saved.{Saved}
-use Rattle.zt_rows.specs.CallsInARow.{in_a_row}
 use Rattle.zt_text.specs.Fields.{◌>>=◌}
 use Rattle.zt_text.specs.Lines.{lines_of}
-use Rattle.zt_text.specs.ReadLines.{is_skipped, IsUnread, most_line_bytes}
+use Rattle.zt_text.specs.ReadLines.{IsUnread}
 use Rattle.zt_text.specs.Session.{call_in, fault_at, at_line, in_front, calls_in, calls_of_lines, session_of, first_line, comes_first, has_call, IsWantOfMemory, IsFaultOf}
 use Rattle.zt_text.specs.SavedTexts.{tree_lines, saved_of}
 use Rattle.zt_text.specs.SessionCalls.{LinesLeft, row_lines, calls_left, in_front_of, tree_of, or_behind, next_in, next_call, IsNotNext}

@@ -1,4 +1,4 @@
-ghost use Rattle.std.specs.Prelude.{◌≡◌, ◌+◌, ◌-◌, ◌*◌, ◌<◌, ◌≤◌, ◌^◌, true, IsTrue, IfSome, length, pos};
+ghost use Rattle.std.specs.Prelude.{◌≡◌, ◌+◌, ◌-◌, ◌*◌, ◌<◌, ◌≤◌, ◌^◌, true, IsTrue, IfSome, length, pos, if◌then◌else◌};
 ghost use Rattle.std.specs.Option.{SomeIff, option_map};
 ghost use Rattle.std.specs.Char.{digit_value, is_ascii_digit};
 ghost use Rattle.std.specs.List.{list_all};
@@ -7,6 +7,29 @@ ghost use Rattle.zt_text.specs.Numbers.{has_leading_zero, decimal_of, negative, 
 
 /// The most digits of which each number has 64 bits.
 pub const DIGITS_THAT_FIT: usize = 19;
+
+/// What stands for a byte that is no digit: more than eight digits of `0` to `9` and `a` to `f` have together.
+const NONE: u8 = 128;
+
+/// What each byte stands for as a digit of `0` to `9`, which are 48 to 57, and of `a` to `f`, which are 97 to 102.
+const HEX_VALUES: [u8; 256] = [
+    NONE, NONE, NONE, NONE, NONE, NONE, NONE, NONE, NONE, NONE, NONE, NONE, NONE, NONE, NONE, NONE,
+    NONE, NONE, NONE, NONE, NONE, NONE, NONE, NONE, NONE, NONE, NONE, NONE, NONE, NONE, NONE, NONE,
+    NONE, NONE, NONE, NONE, NONE, NONE, NONE, NONE, NONE, NONE, NONE, NONE, NONE, NONE, NONE, NONE,
+    0, 1, 2, 3, 4, 5, 6, 7, 8, 9, NONE, NONE, NONE, NONE, NONE, NONE, NONE, NONE, NONE, NONE, NONE,
+    NONE, NONE, NONE, NONE, NONE, NONE, NONE, NONE, NONE, NONE, NONE, NONE, NONE, NONE, NONE, NONE,
+    NONE, NONE, NONE, NONE, NONE, NONE, NONE, NONE, NONE, NONE, NONE, NONE, 10, 11, 12, 13, 14, 15,
+    NONE, NONE, NONE, NONE, NONE, NONE, NONE, NONE, NONE, NONE, NONE, NONE, NONE, NONE, NONE, NONE,
+    NONE, NONE, NONE, NONE, NONE, NONE, NONE, NONE, NONE, NONE, NONE, NONE, NONE, NONE, NONE, NONE,
+    NONE, NONE, NONE, NONE, NONE, NONE, NONE, NONE, NONE, NONE, NONE, NONE, NONE, NONE, NONE, NONE,
+    NONE, NONE, NONE, NONE, NONE, NONE, NONE, NONE, NONE, NONE, NONE, NONE, NONE, NONE, NONE, NONE,
+    NONE, NONE, NONE, NONE, NONE, NONE, NONE, NONE, NONE, NONE, NONE, NONE, NONE, NONE, NONE, NONE,
+    NONE, NONE, NONE, NONE, NONE, NONE, NONE, NONE, NONE, NONE, NONE, NONE, NONE, NONE, NONE, NONE,
+    NONE, NONE, NONE, NONE, NONE, NONE, NONE, NONE, NONE, NONE, NONE, NONE, NONE, NONE, NONE, NONE,
+    NONE, NONE, NONE, NONE, NONE, NONE, NONE, NONE, NONE, NONE, NONE, NONE, NONE, NONE, NONE, NONE,
+    NONE, NONE, NONE, NONE, NONE, NONE, NONE, NONE, NONE, NONE, NONE, NONE, NONE, NONE, NONE, NONE,
+    NONE, NONE, NONE, NONE, NONE, NONE, NONE, NONE, NONE,
+];
 
 /// The number that the bytes write in decimal digits, without leading zeros and up to `most`.
 #[inline(never)]
@@ -136,17 +159,24 @@ pub fn mask(bytes: &[u8]) -> Option<u32>
     hex_digits(&bytes[2..])
 }
 
-/// The number that the digits write, where they are digits of `0` to `9` and `a` to `f`.
+/// The number that so few digits write, where they are digits of `0` to `9` and `a` to `f`. All are looked at, with no way out
+/// before the last one: what stands for a byte that is no digit makes the sum large.
 fn hex_digits(bytes: &[u8]) -> Option<u32>
     requires { length bytes.now ≤ 8 }
     ensures { SomeIff result (IsTrue (list_all is_hex_digit bytes.now)) (digits_value 16 bytes.now) }
 {
-    let mut number = 0u32;
+    let mut number = 0u64;
+    let mut sum = 0u64;
     for byte in bytes {
-        let digit = hex_digit(*byte)?;
-        number = number * 16 + digit;
+        let value = u64::from(hex_value_or_none(*byte));
+        number = number * 16 + value;
+        sum += value;
     }
-    Some(number)
+    if sum < u64::from(NONE) {
+        Some(number as u32)
+    } else {
+        None
+    }
 }
 
 /// Whether this is a digit of `0` to `9` and `a` to `f`.
@@ -169,15 +199,10 @@ pub fn hex_value(digit: u8) -> u8
     }
 }
 
-/// What a digit of `0` to `9` and `a` to `f` stands for.
-fn hex_digit(byte: u8) -> Option<u32>
-    ensures { SomeIff result (IsTrue (is_hex_digit byte)) (digit_value byte) }
+/// What such a digit stands for, and `NONE` where the byte is none.
+#[inline(always)]
+fn hex_value_or_none(byte: u8) -> u8
+    ensures { result ≡ (if is_hex_digit byte then digit_value byte else 128) }
 {
-    if byte.is_ascii_digit() {
-        Some(u32::from(byte - b'0'))
-    } else if matches!(byte, b'a'..=b'f') {
-        Some(u32::from(byte - b'a') + 10)
-    } else {
-        None
-    }
+    HEX_VALUES[byte as usize]
 }

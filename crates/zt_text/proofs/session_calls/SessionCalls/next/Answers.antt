@@ -1,8 +1,8 @@
 -- A line more is looked at.
-use Rattle.std.proofs.Common.{◌≡◌, ap, sym, ◌∙◌, length, arith}
+use Rattle.std.proofs.Common.{◌≡◌, sym, ◌∙◌, length, arith}
 use Rattle.std.proofs.lemmas.Bool.Decides.{nat_tests}
 use Rattle.zt_text.specs.Lines.{lines_of}
-use Rattle.zt_text.specs.SessionCalls.{next_call, IsNotNext}
+use Rattle.zt_text.specs.SessionCalls.{next_call}
 use Rattle.zt_text.proofs.SessionCallLemmas.{line_skipped, line_taken, line_not_taken, lines_ended}
 use Rattle.zt_text.proofs.session_calls.SessionCalls.next.Goals as goal
 
