@@ -82,9 +82,9 @@ impl Cells {
         self.look(key)
     }
 
-    /// The same, made part of its caller: one who knows the variant of the key looks at one table.
+    /// The same, made part of its caller: one who knows the variant of the key looks at one table. It takes no memory.
     #[inline(always)]
-    fn look(&self, key: RowKey) -> Option<&Row>
+    pub fn look(&self, key: RowKey) -> Option<&Row>
         ensures { option_copied result ≡ row self.now.state key }
     {
         self.tables.row(key)
@@ -177,6 +177,7 @@ impl Cells {
 
     /// Makes the place of the key, and those below it in its table. Each table that grows asks once for all that it
     /// needs; beyond 2^48 places, beyond 2^32 - 2 places of one table, and for owners from 2^48 on, it is refused.
+    #[inline(always)]
     pub fn make_place(&mut self, key: RowKey) -> Result<(), AllocError>
         ensures state { self.new.state ≡ self.old.state }
         ensures kept { (k : RowKey) → has_place self.old.sizes k ≡ true → has_place self.new.sizes k ≡ true }

@@ -248,7 +248,7 @@ fn note_object(
     ensures kept { IsLonger list.old.items list.new.items }
     ensures chained { AreChained list.new.items last.new.items }
 {
-    let after = store.row(RowKey::Object(koid));
+    let after = store.look(RowKey::Object(koid));
     note_one(list, last, moment, koid, before, after)?;
     note_loss(list, last, moment, before, after, store)
 }

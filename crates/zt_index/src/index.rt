@@ -79,6 +79,7 @@ impl RowChains {
 
     /// Makes room for the wait or the object under the key, if it is one of those. Numbers and koids from 2^32 - 1
     /// on are refused.
+    #[inline(always)]
     pub fn grow_for(&mut self, key: RowKey) -> Result<(), AllocError>
         ensures same { (s : CellsView) → IsIndexed s self.old → IsIndexed s self.new }
         ensures made { OnOk result (HasBuckets key self.new) }
@@ -106,6 +107,7 @@ impl RowChains {
     }
 
     /// Makes room for the object of this koid.
+    #[inline(always)]
     fn grow_below(&mut self, koid: Koid) -> Result<(), AllocError>
         ensures same { (s : CellsView) → IsIndexed s self.old → IsIndexed s self.new }
         ensures made { OnOk result (koid + 1 ≤ length self.new.parents) }
@@ -210,6 +212,7 @@ impl OwnedChains {
     }
 
     /// Makes room for the wait or the object under the key, if it is one of those.
+    #[inline(always)]
     pub fn grow_for(&mut self, key: RowKey) -> Result<(), AllocError>
         ensures same { (s : CellsView) → IsIndexed s (row_chains_in self.old) → IsIndexed s (row_chains_in self.new) }
         ensures made { OnOk result (HasBuckets key (row_chains_in self.new)) }
@@ -276,6 +279,7 @@ impl Index {
     }
 
     /// Makes room for the wait or the object under the key, if it is one of those.
+    #[inline(always)]
     pub fn grow_for(&mut self, key: RowKey) -> Result<(), AllocError>
         ensures same { (s : CellsView) → IsIndexed s self.old → IsIndexed s self.new }
         ensures made { OnOk result (HasBuckets key self.new) }

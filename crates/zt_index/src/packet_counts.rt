@@ -45,6 +45,7 @@ impl PacketCounts {
     }
 
     /// Makes a number for the port of the packet under the key, if it is a packet's. Koids from 2^48 on are refused.
+    #[inline(always)]
     pub fn grow_for(&mut self, key: RowKey) -> Result<(), AllocError>
         ensures same { (s : CellsView) → ArePending s self.old → ArePending s self.new }
         ensures made { OnOk result (HasNumber key self.new) }

@@ -5,7 +5,7 @@ use Rattle.std.specs.List.{IsDistinct, slice_get, zip}
 use Rattle.std.specs.Global.{Vec}
 use Rattle.std.specs.Option.{option_map}
 use Rattle.std.specs.Vec.{with_items}
-use Rattle.std.proofs.lemmas.List.{get_or-map, get_or_default, length-map, map-append, with_items_is}
+use Rattle.std.proofs.lemmas.List.{get_or-map, get_or_default, length-map, map-append, set-append_right, with_items_is}
 use Rattle.std.proofs.lemmas.Option.{slice_get-get_or, slice_get-map}
 use Rattle.zt_rows.specs.declared.keys.RowKey.{RowKey}
 use Rattle.zt_rows.specs.declared.rows.Row.{Row}
@@ -138,6 +138,15 @@ pub rows_of-behind : (ks more : List RowKey) (rs pushed : List Row) (k : RowKey)
 rows_of-behind ks more rs pushed k v o even keys rows was =
     (λ j. rows_of (zip (keys j) (rows j))) ∙ ap rows_of (zip-behind ks rs k v even) ∙ map-append held_by (zip ks rs) ((k, v) ∷ [])
     ∙ ap (λ x. rows_of (zip ks rs) ++ (k, x) ∷ []) was
+
+-- the last of the rows is another
+set-last : (rs pushed : List Row) (v u : Row) (place : ℕ) → pushed ≡ rs ++ v ∷ [] → place ≡ length rs → set pushed place u ≡ rs ++ u ∷ []
+set-last rs pushed v u place rows last =
+    (λ j. set (rows j) (last j) u) ∙ set-append_right rs (v ∷ []) (length rs) (length rs) u refl (omega arith) ∙ ap (λ n. rs ++ set (v ∷ []) n u) {y = 0} (omega arith)
+
+pub rows_of-last : (ks more : List RowKey) (rs pushed : List Row) (k : RowKey) (v u : Row) (o : Option Row) (place : ℕ) → length rs ≡ length ks → more ≡ ks ++ k ∷ [] → pushed ≡ rs ++ v ∷ [] → place ≡ length rs → row_under k u ≡ o
+    → rows_of (zip more (set pushed place u)) ≡ rows_of (zip ks rs) ++ (k, o) ∷ []
+rows_of-last ks more rs pushed k v u o place even keys rows last was = rows_of-behind ks more rs (set pushed place u) k u o even keys (set-last rs pushed v u place rows last) was
 
 pub pairs-end : (S T : State) (ks : List RowKey) (rs qs : List Row) (p : Places) (i : ℕ) → IsSwapping S (pairs_of ks rs) p i T (pairs_of ks qs) → length qs ≡ length ks → length qs ≤ i → ◌≡◌ {A = State × Rows} (T, pairs_of ks qs) (exchange S (pairs_of ks rs))
 pairs-end S T ks rs qs p i swapping even over =

@@ -110,10 +110,10 @@ pub(crate) fn exchange_behind(store: &mut Store, firsts: &mut FirstRows, key: &R
     ensures fit { fits_row store.new.places key.now (row store.old.state key.now) ≡ true }
     ensures suited { SuitsKey key.now (row store.old.state key.now) }
 {
-    let mut kept = bare;
-    store.exchange(key, &mut kept);
+    let place = firsts.rows.len();
     firsts.keys.push_reserved(*key);
-    firsts.rows.push_reserved(kept);
+    firsts.rows.push_reserved(bare);
+    store.exchange(key, &mut firsts.rows[place]);
 }
 
 /// Exchanges the bare rows with the store's, each under the key at its place, where each key is listed once. It takes no memory.

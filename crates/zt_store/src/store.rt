@@ -157,6 +157,14 @@ impl Store {
         self.cells.row(key)
     }
 
+    /// The same, made part of its caller: one who knows the variant of the key looks at one table. It takes no memory.
+    #[inline(always)]
+    pub fn look(&self, key: RowKey) -> Option<&Row>
+        ensures { option_copied result ≡ row self.now.state key }
+    {
+        self.cells.look(key)
+    }
+
     /// The next numbers that the system gives out. It takes no memory.
     pub fn counters(&self) -> Counters
         ensures { result ≡ counters self.now.state }
@@ -454,11 +462,46 @@ impl Store {
         if self.cells.has_place(asked) {
             return Ok(());
         }
+        match key {
+            RowKey::Object(koid) => self.add_object_place(koid),
+            RowKey::Entry(process, value) => self.add_entry_place(process, value),
+            key => self.add_other_place(key),
+        }
+    }
+
+    /// Makes the place of an object.
+    #[inline(never)]
+    fn add_object_place(&mut self, koid: Koid) -> Result<(), AllocError>
+        ensures state { self.new.state ≡ self.old.state }
+        ensures kept { Keeps self.old.places self.new.places }
+        ensures made { OnOk result (has_place self.new.places.sizes (key_variant.Object koid) ≡ true) }
+    {
+        self.add_place(RowKey::Object(koid))
+    }
+
+    /// Makes the place of an entry.
+    #[inline(never)]
+    fn add_entry_place(&mut self, process: Koid, value: HandleValue) -> Result<(), AllocError>
+        ensures state { self.new.state ≡ self.old.state }
+        ensures kept { Keeps self.old.places self.new.places }
+        ensures made { OnOk result (has_place self.new.places.sizes (key_variant.Entry process value) ≡ true) }
+    {
+        self.add_place(RowKey::Entry(process, value))
+    }
+
+    /// Makes the place of any key.
+    #[inline(never)]
+    fn add_other_place(&mut self, key: RowKey) -> Result<(), AllocError>
+        ensures state { self.new.state ≡ self.old.state }
+        ensures kept { Keeps self.old.places self.new.places }
+        ensures made { OnOk result (has_place self.new.places.sizes key ≡ true) }
+    {
         self.add_place(key)
     }
 
-    /// Makes the place of the key, and the number of its port, if it is a packet's.
-    #[inline(never)]
+    /// The same, made part of its caller, who knows the variant of the key, so that what it means is asked once. With the place of a
+    /// packet comes the number of its port.
+    #[inline(always)]
     fn add_place(&mut self, key: RowKey) -> Result<(), AllocError>
         ensures state { self.new.state ≡ self.old.state }
         ensures kept { Keeps self.old.places self.new.places }
@@ -481,17 +524,78 @@ impl Store {
         ensures suited { SuitsKey key.now (row_under key.now kept.new) }
     {
         match *key {
-            RowKey::Counters => self.exchange_under(RowKey::Counters, kept),
+            RowKey::Counters => self.exchange_counters(kept),
             RowKey::Object(koid) => self.exchange_object(koid, kept),
-            RowKey::Entry(process, value) => {
-                self.exchange_under(RowKey::Entry(process, value), kept);
-            }
-            RowKey::Msg(owner, number) => self.exchange_under(RowKey::Msg(owner, number), kept),
-            RowKey::Packet(owner, number) => {
-                self.exchange_under(RowKey::Packet(owner, number), kept);
-            }
-            RowKey::Wait(number) => self.exchange_under(RowKey::Wait(number), kept),
+            RowKey::Entry(process, value) => self.exchange_entry(process, value, kept),
+            RowKey::Msg(owner, number) => self.exchange_message(owner, number, kept),
+            RowKey::Packet(owner, number) => self.exchange_packet(owner, number, kept),
+            RowKey::Wait(number) => self.exchange_wait(number, kept),
         }
+    }
+
+    /// Exchanges the counters.
+    #[inline(never)]
+    fn exchange_counters(&mut self, kept: &mut Row)
+        requires placed { fits_row self.old.places key_variant.Counters (row_under key_variant.Counters kept.old) ≡ true }
+        requires suited { SuitsKey key_variant.Counters (row_under key_variant.Counters kept.old) }
+        ensures put { self.new ≡ standing self.old (put self.old.state key_variant.Counters (row_under key_variant.Counters kept.old)) }
+        ensures was { row_under key_variant.Counters kept.new ≡ row self.old.state key_variant.Counters }
+        ensures fit { fits_row self.new.places key_variant.Counters (row_under key_variant.Counters kept.new) ≡ true }
+        ensures suited { SuitsKey key_variant.Counters (row_under key_variant.Counters kept.new) }
+    {
+        self.exchange_under(RowKey::Counters, kept);
+    }
+
+    /// Exchanges the entry, or none, with what the process holds by this value.
+    #[inline(never)]
+    fn exchange_entry(&mut self, process: Koid, value: HandleValue, kept: &mut Row)
+        requires placed { fits_row self.old.places (key_variant.Entry process value) (row_under (key_variant.Entry process value) kept.old) ≡ true }
+        requires suited { SuitsKey (key_variant.Entry process value) (row_under (key_variant.Entry process value) kept.old) }
+        ensures put { self.new ≡ standing self.old (put self.old.state (key_variant.Entry process value) (row_under (key_variant.Entry process value) kept.old)) }
+        ensures was { row_under (key_variant.Entry process value) kept.new ≡ row self.old.state (key_variant.Entry process value) }
+        ensures fit { fits_row self.new.places (key_variant.Entry process value) (row_under (key_variant.Entry process value) kept.new) ≡ true }
+        ensures suited { SuitsKey (key_variant.Entry process value) (row_under (key_variant.Entry process value) kept.new) }
+    {
+        self.exchange_under(RowKey::Entry(process, value), kept);
+    }
+
+    /// Exchanges the message, or none, with the one of this number in the queue.
+    #[inline(never)]
+    fn exchange_message(&mut self, owner: Koid, number: u64, kept: &mut Row)
+        requires placed { fits_row self.old.places (key_variant.Msg owner number) (row_under (key_variant.Msg owner number) kept.old) ≡ true }
+        requires suited { SuitsKey (key_variant.Msg owner number) (row_under (key_variant.Msg owner number) kept.old) }
+        ensures put { self.new ≡ standing self.old (put self.old.state (key_variant.Msg owner number) (row_under (key_variant.Msg owner number) kept.old)) }
+        ensures was { row_under (key_variant.Msg owner number) kept.new ≡ row self.old.state (key_variant.Msg owner number) }
+        ensures fit { fits_row self.new.places (key_variant.Msg owner number) (row_under (key_variant.Msg owner number) kept.new) ≡ true }
+        ensures suited { SuitsKey (key_variant.Msg owner number) (row_under (key_variant.Msg owner number) kept.new) }
+    {
+        self.exchange_under(RowKey::Msg(owner, number), kept);
+    }
+
+    /// Exchanges the packet, or none, with the one of this number in the port.
+    #[inline(never)]
+    fn exchange_packet(&mut self, owner: Koid, number: u64, kept: &mut Row)
+        requires placed { fits_row self.old.places (key_variant.Packet owner number) (row_under (key_variant.Packet owner number) kept.old) ≡ true }
+        requires suited { SuitsKey (key_variant.Packet owner number) (row_under (key_variant.Packet owner number) kept.old) }
+        ensures put { self.new ≡ standing self.old (put self.old.state (key_variant.Packet owner number) (row_under (key_variant.Packet owner number) kept.old)) }
+        ensures was { row_under (key_variant.Packet owner number) kept.new ≡ row self.old.state (key_variant.Packet owner number) }
+        ensures fit { fits_row self.new.places (key_variant.Packet owner number) (row_under (key_variant.Packet owner number) kept.new) ≡ true }
+        ensures suited { SuitsKey (key_variant.Packet owner number) (row_under (key_variant.Packet owner number) kept.new) }
+    {
+        self.exchange_under(RowKey::Packet(owner, number), kept);
+    }
+
+    /// Exchanges the wait, or none, with the one of this number.
+    #[inline(never)]
+    fn exchange_wait(&mut self, number: u64, kept: &mut Row)
+        requires placed { fits_row self.old.places (key_variant.Wait number) (row_under (key_variant.Wait number) kept.old) ≡ true }
+        requires suited { SuitsKey (key_variant.Wait number) (row_under (key_variant.Wait number) kept.old) }
+        ensures put { self.new ≡ standing self.old (put self.old.state (key_variant.Wait number) (row_under (key_variant.Wait number) kept.old)) }
+        ensures was { row_under (key_variant.Wait number) kept.new ≡ row self.old.state (key_variant.Wait number) }
+        ensures fit { fits_row self.new.places (key_variant.Wait number) (row_under (key_variant.Wait number) kept.new) ≡ true }
+        ensures suited { SuitsKey (key_variant.Wait number) (row_under (key_variant.Wait number) kept.new) }
+    {
+        self.exchange_under(RowKey::Wait(number), kept);
     }
 
     /// The same, made part of its caller, who knows the variant of the key, so that what it means is asked once.
@@ -518,7 +622,7 @@ impl Store {
     }
 
     /// Exchanges the object, or none, with the one of this koid.
-    #[inline(always)]
+    #[inline(never)]
     fn exchange_object(&mut self, koid: Koid, kept: &mut Row)
         requires placed { fits_row self.old.places (key_variant.Object koid) (row_in kept.old) ≡ true }
         requires suited { SuitsKey (key_variant.Object koid) (row_in kept.old) }

@@ -78,6 +78,7 @@ impl Entries {
     }
 
     /// Makes empty places for the process, up to that of the value.
+    #[inline(always)]
     #[tactic(auto, using(crate::proofs::GridLaws::entry_laws))]
     pub fn grow(&mut self, process: Koid, value: HandleValue) -> Result<(), AllocError>
         requires { length (entry_table self.old process value) ≤ value / 4 }

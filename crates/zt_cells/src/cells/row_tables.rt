@@ -72,6 +72,7 @@ impl RowTables {
     }
 
     /// How many places the table of the key has.
+    #[inline(always)]
     #[tactic(auto, using(crate::proofs::RowTableLaws::length_laws), unfolding(crate::specs::ProofsOnly::RowTables::sizes_of))]
     pub fn len_at(&self, key: RowKey) -> usize
         ensures { result ≡ length_at (sizes_of self.now) key }
@@ -141,6 +142,7 @@ impl RowTables {
     }
 
     /// Makes the places in the table of the key, up to its own.
+    #[inline(always)]
     #[tactic(auto, using(crate::proofs::RowTableLaws::length_laws), unfolding(crate::specs::ProofsOnly::RowTables::sizes_of))]
     pub fn grow(&mut self, key: RowKey) -> Result<(), AllocError>
         requires absent { length_at (sizes_of self.old) key ≤ place_of key }
@@ -200,6 +202,7 @@ impl OwnedTables {
     }
 
     /// How many places the table of the key has.
+    #[inline(always)]
     pub fn len_at(&self, key: RowKey) -> usize
         ensures { result ≡ length_at (sizes_of (row_tables_in self.now)) key }
     {
@@ -233,6 +236,7 @@ impl OwnedTables {
     }
 
     /// Makes the places in the table of the key, up to its own.
+    #[inline(always)]
     pub fn grow(&mut self, key: RowKey) -> Result<(), AllocError>
         requires absent { length_at (sizes_of (row_tables_in self.old)) key ≤ place_of key }
         requires near { place_of key < 2 ^ 62 }
@@ -260,6 +264,7 @@ impl OwnedTables {
 }
 
 /// The place of the key in its table.
+#[inline(always)]
 pub(crate) fn place_of(key: RowKey) -> usize
     ensures { result ≡ place_of key }
 {

@@ -69,6 +69,7 @@ impl Table {
     }
 
     /// Makes empty places until there are so many. More than 2^32 - 2 places are refused.
+    #[inline(always)]
     pub fn grow(&mut self, len: usize) -> Result<(), AllocError>
         requires { length self.old ≤ len }
         ensures cells { (n : ℕ) → cell self.new n ≡ cell self.old n }

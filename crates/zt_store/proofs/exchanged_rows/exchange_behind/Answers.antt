@@ -1,7 +1,7 @@
 use Rattle.std.proofs.Common.{◌∷◌, ◌++◌, [], length, ap, ◌∙◌, arith}
 use Rattle.zt_rows.specs.State.{row}
 use Rattle.zt_store.specs.ProofsOnly.KeptRows.{rows_of}
-use Rattle.zt_store.proofs.BareLaws.{rows_of-behind}
+use Rattle.zt_store.proofs.BareLaws.{rows_of-last}
 use Rattle.zt_store.proofs.FirstRowLaws.{length-firsts}
 use Rattle.zt_store.proofs.exchanged_rows.exchange_behind.Goals as goal
 
@@ -15,5 +15,5 @@ push_reserved-requires-2 c =
 
 pub returns-clause-behind : goal.returns-clause-behind
 returns-clause-behind c =
-    rows_of-behind _ _ _ _ _ _ _ c.firsts.invariant c.push_reserved.ensures.items c.push_reserved-2.ensures.items c.exchange.ensures.was
+    rows_of-last _ _ _ _ _ _ _ _ _ c.firsts.invariant c.push_reserved.ensures.items c.push_reserved-2.ensures.items (omega arith) c.exchange.ensures.was
     ∙ ap (λ f. rows_of f.rows ++ (c.args.key.now, row c.args.store.now.state c.args.key.now) ∷ []) c.firsts.view_is
