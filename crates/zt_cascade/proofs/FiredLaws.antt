@@ -134,6 +134,13 @@ module _ (B : State) where
         all = λ k u j more. elim j [ inl here ↦ let k_is : k ≡ n = ap (λ (z : ℕ × Wait). z.0) here in absurd (omega arith) | inr later ↦ s.all k u later more ];
       }
 
+  -- nothing fires where there is no wait
+  pub fires-nothing : (S : State) → ((n : ℕ) → wait S n ≡ None) → fold (fire B) S (waits S) ≡ S
+  fires-nothing S none = idle-fold (waits S) S (λ n w l. none-left (wait S n) (none n) (in-waits S n w l))
+    where
+      none-left : {A : Type 0} {v : Wait} (r : Option Wait) → r ≡ None → r ≡ Some v → A
+      none-left r p q = cc
+
   -- ---- by number
 
   -- each number is at least the one before it

@@ -13,13 +13,17 @@ use zt_ports::fire;
 use zt_store::Step;
 
 /// Fires the waits that are met, by rising number. The step began consistent, so that only those can be met that this
-/// step may have woken: no other wait is looked at. Refused, the step stands in the middle of it.
+/// step may have woken: no other wait is looked at, and nothing at all where there never was one. Refused, the step stands in the
+/// middle of it.
 pub(crate) fn fire_all(step: &mut Step) -> Result<(), AllocError>
     requires began { IsConsistent step.old.beginning }
     requires room { let S = step.old.current in FiresWithin step.old.beginning S (fold (fire step.old.beginning) S (waits S)) }
     ensures ahead { IsAhead step.old step.new }
     ensures ok { OnOk result (step.new.current ≡ fold (fire step.old.beginning) step.old.current (waits step.old.current)) }
 {
+    if !step.ever_had_waits() {
+        return Ok(());
+    }
     let list = step.take_numbers();
     let mut numbers = woken(step, list)?;
     numbers.sort_unstable();

@@ -14,14 +14,11 @@ use zt_rows::{HandleValue, Koid, ObjectRow, Row, RowKey};
 use zt_store::Step;
 
 /// The numbers of waits among which are all that are met, added to the list: of those that can have come to be met in this
-/// step. The step began consistent, so that none was met then. Where there never was a wait, nothing is looked at.
+/// step. The step began consistent, so that none was met then.
 pub(crate) fn woken(step: &Step, mut list: Vec<u64>) -> Result<Vec<u64>, AllocError>
     requires { IsConsistent step.now.beginning }
     ensures { IfOk result (λ list. HasMet step.now.beginning step.now.current list.items) }
 {
-    if !step.ever_had_waits() {
-        return Ok(list);
-    }
     for i in 0..usize::MAX {
         let Some(key) = step.touched(i) else {
             return Ok(list);

@@ -55,8 +55,8 @@ fn renew_near(step: &mut Step) -> Result<(), AllocError>
     ensures ok { OnOk result (step.new.current ≡ refresh step.old.current) }
 {
     // All are gathered before the first is renewed, since renewing puts rows.
-    let list = step.take_koids();
-    let near = near_touched(step, list)?;
+    let mut near = step.take_koids();
+    list_near(step, &mut near)?;
     for koid in &near {
         zt_signals::refresh(step, *koid)?;
     }
@@ -64,17 +64,17 @@ fn renew_near(step: &mut Step) -> Result<(), AllocError>
     Ok(())
 }
 
-/// The objects near the keys that were put in this step, added to the list. It differs from its beginning under these keys
+/// Adds to the list the objects near the keys that were put in this step. It differs from its beginning under these keys
 /// alone.
-fn near_touched(step: &Step, mut list: Vec<Koid>) -> Result<Vec<Koid>, AllocError>
-    ensures near { IfOk result (λ list. HasAllNear step.now list.items) }
+fn list_near(step: &Step, list: &mut Vec<Koid>) -> Result<(), AllocError>
+    ensures near { OnOk result (HasAllNear step.now list.new.items) }
     ensures differs { OnOk result (DiffersAtTouched step.now) }
 {
     for i in 0..usize::MAX {
         let Some(key) = step.touched(i) else {
-            return Ok(list);
+            return Ok(());
         };
-        add_near(step, key, step.touched_was(i), &mut list)?;
+        add_near(step, key, step.touched_was(i), list)?;
     }
     Err(AllocError)
 }

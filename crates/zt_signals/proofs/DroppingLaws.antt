@@ -7,7 +7,7 @@ use Rattle.zt_rows.specs.declared.keys.RowKey.TheVariants as key
 use Rattle.zt_rows.specs.declared.rows.Row.{Row}
 use Rattle.zt_rows.specs.declared.rows.Row.TheVariants as rows
 use Rattle.zt_rows.specs.declared.rows.Wait.{Wait}
-use Rattle.zt_rows.specs.Reads.{as_wait}
+use Rattle.zt_rows.specs.Reads.{as_wait, wait}
 use Rattle.zt_rows.specs.State.{State, row}
 use Rattle.zt_rows.proofs.ReadLaws.{some_one}
 use Rattle.zt_index.specs.Chains.{IsBehind, IsNext}
@@ -41,6 +41,10 @@ pub next-narrow : (narrow wide : Wait → Bool) → ((w : Wait) → wide w ≡ f
 next-narrow narrow wide less S low None h = λ n past. passes-narrow narrow wide less n (row S (key.Wait n)) (h.1 n (after-behind low n past) tt)
 next-narrow narrow wide less S low (Some n) h =
     (behind-after low n h.0.0, λ m past below. passes-narrow narrow wide less m (row S (key.Wait m)) (h.1 m (after-behind low m past) below))
+
+-- there is none where there is no wait
+pub next-none : (test : Wait → Bool) (S : State) (low : Option ℕ) → ((n : ℕ) → wait S n ≡ None) → IsNextPicked test S low None
+next-none test S low none = λ n past. passes-narrow test (λ w. true) (λ w e. cc) n (row S (key.Wait n)) (ap (λ o. option_map_or (λ (w : Wait). true) o false) (none n))
 
 pub same-kind : (test : Wait → Bool) (w : Wait) → test w ≡ false → test w ≡ false
 same-kind test w h = h

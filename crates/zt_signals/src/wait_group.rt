@@ -59,8 +59,22 @@ pub(crate) fn drop_picked(step: &mut Step, picked: WaitGroup) -> Result<bool, Al
     Ok(any)
 }
 
-/// The number of the next wait after the low one that may be picked, or of the first of all. It takes no memory.
+/// The number of the next wait after the low one that may be picked, or of the first of all. It takes no memory, and where there
+/// never was a wait nothing is looked for.
+#[inline(always)]
 fn next_picked(step: &Step, picked: &WaitGroup, low: Option<u64>) -> Option<u64>
+    ensures { IsNextPicked (picks picked.now) step.now.current low result }
+{
+    if step.ever_had_waits() {
+        find_picked(step, picked, low)
+    } else {
+        None
+    }
+}
+
+/// The same, where there may be one.
+#[inline(never)]
+fn find_picked(step: &Step, picked: &WaitGroup, low: Option<u64>) -> Option<u64>
     ensures { IsNextPicked (picks picked.now) step.now.current low result }
 {
     match *picked {

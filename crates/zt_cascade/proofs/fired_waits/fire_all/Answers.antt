@@ -6,7 +6,7 @@ use Rattle.zt_rows.specs.Settle.{fire}
 use Rattle.zt_cascade.specs.PacketRoom.{FiresWithin}
 use Rattle.zt_cascade.specs.ProofsOnly.RaisedWaits.{HasMet, fire_number}
 use Rattle.zt_cascade.proofs.ListLaws.{fold-all}
-use Rattle.zt_cascade.proofs.FiredLaws.{fired_by_number}
+use Rattle.zt_cascade.proofs.FiredLaws.{fired_by_number, fires-nothing}
 use Rattle.zt_cascade.proofs.FiringLaws.{room-numbers}
 use Rattle.zt_cascade.proofs.fired_waits.fire_all.Goals as goal
 
@@ -33,3 +33,6 @@ returns-clause-ok c =
     ∙ ap (fold (fire_number B) S) c.deref-number-items.ensures.value
     ∙ fired_by_number B S c.in_ok-numbers.numbers.items c.sort_unstable.new.self.items met c.sort_unstable.ensures.permutation
     (IsNonDecreasingBy-from_sort (λ x. x) c.sort_unstable.new.self.items c.sort_unstable.ensures.sorted)
+
+pub returns-then-not-ever_had_waits-clause-ok : goal.returns-then-not-ever_had_waits-clause-ok
+returns-then-not-ever_had_waits-clause-ok c = sym (fires-nothing c.args.step.now.beginning c.args.step.now.current (c.ever_had_waits.ensures.none c.if-not-ever_had_waits.true))

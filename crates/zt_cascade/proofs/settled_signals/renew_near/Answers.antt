@@ -15,5 +15,5 @@ returns-clause-ok c =
     ∙ c.loop-koid.invariant.current
     ∙ fold-all refreshed_object s.current c.deref-koid-items.result.now c.loop-koid.koid-index past
     ∙ ap (fold refreshed_object s.current) c.deref-koid-items.ensures.value
-    ∙ refresh-near s c.in_ok-near.near.items c.requires (subst DiffersAtTouched c.take_koids-list.ensures.same c.in_ok-near.ensures.differs)
-    (subst (λ t. HasAllNear t c.in_ok-near.near.items) c.take_koids-list.ensures.same c.in_ok-near.ensures.near)
+    ∙ refresh-near s c.list_near.new.list.items c.requires (subst DiffersAtTouched c.take_koids-near.ensures.same c.in_ok-list_near.ensures.differs)
+    (subst (λ t. HasAllNear t c.list_near.new.list.items) c.take_koids-near.ensures.same c.in_ok-list_near.ensures.near)

@@ -2,7 +2,7 @@ use Rattle.std.proofs.Common.{sym, ◌∙◌}
 use Rattle.zt_cascade.specs.ProofsOnly.NearObjects.{HasNear}
 use Rattle.zt_cascade.proofs.NearLaws.{near-longer}
 use Rattle.zt_cascade.proofs.TouchedLaws.{so_far-all, so_far-next}
-use Rattle.zt_cascade.proofs.settled_signals.near_touched.Goals as goal
+use Rattle.zt_cascade.proofs.settled_signals.list_near.Goals as goal
 
 pub loop-i-preserved : goal.loop-i-preserved
 loop-i-preserved c =
