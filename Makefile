@@ -1,49 +1,53 @@
-# make             proves and builds the programs, and leaves them as bin/zxtt, bin/zxtt-import and bin/zxtt-view
-# make test        the whole verdict: the gate, everything from nothing, and then what users meet of the programs that it built
-# make quick       runs the program on standard input before any proof
-# make try-cases   runs the worked runs before any proof, and says of each whether it went as told
-# make run         proves and builds the program, and runs it on standard input
-# make install     puts the programs, their pages, the completions of shells and the examples below $(PREFIX), with $(DESTDIR)
-#                  before it; PROGRAM=PATH installs that zxtt, with those of the others that lie beside it, and builds nothing
-# make uninstall   takes them away
-# make edits       tries the edits of crates/NAME/edits, each of which the prover has to refuse
-# make try-program tries what users meet of bin/zxtt: exit statuses, pages, what is installed, worked runs, questions, sockets,
-#                  large traces; and of bin/zxtt-import and bin/zxtt-view
-# make cases       proves and runs the worked runs alone, and says of each whether it went as told
-# make statuses    meets each exit status of the program once
-# make tutorial    replays README, the tutorial, FORMATS, the call pages and the examples, and says where the program prints
-#                  something else
-# make installed   installs the programs of bin/ in a folder of its own and tries what is there, completions and pages too
-# make look        asks twenty random traces each question of `zxtt look`, and compares the answers with those of a slow way
-# make import-test tries bin/zxtt-import on examples, on random, changed and hostile logs, and on one of 100,000 lines
-# make view-test   tries the page of bin/zxtt-view in headless Chromium, which it installs where it is not there; with PICTURES=1
-#                  it takes the pictures of docs/view anew
+# make               proves and builds the programs: bin/zxtt, bin/zxtt-view and bin/zxtt-import
+# make zxtt          proves and builds bin/zxtt alone; zxtt-view and zxtt-import likewise
+# make try           builds zxtt without its proofs and asks an example which call ended what; tools/try takes other words
+# make check         runs the worked cases, and most of the trials, on programs that are built without their proofs
+# make test          runs all tests: the gate, which proves everything from nothing, and then the trials on what it built
+# make install       builds the programs and installs them with their man pages, completions and examples below $(PREFIX), with
+#                    $(DESTDIR) in front of it; PROGRAM=PATH installs that zxtt and the programs beside it, and builds nothing
+# make uninstall     removes what make install put there
+# make run           builds bin/zxtt and runs it on standard input
+#
+# For work on zxtt itself; CONTRIBUTING.md says more of each:
+#
+# make edits         tries the edits of crates/NAME/edits, each of which the prover has to refuse
+# make try-program   runs the trials on the programs of bin/
+# make cases, make statuses, make tutorial, make installed, make front-door    run one of these trials
+# make look          asks twenty random traces each question of `zxtt look`, and compares the answers with a slow way's
+# make import-test   tries bin/zxtt-import on examples, on random, changed and hostile logs, and on one of 100,000 lines
+# make view-test     tries the page of bin/zxtt-view in headless Chromium, which it installs; PICTURES=1 takes docs/view anew
 # make wrong-bodies  puts bodies that no contract refuses into a copy, and says whether a trial tells each
-# make refusals    refuses each request for memory in turn, in the tests that are to pass whichever it is
-# make times       what each crate costs the gate, in processor seconds
-# make bench       how the cost of a call grows with the calls before it
+# make soak          has clients of serve and browsers of zxtt-view ask for MINUTES=60 as fast as they are answered
+# make refusals      fails each memory request in turn, in the tests that have to pass whichever fails
+# make times         prints what each crate costs the gate, in processor seconds
+# make bench         measures how the cost of a call grows with the calls before it
 PREFIX ?= /usr/local
 PROGRAM =
+MINUTES = 60
+# The programs to build, the one whose crates are proved first at the front.
+PROGRAMS = zxtt zxtt-view zxtt-import
 
-.PHONY: all test quick try-cases run install uninstall edits try-program cases statuses tutorial installed look import-test \
-	view-test wrong-bodies refusals times bench
+.PHONY: all kit $(PROGRAMS) try check test install uninstall run edits try-program cases statuses tutorial installed front-door \
+	look import-test view-test soak wrong-bodies refusals times bench
 
-all:
-	tools/build zxtt zxtt_import zxtt_view
-	mkdir -p bin && cp crates/zxtt/out/zxtt bin/zxtt && cp crates/zxtt_import/out/zxtt_import bin/zxtt-import
-	cp crates/zxtt_view/out/zxtt_view bin/zxtt-view
+all: kit
+	@tools/build $(PROGRAMS)
 
-test:
-	tools/test
+# Every target that proves or builds stands on this one.
+kit:
+	@tools/kit.py
 
-quick:
-	@cd crates/zxtt && rt try --steps 1
+$(PROGRAMS): kit
+	@tools/build $@
 
-try-cases:
-	tools/try-cases
+try: kit
+	@tools/try look examples/job-dies.trace events ended
 
-run: all
-	bin/zxtt
+check: kit
+	@tools/test --unproved
+
+test: kit
+	@tools/test
 
 install: $(if $(PROGRAM),,all)
 	tools/install "$(DESTDIR)$(PREFIX)" "$(or $(PROGRAM),bin/zxtt)"
@@ -51,17 +55,19 @@ install: $(if $(PROGRAM),,all)
 uninstall:
 	tools/install --away "$(DESTDIR)$(PREFIX)"
 
-edits:
+run: zxtt
+	bin/zxtt
+
+edits: kit
 	tools/edits
 
 try-program:
 	tools/test --program bin/zxtt
 
-cases:
-	cd crates/worked_runs && rt run </dev/null >/dev/null
-	cd crates/worked_runs/data && ../out/worked_runs
+cases: zxtt
+	tools/cases
 
-statuses: all
+statuses: zxtt
 	tools/statuses
 
 tutorial: all
@@ -70,24 +76,30 @@ tutorial: all
 installed: all
 	tools/installed
 
-look: all
+front-door: kit
+	tools/front-door
+
+look: zxtt
 	tools/look --whole
 
-import-test: all
+import-test: zxtt zxtt-import
 	tools/import-trials
 	tools/import-trials --large
 
 view-test: all
 	tools/view-browser $(if $(PICTURES),--pictures)
 
-wrong-bodies:
+soak: all
+	tools/soak --minutes $(MINUTES)
+
+wrong-bodies: kit
 	tools/wrong-bodies
 
-refusals:
+refusals: kit
 	tools/refuse-each-request
 
-times:
+times: kit
 	tools/times
 
-bench:
+bench: kit
 	tools/bench

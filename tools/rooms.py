@@ -1,29 +1,48 @@
-"""Crates side by side, for tools/build.
+"""Runs of rt side by side, for tools/build and tools/edits.
 
-rt lets one run at a time work in a crate and in what the crate stands on. So each run here gets a room, a repository of one
-crate and what it stands on alone, whose libraries are those of this repository, by hard links.
+rt lets one run at a time work in a crate and in the crates below it. So each run here gets a room: a repository of its own with
+that crate and the crates below it, whose libraries are hard links to the ones of this repository, or copies where links fail.
 """
-import fcntl, os, shutil, signal, subprocess, sys, time
+import fcntl, functools, hashlib, os, shutil, signal, subprocess, sys, tempfile, time
 
 TOP = os.path.dirname(os.path.dirname(os.path.abspath(__file__)))
-# Where the rooms are. rt looks at nothing below .git.
-ROOMS = f"{TOP}/.git/rooms"
-# The memory that one more run may take, in bytes.
+# The memory in bytes that has to be free before a second run starts.
 NEED = 4_000_000_000
 
 
+@functools.cache
+def cache():
+    """The user's cache folder for this repository: in $XDG_CACHE_HOME or ~/.cache, or in the temporary folder where that cannot be
+    written. The rooms stand there, outside the tree: rt refuses a crate below its own repository, and a source archive has no .git
+    to hide them in."""
+    name = hashlib.sha256(TOP.encode()).hexdigest()[:16]
+    for base in (os.environ.get("XDG_CACHE_HOME") or os.path.expanduser("~/.cache"), f"{tempfile.gettempdir()}/cache-{os.geteuid()}"):
+        try:
+            os.makedirs(f"{base}/zxtt/{name}", mode=0o700, exist_ok=True)
+        except OSError:
+            continue
+        if os.access(f"{base}/zxtt/{name}", os.W_OK):
+            return f"{base}/zxtt/{name}"
+    sys.exit(f"no cache folder can be written: set XDG_CACHE_HOME to one outside {TOP}")
+
+
+def room_of(name):
+    """The path of a crate's room."""
+    return f"{cache()}/rooms/{name}"
+
+
 def claim():
-    """Waits until no other run works in the rooms, and returns what keeps others out until it is closed. From then on what
-    runs is ended too where this run is."""
+    """Waits until no other run uses the rooms, and returns the lock, which is held until it is closed. From then on SIGTERM and
+    SIGHUP end this run as an exit does, so that what it started is ended too."""
     for ending in (signal.SIGTERM, signal.SIGHUP):
         signal.signal(ending, lambda *_: sys.exit(1))
-    held = open(f"{TOP}/.git/rooms.lock", "w")
+    held = open(f"{cache()}/rooms.lock", "w")
     fcntl.flock(held, fcntl.LOCK_EX)
     return held
 
 
 def graph():
-    """What each crate of crates.txt stands on, of this repository."""
+    """The crates of crates.txt, each with those of this repository that it uses."""
     found = {}
     with open(f"{TOP}/crates.txt") as lines:
         for line in lines:
@@ -34,7 +53,7 @@ def graph():
 
 
 def below(names, on):
-    """The named crates and all that they stand on, lowest first."""
+    """The named crates and all that they use, lowest first."""
     found = []
     for name in names:
         if name not in on:
@@ -64,9 +83,17 @@ def available():
         return next(1024 * int(it.split()[1]) for it in lines if it.startswith("MemAvailable:"))
 
 
+def link_or_copy(one, other):
+    """Gives a file a second name, or copies it where that fails, as between two file systems."""
+    try:
+        os.link(one, other)
+    except OSError:
+        shutil.copy2(one, other)
+
+
 def enter(name, on):
-    """Makes the room of a crate that stands on these others, and returns the room. The crate has no folder out/ there."""
-    room = f"{ROOMS}/{name}"
+    """Makes the room of a crate that uses these others, and returns its path. The crate has no folder out/ there."""
+    room = room_of(name)
     shutil.rmtree(room, ignore_errors=True)
     os.makedirs(f"{room}/crates")
     shutil.copy(f"{TOP}/HANDLES", room)
@@ -76,30 +103,40 @@ def enter(name, on):
     for crate in (name, *on):
         shutil.copytree(f"{TOP}/crates/{crate}", f"{room}/crates/{crate}", ignore=leave_out)
     for crate in on:
-        shutil.copytree(f"{TOP}/crates/{crate}/out/rlib", f"{room}/crates/{crate}/out/rlib", copy_function=os.link)
+        shutil.copytree(f"{TOP}/crates/{crate}/out/rlib", f"{room}/crates/{crate}/out/rlib", copy_function=link_or_copy)
     return room
 
 
 def leave(name):
-    shutil.rmtree(f"{ROOMS}/{name}", ignore_errors=True)
+    shutil.rmtree(room_of(name), ignore_errors=True)
 
 
 def start(words, folder, log):
-    """Starts a command whose output goes to a file."""
+    """Starts a command in a process group of its own, with its output in a file."""
     with open(log, "w") as said:
         how = {"cwd": folder, "stdin": subprocess.DEVNULL, "stdout": said, "stderr": subprocess.STDOUT}
         return subprocess.Popen(words, start_new_session=True, **how)
 
 
+def end_group(process):
+    """Kills a command that `start` started, with all that it started itself."""
+    try:
+        os.killpg(process.pid, signal.SIGKILL)
+    except ProcessLookupError:
+        pass
+    process.wait()
+
+
 class SideBySide:
     """Runs of commands, one for each of some names, as many at once as there are lanes and memory allows.
 
-    `begin(name, lanes)` starts the run of a name, which may use so many processors, and returns its process; `end(name,
-    status)` is called once it has ended, and says whether to go on. A name waits for those that `waits[name]` has."""
+    `begin(name, lanes)` starts the run of a name, which may use so many processors, and returns its process; `poll(name,
+    process)` gives its status once it has ended; `end(name, status)` is called then, and says whether it went well. A name waits
+    for those of `waits[name]`, and is left out where one of them did not go well."""
 
-    def __init__(self, names, waits, lanes, begin, end):
-        self.left, self.waits, self.lanes, self.begin, self.end = [*names], waits, lanes, begin, end
-        self.running, self.done = {}, []
+    def __init__(self, names, waits, lanes, begin, end, poll=lambda _name, process: process.poll()):
+        self.left, self.waits, self.lanes, self.begin, self.end, self.poll = [*names], waits, lanes, begin, end, poll
+        self.running, self.done, self.lost = {}, [], []
 
     def start(self):
         """Starts what can start now, in the order of the names. The first gets the lanes that no other one waits for."""
@@ -113,31 +150,31 @@ class SideBySide:
             self.running[name] = self.begin(name, lanes), lanes
 
     def finish(self):
-        """Takes in what has ended, and says whether to go on."""
+        """Takes in the runs that have ended, and leaves out what waits for one that did not go well."""
         for name, (process, _) in [*self.running.items()]:
-            if process.poll() is not None:
+            status = self.poll(name, process)
+            if status is not None:
                 del self.running[name]
-                self.done.append(name)
-                if not self.end(name, process.returncode):
-                    return False
-        return True
+                (self.done if self.end(name, status) else self.lost).append(name)
+        for name in self.left[:]:
+            if any(on in self.lost for on in self.waits[name]):
+                self.left.remove(name)
+                self.lost.append(name)
 
     def stop(self):
-        """Ends what runs, and returns its names."""
+        """Ends the runs that have not ended, and returns their names."""
         for process, _ in self.running.values():
-            os.killpg(process.pid, signal.SIGKILL)
-            process.wait()
+            end_group(process)
         return [*self.running]
 
     def run(self):
-        """Runs all, and says whether all went on to its end. Nothing runs any more then."""
+        """Runs all, and returns the names that did not go well or were left out. Nothing runs any more then."""
         try:
             while self.left or self.running:
                 self.start()
                 time.sleep(0.1)
-                if not self.finish():
-                    return False
-            return True
+                self.finish()
+            return self.lost
         finally:
             for name in self.stop():
                 leave(name)
