@@ -7,6 +7,8 @@ use zt_rows::Refusal;
 pub enum FileFault {
     /// The file could not be opened.
     Unopened { path: String, error: io::Error },
+    /// A write failed in the midst of a file. The whole text lies in the file `part`.
+    Unwritten { part: String },
     /// A read or a write failed, or memory was refused.
     Refused(Refusal),
 }

@@ -32,6 +32,11 @@ pub enum Fault {
         path: String,
         error: io::Error,
     },
+    /// A write failed in the midst of a file that had to be written through. The whole text lies in the file `part`.
+    #[error("zxtt: {}\nzxtt: what was to be saved lies whole in {part}", RefusalLine(Refusal::WriteFault))]
+    Unwritten {
+        part: String,
+    },
     /// The port could not be listened on, or a connection could not be accepted.
     #[error("zxtt: {0}")]
     Unconnected(io::Error),
@@ -61,6 +66,7 @@ impl Fault {
     {
         match fault {
             FileFault::Unopened { path, error } => Fault::Unopened { path, error },
+            FileFault::Unwritten { part } => Fault::Unwritten { part },
             FileFault::Refused(refusal) => Fault::Refused(refusal),
         }
     }
@@ -72,6 +78,7 @@ impl Fault {
         match self {
             Fault::Words(_) | Fault::Unread(_) | Fault::Unasked(_) => 2,
             Fault::Unopened { .. } | Fault::Unconnected(_) => 3,
+            Fault::Unwritten { .. } => 5,
             Fault::Refused(refusal) => stopped_status(*refusal),
             Fault::Trace { .. } => 6,
         }

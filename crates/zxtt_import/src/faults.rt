@@ -25,6 +25,9 @@ pub enum Fault {
     /// The trace could not be written.
     #[error("zxtt-import: the trace cannot be written")]
     Write,
+    /// A write failed in the midst of a trace that had to be written through. The whole trace lies in the file `part`.
+    #[error("zxtt-import: the trace cannot be written\nzxtt-import: it lies whole in {part}")]
+    Unwritten { part: String },
     /// The log is not taken.
     #[error("zxtt-import: {0}")]
     Log(LogFault),
@@ -53,7 +56,7 @@ impl Fault {
             Fault::Words(_) | Fault::Unread(_) => 2,
             Fault::Unopened { .. } => 3,
             Fault::Read => 4,
-            Fault::Write => 5,
+            Fault::Write | Fault::Unwritten { .. } => 5,
             Fault::Log(_) | Fault::OutOfMemory => 6,
             Fault::Differs => 7,
         }
@@ -70,6 +73,7 @@ impl From<FileFault> for Fault {
     fn from(fault: FileFault) -> Fault {
         match fault {
             FileFault::Unopened { path, error } => Fault::Unopened { path, error },
+            FileFault::Unwritten { part } => Fault::Unwritten { part },
             FileFault::Refused(Refusal::ReadFault) => Fault::Read,
             FileFault::Refused(Refusal::WriteFault) => Fault::Write,
             FileFault::Refused(_) => Fault::OutOfMemory,

@@ -18,6 +18,9 @@ pub enum Fault {
     /// A file could not be opened.
     #[error("zxtt-view: {path}: {error}")]
     Unopened { path: String, error: io::Error },
+    /// A write failed in the midst of a file that had to be written through. The whole text lies in the file `part`.
+    #[error("zxtt-view: {}\nzxtt-view: what was to be saved lies whole in {part}", RefusalLine(Refusal::WriteFault))]
+    Unwritten { part: String },
     /// The port could not be listened on, or the sockets could not be waited for.
     #[error("zxtt-view: {0}")]
     Unconnected(io::Error),
@@ -41,7 +44,7 @@ impl Fault {
             Fault::Words(_) | Fault::Unread(_) => 2,
             Fault::Unopened { .. } | Fault::Unconnected(_) => 3,
             Fault::Refused(Refusal::ReadFault) => 4,
-            Fault::Refused(Refusal::WriteFault) => 5,
+            Fault::Refused(Refusal::WriteFault) | Fault::Unwritten { .. } => 5,
             Fault::Refused(_) | Fault::Trace { .. } => 6,
         }
     }
@@ -57,6 +60,7 @@ impl From<FileFault> for Fault {
     fn from(fault: FileFault) -> Fault {
         match fault {
             FileFault::Unopened { path, error } => Fault::Unopened { path, error },
+            FileFault::Unwritten { part } => Fault::Unwritten { part },
             FileFault::Refused(refusal) => Fault::Refused(refusal),
         }
     }
