@@ -66,6 +66,36 @@ def other_origins(view):
         expect(f'own origin {origin!r}', 200, answer and answer.status)
 
 
+def other_sites(view):
+    """A request that a browser makes for a page of another site, as for its pictures, is refused, and one of a person is answered."""
+    place = view.place
+    for site in ('cross-site', 'same-site', '', 'same-origin, none', 'SAME-ORIGIN', 'none ;', 'same-origin-x', 'null'):
+        refused_whatever_is_asked(view, place, [f'Sec-Fetch-Site: {site}'], f'of site {site!r}')
+    for two in (['same-origin', 'cross-site'], ['cross-site', 'same-origin'], ['none', 'none']):
+        refused_whatever_is_asked(view, place, [f'Sec-Fetch-Site: {site}' for site in two], f'of sites {two}')
+    for site in ('same-origin', 'none'):
+        answer = Answers(view.send(request('GET', '/branches', place, [f'Sec-Fetch-Site: {site}']))).next()
+        expect(f'own site {site!r}', 200, answer and answer.status)
+
+
+GUARDS = {
+    'cache-control': 'no-store', 'content-security-policy': "default-src 'self'; frame-ancestors 'none'",
+    'x-content-type-options': 'nosniff', 'cross-origin-resource-policy': 'same-origin',
+}
+
+
+def every_answer_is_guarded(view):
+    """Answers and refusals have the headers that keep other sites from reading or framing them."""
+    asked = [request('GET', path, view.place) for path in ('/', '/style.css', '/script.js', '/tree', '/branches', '/change/1')]
+    asked += [request('GET', path, view.place) for path in ('/nothing', '/change/99', '/events/99', '/lines')]
+    asked += [request('POST', '/lines', view.place, body=b'back 0\n'), request('GET', '/tree', 'example.org')]
+    asked += [request('GET', '/tree', view.place, ['Origin: null']), request('GET', '/tree', view.place, ['Sec-Fetch-Site: cross-site'])]
+    for one in asked:
+        answer = Answers(view.send(one)).next()
+        for name, value in GUARDS.items():
+            expect(f'{name} of {one[:40]!r}', value, answer.headers.get(name))
+
+
 def targets_of_another_host(view):
     """Where the target has a host, it is the host that is asked for, whatever stands in the header."""
     for target in ('http://example.org/tree', f'http://example.org:{view.port}/tree', f'http://127.0.0.1:{view.port + 1}/tree',
@@ -227,7 +257,7 @@ def upgrades_that_are_asked_for(view):
 
 
 HOSTILE = [
-    other_hosts, other_origins, targets_of_another_host, other_methods, other_paths, bodies_that_are_too_long,
+    other_hosts, other_origins, other_sites, every_answer_is_guarded, targets_of_another_host, other_methods, other_paths, bodies_that_are_too_long,
     requests_that_are_none, headers_that_are_too_long, clients_that_go_away, clients_that_say_nothing,
     more_clients_than_there_is_room_for, clients_that_do_not_read, upgrades_that_are_asked_for,
 ]

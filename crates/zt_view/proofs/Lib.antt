@@ -1,3 +1,4 @@
 pub mod CutLaws
 pub mod QueryLaws
 pub mod AnswerLaws
+pub mod HeaderLaws

@@ -17,15 +17,15 @@ use Rattle.zt_view.specs.declared.view.View.{View}
 use Rattle.zt_view.specs.Guard.{IsAdmitted}
 use Rattle.zt_view.specs.Questions.{IsFound}
 use Rattle.zt_view.specs.Requests.{wish}
-use Rattle.zt_view.specs.Responses.{IsFailure, IsRefusal, Tells, TellsFound}
+use Rattle.zt_view.specs.Responses.{HasStatus, IsFailure, IsGuarded, IsRefusal, Tells, TellsFound}
 
 -- the view holds this book, and all else is as before
 abbrev pub Holds : Option BookView → View → View → Type 0
-Holds book old new = (new.book ≡ book) × (new.own ≡ old.own) × (new.is_ended ≡ old.is_ended)
+Holds book old new = (new.book ≡ book) × (new.own ≡ old.own) × (new.start ≡ old.start) × (new.is_ended ≡ old.is_ended)
 
 -- the request is refused, and nothing is changed
 abbrev pub Refuses : View → Response → View → Type 0
-Refuses old response new = IsRefusal response × Holds old.book old new
+Refuses old response new = IsRefusal old.start.bytes response × Holds old.book old new
 
 -- the view holds a book that stands as this one, and all else is as before
 abbrev pub Stands : BookView → View → View → Type 0
@@ -47,13 +47,14 @@ IsPartOfTalk from to lines =
     (written : List ℕ) × (done : Bool) × HasTalked AsksExplored from to (Some lines) (Some []) (Some written) done
 
 -- the body is all that is written for the lines; or some first ones were answered, and the server has failed
-abbrev pub TellsTalk : BookView → BookView → List ℕ → Response → Type 0
-TellsTalk from to lines response =
-    ((response.status ≡ 200) × IsTalk from to lines response.body.items) ⊎ (IsFailure response × IsPartOfTalk from to lines)
+abbrev pub TellsTalk : List ℕ → BookView → BookView → List ℕ → Response → Type 0
+TellsTalk start from to lines response =
+    ((response.status ≡ 200) × IsTalk from to lines response.body.items × IsGuarded start response)
+    ⊎ (IsFailure response × IsPartOfTalk from to lines)
 
 abbrev pub AnswersLines : View → List ℕ → Response → View → Type 0
 AnswersLines old lines response new =
-    ((from : BookView) × (to : BookView) × (old.book ≡ Some from) × Holds (Some to) old new × TellsTalk from to lines response)
+    ((from : BookView) × (to : BookView) × (old.book ≡ Some from) × Holds (Some to) old new × TellsTalk old.start.bytes from to lines response)
     ⊎ LacksBook old response new
 
 -- ---- the tree, and questions about it
@@ -61,28 +62,28 @@ AnswersLines old lines response new =
 abbrev pub AnswersTree : Option BookView → View → Response → View → Type 0
 AnswersTree None old response new = Refuses old response new
 AnswersTree (Some book) old response new =
-    Tells 200 (saved_text (saved_of_session book.session)) response × Holds old.book old new
+    Tells old.start.bytes 200 (saved_text (saved_of_session book.session)) response × Holds old.book old new
 
 -- what is found of the question, or why nothing is, is told
-abbrev pub TellsOf : ViewQuestion → BookView → Response → Type 0
-TellsOf question book response =
-    (found : Result (List ℕ) Refusal) × IsFound question book.session.tree found × TellsFound found response
+abbrev pub TellsOf : List ℕ → ViewQuestion → BookView → Response → Type 0
+TellsOf start question book response =
+    (found : Result (List ℕ) Refusal) × IsFound question book.session.tree found × TellsFound start found response
 
 abbrev pub AnswersQuestion : ViewQuestion → View → Response → View → Type 0
 AnswersQuestion question old response new =
-    ((book : BookView) × (old.book ≡ Some book) × TellsOf question book response × Stands book old new)
+    ((book : BookView) × (old.book ≡ Some book) × TellsOf old.start.bytes question book response × Stands book old new)
     ⊎ LacksBook old response new
 
 -- ---- all requests
 
 -- what is asked for is answered, or its lack is told
 abbrev pub AnswersWish : Result ViewRequest ℕ → View → List ℕ → Response → View → Type 0
-AnswersWish (Ok (asked.Page _)) old body response new = ((response.status ≡ 200) ⊎ IsFailure response) × Holds old.book old new
+AnswersWish (Ok (asked.Page _)) old body response new = HasStatus old.start.bytes 200 response × Holds old.book old new
 AnswersWish (Ok asked.Lines) old body response new = AnswersLines old body response new
 AnswersWish (Ok asked.Tree) old body response new = AnswersTree old.book old response new
 AnswersWish (Ok (asked.Answer question)) old body response new = AnswersQuestion question old response new
 AnswersWish (Ok asked.End) old body response new =
-    ((response.status ≡ 200) ⊎ IsFailure response) × (new.book ≡ old.book) × (new.own ≡ old.own) × (new.is_ended ≡ true)
+    HasStatus old.start.bytes 200 response × (new.book ≡ old.book) × (new.own ≡ old.own) × (new.start ≡ old.start) × (new.is_ended ≡ true)
 AnswersWish (Err status) old body response new = Refuses old response new
 
 -- what a request asks for

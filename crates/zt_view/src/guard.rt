@@ -1,9 +1,9 @@
 //! Which requests are let in: those alone that a page of this server, or a person's own program, sends to it by its own
 //! name. So no page from elsewhere can talk to it, whatever name it has made a browser resolve to this machine.
 
-ghost use Rattle.std.specs.Prelude.{◌≡◌, ◌≤◌, ◌↔◌, ◌++◌, ◌⊎◌, All, IfErr, IfOk, IsTrue, OnErr, OnOk, codes, string_bytes};
-ghost use Rattle.std.specs.Fmt.{decimal};
+ghost use Rattle.std.specs.Prelude.{◌≤◌, ◌↔◌, All, IfErr, IfOk, IsTrue, OnErr, OnOk, codes};
 ghost use Rattle.http_header.specs.HeaderMap.{get_all};
+ghost use Rattle.zt_view.specs.Guard.{IsAskedOnSite, IsOwnSite};
 
 use http::{HeaderMap, HeaderValue, StatusCode, Uri, header};
 use std::alloc::{AllocError, Global};
@@ -13,19 +13,24 @@ use std::alloc::{AllocError, Global};
 pub struct Own {
     pub address: String,
     pub name: String,
+    /// Whether the port is that of HTTP, which browsers leave out of both.
+    pub is_port_left_out: bool,
 }
 
+/// The port of HTTP.
+const HTTP: u16 = 80;
+
 impl Own {
-    ghost use Rattle.zt_view.specs.Guard.{IsAdmitted, IsAskedOf, IsOwnHost, IsOwnOrigin};
+    ghost use Rattle.zt_view.specs.Guard.{IsAdmitted, IsAskedOf, IsOwnHost, IsOwnOf, IsOwnOrigin};
 
     /// What a server at this port is called.
     pub fn new(alloc: Global, port: u16) -> Result<Own, AllocError>
-        ensures address { IfOk result (λ own. string_bytes own.address ≡ codes "127.0.0.1:" ++ decimal port) }
-        ensures name { IfOk result (λ own. string_bytes own.name ≡ codes "localhost:" ++ decimal port) }
+        ensures { IfOk result (IsOwnOf port) }
     {
         Ok(Own {
             address: format!(in alloc; "127.0.0.1:{port}")?,
             name: format!(in alloc; "localhost:{port}")?,
+            is_port_left_out: port == HTTP,
         })
     }
 
@@ -41,7 +46,7 @@ impl Own {
         if !self.is_asked(headers) {
             return Err(StatusCode::MISDIRECTED_REQUEST);
         }
-        if self.is_asked_from_here(headers) {
+        if self.is_asked_from_here(headers) && is_asked_on_site(headers) {
             Ok(())
         } else {
             Err(StatusCode::FORBIDDEN)
@@ -84,11 +89,36 @@ impl Own {
         }
     }
 
-    /// Whether this is the server's address or name with its port.
+    /// Whether this is the server's address or name, with its port where browsers do not leave it out.
     fn is_host(&self, host: &[u8]) -> bool
         ensures { IsTrue result ↔ IsOwnHost self.now host.now }
     {
         host.eq_ignore_ascii_case(self.address.as_bytes())
             || host.eq_ignore_ascii_case(self.name.as_bytes())
+            || self.is_port_left_out
+                && (host.eq_ignore_ascii_case(b"127.0.0.1")
+                    || host.eq_ignore_ascii_case(b"localhost"))
     }
+}
+
+/// Whether no browser says that a page of another site asks: there is no such header, or there is one and it says that a page of
+/// this server or a person does.
+fn is_asked_on_site(headers: &HeaderMap) -> bool
+    ensures { IsTrue result ↔ IsAskedOnSite (get_all headers.now (codes "sec-fetch-site")) }
+{
+    let mut sites = headers.get_all("sec-fetch-site").iter();
+    match sites.next() {
+        None => true,
+        Some(site) => match sites.next() {
+            None => is_own_site(site.as_bytes()),
+            Some(_) => false,
+        },
+    }
+}
+
+/// Whether a browser says so of a page of the server, or of a person.
+fn is_own_site(site: &[u8]) -> bool
+    ensures { IsTrue result ↔ IsOwnSite site.now }
+{
+    site == b"same-origin".as_slice() || site == b"none".as_slice()
 }

@@ -1,9 +1,11 @@
 //! Responses that are filled.
 
-ghost use Rattle.std.specs.Prelude.{◌≡◌, ◌≤◌, ◌++◌, Err, IfErr, IfOk, Ok, OnErr, OnOk};
-ghost use Rattle.http_server.specs.Response.{IsBlank};
+ghost use Rattle.std.specs.Prelude.{◌≡◌, ◌≤◌, ◌++◌, ◌∷◌, [], Err, IfErr, IfOk, IsTrue, Ok, OnErr, OnOk};
+ghost use Rattle.http_header.specs.FieldName.{is_header_name};
+ghost use Rattle.http_header.specs.FieldValue.{is_visible_text};
+ghost use Rattle.http_server.specs.Response.{IsBlank, fields_of};
 ghost use Rattle.zt_text.specs.Answers.{shown_refusal};
-ghost use Rattle.zt_view.specs.Responses.{IsFailure, IsRefusal, Tells, TellsFound};
+ghost use Rattle.zt_view.specs.Responses.{IsFailure, IsGuarded, IsRefusal, Tells, TellsFound, guards};
 
 use bytes::Bytes;
 use http::{HeaderName, HeaderValue, StatusCode, header};
@@ -33,12 +35,18 @@ impl Content {
     }
 }
 
-/// Fills a blank response; where there is no memory for it, it is a failure of the server, with no body.
-pub fn fill(response: &mut Response, status: StatusCode, content: Content, body: Bytes)
+/// Fills a blank response of the server that has this start; where an allocation fails it is a failure of the server, with no body.
+pub fn fill(
+    response: &mut Response,
+    start: &HeaderValue,
+    status: StatusCode,
+    content: Content,
+    body: Bytes,
+)
     requires { IsBlank response.old }
-    ensures { Tells status body response.new }
+    ensures { Tells start.now.bytes status body response.new }
 {
-    match put(response, content, body) {
+    match put(response, start, content, body) {
         Ok(()) => response.status = status,
         Err(_) => fail(response),
     }
@@ -53,38 +61,80 @@ fn fail(response: &mut Response)
 }
 
 /// Puts headers and body.
-fn put(response: &mut Response, content: Content, body: Bytes) -> Result<(), AllocError>
-    ensures { OnOk result (response.new.body.items ≡ response.old.body.items ++ body) }
+fn put(
+    response: &mut Response,
+    start: &HeaderValue,
+    content: Content,
+    body: Bytes,
+) -> Result<(), AllocError>
+    requires { fields_of response.old ≡ [] }
+    ensures body { OnOk result (response.new.body.items ≡ response.old.body.items ++ body) }
+    ensures guarded { OnOk result (IsGuarded start.now.bytes response.new) }
 {
-    put_headers(response, content)?;
+    put_headers(response, start, content)?;
     response.body.push(body)
 }
 
 /// Puts the headers.
-fn put_headers(response: &mut Response, content: Content) -> Result<(), AllocError>
-    ensures { response.new.body ≡ response.old.body }
+fn put_headers(
+    response: &mut Response,
+    start: &HeaderValue,
+    content: Content,
+) -> Result<(), AllocError>
+    requires { fields_of response.old ≡ [] }
+    ensures body { response.new.body ≡ response.old.body }
+    ensures guarded { OnOk result (IsGuarded start.now.bytes response.new) }
 {
     response.add_header(header::CONTENT_TYPE, content.value())?;
-    response.add_header(header::CACHE_CONTROL, HeaderValue::from_static("no-store"))?;
-    response.add_header(
-        header::CONTENT_SECURITY_POLICY,
-        HeaderValue::from_static("default-src 'self'; frame-ancestors 'none'"),
+    add(response, "zxtt-start", start.clone()?)?;
+    put_guards(response)?;
+    Ok(())
+}
+
+/// Puts the headers that every response has.
+fn put_guards(response: &mut Response) -> Result<(), AllocError>
+    ensures body { response.new.body ≡ response.old.body }
+    ensures headers { OnOk result (fields_of response.new ≡ fields_of response.old ++ guards) }
+{
+    add_text(response, "cache-control", "no-store")?;
+    add_text(
+        response,
+        "content-security-policy",
+        "default-src 'self'; frame-ancestors 'none'",
     )?;
-    response.add_header(
-        header::X_CONTENT_TYPE_OPTIONS,
-        HeaderValue::from_static("nosniff"),
-    )?;
-    response.add_header(
-        HeaderName::from_static("cross-origin-resource-policy"),
-        HeaderValue::from_static("same-origin"),
-    )
+    add_text(response, "x-content-type-options", "nosniff")?;
+    add_text(response, "cross-origin-resource-policy", "same-origin")?;
+    Ok(())
+}
+
+/// Puts a header of this value.
+fn add_text(
+    response: &mut Response,
+    name: &'static str,
+    value: &'static str,
+) -> Result<(), AllocError>
+    requires name { IsTrue (is_header_name name.now) }
+    requires value { IsTrue (is_visible_text value.now) }
+    ensures body { response.new.body ≡ response.old.body }
+    ensures headers { OnOk result (fields_of response.new ≡ fields_of response.old ++ (name.now, value.now) ∷ []) }
+{
+    add(response, name, HeaderValue::from_static(value))
+}
+
+/// Puts a header.
+fn add(response: &mut Response, name: &'static str, value: HeaderValue) -> Result<(), AllocError>
+    requires { IsTrue (is_header_name name.now) }
+    ensures body { response.new.body ≡ response.old.body }
+    ensures headers { OnOk result (fields_of response.new ≡ fields_of response.old ++ (name.now, value.bytes) ∷ []) }
+{
+    response.add_header(HeaderName::from_static(name), value)
 }
 
 /// Fills a blank response with a refusal of the request.
-pub fn refuse(response: &mut Response, status: StatusCode)
+pub fn refuse(response: &mut Response, start: &HeaderValue, status: StatusCode)
     requires blank { IsBlank response.old }
     requires status { 400 ≤ status }
-    ensures { IsRefusal response.new }
+    ensures { IsRefusal start.now.bytes response.new }
 {
     let text = match status.canonical_reason() {
         Some(reason) => reason,
@@ -92,6 +142,7 @@ pub fn refuse(response: &mut Response, status: StatusCode)
     };
     fill(
         response,
+        start,
         status,
         Content::Plain,
         Bytes::from_static(text.as_bytes()),
@@ -99,48 +150,72 @@ pub fn refuse(response: &mut Response, status: StatusCode)
 }
 
 /// Fills a blank response with a text, where there is memory for it.
-fn fill_text(response: &mut Response, status: StatusCode, text: Vec<u8>)
+fn fill_text(response: &mut Response, start: &HeaderValue, status: StatusCode, text: Vec<u8>)
     requires { IsBlank response.old }
-    ensures { Tells status text.items response.new }
+    ensures { Tells start.now.bytes status text.items response.new }
 {
     match Bytes::from_vec(text) {
-        Ok(body) => fill(response, status, Content::Plain, body),
+        Ok(body) => fill(response, start, status, Content::Plain, body),
         Err(_) => fail(response),
     }
 }
 
 /// Fills a blank response with what is found, or with the line of what refused it.
-pub fn fill_found(alloc: Global, response: &mut Response, found: Result<Vec<u8>, Refusal>)
+pub fn fill_found(
+    alloc: Global,
+    response: &mut Response,
+    start: &HeaderValue,
+    found: Result<Vec<u8>, Refusal>,
+)
     requires { IsBlank response.old }
-    ensures found { IfOk found (λ text. TellsFound (Ok text.items) response.new) }
-    ensures refused { IfErr found (λ reason. TellsFound (Err reason) response.new) }
+    ensures found { IfOk found (λ text. TellsFound start.now.bytes (Ok text.items) response.new) }
+    ensures refused { IfErr found (λ reason. TellsFound start.now.bytes (Err reason) response.new) }
 {
     match found {
-        Ok(text) => fill_text(response, StatusCode::OK, text),
+        Ok(text) => fill_text(response, start, StatusCode::OK, text),
         Err(Refusal::OutOfMemory) => fail(response),
-        Err(refusal) => fill_refusal(alloc, response, StatusCode::NOT_FOUND, refusal),
+        Err(refusal) => fill_refusal(alloc, response, start, StatusCode::NOT_FOUND, refusal),
     }
 }
 
 /// Fills a blank response with what lines are answered, or with the line of what stopped that.
-pub fn fill_talk(alloc: Global, response: &mut Response, told: Result<Vec<u8>, Refusal>)
+pub fn fill_talk(
+    alloc: Global,
+    response: &mut Response,
+    start: &HeaderValue,
+    told: Result<Vec<u8>, Refusal>,
+)
     requires { IsBlank response.old }
-    ensures told { IfOk told (λ text. Tells 200 text.items response.new) }
+    ensures told { IfOk told (λ text. Tells start.now.bytes 200 text.items response.new) }
     ensures stopped { OnErr told (IsFailure response.new) }
 {
     match told {
-        Ok(text) => fill_text(response, StatusCode::OK, text),
-        Err(refusal) => fill_refusal(alloc, response, StatusCode::INTERNAL_SERVER_ERROR, refusal),
+        Ok(text) => fill_text(response, start, StatusCode::OK, text),
+        Err(refusal) => {
+            fill_refusal(
+                alloc,
+                response,
+                start,
+                StatusCode::INTERNAL_SERVER_ERROR,
+                refusal,
+            )
+        }
     }
 }
 
 /// Fills a blank response with the line of a refusal.
-fn fill_refusal(alloc: Global, response: &mut Response, status: StatusCode, refusal: Refusal)
+fn fill_refusal(
+    alloc: Global,
+    response: &mut Response,
+    start: &HeaderValue,
+    status: StatusCode,
+    refusal: Refusal,
+)
     requires { IsBlank response.old }
-    ensures { Tells status (shown_refusal refusal) response.new }
+    ensures { Tells start.now.bytes status (shown_refusal refusal) response.new }
 {
     match print_refusal(alloc, refusal) {
-        Ok(text) => fill_text(response, status, text),
+        Ok(text) => fill_text(response, start, status, text),
         Err(_) => fail(response),
     }
 }

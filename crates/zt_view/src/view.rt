@@ -9,7 +9,7 @@ use crate::requests::{ViewRequest, wish};
 use crate::responses::{Content, fill, fill_found, fill_talk, refuse};
 use crate::talk::talk;
 use bytes::Bytes;
-use http::{Request, StatusCode};
+use http::{HeaderValue, Request, StatusCode};
 use http_server::{Response, Service};
 use std::alloc::{AllocError, Global};
 use zt_console::{Book, tree_text};
@@ -19,6 +19,8 @@ use zt_console::{Book, tree_text};
 pub struct View {
     pub alloc: Global,
     pub own: Own,
+    /// What tells this start of the program from others, in a header of each response.
+    pub start: HeaderValue,
     /// The history; it is elsewhere only while lines are answered.
     pub book: Option<Book>,
     /// Whether it was asked to end.
@@ -30,16 +32,22 @@ impl View {
     ghost use Rattle.zt_view.specs.Answers.{AnswersWish, AnswersLines, AnswersQuestion, AnswersTree, IsAnswered, wish_of};
     ghost use Rattle.zt_view.specs.declared.requests.ViewRequest.TheVariants as asked;
     ghost use Rattle.http.specs.Request.{body_of};
+    ghost use Rattle.std.specs.Fmt.{decimal};
+    ghost use Rattle.http_header.specs.FieldValue.{plain_value};
+    ghost use Rattle.zt_view.specs.Guard.{IsOwnOf};
 
-    /// A book of a client or more that is viewed at a port.
-    pub fn new(alloc: Global, port: u16, book: Book) -> Result<View, AllocError>
+    /// A book of a client or more that is viewed at a port, by the start of the program that has this number.
+    pub fn new(alloc: Global, port: u16, start: u64, book: Book) -> Result<View, AllocError>
         requires { 1 ≤ length book.session.clients }
+        ensures own { IfOk result (λ view. IsOwnOf port view.own) }
+        ensures start { IfOk result (λ view. view.start ≡ plain_value (decimal start)) }
         ensures book { IfOk result (λ view. view.book ≡ Some book) }
         ensures goes_on { IfOk result (λ view. view.is_ended ≡ false) }
     {
         Ok(View {
             alloc,
             own: Own::new(alloc, port)?,
+            start: HeaderValue::from_u64(alloc, start)?,
             book: Some(book),
             is_ended: false,
         })
@@ -52,7 +60,7 @@ impl View {
     {
         match self.own.admits(request.uri(), request.headers()) {
             Ok(()) => self.answer_admitted(request, response),
-            Err(status) => refuse(response, status),
+            Err(status) => refuse(response, &self.start, status),
         }
     }
 
@@ -64,7 +72,7 @@ impl View {
         let uri = request.uri();
         match wish(request.method().as_str(), uri.path(), uri.query()) {
             Ok(asked) => self.answer_asked(asked, request.body(), response),
-            Err(status) => refuse(response, status),
+            Err(status) => refuse(response, &self.start, status),
         }
     }
 
@@ -76,7 +84,7 @@ impl View {
         match asked {
             ViewRequest::Page(part) => {
                 let text = Bytes::from_static(part.text().as_bytes());
-                fill(response, StatusCode::OK, part.content(), text);
+                fill(response, &self.start, StatusCode::OK, part.content(), text);
             }
             ViewRequest::Lines => self.answer_lines(body.as_slice(), response),
             ViewRequest::Tree => self.answer_tree(response),
@@ -94,9 +102,9 @@ impl View {
             Some(book) => {
                 let (book, told) = talk(self.alloc, book, lines);
                 self.book = Some(book);
-                fill_talk(self.alloc, response, told);
+                fill_talk(self.alloc, response, &self.start, told);
             }
-            None => refuse(response, StatusCode::INTERNAL_SERVER_ERROR),
+            None => refuse(response, &self.start, StatusCode::INTERNAL_SERVER_ERROR),
         }
     }
 
@@ -106,8 +114,11 @@ impl View {
         ensures { AnswersTree self.now.book self.now response.new self.now }
     {
         match &self.book {
-            Some(book) => fill_found(self.alloc, response, tree_text(self.alloc, book)),
-            None => refuse(response, StatusCode::INTERNAL_SERVER_ERROR),
+            Some(book) => {
+                let text = tree_text(self.alloc, book);
+                fill_found(self.alloc, response, &self.start, text);
+            }
+            None => refuse(response, &self.start, StatusCode::INTERNAL_SERVER_ERROR),
         }
     }
 
@@ -117,8 +128,11 @@ impl View {
         ensures { AnswersQuestion question self.old response.new self.new }
     {
         match &mut self.book {
-            Some(book) => fill_found(self.alloc, response, found(self.alloc, book, question)),
-            None => refuse(response, StatusCode::INTERNAL_SERVER_ERROR),
+            Some(book) => {
+                let found = found(self.alloc, book, question);
+                fill_found(self.alloc, response, &self.start, found);
+            }
+            None => refuse(response, &self.start, StatusCode::INTERNAL_SERVER_ERROR),
         }
     }
 
@@ -129,7 +143,7 @@ impl View {
     {
         self.is_ended = true;
         let text = Bytes::from_static(b"ended\n");
-        fill(response, StatusCode::OK, Content::Plain, text);
+        fill(response, &self.start, StatusCode::OK, Content::Plain, text);
     }
 }
 

@@ -14,7 +14,8 @@ use files::{load, save_tree};
 use mio::net::TcpListener;
 use server::{listen, serve};
 use std::io::Write;
-use std::process::ExitCode;
+use std::process::{self, ExitCode};
+use std::time::SystemTime;
 use words::{Asked, Words};
 use zt_console::Book;
 use zt_rows::Refusal;
@@ -50,12 +51,29 @@ fn ended(rt: &HostRuntime, done: &Result<(), Fault>) -> ExitCode {
 fn begin(rt: &HostRuntime, asked: &Asked<'_>) -> Result<(TcpListener, View), Fault> {
     let book = begun(rt, asked.from)?;
     let (listener, port) = listen(rt, asked.port)?;
-    let view = match View::new(rt.alloc(), port, book) {
+    let view = match View::new(rt.alloc(), port, start_number(rt), book) {
         Ok(view) => view,
         Err(_) => return Err(Fault::of_memory()),
     };
     say(rt, port)?;
     Ok((listener, view))
+}
+
+/// A number that no other start of the program has on this machine: the clock's nanoseconds, and the number of the process, by which
+/// starts differ where there is no clock.
+fn start_number(rt: &HostRuntime) -> u64 {
+    let seconds_and_rest = match SystemTime::now(rt) {
+        Ok(now) => match now.duration_since(SystemTime::UNIX_EPOCH) {
+            Ok(since) => (since.as_secs(), since.subsec_nanos()),
+            Err(_) => (0, 0),
+        },
+        Err(_) => (0, 0),
+    };
+    seconds_and_rest
+        .0
+        .wrapping_mul(1_000_000_000)
+        .wrapping_add(u64::from(seconds_and_rest.1))
+        .wrapping_add(u64::from(process::id(rt.process())))
 }
 
 /// Saves the whole tree of a book that was viewed, if a file is named.

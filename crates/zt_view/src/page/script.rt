@@ -145,6 +145,32 @@ class Trouble extends Error {
 
 let hasEnded = false;
 
+// The start of the program whose history is shown. Another start has another history, even where it looks like this one.
+let shownStart = null;
+const BEGUN_ANEW = 'zxtt-begun-anew';
+
+/** Whether the start of the program that answers is the one that is shown. A failure for want of memory does not tell its start. */
+function isShownStart(response) {
+  const start = response.headers.get('zxtt-start');
+  shownStart = shownStart || start;
+  return !start || start === shownStart;
+}
+
+/** Begins anew: loads the page again, at no place, since nothing of what it shows is known to be so any more. */
+function beginAnew() {
+  sessionStorage.setItem(BEGUN_ANEW, 'yes');
+  history.replaceState(null, '', location.pathname);
+  location.reload();
+  return new Promise(() => {});
+}
+
+/** Says that the page has begun anew, if it has. */
+function tellBegunAnew() {
+  if (!sessionStorage.getItem(BEGUN_ANEW)) return;
+  sessionStorage.removeItem(BEGUN_ANEW);
+  showTrouble(new Trouble('zxtt-view was started again. This is the history that it shows now.', false));
+}
+
 /** What the server answers to a path; to a body that is posted, where there is one. */
 async function ask(path, body) {
   let response;
@@ -155,6 +181,7 @@ async function ask(path, body) {
   } catch (fault) {
     throw new Trouble('The server does not answer. What is shown stays as it is.', true);
   }
+  if (!isShownStart(response)) return beginAnew();
   if (isToldGone) hideTrouble();
   if (!response.ok) throw new Trouble(text.trim() || `The server answered with the status ${response.status}.`, false);
   return text;
@@ -2162,6 +2189,6 @@ async function start() {
 
 tieParts();
 timelineHeight = part('timeline').clientHeight;
-attempt(start);
+attempt(start).then(tellBegunAnew);
 "#
 }
