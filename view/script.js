@@ -501,7 +501,7 @@ function go(moment, branchName) {
   const branch = Number.isInteger(moment) && moment >= 0 && moment < tree.parents.length
     ? branchTo(moment, branchName || view.branch) : null;
   if (branch === null) {
-    showTrouble(new Trouble(`There is no moment ${moment}; the last is ${tree.parents.length - 1}.`, false));
+    showTrouble(noMoment(moment));
     return;
   }
   const isOther = branch !== view.branch;
@@ -532,6 +532,14 @@ async function follow() {
     while (shown.moment !== view.wanted) await load(view.wanted);
   });
   isFollowing = false;
+  if (shown.moment >= 0 && shown.moment !== view.wanted) standAtShown();
+}
+
+/** Stands where the panels do, since the moment that was wanted could not be loaded. */
+function standAtShown() {
+  stand(shown.moment, branchTo(shown.moment, view.branch));
+  keepPlace();
+  drawAround();
 }
 
 const NEAR = 12;
@@ -628,6 +636,14 @@ function readPlace() {
   const object = words.get('object');
   view.object = object && isNumber(object) ? object : null;
   stand(branch ? moment : main.head, branch || main.name);
+  if (words.has('moment') && (branch === null || String(moment) !== words.get('moment'))) {
+    showTrouble(noMoment(words.get('moment')));
+    later('sight', 60, () => drawTimeline(true)); // (the notice takes some of the timeline's height)
+  }
+}
+
+function noMoment(moment) {
+  return new Trouble(`There is no moment ${moment}; the last is ${tree.parents.length - 1}.`, false);
 }
 
 function showPlace() {
@@ -902,6 +918,9 @@ function drawTimelineNote() {
   const count = view.path.length - 1;
   const words = view.found ? `${counted(view.found.length, 'call')} of ${grouped(count)}` : counted(count, 'call');
   part('timeline-note').textContent = isSearching ? `${words}, searching...` : words;
+  const isNone = Boolean(view.found) && !view.found.length && !isSearching;
+  part('timeline-none').hidden = !isNone;
+  if (isNone) part('timeline-none').textContent = part('search').value.trim() ? 'No call is found.' : 'No call failed.';
 }
 
 /** Asks for the calls around those in sight that are not known yet. */
@@ -1199,6 +1218,7 @@ async function makeBranch() {
     field.focus();
     return;
   }
+  if (!/^[a-z][a-z0-9_-]{0,31}$/.test(name)) throw new Trouble(`'${name}': ${REFUSALS.BadName}.`, false);
   const [answer] = await talkAt(view.wanted, `branch ${name}`);
   if (answer.startsWith('refused')) throw new Trouble(told(answer), false);
   field.value = '';

@@ -66,6 +66,7 @@ pub fn index() -> &'static str {
           <label class="check"><input type="checkbox" id="failed-only"> failed only</label>
         </form>
         <div id="timeline" role="listbox" tabindex="0" aria-label="Calls of the branch">
+          <p id="timeline-none" class="dim" hidden></p>
           <div id="timeline-rows"></div>
         </div>
       </section>

@@ -224,6 +224,7 @@ h2 { font-size: var(--data); font-weight: 600; white-space: nowrap; }
 #search { flex: 1; }
 .check { display: flex; gap: 4px; align-items: center; white-space: nowrap; font-size: 12px; color: var(--dim); }
 #timeline { flex: 1; overflow-y: auto; overflow-x: hidden; position: relative; contain: strict; }
+#timeline-none { margin: 0; padding: 8px 10px; }
 #timeline-rows { position: relative; width: 100%; }
 .row {
   position: absolute;
