@@ -1,7 +1,7 @@
 # make               proves and builds the programs: bin/zxtt, bin/zxtt-view and bin/zxtt-import
 # make zxtt          proves and builds bin/zxtt alone; zxtt-view and zxtt-import likewise
 # make try           builds zxtt without its proofs and asks an example which call ended what; tools/try takes other words
-# make check         runs the worked cases, and most of the trials, on programs that are built without their proofs
+# make check         runs the worked cases and other quick trials on programs that are built without their proofs
 # make test          runs all tests: the gate, which proves everything from nothing, and then the trials on what it built
 # make install       builds the programs and installs them with their man pages, completions and examples below $(PREFIX), with
 #                    $(DESTDIR) in front of it; PROGRAM=PATH installs that zxtt and the programs beside it, and builds nothing

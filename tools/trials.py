@@ -131,15 +131,6 @@ def feed(pipe, lines):
         pass
 
 
-def end_session(running):
-    """Ends all that a process started in a session of its own, and the process."""
-    try:
-        os.killpg(running.pid, signal.SIGKILL)
-    except ProcessLookupError:
-        pass
-    running.wait()
-
-
 def run_well(program, words, lines=b'', limit=LIMIT):
     """What the program with these words wrote, where it ended well."""
     done = run(program, words, lines, limit)
