@@ -47,28 +47,37 @@ def named_held(held):
     return re.sub('0x[0-9a-f]{8}', lambda found: named(found[0], RIGHTS), held)
 
 
-def named_row(row):
+def signals_of(kind):
+    """The names of the signals of an object of a kind; where that is not known, the bit has none whose name depends on it."""
+    if kind is None:
+        return {bit: name for bit, name in SIGNALS.items() if bit != 3}
+    return SIGNALS_OF_TASKS if kind in ('job', 'process') else SIGNALS
+
+
+def named_row(row, kind=None):
+    """The row with names; the kind is that of the object whose signals a wait or a packet has."""
     fields = row.split(' ')
     if fields[0] == 'object':
-        return with_names(row, {3: SIGNALS_OF_TASKS if fields[2] in ('job', 'process') else SIGNALS})
+        return with_names(row, {3: signals_of(fields[2])})
     if fields[0] == 'msg':
         return ' '.join([*fields[:4], named_held(fields[4])])
     if fields[0] == 'packet' and fields[3] == 'signal':
-        return with_names(row, {5: SIGNALS, 6: SIGNALS})
-    return with_names(row, {'entry': {4: RIGHTS}, 'wait': {6: SIGNALS}}.get(fields[0], {}))
+        return with_names(row, {5: signals_of(kind), 6: signals_of(kind)})
+    return with_names(row, {'entry': {4: RIGHTS}, 'wait': {6: signals_of(kind)}}.get(fields[0], {}))
 
 
-def named_call(call):
-    """The line of a call with its process."""
+def named_call(call, kind=None):
+    """The line of a call with its process; the kind is that of the object whose signals it has."""
+    signals = signals_of(kind)
     places = {
-        'handle_duplicate': {3: RIGHTS}, 'handle_replace': {3: RIGHTS}, 'object_signal': {3: SIGNALS, 4: SIGNALS},
-        'object_signal_peer': {3: SIGNALS, 4: SIGNALS}, 'object_wait_async': {5: SIGNALS},
+        'handle_duplicate': {3: RIGHTS}, 'handle_replace': {3: RIGHTS}, 'object_signal': {3: signals, 4: signals},
+        'object_signal_peer': {3: signals, 4: signals}, 'object_wait_async': {5: signals},
     }
     return with_names(call, places.get(call.split(' ')[1], {}))
 
 
-def named_reply(reply):
-    return with_names(reply, {3: SIGNALS, 4: SIGNALS} if reply.startswith('ok signal ') else {})
+def named_reply(reply, kind):
+    return with_names(reply, {3: signals_of(kind), 4: signals_of(kind)} if reply.startswith('ok signal ') else {})
 
 
 # A trace and what stands at its moments.
@@ -89,6 +98,18 @@ class State:
                 self.handles[fields[1], fields[2]] = int(fields[3])
         self.next_koid = int(rows[0].split(' ')[1])
         self.leaked = {int(line.split(' ')[0]) for line in leaks}
+
+    def kind_named(self, process, handle):
+        """The kind of the object that a handle names, or None."""
+        fields = self.objects.get(self.handles.get((process, handle)))
+        return fields and fields[2]
+
+    def kind_of_row(self, row):
+        """The kind of the object whose signals a wait or a packet has, or None."""
+        fields = row.split(' ') if row else ['']
+        if fields[0] == 'wait':
+            return self.kind_named(*fields[2:4])
+        return self.kind_named(*fields[7:9]) if fields[0] == 'packet' and fields[3] == 'signal' else None
 
     def is_there(self, koid):
         return koid in self.objects
@@ -223,19 +244,24 @@ class Trace:
         return self.states[self.parents[moment]]
 
     def call(self, moment, names=False):
-        return named_call(self.calls[moment]) if names else self.calls[moment]
+        process, _, *asked = self.calls[moment].split(' ')
+        kind = self.states[moment].kind_named(process, asked[0]) if names and asked else None
+        return named_call(self.calls[moment], kind) if names else self.calls[moment]
 
     def reply(self, moment, names=False):
-        return named_reply(self.replies[moment]) if names else self.replies[moment]
+        taken = [before for key, before, after in self.changes[moment] if key[0] == list(KEY_LENGTHS).index('packet') and not after]
+        kind = self.states[moment].kind_of_row(taken[0]) if names and taken else None
+        return named_reply(self.replies[moment], kind) if names else self.replies[moment]
 
 
 # The answers. Each is a list of lines, for the path to the moment `at`.
 
 
 def changed(trace, moment, names=False):
-    shown = named_row if names else str
     lines = []
     for _, before, after in trace.changes[moment]:
+        kind = trace.states[moment].kind_of_row(after) or (moment and trace.before(moment).kind_of_row(before)) or None
+        shown = (lambda row: named_row(row, kind)) if names else str
         lines += [f'- {shown(before)}'] if before else []
         lines += [f'+ {shown(after)}'] if after else []
     return lines
@@ -306,7 +332,7 @@ def object_lines(trace, at, koid, told, names=False):
     """The lines of an object; `told` is what `told_of` gave of it."""
     holders, times = told
     state = trace.states[at]
-    shown = named_row if names else str
+    shown = (lambda row: named_row(row, state.kind_of_row(row))) if names else str
     lines = [f'object {koid} gone']
     if state.is_there(koid):
         lines = [shown(' '.join(state.objects[koid])), *holders, *map(shown, rows_of(trace, at, koid))]

@@ -87,7 +87,7 @@ GUARDS = {
 def every_answer_is_guarded(view):
     """Answers and refusals have the headers that keep other sites from reading or framing them."""
     asked = [request('GET', path, view.place) for path in ('/', '/style.css', '/script.js', '/tree', '/branches', '/change/1')]
-    asked += [request('GET', path, view.place) for path in ('/nothing', '/change/99', '/events/99', '/lines')]
+    asked += [request('GET', path, view.place) for path in ('/nothing', '/change/99', '/events/99', '/path/99/0', '/lines')]
     asked += [request('POST', '/lines', view.place, body=b'back 0\n'), request('GET', '/tree', 'example.org')]
     asked += [request('GET', '/tree', view.place, ['Origin: null']), request('GET', '/tree', view.place, ['Sec-Fetch-Site: cross-site'])]
     for one in asked:
@@ -108,7 +108,8 @@ def other_methods(view):
     for method in ('PUT', 'DELETE', 'PATCH', 'OPTIONS', 'TRACE', 'CONNECT', 'PROPFIND', 'get', 'post', 'X'):
         for path in ('/', '/tree', '/lines', '/end', '/change/1', '/branches', '*'):
             refused(view, request(method, path, view.place, body=CALL), f'{method} {path}')
-    for path in ('/', '/style.css', '/tree', '/change/1', '/calls/3/1/3', '/events/3', '/object/1026/3', '/branches'):
+    for path in ('/', '/style.css', '/tree', '/change/1', '/calls/3/1/3', '/events/3/0/3', '/path/3/0', '/object/1026/3', '/trace',
+                 '/branches'):
         refused(view, request('POST', path, view.place, body=CALL), f'POST {path}')
     for path in ('/lines', '/end'):
         refused(view, request('GET', path, view.place), f'GET {path}')
@@ -128,7 +129,8 @@ def other_paths(view):
         '/change/01', '/change/1.0', '/change/0x1', '/change/1e0', '/change/%31', '/change/4294967296',
         '/change/18446744073709551616', '/change/' + '9' * 400, '/change/1048577', '/change/4', '/changes/1', '/calls',
         '/calls/3', '/calls/3/1', '/calls/3/1/3/', '/calls/3/1/3/4', '/calls/03/1/3', '/calls/4/1/3', '/calls/3/1/x',
-        '/events', '/events/', '/events/x', '/events/4', '/events/3/3', '/object', '/object/1026', '/object/x/3',
+        '/events', '/events/', '/events/x', '/events/3', '/events/3/3', '/events/4/0/3', '/events/3/0/3/', '/path', '/path/3',
+        '/path/3/', '/path/4/0', '/path/3/0/3', '/path/x/0', '/trace/', '/trace/1', '/object', '/object/1026', '/object/x/3',
         '/object/1026/x', '/object/1026/4', '/object/1026/3/', '/object/99/3', '/object/18446744073709551616/3', '/lines',
         '/end', '/view/index.html', '/crates.txt', '/tree/../tree', 'tree', 'x:y', '*',
     ):

@@ -4,6 +4,7 @@
 // moment or the branch that it is about, so that several pages can look at one history.
 //
 // Parts of the page, by their ids:
+//   trace                                            the name of the file that the history began with
 //   position, jump, step-first, step-back, step-forth, step-last   where one stands, and how one gets elsewhere
 //   timeline, search, search-kind, failed-only       the calls of the branch; each row has data-moment
 //   tree, branch-name, branch-make                   the branches; each fork and head has data-go, each name data-branch
@@ -45,6 +46,9 @@ const CALLS = {
   process_exit: {asks: 'code', hint: '<code>'},
 };
 
+// What stands behind `ok` where a packet is answered, by its first word.
+const PACKETS = {user: 'word key bytes', signal: 'word key signals signals'};
+
 const RIGHTS = {
   0: 'DUPLICATE', 1: 'TRANSFER', 2: 'READ', 3: 'WRITE', 9: 'DESTROY', 12: 'SIGNAL', 13: 'SIGNAL_PEER', 14: 'WAIT',
   15: 'INSPECT', 16: 'MANAGE_JOB', 17: 'MANAGE_PROCESS', 31: 'SAME_RIGHTS',
@@ -54,6 +58,8 @@ const SIGNALS = {
   24: 'USER_0', 25: 'USER_1', 26: 'USER_2', 27: 'USER_3', 28: 'USER_4', 29: 'USER_5', 30: 'USER_6', 31: 'USER_7',
 };
 const SIGNALS_OF_TASKS = {...SIGNALS, 3: 'TERMINATED'};
+const SIGNALS_OF_ANY = {...SIGNALS, 3: 'SIGNALED or TERMINATED'};
+const DEFAULT_RIGHTS = {job: 0x3d203, process: 0xd203, channel: 0xf00e, event: 0xd003, eventpair: 0xf003, port: 0x800f};
 const KIND_NAMES = {job: 'job', process: 'process', channel: 'channel', event: 'event', eventpair: 'event pair', port: 'port'};
 const HAPPENINGS = {made: 'made', ended: 'ended', peer_closed: 'peer closed', leaked: 'leaked'};
 
@@ -74,8 +80,27 @@ function namesOf(mask, names) {
   return found.length ? found : ['NONE'];
 }
 
+/** The names of signals, which one bit has by the kind of the object. */
 function signalNames(mask, kind) {
-  return namesOf(mask, kind === 'job' || kind === 'process' ? SIGNALS_OF_TASKS : SIGNALS);
+  return namesOf(mask, kind === 'job' || kind === 'process' ? SIGNALS_OF_TASKS : kind ? SIGNALS : SIGNALS_OF_ANY);
+}
+
+const MOST_LACKING = 3;
+
+/** Rights in words: `default` with what it lacks or has beside, where that is short, and else each by its name. */
+function rightsWords(mask, kind) {
+  const standard = DEFAULT_RIGHTS[kind];
+  const given = Number(mask);
+  if (standard === undefined) return namesOf(mask, RIGHTS);
+  const lacking = standard & ~given ? namesOf(standard & ~given, RIGHTS) : [];
+  const beside = given & ~standard ? namesOf(given & ~standard, RIGHTS) : [];
+  if (given === 0 || lacking.length + beside.length > MOST_LACKING) return namesOf(mask, RIGHTS);
+  return ['default', ...lacking.map((name) => `without ${name}`), ...beside.map((name) => `with ${name}`)];
+}
+
+/** A mask without the zeros in front, for where there is little room; `same` asks for the same rights. */
+function shortMask(mask, sort) {
+  return sort === 'rights' && Number(mask) === 2 ** 31 ? 'same' : mask.replace(/^0x0+(?=.)/, '0x');
 }
 
 /** The bits of a mask, for who hovers over its names. */
@@ -237,12 +262,19 @@ async function attempt(action) {
 
 // ---- What is known of the tree ----
 
-// The branches in their order, each with its head and with the branch and the moment that it leaves, and of each moment the one
-// before it. Of a tree with one branch the moments stand one behind the other; else they are read from the session text once.
+// The branches in their order, each with its head and with the branch and the moment that it leaves, and of each moment that is on a
+// branch the one before it, as the server tells it.
 const tree = {text: '', branches: [], parents: [0]};
 
-// The calls that have been asked for, as lines, by their moments.
+// The name of the trace's file.
+let traceName = '';
+
+// The calls that have been asked for, as lines, and what happened to objects in them, by their moments.
 const calls = [];
+const marks = [];
+
+// The most moments of which the server tells calls or what happened at once.
+const PART = 16384;
 
 function readBranches(text) {
   return linesOf(text).map((line) => {
@@ -259,30 +291,30 @@ function branchNamed(name) {
 async function readTree(text) {
   const branches = readBranches(text);
   const parents = [0];
-  if (branches.length === 1) {
-    for (let moment = 1; moment <= branches[0].head; moment += 1) parents.push(moment - 1);
-  } else {
-    for (const line of linesOf(await ask('/tree'))) {
-      if (line.startsWith('call ')) parents.push(parseInt(line.slice(5), 10));
-    }
-  }
+  for (const branch of branches) await readPath(parents, branch.head, branch.at);
   calls.length = 0;
+  marks.length = 0;
   changes.clear();
   shown.moment = -1;
   Object.assign(tree, {text, branches, parents});
 }
 
+/** Reads the path to a head behind one of its moments: ranges of moments, of which each answer has no more than so many. */
+async function readPath(parents, head, known) {
+  let before = known;
+  while (before < head) {
+    for (const line of linesOf(await ask(`/path/${head}/${before + 1}`))) {
+      const [first, last] = line.split(' ').map(Number);
+      parents[first] = before;
+      for (let moment = first + 1; moment <= last; moment += 1) parents[moment] = moment - 1;
+      before = last;
+    }
+  }
+}
+
 /** Takes what has come to a branch since it was last asked: the moments behind the head or the fork that is known. */
 async function takeGrowth(branch, known) {
-  const from = known ? known.head : branch.at;
-  if (branch.head === from) return;
-  let before = from;
-  for (const line of linesOf(await ask(`/calls/${branch.head}/${from + 1}/${branch.head}`))) {
-    const moment = parseInt(line, 10);
-    tree.parents[moment] = before;
-    calls[moment] = line;
-    before = moment;
-  }
+  await readPath(tree.parents, branch.head, known ? known.head : branch.at);
 }
 
 let refreshing = Promise.resolve(false);
@@ -476,7 +508,7 @@ async function changeOf(moment) {
 // ---- Where one stands, and what is shown ----
 
 // `wanted` is the moment that a person asked for, and `shown` the one whose state the panels have: the one follows the other.
-const view = {branch: 'main', path: [0], wanted: 0, object: null, filter: null, found: null, marks: new Map()};
+const view = {branch: 'main', path: [0], wanted: 0, object: null, filter: null, found: null};
 const shown = {moment: -1, state: new State([]), change: [], leaks: new Map(), isLeaksKnown: false};
 let isFollowing = false;
 
@@ -643,7 +675,10 @@ function readPlace() {
 }
 
 function noMoment(moment) {
-  return new Trouble(`There is no moment ${moment}; the last is ${tree.parents.length - 1}.`, false);
+  const last = tree.parents.length - 1;
+  const words = isNumber(String(moment)) && Number(moment) < last ? `No branch leads to the moment ${moment}.`
+    : `There is no moment ${moment}; the last is ${last}.`;
+  return new Trouble(words, false);
 }
 
 function showPlace() {
@@ -694,7 +729,7 @@ function koidLink(koid, kind, isKindTold) {
 }
 
 function objectLink(koid, isKindTold) {
-  return koidLink(koid, shown.state.kindOf(koid), isKindTold);
+  return koidLink(koid, kindIn(koid), isKindTold);
 }
 
 /** A handle of a process. What it names is looked up at the moment where it is clicked. */
@@ -724,8 +759,10 @@ function signalsOf(mask, kind) {
   return names(Number(mask) ? 'names on' : 'names', mask, signalNames(mask, kind));
 }
 
-function rightsOf(mask) {
-  return names('names', mask, namesOf(mask, RIGHTS));
+function rightsOf(mask, kind) {
+  const element = make('span', 'names rights', rightsWords(mask, kind).join(' '));
+  element.title = `${namesOf(mask, RIGHTS).join(' ')}\n${bitsOf(mask)}`;
+  return element;
 }
 
 /** Bytes as text in quotation marks, or as digits, cut where they are many. */
@@ -738,24 +775,35 @@ function bytesOf(bytes, most = 72) {
   return element;
 }
 
-/** A call with its arguments: each handle a link, each mask with its names, long bytes cut. */
-function callWords(call) {
+/**
+ * A call with its arguments: each handle a link, masks short and long bytes cut. Where it is known what kind of object its signals are
+ * of, they stand by their names.
+ */
+function callWords(call, kind) {
   const sorts = CALLS[call.name] ? CALLS[call.name].asks.split(' ') : [];
   const words = make('span', 'call', make('span', 'word', call.name));
-  call.asked.forEach((value, at) => words.append(' ', valueOf(call, value, sorts[at], tree.parents[call.moment])));
+  call.asked.forEach((value, at) => words.append(' ', valueOf(call, value, sorts[at], tree.parents[call.moment], kind)));
   return words;
 }
 
-function answerWords(call) {
+function answerWords(call, kind) {
   const words = make('span', call.status === 'ok' ? 'answer' : 'answer failed', make('span', 'status', call.status));
-  const answers = CALLS[call.name] && call.status === 'ok' ? CALLS[call.name].answers : '';
-  const sorts = answers ? answers.split(' ') : [];
-  call.values.forEach((value, at) => words.append(' ', valueOf(call, value, sorts[at], call.moment)));
+  const sorts = sortsOfAnswer(call);
+  call.values.forEach((value, at) => words.append(' ', valueOf(call, value, sorts[at], call.moment, kind)));
   return words;
 }
+
+/** The sorts of the values that a call was answered; a packet is answered as its word tells. */
+function sortsOfAnswer(call) {
+  if (!CALLS[call.name] || call.status !== 'ok') return [];
+  const answers = call.name === 'port_wait' ? PACKETS[call.values[0]] : CALLS[call.name].answers;
+  return answers ? answers.split(' ') : [];
+}
+
+const MOST_DIGITS = 32;
 
 /** A field of a call or of its answer; handles are those at a moment. */
-function valueOf(call, value, sort, moment) {
+function valueOf(call, value, sort, moment, kind) {
   if (sort === 'handle' && value !== '0') return handleLink(call.process, value, moment);
   if (sort === 'koid') return koidLink(value, 'process');
   if (sort === 'handles' && value !== '-') {
@@ -763,10 +811,12 @@ function valueOf(call, value, sort, moment) {
     value.split(',').forEach((one, at) => list.append(at ? ',' : '', handleLink(call.process, one, moment)));
     return list;
   }
-  if (sort === 'bytes' && value !== '-') return bytesOf(value, 32);
-  const element = make('span', '', value.length > 40 ? value.slice(0, 32) + '...' : value);
-  if (sort === 'rights') element.title = namesOf(value, RIGHTS).join(' ');
-  if (sort === 'signals') element.title = namesOf(value, SIGNALS).join(' ');
+  if (sort === 'bytes' && value !== '-') return bytesOf(value, MOST_DIGITS);
+  if (sort === 'signals' && kind) return signalsOf(value, kind);
+  const isMask = sort === 'rights' || sort === 'signals';
+  const element = make('span', '', isMask ? shortMask(value, sort) : value);
+  if (sort === 'rights') element.title = `${namesOf(value, RIGHTS).join(' ')}\n${bitsOf(value)}`;
+  if (sort === 'signals') element.title = `${signalNames(value, '').join(' ')}\n${bitsOf(value)}`;
   return element;
 }
 
@@ -781,7 +831,7 @@ function drawPosition() {
     make('span', 'dim', 'moment'), make('b', '', String(view.wanted)),
     make('span', 'dim', `of ${grouped(branch.head)} on`), make('span', 'mono', branch.name),
   );
-  document.title = `${view.wanted} ${branch.name} - zxtt-view`;
+  document.title = [`${view.wanted} ${branch.name}`, ...(traceName ? [traceName] : []), 'zxtt-view'].join(' - ');
   const isFirst = view.wanted === 0;
   const isLast = view.wanted === branch.head;
   for (const id of ['step-first', 'step-back']) part(id).disabled = isFirst;
@@ -858,15 +908,25 @@ function drawTimeline(isMoved) {
   }
   markHere();
   drawTimelineNote();
-  if (!view.found) later('window', 30, loadWindow);
+  later('window', 30, loadWindow);
 }
 
-/** The row of a moment, made where it is not there or was made before its call was known. */
+/** What is known of a moment: its call, and what happened in it. */
+function isCallKnown(moment) {
+  return moment === 0 || calls[moment] !== undefined;
+}
+
+function isMarked(moment) {
+  return moment === 0 || marks[moment] !== undefined;
+}
+
+/** The row of a moment, made where it is not there or was made before all was known that is known now. */
 function rowOf(moment) {
   const old = rows.get(moment);
-  const isKnown = moment === 0 || calls[moment] !== undefined;
-  if (old && old.classList.contains('waiting') !== isKnown) return old;
-  const row = isKnown ? makeRow(moment) : make('div', 'row waiting', make('span', 'number', String(moment)));
+  const known = String(isCallKnown(moment)) + isMarked(moment);
+  if (old && old.dataset.known === known) return old;
+  const row = isCallKnown(moment) ? makeRow(moment) : make('div', 'row waiting', make('span', 'number', String(moment)));
+  row.dataset.known = known;
   row.dataset.moment = moment;
   row.id = `moment-${moment}`;
   row.setAttribute('role', 'option');
@@ -880,24 +940,27 @@ function makeRow(moment) {
   const number = make('span', 'number', String(moment));
   if (moment === 0) return make('div', 'row', number, make('span', ''), make('span', 'call dim', 'the opening'));
   const call = readCall(calls[moment]);
-  const marks = view.marks.get(moment);
+  const happened = marks[moment] || [];
   const process = koidLink(call.process, 'process');
   process.tabIndex = -1;
-  const row = make('div', call.status === 'ok' ? 'row' : 'row failed', number, process, callWords(call), markOf(marks),
+  const row = make('div', call.status === 'ok' ? 'row' : 'row failed', number, process, callWords(call), markOf(happened),
     answerWords(call));
   row.title = call.line.slice(0, 400);
-  if (marks && marks.some((mark) => mark.what === 'leaked')) row.classList.add('leaks');
+  if (happened.some((mark) => mark.what === 'leaked')) row.classList.add('leaks');
   return row;
 }
 
 /** What happened to objects in a call, as one character with its words behind it. */
-function markOf(marks) {
+function markOf(happened) {
   const element = make('span', 'mark');
-  if (!marks) return element;
-  const worst = ['leaked', 'peer_closed', 'ended'].find((what) => marks.some((mark) => mark.what === what));
-  element.textContent = {leaked: '\u25c6', peer_closed: '\u25cb', ended: '\u00d7'}[worst];
+  if (!happened.length) return element;
+  const worst = ['leaked', 'peer_closed', 'ended'].find((what) => happened.some((mark) => mark.what === what));
+  const count = new Set(happened.filter((mark) => mark.what === worst).map((mark) => mark.koid)).size;
+  element.textContent = {leaked: '\u25c6', peer_closed: '\u25cb', ended: '\u00d7'}[worst] + (count > 1 ? count : '');
   element.classList.add(worst);
-  const words = marks.map((mark) => `${HAPPENINGS[mark.what]}: ${mark.koid} ${KIND_NAMES[mark.kind]}`);
+  // (an end of a job or a process is what one looks for; an event ends by each last close)
+  if (happened.some((mark) => mark.what === 'ended' && (mark.kind === 'job' || mark.kind === 'process'))) element.classList.add('task');
+  const words = happened.map((mark) => `${HAPPENINGS[mark.what]}: ${mark.koid} ${KIND_NAMES[mark.kind]}`);
   element.title = words.slice(0, 12).join('\n');
   return element;
 }
@@ -923,24 +986,49 @@ function drawTimelineNote() {
   if (isNone) part('timeline-none').textContent = part('search').value.trim() ? 'No call is found.' : 'No call failed.';
 }
 
-/** Asks for the calls around those in sight that are not known yet. */
+/** The parts of a list of moments between two places, each with its first and its last moment, that are asked for one by one. */
+function partsOf(list, from, to) {
+  const parts = [];
+  let place = from;
+  while (place <= to) {
+    const next = Math.min(to + 1, placeIn(list, list[place] + PART));
+    parts.push([list[place], list[next - 1]]);
+    place = next;
+  }
+  return parts;
+}
+
+/** Asks for what is not known yet of the calls in sight, and of the path around them. */
 async function loadWindow() {
-  const path = view.path;
+  const list = listed();
   const {first, fit} = sight();
-  const isUnknown = (moment) => moment > 0 && calls[moment] === undefined;
-  const last = Math.min(path.length, first + fit);
-  if (!path.slice(first, last).some(isUnknown)) return;
-  let from = Math.max(1, first - WINDOW);
-  let to = Math.min(path.length - 1, last + WINDOW);
-  while (from < to && !isUnknown(path[from])) from += 1;
-  while (to > from && !isUnknown(path[to])) to -= 1;
-  await loadCalls(path[from], path[to]);
+  const isUnknown = (moment) => !isCallKnown(moment) || !isMarked(moment);
+  const last = Math.min(list.length, first + fit);
+  if (!list.slice(first, last).some(isUnknown)) return;
+  // (around what was found there is nothing in sight)
+  const around = view.found ? 0 : WINDOW;
+  let from = Math.max(0, first - around);
+  let to = Math.min(list.length, last + around) - 1;
+  while (from < to && !isUnknown(list[from])) from += 1;
+  while (to > from && !isUnknown(list[to])) to -= 1;
+  for (const each of partsOf(list, from, to)) await loadPart(...each);
   drawTimeline(false);
 }
 
-/** Asks for the calls of a path from one of its moments to another. */
-async function loadCalls(from, to) {
-  takeCalls(linesOf(await ask(`/calls/${to}/${from}/${to}`)));
+/** The moments of the path from one of them to another. */
+function momentsOf(first, last) {
+  return view.path.slice(placeIn(view.path, first), placeIn(view.path, last) + 1);
+}
+
+/** Asks for what is not known of the calls of the path from one of its moments to another. */
+async function loadPart(first, last) {
+  const moments = momentsOf(first, last);
+  if (!moments.every(isCallKnown)) await loadCalls(first, last);
+  if (!moments.every(isMarked)) await loadMarks(first, last);
+}
+
+async function loadCalls(first, last) {
+  takeCalls(linesOf(await ask(`/calls/${last}/${first}/${last}`)));
 }
 
 /** Keeps calls, and says their moments. */
@@ -952,25 +1040,14 @@ function takeCalls(lines) {
   });
 }
 
-const MARKED = 2000;
-
-/** Of a path that is not long it is shown beside each call what ended, lost its peer or was leaked by it. */
-async function loadMarks() {
-  const {branch, path} = view;
-  if (path.length > MARKED) {
-    view.marks = new Map();
-    return;
-  }
-  const marks = new Map();
-  for (const line of linesOf(await ask(`/events/${path[path.length - 1]}?ended&peer_closed&leaked`))) {
+/** What ended, lost its peer or was leaked, in each call of a path from one of its moments to another. */
+async function loadMarks(first, last) {
+  const lines = linesOf(await ask(`/events/${last}/${first}/${last}?ended&peer_closed&leaked`));
+  for (let moment = last; moment >= first && moment > 0; moment = tree.parents[moment]) marks[moment] = [];
+  for (const line of lines) {
     const [moment, what, koid, kind] = line.split(' ');
-    if (!marks.has(Number(moment))) marks.set(Number(moment), []);
-    marks.get(Number(moment)).push({what, koid, kind});
+    marks[moment].push({what, koid, kind});
   }
-  if (branch !== view.branch) return;
-  view.marks = marks;
-  clearRows();
-  drawTimeline(false);
 }
 
 function clearRows() {
@@ -980,7 +1057,6 @@ function clearRows() {
 
 // ---- Searching ----
 
-const CHUNK = 20000;
 let isSearching = false;
 let searches = 0;
 
@@ -1000,7 +1076,6 @@ function search() {
   clearRows();
   if (view.filter) attempt(() => searchAs(searches, view.filter));
   else drawTimeline(true);
-  later('marks', 150, loadMarks);
 }
 
 async function searchAs(number, filter) {
@@ -1025,22 +1100,29 @@ function serverFilter(filter) {
   return [...words, `${place}=${filter.text}`].join('&');
 }
 
+/** The parts of the path in which calls are searched for. */
+function partsOfPath() {
+  return view.path.length > 1 ? partsOf(view.path, 1, view.path.length - 1) : [];
+}
+
+/** Has the server search the path, part by part. */
 async function searchThere(number, filter) {
-  const head = view.path[view.path.length - 1];
-  const lines = linesOf(await ask(`/calls/${head}/0/${head}?${serverFilter(filter)}`));
-  if (number !== searches) return false;
-  view.found = takeCalls(lines);
+  for (const [first, last] of partsOfPath()) {
+    const lines = linesOf(await ask(`/calls/${last}/${first}/${last}?${serverFilter(filter)}`));
+    if (number !== searches) return false;
+    view.found = view.found.concat(takeCalls(lines));
+    drawTimeline(true);
+  }
   return true;
 }
 
-/** Searches what the page knows, and asks for the rest of the path chunk by chunk. */
+/** Searches what the page knows, and asks for the rest of the path part by part. */
 async function searchHere(number, filter) {
-  const path = view.path;
-  for (let from = 1; from < path.length; from += CHUNK) {
-    const part = path.slice(from, from + CHUNK);
-    if (part.some((moment) => calls[moment] === undefined)) await loadCalls(part[0], part[part.length - 1]);
+  for (const [first, last] of partsOfPath()) {
+    const moments = momentsOf(first, last);
+    if (!moments.every(isCallKnown)) await loadCalls(first, last);
     if (number !== searches) return false;
-    for (const moment of part) if (isFound(calls[moment], filter)) view.found.push(moment);
+    for (const moment of moments) if (isFound(calls[moment], filter)) view.found.push(moment);
     drawTimeline(true);
   }
   return true;
@@ -1333,7 +1415,32 @@ async function drawSaid() {
   const place = part('change').querySelector('.said');
   if (moment !== shown.moment || !place) return;
   const call = readCall(calls[moment]);
-  place.replaceChildren(koidLink(call.process, 'process'), ' ', callWords(call), ' \u21d2 ', answerWords(call));
+  const kind = kindOfSignals(call);
+  place.replaceChildren(koidLink(call.process, 'process'), ' ', callWords(call, kind), ' \u21d2 ', answerWords(call, kind));
+}
+
+/** The kind of the object whose signals the shown call has, or the one of which it took a packet, where that is known. */
+function kindOfSignals(call) {
+  if (call.name !== 'port_wait') return kindNamed(call.process, call.asked[0]);
+  const taken = shown.change.map(({before}) => before && readRow(before.split(' '))).find((row) => row && row.sort === 'packet');
+  return taken && taken.source !== 'user' ? kindNamed(taken.process, taken.handle) : '';
+}
+
+/** The kind of the object that a handle of a process names in the state that is shown, or named before the call. */
+function kindNamed(process, handle) {
+  const koid = shown.state.named(process, handle) || rowBefore(`entry ${process} ${handle}`).koid;
+  return koid ? kindIn(koid) : '';
+}
+
+/** The kind of an object in the state that is shown, or before the call where it is gone by it. */
+function kindIn(koid) {
+  return shown.state.kindOf(koid) || rowBefore(`object ${koid}`).kind || '';
+}
+
+/** A row as it was before the shown call, where that changed it. */
+function rowBefore(key) {
+  const found = shown.change.find((row) => row.key === key);
+  return found && found.before ? readRow(found.before.split(' ')) : {};
 }
 
 function sidesOf(change) {
@@ -1380,7 +1487,7 @@ function fieldWords(fields, others = new Set()) {
 /** The fields of a row behind its key: the name of each, its label, and its value. */
 function fieldsOf(row) {
   if (row.sort === 'object') return fieldsOfObject(row);
-  if (row.sort === 'entry') return [['koid', '', objectLink(row.koid, true)], ['rights', '', rightsOf(row.rights)]];
+  if (row.sort === 'entry') return [['koid', '', objectLink(row.koid, true)], ['rights', '', rightsOf(row.rights, kindIn(row.koid))]];
   if (row.sort === 'msg') return [['bytes', '', bytesOf(row.bytes)], ['held', 'handles', heldOf(row.held)]];
   if (row.sort === 'packet') return packetFields(row);
   if (row.sort === 'wait') return waitFields(row);
@@ -1412,18 +1519,18 @@ function heldOf(held) {
 
 function packetFields(row) {
   if (row.source === 'user') return [['source', '', 'user'], ['key', 'key', row.key], ['bytes', '', bytesOf(row.bytes, 24)]];
+  const kind = kindNamed(row.process, row.handle);
   return [
-    ['source', '', 'signal'], ['key', 'key', row.key], ['trigger', 'waited for', signalsOf(row.trigger)],
-    ['observed', 'stood', signalsOf(row.observed)],
+    ['source', '', 'signal'], ['key', 'key', row.key], ['trigger', 'waited for', signalsOf(row.trigger, kind)],
+    ['observed', 'stood', signalsOf(row.observed, kind)],
     ['process', 'of', koidLink(row.process, 'process')],
     ['handle', 'handle', handleLink(row.process, row.handle, shown.moment)],
   ];
 }
 
 function waitFields(row) {
-  const koid = shown.state.named(row.process, row.handle);
   return [
-    ['signals', 'for', signalsOf(row.signals, koid ? shown.state.kindOf(koid) : '')],
+    ['signals', 'for', signalsOf(row.signals, kindNamed(row.process, row.handle))],
     ['process', 'of', koidLink(row.process, 'process')],
     ['handle', 'handle', handleLink(row.process, row.handle, shown.moment)],
     ['port', 'to', koidLink(row.port, 'port')], ['key', 'key', row.key], ['edge', '', row.edge ? 'on an edge' : ''],
@@ -1547,7 +1654,7 @@ function putHandles(place, handles, changed) {
   const table = make('table', 'table', body);
   const rows = handles.map((entry) => () => {
     const row = make('tr', '', make('td', 'value', handleLink(entry.process, entry.handle, shown.moment)),
-      make('td', 'what', objectLink(entry.koid, true)), make('td', '', rightsOf(entry.rights)));
+      make('td', 'what', objectLink(entry.koid, true)), make('td', '', rightsOf(entry.rights, kindIn(entry.koid))));
     if (changed.has(`entry ${entry.process} ${entry.handle}`)) row.classList.add('changed');
     return row;
   });
@@ -1605,7 +1712,7 @@ function putThings(box, object, sort, things, makeLine) {
 function messageLine(row, changed) {
   const line = lineOf(row, [], changed);
   line.append(bytesOf(row.bytes));
-  for (const {koid, rights} of row.held) line.append(make('span', '', objectLink(koid, true), ' ', rightsOf(rights)));
+  for (const {koid, rights} of row.held) line.append(make('span', '', objectLink(koid, true), ' ', rightsOf(rights, kindIn(koid))));
   return line;
 }
 
@@ -1823,7 +1930,7 @@ function drawGraph() {
     'aria-label': 'Objects and what holds them',
   });
   drawing.append(arrow(), ...edges.map((edge) => drawEdge(edge, spots)));
-  for (const edge of edges) if (edge.label) drawing.append(drawLabel(edge, spots, edges));
+  drawing.append(...drawLabels(edges, spots));
   for (const koid of koids) drawing.append(drawNode(state.objects.get(koid), spots.get(koid)));
   box.replaceChildren(graphKey(), drawing);
   const middle = spots.get(view.object || center);
@@ -1883,16 +1990,48 @@ function drawEdge(edge, spots) {
   return path;
 }
 
-/** The label of an edge, near that end of it where fewer others end. */
-function drawLabel(edge, spots, edges) {
+const LABEL_HEIGHT = 12;
+const DIGIT_WIDTH = 6.2;
+const SHARES = [0.68, 0.3, 0.5, 0.4, 0.6, 0.76, 0.22, 0.84, 0.15];
+
+/** The labels of the edges, each where it lies on no node and on no other label, if there is such a place on its edge. */
+function drawLabels(edges, spots) {
+  const taken = [...spots.values()].map(({x, y}) => ({x, y, width: NODE_WIDTH, height: NODE_HEIGHT}));
+  return edges.filter((edge) => edge.label).map((edge) => {
+    const box = freestOf(edge, spots, edges, taken);
+    taken.push(box);
+    return makeDrawn('text', {class: 'edge-label', x: box.x, y: box.y + 3}, edge.label);
+  });
+}
+
+/** Of the places along an edge the one that covers least; the first ones are near that end where fewer others end. */
+function freestOf(edge, spots, edges, taken) {
   const points = pointsOf(edge, spots);
-  const out = edges.filter((it) => it.label && it.from === edge.from).length;
-  const into = edges.filter((it) => it.label && it.to === edge.to).length;
   const isAround = spots.get(edge.from).column === spots.get(edge.to).column;
-  const share = isAround ? 0.5 : into > out ? 0.3 : 0.68;
-  const weights = [(1 - share) ** 3, 3 * share * (1 - share) ** 2, 3 * share ** 2 * (1 - share), share ** 3];
+  const first = isAround ? 0.5 : countOf(edges, 'to', edge.to) > countOf(edges, 'from', edge.from) ? 0.3 : 0.68;
+  const boxes = [first, ...SHARES].map((share) => ({
+    ...pointAt(points, share), width: DIGIT_WIDTH * edge.label.length + 3, height: LABEL_HEIGHT,
+  }));
+  const covered = boxes.map((box) => taken.reduce((sum, other) => sum + shared(box, other), 0));
+  return boxes[covered.indexOf(Math.min(...covered))];
+}
+
+function countOf(edges, end, koid) {
+  return edges.filter((edge) => edge.label && edge[end] === koid).length;
+}
+
+/** The point of a curve at a share of its way. */
+function pointAt(points, share) {
+  const rest = 1 - share;
+  const weights = [rest ** 3, 3 * share * rest ** 2, 3 * share ** 2 * rest, share ** 3];
   const [x, y] = [0, 1].map((axis) => points.reduce((sum, point, at) => sum + weights[at] * point[axis], 0));
-  return makeDrawn('text', {class: 'edge-label', x, y: y + 3}, edge.label);
+  return {x, y};
+}
+
+/** The area that two boxes share. */
+function shared(one, other) {
+  const along = (axis, size) => Math.max(0, (one[size] + other[size]) / 2 - Math.abs(one[axis] - other[axis]));
+  return along('x', 'width') * along('y', 'height');
 }
 
 function drawNode(object, {x, y}) {
@@ -1901,19 +2040,28 @@ function drawNode(object, {x, y}) {
   if (isLeaked) classes.push('leaked');
   if (object.koid === view.object) classes.push('picked');
   if (object.life !== 'live') classes.push('ended');
+  const fate = isLeaked ? 'leaked' : object.life === 'live' ? '' : 'ended';
   const node = makeDrawn('g', {
     class: classes.join(' '), 'data-koid': object.koid, tabindex: 0, role: 'link',
-    'aria-label': `${KIND_NAMES[object.kind]} ${object.koid}${isLeaked ? ', leaked' : ''}`,
+    'aria-label': `${KIND_NAMES[object.kind]} ${object.koid}${fate && `, ${fate}`}`,
   });
   node.append(
     makeDrawn('title', {}, `${KIND_NAMES[object.kind]} ${object.koid}: ${signalNames(object.signals, object.kind).join(' ')}`),
     makeDrawn('rect', {x: x - NODE_WIDTH / 2, y: y - NODE_HEIGHT / 2, width: NODE_WIDTH, height: NODE_HEIGHT, rx: 5}),
-    makeDrawn('text', {x, y: y - 1}, object.koid),
+    makeDrawn('text', {x, y: y + (fate ? 1 : -1)}, object.koid),
     makeDrawn('text', {x, y: y + 12, class: 'sort'}, KIND_NAMES[object.kind]),
   );
-  const fate = isLeaked ? 'leaked' : object.life === 'live' ? '' : 'ended';
-  if (fate) node.append(makeDrawn('text', {x, y: y - NODE_HEIGHT / 2 - 4, class: 'sort'}, fate));
+  if (fate) node.append(...fateOf(fate, x, y - NODE_HEIGHT / 2));
   return node;
+}
+
+/** What became of an object, on the upper side of its box. */
+function fateOf(fate, x, y) {
+  const width = 5 * fate.length + 8;
+  return [
+    makeDrawn('rect', {x: x - width / 2, y: y - 7, width, height: 11, rx: 5.5, class: 'fate'}),
+    makeDrawn('text', {x, y: y + 1, class: 'fate'}, fate),
+  ];
 }
 
 function graphKey() {
@@ -2134,7 +2282,6 @@ function showGrowth() {
   if (!isSame) shown.moment = -1;
   if (view.filter || !isSame) search();
   drawAround();
-  later('marks', 150, loadMarks);
 }
 
 async function endProgram() {
@@ -2198,6 +2345,8 @@ function tieParts() {
 async function start() {
   tree.text = '';
   tree.branches = [];
+  traceName = (await ask('/trace')).replace(/\n$/, '');
+  part('trace').textContent = traceName;
   await refreshTree();
   shown.moment = -1;
   showPlace();

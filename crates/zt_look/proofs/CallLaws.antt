@@ -1,9 +1,10 @@
 -- The calls of a path that are asked for, moment by moment.
-use Rattle.std.proofs.Common.{◌||◌, ◌≡◌, ℕ, suc, ◌+◌, ◌≤◌, ◌<◌, Bool, true, false, cond, List, [], ◌∷◌, ◌++◌, length, map, take, get_or, Option, Some, None, refl, sym, ◌∙◌, ap, subst, arith, append-nil}
+use Rattle.std.proofs.Common.{◌||◌, ◌≡◌, ℕ, zero, suc, ◌+◌, ◌≤◌, ◌<◌, Bool, true, false, cond, List, [], ◌∷◌, ◌++◌, length, map, take, get_or, Option, Some, None, refl, sym, ◌∙◌, ap, subst, arith, append-nil}
 use Rattle.std.specs.Prelude.{filter, nat_le, Ok, Err}
 use Rattle.std.specs.List.{filter_map, list_any}
 use Rattle.std.specs.Option.{option_map}
 use Rattle.std.proofs.lemmas.Bool.{leb-true}
+use Rattle.std.proofs.lemmas.Bool.Decides.{nat_tests}
 use Rattle.std.proofs.lemmas.List.{take_more}
 use Rattle.std.proofs.lemmas.List.Elements.{filter-append, filter_map-append}
 use Rattle.zt_rows.specs.declared.calls.Call.{Call}
@@ -12,9 +13,9 @@ use Rattle.zt_rows.specs.declared.refusals.Refusal.{Refusal}
 use Rattle.zt_rows.specs.declared.refusals.Refusal.TheVariants as refusal
 use Rattle.zt_history.specs.HistoryRefusals.{IsHistoryRefusal, moment_on, check, ◌>>=◌}
 use Rattle.zt_history.specs.Timeline.{Timeline, IsPath, moved_to}
-use Rattle.zt_history.specs.Tree.{Made, Tree, last_moment, made_at, call_at, reply_at, end_of}
+use Rattle.zt_history.specs.Tree.{Made, Tree, last_moment, made_at, call_at, parent_at, reply_at}
 use Rattle.zt_history.specs.TreeInvariant.{Falls}
-use Rattle.zt_history.proofs.ListLaws.{end_of-push, get-within}
+use Rattle.zt_history.proofs.ListLaws.{get-within}
 use Rattle.zt_history.proofs.WayLaws.{way-at, way-within}
 use Rattle.zt_look.specs.declared.call_list.CallFilter.{CallFilter}
 use Rattle.zt_look.specs.declared.call_list.CallMade.{CallMade}
@@ -47,6 +48,18 @@ refused-on t m y given h = by (nat_le m (last_moment t)) h
 pub memory-on : {A : Type 0} (t : Tree) (m : ℕ) (y : A) (given : Refusal) → moment_on t m ≡ Ok m → given ≡ refusal.OutOfMemory → IsHistoryRefusal (moment_on t m >>= λ _. Ok y) given
 memory-on t m y given e h = subst (λ r. IsHistoryRefusal (r >>= λ _. Ok y) given) (sym e) h
 
+-- the moment before one that is there is there too
+parent-there : (t : Tree) → Falls t.made → (m : ℕ) → m ≤ last_moment t → parent_at t.made m ≤ last_moment t
+parent-there t falls zero h = omega arith
+parent-there t falls (suc i) h = omega (arith, h, falls i)
+
+-- so that it is refused for want of memory alone, as the one that is there
+pub parent_memory : (t : Tree) → Falls t.made → (m : ℕ) (given : Refusal) → moment_on t m ≡ Ok m → IsHistoryRefusal (moment_on t (parent_at t.made m)) given → IsHistoryRefusal (moment_on t m) given
+parent_memory t falls m given e h =
+    let there : parent_at t.made m ≤ last_moment t = parent-there t falls m (moment-there t m e) in
+    let yes : nat_le (parent_at t.made m) (last_moment t) ≡ true = grind (arith, nat_tests) in
+    subst (λ r. IsHistoryRefusal r given) (sym e) (subst (λ b. IsHistoryRefusal (check b refusal.NoMoment >>= λ _. Ok (parent_at t.made m)) given) yes h)
+
 -- ---- along a path
 
 pub prefix-path : (made : List Made) → Falls made → (way : List ℕ) → IsPath made way → (i : ℕ) → i < length way → IsPath made (take (i + 1) way)
@@ -64,16 +77,14 @@ asked-append made asked xs ys =
     let test : CallMade → Bool = λ c. is_asked made asked c.moment c.process c.reply in
     ap (filter test) (filter_map-append (call_of made) xs ys) ∙ filter-append test (filter_map (call_of made) xs) (filter_map (call_of made) ys)
 
-pub asked-more : (made : List Made) (asked : CallFilter) (way : List ℕ) (i p : ℕ) (ys zs : List CallMade) → i < length way → p ≡ end_of (take (i + 1) way)
+pub asked-more : (made : List Made) (asked : CallFilter) (way : List ℕ) (i p : ℕ) (ys zs : List CallMade) → i < length way → p ≡ get_or way i p
     → ys ≡ asked_among made asked (take i way) → zs ≡ ys ++ asked_among made asked (p ∷ []) → zs ≡ asked_among made asked (take (i + 1) way)
 asked-more made asked way i p ys zs h at so_far more =
-    let one : take (i + 1) way ≡ take i way ++ get_or way i 0 ∷ [] = take_more way i 0 h in
-    let here : p ≡ get_or way i 0 = at ∙ ap end_of one ∙ end_of-push (take i way) (get_or way i 0) in
     more
     ∙ ap (λ l. l ++ asked_among made asked (p ∷ [])) so_far
     ∙ sym (asked-append made asked (take i way) (p ∷ []))
-    ∙ ap (λ q. asked_among made asked (take i way ++ q ∷ [])) here
-    ∙ ap (asked_among made asked) (sym one)
+    ∙ ap (λ q. asked_among made asked (take i way ++ q ∷ [])) at
+    ∙ ap (asked_among made asked) (sym (take_more way i p h))
 
 -- ---- one moment
 

@@ -1,9 +1,9 @@
 -- Events one behind another: those of a call, object by object, and those of a path, moment by moment from its end on.
 use Rattle.std.proofs.Common.{◌≡◌, ◌≤◌, ◌<◌, ◌+◌, ◌-◌, ℕ, zero, suc, Bool, true, false, not, cond, ◌&&◌, ◌||◌, List, [], ◌∷◌, ◌++◌, length, map, take, drop, get_or, Option, Some, None, is_some, inl, inr, refl, sym, ◌∙◌, ap, subst, append_assoc, arith}
-use Rattle.std.specs.Prelude.{◌==◌, slice_get, reverse, ⊤}
+use Rattle.std.specs.Prelude.{◌==◌, nat_lt, position, slice_get, reverse, ⊤}
 use Rattle.std.specs.BTreeMap.{is_at}
 use Rattle.std.specs.BTreeSet.{BTreeSet, contains}
-use Rattle.std.specs.List.{AllByRecursion, flat_map, list_any}
+use Rattle.std.specs.List.{AllByRecursion, flat_map, list_any, position_or_len}
 use Rattle.std.specs.List.Sorted.{IsStrictlySortedBy}
 use Rattle.std.specs.Option.{option_map, unwrap_or}
 use Rattle.std.specs.Ordering.{is_eq, nat_cmp}
@@ -11,6 +11,7 @@ use Rattle.std.specs.declared.cmp.Ordering.TheVariants.{Less}
 use Rattle.std.proofs.lemmas.Bool.{eqb-true, eq-eqb}
 use Rattle.std.proofs.lemmas.Bool.Decides.{nat_tests}
 use Rattle.std.proofs.lemmas.List.{drop_more, reverse-append, reverse-reverse}
+use Rattle.std.proofs.lemmas.List.Sums.{prefix_len-le-length}
 use Rattle.std.proofs.lemmas.List.Folds.{list_any-append}
 use Rattle.std.proofs.lemmas.Map.Keys.{sorted_head, sorted_tail}
 use Rattle.std.proofs.lemmas.Option.{slice_get_read}
@@ -44,12 +45,23 @@ use Rattle.zt_queries.proofs.OnceLaws.{leaked-exists}
 use Rattle.zt_queries.proofs.WayLaws.{way-end, way-parent}
 use Rattle.zt_look.specs.declared.event_list.HappeningSet.{HappeningSet}
 use Rattle.zt_look.specs.declared.event_list.ObjectEvent.{ObjectEvent}
-use Rattle.zt_look.specs.EventList.{AreEvents, AreInOrder, ComesBefore, IsEvent, happening_number, is_asked, is_told, kind_by, kind_or}
+use Rattle.zt_look.specs.EventList.{AreEvents, AreInOrder, ComesBefore, IsEvent, happening_number, is_asked, is_told, kind_by, kind_or, up_to}
 use Rattle.zt_look.specs.ProofsOnly.EventsSoFar.{AddsMoment, AreLeaked, event_if, event_shown, events_shown, is_object, object_over, shows, change_over}
 use Rattle.zt_look.specs.ProofsOnly.RecordSides.{row_before}
 use Rattle.zt_look.proofs.CallLaws.{prefix-path}
 
 -- ---- lists
+
+some_place : (n : ℕ) → ◌≡◌ {A = Option ℕ} (Some n) None → ⊥
+some_place n e = cc
+
+-- a list without a place that passes ends where one would stand
+pub place_none : (p : ℕ → Bool) (xs : List ℕ) → None ≡ position p xs → length xs ≡ position_or_len p xs
+place_none p xs none = by (nat_lt (position_or_len p xs) (length xs)) refl
+  where
+    by : (b : Bool) → nat_lt (position_or_len p xs) (length xs) ≡ b → length xs ≡ position_or_len p xs
+    by true e = absurd (some_place (position_or_len p xs) (sym (none ∙ ap (λ b. cond b (Some (position_or_len p xs)) None) e)))
+    by false e = let most : position_or_len p xs ≤ length xs = prefix_len-le-length (λ x. not (p x)) xs in grind (arith, nat_tests)
 
 all-both : {A : Type 0} (P : A → Type 0) (xs ys : List A) → AllByRecursion P xs → AllByRecursion P ys → AllByRecursion P (xs ++ ys)
 all-both P [] ys a b = b
@@ -530,6 +542,10 @@ module _ (made : List Made) (falls : Falls made) where
   front-path way is (suc i) h =
       let next : i + 1 ≡ suc i = omega arith in
       subst (λ n. IsPath made (take n way)) next (prefix-path made falls way is i (omega (arith, h)))
+
+  -- a part of a path from its beginning on
+  pub up_to-path : (way : List ℕ) → IsPath made way → (last : ℕ) → IsPath made (up_to last way)
+  up_to-path way is last = front-path way is (position_or_len (λ m. nat_lt last m) way) (prefix_len-le-length (λ m. not (nat_lt last m)) way)
 
 -- ---- objects one behind another
 

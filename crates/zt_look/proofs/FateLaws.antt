@@ -1,5 +1,5 @@
 -- What the events of a path tell of each object, and what became of it.
-use Rattle.std.proofs.Common.{◌≡◌, ℕ, zero, suc, ◌+◌, ◌≤◌, ◌<◌, Bool, true, false, cond, not, ◌&&◌, ◌||◌, List, [], ◌∷◌, ◌++◌, length, map, take, get_or, Option, Some, None, is_some, ◌⊎◌, inl, inr, refl, sym, ◌∙◌, ap, subst, arith, append-nil}
+use Rattle.std.proofs.Common.{◌≡◌, ℕ, zero, suc, ◌+◌, ◌≤◌, ◌<◌, Bool, true, false, cond, not, ◌&&◌, ◌||◌, List, [], ◌∷◌, ◌++◌, length, take, get_or, Option, Some, None, is_some, ◌⊎◌, inl, inr, refl, sym, ◌∙◌, ap, subst, arith, append-nil}
 use Rattle.std.specs.Prelude.{◌==◌, filter, if◌then◌else◌}
 use Rattle.std.specs.List.{AllByRecursion, cons_option, last_or, list_any}
 use Rattle.std.specs.List.Sorted.{IsStrictlyIncreasing}
@@ -11,7 +11,6 @@ use Rattle.zt_bits.specs.declared.kinds.Kind.{Kind}
 use Rattle.zt_rows.specs.declared.calls.Happening.{Happening}
 use Rattle.zt_rows.specs.declared.calls.Happening.TheVariants as happening
 use Rattle.zt_rows.specs.declared.rows.ObjectRow.{ObjectRow}
-use Rattle.zt_rows.specs.Consistent.{IsConsistent}
 use Rattle.zt_rows.specs.Opening.{opening}
 use Rattle.zt_rows.specs.Reads.{counters, is_live, object, on_object}
 use Rattle.zt_rows.specs.State.{State}
@@ -25,7 +24,7 @@ use Rattle.zt_history.proofs.LawsOfTrees.{tree-consistent}
 use Rattle.zt_history.proofs.PathLaws.{path-opening, by_parents, among-step, among-self}
 use Rattle.zt_history.proofs.RunLaws.{state-opening}
 use Rattle.zt_queries.specs.Happenings.{lives}
-use Rattle.zt_queries.specs.HappeningTimes.{at_moment, happens, last_on, HappenOnce}
+use Rattle.zt_queries.specs.HappeningTimes.{at_moment, happens, last_on}
 use Rattle.zt_queries.specs.LaterMoments.{leads_to}
 use Rattle.zt_queries.specs.Leaks.{is_leaked}
 use Rattle.zt_queries.proofs.FirstLeakLaws.{gone-unleaked, opening-unleaked}
@@ -37,7 +36,7 @@ use Rattle.zt_look.specs.declared.fates.Fate.TheVariants as fates
 use Rattle.zt_look.specs.declared.fates.ObjectFate.{ObjectFate}
 use Rattle.zt_look.specs.declared.fates.FateTimes.{FateTimes}
 use Rattle.zt_look.specs.EventList.{AreEvents, IsEvent, happening_number, is_asked, is_told, kind_by, kind_or}
-use Rattle.zt_look.specs.Fates.{AreFates, IsFate, fate_at, fate_by, koids, happening_since}
+use Rattle.zt_look.specs.Fates.{AreFates, IsFate, fate_by, koids, happening_since}
 use Rattle.zt_look.specs.ProofsOnly.FatesSoFar.{AreFatesUpTo, AreFateTimes, fate_shown, fate_told, fates_below, is_at, is_turn, kind_told, latest, moment_in, no_fate_times, of_fates, shown, told, fate_times, turned, turned_by}
 use Rattle.zt_look.proofs.HandleLaws.{rising-push}
 

@@ -1,7 +1,7 @@
 -- Messages and packets of an object number by number, and the waits for a port or on what names an object.
-use Rattle.std.proofs.Common.{◌≡◌, ℕ, suc, ◌+◌, ◌-◌, ◌≤◌, ◌<◌, Bool, true, false, cond, ◌||◌, List, [], ◌∷◌, ◌++◌, length, Option, Some, None, IsSome, IfSome, is_some, ◌⊎◌, inl, inr, refl, sym, ◌∙◌, ap, subst, arith}
-use Rattle.std.specs.Prelude.{◌==◌, nat_lt, min}
-use Rattle.std.specs.Option.{option_map, option_map_or}
+use Rattle.std.proofs.Common.{◌≡◌, ℕ, ◌+◌, ◌≤◌, ◌<◌, Bool, true, false, cond, ◌||◌, List, [], ◌++◌, Option, Some, None, ◌⊎◌, inl, inr, refl, sym, ◌∙◌, ap, subst, arith}
+use Rattle.std.specs.Prelude.{◌==◌, nat_lt}
+use Rattle.std.specs.Option.{option_map_or}
 use Rattle.std.specs.declared.cmp.Ordering.{Ordering}
 use Rattle.std.specs.declared.cmp.Ordering.TheVariants.{Less, Equal, Greater}
 use Rattle.std.specs.Ordering.{is_lt, nat_cmp, ordering_then}
@@ -14,14 +14,13 @@ use Rattle.zt_rows.specs.declared.rows.Row.{Row}
 use Rattle.zt_rows.specs.declared.rows.Row.TheVariants as rows
 use Rattle.zt_rows.specs.declared.rows.Wait.{Wait}
 use Rattle.zt_rows.specs.Consistent.{IsConsistent}
-use Rattle.zt_rows.specs.Contents.{MessageContent}
 use Rattle.zt_rows.specs.Keys.{rowkey_cmp}
 use Rattle.zt_rows.specs.Reads.{as_message, as_packet, as_wait, wait}
 use Rattle.zt_rows.specs.Room.{suits}
 use Rattle.zt_rows.specs.State.{State, row}
 use Rattle.zt_rows.specs.Tests.{next_at}
 use Rattle.zt_rows.proofs.ReadLaws.{wait-row}
-use Rattle.zt_index.specs.Chains.{IsBehind, IsNext, IsShortOf}
+use Rattle.zt_index.specs.Chains.{IsBehind, IsShortOf}
 use Rattle.zt_index.specs.Criteria.{is_at, is_for, waits_where}
 use Rattle.zt_look.specs.declared.object_rows.Owned.{Owned}
 use Rattle.zt_look.specs.declared.object_rows.Owned.TheVariants as part

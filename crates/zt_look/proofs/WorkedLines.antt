@@ -1,10 +1,10 @@
 -- Lines that were written by hand, as theorems.
-use Rattle.std.proofs.Common.{◌≡◌, ℕ, List, [], ◌∷◌, ◌++◌, refl}
+use Rattle.std.proofs.Common.{◌≡◌, [], ◌∷◌, ◌++◌, refl}
 use Rattle.std.specs.Prelude.{codes, pos, true, false, None, Some}
 use Rattle.std.specs.Fmt.{digits}
+use Rattle.zt_bits.specs.declared.kinds.Kind.{Kind}
 use Rattle.zt_bits.specs.declared.kinds.Kind.TheVariants as kind
 use Rattle.zt_bits.specs.declared.statuses.Status.TheVariants as status
-use Rattle.zt_rows.specs.declared.calls.Call.{Call}
 use Rattle.zt_rows.specs.declared.calls.Call.TheVariants as calls
 use Rattle.zt_rows.specs.declared.calls.Happening.TheVariants as happening
 use Rattle.zt_rows.specs.declared.calls.Reply.TheVariants as reply
@@ -20,11 +20,14 @@ use Rattle.zt_text.specs.ShownNumbers.{hexadecimal}
 use Rattle.zt_text.specs.Answers.{shown_key, shown_reply, shown_support}
 use Rattle.zt_text.specs.Calls.{shown_call}
 use Rattle.zt_look.specs.declared.message_list.MessageEnd.TheVariants as message_end
-use Rattle.zt_look.specs.declared.message_list.QueuedMessage.{QueuedMessage}
 use Rattle.zt_look.specs.declared.fates.Fate.TheVariants as fate
-use Rattle.zt_look.specs.Names.{shown_bits, shown_rights, shown_signals}
-use Rattle.zt_look.specs.NamedTexts.{object_text, packet_text, queued_text, wait_text, row_text, line_of_row, call_text, reply_text}
-use Rattle.zt_look.specs.Lines.{call_made_line, change_lines, handle_line, event_line, when_line, content_line, written_line, end_line, branch_line, object_line, holder_lines, call_count_line, fate_line}
+use Rattle.zt_look.specs.declared.lines.names.Naming.{Naming}
+use Rattle.zt_look.specs.Names.{masks, shown_bits, shown_rights, shown_signals}
+use Rattle.zt_look.specs.NamedTexts.{object_text, packet_text, row_text, call_text, reply_text}
+use Rattle.zt_look.specs.Lines.{of_any, call_made_line, change_lines, handle_line, event_line, when_line, content_line, written_line, end_line, branch_line, object_line, holder_lines, call_count_line, fate_line}
+
+abbrev of_kind : Kind → Naming
+of_kind kind = record { names = true; kind = Some kind }
 
 -- ---- names
 
@@ -36,11 +39,11 @@ record Names : Type 0 where
   unnamed : shown_rights true 0x10 ≡ codes "0x00000010"
   partly : shown_rights true 0x40000014 ≡ codes "READ|0x40000010"
   mask : shown_rights false 0x7 ≡ codes "0x00000007"
-  signaled : shown_signals true (Some kind.Event) 0x8 ≡ codes "SIGNALED"
-  terminated : shown_signals true (Some kind.Process) 0x8 ≡ codes "TERMINATED"
-  of_a_job : shown_signals true (Some kind.Job) 0x38 ≡ codes "TERMINATED|NO_JOBS|NO_PROCESSES"
-  unknown : shown_signals true None 0xf ≡ codes "READABLE|WRITABLE|PEER_CLOSED|SIGNALED"
-  user : shown_signals true None 0x81000000 ≡ codes "USER_0|USER_7"
+  signaled : shown_signals (of_kind kind.Event) 0x8 ≡ codes "SIGNALED"
+  terminated : shown_signals (of_kind kind.Process) 0x8 ≡ codes "TERMINATED"
+  of_a_job : shown_signals (of_kind kind.Job) 0x38 ≡ codes "TERMINATED|NO_JOBS|NO_PROCESSES"
+  unknown : shown_signals (of_any true) 0xf ≡ codes "READABLE|WRITABLE|PEER_CLOSED|0x00000008"
+  user : shown_signals (of_any true) 0x81000000 ≡ codes "USER_0|USER_7"
 
 names : Names
 unfolding digits hexadecimal shown_bits shown_rights shown_signals
@@ -68,14 +71,14 @@ abbrev held_row : Row
 held_row = rows.Entry (record { koid = 1026; rights = record { 0 = 0xf } })
 
 record Calls : Type 0 where
-  closed : call_made_line false (record { moment = 3; process = 1025; call = calls.HandleClose 7; reply = reply.Status status.Ok }) ≡ codes "3 1025 handle_close 7 => ok" ++ (10 ∷ [])
-  copied : call_made_line true (record { moment = 4; process = 1025; call = calls.HandleDuplicate 7 0x80000000; reply = reply.Handle 11 }) ≡ codes "4 1025 handle_duplicate 7 SAME_RIGHTS => ok 11" ++ (10 ∷ [])
-  signaled : call_made_line true (record { moment = 5; process = 1025; call = calls.ObjectSignal 7 (record { 0 = 0 }) (record { 0 = 0x8 }); reply = reply.Status status.AccessDenied }) ≡ codes "5 1025 object_signal 7 NONE SIGNALED => access_denied" ++ (10 ∷ [])
-  waited : call_made_line true (record { moment = 6; process = 1025; call = calls.ObjectWaitAsync 7 11 4 (record { 0 = 0x8 }) true; reply = reply.Status status.Ok }) ≡ codes "6 1025 object_wait_async 7 11 4 SIGNALED edge => ok" ++ (10 ∷ [])
-  fired : call_made_line true (record { moment = 7; process = 1025; call = calls.PortWait 11; reply = reply.Packet (packet.Signal 4 (record { 0 = 0x8 }) (record { 0 = 0x1000008 }) 1025 7) }) ≡ codes "7 1025 port_wait 11 => ok signal 4 SIGNALED SIGNALED|USER_0" ++ (10 ∷ [])
-  changed : change_lines true (record { key = key.Object 1030; before = Some (rows.Object process); after = None }) ≡ codes "- object 1030 process TERMINATED 1026 live 4" ++ (10 ∷ [])
-  new : change_lines false (record { key = key.Entry 1025 7; before = None; after = Some held_row }) ≡ codes "+ entry 1025 7 1026 0x0000000f" ++ (10 ∷ [])
-  both : change_lines true (record { key = key.Counters; before = Some (rows.Counters (record { next_koid = 1026; next_wait = 0 })); after = Some (rows.Counters (record { next_koid = 1027; next_wait = 0 })) }) ≡ codes "- counters 1026 0" ++ (10 ∷ (codes "+ counters 1027 0" ++ (10 ∷ [])))
+  closed : call_made_line masks (record { moment = 3; process = 1025; call = calls.HandleClose 7; reply = reply.Status status.Ok }) ≡ codes "3 1025 handle_close 7 => ok" ++ (10 ∷ [])
+  copied : call_made_line (of_any true) (record { moment = 4; process = 1025; call = calls.HandleDuplicate 7 0x80000000; reply = reply.Handle 11 }) ≡ codes "4 1025 handle_duplicate 7 SAME_RIGHTS => ok 11" ++ (10 ∷ [])
+  signaled : call_made_line (of_kind kind.EventPair) (record { moment = 5; process = 1025; call = calls.ObjectSignal 7 (record { 0 = 0 }) (record { 0 = 0x8 }); reply = reply.Status status.AccessDenied }) ≡ codes "5 1025 object_signal 7 NONE SIGNALED => access_denied" ++ (10 ∷ [])
+  waited : call_made_line (of_kind kind.Process) (record { moment = 6; process = 1025; call = calls.ObjectWaitAsync 7 11 4 (record { 0 = 0x8 }) true; reply = reply.Status status.Ok }) ≡ codes "6 1025 object_wait_async 7 11 4 TERMINATED edge => ok" ++ (10 ∷ [])
+  fired : call_made_line (of_kind kind.Job) (record { moment = 7; process = 1025; call = calls.PortWait 11; reply = reply.Packet (packet.Signal 4 (record { 0 = 0x8 }) (record { 0 = 0x1000008 }) 1025 7) }) ≡ codes "7 1025 port_wait 11 => ok signal 4 TERMINATED TERMINATED|USER_0" ++ (10 ∷ [])
+  changed : change_lines (of_any true) (record { key = key.Object 1030; before = Some (rows.Object process); after = None }) ≡ codes "- object 1030 process TERMINATED 1026 live 4" ++ (10 ∷ [])
+  new : change_lines masks (record { key = key.Entry 1025 7; before = None; after = Some held_row }) ≡ codes "+ entry 1025 7 1026 0x0000000f" ++ (10 ∷ [])
+  both : change_lines (of_any true) (record { key = key.Counters; before = Some (rows.Counters (record { next_koid = 1026; next_wait = 0 })); after = Some (rows.Counters (record { next_koid = 1027; next_wait = 0 })) }) ≡ codes "- counters 1026 0" ++ (10 ∷ (codes "+ counters 1027 0" ++ (10 ∷ [])))
   handle : handle_line false (record { value = 7; koid = 1026; kind = kind.Job; rights = record { 0 = 0xf } }) ≡ codes "7 1026 job 0x0000000f" ++ (10 ∷ [])
   named : handle_line true (record { value = 7; koid = 1026; kind = kind.Job; rights = record { 0 = 0xf } }) ≡ codes "7 1026 job DUPLICATE|TRANSFER|READ|WRITE" ++ (10 ∷ [])
   event : event_line false (record { moment = 8; koid = 1030; what = happening.Made; kind = kind.Process }) 1025 (calls.Spawn 3 23) ≡ codes "8 made 1030 process 1025 spawn 3 23" ++ (10 ∷ [])

@@ -1,5 +1,5 @@
 -- The calls on a path, and which of them are asked for. This project's own.
-use Rattle.std.specs.Prelude.{ℕ, Bool, true, false, not, ◌==◌, ◌&&◌, ◌||◌, nat_le, List, filter, Option, None, Some, Result, Ok}
+use Rattle.std.specs.Prelude.{◌≡◌, ℕ, Bool, true, false, not, ◌==◌, ◌&&◌, ◌||◌, nat_le, if◌then◌else◌, List, filter, Option, None, Some, is_some, Result, Ok}
 use Rattle.std.specs.List.{filter_map, list_any}
 use Rattle.std.specs.Option.{option_map}
 use Rattle.zt_bits.specs.declared.statuses.Status.TheVariants as status
@@ -77,6 +77,14 @@ is_asked made asked m process answered =
 -- the calls of these moments that are asked for
 abbrev pub asked_among : List Made → CallFilter → List ℕ → List CallMade
 asked_among made asked way = filter (λ c. is_asked made asked c.moment c.process c.reply) (filter_map (call_of made) way)
+
+-- the history stands at the moment, where an object is asked for
+abbrev pub StandsFor : CallFilter → ℕ → ℕ → Type 0
+StandsFor asked position m = is_some asked.object ≡ true → position ≡ m
+
+-- the first where an object is asked for, or else the second
+abbrev pub if_object : {A : Type 0} → CallFilter → A → A → A
+if_object asked moved stayed = if is_some asked.object then moved else stayed
 
 -- those on the path to a moment of the tree
 abbrev pub calls_on : Tree → ℕ → CallFilter → Result (List CallMade) Refusal

@@ -1,6 +1,6 @@
 -- What happened to objects in the calls of a path, as a list. This project's own.
-use Rattle.std.specs.Prelude.{◌≡◌, ◌⊎◌, ℕ, ◌<◌, Bool, true, ◌==◌, ◌&&◌, ⊤, List, [], ◌∷◌, Option, None, Some}
-use Rattle.std.specs.List.{AllByRecursion, list_any}
+use Rattle.std.specs.Prelude.{◌≡◌, ◌⊎◌, ℕ, ◌<◌, nat_lt, nat_le, Bool, true, ◌==◌, ◌&&◌, ⊤, List, [], ◌∷◌, take, drop, Option, None, Some}
+use Rattle.std.specs.List.{AllByRecursion, list_any, position_or_len}
 use Rattle.zt_bits.specs.declared.kinds.Kind.{Kind}
 use Rattle.zt_rows.specs.declared.calls.Happening.{Happening}
 use Rattle.zt_rows.specs.declared.calls.Happening.TheVariants as happening
@@ -17,6 +17,14 @@ is_asked asked happening.Made = asked.made
 is_asked asked happening.Ended = asked.ended
 is_asked asked happening.PeerClosed = asked.peer_closed
 is_asked asked happening.Leaked = asked.leaked
+
+-- the moments of a path up to this one, which need not be on it
+abbrev pub up_to : ℕ → List ℕ → List ℕ
+up_to last way = take (position_or_len (λ m. nat_lt last m) way) way
+
+-- those from one to another
+abbrev pub between : ℕ → ℕ → List ℕ → List ℕ
+between first last way = let part = up_to last way in drop (position_or_len (λ m. nat_le first m) part) part
 
 -- ---- one event
 

@@ -9,6 +9,7 @@ pub mod ObjectLook
 pub mod CallCounts
 pub mod Fates
 pub mod Names
+pub mod Signaled
 pub mod NamedTexts
 pub mod Lines
 pub mod QueuedMessages

@@ -13,6 +13,7 @@ use Rattle.zt_rows.specs.declared.rows.ObjectRow.{ObjectRow}
 use Rattle.zt_rows.specs.declared.rows.Row.{Row}
 use Rattle.zt_rows.specs.declared.rows.Row.TheVariants as rows
 use Rattle.zt_rows.specs.declared.supports.Support.{Support}
+use Rattle.zt_rows.specs.State.{State}
 use Rattle.zt_text.specs.Answers.{as_line, heading, support_line}
 use Rattle.zt_text.specs.ShownNumbers.{words, shown_bytes, shown_list}
 use Rattle.zt_look.specs.declared.call_list.CallMade.{CallMade}
@@ -27,8 +28,14 @@ use Rattle.zt_look.specs.declared.call_counts.CallCount.{CallCount}
 use Rattle.zt_look.specs.declared.fates.Fate.{Fate}
 use Rattle.zt_look.specs.declared.fates.Fate.TheVariants as fate
 use Rattle.zt_look.specs.declared.fates.ObjectFate.{ObjectFate}
+use Rattle.zt_look.specs.declared.lines.names.Naming.{Naming}
 use Rattle.zt_look.specs.Names.{shown_rights}
 use Rattle.zt_look.specs.NamedTexts.{held_text, line_of_row, call_text, reply_text}
+use Rattle.zt_look.specs.Signaled.{kind_of_row}
+
+-- names for signals of an object whose kind is not known
+abbrev pub of_any : Bool → Naming
+of_any names = record { names = names; kind = None }
 
 -- a line of words with a space between
 abbrev pub line : List (List ℕ) → List ℕ
@@ -55,20 +62,20 @@ fate_word fate.Dead = codes "dead"
 -- ---- calls
 
 -- a call with its moment and its reply
-abbrev pub call_made_line : Bool → CallMade → List ℕ
-call_made_line names made =
-    line (decimal made.moment ∷ call_text names made.process made.call ∷ codes "=>" ∷ reply_text names made.reply ∷ [])
+abbrev pub call_made_line : Naming → CallMade → List ℕ
+call_made_line naming made =
+    line (decimal made.moment ∷ call_text naming made.process made.call ∷ codes "=>" ∷ reply_text naming made.reply ∷ [])
 
 -- ---- what a call changed
 
 -- a row behind a mark, where there is one
-abbrev pub marked_line : Bool → List ℕ → RowKey → Option Row → List ℕ
-marked_line names mark under None = []
-marked_line names mark under (Some row) = mark ++ line_of_row names (under, row)
+abbrev pub marked_line : Naming → List ℕ → RowKey → Option Row → List ℕ
+marked_line naming mark under None = []
+marked_line naming mark under (Some row) = mark ++ line_of_row naming (under, row)
 
-abbrev pub change_lines : Bool → Change → List ℕ
-change_lines names change =
-    marked_line names (codes "- ") change.key change.before ++ marked_line names (codes "+ ") change.key change.after
+abbrev pub change_lines : Naming → Change → List ℕ
+change_lines naming change =
+    marked_line naming (codes "- ") change.key change.before ++ marked_line naming (codes "+ ") change.key change.after
 
 -- ---- handles
 
@@ -81,12 +88,12 @@ handle_line names handle =
 -- with the call of its moment
 abbrev pub event_line : Bool → ObjectEvent → ℕ → Call → List ℕ
 event_line names event process made =
-    line (decimal event.moment ∷ happening_word event.what ∷ decimal event.koid ∷ kind_word event.kind ∷ call_text names process made ∷ [])
+    line (decimal event.moment ∷ happening_word event.what ∷ decimal event.koid ∷ kind_word event.kind ∷ call_text (of_any names) process made ∷ [])
 
 -- when it happened, with the call of the moment, or that it did not
 abbrev pub when_words : Bool → Option (ℕ × ℕ × Call) → List (List ℕ)
 when_words names None = codes "never" ∷ []
-when_words names (Some (moment, process, made)) = decimal moment ∷ call_text names process made ∷ []
+when_words names (Some (moment, process, made)) = decimal moment ∷ call_text (of_any names) process made ∷ []
 
 abbrev pub when_line : Bool → Happening → Option (ℕ × ℕ × Call) → List ℕ
 when_line names what found = line (happening_word what ∷ when_words names found)
@@ -99,12 +106,12 @@ content_line names number content =
 
 abbrev pub written_line : Bool → ℕ → ℕ → ℕ × Call → List ℕ
 written_line names number moment (process, made) =
-    line (decimal number ∷ codes "written" ∷ decimal moment ∷ call_text names process made ∷ [])
+    line (decimal number ∷ codes "written" ∷ decimal moment ∷ call_text (of_any names) process made ∷ [])
 
 -- a call, where one is told
 abbrev pub call_words : Bool → Option (ℕ × Call) → List (List ℕ)
 call_words names None = []
-call_words names (Some (process, made)) = call_text names process made ∷ []
+call_words names (Some (process, made)) = call_text (of_any names) process made ∷ []
 
 -- what became of a message, with the call that did it
 abbrev pub end_words : Bool → Option (ℕ × MessageEnd) → Option (ℕ × Call) → List (List ℕ)
@@ -135,18 +142,22 @@ branch_line name head leaves = line (codes "branch" ∷ name ∷ decimal head �
 -- its row, or that it has none
 abbrev pub object_line : Bool → ℕ → Option ObjectRow → List ℕ
 object_line names koid None = line (codes "object" ∷ decimal koid ∷ codes "gone" ∷ [])
-object_line names koid (Some object) = line_of_row names (key.Object koid, rows.Object object)
+object_line names koid (Some object) = line_of_row (of_any names) (key.Object koid, rows.Object object)
 
 -- what keeps it, where it has a row
 abbrev pub holder_lines : ℕ → Option ObjectRow → List Support → List ℕ
 holder_lines koid None kept = []
 holder_lines koid (Some object) kept = heading (codes "holders") koid (length kept) ++ flat_map support_line kept
 
-abbrev pub object_lines : Bool → ObjectLook → List ℕ
-object_lines names object =
+-- a row, with signals by their names as the state tells the kind of their object
+abbrev pub line_in : Bool → State → RowKey × Row → List ℕ
+line_in names S row = line_of_row (record { names = names; kind = kind_of_row S row.1 }) row
+
+abbrev pub object_lines : Bool → State → ObjectLook → List ℕ
+object_lines names S object =
     object_line names object.koid object.row ++ holder_lines object.koid object.row object.holders
-    ++ flat_map (line_of_row names) object.messages.items ++ flat_map (line_of_row names) object.packets.items
-    ++ flat_map (line_of_row names) object.waits.items
+    ++ flat_map (line_in names S) object.messages.items ++ flat_map (line_in names S) object.packets.items
+    ++ flat_map (line_in names S) object.waits.items
 
 -- ---- counts
 

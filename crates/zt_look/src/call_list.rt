@@ -1,9 +1,9 @@
-ghost use Rattle.std.specs.Prelude.{◌≡◌, ◌==◌, ◌++◌, ◌∷◌, [], map, if◌then◌else◌, Ok, IfOk, IfErr, OnOk, OnErr};
+ghost use Rattle.std.specs.Prelude.{◌≡◌, ◌==◌, ◌++◌, ◌∷◌, [], map, if◌then◌else◌, None, Ok, IfOk, IfErr, OnOk, OnErr};
 ghost use Rattle.std.specs.List.{list_any};
 ghost use Rattle.zt_history.specs.HistoryRefusals.{IsHistoryRefusal};
 ghost use Rattle.zt_history.specs.Timeline.{moved_to, IsPath};
 ghost use Rattle.zt_history.specs.Tree.{end_of};
-ghost use Rattle.zt_look.specs.CallList.{calls_on, asked_among, is_asked, is_within, is_failed, is_by, is_about, touched, touches, is_of, names};
+ghost use Rattle.zt_look.specs.CallList.{calls_on, asked_among, is_asked, is_within, is_failed, is_by, is_about, touched, touches, is_of, names, if_object, StandsFor};
 ghost use Rattle.zt_look.specs.ProofsOnly.RecordSides.{change_under, row_before};
 ghost use Rattle.zt_rows.specs.State.{row};
 ghost use Rattle.std.specs.Option.{option_copied};
@@ -36,8 +36,9 @@ pub struct CallFilter {
     pub object: Option<Koid>,
 }
 
-/// The calls on the path to a moment that are asked for, in the path's order. The history goes along the path, at the cost
-/// of its records.
+/// The calls on the path to a moment that are asked for, in the path's order. Where those are asked for that changed rows of an
+/// object, the history goes over the moments from the first that is asked for to the last, at the cost of their records, and then to
+/// the moment; else it stays where it stands.
 pub fn calls(
     alloc: Global,
     history: &mut History,
@@ -46,12 +47,49 @@ pub fn calls(
 ) -> Result<Vec<CallMade>, Refusal>
     ensures ok { IfOk result (λ list. calls_on history.old.tree at asked.now ≡ Ok list.items) }
     ensures refused { IfErr result (IsHistoryRefusal (calls_on history.old.tree at asked.now)) }
-    ensures moved { OnOk result (history.new ≡ moved_to history.old at) }
+    ensures moved { OnOk result (history.new ≡ if_object asked.now (moved_to history.old at) history.old) }
     ensures tree { OnErr result (history.new.tree ≡ history.old.tree) }
 {
     let way = history.path(at)?;
-    let list = calls_along(alloc, history, way.as_slice(), asked)?;
+    let list = match asked.object {
+        Some(_) => calls_along(alloc, history, way.as_slice(), asked)?,
+        None => calls_standing(alloc, history, way.as_slice(), asked)?,
+    };
     Ok(list)
+}
+
+/// The calls on a path that are asked for, where no object is.
+fn calls_standing(
+    alloc: Global,
+    history: &History,
+    way: &[Moment],
+    asked: &CallFilter,
+) -> Result<Vec<CallMade>, AllocError>
+    requires { asked.now.object ≡ None }
+    ensures { IfOk result (λ list. list.items ≡ asked_among history.now.tree.made asked.now way.now) }
+{
+    let mut list = Vec::new(alloc);
+    for place in 0..way.len() {
+        push_within(&mut list, history, asked, way[place])?;
+    }
+    Ok(list)
+}
+
+/// Puts the call of a moment behind the others, where it is asked for, if no object is.
+fn push_within(
+    list: &mut Vec<CallMade>,
+    history: &History,
+    asked: &CallFilter,
+    moment: Moment,
+) -> Result<(), AllocError>
+    requires { asked.now.object ≡ None }
+    ensures { OnOk result (list.new.items ≡ list.old.items ++ asked_among history.now.tree.made asked.now (moment ∷ [])) }
+{
+    if is_within(asked, moment) {
+        push_asked(list, history, asked, moment)
+    } else {
+        Ok(())
+    }
 }
 
 /// The calls on a path that are asked for; the history goes along it.
@@ -69,46 +107,70 @@ fn calls_along(
     limits(history);
     let mut list = Vec::new(alloc);
     for place in 0..way.len() {
-        history.along(&way[..place + 1]);
-        push_asked(&mut list, history, asked)?;
+        push_last(&mut list, history, &way[..place + 1], way[place], asked)?;
     }
     history.along(way);
     Ok(list)
 }
 
-/// Puts the call of the position behind the others, where it is asked for.
+/// Puts the call of the last moment of a path behind the others, where it is asked for. The history goes there if the moment is
+/// among those that are asked for.
+fn push_last(
+    list: &mut Vec<CallMade>,
+    history: &mut History,
+    way: &[Moment],
+    last: Moment,
+    asked: &CallFilter,
+) -> Result<(), AllocError>
+    requires path { IsPath history.old.tree.made way.now }
+    requires last { end_of way.now ≡ last }
+    ensures list { OnOk result (list.new.items ≡ list.old.items ++ asked_among history.old.tree.made asked.now (last ∷ [])) }
+    ensures tree { history.new.tree ≡ history.old.tree }
+{
+    if is_within(asked, last) {
+        history.along(way);
+        push_asked(list, history, asked, last)
+    } else {
+        Ok(())
+    }
+}
+
+/// Puts the call of a moment behind the others, where it is asked for. The history stands there, if an object is asked for.
 fn push_asked(
     list: &mut Vec<CallMade>,
     history: &History,
     asked: &CallFilter,
+    moment: Moment,
 ) -> Result<(), AllocError>
-    ensures { OnOk result (list.new.items ≡ list.old.items ++ asked_among history.now.tree.made asked.now (history.now.position ∷ [])) }
+    requires { StandsFor asked.now history.now.position moment }
+    ensures { OnOk result (list.new.items ≡ list.old.items ++ asked_among history.now.tree.made asked.now (moment ∷ [])) }
 {
-    let moment = history.position();
     match history.call_of(moment) {
         Some((process, call)) => match history.reply_of(moment) {
-            Some(reply) => push_if_asked(list, history, asked, process, call, reply),
+            Some(reply) => push_if_asked(list, history, asked, moment, process, call, reply),
             None => Ok(()),
         },
         None => Ok(()),
     }
 }
 
-/// Puts this call of the process at the position, with this reply, behind the others, where it is asked for.
+/// Puts this call of the process at a moment, with this reply, behind the others, where it is asked for.
 fn push_if_asked(
     list: &mut Vec<CallMade>,
     history: &History,
     asked: &CallFilter,
+    moment: Moment,
     process: Koid,
     call: &Call,
     reply: &Reply,
 ) -> Result<(), AllocError>
+    requires { StandsFor asked.now history.now.position moment }
     ensures { OnOk result (list.new.items ≡ list.old.items
-        ++ (if is_asked history.now.tree.made asked.now history.now.position process reply.now
-        then record { moment = history.now.position; process = process; call = call.now; reply = reply.now } ∷ [] else [])) }
+        ++ (if is_asked history.now.tree.made asked.now moment process reply.now
+        then record { moment = moment; process = process; call = call.now; reply = reply.now } ∷ [] else [])) }
 {
-    if is_asked(history, asked, process, reply) {
-        push_copy(list, history.position(), process, call, reply)
+    if is_asked(history, asked, moment, process, reply) {
+        push_copy(list, moment, process, call, reply)
     } else {
         Ok(())
     }
@@ -134,14 +196,21 @@ fn push_copy(
     Ok(())
 }
 
-/// Whether the call of the position, which this process made and which was answered so, is asked for.
-fn is_asked(history: &History, asked: &CallFilter, process: Koid, reply: &Reply) -> bool
-    ensures { result ≡ is_asked history.now.tree.made asked.now history.now.position process reply.now }
+/// Whether the call of a moment, which this process made and which was answered so, is asked for.
+fn is_asked(
+    history: &History,
+    asked: &CallFilter,
+    moment: Moment,
+    process: Koid,
+    reply: &Reply,
+) -> bool
+    requires { StandsFor asked.now history.now.position moment }
+    ensures { result ≡ is_asked history.now.tree.made asked.now moment process reply.now }
 {
-    is_within(asked, history.position())
+    is_within(asked, moment)
         && (!asked.failed || is_failed(reply))
         && is_by(asked.process, process)
-        && is_about(asked.object, history)
+        && is_about(asked, history, moment)
 }
 
 /// Whether the moment is among those that are asked for.
@@ -172,11 +241,12 @@ fn is_by(asked: Option<Koid>, process: Koid) -> bool
     }
 }
 
-/// Whether the call of the position changed a row of the object that is asked for or of a handle that names it, if one is.
-fn is_about(asked: Option<Koid>, history: &History) -> bool
-    ensures { result ≡ is_about asked history.now.tree.made history.now.position }
+/// Whether the call of a moment changed a row of the object that is asked for or of a handle that names it, if one is.
+fn is_about(asked: &CallFilter, history: &History, moment: Moment) -> bool
+    requires { StandsFor asked.now history.now.position moment }
+    ensures { result ≡ is_about asked.now.object history.now.tree.made moment }
 {
-    match asked {
+    match asked.object {
         Some(koid) => is_touched(history, koid),
         None => true,
     }

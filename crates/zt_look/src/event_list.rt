@@ -1,12 +1,12 @@
-ghost use Rattle.std.specs.Prelude.{◌≡◌, ◌++◌, ◌∷◌, [], ◌||◌, ◌<◌, ◌≤◌, ℕ, true, length, map, Ok, IfOk, IfErr, OnOk, OnErr};
+ghost use Rattle.std.specs.Prelude.{◌≡◌, ◌++◌, ◌∷◌, [], ◌||◌, ◌<◌, ◌≤◌, nat_le, nat_lt, position, ℕ, true, length, map, drop, Ok, IfOk, IfErr, IfSome, OnOk, OnErr};
 ghost use Rattle.std.specs.BTreeSet.{contains, IsOrdered};
-ghost use Rattle.std.specs.List.{flat_map, list_any};
+ghost use Rattle.std.specs.List.{flat_map, list_any, position_or_len};
 ghost use Rattle.std.specs.Option.{option_copied};
 ghost use Rattle.std.specs.Ordering.{nat_cmp};
 ghost use Rattle.zt_history.specs.HistoryRefusals.{IsHistoryRefusal, moment_on};
 ghost use Rattle.zt_history.specs.Timeline.{moved_to, IsPath};
 ghost use Rattle.zt_history.specs.Tree.{end_of, parent_at, path, state_at};
-ghost use Rattle.zt_look.specs.EventList.{AreEvents, is_asked};
+ghost use Rattle.zt_look.specs.EventList.{AreEvents, between, is_asked, up_to};
 ghost use Rattle.zt_look.specs.ProofsOnly.EventsSoFar.{AddsMoment, AreLeaked, event_shown, events_shown, is_object, kind_shown, object_over, shows, change_over};
 ghost use Rattle.zt_look.specs.ProofsOnly.UnleakedSet.{IsUnleakedSet};
 ghost use Rattle.zt_history.specs.RowHappenings.{is_cut_off};
@@ -41,6 +41,14 @@ pub struct HappeningSet {
     pub leaked: bool,
 }
 
+/// Which events are asked for: those of the moments from the first to the last, and of these the ones of these happenings.
+#[derive(Clone, Copy)]
+pub struct EventFilter {
+    pub first: Moment,
+    pub last: Moment,
+    pub happenings: HappeningSet,
+}
+
 /// What a moment's call did to an object: its rows before and after the call, and whether the call leaked it.
 #[derive(Clone, Copy)]
 struct ObjectChange {
@@ -67,19 +75,82 @@ pub fn events(
     ensures tree { OnErr result (history.new.tree ≡ history.old.tree) }
 {
     let way = history.path(at)?;
-    let list = events_along(alloc, history, way.as_slice(), asked)?;
+    let list = events_along(alloc, history, way.as_slice(), 0, asked)?;
     Ok(list)
 }
 
-/// The events on a path; the history goes back along it, and then to its end.
+/// The same of those of its moments that are asked for. The history goes to the last of them and back over them, at the cost of
+/// their records, and then to that last one again; where leaks are asked for, at that of their search there too.
+pub fn events_between(
+    alloc: Global,
+    history: &mut History,
+    at: Moment,
+    asked: &EventFilter,
+) -> Result<Vec<ObjectEvent>, Refusal>
+    ensures ok { IfOk result (λ list. AreEvents history.old.tree.made asked.now.happenings
+        (between asked.now.first asked.now.last (path history.old.tree.made at)) list.items) }
+    ensures within { OnOk result (moment_on history.old.tree at ≡ Ok at) }
+    ensures refused { IfErr result (IsHistoryRefusal (moment_on history.old.tree at)) }
+    ensures moved { OnOk result (history.new ≡ moved_to history.old (end_of (up_to asked.now.last (path history.old.tree.made at)))) }
+    ensures tree { OnErr result (history.new.tree ≡ history.old.tree) }
+{
+    limits(history);
+    let path = history.path(at)?;
+    let way = up_to(path.as_slice(), asked.last);
+    let start = place_from(way, asked.first);
+    let list = events_along(alloc, history, way, start, &asked.happenings)?;
+    Ok(list)
+}
+
+/// The moments of a path up to this one.
+fn up_to(way: &[Moment], last: Moment) -> &[Moment]
+    ensures { result.now ≡ up_to last way.now }
+{
+    match first_beyond(way, last) {
+        Some(place) => &way[..place],
+        None => way,
+    }
+}
+
+/// The place of the first moment of a path that is this one or a later one; its length where there is none.
+#[tactic(auto, using(crate::proofs::EventLaws::place_none))]
+fn place_from(way: &[Moment], first: Moment) -> usize
+    ensures place { result ≡ position_or_len (λ moment. nat_le first moment) way.now }
+    ensures within { result ≤ length way.now }
+{
+    match first_from(way, first) {
+        Some(place) => place,
+        None => way.len(),
+    }
+}
+
+/// The place of the first moment that is later than this one.
+fn first_beyond(way: &[Moment], last: Moment) -> Option<usize>
+    ensures at { result ≡ position (λ moment. nat_lt last moment) way.now }
+    ensures inside { IfSome result (λ place. place < length way.now) }
+{
+    way.iter().position(|moment| *moment > last)
+}
+
+/// The place of the first moment that is this one or a later one.
+fn first_from(way: &[Moment], first: Moment) -> Option<usize>
+    ensures at { result ≡ position (λ moment. nat_le first moment) way.now }
+    ensures inside { IfSome result (λ place. place < length way.now) }
+{
+    way.iter().position(|moment| *moment >= first)
+}
+
+/// The events on a path from this place of it on; the history goes back along it, and then to its end.
 fn events_along(
     alloc: Global,
     history: &mut History,
     way: &[Moment],
+    start: usize,
     asked: &HappeningSet,
 ) -> Result<Vec<ObjectEvent>, AllocError>
-    requires { IsPath history.old.tree.made way.now }
-    ensures ok { IfOk result (λ list. AreEvents history.old.tree.made asked.now way.now list.items) }
+    requires path { IsPath history.old.tree.made way.now }
+    requires start { start ≤ length way.now }
+    ensures ok { IfOk result (λ list. AreEvents history.old.tree.made asked.now (drop start way.now) list.items) }
     ensures moved { OnOk result (history.new ≡ moved_to history.old (end_of way.now)) }
     ensures tree { OnErr result (history.new.tree ≡ history.old.tree) }
 {
@@ -87,7 +158,7 @@ fn events_along(
     history.along(way);
     let mut set = unleaked_if(alloc, history, asked)?;
     let mut list = Vec::new(alloc);
-    for place in (0..way.len()).rev() {
+    for place in (start..way.len()).rev() {
         let moment = way[place];
         history.along(&way[..place]);
         push_moment(alloc, &mut list, &mut set, history, moment, asked)?;

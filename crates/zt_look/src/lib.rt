@@ -18,6 +18,7 @@ mod message_list;
 mod object_look;
 mod object_rows;
 mod path_summary;
+mod signaled;
 mod unleaked_search;
 mod unleaked_set;
 
@@ -25,13 +26,14 @@ pub use branch_list::{BranchLook, branches};
 pub use call_counts::CallCount;
 pub use call_list::{CallFilter, CallMade, calls};
 pub use changes::{Change, changed};
-pub use event_list::{HappeningSet, ObjectEvent, events};
+pub use event_list::{EventFilter, HappeningSet, ObjectEvent, events, events_between};
 pub use fates::{Fate, ObjectFate};
 pub use handle_list::{Handle, handles_at};
 pub use lines::{
-    print_branch, print_call_count, print_call_made, print_change, print_event, print_fate,
+    Naming, print_branch, print_call_count, print_call_made, print_change, print_event, print_fate,
     print_handle, print_object, print_queued_message, print_when,
 };
 pub use message_list::{MessageEnd, QueuedMessage, messages};
 pub use object_look::{ObjectLook, object_at};
 pub use path_summary::{PathSummary, summary};
+pub use signaled::{kind_of_call, kinds_of_changes};

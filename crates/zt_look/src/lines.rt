@@ -5,9 +5,8 @@ ghost use Rattle.std.specs.Option.{option_map};
 ghost use Rattle.std.specs.Fmt.{decimal};
 ghost use Rattle.std.specs.List.{flat_map};
 ghost use Rattle.zt_text.specs.ShownNumbers.{words};
-ghost use Rattle.zt_look.specs.NamedTexts.{line_of_row};
 ghost use Rattle.zt_look.specs.ProofsOnly.SpacedWords.{behind_spaces};
-ghost use Rattle.zt_look.specs.Lines.{call_made_line, marked_line, change_lines, handle_line, event_line, when_line, content_line, written_line, end_line, message_lines, branch_line, object_line, holder_lines, object_lines, call_count_line, fate_line, happening_word, end_word, fate_word, when_words, call_words, leaves_words};
+ghost use Rattle.zt_look.specs.Lines.{call_made_line, marked_line, change_lines, handle_line, event_line, when_line, content_line, written_line, end_line, message_lines, branch_line, line_in, object_line, holder_lines, object_lines, call_count_line, fate_line, happening_word, end_word, fate_word, when_words, call_words, leaves_words};
 
 mod calls;
 mod names;
@@ -21,33 +20,40 @@ use crate::fates::{Fate, ObjectFate};
 use crate::handle_list::Handle;
 use crate::message_list::{MessageEnd, QueuedMessage};
 use crate::object_look::ObjectLook;
+use crate::signaled::kind_of_row;
 use calls::{put_call, put_reply};
+pub use names::Naming;
 use names::put_rights;
 use rows::{put_content, put_row};
 use std::alloc::{AllocError, Global};
 use zt_rows::{Call, Happening, Koid, Message, Moment, ObjectRow, Row, RowKey, Support};
+use zt_store::Store;
 use zt_text::put_supports;
 
 /// A call of a path: its moment, the call, and what it answered.
-pub fn print_call_made(alloc: Global, made: &CallMade, names: bool) -> Result<Vec<u8>, AllocError>
-    ensures { IfOk result (λ text. text.items ≡ call_made_line names made.now) }
+pub fn print_call_made(
+    alloc: Global,
+    made: &CallMade,
+    naming: Naming,
+) -> Result<Vec<u8>, AllocError>
+    ensures { IfOk result (λ text. text.items ≡ call_made_line naming made.now) }
 {
     let mut text = String::new(alloc);
     write!(text, "{} ", made.moment.0)?;
-    put_call(&mut text, made.process, &made.call, names)?;
+    put_call(&mut text, made.process, &made.call, naming)?;
     text.push_str(" => ")?;
-    put_reply(&mut text, &made.reply, names)?;
+    put_reply(&mut text, &made.reply, naming)?;
     text.push_str("\n")?;
     Ok(text.into_bytes())
 }
 
 /// A row that a call changed: behind `-` as it was, behind `+` as it is.
-pub fn print_change(alloc: Global, change: &Change, names: bool) -> Result<Vec<u8>, AllocError>
-    ensures { IfOk result (λ text. text.items ≡ change_lines names change.now) }
+pub fn print_change(alloc: Global, change: &Change, naming: Naming) -> Result<Vec<u8>, AllocError>
+    ensures { IfOk result (λ text. text.items ≡ change_lines naming change.now) }
 {
     let mut text = String::new(alloc);
-    put_marked(&mut text, "- ", change.key, &change.before, names)?;
-    put_marked(&mut text, "+ ", change.key, &change.after, names)?;
+    put_marked(&mut text, "- ", change.key, &change.before, naming)?;
+    put_marked(&mut text, "+ ", change.key, &change.after, naming)?;
     Ok(text.into_bytes())
 }
 
@@ -57,15 +63,15 @@ fn put_marked(
     mark: &str,
     key: RowKey,
     row: &Option<Row>,
-    names: bool,
+    naming: Naming,
 ) -> Result<(), AllocError>
-    ensures { OnOk result (string_bytes text.new ≡ string_bytes text.old ++ marked_line names mark.now key row.now) }
+    ensures { OnOk result (string_bytes text.new ≡ string_bytes text.old ++ marked_line naming mark.now key row.now) }
 {
     match row {
         None => Ok(()),
         Some(row) => {
             text.push_str(mark)?;
-            put_row(text, key, row, names)
+            put_row(text, key, row, naming)
         }
     }
 }
@@ -106,7 +112,7 @@ pub fn print_event(
         event.koid.0,
         event.kind.word()
     )?;
-    put_call(&mut text, process, call, names)?;
+    put_call(&mut text, process, call, Naming::of_any(names))?;
     text.push_str("\n")?;
     Ok(text.into_bytes())
 }
@@ -152,7 +158,7 @@ fn put_found(
         None => text.push_str(" never"),
         Some((moment, process, call)) => {
             write!(text, " {} ", moment.0)?;
-            put_call(text, *process, call, names)
+            put_call(text, *process, call, Naming::of_any(names))
         }
     }
 }
@@ -203,7 +209,7 @@ fn put_written(
         ++ written_line names queued.now.number queued.now.written (process, call.now)) }
 {
     write!(text, "{} written {} ", queued.number, queued.written.0)?;
-    put_call(text, process, call, names)?;
+    put_call(text, process, call, Naming::of_any(names))?;
     text.push_str("\n")
 }
 
@@ -235,7 +241,7 @@ fn put_by(text: &mut String, by: &Option<(Koid, &Call)>, names: bool) -> Result<
         None => Ok(()),
         Some((process, call)) => {
             text.push_str(" ")?;
-            put_call(text, *process, call, names)
+            put_call(text, *process, call, Naming::of_any(names))
         }
     }
 }
@@ -291,9 +297,15 @@ fn push_moment(text: &mut Vec<u8>, moment: Moment) -> Result<(), AllocError>
     text.extend_from_slice(number.as_bytes())
 }
 
-/// An object: its row, what keeps it, and the rows of its messages, packets and waits.
-pub fn print_object(alloc: Global, object: &ObjectLook, names: bool) -> Result<Vec<u8>, AllocError>
-    ensures { IfOk result (λ text. text.items ≡ object_lines names object.now) }
+/// An object: its row, what keeps it, and the rows of its messages, packets and waits. The store tells of what kind the objects are
+/// whose signals the packets and waits have.
+pub fn print_object(
+    alloc: Global,
+    object: &ObjectLook,
+    names: bool,
+    store: &Store,
+) -> Result<Vec<u8>, AllocError>
+    ensures { IfOk result (λ text. text.items ≡ object_lines names store.now.state object.now) }
 {
     let mut text = String::new(alloc);
     put_object_line(&mut text, object.koid, object.row, names)?;
@@ -303,9 +315,9 @@ pub fn print_object(alloc: Global, object: &ObjectLook, names: bool) -> Result<V
         object.row,
         object.holders.as_slice(),
     )?;
-    put_rows(&mut text, object.messages.as_slice(), names)?;
-    put_rows(&mut text, object.packets.as_slice(), names)?;
-    put_rows(&mut text, object.waits.as_slice(), names)?;
+    put_rows(&mut text, object.messages.as_slice(), names, store)?;
+    put_rows(&mut text, object.packets.as_slice(), names, store)?;
+    put_rows(&mut text, object.waits.as_slice(), names, store)?;
     Ok(text.into_bytes())
 }
 
@@ -320,7 +332,10 @@ fn put_object_line(
 {
     match row {
         None => writeln!(text, "object {} gone", koid.0),
-        Some(object) => put_row(text, RowKey::Object(koid), &Row::Object(object), names),
+        Some(object) => {
+            let row = Row::Object(object);
+            put_row(text, RowKey::Object(koid), &row, Naming::of_any(names))
+        }
     }
 }
 
@@ -343,11 +358,17 @@ fn put_holders(
 }
 
 /// A line for each row.
-fn put_rows(text: &mut String, rows: &[(RowKey, Row)], names: bool) -> Result<(), AllocError>
-    ensures { OnOk result (string_bytes text.new ≡ string_bytes text.old ++ flat_map (line_of_row names) rows.now) }
+fn put_rows(
+    text: &mut String,
+    rows: &[(RowKey, Row)],
+    names: bool,
+    store: &Store,
+) -> Result<(), AllocError>
+    ensures { OnOk result (string_bytes text.new ≡ string_bytes text.old ++ flat_map (line_in names store.now.state) rows.now) }
 {
     for (key, row) in rows {
-        put_row(text, *key, row, names)?;
+        let kind = kind_of_row(store, row);
+        put_row(text, *key, row, Naming { names, kind })?;
     }
     Ok(())
 }

@@ -1,5 +1,5 @@
 -- How a request is answered, and what the history is then.
-use Rattle.std.specs.Prelude.{◌≡◌, ◌⊎◌, ℕ, Bool, true, List, [], Option, None, Some, Result, Ok, Err}
+use Rattle.std.specs.Prelude.{◌≡◌, ◌⊎◌, ℕ, Bool, true, List, [], ◌∷◌, ◌++◌, Option, None, Some, Result, Ok, Err}
 use Rattle.http.specs.declared.request.Request.{Request}
 use Rattle.http.specs.Request.{body_of, head_of}
 use Rattle.http_uri.specs.Uri.{uri_path, uri_query}
@@ -10,18 +10,20 @@ use Rattle.zt_book.specs.Log.{BookView, standing_of}
 use Rattle.zt_book.specs.SavedSessions.{saved_of_session}
 use Rattle.zt_console.specs.Explored.{AsksExplored}
 use Rattle.zt_console.specs.Run.{HasTalked}
+use Rattle.zt_view.specs.declared.lacks.Lack.{Lack}
 use Rattle.zt_view.specs.declared.question.ViewQuestion.{ViewQuestion}
 use Rattle.zt_view.specs.declared.requests.ViewRequest.{ViewRequest}
 use Rattle.zt_view.specs.declared.requests.ViewRequest.TheVariants as asked
 use Rattle.zt_view.specs.declared.view.View.{View}
 use Rattle.zt_view.specs.Guard.{IsAdmitted}
+use Rattle.zt_view.specs.Lacks.{lack_status, lack_text}
 use Rattle.zt_view.specs.Questions.{IsFound}
 use Rattle.zt_view.specs.Requests.{wish}
 use Rattle.zt_view.specs.Responses.{HasStatus, IsFailure, IsGuarded, IsRefusal, Tells, TellsFound}
 
 -- the view holds this book, and all else is as before
 abbrev pub Holds : Option BookView → View → View → Type 0
-Holds book old new = (new.book ≡ book) × (new.own ≡ old.own) × (new.start ≡ old.start) × (new.is_ended ≡ old.is_ended)
+Holds book old new = (new.book ≡ book) × (new.own ≡ old.own) × (new.start ≡ old.start) × (new.trace ≡ old.trace) × (new.is_ended ≡ old.is_ended)
 
 -- the request is refused, and nothing is changed
 abbrev pub Refuses : View → Response → View → Type 0
@@ -77,17 +79,19 @@ AnswersQuestion question old response new =
 -- ---- all requests
 
 -- what is asked for is answered, or its lack is told
-abbrev pub AnswersWish : Result ViewRequest ℕ → View → List ℕ → Response → View → Type 0
+abbrev pub AnswersWish : Result ViewRequest Lack → View → List ℕ → Response → View → Type 0
 AnswersWish (Ok (asked.Page _)) old body response new = HasStatus old.start.bytes 200 response × Holds old.book old new
+AnswersWish (Ok asked.Trace) old body response new = Tells old.start.bytes 200 (old.trace.items ++ 10 ∷ []) response × Holds old.book old new
 AnswersWish (Ok asked.Lines) old body response new = AnswersLines old body response new
 AnswersWish (Ok asked.Tree) old body response new = AnswersTree old.book old response new
 AnswersWish (Ok (asked.Answer question)) old body response new = AnswersQuestion question old response new
 AnswersWish (Ok asked.End) old body response new =
-    HasStatus old.start.bytes 200 response × (new.book ≡ old.book) × (new.own ≡ old.own) × (new.start ≡ old.start) × (new.is_ended ≡ true)
-AnswersWish (Err status) old body response new = Refuses old response new
+    HasStatus old.start.bytes 200 response × (new.book ≡ old.book) × (new.own ≡ old.own) × (new.start ≡ old.start) × (new.trace ≡ old.trace) × (new.is_ended ≡ true)
+AnswersWish (Err lack) old body response new =
+    Tells old.start.bytes (lack_status lack) (lack_text lack) response × Holds old.book old new
 
 -- what a request asks for
-abbrev pub wish_of : Request (List ℕ) → Result ViewRequest ℕ
+abbrev pub wish_of : Request (List ℕ) → Result ViewRequest Lack
 wish_of request = wish (head_of request).method (uri_path (head_of request).uri) (uri_query (head_of request).uri)
 
 -- the request is for this server, and from nowhere else

@@ -1,5 +1,5 @@
 -- Questions about a history, and the texts that answer them.
-use Rattle.std.specs.Prelude.{◌≡◌, ◌⊎◌, ℕ, List, [], ◌++◌, Option, None, Some, Result, Ok, Err, false}
+use Rattle.std.specs.Prelude.{◌≡◌, ◌⊎◌, ℕ, List, [], ◌++◌, take, Option, None, Some, Result, Ok, Err, false}
 use Rattle.std.specs.List.{flat_map}
 use Rattle.std.specs.Option.{option_map}
 use Rattle.zt_rows.specs.declared.calls.Call.{Call}
@@ -15,11 +15,13 @@ use Rattle.zt_look.specs.declared.object_look.ObjectLook.{ObjectLook}
 use Rattle.zt_look.specs.BranchList.{branches_of}
 use Rattle.zt_look.specs.CallList.{calls_on}
 use Rattle.zt_look.specs.Changes.{changed_on}
-use Rattle.zt_look.specs.EventList.{AreEvents}
+use Rattle.zt_look.specs.EventList.{AreEvents, between}
 use Rattle.zt_look.specs.Lines.{branch_line, call_made_line, change_lines, event_line, object_lines, when_line}
+use Rattle.zt_look.specs.Names.{masks}
 use Rattle.zt_look.specs.ObjectLook.{IsObjectLook}
 use Rattle.zt_view.specs.declared.question.ViewQuestion.{ViewQuestion}
 use Rattle.zt_view.specs.declared.question.ViewQuestion.TheVariants as question
+use Rattle.zt_view.specs.PathRanges.{most_ranges, range_line, ranges_from}
 
 -- ---- lines
 
@@ -50,12 +52,14 @@ branch_text t branch =
 
 -- the text answers the question about the tree
 abbrev pub IsAnswer : ViewQuestion → Tree → List ℕ → Type 0
-IsAnswer (question.Change moment) t text = (list : List _) × (changed_on t moment ≡ Ok list) × (text ≡ flat_map (change_lines false) list)
-IsAnswer (question.Calls at wanted) t text = (list : List _) × (calls_on t at wanted ≡ Ok list) × (text ≡ flat_map (call_made_line false) list)
+IsAnswer (question.Change moment) t text = (list : List _) × (changed_on t moment ≡ Ok list) × (text ≡ flat_map (change_lines masks) list)
+IsAnswer (question.Calls at wanted) t text = (list : List _) × (calls_on t at wanted ≡ Ok list) × (text ≡ flat_map (call_made_line masks) list)
 IsAnswer (question.Events at wanted) t text =
-    (list : List ObjectEvent) × AreEvents t.made wanted (path t.made at) list × (text ≡ flat_map (event_text t.made) list)
+    (list : List ObjectEvent) × AreEvents t.made wanted.happenings (between wanted.first wanted.last (path t.made at)) list
+    × (text ≡ flat_map (event_text t.made) list)
+IsAnswer (question.Path at from) t text = text ≡ flat_map range_line (take most_ranges (ranges_from from (path t.made at)))
 IsAnswer (question.Object koid at) t text =
-    (look : ObjectLook) × IsObjectLook t.made at koid look × (text ≡ object_lines false look ++ times_text t.made look)
+    (look : ObjectLook) × IsObjectLook t.made at koid look × (text ≡ object_lines false (state_at t.made at) look ++ times_text t.made look)
 IsAnswer question.Branches t text = text ≡ flat_map (branch_text t) (branches_of t)
 
 -- the question has no answer of the tree for this reason, or memory was refused
@@ -63,6 +67,7 @@ abbrev pub IsUnanswered : ViewQuestion → Tree → Refusal → Type 0
 IsUnanswered (question.Change moment) t reason = IsHistoryRefusal (changed_on t moment) reason
 IsUnanswered (question.Calls at wanted) t reason = IsHistoryRefusal (calls_on t at wanted) reason
 IsUnanswered (question.Events at wanted) t reason = IsHistoryRefusal (moment_on t at) reason
+IsUnanswered (question.Path at from) t reason = IsHistoryRefusal (moment_on t at) reason
 IsUnanswered (question.Object koid at) t reason =
     IsHistoryRefusal (moment_on t at) reason ⊎ IsHistoryRefusal (check (is_known (state_at t.made at) koid) refusal.NoObject) reason
 IsUnanswered question.Branches t reason = reason ≡ refusal.OutOfMemory

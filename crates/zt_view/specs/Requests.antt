@@ -1,15 +1,19 @@
 -- What requests ask for, by their method, path and query.
-use Rattle.std.specs.Prelude.{ℕ, ◌==◌, length, Bool, true, false, List, [], ◌∷◌, Option, None, Some, Result, Ok, Err, if◌then◌else◌, codes, unwrap_or}
+use Rattle.std.specs.Prelude.{ℕ, ◌+◌, ◌==◌, nat_lt, length, Bool, true, false, List, [], ◌∷◌, Option, None, Some, Result, Ok, Err, if◌then◌else◌, codes, unwrap_or}
 use Rattle.std.specs.Str.{bytes_eq}
 use Rattle.zt_text.specs.Fields.{parts_of}
 use Rattle.zt_text.specs.Numbers.{koid_of, moment_of}
 use Rattle.zt_look.specs.declared.call_list.CallFilter.{CallFilter}
 use Rattle.zt_look.specs.declared.event_list.HappeningSet.{HappeningSet}
+use Rattle.zt_view.specs.declared.lacks.Lack.{Lack}
+use Rattle.zt_view.specs.declared.lacks.Lack.TheVariants as lack
 use Rattle.zt_view.specs.declared.page.Part.TheVariants as part
 use Rattle.zt_view.specs.declared.question.ViewQuestion.TheVariants as question
+use Rattle.zt_view.specs.declared.requests.PathPart.{PathPart}
 use Rattle.zt_view.specs.declared.requests.ViewRequest.{ViewRequest}
 use Rattle.zt_view.specs.declared.requests.ViewRequest.TheVariants as asked
 use Rattle.zt_view.specs.Cuts.{before, behind}
+use Rattle.zt_view.specs.Lacks.{lack_of}
 
 infixl 10 ◌>>=◌
 abbrev pub ◌>>=◌ : {A B : Type 0} → Option A → (A → Option B) → Option B
@@ -74,11 +78,38 @@ change_asked numbers = do
   moment ← moment_of numbers
   Some (asked.Answer (question.Change moment))
 
+-- no more moments from one to the other than a request may ask for
+abbrev pub is_few : ℕ → ℕ → Bool
+is_few first last = nat_lt last (first + 16384)
+
+abbrev pub part_if : Bool → PathPart → Option PathPart
+part_if true span = Some span
+part_if false span = None
+
+-- `MOMENT/FIRST/LAST`, a part of the path to the moment
+unfoldable pub part_asked : List ℕ → Option PathPart
+part_asked numbers = do
+  at ← moment_of (before 47 numbers)
+  range ← behind 47 numbers
+  first ← moment_of (before 47 range)
+  rest ← behind 47 range
+  last ← moment_of rest
+  part_if (is_few first last) (record { at = at; first = first; last = last })
+
+-- `/events/MOMENT/FIRST/LAST`
 unfoldable pub events_asked : List ℕ → List ℕ → Option ViewRequest
 events_asked numbers query = do
-  at ← moment_of numbers
+  span ← part_asked numbers
   wanted ← happenings_wanted query
-  Some (asked.Answer (question.Events at wanted))
+  Some (asked.Answer (question.Events span.at (record { first = span.first; last = span.last; happenings = wanted })))
+
+-- `/path/MOMENT/FIRST`
+unfoldable pub path_asked : List ℕ → Option ViewRequest
+path_asked numbers = do
+  at ← moment_of (before 47 numbers)
+  rest ← behind 47 numbers
+  from ← moment_of rest
+  Some (asked.Answer (question.Path at from))
 
 -- `/object/KOID/MOMENT`
 unfoldable pub object_asked : List ℕ → Option ViewRequest
@@ -95,13 +126,9 @@ all_between first last = record { first = first; last = last; failed = false; pr
 -- `/calls/MOMENT/FIRST/LAST`
 unfoldable pub calls_asked : List ℕ → List ℕ → Option ViewRequest
 calls_asked numbers query = do
-  at ← moment_of (before 47 numbers)
-  range ← behind 47 numbers
-  first ← moment_of (before 47 range)
-  rest ← behind 47 range
-  last ← moment_of rest
-  wanted ← calls_wanted (all_between first last) query
-  Some (asked.Answer (question.Calls at wanted))
+  span ← part_asked numbers
+  wanted ← calls_wanted (all_between span.first span.last) query
+  Some (asked.Answer (question.Calls span.at wanted))
 
 -- what a word with numbers behind it asks for
 unfoldable pub of_numbers : List ℕ → List ℕ → List ℕ → Option ViewRequest
@@ -110,7 +137,8 @@ of_numbers word numbers query =
     else (if bytes_eq word (codes "events") then events_asked numbers query
     else (if bytes_eq word (codes "object") then object_asked numbers
     else (if bytes_eq word (codes "calls") then calls_asked numbers query
-    else None)))
+    else (if bytes_eq word (codes "path") then path_asked numbers
+    else None))))
 
 -- what a word alone asks for
 unfoldable pub named : List ℕ → Option ViewRequest
@@ -119,20 +147,31 @@ named word =
     else (if bytes_eq word (codes "style.css") then Some (asked.Page part.Style)
     else (if bytes_eq word (codes "script.js") then Some (asked.Page part.Script)
     else (if bytes_eq word (codes "lines") then Some asked.Lines
+    else (if bytes_eq word (codes "trace") then Some asked.Trace
     else (if bytes_eq word (codes "tree") then Some asked.Tree
     else (if bytes_eq word (codes "branches") then Some (asked.Answer question.Branches)
     else (if bytes_eq word (codes "end") then Some asked.End
-    else None))))))
+    else None)))))))
 
 abbrev pub named_with : List ℕ → Option (List ℕ) → List ℕ → Option ViewRequest
 named_with word None query = named word
 named_with word (Some numbers) query = of_numbers word numbers query
 
+abbrev pub or_lack : Lack → Option ViewRequest → Result ViewRequest Lack
+or_lack reason None = Err reason
+or_lack reason (Some asked) = Ok asked
+
+-- what is asked for by a path without the `/` that it begins with, and a query
+unfoldable pub asked_by : List ℕ → List ℕ → Result ViewRequest Lack
+asked_by path query = or_lack (lack_of (before 47 path)) (named_with (before 47 path) (behind 47 path) query)
+
+abbrev pub asked_behind : Option (List ℕ) → List ℕ → Result ViewRequest Lack
+asked_behind None query = Err lack.NoPath
+asked_behind (Some path) query = asked_by path query
+
 -- what is asked for by a path, which begins with `/`, and a query
-unfoldable pub asked_at : List ℕ → List ℕ → Option ViewRequest
-asked_at path query = do
-  rest ← if bytes_eq (before 47 path) (codes "") then behind 47 path else None
-  named_with (before 47 rest) (behind 47 rest) query
+unfoldable pub asked_at : List ℕ → List ℕ → Result ViewRequest Lack
+asked_at path query = if bytes_eq (before 47 path) (codes "") then asked_behind (behind 47 path) query else Err lack.NoPath
 
 -- ---- methods
 
@@ -140,14 +179,24 @@ asked_at path query = do
 abbrev pub method_of : ViewRequest → List ℕ
 method_of (asked.Page _) = codes "GET"
 method_of asked.Lines = codes "POST"
+method_of asked.Trace = codes "GET"
 method_of asked.Tree = codes "GET"
 method_of (asked.Answer _) = codes "GET"
 method_of asked.End = codes "POST"
 
-abbrev pub by_method : List ℕ → Option ViewRequest → Result ViewRequest ℕ
-by_method method None = Err 404
-by_method method (Some asked) = if bytes_eq method (method_of asked) then Ok asked else Err 405
+-- what another method lacks
+abbrev pub method_lack : ViewRequest → Lack
+method_lack (asked.Page _) = lack.AskedByGet
+method_lack asked.Lines = lack.AskedByPost
+method_lack asked.Trace = lack.AskedByGet
+method_lack asked.Tree = lack.AskedByGet
+method_lack (asked.Answer _) = lack.AskedByGet
+method_lack asked.End = lack.AskedByPost
 
--- what a request asks for, or the status of its answer
-abbrev pub wish : List ℕ → List ℕ → Option (List ℕ) → Result ViewRequest ℕ
+abbrev pub by_method : List ℕ → Result ViewRequest Lack → Result ViewRequest Lack
+by_method method (Err reason) = Err reason
+by_method method (Ok asked) = if bytes_eq method (method_of asked) then Ok asked else Err (method_lack asked)
+
+-- what a request asks for, or why it asks for nothing
+abbrev pub wish : List ℕ → List ℕ → Option (List ℕ) → Result ViewRequest Lack
 wish method path query = by_method method (asked_at path (unwrap_or query []))

@@ -3,7 +3,9 @@
 
 mod cuts;
 mod guard;
+mod lacks;
 mod page;
+mod path_ranges;
 mod query;
 mod question;
 mod requests;
@@ -12,6 +14,7 @@ mod talk;
 mod view;
 
 pub use guard::Own;
+pub use lacks::{Lack, Taking};
 pub use page::Part;
 pub use question::ViewQuestion;
 pub use requests::ViewRequest;

@@ -6,17 +6,19 @@ ghost use Rattle.std.specs.Option.{option_map};
 ghost use Rattle.zt_rows.specs.declared.refusals.Refusal.TheVariants as refusal;
 ghost use Rattle.zt_book.specs.Log.{standing_of};
 ghost use Rattle.zt_history.specs.Tree.{name_at};
+ghost use Rattle.zt_look.specs.Names.{masks};
 ghost use Rattle.zt_look.specs.Lines.{call_made_line, change_lines, when_line};
 ghost use Rattle.zt_view.specs.Questions.{IsAnswer, IsUnanswered, branch_text, event_text, found_at, times_text};
 ghost use Rattle.zt_view.specs.declared.question.ViewQuestion.TheVariants as question;
 
+use crate::path_ranges::path_lines;
 use std::alloc::{AllocError, Global};
 use zt_book::{Book, TreeLook};
 use zt_history::{BranchId, History};
 use zt_look::{
-    BranchLook, CallFilter, CallMade, Change, HappeningSet, ObjectEvent, ObjectLook, branches,
-    calls, changed, events, object_at, print_branch, print_call_made, print_change, print_event,
-    print_object, print_when,
+    BranchLook, CallFilter, CallMade, Change, EventFilter, Naming, ObjectEvent, ObjectLook,
+    branches, calls, changed, events_between, object_at, print_branch, print_call_made,
+    print_change, print_event, print_object, print_when,
 };
 use zt_rows::{Call, Happening, Koid, Moment, Refusal};
 
@@ -28,7 +30,9 @@ pub enum ViewQuestion {
     /// The calls on the path to a moment that are asked for.
     Calls(Moment, CallFilter),
     /// What happened to objects on the path to a moment, as far as it is asked for.
-    Events(Moment, HappeningSet),
+    Events(Moment, EventFilter),
+    /// The moments of the path to a moment, from another one on.
+    Path(Moment, Moment),
     /// An object at a moment.
     Object(Koid, Moment),
     /// The branches.
@@ -77,6 +81,7 @@ fn lines_of(alloc: Global, history: &mut History, asked: &ViewQuestion) -> Resul
         ViewQuestion::Change(moment) => change_lines(alloc, history, *moment),
         ViewQuestion::Calls(at, wanted) => call_lines(alloc, history, *at, wanted),
         ViewQuestion::Events(at, wanted) => event_lines(alloc, history, *at, wanted),
+        ViewQuestion::Path(at, from) => path_lines(alloc, history, *at, *from),
         ViewQuestion::Object(koid, at) => object_lines(alloc, history, *koid, *at),
         ViewQuestion::Branches => branch_lines(alloc, history),
     }
@@ -96,10 +101,10 @@ fn change_lines(alloc: Global, history: &mut History, moment: Moment) -> Result<
 
 /// Puts rows that a call changed behind a text.
 fn put_changes(alloc: Global, text: &mut Vec<u8>, list: &[Change]) -> Result<(), AllocError>
-    ensures { OnOk result (text.new.items ≡ text.old.items ++ flat_map (change_lines false) list.now) }
+    ensures { OnOk result (text.new.items ≡ text.old.items ++ flat_map (change_lines masks) list.now) }
 {
     for change in list {
-        text.extend_from_slice(print_change(alloc, change, false)?.as_slice())?;
+        text.extend_from_slice(print_change(alloc, change, Naming::masks())?.as_slice())?;
     }
     Ok(())
 }
@@ -123,10 +128,10 @@ fn call_lines(
 
 /// Puts calls behind a text.
 fn put_calls(alloc: Global, text: &mut Vec<u8>, list: &[CallMade]) -> Result<(), AllocError>
-    ensures { OnOk result (text.new.items ≡ text.old.items ++ flat_map (call_made_line false) list.now) }
+    ensures { OnOk result (text.new.items ≡ text.old.items ++ flat_map (call_made_line masks) list.now) }
 {
     for made in list {
-        text.extend_from_slice(print_call_made(alloc, made, false)?.as_slice())?;
+        text.extend_from_slice(print_call_made(alloc, made, Naming::masks())?.as_slice())?;
     }
     Ok(())
 }
@@ -136,13 +141,13 @@ fn event_lines(
     alloc: Global,
     history: &mut History,
     at: Moment,
-    wanted: &HappeningSet,
+    wanted: &EventFilter,
 ) -> Result<Vec<u8>, Refusal>
     ensures answer { IfOk result (λ text. IsAnswer (question.Events at wanted.now) history.old.tree text.items) }
     ensures none { IfErr result (IsUnanswered (question.Events at wanted.now) history.old.tree) }
     ensures tree { history.new.tree ≡ history.old.tree }
 {
-    let list = events(alloc, history, at, wanted)?;
+    let list = events_between(alloc, history, at, wanted)?;
     let mut text = Vec::new(alloc);
     put_events(alloc, &mut text, history, list.as_slice())?;
     Ok(text)
@@ -194,7 +199,7 @@ fn object_lines(
 {
     history.goto(at)?;
     let object = object_at(alloc, history, koid)?;
-    let mut text = print_object(alloc, &object, false)?;
+    let mut text = print_object(alloc, &object, false, history.store())?;
     put_times(alloc, &mut text, history, &object)?;
     Ok(text)
 }

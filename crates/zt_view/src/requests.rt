@@ -1,14 +1,19 @@
 //! What requests ask for.
 
-ghost use Rattle.std.specs.Prelude.{◌≡◌, ◌≤◌, IfErr, option_copied};
-ghost use Rattle.zt_view.specs.Requests.{asked_at, calls_asked, change_asked, events_asked, method_of, named, object_asked, of_numbers, wish};
+ghost use Rattle.std.specs.Prelude.{◌≡◌, option_copied};
+ghost use Rattle.zt_view.specs.Requests.{asked_at, asked_by, calls_asked, change_asked, events_asked, is_few, method_lack, method_of, named, object_asked, of_numbers, part_asked, path_asked, wish};
 
 use crate::cuts::{cut, is, koid, moment};
+use crate::lacks::{Lack, lack_of};
 use crate::page::Part;
 use crate::query::{calls_wanted, happenings_wanted};
 use crate::question::ViewQuestion;
-use http::StatusCode;
-use zt_look::CallFilter;
+use zt_look::{CallFilter, EventFilter};
+use zt_rows::Moment;
+
+/// The most moments from the first to the last of which a request may ask for calls or events, so that none keeps others waiting
+/// for long.
+const MOST_MOMENTS: u64 = 16_384;
 
 /// What a request asks for.
 #[derive(Clone, Copy)]
@@ -17,6 +22,8 @@ pub enum ViewRequest {
     Page(Part),
     /// That the lines of its body are answered.
     Lines,
+    /// The name of the trace that the history began with.
+    Trace,
     /// The session text of the whole tree.
     Tree,
     /// The answer to a question about the history.
@@ -25,24 +32,27 @@ pub enum ViewRequest {
     End,
 }
 
-/// What a request of this method, path and query asks for, or else the status of its answer.
-pub fn wish(method: &str, path: &str, query: Option<&str>) -> Result<ViewRequest, StatusCode>
-    ensures asked { result ≡ wish method.now path.now (option_copied query.entry) }
-    ensures status { IfErr result (λ status. 400 ≤ status) }
+/// A part of the path to a moment: that from one moment to another, which need not be on it.
+#[derive(Clone, Copy)]
+pub struct PathPart {
+    pub at: Moment,
+    pub first: Moment,
+    pub last: Moment,
+}
+
+/// What a request of this method, path and query asks for, or else why it asks for nothing.
+pub fn wish(method: &str, path: &str, query: Option<&str>) -> Result<ViewRequest, Lack>
+    ensures { result ≡ wish method.now path.now (option_copied query.entry) }
 {
     let words = match query {
         Some(query) => query.as_bytes(),
         None => b"".as_slice(),
     };
-    match asked_at(path.as_bytes(), words) {
-        Some(asked) => {
-            if method == method_of(&asked) {
-                Ok(asked)
-            } else {
-                Err(StatusCode::METHOD_NOT_ALLOWED)
-            }
-        }
-        None => Err(StatusCode::NOT_FOUND),
+    let asked = asked_at(path.as_bytes(), words)?;
+    if method == method_of(&asked) {
+        Ok(asked)
+    } else {
+        Err(method_lack(&asked))
     }
 }
 
@@ -52,23 +62,50 @@ fn method_of(asked: &ViewRequest) -> &'static str
 {
     match asked {
         ViewRequest::Lines | ViewRequest::End => "POST",
-        ViewRequest::Page(_) | ViewRequest::Tree | ViewRequest::Answer(_) => "GET",
+        ViewRequest::Page(_) | ViewRequest::Trace | ViewRequest::Tree | ViewRequest::Answer(_) =>
+            "GET",
+    }
+}
+
+/// What another method lacks.
+fn method_lack(asked: &ViewRequest) -> Lack
+    ensures { result ≡ method_lack asked.now }
+{
+    match asked {
+        ViewRequest::Lines | ViewRequest::End => Lack::AskedByPost,
+        ViewRequest::Page(_) | ViewRequest::Trace | ViewRequest::Tree | ViewRequest::Answer(_) =>
+            Lack::AskedByGet,
     }
 }
 
 /// What is asked for by a path, which begins with `/`, and a query.
 #[tactic(auto, unfolding(crate::specs::Requests::asked_at))]
-fn asked_at(path: &[u8], query: &[u8]) -> Option<ViewRequest>
+fn asked_at(path: &[u8], query: &[u8]) -> Result<ViewRequest, Lack>
     ensures { result ≡ asked_at path.now query.now }
 {
     let (before, rest) = cut(path, b'/');
     if !is(before, "") {
-        return None;
+        return Err(Lack::NoPath);
     }
-    let (word, numbers) = cut(rest?, b'/');
-    match numbers {
+    match rest {
+        Some(rest) => asked_by(rest, query),
+        None => Err(Lack::NoPath),
+    }
+}
+
+/// What is asked for by a path without the `/` that it begins with, and a query.
+#[tactic(auto, unfolding(crate::specs::Requests::asked_by))]
+fn asked_by(path: &[u8], query: &[u8]) -> Result<ViewRequest, Lack>
+    ensures { result ≡ asked_by path.now query.now }
+{
+    let (word, numbers) = cut(path, b'/');
+    let asked = match numbers {
         None => named(word),
         Some(numbers) => of_numbers(word, numbers, query),
+    };
+    match asked {
+        Some(asked) => Ok(asked),
+        None => Err(lack_of(word)),
     }
 }
 
@@ -85,6 +122,8 @@ fn named(word: &[u8]) -> Option<ViewRequest>
         Some(ViewRequest::Page(Part::Script))
     } else if is(word, "lines") {
         Some(ViewRequest::Lines)
+    } else if is(word, "trace") {
+        Some(ViewRequest::Trace)
     } else if is(word, "tree") {
         Some(ViewRequest::Tree)
     } else if is(word, "branches") {
@@ -109,6 +148,8 @@ fn of_numbers(word: &[u8], numbers: &[u8], query: &[u8]) -> Option<ViewRequest>
         object_asked(numbers)
     } else if is(word, "calls") {
         calls_asked(numbers, query)
+    } else if is(word, "path") {
+        path_asked(numbers)
     } else {
         None
     }
@@ -123,14 +164,19 @@ fn change_asked(numbers: &[u8]) -> Option<ViewRequest>
     Some(ViewRequest::Answer(ViewQuestion::Change(moment)))
 }
 
-/// The events on the path to a moment.
+/// The events on a part of the path to a moment.
 #[tactic(auto, unfolding(crate::specs::Requests::events_asked))]
 fn events_asked(numbers: &[u8], query: &[u8]) -> Option<ViewRequest>
     ensures { result ≡ events_asked numbers.now query.now }
 {
-    let at = moment(numbers)?;
-    let wanted = happenings_wanted(query)?;
-    Some(ViewRequest::Answer(ViewQuestion::Events(at, wanted)))
+    let part = part_asked(numbers)?;
+    let happenings = happenings_wanted(query)?;
+    let wanted = EventFilter {
+        first: part.first,
+        last: part.last,
+        happenings,
+    };
+    Some(ViewRequest::Answer(ViewQuestion::Events(part.at, wanted)))
 }
 
 /// An object at a moment.
@@ -144,23 +190,54 @@ fn object_asked(numbers: &[u8]) -> Option<ViewRequest>
     Some(ViewRequest::Answer(ViewQuestion::Object(koid, at)))
 }
 
-/// The calls on the path to a moment, of the moments from one to another.
+/// The path to a moment, from another one on.
+#[tactic(auto, unfolding(crate::specs::Requests::path_asked))]
+fn path_asked(numbers: &[u8]) -> Option<ViewRequest>
+    ensures { result ≡ path_asked numbers.now }
+{
+    let (end, rest) = cut(numbers, b'/');
+    let at = moment(end)?;
+    let from = moment(rest?)?;
+    Some(ViewRequest::Answer(ViewQuestion::Path(at, from)))
+}
+
+/// The calls on a part of the path to a moment.
 #[tactic(auto, unfolding(crate::specs::Requests::calls_asked))]
 fn calls_asked(numbers: &[u8], query: &[u8]) -> Option<ViewRequest>
     ensures { result ≡ calls_asked numbers.now query.now }
+{
+    let part = part_asked(numbers)?;
+    let all = CallFilter {
+        first: part.first,
+        last: part.last,
+        failed: false,
+        process: None,
+        object: None,
+    };
+    let wanted = calls_wanted(all, query)?;
+    Some(ViewRequest::Answer(ViewQuestion::Calls(part.at, wanted)))
+}
+
+/// A part of the path to a moment, of as many moments as one request may ask for.
+#[tactic(auto, unfolding(crate::specs::Requests::part_asked))]
+fn part_asked(numbers: &[u8]) -> Option<PathPart>
+    ensures { result ≡ part_asked numbers.now }
 {
     let (end, range) = cut(numbers, b'/');
     let at = moment(end)?;
     let (from, to) = cut(range?, b'/');
     let first = moment(from)?;
     let last = moment(to?)?;
-    let all = CallFilter {
-        first,
-        last,
-        failed: false,
-        process: None,
-        object: None,
-    };
-    let wanted = calls_wanted(all, query)?;
-    Some(ViewRequest::Answer(ViewQuestion::Calls(at, wanted)))
+    if is_few(first, last) {
+        Some(PathPart { at, first, last })
+    } else {
+        None
+    }
+}
+
+/// Whether there are no more moments from one to the other than one request may ask for.
+fn is_few(first: Moment, last: Moment) -> bool
+    ensures { result ≡ is_few first last }
+{
+    u64::from(last.0) < u64::from(first.0) + MOST_MOMENTS
 }

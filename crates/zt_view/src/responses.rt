@@ -5,8 +5,10 @@ ghost use Rattle.http_header.specs.FieldName.{is_header_name};
 ghost use Rattle.http_header.specs.FieldValue.{is_visible_text};
 ghost use Rattle.http_server.specs.Response.{IsBlank, fields_of};
 ghost use Rattle.zt_text.specs.Answers.{shown_refusal};
+ghost use Rattle.zt_view.specs.Lacks.{lack_status, lack_text};
 ghost use Rattle.zt_view.specs.Responses.{IsFailure, IsGuarded, IsRefusal, Tells, TellsFound, guards};
 
+use crate::lacks::Lack;
 use bytes::Bytes;
 use http::{HeaderName, HeaderValue, StatusCode, header};
 use http_server::Response;
@@ -140,13 +142,44 @@ pub fn refuse(response: &mut Response, start: &HeaderValue, status: StatusCode)
         Some(reason) => reason,
         None => "",
     };
-    fill(
-        response,
-        start,
-        status,
-        Content::Plain,
-        Bytes::from_static(text.as_bytes()),
-    );
+    tell(response, start, status, text);
+}
+
+/// Fills a blank response with this text.
+fn tell(response: &mut Response, start: &HeaderValue, status: StatusCode, text: &'static str)
+    requires { IsBlank response.old }
+    ensures { Tells start.now.bytes status text.now response.new }
+{
+    let body = Bytes::from_static(text.as_bytes());
+    fill(response, start, status, Content::Plain, body);
+}
+
+/// Fills a blank response with why a request asks for nothing.
+pub fn tell_lack(response: &mut Response, start: &HeaderValue, lack: Lack)
+    requires { IsBlank response.old }
+    ensures { Tells start.now.bytes (lack_status lack) (lack_text lack) response.new }
+{
+    tell(response, start, lack.status(), lack.text());
+}
+
+/// Fills a blank response with a line of this text.
+pub fn tell_line(alloc: Global, response: &mut Response, start: &HeaderValue, text: &[u8])
+    requires { IsBlank response.old }
+    ensures { Tells start.now.bytes 200 (text.now ++ 10 ∷ []) response.new }
+{
+    match line_of(alloc, text) {
+        Ok(line) => fill_text(response, start, StatusCode::OK, line),
+        Err(_) => fail(response),
+    }
+}
+
+/// The line of a text.
+fn line_of(alloc: Global, text: &[u8]) -> Result<Vec<u8>, AllocError>
+    ensures { IfOk result (λ line. line.items ≡ text.now ++ 10 ∷ []) }
+{
+    let mut line = Vec::from_slice(alloc, text)?;
+    line.push(b'\n')?;
+    Ok(line)
 }
 
 /// Fills a blank response with a text, where there is memory for it.

@@ -6,7 +6,7 @@ ghost use Rattle.http_server.specs.Response.{IsBlank};
 use crate::guard::Own;
 use crate::question::{ViewQuestion, found};
 use crate::requests::{ViewRequest, wish};
-use crate::responses::{Content, fill, fill_found, fill_talk, refuse};
+use crate::responses::{Content, fill, fill_found, fill_talk, refuse, tell_lack, tell_line};
 use crate::talk::talk;
 use bytes::Bytes;
 use http::{HeaderValue, Request, StatusCode};
@@ -21,6 +21,8 @@ pub struct View {
     pub own: Own,
     /// What tells this start of the program from others, in a header of each response.
     pub start: HeaderValue,
+    /// The name of the trace that the history began with; none where it began with nothing.
+    pub trace: Vec<u8>,
     /// The history; it is elsewhere only while lines are answered.
     pub book: Option<Book>,
     /// Whether it was asked to end.
@@ -36,11 +38,19 @@ impl View {
     ghost use Rattle.http_header.specs.FieldValue.{plain_value};
     ghost use Rattle.zt_view.specs.Guard.{IsOwnOf};
 
-    /// A book of a client or more that is viewed at a port, by the start of the program that has this number.
-    pub fn new(alloc: Global, port: u16, start: u64, book: Book) -> Result<View, AllocError>
+    /// A book of a client or more, from a trace of this name, that is viewed at a port, by the start of the program that has this
+    /// number.
+    pub fn new(
+        alloc: Global,
+        port: u16,
+        start: u64,
+        trace: &str,
+        book: Book,
+    ) -> Result<View, AllocError>
         requires { 1 ≤ length book.session.clients }
         ensures own { IfOk result (λ view. IsOwnOf port view.own) }
         ensures start { IfOk result (λ view. view.start ≡ plain_value (decimal start)) }
+        ensures trace { IfOk result (λ view. view.trace.items ≡ trace.now) }
         ensures book { IfOk result (λ view. view.book ≡ Some book) }
         ensures goes_on { IfOk result (λ view. view.is_ended ≡ false) }
     {
@@ -48,6 +58,7 @@ impl View {
             alloc,
             own: Own::new(alloc, port)?,
             start: HeaderValue::from_u64(alloc, start)?,
+            trace: Vec::from_slice(alloc, trace.as_bytes())?,
             book: Some(book),
             is_ended: false,
         })
@@ -72,7 +83,7 @@ impl View {
         let uri = request.uri();
         match wish(request.method().as_str(), uri.path(), uri.query()) {
             Ok(asked) => self.answer_asked(asked, request.body(), response),
-            Err(status) => refuse(response, &self.start, status),
+            Err(lack) => tell_lack(response, &self.start, lack),
         }
     }
 
@@ -85,6 +96,9 @@ impl View {
             ViewRequest::Page(part) => {
                 let text = Bytes::from_static(part.text().as_bytes());
                 fill(response, &self.start, StatusCode::OK, part.content(), text);
+            }
+            ViewRequest::Trace => {
+                tell_line(self.alloc, response, &self.start, self.trace.as_slice());
             }
             ViewRequest::Lines => self.answer_lines(body.as_slice(), response),
             ViewRequest::Tree => self.answer_tree(response),

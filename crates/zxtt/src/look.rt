@@ -13,10 +13,10 @@ use crate::question::Question;
 use std::alloc::Global;
 use zt_history::{BranchId, History};
 use zt_look::{
-    BranchLook, CallFilter, HappeningSet, ObjectEvent, ObjectLook, QueuedMessage, branches, calls,
-    changed, events, handles_at, messages, object_at, print_branch, print_call_count,
-    print_call_made, print_change, print_event, print_fate, print_handle, print_object,
-    print_queued_message, print_when, summary,
+    BranchLook, CallFilter, CallMade, Change, HappeningSet, Naming, ObjectEvent, ObjectLook,
+    QueuedMessage, branches, calls, changed, events, handles_at, kind_of_call, kinds_of_changes,
+    messages, object_at, print_branch, print_call_count, print_call_made, print_change,
+    print_event, print_fate, print_handle, print_object, print_queued_message, print_when, summary,
 };
 use zt_rows::{Call, Happening, Koid, Moment, Refusal};
 
@@ -110,9 +110,19 @@ fn write_calls(
 ) -> Result<(), Stopped> {
     let list = calls(alloc, history, at, filter)?;
     for made in &list {
-        lines.write(print_call_made(alloc, made, names)?)?;
+        let naming = naming_of_call(history, made, names)?;
+        lines.write(print_call_made(alloc, made, naming)?)?;
     }
     Ok(())
+}
+
+/// How a call is shown: by names, where these are asked for, as the kind of the object tells whose signals it has.
+fn naming_of_call(history: &mut History, made: &CallMade, names: bool) -> Result<Naming, Refusal> {
+    if !names {
+        return Ok(Naming::masks());
+    }
+    let kind = kind_of_call(history, made)?;
+    Ok(Naming { names, kind })
 }
 
 /// Writes the rows that the call of a moment changed.
@@ -124,8 +134,30 @@ fn write_changes(
     names: bool,
 ) -> Result<(), Stopped> {
     let list = changed(alloc, history, moment)?;
+    if names {
+        return write_named_changes(alloc, lines, history, moment, list.as_slice());
+    }
     for change in &list {
-        lines.write(print_change(alloc, change, names)?)?;
+        lines.write(print_change(alloc, change, Naming::masks())?)?;
+    }
+    Ok(())
+}
+
+/// Writes rows that the call of a moment changed, with names.
+fn write_named_changes(
+    alloc: Global,
+    lines: &mut AnswerLines,
+    history: &mut History,
+    moment: Moment,
+    list: &[Change],
+) -> Result<(), Stopped> {
+    let kinds = kinds_of_changes(alloc, history, moment, list)?;
+    for (change, kind) in list.iter().zip(kinds.iter()) {
+        let naming = Naming {
+            names: true,
+            kind: *kind,
+        };
+        lines.write(print_change(alloc, change, naming)?)?;
     }
     Ok(())
 }
@@ -171,7 +203,7 @@ fn write_object(
 ) -> Result<(), Stopped> {
     history.goto(at)?;
     let object = object_at(alloc, history, koid)?;
-    lines.write(print_object(alloc, &object, names)?)?;
+    lines.write(print_object(alloc, &object, names, history.store())?)?;
     write_times(alloc, lines, history, &object, names)
 }
 

@@ -51,12 +51,21 @@ fn ended(rt: &HostRuntime, done: &Result<(), Fault>) -> ExitCode {
 fn begin(rt: &HostRuntime, asked: &Asked<'_>) -> Result<(TcpListener, View), Fault> {
     let book = begun(rt, asked.from)?;
     let (listener, port) = listen(rt, asked.port)?;
-    let view = match View::new(rt.alloc(), port, start_number(rt), book) {
+    let trace = file_name(asked.from.unwrap_or(""));
+    let view = match View::new(rt.alloc(), port, start_number(rt), trace, book) {
         Ok(view) => view,
         Err(_) => return Err(Fault::of_memory()),
     };
     say(rt, port)?;
     Ok((listener, view))
+}
+
+/// What stands in a path behind the last `/`.
+fn file_name(path: &str) -> &str {
+    match path.rsplit_once('/') {
+        Some((_, name)) => name,
+        None => path,
+    }
 }
 
 /// A number that no other start of the program has on this machine: the clock's nanoseconds, and the number of the process, by which

@@ -22,6 +22,11 @@ fn from_help() -> &'static str {
     "Begins with the calls or the whole tree of a session text"
 }
 
+/// What the trace without a word in front does.
+fn trace_help() -> &'static str {
+    "As --from TRACE"
+}
+
 /// What the word `port` does.
 fn port_help() -> &'static str {
     "The port of 127.0.0.1 that is listened on; a free one where none is given"
@@ -89,7 +94,10 @@ impl Words {
 fn asked_of<'a>(matches: &ArgMatches<'a>) -> Asked<'a> {
     Asked {
         port: matches.get_one("port").unwrap_or(0),
-        from: matches.get_str("from"),
+        from: match matches.get_str("TRACE") {
+            Some(trace) => Some(trace),
+            None => matches.get_str("from"),
+        },
         save_tree: matches.get_str("save-tree"),
     }
 }
@@ -101,10 +109,19 @@ fn command<'a>(alloc: Global) -> Result<Command<'a>, Error> {
             .version("0.1")
             .about(about())
             .after_help(statuses())
+            .arg(trace_word(alloc)?)?
             .arg(from_word(alloc))?
             .arg(port_word(alloc))?
             .arg(save_tree_word(alloc))?,
     )
+}
+
+/// The session text that a history begins with, without a word in front.
+fn trace_word<'a>(alloc: Global) -> Result<Arg<'a>, Error> {
+    let trace = Arg::new(alloc, "TRACE")
+        .action(ArgAction::Set)
+        .help(trace_help());
+    Ok(trace.conflicts_with("from")?)
 }
 
 /// The word of the session text that a history begins with.

@@ -1,12 +1,12 @@
 //! The texts of calls and replies, with rights and signals by their names, where these are asked for.
-ghost use Rattle.std.specs.Prelude.{◌≡◌, ◌++◌, ◌∷◌, [], None, OnOk, string_bytes, codes};
+ghost use Rattle.std.specs.Prelude.{◌≡◌, ◌++◌, ◌∷◌, [], OnOk, string_bytes, codes};
 ghost use Rattle.std.specs.Fmt.{decimal};
 ghost use Rattle.zt_text.specs.ShownNumbers.{words};
 ghost use Rattle.zt_text.specs.Calls.{flag_words};
 ghost use Rattle.zt_look.specs.Names.{shown_rights, shown_signals};
 ghost use Rattle.zt_look.specs.NamedTexts.{call_text, reply_text};
 
-use crate::lines::names::{put_rights, put_signals};
+use crate::lines::names::{Naming, put_rights, put_signals};
 use crate::lines::rows::put_packet;
 use std::alloc::AllocError;
 use zt_bits::Signals;
@@ -18,19 +18,19 @@ pub(crate) fn put_call(
     text: &mut String,
     process: Koid,
     call: &Call,
-    names: bool,
+    naming: Naming,
 ) -> Result<(), AllocError>
-    ensures { OnOk result (string_bytes text.new ≡ string_bytes text.old ++ call_text names process call.now) }
+    ensures { OnOk result (string_bytes text.new ≡ string_bytes text.old ++ call_text naming process call.now) }
 {
     match *call {
         Call::HandleDuplicate { handle, rights } => {
-            put_asked(text, process, "handle_duplicate", handle, rights, names)
+            put_asked(text, process, "handle_duplicate", handle, rights, naming)
         }
         Call::HandleReplace { handle, rights } => {
-            put_asked(text, process, "handle_replace", handle, rights, names)
+            put_asked(text, process, "handle_replace", handle, rights, naming)
         }
         Call::ObjectSignal { handle, clear, set } => {
-            put_signaled(text, process, "object_signal", handle, clear, set, names)
+            put_signaled(text, process, "object_signal", handle, clear, set, naming)
         }
         Call::ObjectSignalPeer { handle, clear, set } => {
             put_signaled(
@@ -40,7 +40,7 @@ pub(crate) fn put_call(
                 handle,
                 clear,
                 set,
-                names,
+                naming,
             )
         }
         Call::ObjectWaitAsync {
@@ -58,7 +58,7 @@ pub(crate) fn put_call(
             key,
             signals,
             edge,
-            names,
+            naming,
         ),
         _ => zt_text::put_call(text, process, call),
     }
@@ -71,13 +71,13 @@ fn put_asked(
     name: &str,
     handle: HandleValue,
     rights: u32,
-    names: bool,
+    naming: Naming,
 ) -> Result<(), AllocError>
     ensures { OnOk result (string_bytes text.new ≡ string_bytes text.old
-        ++ words (decimal process ∷ name.now ∷ decimal handle ∷ shown_rights names rights ∷ [])) }
+        ++ words (decimal process ∷ name.now ∷ decimal handle ∷ shown_rights naming.names rights ∷ [])) }
 {
     write!(text, "{} {name} {} ", process.0, handle.0)?;
-    put_rights(text, rights, names)
+    put_rights(text, rights, naming.names)
 }
 
 /// A call that takes signals away and sets others.
@@ -88,15 +88,15 @@ fn put_signaled(
     handle: HandleValue,
     clear: Signals,
     set: Signals,
-    names: bool,
+    naming: Naming,
 ) -> Result<(), AllocError>
     ensures { OnOk result (string_bytes text.new ≡ string_bytes text.old
-        ++ words (decimal process ∷ name.now ∷ decimal handle ∷ shown_signals names None clear.0 ∷ shown_signals names None set.0 ∷ [])) }
+        ++ words (decimal process ∷ name.now ∷ decimal handle ∷ shown_signals naming clear.0 ∷ shown_signals naming set.0 ∷ [])) }
 {
     write!(text, "{} {name} {} ", process.0, handle.0)?;
-    put_signals(text, None, clear, names)?;
+    put_signals(text, clear, naming)?;
     text.push_str(" ")?;
-    put_signals(text, None, set, names)
+    put_signals(text, set, naming)
 }
 
 /// A call that waits for signals of what a handle names, with a packet of this key to a port.
@@ -109,14 +109,14 @@ fn put_wait_async(
     key: u64,
     signals: Signals,
     edge: bool,
-    names: bool,
+    naming: Naming,
 ) -> Result<(), AllocError>
     ensures { OnOk result (string_bytes text.new ≡ string_bytes text.old
         ++ words (decimal process ∷ name.now ∷ decimal handle ∷ decimal port ∷ decimal key
-        ∷ shown_signals names None signals.0 ∷ flag_words (codes "edge") edge)) }
+        ∷ shown_signals naming signals.0 ∷ flag_words (codes "edge") edge)) }
 {
     write!(text, "{} {name} {} {} {key} ", process.0, handle.0, port.0)?;
-    put_waited(text, signals, edge, names)
+    put_waited(text, signals, edge, naming)
 }
 
 /// The signals of a wait, and the word of one on an edge.
@@ -124,24 +124,24 @@ fn put_waited(
     text: &mut String,
     signals: Signals,
     edge: bool,
-    names: bool,
+    naming: Naming,
 ) -> Result<(), AllocError>
     ensures { OnOk result (string_bytes text.new ≡ string_bytes text.old
-        ++ words (shown_signals names None signals.0 ∷ flag_words (codes "edge") edge)) }
+        ++ words (shown_signals naming signals.0 ∷ flag_words (codes "edge") edge)) }
 {
-    put_signals(text, None, signals, names)?;
+    put_signals(text, signals, naming)?;
     if edge { text.push_str(" edge") } else { Ok(()) }
 }
 
 /// The status of a reply and its values.
 #[tactic(auto, unfolding(crate::specs::NamedTexts::reply_text))]
-pub(crate) fn put_reply(text: &mut String, reply: &Reply, names: bool) -> Result<(), AllocError>
-    ensures { OnOk result (string_bytes text.new ≡ string_bytes text.old ++ reply_text names reply.now) }
+pub(crate) fn put_reply(text: &mut String, reply: &Reply, naming: Naming) -> Result<(), AllocError>
+    ensures { OnOk result (string_bytes text.new ≡ string_bytes text.old ++ reply_text naming reply.now) }
 {
     match reply {
         Reply::Packet(packet) => {
             text.push_str("ok ")?;
-            put_packet(text, packet, names)
+            put_packet(text, packet, naming)
         }
         _ => zt_text::put_reply(text, reply),
     }

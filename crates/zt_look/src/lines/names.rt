@@ -25,7 +25,50 @@ static RIGHTS: [BitName; 12] = [
     (0x80000000, "SAME_RIGHTS"),
 ];
 
-/// The signals of an object, where it is not known to be a job or a process.
+/// How rights and signals are shown: by their names or as masks, and of what kind the object of the signals is, if it is known.
+#[derive(Clone, Copy)]
+pub struct Naming {
+    pub names: bool,
+    pub kind: Option<Kind>,
+}
+
+impl Naming {
+    ghost use Rattle.zt_look.specs.Lines.{of_any};
+    ghost use Rattle.zt_look.specs.Names.{masks};
+
+    /// Masks.
+    pub fn masks() -> Naming
+        ensures { result ≡ masks }
+    {
+        Naming::of_any(false)
+    }
+
+    /// Names, where these are asked for, of signals of an object whose kind is not known.
+    pub fn of_any(names: bool) -> Naming
+        ensures { result ≡ of_any names }
+    {
+        Naming { names, kind: None }
+    }
+}
+
+/// The signals of an object whose kind is not known: the name of one bit depends on it.
+static SIGNALS_OF_ANY: [BitName; 13] = [
+    (0x1, "READABLE"),
+    (0x2, "WRITABLE"),
+    (0x4, "PEER_CLOSED"),
+    (0x10, "NO_JOBS"),
+    (0x20, "NO_PROCESSES"),
+    (0x1000000, "USER_0"),
+    (0x2000000, "USER_1"),
+    (0x4000000, "USER_2"),
+    (0x8000000, "USER_3"),
+    (0x10000000, "USER_4"),
+    (0x20000000, "USER_5"),
+    (0x40000000, "USER_6"),
+    (0x80000000, "USER_7"),
+];
+
+/// The signals of an object that is no job and no process.
 static SIGNALS: [BitName; 14] = [
     (0x1, "READABLE"),
     (0x2, "WRITABLE"),
@@ -73,18 +116,17 @@ pub(crate) fn put_rights(text: &mut String, rights: u32, names: bool) -> Result<
     }
 }
 
-/// Signals of an object of a kind, if it is known, by their names, where these are asked for, or as a mask.
+/// Signals by their names, where these are asked for, or as a mask.
 #[tactic(auto, unfolding(crate::specs::Names::shown_signals))]
 pub(crate) fn put_signals(
     text: &mut String,
-    kind: Option<Kind>,
     signals: Signals,
-    names: bool,
+    naming: Naming,
 ) -> Result<(), AllocError>
-    ensures { OnOk result (string_bytes text.new ≡ string_bytes text.old ++ shown_signals names kind signals.0) }
+    ensures { OnOk result (string_bytes text.new ≡ string_bytes text.old ++ shown_signals naming signals.0) }
 {
-    if names {
-        put_bits(text, signal_names(kind), signals.0)
+    if naming.names {
+        put_bits(text, signal_names(naming.kind), signals.0)
     } else {
         put_mask(text, signals.0)
     }
@@ -103,7 +145,8 @@ fn signal_names(kind: Option<Kind>) -> &'static [BitName]
 {
     match kind {
         Some(Kind::Job | Kind::Process) => &TASK_SIGNALS,
-        _ => &SIGNALS,
+        Some(_) => &SIGNALS,
+        None => &SIGNALS_OF_ANY,
     }
 }
 

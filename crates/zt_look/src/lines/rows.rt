@@ -3,7 +3,7 @@ ghost use Rattle.std.specs.Prelude.{◌≡◌, ◌++◌, ◌∷◌, [], OnOk, st
 ghost use Rattle.zt_text.specs.ShownNumbers.{words, shown_bytes, shown_list};
 ghost use Rattle.zt_look.specs.NamedTexts.{held_text, object_text, packet_text, queued_text, wait_text, row_text, line_of_row};
 
-use crate::lines::names::{put_rights, put_signals};
+use crate::lines::names::{Naming, put_rights, put_signals};
 use std::alloc::AllocError;
 use zt_rows::{Held, Message, ObjectRow, Packet, Row, RowKey, Wait};
 use zt_text::{put_bytes, put_critical, put_key, put_life};
@@ -13,31 +13,31 @@ pub(crate) fn put_row(
     text: &mut String,
     key: RowKey,
     row: &Row,
-    names: bool,
+    naming: Naming,
 ) -> Result<(), AllocError>
-    ensures { OnOk result (string_bytes text.new ≡ string_bytes text.old ++ line_of_row names (key, row.now)) }
+    ensures { OnOk result (string_bytes text.new ≡ string_bytes text.old ++ line_of_row naming (key, row.now)) }
 {
     put_key(text, key)?;
     text.push_str(" ")?;
-    put_value(text, row, names)?;
+    put_value(text, row, naming)?;
     text.push_str("\n")
 }
 
 /// What stands under a key.
 #[tactic(auto, unfolding(crate::specs::NamedTexts::row_text))]
-fn put_value(text: &mut String, row: &Row, names: bool) -> Result<(), AllocError>
-    ensures { OnOk result (string_bytes text.new ≡ string_bytes text.old ++ row_text names row.now) }
+fn put_value(text: &mut String, row: &Row, naming: Naming) -> Result<(), AllocError>
+    ensures { OnOk result (string_bytes text.new ≡ string_bytes text.old ++ row_text naming row.now) }
 {
     match row {
         Row::Counters(counters) => write!(text, "{} {}", counters.next_koid.0, counters.next_wait),
-        Row::Object(object) => put_object(text, object, names),
+        Row::Object(object) => put_object(text, object, naming.names),
         Row::Entry(held) => {
             write!(text, "{} ", held.koid.0)?;
-            put_rights(text, held.rights.0, names)
+            put_rights(text, held.rights.0, naming.names)
         }
-        Row::Msg(message) => put_content(text, message, names),
-        Row::Packet(packet) => put_queued(text, packet, names),
-        Row::Wait(wait) => put_wait(text, wait, names),
+        Row::Msg(message) => put_content(text, message, naming.names),
+        Row::Packet(packet) => put_queued(text, packet, naming),
+        Row::Wait(wait) => put_wait(text, wait, naming),
     }
 }
 
@@ -46,7 +46,11 @@ fn put_object(text: &mut String, object: &ObjectRow, names: bool) -> Result<(), 
     ensures { OnOk result (string_bytes text.new ≡ string_bytes text.old ++ object_text names object.now) }
 {
     write!(text, "{} ", object.kind.word())?;
-    put_signals(text, Some(object.kind), object.signals, names)?;
+    let naming = Naming {
+        names,
+        kind: Some(object.kind),
+    };
+    put_signals(text, object.signals, naming)?;
     write!(text, " {} ", object.link.0)?;
     put_life(text, object.life)?;
     write!(text, " {}", object.next)?;
@@ -92,8 +96,12 @@ fn put_held(text: &mut String, held: Held, names: bool) -> Result<(), AllocError
 
 /// A packet as the reader of its port gets it.
 #[tactic(auto, unfolding(crate::specs::NamedTexts::packet_text))]
-pub(crate) fn put_packet(text: &mut String, packet: &Packet, names: bool) -> Result<(), AllocError>
-    ensures { OnOk result (string_bytes text.new ≡ string_bytes text.old ++ packet_text names packet.now) }
+pub(crate) fn put_packet(
+    text: &mut String,
+    packet: &Packet,
+    naming: Naming,
+) -> Result<(), AllocError>
+    ensures { OnOk result (string_bytes text.new ≡ string_bytes text.old ++ packet_text naming packet.now) }
 {
     match packet {
         Packet::User { key, bytes } => {
@@ -108,19 +116,19 @@ pub(crate) fn put_packet(text: &mut String, packet: &Packet, names: bool) -> Res
             handle: _,
         } => {
             write!(text, "signal {key} ")?;
-            put_signals(text, None, *trigger, names)?;
+            put_signals(text, *trigger, naming)?;
             text.push_str(" ")?;
-            put_signals(text, None, *observed, names)
+            put_signals(text, *observed, naming)
         }
     }
 }
 
 /// A packet that waits shows, behind what its reader will get, whose handle was waited on.
 #[tactic(auto, unfolding(crate::specs::NamedTexts::queued_text))]
-fn put_queued(text: &mut String, packet: &Packet, names: bool) -> Result<(), AllocError>
-    ensures { OnOk result (string_bytes text.new ≡ string_bytes text.old ++ queued_text names packet.now) }
+fn put_queued(text: &mut String, packet: &Packet, naming: Naming) -> Result<(), AllocError>
+    ensures { OnOk result (string_bytes text.new ≡ string_bytes text.old ++ queued_text naming packet.now) }
 {
-    put_packet(text, packet, names)?;
+    put_packet(text, packet, naming)?;
     match packet {
         Packet::User { key: _, bytes: _ } => Ok(()),
         Packet::Signal {
@@ -134,15 +142,15 @@ fn put_queued(text: &mut String, packet: &Packet, names: bool) -> Result<(), All
 }
 
 #[tactic(auto, unfolding(crate::specs::NamedTexts::wait_text))]
-fn put_wait(text: &mut String, wait: &Wait, names: bool) -> Result<(), AllocError>
-    ensures { OnOk result (string_bytes text.new ≡ string_bytes text.old ++ wait_text names wait.now) }
+fn put_wait(text: &mut String, wait: &Wait, naming: Naming) -> Result<(), AllocError>
+    ensures { OnOk result (string_bytes text.new ≡ string_bytes text.old ++ wait_text naming wait.now) }
 {
     write!(
         text,
         "{} {} {} {} ",
         wait.process.0, wait.handle.0, wait.port.0, wait.key
     )?;
-    put_signals(text, None, wait.signals, names)?;
+    put_signals(text, wait.signals, naming)?;
     if wait.edge {
         text.push_str(" edge")
     } else {

@@ -15,6 +15,7 @@ pub fn index() -> &'static str {
 <body>
   <header>
     <h1>zxtt<span>view</span></h1>
+    <p id="trace" title="The file of the trace"></p>
     <div class="steps" role="group" aria-label="Step through the calls">
       <button type="button" id="step-first" title="To the opening (Home)" aria-label="To the opening">
         <svg viewBox="0 0 16 16" aria-hidden="true"><path d="M3 3h2v10H3zM13 3v10L6 8z"></path></svg>

@@ -127,6 +127,8 @@ h1 span::before { content: "-"; color: var(--dim); }
 .steps button:first-child { border-radius: 5px 0 0 5px; }
 .steps button:last-child { border-radius: 0 5px 5px 0; }
 .steps svg { width: 14px; height: 14px; fill: currentColor; vertical-align: -2px; }
+#trace { max-width: 260px; overflow: hidden; text-overflow: ellipsis; white-space: nowrap; font: 12px/1 var(--mono); color: var(--dim); }
+#trace:empty { display: none; }
 #position { display: flex; align-items: baseline; gap: 6px; white-space: nowrap; min-width: 190px; }
 #position b { font: 600 16px/1 var(--mono); }
 #jump-form { display: flex; align-items: center; gap: 6px; color: var(--dim); }
@@ -204,6 +206,7 @@ h2 { font-size: var(--data); font-weight: 600; white-space: nowrap; }
 .go { font-family: var(--mono); font-size: var(--data); cursor: pointer; }
 .names { font-size: var(--names); color: var(--dim); cursor: help; }
 .names.on { color: var(--text); }
+.said .names { font-size: var(--small); }
 .bytes { font-family: var(--mono); font-size: var(--data); overflow-wrap: anywhere; }
 .tag {
   display: inline-block;
@@ -239,13 +242,13 @@ h2 { font-size: var(--data); font-weight: 600; white-space: nowrap; }
   cursor: pointer;
 }
 .row > * { overflow: hidden; text-overflow: ellipsis; }
-.row .number { flex: none; min-width: calc((var(--digits, 3) + 1) * 1ch); text-align: right; color: var(--dim); }
+.row .number { flex: none; min-width: calc(max(4, var(--digits, 3)) * 1ch); text-align: right; color: var(--dim); }
 .row > .koid { flex: none; min-width: 4ch; color: var(--dim); }
-.row .mark { flex: none; width: 8px; margin-left: auto; }
+.row .mark { flex: none; min-width: 14px; margin-left: auto; }
 .row .koid::before { display: none; }
 .row .word { font-weight: 600; }
-.row .call { flex: 0 1 auto; min-width: 30%; color: var(--text); }
-.row .answer { flex: 0 4 auto; min-width: 2ch; color: var(--dim); text-align: right; }
+.row .call { flex: 0 1 auto; min-width: 11ch; color: var(--text); }
+.row .answer { flex: 0 1 auto; min-width: 2ch; color: var(--dim); text-align: right; }
 .row .answer.failed { flex-shrink: 0; }
 .row:hover { background: var(--hover); }
 .row.failed { box-shadow: inset 3px 0 var(--failed); }
@@ -254,8 +257,10 @@ h2 { font-size: var(--data); font-weight: 600; white-space: nowrap; }
 .row.here { background: var(--chosen); box-shadow: inset 3px 0 var(--accent); }
 .row.here .number { color: var(--text); font-weight: 700; }
 .row.waiting .call { color: var(--dim); }
-.row .mark { font-size: 11px; text-align: center; color: var(--dim); overflow: visible; }
+.row .mark { font-size: 13px; font-weight: 700; text-align: center; color: var(--dim); overflow: visible; }
+.row .mark.peer_closed { color: var(--accent); }
 .row .mark.leaked { color: var(--leaked); }
+.row .mark.task { height: 18px; margin-top: 2px; padding: 0 4px; line-height: 18px; border-radius: 4px; color: var(--failed); background: var(--failed-ground); }
 
 /* The tree of branches, and the call at a head. */
 
@@ -352,9 +357,13 @@ details.group > summary .count { font-weight: 400; }
 .node.channel rect { stroke: var(--channel); } .node.event rect { stroke: var(--event); }
 .node.eventpair rect { stroke: var(--eventpair); } .node.port rect { stroke: var(--port); }
 .node.leaked rect { fill: var(--leaked-ground); stroke: var(--leaked); stroke-width: 2; stroke-dasharray: 4 2; }
-.node.leaked text.sort { fill: var(--leaked); font-weight: 600; }
+.node rect.fate { fill: var(--panel); stroke-width: 1; }
+.node text.fate { fill: var(--dim); font: 600 8px var(--sans); }
+.node.leaked rect.fate { stroke-dasharray: none; stroke-width: 1; }
+.node.leaked text.fate { fill: var(--leaked); }
 .node.picked rect { stroke-width: 3; fill: var(--chosen); }
-.node.ended rect { opacity: 0.6; }
+.node.ended rect { stroke-dasharray: 2 2; }
+.node.ended rect.fate { stroke-dasharray: none; }
 .node.koid::before { display: none; }
 .node:hover rect { filter: brightness(0.96); }
 .edge { fill: none; stroke: var(--dim); stroke-width: 1.2; opacity: 0.75; }

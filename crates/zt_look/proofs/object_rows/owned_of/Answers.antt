@@ -1,5 +1,5 @@
 -- Where there is no first number, there is no row; else the first is that of the least.
-use Rattle.std.proofs.Common.{sym, subst}
+use Rattle.std.proofs.Common.{subst}
 use Rattle.zt_look.specs.ProofsOnly.RowWalk.{IsFirstOwned}
 use Rattle.zt_look.proofs.ObjectRowLaws.{owned-none}
 use Rattle.zt_look.proofs.object_rows.owned_of.Goals as goal

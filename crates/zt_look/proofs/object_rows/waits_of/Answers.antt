@@ -1,5 +1,5 @@
 -- Each wait is followed by the least above it of both kinds.
-use Rattle.std.proofs.Common.{sym, ◌∙◌, subst, Some}
+use Rattle.std.proofs.Common.{sym, ◌∙◌, subst}
 use Rattle.zt_rows.specs.declared.keys.RowKey.TheVariants as key
 use Rattle.zt_look.specs.ObjectLook.{is_wait_about}
 use Rattle.zt_look.specs.ProofsOnly.RowWalk.{lesser, wait_key, AreNextWaits}

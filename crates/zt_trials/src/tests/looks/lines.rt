@@ -1,10 +1,11 @@
 //! The lines of answers, where memory is ample.
 use std::alloc::{AllocError, Global};
 use zt_bits::{Kind, Rights, Signals, Status};
+use zt_history::History;
 use zt_look::{
-    CallCount, CallMade, Change, Fate, Handle, MessageEnd, ObjectEvent, ObjectFate, ObjectLook,
-    QueuedMessage, print_branch, print_call_count, print_call_made, print_change, print_event,
-    print_fate, print_handle, print_object, print_queued_message, print_when,
+    CallCount, CallMade, Change, Fate, Handle, MessageEnd, Naming, ObjectEvent, ObjectFate,
+    ObjectLook, QueuedMessage, print_branch, print_call_count, print_call_made, print_change,
+    print_event, print_fate, print_handle, print_object, print_queued_message, print_when,
 };
 use zt_rows::{
     Call, HandleValue, Happening, Held, Items, Koid, Message, Moment, ObjectRow, Packet, ROOT_JOB,
@@ -26,6 +27,14 @@ fn closing() -> Call {
     }
 }
 
+/// Names, of signals of a job.
+fn of_a_job() -> Naming {
+    Naming {
+        names: true,
+        kind: Some(Kind::Job),
+    }
+}
+
 #[test]
 fn calls_are_printed(rt: HostRuntime) {
     let made = CallMade {
@@ -36,7 +45,7 @@ fn calls_are_printed(rt: HostRuntime) {
     };
     assert!(rt;
         is_text(
-            print_call_made(rt.alloc(), &made, false),
+            print_call_made(rt.alloc(), &made, Naming::masks()),
             b"3 1025 handle_close 7 => ok\n"
         )
     );
@@ -57,8 +66,8 @@ fn calls_are_printed(rt: HostRuntime) {
     };
     assert!(rt;
         is_text(
-            print_call_made(rt.alloc(), &fired, true),
-            b"4 1025 handle_replace 7 SAME_RIGHTS => ok signal 4 SIGNALED READABLE|SIGNALED|USER_0\n"
+            print_call_made(rt.alloc(), &fired, of_a_job()),
+            b"4 1025 handle_replace 7 SAME_RIGHTS => ok signal 4 TERMINATED READABLE|TERMINATED|USER_0\n"
         )
     );
 }
@@ -79,7 +88,7 @@ fn changes_are_printed(rt: HostRuntime) {
     };
     assert!(rt;
         is_text(
-            print_change(rt.alloc(), &change, true),
+            print_change(rt.alloc(), &change, Naming::of_any(true)),
             b"- object 1025 process NONE 1024 live 0\n+ object 1025 process TERMINATED 1024 live 0\n"
         )
     );
@@ -223,8 +232,11 @@ fn is_object_printed(alloc: Global) -> bool {
         peer_closed: None,
         leaked: None,
     };
+    let Ok(history) = History::new(alloc) else {
+        return false;
+    };
     is_text(
-        print_object(alloc, &object, false),
+        print_object(alloc, &object, false, history.store()),
         b"object 1025 process 0x00000008 1024 live 0\nholders 1025 1\nself\n",
     )
 }
