@@ -35,10 +35,10 @@ pub fn read_whole(rt: &HostRuntime, path: &str) -> Result<Vec<u8>, FileFault> {
     read_rest(rt.alloc(), &mut file)
 }
 
-/// All bytes of a file that are not read yet.
-pub fn read_rest(alloc: Global, file: &mut File) -> Result<Vec<u8>, FileFault> {
+/// All bytes of a file, or of standard input, that are not read yet.
+pub fn read_rest<R: Read>(alloc: Global, reader: &mut R) -> Result<Vec<u8>, FileFault> {
     let mut bytes = Vec::new(alloc);
-    match file.read_to_end(&mut bytes) {
+    match reader.read_to_end(&mut bytes) {
         Ok(_) => Ok(bytes),
         Err(error) if error.kind() == io::ErrorKind::OutOfMemory => {
             Err(FileFault::Refused(Refusal::OutOfMemory))

@@ -141,13 +141,17 @@ fn write_behind(rt: &HostRuntime, path: &str, part: String, text: &[u8]) -> Resu
 
 /// Waits until the folder of a file keeps its name. A folder that cannot be read or synced is left: the file is in its place.
 fn sync_folder(rt: &HostRuntime, place: &str) {
-    let folder = match place.rsplit_once('/') {
+    if let Ok(folder) = File::open(rt, folder_of(place)) {
+        let _ = folder.sync_all();
+    }
+}
+
+/// The folder in which the file of this path stands.
+pub(crate) fn folder_of(path: &str) -> &str {
+    match path.rsplit_once('/') {
         Some(("", _)) => "/",
         Some((folder, _)) => folder,
         None => ".",
-    };
-    if let Ok(folder) = File::open(rt, folder) {
-        let _ = folder.sync_all();
     }
 }
 
