@@ -6,3 +6,4 @@ pub mod SaveLaws
 pub mod ServeLaws
 pub mod LoadLaws
 pub mod ReadLaws
+pub mod TypedLaws

@@ -6,5 +6,6 @@ pub mod Explored
 pub mod Run
 pub mod Sessions
 pub mod LoadedText
+pub mod Typed
 -- Used by proofs only: no public clause depends on them.
 pub mod ProofsOnly

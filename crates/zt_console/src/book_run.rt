@@ -4,10 +4,12 @@ ghost use Rattle.zt_console.specs.BookRun.{is_pin, AsksBook};
 ghost use Rattle.zt_console.specs.Run.{HasTalked, IsCause, outcome};
 
 use crate::counted_faults::Counted;
+use crate::hearing::Listener;
 use crate::responder::Responder;
 use crate::run_loop::{End, answer_all};
 use std::alloc::Global;
 use std::io::{Read, Write};
+use std::marker::Model;
 use zt_book::Book;
 use zt_queries::Frozen;
 use zt_rows::{Answer, Command, Refusal};
@@ -38,6 +40,37 @@ impl Responder for Book {
     }
 }
 
+/// A book of whose lines, those of client 1, somebody hears.
+struct HeardBook<'a, L> {
+    book: Book,
+    listener: &'a L,
+}
+
+impl<'a, L> Model for HeardBook<'a, L> {
+    ghost use Rattle.zt_book.specs.Log.{BookView};
+
+    ghost Value = { BookView };
+
+    ghost view = { λ h. h.book };
+}
+
+impl<L: Listener> Responder for HeardBook<'_, L> {
+    ghost use Rattle.std.specs.Prelude.{◌≤◌, length};
+    ghost use Rattle.zt_console.specs.BookRun.{AsksBook};
+
+    ghost asks = { AsksBook };
+
+    ghost ready = { λ b. 1 ≤ length b.session.clients };
+
+    fn ask(&mut self, request: &Command) -> Result<(Answer, Option<Frozen>), Refusal> {
+        self.book.ask(request)
+    }
+
+    fn hear(&self, line: &[u8], text: &[u8]) {
+        self.listener.heard(line, text);
+    }
+}
+
 /// Whether the command is a pin, with which a copy of the history is made.
 pub(crate) fn is_pin(request: &Command) -> bool
     ensures { result ≡ is_pin request.now }
@@ -63,6 +96,31 @@ pub fn run<R: Read, W: Write>(
     ensures clients { length result.0.session.clients ≡ length book.session.clients }
 {
     let (book, outcome) = answer_all(alloc, book, reader, writer);
+    match outcome {
+        Ok(()) => (book, End::Finished),
+        Err(refusal) => (book, End::Stopped(refusal)),
+    }
+}
+
+/// As `run`, where the listener hears each line with its answer.
+#[tactic(auto, using(crate::proofs::KeepLaws::talked_clients))]
+pub fn run_heard<R: Read, W: Write, L: Listener>(
+    alloc: Global,
+    book: Book,
+    reader: &mut Counted<R>,
+    writer: &mut Counted<W>,
+    listener: &L,
+) -> (Book, End)
+    requires client { 1 ≤ length book.session.clients }
+    requires reads { reader.old.1 < 2 ^ 64 - 1 }
+    requires writes { writer.old.1 < 2 ^ 64 - 1 }
+    ensures talk { HasTalked AsksBook book result.0 (R.remaining reader.old.0) (W.contents writer.old.0) (W.contents writer.new.0) (is_ok (outcome result.1)) }
+    ensures end { OnOk (outcome result.1) (IsAtEnd (R.remaining reader.new.0)) }
+    ensures cause { IsCause (reader.old.1, reader.new.1) (writer.old.1, writer.new.1) (R.remaining reader.old.0) (outcome result.1) }
+    ensures clients { length result.0.session.clients ≡ length book.session.clients }
+{
+    let (heard, outcome) = answer_all(alloc, HeardBook { book, listener }, reader, writer);
+    let HeardBook { book, listener: _ } = heard;
     match outcome {
         Ok(()) => (book, End::Finished),
         Err(refusal) => (book, End::Stopped(refusal)),

@@ -129,7 +129,7 @@ fn end_line<D: Responder, W: Write>(
     }
 }
 
-/// Answers a line: its text waits behind the others.
+/// Answers a line: its text waits behind the others, and the responder hears of both.
 fn answer_line<D: Responder>(
     alloc: Global,
     client: &mut Conversation<D>,
@@ -141,7 +141,10 @@ fn answer_line<D: Responder>(
     ensures ready { D.ready client.new.responder }
 {
     match text_for(alloc, client, line) {
-        Ok(text) => waiting.extend_from_slice(text.as_slice()),
+        Ok(text) => {
+            client.responder.hear(line, text.as_slice());
+            waiting.extend_from_slice(text.as_slice())
+        }
         Err(fault) => Err(fault),
     }
 }

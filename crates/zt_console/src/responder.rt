@@ -17,4 +17,10 @@ pub(crate) trait Responder {
         requires { ready self.old }
         ensures asks { asks self.old request.now result self.new }
         ensures ready { ready self.new };
+
+    /// Hears that a line was answered by this text.
+    fn hear(&self, line: &[u8], text: &[u8]) {
+        let _ = line;
+        let _ = text;
+    }
 }
