@@ -75,8 +75,8 @@ def counted(passed, failed):
     return 1 if failed or not passed else 0
 
 
-# what the program says on standard error of who listens, comes and goes
-NOTICE = re.compile(r'zxtt: (?:listening on|client \d+ (?:came from|went)).*')
+# what the program says on standard error of who listens, is waited for, comes and goes
+NOTICE = re.compile(r'zxtt: (?:listening on|waiting for \d+ clients?|client \d+ (?:came from|went)).*')
 
 
 def lines_of(text):

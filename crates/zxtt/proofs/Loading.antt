@@ -29,6 +29,7 @@ told (fault.Unread error) clients text h = absurd h
 told (fault.Unasked reason) clients text h = absurd h
 told (fault.Unopened path error) clients text h = absurd h
 told (fault.Unwritten part) clients text h = absurd h
+told (fault.Unlistened port error) clients text h = absurd h
 told (fault.Unconnected error) clients text h = absurd h
 told (fault.Refused reason) clients text h = absurd h
 

@@ -18,6 +18,7 @@ fault_status (fault.Unread error) = 2
 fault_status (fault.Unasked reason) = 2
 fault_status (fault.Unopened path error) = 3
 fault_status (fault.Unwritten part) = 5
+fault_status (fault.Unlistened port error) = 3
 fault_status (fault.Unconnected error) = 3
 fault_status (fault.Refused reason) = stopped_status reason
 fault_status (fault.Trace line reason place) = 6

@@ -1,6 +1,9 @@
-//! What is said of the field of a line that has not the form wanted in its place.
+//! What is said of the field of a line for which it was refused.
 
+use crate::fields::{field, place_of, start_of_field};
+use crate::reason::{Reason, reason_of, tree_reason_of};
 use crate::wanted::{Wanted, fields_of_call, fields_of_command, fields_of_tree_line};
+use zt_rows::Refusal;
 
 /// What is said of a field.
 #[derive(Clone, Copy)]
@@ -9,14 +12,93 @@ pub enum Advice {
     Wanted(Wanted),
     /// It is no word that a line may begin with.
     NoName,
+    /// It is none, but a question of `look` has this name, and a command asks what is like it, if one does.
+    Question(&'static str, Option<&'static str>),
     /// It is no call's name.
     NoCall,
     /// The line is to end ahead of it.
     NothingMore,
+    /// It ends in a carriage return, the first half of another end of a line.
+    CarriageReturn,
+    /// It reads, and was refused.
+    Refused(Reason),
+}
+
+/// What is said of a line, and behind how many of its bytes the field begins of which it is said.
+#[derive(Clone, Copy)]
+pub struct Remark {
+    pub offset: usize,
+    pub advice: Advice,
+}
+
+/// What is said of a line that was refused so; nothing, for what no line is refused as.
+pub fn remark_on(line: &[u8], refusal: Refusal) -> Option<Remark> {
+    match refusal {
+        Refusal::BadLine(column) => {
+            let offset = offset_of(line, column);
+            Some(remark_at(line, offset, advice_at(line, offset)))
+        }
+        _ => reason_remark(line, reason_of(line, refusal)),
+    }
+}
+
+/// The same, of a line of a session text of version 1, with its number.
+pub fn session_remark(number: u64, line: &[u8], refusal: Refusal) -> Option<Remark> {
+    match refusal {
+        Refusal::BadLine(column) => {
+            let offset = offset_of(line, column);
+            Some(remark_at(line, offset, session_advice(number, line, offset)))
+        }
+        _ => reason_remark(line, reason_of(line, refusal)),
+    }
+}
+
+/// The same, of a line of version 2 behind the first.
+pub fn tree_remark(line: &[u8], refusal: Refusal) -> Option<Remark> {
+    match refusal {
+        Refusal::BadLine(column) => {
+            let offset = offset_of(line, column);
+            Some(remark_at(line, offset, tree_advice(line, offset)))
+        }
+        _ => reason_remark(line, tree_reason_of(line, refusal)),
+    }
+}
+
+/// How many bytes of the line stand before the column.
+fn offset_of(line: &[u8], column: u64) -> usize {
+    (column.saturating_sub(1) as usize).min(line.len())
+}
+
+/// What is said of a line that does not read. A carriage return at its end is told ahead of what else may be at fault there.
+fn remark_at(line: &[u8], offset: usize, advice: Advice) -> Remark {
+    if ends_in_return(line, offset) {
+        Remark {
+            offset,
+            advice: Advice::CarriageReturn,
+        }
+    } else {
+        Remark { offset, advice }
+    }
+}
+
+/// Whether the field that begins behind so many bytes is the last, or the line is the first of a session text, and ends in a carriage
+/// return.
+fn ends_in_return(line: &[u8], offset: usize) -> bool {
+    let rest = line.get(offset..).unwrap_or(&[]);
+    line.last() == Some(&b'\r') && (!rest.contains(&b' ') || rest.starts_with(b"zxtt "))
+}
+
+/// What is said of a line of which this field is at fault, for this reason.
+fn reason_remark(line: &[u8], found: Option<(usize, Reason)>) -> Option<Remark> {
+    let (place, reason) = found?;
+    Some(Remark {
+        offset: start_of_field(line, place).min(line.len()),
+        advice: Advice::Refused(reason),
+    })
 }
 
 /// What is said of the field of a line that begins behind so many bytes.
-pub fn advice_at(line: &[u8], offset: usize) -> Advice {
+fn advice_at(line: &[u8], offset: usize) -> Advice {
     let place = place_of(line, offset);
     let first = field(line, 0);
     if place == 0 {
@@ -29,7 +111,7 @@ pub fn advice_at(line: &[u8], offset: usize) -> Advice {
 }
 
 /// The same, of a line of a session text of version 1, with its number.
-pub fn session_advice(number: u64, line: &[u8], offset: usize) -> Advice {
+fn session_advice(number: u64, line: &[u8], offset: usize) -> Advice {
     if number == 1 {
         Advice::Wanted(Wanted::SessionLine)
     } else {
@@ -38,7 +120,7 @@ pub fn session_advice(number: u64, line: &[u8], offset: usize) -> Advice {
 }
 
 /// The same, of a line of version 2 behind the first.
-pub fn tree_advice(line: &[u8], offset: usize) -> Advice {
+fn tree_advice(line: &[u8], offset: usize) -> Advice {
     let place = place_of(line, offset);
     let first = field(line, 0);
     if place == 0 {
@@ -70,7 +152,22 @@ fn of_beginning(first: &[u8]) -> Advice {
     } else if is_number(first) || fields_of_call(first).is_some() {
         Advice::Wanted(Wanted::Process)
     } else {
-        Advice::NoName
+        of_other_name(first)
+    }
+}
+
+/// Of a name that no call and no command has.
+fn of_other_name(name: &[u8]) -> Advice {
+    match name {
+        b"calls" => Advice::Question("calls", None),
+        b"changed" => Advice::Question("changed", None),
+        b"events" => Advice::Question("events", Some("when")),
+        b"object" => Advice::Question("object", Some("holders")),
+        b"handles" => Advice::Question("handles", None),
+        b"messages" => Advice::Question("messages", None),
+        b"branches" => Advice::Question("branches", None),
+        b"summary" => Advice::Question("summary", None),
+        _ => Advice::NoName,
     }
 }
 
@@ -102,30 +199,6 @@ fn of_field(fields: Option<&[Wanted]>, place: usize) -> Advice {
         Some(wanted) => Advice::Wanted(*wanted),
         None => Advice::NothingMore,
     }
-}
-
-/// Which field of the line it is, counted from 0, that begins behind so many bytes. One that is missing begins behind all.
-fn place_of(line: &[u8], offset: usize) -> usize {
-    let before = line.get(..offset).unwrap_or(line);
-    let spaces = before.iter().filter(|byte| **byte == b' ').count();
-    match before.last() {
-        Some(b' ') | None => spaces,
-        Some(_) => spaces.saturating_add(1),
-    }
-}
-
-/// The field at this place, counted from 0; no bytes, where it is missing.
-fn field(line: &[u8], place: usize) -> &[u8] {
-    line.split(|byte| *byte == b' ').nth(place).unwrap_or(&[])
-}
-
-/// How many bytes of the line stand before the field at this place.
-fn start_of_field(line: &[u8], place: usize) -> usize {
-    let mut start = 0usize;
-    for before in line.split(|byte| *byte == b' ').take(place) {
-        start = start.saturating_add(before.len()).saturating_add(1);
-    }
-    start
 }
 
 /// Whether the field begins as a number does. A field that can be read and does not is a command's name.

@@ -1,133 +1,100 @@
-//! Who sits beside a person at a terminal: greets, prompts, and explains lines that cannot be read.
+//! Who sits beside a person who runs lines: greets, prompts, answers what is asked of it, and explains lines that were refused.
 
-use crate::explanation::explanation;
 use crate::faults::Fault;
-use std::alloc::{AllocError, Global};
+use crate::heard::{Heading, said_of};
+use crate::place::Place;
+use std::alloc::AllocError;
+use std::cell::Cell;
 use std::io::IsTerminal;
-use std::mem;
-use zt_rows::Refusal;
-use zt_text::{LINE_BYTES, read_line};
+use zt_console::{Aside, Book, Host, Listener};
 
-/// What hears the lines that are read, and says on standard error what a person is to be told beside the answers. Where
-/// standard error is no terminal it says nothing, and where memory is refused nothing more.
+/// What hears the lines that are answered, and says on standard error what a person is to be told beside the answers. Where
+/// memory is refused it says nothing more.
 #[derive(Drop)]
 pub struct Attendant<'a> {
     rt: &'a HostRuntime,
     /// Whether lines are explained.
-    explains: bool,
+    explains: Cell<bool>,
     /// Whether there is a prompt before each line.
     prompts: bool,
-    /// How many lines have ended.
-    ended: u64,
-    /// The line that has not ended, as far as it matters.
-    part: Vec<u8>,
+    /// How many lines were answered or skipped.
+    answered: Cell<u64>,
     /// What is to be said before the next read.
-    told: String,
+    told: Cell<String>,
+    /// Where the client of the lines stands, as far as that was told.
+    place: Cell<Option<Place>>,
 }
 
 impl<'a> Attendant<'a> {
-    /// Who attends to lines, which a person types where standard input is read and is a terminal.
-    pub fn new(rt: &'a HostRuntime, reads_standard_input: bool) -> Attendant<'a> {
-        let explains = rt.stderr().is_terminal();
-        let prompts = explains && reads_standard_input && rt.stdin().is_terminal();
+    /// Who attends to lines, which a person types where standard input is read and is a terminal. They are explained where
+    /// that is asked for, or standard error is a terminal.
+    pub fn new(rt: &'a HostRuntime, reads_standard_input: bool, is_asked: bool) -> Attendant<'a> {
+        let is_seen = rt.stderr().is_terminal();
         Attendant {
             rt,
-            explains,
-            prompts,
-            ended: 0,
-            part: Vec::new(rt.alloc()),
-            told: String::new(rt.alloc()),
+            explains: Cell::new(is_asked || is_seen),
+            prompts: is_seen && reads_standard_input && rt.stdin().is_terminal(),
+            answered: Cell::new(0),
+            told: Cell::new(String::new(rt.alloc())),
+            place: Cell::new(None),
         }
     }
 
-    /// Says once who is there.
-    pub fn greet(&self) {
-        if self.prompts {
-            self.say(greeting());
-        }
+    /// Whether a person types the lines.
+    pub fn sits_at_terminal(&self) -> bool {
+        self.prompts
     }
 
-    /// Before a read: the lines of the read before have been answered, and are explained. Where a line begins it is asked
-    /// for.
-    pub fn before_read(&mut self) {
-        self.say_told();
-        if self.prompts && self.part.is_empty() {
-            self.say("> ");
-        }
+    /// Says once who is there, to a person who begins with this book.
+    pub fn greet(&self, book: &Book) {
+        self.place.set(Place::in_book(self.rt.alloc(), book));
+        self.say(greeting());
     }
 
-    /// Behind a read: what it gave is heard. Where it gave nothing, the input has ended.
-    pub fn after_read(&mut self, bytes: &[u8]) {
-        if self.prompts && bytes.is_empty() {
-            self.say("\n");
-        }
-        if self.explains {
-            for byte in bytes {
-                self.hear(*byte);
-            }
-        }
-    }
-
-    /// Behind a run that was answered to its end: a last line without a line feed is explained.
-    pub fn finish(mut self) {
-        if !self.part.is_empty() {
-            self.end_line();
-        }
-        self.say_told();
-    }
-
-    /// Hears a byte. Of a line that is too long to be read no more matters than that it is.
-    fn hear(&mut self, byte: u8) {
-        if byte == b'\n' {
-            self.end_line();
-        } else if self.part.len() <= LINE_BYTES && self.part.push(byte).is_err() {
-            self.fall_silent();
-        }
-    }
-
-    /// Hears the end of a line, of which is to be told what it lacks, if it cannot be read.
-    fn end_line(&mut self) {
-        self.ended = self.ended.saturating_add(1);
-        if self.explains {
-            let read = read_line(self.rt.alloc(), self.part.as_slice());
-            if let Err(Refusal::BadLine(column)) = read {
-                self.explain(column);
-            }
-        }
-        self.part.clear();
-    }
-
-    /// Of the line that ended is to be told what it lacks at the column.
-    fn explain(&mut self, column: u64) {
-        if self.try_to_explain(column).is_err() {
-            self.fall_silent();
-        }
-    }
-
-    /// The same, where memory is not refused. Lines that are not typed have a number.
-    fn try_to_explain(&mut self, column: u64) -> Result<(), AllocError> {
-        let alloc: Global = self.rt.alloc();
-        if !self.prompts {
-            let ended = self.ended;
-            let number = format!(in alloc; "line {ended}:\n")?;
-            self.told.push_str(number.as_str())?;
-        }
-        let lacks = explanation(alloc, self.part.as_slice(), column)?;
-        self.told.push_str(lacks.as_str())
-    }
-
-    /// Says what is to be told.
-    fn say_told(&mut self) {
-        if !self.told.is_empty() {
-            let told = mem::replace(&mut self.told, String::new(self.rt.alloc()));
+    /// Says what is to be told: the lines that were read before have been answered.
+    pub fn say_told(&self) {
+        let told = self.told.replace(String::new(self.rt.alloc()));
+        if !told.is_empty() {
             self.say(told.as_str());
         }
     }
 
-    /// Says nothing from now on.
-    fn fall_silent(&mut self) {
-        self.explains = false;
-        self.prompts = false;
+    /// Says where the client of the lines stands.
+    fn say_place(&self) {
+        let place = self.place.replace(None);
+        match &place {
+            Some(known) => {
+                if let Ok(text) = known.shown(self.rt.alloc()) {
+                    self.say(text.as_str());
+                }
+            }
+            None => self.say(no_place()),
+        }
+        self.place.set(place);
+    }
+
+    /// Keeps where the client of the lines stands once a line was answered by this text. Where memory is refused, that is not known.
+    fn follow(&self, line: &[u8], text: &[u8]) {
+        if let Some(place) = self.place.replace(None) {
+            self.place.set(place.behind(self.rt.alloc(), line, text));
+        }
+    }
+
+    /// What is said of a line that was answered by this text is to be told. Lines that are not typed have a number.
+    fn note(&self, number: u64, line: &[u8], text: &[u8]) -> Result<(), AllocError> {
+        let alloc = self.rt.alloc();
+        let heading = if self.prompts {
+            Heading::Nothing
+        } else {
+            Heading::Line(number)
+        };
+        if let Some(said) = said_of(alloc, heading, line, text)? {
+            let mut told = self.told.replace(String::new(alloc));
+            let added = told.push_str(said.as_str());
+            self.told.set(told);
+            added?;
+        }
+        Ok(())
     }
 
     /// Says the text. That it cannot be said is no fault of the run.
@@ -136,15 +103,73 @@ impl<'a> Attendant<'a> {
     }
 }
 
+impl Listener for Attendant<'_> {
+    fn heard(&self, line: &[u8], text: &[u8]) {
+        let number = self.answered.get().saturating_add(1);
+        self.answered.set(number);
+        if self.explains.get() && self.note(number, line, text).is_err() {
+            self.explains.set(false);
+        }
+        self.follow(line, text);
+    }
+}
+
+impl Host for Attendant<'_> {
+    fn before_read(&self, is_within: bool) {
+        self.say_told();
+        if !is_within {
+            self.say("> ");
+        }
+    }
+
+    fn answer(&self, asked: Aside) {
+        match asked {
+            Aside::Help => self.say(help()),
+            Aside::Where => self.say_place(),
+            Aside::Quit => {}
+        }
+    }
+
+    fn end(&self) {
+        self.say("\n");
+    }
+}
+
 /// What a person is told first.
 fn greeting() -> &'static str {
     "zxtt 0.1: type a call, as `1025 event_create`, or a command, as `show`; each is answered.
-`zxtt --help` has more lines; Ctrl-D ends the run.
+`help` lists what may be typed; `quit` or Ctrl-D ends the run.
 "
 }
 
-/// Shows a person at a terminal the line for which a session text was refused, if that ended the program.
-pub fn show_trace_line(rt: &HostRuntime, fault: &Fault) {
+/// What is said where it is not known where the client stands.
+fn no_place() -> &'static str {
+    "no answer has told where this is: `show` does\n"
+}
+
+/// What may be typed.
+fn help() -> &'static str {
+    "Calls, each behind the process that makes it, as `1025 event_create`:
+  event_create    eventpair_create    channel_create    port_create
+  handle_close HANDLE    handle_duplicate HANDLE RIGHTS    handle_replace HANDLE RIGHTS
+  object_signal HANDLE CLEAR SET    object_signal_peer HANDLE CLEAR SET
+  object_wait_async HANDLE PORT KEY SIGNALS [edge]
+  channel_write CHANNEL BYTES HANDLES    channel_read CHANNEL BYTES HANDLES [discard]
+  port_queue PORT KEY PACKET    port_wait PORT    port_cancel PORT SOURCE KEY
+  job_create JOB    job_set_critical JOB PROCESS    spawn JOB ARGUMENT
+  task_kill TASK    process_exit CODE
+Commands:
+  goto MOMENT    back COUNT    branch NAME    follow NAME
+  show    holders KOID    leaks    when made|ended|peer_closed|leaked KOID
+  pin    pinned show    pinned holders KOID    pinned leaks
+At a terminal alone:
+  help    where    quit
+"
+}
+
+/// Shows the line for which a session text was refused, if that ended the program, where that is asked for, or to a person at a
+/// terminal.
+pub fn show_trace_line(rt: &HostRuntime, fault: &Fault, is_asked: bool) {
     let Fault::Trace {
         line,
         refusal,
@@ -153,7 +178,7 @@ pub fn show_trace_line(rt: &HostRuntime, fault: &Fault) {
     else {
         return;
     };
-    if rt.stderr().is_terminal() {
+    if is_asked || rt.stderr().is_terminal() {
         if let Ok(text) = place.explained(rt.alloc(), *line, *refusal) {
             let _ = eprint!(rt; "{text}");
         }

@@ -1,6 +1,8 @@
-//! Lines that cannot be read, explained to a person.
+//! Lines that were refused, explained to a person.
 
-use crate::advice::{Advice, advice_at, session_advice, tree_advice};
+use crate::advice::{Advice, Remark};
+use crate::fields::field;
+use crate::reason::Reason;
 use std::alloc::{AllocError, Global};
 
 /// The most bytes of a line that are shown.
@@ -12,48 +14,9 @@ const INDENT: &str = "    ";
 /// What stands where bytes of a line are left out.
 const LEFT_OUT: &str = "..";
 
-/// A line that was refused at a column: the line, a caret below the column, and what is wanted there.
-pub fn explanation(alloc: Global, line: &[u8], column: u64) -> Result<String, AllocError> {
-    let offset = offset_of(line, column);
-    explained(alloc, line, offset, advice_at(line, offset))
-}
-
-/// The same, of a line of a session text of version 1, with its number.
-pub fn session_explanation(
-    alloc: Global,
-    number: u64,
-    line: &[u8],
-    column: u64,
-) -> Result<String, AllocError> {
-    let offset = offset_of(line, column);
-    explained(alloc, line, offset, session_advice(number, line, offset))
-}
-
-/// The same, of a line of a session text of version 2 behind the first.
-pub fn tree_explanation(alloc: Global, line: &[u8], column: u64) -> Result<String, AllocError> {
-    let offset = offset_of(line, column);
-    explained(alloc, line, offset, tree_advice(line, offset))
-}
-
-/// A line as it is shown, where no column of it is at fault.
-pub fn shown_line(alloc: Global, line: &[u8]) -> Result<String, AllocError> {
-    let mut text = String::new(alloc);
-    push_line(&mut text, line, 0)?;
-    Ok(text)
-}
-
-/// How many bytes of the line stand before the column.
-fn offset_of(line: &[u8], column: u64) -> usize {
-    (column.saturating_sub(1) as usize).min(line.len())
-}
-
-/// The line, a caret behind so many bytes of it, and what is said of the field there.
-fn explained(
-    alloc: Global,
-    line: &[u8],
-    offset: usize,
-    advice: Advice,
-) -> Result<String, AllocError> {
+/// A line of which this is said: the line, a caret below its field, and what is said of that.
+pub fn explanation(alloc: Global, line: &[u8], remark: Remark) -> Result<String, AllocError> {
+    let offset = remark.offset;
     let mut text = String::new(alloc);
     let start = start_of(line.len(), offset);
     push_line(&mut text, line, start)?;
@@ -64,9 +27,21 @@ fn explained(
     push_spaces(&mut text, offset.saturating_sub(start))?;
     text.push_str("^\n")?;
     text.push_str(INDENT)?;
-    push_advice(&mut text, advice)?;
+    push_advice(&mut text, remark.advice, field_from(line, offset))?;
     text.push('\n')?;
     Ok(text)
+}
+
+/// A line as it is shown, where no column of it is at fault.
+pub fn shown_line(alloc: Global, line: &[u8]) -> Result<String, AllocError> {
+    let mut text = String::new(alloc);
+    push_line(&mut text, line, 0)?;
+    Ok(text)
+}
+
+/// The field that begins behind so many bytes.
+fn field_from(line: &[u8], offset: usize) -> &[u8] {
+    field(line.get(offset..).unwrap_or(&[]), 0)
 }
 
 /// Where the part of a line begins that is shown: at its beginning, where it is short or the place of interest is near that.
@@ -111,15 +86,57 @@ fn push_spaces(text: &mut String, count: usize) -> Result<(), AllocError> {
     Ok(())
 }
 
-/// What is said of a field.
-fn push_advice(text: &mut String, advice: Advice) -> Result<(), AllocError> {
+/// What is said of this field.
+fn push_advice(text: &mut String, advice: Advice, field: &[u8]) -> Result<(), AllocError> {
     match advice {
         Advice::Wanted(wanted) => {
             text.push_str("wanted here: ")?;
             text.push_str(wanted.text())
         }
-        Advice::NoName => text.push_str("no call or command has this name"),
+        Advice::NoName => text.push_str(no_name()),
+        Advice::Question(name, like) => push_question(text, name, like),
         Advice::NoCall => text.push_str("no call has this name"),
         Advice::NothingMore => text.push_str("nothing more is wanted here"),
+        Advice::CarriageReturn => text.push_str(carriage_return()),
+        Advice::Refused(reason) => push_reason(text, reason, field),
     }
+}
+
+/// What is said of a word that no line may begin with.
+fn no_name() -> &'static str {
+    "no call or command has this name"
+}
+
+/// What is said of a line that ends as elsewhere.
+fn carriage_return() -> &'static str {
+    "the line ends in CRLF: a line ends in LF alone, and CR is a byte of it"
+}
+
+/// What is said of the name of a question.
+fn push_question(
+    text: &mut String,
+    name: &str,
+    like: Option<&'static str>,
+) -> Result<(), AllocError> {
+    text.push_str(no_name())?;
+    text.push_str(": `")?;
+    text.push_str(name)?;
+    text.push_str("` is a question of `zxtt look`")?;
+    match like {
+        Some(command) => {
+            text.push_str("; here `")?;
+            text.push_str(command)?;
+            text.push_str("` asks the like")
+        }
+        None => Ok(()),
+    }
+}
+
+/// Why this field was refused.
+fn push_reason(text: &mut String, reason: Reason, field: &[u8]) -> Result<(), AllocError> {
+    text.push_str(reason.text())?;
+    if reason.names_field() {
+        push_bytes(text, field.get(..SHOWN).unwrap_or(field))?;
+    }
+    Ok(())
 }

@@ -37,7 +37,13 @@ pub enum Fault {
     Unwritten {
         part: String,
     },
-    /// The port could not be listened on, or a connection could not be accepted.
+    /// The port could not be listened on.
+    #[error("zxtt: port {port} of 127.0.0.1: {error}")]
+    Unlistened {
+        port: u16,
+        error: io::Error,
+    },
+    /// A connection could not be accepted.
     #[error("zxtt: {0}")]
     Unconnected(io::Error),
     /// Something was refused.
@@ -77,7 +83,7 @@ impl Fault {
     {
         match self {
             Fault::Words(_) | Fault::Unread(_) | Fault::Unasked(_) => 2,
-            Fault::Unopened { .. } | Fault::Unconnected(_) => 3,
+            Fault::Unopened { .. } | Fault::Unlistened { .. } | Fault::Unconnected(_) => 3,
             Fault::Unwritten { .. } => 5,
             Fault::Refused(refusal) => stopped_status(*refusal),
             Fault::Trace { .. } => 6,

@@ -9,6 +9,7 @@ use crate::faults::Fault;
 use crate::trace_lines::TraceLine;
 use std::alloc::Global;
 use std::fs::File;
+use std::io::Read;
 use zt_console::{Book, LoadProgress, load_read, load_text_told, main_text, tree_text};
 use zt_files::{FileFault, Progress, is_regular, read_rest, rewind, write_whole};
 
@@ -54,6 +55,37 @@ pub fn load(rt: &HostRuntime, clients: u8, path: &str) -> Result<Book, Fault>
     book_of(rt.alloc(), clients, path, text.as_slice(), &told)
 }
 
+/// The book over the tree of a session text for `look`, which stands in the file, or on standard input for `-`.
+pub fn load_looked(rt: &HostRuntime, file: &str) -> Result<Book, Fault>
+    ensures loaded { IfOk result (λ book. (text : List ℕ) × IsLoadedOf 1 text book) }
+    ensures refused { IfErr result (TellsOfSomeText 1) }
+{
+    if file == "-" {
+        load_input(rt, 1)
+    } else {
+        load(rt, 1, file)
+    }
+}
+
+/// The book of so many clients over the tree of a session text that stands on standard input.
+fn load_input(rt: &HostRuntime, clients: u8) -> Result<Book, Fault>
+    ensures loaded { IfOk result (λ book. (text : List ℕ) × IsLoadedOf clients text book) }
+    ensures refused { IfErr result (TellsOfSomeText clients) }
+{
+    let told = Progress::new(rt, "zxtt");
+    let text = match rest(rt.alloc(), &mut rt.stdin()) {
+        Ok(text) => text,
+        Err(fault) => return Err(fault),
+    };
+    book_of(
+        rt.alloc(),
+        clients,
+        "standard input",
+        text.as_slice(),
+        &told,
+    )
+}
+
 /// Goes back to the beginning of a file.
 fn go_back(file: &mut File) -> Result<(), Fault>
     ensures { (clients : ℕ) → IfErr result (TellsOfSomeText clients) }
@@ -65,10 +97,10 @@ fn go_back(file: &mut File) -> Result<(), Fault>
 }
 
 /// All bytes of a file that are not read yet.
-fn rest(alloc: Global, file: &mut File) -> Result<Vec<u8>, Fault>
+fn rest<R: Read>(alloc: Global, reader: &mut R) -> Result<Vec<u8>, Fault>
     ensures { (clients : ℕ) → IfErr result (TellsOfSomeText clients) }
 {
-    match read_rest(alloc, file) {
+    match read_rest(alloc, reader) {
         Ok(text) => Ok(text),
         Err(fault) => Err(Fault::of_file(fault)),
     }
@@ -98,6 +130,15 @@ fn book_of(
                 refusal,
                 place,
             })
+        }
+    }
+}
+
+/// Says on standard error that a file cannot be written, if one is named and that shows before there is anything to write.
+pub fn look_ahead(rt: &HostRuntime, to: Option<&str>) {
+    if let Some(path) = to {
+        if let Err(FileFault::Unopened { path, error }) = zt_files::look_ahead(rt, path) {
+            let _ = eprintln!(rt; "zxtt: {path} cannot be written as it stands: {error}");
         }
     }
 }

@@ -6,7 +6,7 @@ ghost use Rattle.zxtt.specs.LookedAt.{head_named, path_end};
 
 use crate::answer_lines::{AnswerLines, Stopped};
 use crate::faults::Fault;
-use crate::files::load;
+use crate::files::load_looked;
 use crate::leave;
 use crate::look_words::Look;
 use crate::question::Question;
@@ -22,7 +22,7 @@ use zt_rows::{Call, Happening, Koid, Moment, Refusal};
 
 /// Answers what is asked, on standard output. Where nobody reads on, it ends at once, and all is well.
 pub fn look(rt: &HostRuntime, asked: &Look<'_>) -> Result<(), Fault> {
-    match load(rt, 1, asked.file) {
+    match load_looked(rt, asked.file) {
         Ok(book) => {
             let mut history = book.into_history();
             let done = answer(rt, &mut history, asked);

@@ -18,7 +18,7 @@ use zt_rows::{Koid, LAST_MOMENT, Moment};
 /// What is to be looked at, and what is asked of it.
 #[derive(Clone, Copy)]
 pub struct Look<'a> {
-    /// The file of the session text.
+    /// The file of the session text, or `-` for standard input.
     pub file: &'a str,
     /// The moment to which the path goes.
     pub at: Option<Moment>,
@@ -63,7 +63,7 @@ fn question_by(name: &str, words: &[&str], options: &Options) -> Result<Question
 {
     match question_of(name, words, options) {
         Ok(question) => Ok(question),
-        Err(about) => Err(NoQuestion { about }),
+        Err(about) => Err(NoQuestion::of(about, name, words)),
     }
 }
 
@@ -87,7 +87,7 @@ fn is_given(words: &ArgMatches<'_>, name: &str) -> bool
 }
 
 /// Whether the flag with this name is there.
-fn flag_in(words: &ArgMatches<'_>, name: &str) -> bool
+pub fn flag_in(words: &ArgMatches<'_>, name: &str) -> bool
     ensures { IsFlagOf (one_of name.now (rows_of (found_of words.now))) result }
 {
     words.get_flag(name)
@@ -149,7 +149,7 @@ fn questions<'a>() -> &'a str {
 }
 
 fn trace_help() -> &'static str {
-    "The session text that is looked at"
+    "The session text that is looked at; `-` is standard input"
 }
 
 fn question_help() -> &'static str {

@@ -13,90 +13,110 @@ ghost use Rattle.zxtt.specs.Traces.{BeginsFrom};
 mod advice;
 mod answer_lines;
 mod attendant;
+mod client_lines;
 mod connections;
 mod explanation;
 mod faults;
+mod fields;
 mod files;
+mod heard;
 mod look;
 mod look_words;
 mod no_question;
+mod place;
 mod question;
+mod reason;
 mod service;
 mod terminal;
 mod trace_lines;
+mod typed_reader;
 mod wanted;
 mod words;
 
 use attendant::{Attendant, show_trace_line};
 use faults::Fault;
-use files::{load, open, save, save_tree};
+use files::{load, look_ahead, open, save, save_tree};
 use look::look;
 use service::serve;
 use std::io::Read;
 use std::mem::forget;
 use std::process::ExitCode;
 use terminal::Attended;
-use words::{Asked, Words};
-use zt_console::{Book, Counted, End, run};
+use typed_reader::TypedLines;
+use words::{Asked, RunWords, ServeWords, Words};
+use zt_console::{Book, Counted, End, run_heard};
 
 fn main(rt: HostRuntime) -> ExitCode {
     let words = match Words::of(&rt) {
         Ok(words) => words,
-        Err(fault) => return ended(&rt, &Err(fault)),
+        Err(fault) => return ended(&rt, &Err(fault), false),
     };
     let done = match words.asked(rt.alloc()) {
-        Ok(
-            Asked::Run {
-                file,
-                from,
-                save,
-                save_tree,
-            },
-        ) => run_asked(&rt, file, from, save, save_tree),
-        Ok(
-            Asked::Serve {
-                port,
-                clients,
-                from,
-                save_tree,
-            },
-        ) => match begin(&rt, clients, from) {
-            Ok(book) => save_served(&rt, serve(&rt, port, clients, book), save_tree),
+        Ok(Asked::Run(asked)) => run_asked(&rt, &asked),
+        Ok(Asked::Serve(asked)) => match begin_to_serve(&rt, &asked) {
+            Ok(book) => save_served(
+                &rt,
+                serve(&rt, asked.port, asked.clients, asked.explain, book),
+                asked.save_tree,
+            ),
             Err(fault) => Err(fault),
         },
         Ok(Asked::Look(asked)) => look(&rt, &asked),
         Err(fault) => Err(fault),
     };
-    ended(&rt, &done)
+    let status = ended(&rt, &done, words.ask_to_explain());
+    say_where_traces_stand(&rt, &words, &done);
+    status
 }
 
-/// Says what ended the program before it was done, if something did, and gives its status.
-fn ended(rt: &HostRuntime, done: &Result<(), Fault>) -> ExitCode
+/// Says what ended the program before it was done, if something did, and gives its status. Where that is asked for, the line
+/// for which a session text was refused is explained.
+fn ended(rt: &HostRuntime, done: &Result<(), Fault>, explains: bool) -> ExitCode
     ensures { exit_status result ≡ end_status done.now }
 {
     match done {
         Ok(()) => ExitCode::SUCCESS,
         Err(fault) => {
             let _ = eprintln!(rt; "{fault}");
-            show_trace_line(rt, fault);
+            show_trace_line(rt, fault, explains);
             ExitCode::from(fault.status())
         }
     }
 }
 
+/// Says where a trace stands among the words, if they were not accepted and have a file in the place of a subcommand.
+fn say_where_traces_stand(rt: &HostRuntime, words: &Words, done: &Result<(), Fault>) {
+    if !matches!(done, Err(Fault::Words(_))) {
+        return;
+    }
+    if let Some(file) = words.file_alone(rt) {
+        let _ = eprintln!(rt; "{}", traces_stand());
+        let _ = eprintln!(rt; "  zxtt look {file} summary");
+        let _ = eprintln!(rt; "  zxtt run --from {file}");
+    }
+}
+
+/// Where a trace stands.
+fn traces_stand() -> &'static str {
+    "A trace stands behind `look` or `run --from`:"
+}
+
 /// Runs the lines of a file, and saves the history of `main`, and then the whole tree, if files are named.
-fn run_asked(
-    rt: &HostRuntime,
-    file: &str,
-    from: Option<&str>,
-    to: Option<&str>,
-    tree_to: Option<&str>,
-) -> Result<(), Fault> {
-    let book = begin(rt, 1, from)?;
-    let book = run_file(rt, book, file)?;
-    let saved = save_asked(rt, &book, to, tree_to);
+fn run_asked(rt: &HostRuntime, words: &RunWords<'_>) -> Result<(), Fault> {
+    let book = begin(rt, 1, words.from)?;
+    let book = run_file(rt, book, words)?;
+    let saved = save_asked(rt, &book, words.save, words.save_tree);
     leave(book);
     saved
+}
+
+/// The book that is served. What cannot be saved in the end is told before anybody is listened to.
+fn begin_to_serve(rt: &HostRuntime, words: &ServeWords<'_>) -> Result<Book, Fault>
+    ensures { IfOk result (IsFresh words.now.clients) }
+{
+    let book = begin(rt, words.clients, words.from)?;
+    look_ahead(rt, words.save_tree);
+    Ok(book)
 }
 
 /// Saves the history of `main`, and then the whole tree, if files are named.
@@ -143,32 +163,57 @@ fn begin(rt: &HostRuntime, clients: u8, from: Option<&str>) -> Result<Book, Faul
 }
 
 /// Runs the lines of the file, or of standard input for `-`.
-fn run_file(rt: &HostRuntime, book: Book, file: &str) -> Result<Book, Fault>
+fn run_file(rt: &HostRuntime, book: Book, words: &RunWords<'_>) -> Result<Book, Fault>
     requires { 1 ≤ length book.session.clients }
 {
+    let file = words.file;
+    let attendant = Attendant::new(rt, file == "-", words.explain);
     if file == "-" {
-        run_lines(rt, book, rt.stdin(), true)
+        tell_ahead(rt, words);
+        run_input(rt, book, &attendant)
     } else {
-        run_lines(rt, book, open(rt, file)?, false)
+        let lines = open(rt, file)?;
+        tell_ahead(rt, words);
+        run_lines(rt, book, Attended::new(lines, &attendant), &attendant)
     }
 }
 
-/// Runs the lines of the reader, which may be standard input, and answers on standard output.
-fn run_lines<R: Read + Drop>(
-    rt: &HostRuntime,
+/// Says what cannot be saved in the end, as far as that shows before any line is read.
+fn tell_ahead(rt: &HostRuntime, words: &RunWords<'_>) {
+    look_ahead(rt, words.save);
+    look_ahead(rt, words.save_tree);
+}
+
+/// Runs the lines of standard input, which a person may type.
+fn run_input<'a>(
+    rt: &'a HostRuntime,
     book: Book,
-    reader: R,
-    is_standard_input: bool,
+    attendant: &'a Attendant<'a>,
 ) -> Result<Book, Fault>
     requires { 1 ≤ length book.session.clients }
 {
-    let attendant = Attendant::new(rt, is_standard_input);
-    attendant.greet();
-    let mut reader = Counted::new(Attended::new(reader, attendant));
+    if attendant.sits_at_terminal() {
+        attendant.greet(&book);
+        run_lines(rt, book, TypedLines::new(rt.stdin(), attendant), attendant)
+    } else {
+        run_lines(rt, book, Attended::new(rt.stdin(), attendant), attendant)
+    }
+}
+
+/// Runs the lines of the reader, and answers on standard output. The attendant hears them.
+fn run_lines<'a, R: Read + Drop>(
+    rt: &'a HostRuntime,
+    book: Book,
+    reader: R,
+    attendant: &'a Attendant<'a>,
+) -> Result<Book, Fault>
+    requires { 1 ≤ length book.session.clients }
+{
+    let mut reader = Counted::new(reader);
     let mut writer = Counted::new(rt.stdout());
-    let (book, end) = run(rt.alloc(), book, &mut reader, &mut writer);
+    let (book, end) = run_heard(rt.alloc(), book, &mut reader, &mut writer, attendant);
     if end == End::Finished {
-        reader.into_inner().finish();
+        attendant.say_told();
     }
     left(book, end)
 }

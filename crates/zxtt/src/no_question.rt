@@ -4,24 +4,153 @@ use crate::question::Topic;
 use std::fmt;
 use std::fmt::{Formatter, Write};
 
-/// The words behind `look` ask no question. Where they name one, its form is told.
+/// Why the words behind `look` ask no question.
 #[derive(Debug, Drop)]
-pub struct NoQuestion {
-    pub about: Option<Topic>,
+pub enum NoQuestion {
+    /// No question has the name; one with a name like it may be meant.
+    Unnamed(Option<&'static str>),
+    /// It is a word of `run`, and this question asks the like.
+    OfRun(&'static str),
+    /// The question about this lacks its word.
+    Lacks(Topic),
+    /// The question about this is asked in other words.
+    Otherwise(Topic),
+}
+
+impl NoQuestion {
+    /// Why there is none with this name, of the words behind it, where a question with this name asks about that.
+    pub fn of(about: Option<Topic>, name: &str, words: &[&str]) -> NoQuestion {
+        match about {
+            Some(about) if words.is_empty() && word_of(about).is_some() => NoQuestion::Lacks(about),
+            Some(about) => NoQuestion::Otherwise(about),
+            None => match question_like(name) {
+                Some(question) => NoQuestion::OfRun(question),
+                None => NoQuestion::Unnamed(nearest(name)),
+            },
+        }
+    }
 }
 
 impl fmt::Display for NoQuestion {
     fn fmt<W: Write>(&self, f: &mut Formatter<W>) -> fmt::Result {
         f.write_str("error: ")?;
-        match self.about {
-            Some(about) => {
-                f.write_str("the question is asked in other words\n\nUsage: zxtt look <TRACE> ")?;
-                f.write_str(form_of(about))?;
+        match self {
+            NoQuestion::Unnamed(near) => write_unnamed(f, *near)?,
+            NoQuestion::OfRun(question) => {
+                write_unnamed(f, None)?;
+                f.write_str(of_run())?;
+                f.write_str(question)?;
+                f.write_str("` asks the like here")?;
             }
-            None => f.write_str(known_questions())?,
+            NoQuestion::Lacks(about) => {
+                f.write_str("the word ")?;
+                f.write_str(word_of(*about).unwrap_or(""))?;
+                f.write_str(" of the question is missing")?;
+                write_form(f, *about)?;
+            }
+            NoQuestion::Otherwise(about) => {
+                f.write_str("the question is asked in other words")?;
+                write_form(f, *about)?;
+            }
         }
         f.write_str("\n\nFor more information, try '--help'.\n")
     }
+}
+
+/// Writes that no question has the name, and which may be meant.
+fn write_unnamed<W: Write>(f: &mut Formatter<W>, near: Option<&str>) -> fmt::Result {
+    f.write_str(known_questions())?;
+    match near {
+        Some(question) => {
+            f.write_str("\n\n  tip: a similar question exists: '")?;
+            f.write_str(question)?;
+            f.write_str("'")
+        }
+        None => Ok(()),
+    }
+}
+
+/// Writes how a question is asked.
+fn write_form<W: Write>(f: &mut Formatter<W>, about: Topic) -> fmt::Result {
+    f.write_str("\n\nUsage: zxtt look <TRACE> ")?;
+    f.write_str(form_of(about))
+}
+
+/// The word that a question has behind its name.
+fn word_of(about: Topic) -> Option<&'static str> {
+    match about {
+        Topic::Changed => Some("<MOMENT>"),
+        Topic::Object | Topic::Messages => Some("<KOID>"),
+        Topic::Handles => Some("<PROCESS>"),
+        _ => None,
+    }
+}
+
+/// The question that asks what `run` is asked by this word, or by a line that has it behind `when`.
+fn question_like(name: &str) -> Option<&'static str> {
+    match name {
+        "when" | "made" | "ended" | "peer_closed" | "leaked" | "leaks" => Some("events"),
+        "holders" | "show" => Some("object"),
+        _ => None,
+    }
+}
+
+/// The name of a question that is most like this one, if one is like it.
+fn nearest(name: &str) -> Option<&'static str> {
+    let mut found = None;
+    let mut best = 0;
+    for question in questions() {
+        let alike = likeness(name.as_bytes(), question.as_bytes());
+        if alike > best {
+            best = alike;
+            found = Some(question);
+        }
+    }
+    found
+}
+
+/// The names of all questions.
+fn questions() -> [&'static str; 8] {
+    [
+        "calls", "changed", "events", "object", "handles", "messages", "branches", "summary",
+    ]
+}
+
+/// How many bytes two names have in common at their beginning and at their end; none, where more than two of the longer one are left, and
+/// the first name is not the beginning of the other.
+fn likeness(name: &[u8], other: &[u8]) -> usize {
+    let first = first_in_common(name, other);
+    let last = last_in_common(name, other);
+    let both = first.saturating_add(last);
+    if both.saturating_add(2) >= name.len().max(other.len()) || (first > 2 && first == name.len()) {
+        both
+    } else {
+        0
+    }
+}
+
+/// How many bytes two names have in common at their beginning.
+fn first_in_common(name: &[u8], other: &[u8]) -> usize {
+    let mut count = 0usize;
+    for (byte, its) in name.iter().zip(other.iter()) {
+        if *byte != *its {
+            return count;
+        }
+        count = count.saturating_add(1);
+    }
+    count
+}
+
+/// How many at their end.
+fn last_in_common(name: &[u8], other: &[u8]) -> usize {
+    let mut count = 0usize;
+    for (byte, its) in name.iter().rev().zip(other.iter().rev()) {
+        if *byte != *its {
+            return count;
+        }
+        count = count.saturating_add(1);
+    }
+    count
 }
 
 // No clause tells the texts, so that who asks for one is proved without going over its bytes.
@@ -30,6 +159,11 @@ impl fmt::Display for NoQuestion {
 fn known_questions() -> &'static str {
     "no question has the name that was given for '<QUESTION>'
   [questions: calls, changed, events, object, handles, messages, branches, summary]"
+}
+
+/// What is said of a word of `run`, up to the question that asks the like.
+fn of_run() -> &'static str {
+    "\n\n  tip: this is a word of `zxtt run`; the question `"
 }
 
 /// How a question is asked.

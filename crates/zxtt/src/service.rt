@@ -5,6 +5,7 @@ ghost use Rattle.zt_shared.specs.OpenedBook.{IsNamed};
 ghost use Rattle.zt_shared.specs.Sharing.{IsFresh};
 ghost use Rattle.zt_console.specs.Sessions.{IsCountable};
 
+use crate::client_lines::ClientLines;
 use crate::connections::Connections;
 use crate::faults::Fault;
 use std::alloc::Global;
@@ -19,7 +20,7 @@ use zt_shared::account::Naming;
 use zt_shared::{Beginning, Blanks, Pass, open_book};
 
 /// Serves so many clients that connect to a port of 127.0.0.1 over the book, prints how many rows its log has when all of
-/// them have gone, and gives it back.
+/// them have gone, and gives it back. Where that is asked for, it says why lines do not read.
 pub fn serve<
     R: Net<Listener = TcpListener, Stream = TcpStream>
         + Threads
@@ -28,15 +29,22 @@ pub fn serve<
         + Print
         + Eprint
         + Sync,
->(rt: &R, port: u16, clients: u8, book: Book) -> Result<Book, Fault>
+>(rt: &R, port: u16, clients: u8, explains: bool, book: Book) -> Result<Book, Fault>
     requires { IsFresh clients book }
 {
     let listener = match listen(rt, port) {
         Ok(listener) => listener,
-        Err(error) => return Err(Fault::Unconnected(error)),
+        Err(error) => return Err(Fault::Unlistened { port, error }),
     };
     let blanks = Blanks::new(rt.alloc(), clients)?;
-    let book = serve_book::<Brand, Brand, Brand, Brand, R>(rt, blanks, book, &listener)?;
+    let connections = Connections::new(rt, clients, explains);
+    let book = serve_book::<Brand, Brand, Brand, Brand, R>(
+        rt,
+        blanks,
+        book,
+        connections,
+        &listener,
+    )?;
     let rows = book.log().len();
     match println!(rt; "closed {rows}") {
         Ok(()) => Ok(book),
@@ -62,7 +70,13 @@ fn serve_book<
     C: Naming + Send + Sync,
     D: Naming + Send + Sync,
     R: Threads + Wait + AllocGlobal + Eprint + Sync,
->(rt: &R, blanks: Blanks, book: Book, listener: &TcpListener) -> Result<Book, Fault>
+>(
+    rt: &R,
+    blanks: Blanks,
+    book: Book,
+    mut connections: Connections<'_, R>,
+    listener: &TcpListener,
+) -> Result<Book, Fault>
     requires base { (blanks.base ≡ A.base) × (blanks.clients ≡ A.clients) }
     requires first { IsNamed A.name A.parts A.cells blanks.first }
     requires second { IsNamed B.name B.parts B.cells blanks.second }
@@ -74,7 +88,6 @@ fn serve_book<
         Ok(opened) => opened,
         Err((_, refusal)) => return Err(Fault::Refused(refusal)),
     };
-    let mut connections = Connections::new(rt);
     let callers = accept_all(rt.alloc(), &mut connections, listener, passes)?;
     match sessions(rt, rt.alloc(), shared, callers, &connections) {
         Ok((book, _)) => Ok(book),
@@ -83,12 +96,12 @@ fn serve_book<
 }
 
 /// A connection for each pass, in the order in which they come.
-fn accept_all<A: Naming + Beginning, B: Naming, C: Naming, D: Naming, R: AllocGlobal + Eprint>(
+fn accept_all<'a, A: Naming + Beginning, B: Naming, C: Naming, D: Naming, R: AllocGlobal + Eprint>(
     alloc: Global,
-    connections: &mut Connections<'_, R>,
+    connections: &mut Connections<'a, R>,
     listener: &TcpListener,
     passes: Vec<Pass<A, B, C, D>>,
-) -> Result<Vec<Caller<TcpStream, TcpStream, A, B, C, D>>, Fault>
+) -> Result<Vec<Caller<ClientLines<'a, R, TcpStream>, TcpStream, A, B, C, D>>, Fault>
     ensures passes { IfOk result (λ callers. map (λ caller. caller.2) callers.items ≡ passes.items) }
     ensures counts { IfOk result (λ callers. All IsCountable callers.items) }
 {

@@ -1,4 +1,4 @@
-//! A reader before which a person may sit: what its lines lack is explained on standard error, where that is a terminal.
+//! A reader before whose reads a person is told something.
 
 ghost use Rattle.std.specs.Prelude.{◌≡◌};
 ghost use Rattle.std.specs.Io.{ReadsAtMost};
@@ -9,11 +9,11 @@ use std::io;
 use std::io::Read;
 use std::marker::Model;
 
-/// A reader whose lines an attendant hears. Its reads are those of the reader itself.
+/// A reader before each read of which an attendant says what is to be told. Its reads are those of the reader itself.
 #[derive(Drop)]
 pub struct Attended<'a, R> {
     inner: R,
-    attendant: Attendant<'a>,
+    attendant: &'a Attendant<'a>,
 }
 
 impl<'a, R> Model for Attended<'a, R> {
@@ -23,22 +23,11 @@ impl<'a, R> Model for Attended<'a, R> {
 }
 
 impl<'a, R> Attended<'a, R> {
-    /// The reader, whose lines the attendant hears from now on.
-    pub fn new(inner: R, attendant: Attendant<'a>) -> Attended<'a, R>
+    /// The reader, before whose reads the attendant speaks from now on.
+    pub fn new(inner: R, attendant: &'a Attendant<'a>) -> Attended<'a, R>
         ensures { result ≡ inner }
     {
         Attended { inner, attendant }
-    }
-}
-
-impl<R: Drop> Attended<'_, R> {
-    /// Has the rest of the last line explained, and lets the reader go.
-    pub fn finish(self) {
-        let Attended {
-            inner: _,
-            attendant,
-        } = self;
-        attendant.finish();
     }
 }
 
@@ -49,12 +38,7 @@ impl<R: Read> Read for Attended<'_, R> {
         ensures bound { ReadsAtMost result buf.new }
         ensures bytes { ReadConsumes (R.remaining self.old) (R.remaining self.new) result buf.new }
     {
-        self.attendant.before_read();
-        let result = self.inner.read(buf);
-        match &result {
-            Ok(count) => self.attendant.after_read(buf.get(..*count).unwrap_or(&[])),
-            Err(_) => self.attendant.after_read(&[]),
-        }
-        result
+        self.attendant.say_told();
+        self.inner.read(buf)
     }
 }

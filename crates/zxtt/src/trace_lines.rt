@@ -1,6 +1,7 @@
 //! The line of a session text for which it was refused.
 
-use crate::explanation::{session_explanation, shown_line, tree_explanation};
+use crate::advice::{session_remark, tree_remark};
+use crate::explanation::{explanation, shown_line};
 use std::alloc::{AllocError, Global};
 use zt_rows::Refusal;
 
@@ -38,13 +39,17 @@ impl TraceLine {
         Ok(text)
     }
 
-    /// The line, and what it lacks, where it cannot be read.
+    /// The line, and why it was refused.
     fn shown(&self, alloc: Global, number: u64, refusal: Refusal) -> Result<String, AllocError> {
         let line = self.bytes.as_slice();
-        match refusal {
-            Refusal::BadLine(column) if self.is_of_tree => tree_explanation(alloc, line, column),
-            Refusal::BadLine(column) => session_explanation(alloc, number, line, column),
-            _ => shown_line(alloc, line),
+        let remark = if self.is_of_tree {
+            tree_remark(line, refusal)
+        } else {
+            session_remark(number, line, refusal)
+        };
+        match remark {
+            Some(remark) => explanation(alloc, line, remark),
+            None => shown_line(alloc, line),
         }
     }
 }

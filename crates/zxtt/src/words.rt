@@ -1,16 +1,16 @@
 //! The words of the command line.
 
 ghost use Rattle.std.specs.Prelude.{◌≡◌, IfOk, codes, false, map, string_bytes};
-ghost use Rattle.clap.specs.Words.{HasMatchesOf, app_of, found_of, new_app, rows_of, rule_of, subcommand_of, subcommand_rows_of};
+ghost use Rattle.clap.specs.Words.{HasMatchesOf, app_of, found_of, new_app, rows_of, rule_of, subcommand_of, subcommand_rows_of, with_rule};
 ghost use Rattle.clap.specs.declared.builder.command.Command.TheViews.{out-Command as fields_of};
-ghost use Rattle.zxtt.specs.Rules.{valued};
+ghost use Rattle.zxtt.specs.Rules.{flag, valued};
 ghost use Rattle.zxtt.specs.Words.{IsAskedBy, IsAskedWith, IsRunOf, IsStandardInput, IsServeOf, IsLookedFor, clients_word, command_line, file_word, port_word, run_line, serve_line, talk_line};
 
 use crate::faults::Fault;
-use crate::look_words::{Look, look_command, look_of};
+use crate::look_words::{Look, flag_in, look_command, look_of};
 use clap::{Arg, ArgAction, ArgMatches, Command, Error, value_parser};
 use std::alloc::Global;
-use std::env;
+use std::{env, fs};
 
 // No clause tells the texts that these functions give, so that who asks for one is proved without going over its bytes.
 
@@ -55,6 +55,11 @@ fn clients_help() -> &'static str {
     "How many connections are accepted, 1 to 4; they are the clients 1 to N, in that order"
 }
 
+/// What the word `explain` does.
+fn explain_help() -> &'static str {
+    "Says on standard error why lines were refused: number, line, caret and what is wanted there"
+}
+
 /// What is said behind the words.
 fn examples<'a>() -> &'a str {
     "Lines, with what they do:
@@ -82,24 +87,41 @@ pub struct Words {
     pub words: Vec<String>,
 }
 
+/// What `run` is asked for.
+#[derive(Clone, Copy)]
+pub struct RunWords<'a> {
+    /// The file of the lines, or `-` for standard input.
+    pub file: &'a str,
+    /// The trace that the history begins with.
+    pub from: Option<&'a str>,
+    /// The file to which the history of `main` is saved.
+    pub save: Option<&'a str>,
+    /// The file to which the whole tree is saved.
+    pub save_tree: Option<&'a str>,
+    /// Whether lines that were refused are explained.
+    pub explain: bool,
+}
+
+/// What `serve` is asked for, on its port, for so many clients.
+#[derive(Clone, Copy)]
+pub struct ServeWords<'a> {
+    pub port: u16,
+    pub clients: u8,
+    /// The trace that the history begins with.
+    pub from: Option<&'a str>,
+    /// The file to which the whole tree is saved.
+    pub save_tree: Option<&'a str>,
+    /// Whether lines that were refused are explained.
+    pub explain: bool,
+}
+
 /// What the words ask for.
 #[derive(Clone, Copy)]
 pub enum Asked<'a> {
-    /// To run the lines of a file, from a trace if one is named, and to save the history of `main`, and the whole tree, if
-    /// files are named.
-    Run {
-        file: &'a str,
-        from: Option<&'a str>,
-        save: Option<&'a str>,
-        save_tree: Option<&'a str>,
-    },
-    /// To serve so many clients of a port, from a trace if one is named, and to save the whole tree if a file is named.
-    Serve {
-        port: u16,
-        clients: u8,
-        from: Option<&'a str>,
-        save_tree: Option<&'a str>,
-    },
+    /// To run the lines of a file.
+    Run(RunWords<'a>),
+    /// To serve the clients of a port.
+    Serve(ServeWords<'a>),
     /// To answer a question about a session text.
     Look(Look<'a>),
 }
@@ -127,6 +149,27 @@ impl Words {
         self.parsed(alloc)
     }
 
+    /// Whether `--explain` is among them.
+    pub fn ask_to_explain(&self) -> bool {
+        for word in &self.words {
+            if word.as_str() == "--explain" {
+                return true;
+            }
+        }
+        false
+    }
+
+    /// The first of them, where it stands in the place of a subcommand and names a file, or has the look of a file's name.
+    pub fn file_alone(&self, rt: &HostRuntime) -> Option<&str> {
+        let word = self.words.get(1)?.as_str();
+        let is_other = word.starts_with('-') || matches!(word, "run" | "serve" | "look" | "help");
+        if !is_other && (word.contains('.') || fs::metadata(rt, word).is_ok()) {
+            Some(word)
+        } else {
+            None
+        }
+    }
+
     /// What they ask for, as the command line is declared.
     fn parsed(&self, alloc: Global) -> Result<Asked<'_>, Fault>
         ensures { IfOk result (IsAskedBy (subcommand_of command_line (map string_bytes self.now.words.items))) }
@@ -150,12 +193,13 @@ impl Words {
 fn unasked<'a>() -> Asked<'a>
     ensures { IsStandardInput result }
 {
-    Asked::Run {
+    Asked::Run(RunWords {
         file: "-",
         from: None,
         save: None,
         save_tree: None,
-    }
+        explain: false,
+    })
 }
 
 /// What the words that were met ask for.
@@ -187,24 +231,26 @@ fn looked_for<'a>(words: &ArgMatches<'a>) -> Result<Asked<'a>, Fault>
 fn run_of<'a>(words: &ArgMatches<'a>) -> Asked<'a>
     ensures { IsRunOf (rows_of (found_of words.now)) result }
 {
-    Asked::Run {
+    Asked::Run(RunWords {
         file: words.get_str("FILE").unwrap_or("-"),
         from: words.get_str("from"),
         save: words.get_str("save"),
         save_tree: words.get_str("save-tree"),
-    }
+        explain: flag_in(words, "explain"),
+    })
 }
 
 /// What the words behind `serve` ask for.
 fn serve_of<'a>(words: &ArgMatches<'a>) -> Asked<'a>
     ensures { IsServeOf (rows_of (found_of words.now)) result }
 {
-    Asked::Serve {
+    Asked::Serve(ServeWords {
         port: words.get_one("PORT").unwrap_or(0),
         clients: words.get_one("clients").unwrap_or(1),
         from: words.get_str("from"),
         save_tree: words.get_str("save-tree"),
-    }
+        explain: flag_in(words, "explain"),
+    })
 }
 
 /// The command line.
@@ -266,6 +312,17 @@ fn save_tree_word<'a>(alloc: Global) -> Arg<'a>
         .help(save_tree_help())
 }
 
+/// The word of what is said of lines that were refused.
+fn explain_word<'a>(alloc: Global) -> Arg<'a>
+    ensures rule { rule_of result ≡ flag (codes "explain") }
+    ensures global { result.global ≡ false }
+{
+    Arg::new(alloc, "explain")
+        .long("explain")
+        .action(ArgAction::SetTrue)
+        .help(explain_help())
+}
+
 /// The word of the lines that are run.
 fn file_word<'a>(alloc: Global) -> Arg<'a>
     ensures rule { rule_of result ≡ file_word }
@@ -316,18 +373,29 @@ pub fn told_command<'a>(
     Command::new(alloc, name).about(about).after_help(examples)
 }
 
+/// A word's command with the words that `run` and `serve` have behind all others.
+fn with_last_words<'a>(alloc: Global, command: Command<'a>) -> Result<Command<'a>, Error>
+    requires { (fields_of command).has_globals ≡ false }
+    ensures line { IfOk result (λ done. app_of done ≡ with_rule (with_rule (app_of command.entry) (valued (codes "save-tree"))) (flag (codes "explain"))) }
+    ensures globals { IfOk result (λ done. (fields_of done).has_globals ≡ false) }
+{
+    Ok(
+        command
+            .arg(save_tree_word(alloc))?
+            .arg(explain_word(alloc))?,
+    )
+}
+
 /// The words behind `run`.
 fn run_command<'a>(alloc: Global) -> Result<Command<'a>, Error>
     ensures line { IfOk result (λ command. app_of command ≡ run_line) }
     ensures globals { IfOk result (λ command. (fields_of command).has_globals ≡ false) }
 {
-    Ok(
-        told_command(alloc, "run", run_about(), examples())
-            .arg(file_word(alloc))?
-            .arg(from_word(alloc))?
-            .arg(save_word(alloc))?
-            .arg(save_tree_word(alloc))?,
-    )
+    let words = told_command(alloc, "run", run_about(), examples())
+        .arg(file_word(alloc))?
+        .arg(from_word(alloc))?
+        .arg(save_word(alloc))?;
+    with_last_words(alloc, words)
 }
 
 /// The words behind `serve`.
@@ -335,11 +403,9 @@ fn serve_command<'a>(alloc: Global) -> Result<Command<'a>, Error>
     ensures line { IfOk result (λ command. app_of command ≡ serve_line) }
     ensures globals { IfOk result (λ command. (fields_of command).has_globals ≡ false) }
 {
-    Ok(
-        told_command(alloc, "serve", serve_about(), examples())
-            .arg(port_word(alloc))?
-            .arg(clients_word(alloc))?
-            .arg(from_word(alloc))?
-            .arg(save_tree_word(alloc))?,
-    )
+    let words = told_command(alloc, "serve", serve_about(), examples())
+        .arg(port_word(alloc))?
+        .arg(clients_word(alloc))?
+        .arg(from_word(alloc))?;
+    with_last_words(alloc, words)
 }

@@ -11,4 +11,5 @@ returns c =
       value_of_row words (codes "from") c.get_str-2.result c.get_str-2.ensures,
       value_of_row words (codes "save") c.get_str-3.result c.get_str-3.ensures,
       value_of_row words (codes "save-tree") c.get_str-4.result c.get_str-4.ensures,
+      c.flag_in.ensures,
     )

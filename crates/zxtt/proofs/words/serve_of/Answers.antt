@@ -12,4 +12,5 @@ returns c =
       rw c.unwrap_or-2.ensures (number_of_row (λ bs r. ParsesUnsigned 8 10 bs r × ExplainsUnsignedError 10 bs r × HasUnsignedDigitsIfOk bs r) 8 words (codes "clients") c.get_one-2.result 1 (λ t x h. h.0) c.get_one-2.ensures.value),
       value_of_row words (codes "from") c.get_str.result c.get_str.ensures,
       value_of_row words (codes "save-tree") c.get_str-2.result c.get_str-2.ensures,
+      c.flag_in.ensures,
     )

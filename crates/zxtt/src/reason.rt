@@ -1,0 +1,116 @@
+//! Why a line that reads was refused.
+
+use crate::fields::{field, last_place};
+use zt_rows::Refusal;
+
+/// Why a line that reads was refused.
+#[derive(Clone, Copy)]
+pub enum Reason {
+    NoProcess,
+    NoMoment,
+    /// A `pinned` line, before any `pin`.
+    NothingPinned,
+    NoBranch,
+    /// Of a saved tree: its first branch is another than `main`.
+    NotMain,
+    /// Of a saved tree: a cursor before any branch.
+    NoBranches,
+    NameTaken,
+    BadName,
+    NoObject,
+    AtStart,
+    Detached,
+    Full,
+    ClientFull,
+    LineTooLong,
+    OutOfMemory,
+}
+
+impl Reason {
+    /// It in words, up to the field that is at fault where that is named.
+    pub fn text(self) -> &'static str {
+        match self {
+            Reason::NoProcess => "no live process here has the koid ",
+            Reason::NoMoment => "there is no moment ",
+            Reason::NothingPinned => "nothing is pinned yet: `pin` does",
+            Reason::NoBranch => "there is no branch ",
+            Reason::NotMain => "the first branch has to be main",
+            Reason::NoBranches => "a branch has to stand above",
+            Reason::NameTaken => "there is already a branch ",
+            Reason::BadName => {
+                "wanted here: 1 to 32 bytes of a to z, 0 to 9, _ and -, the first a letter"
+            }
+            Reason::NoObject => "there is no object ",
+            Reason::AtStart => "fewer moments are above than ",
+            Reason::Detached =>
+                "no branch is followed here: `branch` makes one, `follow` goes to one",
+            _ => self.text_of_limit(),
+        }
+    }
+
+    /// The same, of what there is too much of.
+    fn text_of_limit(self) -> &'static str {
+        match self {
+            Reason::Full => "there are as many moments as can be, 1048576",
+            Reason::ClientFull => "as many commands were answered to this client as can be, 4096",
+            Reason::LineTooLong => "the line has more than 140000 bytes",
+            _ => "memory was refused",
+        }
+    }
+
+    /// Whether the field that is at fault is named behind the words.
+    pub fn names_field(self) -> bool {
+        matches!(
+            self,
+            Reason::NoProcess
+                | Reason::NoMoment
+                | Reason::NoBranch
+                | Reason::NameTaken
+                | Reason::NoObject
+                | Reason::AtStart
+        )
+    }
+}
+
+/// Which field of a line is at fault that was refused so, counted from 0, and why; nothing, for what no line is refused as.
+pub fn reason_of(line: &[u8], refusal: Refusal) -> Option<(usize, Reason)> {
+    match refusal {
+        Refusal::NoProcess => Some((0, Reason::NoProcess)),
+        Refusal::NoMoment if field(line, 0) == b"pinned".as_slice() => {
+            Some((0, Reason::NothingPinned))
+        }
+        Refusal::NoMoment => Some((1, Reason::NoMoment)),
+        Refusal::NoBranch => Some((1, Reason::NoBranch)),
+        Refusal::NoObject => Some((last_place(line), Reason::NoObject)),
+        Refusal::AtStart => Some((1, Reason::AtStart)),
+        Refusal::Detached => Some((0, Reason::Detached)),
+        _ => reason_in_any_line(refusal),
+    }
+}
+
+/// The same of a line of a session text of version 2.
+pub fn tree_reason_of(line: &[u8], refusal: Refusal) -> Option<(usize, Reason)> {
+    let word = field(line, 0);
+    match refusal {
+        Refusal::NoProcess => Some((2, Reason::NoProcess)),
+        Refusal::NoMoment if word == b"call".as_slice() => Some((1, Reason::NoMoment)),
+        Refusal::NoMoment => Some((last_place(line), Reason::NoMoment)),
+        Refusal::NoBranch if word == b"branch".as_slice() => Some((1, Reason::NotMain)),
+        Refusal::NoBranch if field(line, 2) == b"follow".as_slice() => Some((3, Reason::NoBranch)),
+        Refusal::NoBranch => Some((0, Reason::NoBranches)),
+        _ => reason_in_any_line(refusal),
+    }
+}
+
+/// The same of what is at fault in the same field of a line of either.
+fn reason_in_any_line(refusal: Refusal) -> Option<(usize, Reason)> {
+    match refusal {
+        Refusal::NameTaken => Some((1, Reason::NameTaken)),
+        Refusal::BadName => Some((1, Reason::BadName)),
+        Refusal::Full => Some((0, Reason::Full)),
+        Refusal::ClientFull => Some((0, Reason::ClientFull)),
+        Refusal::LineTooLong => Some((0, Reason::LineTooLong)),
+        Refusal::OutOfMemory => Some((0, Reason::OutOfMemory)),
+        _ => None,
+    }
+}
