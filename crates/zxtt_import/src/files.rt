@@ -2,14 +2,32 @@
 
 use crate::faults::Fault;
 use std::io::{self, Read, Write};
-use zt_files::{read_whole, write_whole};
+use zt_files::{FileFault, open, read_rest, write_whole};
 
-/// All bytes of a file, or of standard input for `-`.
-pub fn read(rt: &HostRuntime, path: &str) -> Result<Vec<u8>, Fault> {
+/// All bytes of a file, or of standard input for `-`. Once the file is open, and before it is read, is said that the trace cannot be written
+/// where it is to be, if that shows.
+pub fn read(rt: &HostRuntime, path: &str, to: Option<&str>) -> Result<Vec<u8>, Fault> {
     if path == "-" {
+        look_ahead(rt, to);
         return read_all(rt, rt.stdin());
     }
-    Ok(read_whole(rt, path)?)
+    let mut file = open(rt, path)?;
+    look_ahead(rt, to);
+    Ok(read_rest(rt.alloc(), &mut file)?)
+}
+
+/// Says on standard error that a file cannot be written, if one is named and that shows before there is anything to write.
+fn look_ahead(rt: &HostRuntime, to: Option<&str>) {
+    match to {
+        Some(path) if path != "-" => {
+            if let Err(FileFault::Unopened { path, error }) = zt_files::look_ahead(rt, path) {
+                let _ = eprintln!(rt;
+                    "zxtt-import: {path} cannot be written as it stands: {error}"
+                );
+            }
+        }
+        _ => {}
+    }
 }
 
 /// All bytes of a reader.

@@ -38,7 +38,7 @@ fn ended(rt: &HostRuntime, done: &Result<(), Fault>) -> ExitCode {
 
 /// Makes the trace of a log, and tells where replies differ.
 fn make_trace(rt: &HostRuntime, asked: &Asked<'_>) -> Result<(), Fault> {
-    let text = read(rt, asked.log)?;
+    let text = read(rt, asked.log, asked.to)?;
     let log = read_log(rt.alloc(), text.as_slice())?;
     let imported = import(rt.alloc(), log.calls.as_slice(), asked.is_strict)?;
     tell_differences(rt, &log, &imported)?;
