@@ -21,7 +21,10 @@ pub enum Fault {
     /// A write failed in the midst of a file that had to be written through. The whole text lies in the file `part`.
     #[error("zxtt-view: {}\nzxtt-view: what was to be saved lies whole in {part}", RefusalLine(Refusal::WriteFault))]
     Unwritten { part: String },
-    /// The port could not be listened on, or the sockets could not be waited for.
+    /// The port could not be listened on.
+    #[error("zxtt-view: port {port} of 127.0.0.1: {error}")]
+    Unlistened { port: u16, error: io::Error },
+    /// The sockets could not be waited for.
     #[error("zxtt-view: {0}")]
     Unconnected(io::Error),
     /// Something was refused.
@@ -42,7 +45,7 @@ impl Fault {
     pub fn status(&self) -> u8 {
         match self {
             Fault::Words(_) | Fault::Unread(_) => 2,
-            Fault::Unopened { .. } | Fault::Unconnected(_) => 3,
+            Fault::Unopened { .. } | Fault::Unlistened { .. } | Fault::Unconnected(_) => 3,
             Fault::Refused(Refusal::ReadFault) => 4,
             Fault::Refused(Refusal::WriteFault) | Fault::Unwritten { .. } => 5,
             Fault::Refused(_) | Fault::Trace { .. } => 6,

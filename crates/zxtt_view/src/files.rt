@@ -5,8 +5,9 @@ ghost use Rattle.zt_console.specs.LoadedText.{IsLoadedOf};
 
 use crate::faults::Fault;
 use std::alloc::Global;
+use std::io::Write;
 use zt_console::{Book, load_text_told, tree_text};
-use zt_files::{Progress, read_whole, write_whole};
+use zt_files::{FileFault, Progress, read_whole, write_whole};
 use zt_view::View;
 
 /// The book of one client over the tree of a session text that is read from a file. A person at a terminal is told how far the
@@ -31,6 +32,15 @@ fn book_of(alloc: Global, text: &[u8], told: &Progress<'_>) -> Result<Book, Faul
     match loaded {
         Ok(book) => Ok(book),
         Err((line, refusal)) => Err(Fault::Trace { line, refusal }),
+    }
+}
+
+/// Says on standard error that a file cannot be written, if one is named and that shows before there is anything to write.
+pub fn look_ahead(rt: &HostRuntime, to: Option<&str>) {
+    if let Some(path) = to {
+        if let Err(FileFault::Unopened { path, error }) = zt_files::look_ahead(rt, path) {
+            let _ = eprintln!(rt; "zxtt-view: {path} cannot be written as it stands: {error}");
+        }
     }
 }
 

@@ -10,7 +10,7 @@ mod socket;
 mod words;
 
 use faults::Fault;
-use files::{load, save_tree};
+use files::{load, look_ahead, save_tree};
 use mio::net::TcpListener;
 use server::{listen, serve};
 use std::io::Write;
@@ -51,6 +51,7 @@ fn ended(rt: &HostRuntime, done: &Result<(), Fault>) -> ExitCode {
 fn begin(rt: &HostRuntime, asked: &Asked<'_>) -> Result<(TcpListener, View), Fault> {
     let book = begun(rt, asked.from)?;
     let (listener, port) = listen(rt, asked.port)?;
+    look_ahead(rt, asked.save_tree);
     let trace = file_name(asked.from.unwrap_or(""));
     let view = match View::new(rt.alloc(), port, start_number(rt), trace, book) {
         Ok(view) => view,

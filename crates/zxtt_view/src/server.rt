@@ -44,9 +44,13 @@ struct Sockets {
 /// Listens on a port of 127.0.0.1, a free one for 0, and tells which.
 pub fn listen<R: Net>(rt: &R, port: u16) -> Result<(TcpListener, u16), Fault> {
     let address = SocketAddr::from((Ipv4Addr::LOCALHOST, port));
-    let listener = TcpListener::bind(rt, address)?;
-    let port = listener.local_addr()?.port();
-    Ok((listener, port))
+    match TcpListener::bind(rt, address) {
+        Ok(listener) => {
+            let port = listener.local_addr()?.port();
+            Ok((listener, port))
+        }
+        Err(error) => Err(Fault::Unlistened { port, error }),
+    }
 }
 
 /// Serves the view to all who connect, until it is ended, and gives it back.
