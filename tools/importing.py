@@ -8,7 +8,8 @@ from random_log import Answered
 from trials import LIMIT, Trouble, expect, lines_of, run, run_well
 
 LAST = re.compile(
-    r'zxtt-import: (\d+) calls of (\d+) lines, (\d+) skipped, (\d+) adopted; (\d+) differences, (\d+) of them by the schedule'
+    r'zxtt-import: (\d+) calls of (\d+) lines, (\d+) skipped, (\d+) adopted, (\d+) pairs by their messages; '
+    r'(\d+) differences, (\d+) of them by the schedule'
 )
 NOTHING = 4294967292  # the handle of a trace by which nothing is named
 
@@ -25,11 +26,27 @@ class Import:
         self.status, self.trace, self.said = done.returncode, done.stdout, done.stderr.decode('utf-8', 'replace').split('\n')[:-1]
 
     def told(self):
-        """The lines that it said ahead of the last."""
-        return self.said[:-1]
+        """The differences that it told: the lines ahead of the last, but for that of what was skipped."""
+        return [line for line in self.said if line.startswith('line ')]
+
+    def skipped(self):
+        """What it said was skipped: each name with how many lines have it, and what stands behind it."""
+        lines = [line.removeprefix('skipped: ') for line in self.said if line.startswith('skipped: ')]
+        return lines[0].split(', ') if lines else []
+
+    def differences(self):
+        """Those of them that tell differences."""
+        return [line for line in self.told() if re.match(r'line \d+: (no )?moment', line)]
 
     def counts(self):
-        """What the last line counts: calls, lines, skipped, adopted, differences, and those by the schedule."""
+        """What the last line counts but for pairs: calls, lines, skipped, adopted, differences, and those by the schedule."""
+        return self.all_counts()[:4] + self.all_counts()[5:]
+
+    def pairs(self):
+        """How many pairs of ends were joined by their messages."""
+        return self.all_counts()[4]
+
+    def all_counts(self):
         last = LAST.fullmatch(self.said[-1]) if self.said else None
         if not last:
             raise Trouble(f'the last line said is {self.said[-1:]}')
@@ -61,6 +78,32 @@ def replies(program, trace, room):
     write(path, trace)
     lines = lines_of(run_well(zxtt_of(program), ['look', path, 'calls'], limit=10 * LIMIT))
     return [Answered(*line.split(' ', 1)[1].split(' => ')) for line in lines]
+
+
+def told_of(program, room, log, differences, adopted, calls=None):
+    """Raises where a log does not give these differences, so many calls that it does not have, and behind them these."""
+    done = Import(program, text_of(log))
+    expect('differences', differences, done.told())
+    done.expect_well(len(differences))
+    came = [f"{it.line} => {' '.join([it.status, *it.values])}" for it in replies(program, done.trace, room)]
+    expect('calls adopted', adopted, done.counts()[3])
+    if calls is not None:
+        expect('calls of the log', calls, came[adopted:])
+    return done
+
+
+def is_refused(program, room, text, said, status=6):
+    """Raises where a log is not refused so, or anything is written of it: a new file, or in the place of one."""
+    done = Import(program, text)
+    expect('said', [f'zxtt-import: {said}'], done.said)
+    expect('exit status, and what is written', (status, b''), (done.status, done.trace))
+    write(f'{room}/kept', b'as it was')
+    for place in ('kept', 'new'):
+        done = Import(program, text, '--to', f'{room}/{place}')
+        expect('exit status with --to', status, done.status)
+    with open(f'{room}/kept', 'rb') as file:
+        expect('the file that stood there', b'as it was', file.read())
+    expect('a new file', False, os.path.exists(f'{room}/new'))
 
 
 def calls_alone(trace):

@@ -21,7 +21,29 @@ FORMS = {
     'job_set_critical': 'job:handle handle:handle', 'task_kill': 'handle:handle', 'process_exit': 'code:code',
 }
 FORMS = {call: [tuple(field.split(':')) for field in fields.split()] for call, fields in FORMS.items()}
-OTHERS = ['vmo_create', 'zx_clock_get_monotonic', 'zx_nanosleep', 'object_get_info', 'zx_thread_create', 'EVENT_CREATE', '']
+SECOND_NAMES = {  # the names that the system's reference has for fields
+    'clear': 'clear_mask', 'set': 'set_mask', ('channel_read', 'bytes'): 'num_bytes', ('channel_read', 'handles'): 'num_handles',
+    ('port_queue', 'port'): 'handle', ('port_wait', 'port'): 'handle', ('port_cancel', 'port'): 'handle',
+    ('job_create', 'job'): 'parent_job', ('job_set_critical', 'handle'): 'process', ('task_kill', 'handle'): 'task',
+    ('process_exit', 'code'): 'retcode',
+}
+NOT_THERE = ['options', 'discard', 'edge', 'more']  # fields that may be null
+# The options of calls: the field that says the same, and how they are written with it and without.
+OPTIONS = {
+    'object_wait_async': ('edge', [2, '0x3', 'ZX_WAIT_ASYNC_EDGE', 'ZX_WAIT_ASYNC_EDGE|ZX_WAIT_ASYNC_TIMESTAMP'],
+                          [0, 1, 'ZX_WAIT_ASYNC_BOOT_TIMESTAMP']),
+    'channel_read': ('discard', [1, '1', 'ZX_CHANNEL_READ_MAY_DISCARD'], [0, '0x0']),
+}
+RIGHT_NAMES = {
+    0: 'DUPLICATE', 1: 'TRANSFER', 2: 'READ', 3: 'WRITE', 9: 'DESTROY', 12: 'SIGNAL', 13: 'SIGNAL_PEER', 14: 'WAIT', 15: 'INSPECT',
+    16: 'MANAGE_JOB', 17: 'MANAGE_PROCESS', 31: 'SAME_RIGHTS',
+}
+RIGHT_NAMES = {bit: f'ZX_RIGHT_{name}' for bit, name in RIGHT_NAMES.items()}
+SIGNAL_NAMES = {0: 'CHANNEL_READABLE', 1: 'CHANNEL_WRITABLE', 2: 'EVENTPAIR_PEER_CLOSED', 3: 'TASK_TERMINATED', 4: 'JOB_NO_JOBS'}
+SIGNAL_NAMES |= {5: 'JOB_NO_PROCESSES'} | {24 + number: f'USER_SIGNAL_{number}' for number in range(8)}
+SIGNAL_NAMES = {bit: f'ZX_{name}' for bit, name in SIGNAL_NAMES.items()}
+OTHERS = ['vmo_create', 'zx_vmar_map', 'zx_thread_create', 'EVENT_CREATE', '']
+CHANGE_NOTHING = ['zx_clock_get_monotonic', 'zx_nanosleep', 'object_get_info', 'zx_object_wait_one']
 
 
 class Answered:
@@ -259,11 +281,12 @@ class Numbers:
         self.strays = {}  # the values of handles that are not there
 
     def process(self, koid):
-        """The number of a process, which is as odd as any."""
+        """The number of a process, which is as odd as any, or its name."""
         while koid not in self.processes:
             number = self.any.choice([
                 self.any.randrange(1 << 16), self.any.getrandbits(32), self.any.getrandbits(64),
                 self.any.choice([0, 1024, 1025, 1026, 1028, (1 << 64) - 1]),
+                self.any.choice(['manager', 'm\u00e4nager', '0x', 'a b']) + f'-{self.any.randrange(99)}',
             ])
             if number not in self.taken:
                 self.taken.add(number)
@@ -316,9 +339,18 @@ class Writer:
 
     def number(self, value):
         """A number of the log, or its text."""
-        return value if self.any.random() < 0.6 else self.any.choice([f'0x{value:x}', f'0x{value:08X}', f'0x{value:016x}'])
+        if isinstance(value, str) or self.any.random() < 0.6:
+            return value
+        return self.any.choice([f'0x{value:x}', f'0x{value:08X}', f'0x{value:016x}', str(value), f'00{value}'])
 
-    def field(self, process, what, word):
+    def bits(self, value, names):
+        """A mask, or the names of its bits where all have one."""
+        bits = [bit for bit in range(32) if value >> bit & 1]
+        if bits and all(bit in names for bit in bits) and self.any.random() < 0.4:
+            return self.any.choice(['|', ' | ']).join(names[bit] for bit in bits)
+        return self.number(value)
+
+    def field(self, process, name, what, word):
         if what == 'handle':
             return self.number(self.numbers.value(process, int(word)))
         if what == 'list':
@@ -327,33 +359,60 @@ class Writer:
             return '' if word == '-' else self.any.choice([word, word.upper()])
         if what == 'word':
             return True
-        return int(word) if what == 'code' else self.number(int(word, 16 if what == 'mask' else 10))
+        if what == 'mask':
+            return self.bits(int(word, 16), RIGHT_NAMES if name == 'rights' else SIGNAL_NAMES)
+        if what == 'code':
+            return self.any.choice([int(word), word])
+        return self.number(int(word))
 
     def arguments(self, it):
-        fields = {name: self.field(it.process, what, word) for name, what, word in it.arguments()}
+        fields = {name: self.field(it.process, name, what, word) for name, what, word in it.arguments()}
         may_go = [name for name in fields if fields[name] in ('', [])]
         if it.call == 'spawn' and it.words[1] == '0':
             may_go.append('argument')
         for name in may_go:
             if self.any.random() < 0.4:
                 del fields[name]
-        return fields
+            elif self.any.random() < 0.3:
+                fields[name] = None
+        return self.with_nulls(self.with_second_names(it.call, self.with_options(it.call, fields)))
+
+    def with_options(self, call, fields):
+        """The same with options, which may stand for a field."""
+        field, asked, others = OPTIONS.get(call, ('', [], [0]))
+        if self.any.random() < 0.6:
+            return fields
+        options = self.any.choice(asked if field in fields else others)
+        return {name: value for name, value in fields.items() if name != field} | {'options': options}
+
+    def with_second_names(self, call, fields):
+        def name_of(name):
+            second = SECOND_NAMES.get((call, name), SECOND_NAMES.get(name))
+            return second if second and self.any.random() < 0.4 else name
+
+        return {name_of(name): value for name, value in fields.items()}
+
+    def with_nulls(self, fields):
+        """The same with fields that are null."""
+        return {name: None for name in NOT_THERE if self.any.random() < 0.1} | fields
 
     def status(self, word):
         return self.any.choice([word, f'ZX_ERR_{word.upper()}' if word != 'ok' else 'ZX_OK'])
 
     def packet(self, values):
         kind, key, *more = values
+        packet = {'key': self.number(int(key))}
         if kind == 'user':
-            return {'type': 'user', 'key': self.number(int(key)), 'bytes': more[0]}
-        trigger, observed = (self.number(int(word, 16)) for word in more)
-        return {'type': 'signal', 'key': self.number(int(key)), 'trigger': trigger, 'observed': observed}
+            return packet | {'type': self.any.choice(['user', 'ZX_PKT_TYPE_USER']), self.any.choice(['bytes', 'user']): more[0]}
+        signals = dict(zip(('trigger', 'observed'), (self.bits(int(word, 16), SIGNAL_NAMES) for word in more)))
+        packet['type'] = self.any.choice(['signal', 'ZX_PKT_TYPE_SIGNAL_ONE'])
+        return packet | self.any.choice([signals, {'signal': signals}])
 
     def out(self, it):
         """What a call gave, once its handles have their values."""
         fields = {}
         if it.handles_given() or self.any.random() < 0.1:
-            fields['handles'] = [self.number(self.numbers.give(it.process, handle)) for handle in it.handles_given()]
+            fields |= self.given(it, [self.number(self.numbers.give(it.process, handle)) for handle in it.handles_given()])
         if it.child():
             fields['process'] = self.number(self.numbers.process(it.child()))
             if it.handles_named()[1]:
@@ -363,6 +422,13 @@ class Writer:
         if it.call == 'port_wait' and it.status == 'ok':
             fields['packet'] = self.packet(it.values)
         return fields
+
+    def given(self, it, handles):
+        """Handles that a call gave, as a list or each by its own name."""
+        names = {1: ['out'], 2: ['out0', 'out1']}.get(len(handles))
+        if names and it.call not in ('channel_read', 'spawn') and self.any.random() < 0.4:
+            return dict(zip(names, handles))
+        return {'handles': handles}
 
     def entry(self, it):
         """The entry of a call."""
@@ -393,9 +459,9 @@ class Logged:
         return json.dumps(self.entry)
 
 
-def other_call(any):
-    """An entry that is skipped."""
-    return {'process': any.randrange(99), 'call': any.choice(OTHERS), 'args': {'handle': 'none'}, 'status': 'ok', 'out': 7}
+def other_call(any, names):
+    """An entry of a call that the profile has not."""
+    return {'process': any.randrange(99), 'call': any.choice(names), 'args': {'handle': 'none'}, 'status': 'ok', 'out': 7}
 
 
 def written(any, parts):
@@ -410,5 +476,6 @@ def written(any, parts):
             answered = left[part].pop()
             lines.append(Logged(part, answered, writers[part].entry(answered)))
         if any.random() < 0.1:
-            lines.append(Logged(part, None, other_call(any)))
+            lines.append(Logged(part, None, other_call(any, OTHERS)))
+            lines.append(Logged(part, None, other_call(any, CHANGE_NOTHING)))
     return lines

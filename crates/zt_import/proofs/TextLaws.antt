@@ -133,11 +133,11 @@ calls-by made (step ∷ trail) =
     ap (λ calls. step_calls made step ++ calls) (calls-by made trail) ∙ moment-calls made step.moment (moments_in trail)
 
 module _ {A : Type 0} where
-  take-none : (xs : List A) → take 0 xs ≡ []
+  pub take-none : (xs : List A) → take 0 xs ≡ []
   take-none [] = refl
   take-none (x ∷ xs) = refl
 
-  take-next : (xs : List A) (k : ℕ) (x : A) → slice_get xs k ≡ Some x → take (suc k) xs ≡ take k xs ++ x ∷ []
+  pub take-next : (xs : List A) (k : ℕ) (x : A) → slice_get xs k ≡ Some x → take (suc k) xs ≡ take k xs ++ x ∷ []
   take-next [] k x h = cc
   take-next (y ∷ xs) zero x h =
       let same : y ≡ x = cc in

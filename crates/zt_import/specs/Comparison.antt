@@ -96,7 +96,9 @@ waited (Some status.Ok) = true
 waited (Some status.TimedOut) = true
 waited _ = false
 
--- a wait for a packet that got one or timed out, on both sides
+-- a wait for a packet that got one or timed out, on both sides, and differs in nothing else
 abbrev pub may_be_scheduled : LoggedCall → Option Reply → Bool
 may_be_scheduled made None = false
-may_be_scheduled made (Some answered) = is_wait made.call && waited made.recorded.status && waited (Some (status_of answered))
+may_be_scheduled made (Some answered) =
+    is_wait made.call && waited made.recorded.status && waited (Some (status_of answered))
+    && (length made.recorded.handles == handle_count answered) && bytes_agree made.recorded.bytes answered

@@ -1,6 +1,6 @@
 -- How an import is seen: the tree of the calls that were made, the calls that were asked, and the differences that are told
 -- and counted. This project's own.
-use Rattle.std.specs.Prelude.{◌≡◌, ℕ, Bool, nat_lt, List, length, take, count_by, Ok}
+use Rattle.std.specs.Prelude.{◌≡◌, ℕ, Bool, nat_lt, List, [], length, take, count_by, Ok}
 use Rattle.zt_history.specs.Tree.{Tree}
 use Rattle.zt_book.specs.Log.{loaded}
 use Rattle.zt_logs.specs.declared.logged.LoggedCall.{LoggedCall}
@@ -24,13 +24,16 @@ pub record Loads (it : Import) : Type 0 where
   pub loads : loaded (calls_of it.tree.made) ≡ Ok it.tree
   pub moments : moments_in it.trail ≡ moments_to (length it.tree.made)
 
--- the first calls of a log, so many, are steps in their order; all of them that differ are counted, and the first hundred told
-pub record IsImportOf (calls : List LoggedCall) (number : ℕ) (it : Import) : Type 0 where
-  pub numbers : numbers_in it.trail ≡ below number
+-- the calls of a log are steps in their order; all of them that differ are counted, and the first hundred told
+pub record IsImportOf (calls : List LoggedCall) (it : Import) : Type 0 where
+  pub numbers : numbers_in it.trail ≡ below (length calls)
   pub told : it.told ≡ take 100 (differences_of calls it.tree.made it.trail)
   pub count : it.count ≡ length (differences_of calls it.tree.made it.trail)
-  pub by_schedule : it.by_schedule ≡ count_by (λ difference. difference.by_schedule) (differences_of calls it.tree.made it.trail)
 
--- what is called at the moment of a step is the log's call of its number, but for handles
+-- those of them are counted as by the schedule, and told so, that a schedule can have made: by what stands in a port's queue near by
+abbrev pub CountsBySchedule : List LoggedCall → Import → Type 0
+CountsBySchedule calls it = it.by_schedule ≡ count_by (λ difference. difference.by_schedule) (differences_of calls it.tree.made it.trail)
+
+-- what is called at the moment of a step is the log's call of its number, by the process that stands for the log's, but for handles
 abbrev pub AreTheLogsCalls : List LoggedCall → Import → Type 0
-AreTheLogsCalls calls it = AreMadeBy calls it.tree.made it.trail
+AreTheLogsCalls calls it = AreMadeBy calls it.tree.made [] it.trail

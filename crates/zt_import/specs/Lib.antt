@@ -1,6 +1,8 @@
 -- Definitions to believe: public clauses are stated in them.
 pub mod Comparison
+pub mod Schedule
 pub mod Trails
+pub mod Counts
 pub mod Imports
 -- Used by proofs only: no public clause depends on them.
 pub mod ProofsOnly

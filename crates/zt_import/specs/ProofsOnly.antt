@@ -1,3 +1,4 @@
 -- Used by proofs only: no public clause depends on them.
 pub mod TakenCalls
+pub mod PortQueue
 pub mod ReadTexts

@@ -1,18 +1,21 @@
 -- The calls that were asked of a history for a log, and those of them whose replies differ from what the log has. This
 -- project's own.
-use Rattle.std.specs.Prelude.{◌≡◌, ℕ, ⊤, zero, suc, List, [], ◌∷◌, ◌++◌, map, length, Option, Some, None, slice_get, if◌then◌else◌}
-use Rattle.std.specs.List.{filter_map}
+use Rattle.std.specs.Prelude.{◌≡◌, ◌==◌, ℕ, ⊤, zero, suc, List, [], ◌∷◌, ◌++◌, map, length, Option, Some, None, slice_get, if◌then◌else◌}
+use Rattle.std.specs.List.{filter_map, cons_option}
 use Rattle.std.specs.Option.{option_map}
 use Rattle.zt_rows.specs.declared.calls.Call.{Call}
 use Rattle.zt_rows.specs.declared.calls.Call.TheVariants as call
 use Rattle.zt_rows.specs.declared.calls.Reply.{Reply}
+use Rattle.zt_rows.specs.declared.calls.Reply.TheVariants as reply
 use Rattle.zt_history.specs.Tree.{Made, call_at, reply_at}
 use Rattle.zt_logs.specs.declared.logged.LoggedCall.{LoggedCall}
 use Rattle.zt_import.specs.declared.trail.Difference.{Difference}
 use Rattle.zt_import.specs.declared.trail.Origin.{Origin}
 use Rattle.zt_import.specs.declared.trail.Origin.TheVariants as origin
 use Rattle.zt_import.specs.declared.trail.TrailStep.{TrailStep}
-use Rattle.zt_import.specs.Comparison.{agrees, may_be_scheduled}
+use Rattle.zt_import.specs.declared.schedule.AskedCall.{AskedCall}
+use Rattle.zt_import.specs.Comparison.{agrees}
+use Rattle.zt_import.specs.Schedule.{by_schedule}
 
 -- the calls of moments, each with its process
 abbrev pub calls_of : List Made → List (ℕ × Call)
@@ -43,6 +46,20 @@ abbrev pub moments_to : ℕ → List ℕ
 moments_to zero = []
 moments_to (suc n) = moments_to n ++ suc n ∷ []
 
+-- ---- the calls of the log among the steps
+
+-- the call of this number, with its line, asked at this moment
+abbrev pub asked_by : List LoggedCall → Option ℕ → Option ℕ → Option AskedCall
+asked_by calls None moment = None
+asked_by calls (Some number) moment = option_map (λ logged. record { line = logged.line; moment = moment }) (slice_get calls number)
+
+abbrev pub asked_at : List LoggedCall → TrailStep → Option AskedCall
+asked_at calls step = asked_by calls (number_in step.origin) step.moment
+
+-- in their order, so that the call of each number stands at its place
+abbrev pub asked_in : List LoggedCall → List TrailStep → List AskedCall
+asked_in calls trail = filter_map (asked_at calls) trail
+
 -- ---- differences
 
 -- what a step's call answered; nothing, where it was not made
@@ -50,27 +67,27 @@ abbrev pub answer_at : List Made → Option ℕ → Option Reply
 answer_at made None = None
 answer_at made (Some moment) = reply_at made moment
 
--- what differs of this call of the log
-abbrev pub difference_of : LoggedCall → ℕ → Option ℕ → Option Reply → Option Difference
-difference_of logged number moment answer =
-    if agrees logged.recorded answer then None
-    else Some (record { call = number; moment = moment; by_schedule = may_be_scheduled logged answer })
+-- what differs of this call of the log, which has this number and made this moment, among those that were asked
+abbrev pub difference_of : List Made → List AskedCall → LoggedCall → ℕ → Option ℕ → Option Difference
+difference_of made asked logged number moment =
+    if agrees logged.recorded (answer_at made moment) then None
+    else Some (record { call = number; moment = moment; by_schedule = by_schedule made asked logged number moment })
 
-abbrev pub difference_for : List Made → Option LoggedCall → ℕ → Option ℕ → Option Difference
-difference_for made None number moment = None
-difference_for made (Some logged) number moment = difference_of logged number moment (answer_at made moment)
+abbrev pub difference_for : List Made → List AskedCall → Option LoggedCall → ℕ → Option ℕ → Option Difference
+difference_for made asked None number moment = None
+difference_for made asked (Some logged) number moment = difference_of made asked logged number moment
 
-abbrev pub difference_by : List LoggedCall → List Made → Option ℕ → Option ℕ → Option Difference
-difference_by calls made None moment = None
-difference_by calls made (Some number) moment = difference_for made (slice_get calls number) number moment
+abbrev pub difference_by : List LoggedCall → List Made → List AskedCall → Option ℕ → Option ℕ → Option Difference
+difference_by calls made asked None moment = None
+difference_by calls made asked (Some number) moment = difference_for made asked (slice_get calls number) number moment
 
 -- what differs at a step; a call that the log does not have differs from nothing
-abbrev pub difference_at : List LoggedCall → List Made → TrailStep → Option Difference
-difference_at calls made step = difference_by calls made (number_in step.origin) step.moment
+abbrev pub difference_at : List LoggedCall → List Made → List AskedCall → TrailStep → Option Difference
+difference_at calls made asked step = difference_by calls made asked (number_in step.origin) step.moment
 
 -- all that differ, in the order of the log
 abbrev pub differences_of : List LoggedCall → List Made → List TrailStep → List Difference
-differences_of calls made trail = filter_map (difference_at calls made) trail
+differences_of calls made trail = filter_map (difference_at calls made (asked_in calls trail)) trail
 
 -- ---- the calls of the log, but for handles
 
@@ -98,20 +115,60 @@ bare (call.JobSetCritical _ _) = call.JobSetCritical 0 0
 bare (call.TaskKill _) = call.TaskKill 0
 bare other = other
 
--- what is called at this moment, if it is one, is this call but for its handles
-abbrev pub IsMadeOf : List Made → Option ℕ → Call → Type 0
-IsMadeOf made None logged = ⊤
-IsMadeOf made (Some moment) logged = option_map (λ called. bare called.1) (call_at made moment) ≡ Some (bare logged)
+-- with its process
+abbrev pub bare_called : ℕ × Call → ℕ × Call
+bare_called called = (called.0, bare called.1)
 
-abbrev pub IsMadeFor : List Made → Option ℕ → Option LoggedCall → Type 0
-IsMadeFor made moment None = ⊤
-IsMadeFor made moment (Some logged) = IsMadeOf made moment logged.call
+-- what is called at this moment, if it is one, is this call of this process but for its handles
+abbrev pub IsMadeOf : List Made → Option ℕ → ℕ → Call → Type 0
+IsMadeOf made None process logged = ⊤
+IsMadeOf made (Some moment) process logged =
+    option_map bare_called (call_at made moment) ≡ Some (process, bare logged)
 
-abbrev pub IsMadeBy : List LoggedCall → List Made → Option ℕ → Option ℕ → Type 0
-IsMadeBy calls made None moment = ⊤
-IsMadeBy calls made (Some number) moment = IsMadeFor made moment (slice_get calls number)
+-- ---- the processes of the log
 
--- so is, at each step that is a call of the log, that call
-abbrev pub AreMadeBy : List LoggedCall → List Made → List TrailStep → Type 0
-AreMadeBy calls made [] = ⊤
-AreMadeBy calls made (step ∷ trail) = IsMadeBy calls made (number_in step.origin) step.moment × AreMadeBy calls made trail
+-- the process that a call made, by its reply
+abbrev pub spawned_in : Option Reply → Option ℕ
+spawned_in (Some (reply.Spawned handle process)) = Some process
+spawned_in _ = None
+
+-- the number that the log has for the process that its call made
+abbrev pub child_in : Option LoggedCall → Option ℕ
+child_in None = None
+child_in (Some logged) = logged.recorded.process
+
+-- the number that the log has for the process that a step makes: one that nothing in the log made, or the child of its call
+abbrev pub child_by : List LoggedCall → Origin → Option ℕ
+child_by calls (origin.Adopted number) = Some number
+child_by calls (origin.Logged number) = child_in (slice_get calls number)
+child_by calls _ = None
+
+abbrev pub pair_of : Option ℕ → Option ℕ → Option (ℕ × ℕ)
+pair_of (Some number) (Some process) = Some (number, process)
+pair_of _ _ = None
+
+-- a process of the log, with the process of the trace that a step makes for it
+abbrev pub pair_by : List LoggedCall → List Made → TrailStep → Option (ℕ × ℕ)
+pair_by calls made step = pair_of (child_by calls step.origin) (spawned_in (answer_at made step.moment))
+
+-- the process that stands for one of the log: the last that was made for it, which is the first of the pairs; 0, which is none,
+-- before one was
+abbrev pub stands_for : List (ℕ × ℕ) → ℕ → ℕ
+stands_for [] number = 0
+stands_for (pair ∷ pairs) number = if pair.0 == number then pair.1 else stands_for pairs number
+
+-- ---- the calls of the log, by their processes
+
+abbrev pub IsMadeFor : List Made → List (ℕ × ℕ) → Option ℕ → Option LoggedCall → Type 0
+IsMadeFor made pairs moment None = ⊤
+IsMadeFor made pairs moment (Some logged) = IsMadeOf made moment (stands_for pairs logged.process) logged.call
+
+abbrev pub IsMadeBy : List LoggedCall → List Made → List (ℕ × ℕ) → Option ℕ → Option ℕ → Type 0
+IsMadeBy calls made pairs None moment = ⊤
+IsMadeBy calls made pairs (Some number) moment = IsMadeFor made pairs moment (slice_get calls number)
+
+-- so is, at each step that is a call of the log, that call, by the process that stands for the log's, given the pairs before
+abbrev pub AreMadeBy : List LoggedCall → List Made → List (ℕ × ℕ) → List TrailStep → Type 0
+AreMadeBy calls made pairs [] = ⊤
+AreMadeBy calls made pairs (step ∷ trail) =
+    IsMadeBy calls made pairs (number_in step.origin) step.moment × AreMadeBy calls made (cons_option (pair_by calls made step) pairs) trail

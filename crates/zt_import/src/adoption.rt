@@ -1,6 +1,5 @@
-ghost use Rattle.std.specs.Prelude.{◌≡◌, None, OnOk};
-ghost use Rattle.zt_import.specs.Trails.{number_in};
-ghost use Rattle.zt_import.specs.ProofsOnly.TakenCalls.{IsAside};
+ghost use Rattle.std.specs.Prelude.{◌≡◌, true, OnOk};
+ghost use Rattle.zt_import.specs.ProofsOnly.TakenCalls.{IsAdopting, IsAside, is_beside};
 
 use crate::numbers::{NO_HANDLE, Numbers};
 use crate::plan::{AdoptedProcess, OutsideContent, OutsideMessage, Plan};
@@ -10,9 +9,7 @@ use std::alloc::{AllocError, Global};
 use std::collections::HashMap;
 use zt_bits::Kind;
 use zt_logs::{Cause, LoggedCall};
-use zt_rows::{
-    Call, FIRST_HANDLE, HandleValue, Koid, MESSAGE_HANDLES, Parcel, ROOT_PROCESS, Reply,
-};
+use zt_rows::{Call, FIRST_HANDLE, HandleValue, MESSAGE_HANDLES, Parcel, ROOT_PROCESS, Reply};
 
 /// Makes what a log uses and never got, and knows which handles of the root process are left of it.
 #[derive(Drop)]
@@ -22,6 +19,48 @@ pub(crate) struct Adoption {
     ends: HashMap<usize, HandleValue>,
     /// The other ends of ends whose peers the log does not have, by the objects of those.
     others: HashMap<usize, HandleValue>,
+    kinds: MadeKinds,
+}
+
+/// How many objects of each kind were made whose handles can be duplicated.
+#[derive(Clone, Copy)]
+struct MadeKinds {
+    events: u64,
+    pairs: u64,
+    ports: u64,
+    jobs: u64,
+    processes: u64,
+}
+
+impl MadeKinds {
+    fn none() -> MadeKinds {
+        MadeKinds {
+            events: 0,
+            pairs: 0,
+            ports: 0,
+            jobs: 0,
+            processes: 0,
+        }
+    }
+
+    /// One more of this kind: how many there were before. Of an end of a channel there is one handle.
+    fn add(&mut self, kind: Kind) -> u64 {
+        match kind {
+            Kind::Event => counted(&mut self.events),
+            Kind::EventPair => counted(&mut self.pairs),
+            Kind::Port => counted(&mut self.ports),
+            Kind::Job => counted(&mut self.jobs),
+            Kind::Process => counted(&mut self.processes),
+            Kind::Channel => 0,
+        }
+    }
+}
+
+/// One more: how many there were before.
+fn counted(count: &mut u64) -> u64 {
+    let before = *count;
+    *count = before.saturating_add(1);
+    before
 }
 
 impl Adoption {
@@ -30,6 +69,7 @@ impl Adoption {
             alloc,
             ends: HashMap::new(alloc),
             others: HashMap::new(alloc),
+            kinds: MadeKinds::none(),
         }
     }
 
@@ -40,7 +80,7 @@ impl Adoption {
         numbers: &mut Numbers,
         plan: &Plan,
     ) -> Result<(), Cause>
-        ensures { OnOk result (IsAside taken.old taken.new) }
+        ensures { OnOk result (IsAdopting taken.old taken.new numbers.old.processes numbers.new.processes) }
     {
         for process in plan.processes.as_slice() {
             self.adopt(taken, numbers, plan, process)?;
@@ -56,7 +96,7 @@ impl Adoption {
         plan: &Plan,
         process: &AdoptedProcess,
     ) -> Result<(), Cause>
-        ensures { OnOk result (IsAside taken.old taken.new) }
+        ensures { OnOk result (IsAdopting taken.old taken.new numbers.old.processes numbers.new.processes) }
     {
         let number = process.number;
         let (near, far) = ask_two(taken, Origin::Process(number), &Call::ChannelCreate)?;
@@ -64,8 +104,7 @@ impl Adoption {
             job: FIRST_HANDLE,
             argument: far,
         };
-        let moment = taken.ask_aside(Origin::Process(number), ROOT_PROCESS, &spawn)?;
-        numbers.set_process(number, spawned(taken.reply(&moment)))?;
+        adopt_process(taken, numbers, number, &spawn)?;
         for batch in process.objects.as_slice().chunks(MESSAGE_HANDLES) {
             self.give(taken, numbers, plan, number, near, batch)?;
         }
@@ -82,7 +121,7 @@ impl Adoption {
         near: HandleValue,
         objects: &[usize],
     ) -> Result<(), Cause>
-        ensures { OnOk result (IsAside taken.old taken.new) }
+        ensures { OnOk result (IsAdopting taken.old taken.new numbers.old.processes numbers.new.processes) }
     {
         let handles = self.made(taken, plan, objects)?;
         let bytes = Vec::new(self.alloc);
@@ -121,7 +160,8 @@ impl Adoption {
         ensures { OnOk result (IsAside taken.old taken.new) }
     {
         let (kind, is_told) = plan.objects.kind(object);
-        let origin = origin_of(plan, object, kind, is_told);
+        let others = self.kinds.add(kind);
+        let origin = origin_of(plan, object, kind, is_told, others);
         match kind {
             Kind::Channel => self.make_end(taken, plan, object, origin),
             Kind::Port => ask_one(taken, origin, &Call::PortCreate),
@@ -149,14 +189,14 @@ impl Adoption {
         object: usize,
         origin: Origin,
     ) -> Result<HandleValue, Cause>
-        requires { number_in origin ≡ None }
+        requires { is_beside origin ≡ true }
         ensures { OnOk result (IsAside taken.old taken.new) }
     {
         if let Some(handle) = self.ends.get(&object).copied() {
             return Ok(handle);
         }
         let (end, other) = ask_two(taken, origin, &Call::ChannelCreate)?;
-        match plan.objects.peer(object) {
+        match joined_peer(plan, object) {
             Some(peer) => self.keep_end(peer, other)?,
             None => self.keep_other(object, other)?,
         }
@@ -220,9 +260,23 @@ fn recorded_bytes(alloc: Global, logged: &LoggedCall) -> Result<Vec<u8>, AllocEr
     }
 }
 
+/// Asks the call that makes the process which stands for one of the log.
+fn adopt_process(
+    taken: &mut Taken,
+    numbers: &mut Numbers,
+    number: u64,
+    call: &Call,
+) -> Result<(), Cause>
+    ensures { OnOk result (IsAdopting taken.old taken.new numbers.old.processes numbers.new.processes) }
+{
+    let moment = taken.ask(Origin::Adopted(number), ROOT_PROCESS, call)?;
+    numbers.learn_process(Some(number), taken.reply(&moment))?;
+    Ok(())
+}
+
 /// How a call that makes an object is told of.
-fn origin_of(plan: &Plan, object: usize, kind: Kind, is_told: bool) -> Origin
-    ensures { number_in result ≡ None }
+fn origin_of(plan: &Plan, object: usize, kind: Kind, is_told: bool, others: u64) -> Origin
+    ensures { is_beside result ≡ true }
 {
     match plan.objects.adopted(object) {
         Some((process, handle)) => Origin::Handle {
@@ -230,8 +284,19 @@ fn origin_of(plan: &Plan, object: usize, kind: Kind, is_told: bool) -> Origin
             handle,
             kind,
             is_told,
+            joined: plan.joined.get(&object).copied(),
+            others,
         },
         None => Origin::Process(0),
+    }
+}
+
+/// The other end of a channel that is made with this one, if it is one of the log.
+fn joined_peer(plan: &Plan, object: usize) -> Option<usize> {
+    if plan.joined.contains_key(&object) {
+        plan.objects.peer(object)
+    } else {
+        None
     }
 }
 
@@ -243,7 +308,7 @@ fn write(
     bytes: Vec<u8>,
     handles: Vec<HandleValue>,
 ) -> Result<(), Cause>
-    requires { number_in origin ≡ None }
+    requires { is_beside origin ≡ true }
     ensures { OnOk result (IsAside taken.old taken.new) }
 {
     match Parcel::new(bytes, handles) {
@@ -261,13 +326,27 @@ fn name_read(
     plan: &Plan,
     objects: &[usize],
     reply: Option<&Reply>,
-) -> Result<(), AllocError> {
-    let Some(Reply::Message(_, values)) = reply else {
-        return Ok(());
-    };
-    for (object, value) in objects.iter().zip(values.as_slice()) {
-        if let Some((process, handle)) = plan.objects.adopted(*object) {
-            numbers.set_handle(process, handle, *value)?;
+) -> Result<(), AllocError>
+    ensures { OnOk result (numbers.new.processes ≡ numbers.old.processes) }
+{
+    match reply {
+        Some(Reply::Message(_, values)) => name_all(numbers, plan, objects, values.as_slice()),
+        _ => Ok(()),
+    }
+}
+
+/// These handles name these objects.
+fn name_all(
+    numbers: &mut Numbers,
+    plan: &Plan,
+    objects: &[usize],
+    values: &[HandleValue],
+) -> Result<(), AllocError>
+    ensures { OnOk result (numbers.new.processes ≡ numbers.old.processes) }
+{
+    for place in 0..objects.len().min(values.len()) {
+        if let Some((process, handle)) = plan.objects.adopted(objects[place]) {
+            numbers.set_handle(process, handle, values[place])?;
         }
     }
     Ok(())
@@ -275,7 +354,7 @@ fn name_read(
 
 /// Asks a call of the root process that gives one handle.
 fn ask_one(taken: &mut Taken, origin: Origin, call: &Call) -> Result<HandleValue, Cause>
-    requires { number_in origin ≡ None }
+    requires { is_beside origin ≡ true }
     ensures { OnOk result (IsAside taken.old taken.new) }
 {
     let moment = taken.ask_aside(origin, ROOT_PROCESS, call)?;
@@ -292,21 +371,13 @@ fn ask_two(
     origin: Origin,
     call: &Call,
 ) -> Result<(HandleValue, HandleValue), Cause>
-    requires { number_in origin ≡ None }
+    requires { is_beside origin ≡ true }
     ensures { OnOk result (IsAside taken.old taken.new) }
 {
     let moment = taken.ask_aside(origin, ROOT_PROCESS, call)?;
     match taken.reply(&moment) {
         Some(Reply::Handles(first, second)) => Ok((*first, *second)),
         _ => Ok((NO_HANDLE, NO_HANDLE)),
-    }
-}
-
-/// The process that a call made; 0, which is none, where it made none.
-fn spawned(reply: Option<&Reply>) -> Koid {
-    match reply {
-        Some(Reply::Spawned(_, koid)) => *koid,
-        _ => Koid(0),
     }
 }
 

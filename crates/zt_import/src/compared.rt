@@ -1,14 +1,10 @@
 ghost use Rattle.std.specs.Prelude.{◌≡◌, ◌+◌, ◌-◌, ◌^◌, ◌<◌, [], ◌∷◌, ◌++◌, cond, nat_lt, if◌then◌else◌, length, OnOk};
-ghost use Rattle.std.specs.Option.{option_copied, option_to_list};
-ghost use Rattle.zt_import.specs.Trails.{difference_of};
 ghost use Rattle.zt_import.specs.ProofsOnly.TakenCalls.{ComparesMore, nothing_compared};
 
-use crate::comparison::{agrees, may_be_scheduled};
 use crate::trail::Difference;
 use std::alloc::{AllocError, Global};
 use std::marker::Model;
-use zt_logs::LoggedCall;
-use zt_rows::{Moment, Reply};
+use zt_rows::Moment;
 
 /// The most differences that are told.
 pub const TOLD: usize = 100;
@@ -62,26 +58,8 @@ impl Compared {
         self.by_schedule
     }
 
-    /// Compares the reply of one more call with what the log has.
-    pub(crate) fn add(
-        &mut self,
-        call: usize,
-        logged: &LoggedCall,
-        moment: Option<Moment>,
-        reply: Option<&Reply>,
-    ) -> Result<(), AllocError>
-        ensures { OnOk result (ComparesMore self.old self.new
-            (option_to_list (difference_of logged.now call moment (option_copied reply.entry)))) }
-    {
-        if agrees(&logged.recorded, reply) {
-            return Ok(());
-        }
-        let by_schedule = may_be_scheduled(logged, reply);
-        self.tell(call, moment, by_schedule)
-    }
-
     /// One difference more.
-    fn tell(
+    pub(crate) fn tell(
         &mut self,
         call: usize,
         moment: Option<Moment>,

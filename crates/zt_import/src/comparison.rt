@@ -108,7 +108,7 @@ fn packets_agree(recorded: Option<LoggedPacket>, reply: &Reply) -> bool
 }
 
 /// Whether these are one packet.
-fn same_packet(packet: LoggedPacket, other: LoggedPacket) -> bool
+pub fn same_packet(packet: LoggedPacket, other: LoggedPacket) -> bool
     ensures { result ≡ same_packet packet other }
 {
     match (packet, other) {
@@ -155,7 +155,7 @@ pub fn logged_packet(packet: Packet) -> LoggedPacket
 }
 
 /// Whether a call and its replies are such that they may differ by the schedule: a wait for a packet that got one or timed
-/// out, on both sides.
+/// out, on both sides, and differs in nothing else.
 pub fn may_be_scheduled(logged: &LoggedCall, reply: Option<&Reply>) -> bool
     ensures { result ≡ may_be_scheduled logged.now (option_copied reply.entry) }
 {
@@ -164,6 +164,8 @@ pub fn may_be_scheduled(logged: &LoggedCall, reply: Option<&Reply>) -> bool
             is_wait(&logged.call)
                 && waited(logged.recorded.status)
                 && waited(Some(status_of(reply)))
+                && logged.recorded.handles.len() == handle_count(reply)
+                && bytes_agree(&logged.recorded.bytes, reply)
         }
         None => false,
     }

@@ -1,9 +1,11 @@
-ghost use Rattle.std.specs.Prelude.{◌≡◌, suc, IfOk, OnOk, length, vec_len};
-ghost use Rattle.zt_import.specs.Trails.{bare};
+ghost use Rattle.std.specs.Prelude.{◌≡◌, ℕ, suc, Some, IfOk, OnOk, length, vec_len};
+ghost use Rattle.std.specs.Option.{option_copied};
+ghost use Rattle.zt_import.specs.Trails.{bare, pair_of, spawned_in};
+ghost use Rattle.zt_import.specs.ProofsOnly.TakenCalls.{Learns, process_in};
 
 use std::alloc::{AllocError, Global};
 use std::collections::HashMap;
-use zt_rows::{Call, HandleValue, Koid, Parcel};
+use zt_rows::{Call, HandleValue, Koid, Parcel, Reply};
 
 /// A handle value that no handle has.
 pub(crate) const NO_HANDLE: HandleValue = HandleValue(4_294_967_292);
@@ -11,12 +13,14 @@ pub(crate) const NO_HANDLE: HandleValue = HandleValue(4_294_967_292);
 /// What the numbers of the log are in the trace: processes, and the handles of each.
 #[derive(Drop)]
 pub(crate) struct Numbers {
-    processes: HashMap<u64, Koid>,
+    pub(crate) processes: HashMap<u64, Koid>,
     handles: HashMap<(u64, u32), HandleValue>,
 }
 
 impl Numbers {
-    pub(crate) fn new(alloc: Global) -> Numbers {
+    pub(crate) fn new(alloc: Global) -> Numbers
+        ensures { (number : ℕ) → process_in result.processes number ≡ 0 }
+    {
         Numbers {
             processes: HashMap::new(alloc),
             handles: HashMap::new(alloc),
@@ -24,7 +28,9 @@ impl Numbers {
     }
 
     /// The process of this number; 0, which is none, where it is not known.
-    pub(crate) fn process(&self, process: u64) -> Koid {
+    pub(crate) fn process(&self, process: u64) -> Koid
+        ensures { result ≡ process_in self.now.processes process }
+    {
         match self.processes.get(&process) {
             Some(koid) => *koid,
             None => Koid(0),
@@ -32,10 +38,29 @@ impl Numbers {
     }
 
     /// From here on the process of the log is this one.
-    pub(crate) fn set_process(&mut self, process: u64, koid: Koid) -> Result<(), AllocError> {
+    fn set_process(&mut self, process: u64, koid: Koid) -> Result<(), AllocError>
+        ensures { OnOk result (Learns self.old.processes self.new.processes (Some (process, koid))) }
+    {
         match self.processes.insert(process, koid) {
             Ok(_) => Ok(()),
             Err(_) => Err(AllocError),
+        }
+    }
+
+    /// From here on the child of the log, if it has one, is the process that a call made by its reply, if it made one.
+    pub(crate) fn learn_process(
+        &mut self,
+        child: Option<u64>,
+        reply: Option<&Reply>,
+    ) -> Result<(), AllocError>
+        ensures { OnOk result (Learns self.old.processes self.new.processes (pair_of child (spawned_in (option_copied reply.entry)))) }
+    {
+        match child {
+            Some(child) => match reply {
+                Some(Reply::Spawned(_, koid)) => self.set_process(child, *koid),
+                _ => Ok(()),
+            },
+            None => Ok(()),
         }
     }
 
@@ -45,7 +70,9 @@ impl Numbers {
         process: u64,
         handle: HandleValue,
         value: HandleValue,
-    ) -> Result<(), AllocError> {
+    ) -> Result<(), AllocError>
+        ensures { self.new.processes ≡ self.old.processes }
+    {
         if handle.0 == 0 {
             return Ok(());
         }
@@ -61,9 +88,11 @@ impl Numbers {
         process: u64,
         handles: &[HandleValue],
         values: &[HandleValue],
-    ) -> Result<(), AllocError> {
-        for (handle, value) in handles.iter().zip(values) {
-            self.set_handle(process, *handle, *value)?;
+    ) -> Result<(), AllocError>
+        ensures { OnOk result (self.new.processes ≡ self.old.processes) }
+    {
+        for place in 0..handles.len().min(values.len()) {
+            self.set_handle(process, handles[place], values[place])?;
         }
         Ok(())
     }

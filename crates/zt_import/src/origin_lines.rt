@@ -1,46 +1,63 @@
-use crate::trail::Origin;
+use crate::trail::{JoinedEnd, Origin};
 use crate::used_handles::handles_in;
 use std::alloc::{AllocError, Global};
 use zt_bits::Kind;
-use zt_logs::LoggedCall;
+use zt_logs::{CallLog, LoggedCall};
 use zt_rows::HandleValue;
 use zt_text::put_mask;
 
 /// Where a call comes from, in the numbers of the log, as it stands behind the `#` of a line that is skipped.
 pub(crate) fn origin_line(
     alloc: Global,
-    calls: &[LoggedCall],
+    log: &CallLog,
     origin: Origin,
 ) -> Result<String, AllocError> {
     let mut text = String::new(alloc);
-    put_origin(&mut text, calls, origin)?;
+    put_origin(&mut text, log, origin)?;
     Ok(text)
 }
 
-fn put_origin(text: &mut String, calls: &[LoggedCall], origin: Origin) -> Result<(), AllocError> {
+fn put_origin(text: &mut String, log: &CallLog, origin: Origin) -> Result<(), AllocError> {
     match origin {
-        Origin::Process(process) => write!(text, " adopted: process {process}"),
+        Origin::Adopted(process) | Origin::Process(process) => {
+            text.push_str(" adopted: ")?;
+            put_process(text, log, process)
+        }
         Origin::Handle {
             process,
             handle,
             kind,
             is_told,
+            joined,
+            others,
         } => {
-            write!(text, " adopted: process {process}, handle ")?;
+            text.push_str(" adopted: ")?;
+            put_process(text, log, process)?;
+            text.push_str(", handle ")?;
             put_mask(text, handle.0)?;
-            put_kind(text, kind, is_told)
+            put_kind(text, kind, is_told)?;
+            put_others(text, others)?;
+            put_joined(text, log, joined)
         }
-        Origin::Outside(index) => match calls.get(index) {
+        Origin::Outside(index) => match log.calls.get(index) {
             Some(logged) => {
                 write!(text, " from outside, for line {}: ", logged.line)?;
-                write!(text, "process {}", logged.process)
+                put_process(text, log, logged.process)
             }
             None => Ok(()),
         },
-        Origin::Logged(index) => match calls.get(index) {
-            Some(logged) => put_logged(text, logged),
+        Origin::Logged(index) => match log.calls.get(index) {
+            Some(logged) => put_logged(text, log, logged),
             None => Ok(()),
         },
+    }
+}
+
+/// A process as the log has it, by its number or its name.
+fn put_process(text: &mut String, log: &CallLog, process: u64) -> Result<(), AllocError> {
+    match log.names.shown(process) {
+        Some(name) => write!(text, "process {name}"),
+        None => write!(text, "process {process}"),
     }
 }
 
@@ -55,10 +72,46 @@ fn put_kind(text: &mut String, kind: Kind, is_told: bool) -> Result<(), AllocErr
     }
 }
 
+/// That an object is taken for another than those of its kind before it, where there are some.
+fn put_others(text: &mut String, others: u64) -> Result<(), AllocError> {
+    match others {
+        0 => Ok(()),
+        1 => text.push_str("; taken for another object than the one of this kind before it"),
+        _ => write!(
+            text,
+            "; taken for another object than the {others} of this kind before it"
+        ),
+    }
+}
+
+/// The other end of a channel, where it is one of the log, and by what it is that.
+fn put_joined(
+    text: &mut String,
+    log: &CallLog,
+    joined: Option<JoinedEnd>,
+) -> Result<(), AllocError> {
+    let Some(end) = joined else {
+        return Ok(());
+    };
+    text.push_str("; joined with handle ")?;
+    put_mask(text, end.handle.0)?;
+    text.push_str(" of ")?;
+    put_process(text, log, end.process)?;
+    write!(text, " by {} ", end.messages)?;
+    text.push_str(message_word(end.messages))?;
+    write!(text, ", the first of line {}, ", end.written)?;
+    write!(text, "read by line {}", end.read)
+}
+
+/// The word behind so many messages.
+fn message_word<'a>(count: usize) -> &'a str {
+    if count == 1 { "message" } else { "messages" }
+}
+
 /// The line of the log, with the process and the handles by their numbers there.
-fn put_logged(text: &mut String, logged: &LoggedCall) -> Result<(), AllocError> {
+fn put_logged(text: &mut String, log: &CallLog, logged: &LoggedCall) -> Result<(), AllocError> {
     write!(text, " line {}: ", logged.line)?;
-    write!(text, "process {}", logged.process)?;
+    put_process(text, log, logged.process)?;
     let handles = handles_in(*text.allocator(), &logged.call)?;
     put_handles(text, handle_word(handles.len()), handles.as_slice())?;
     put_handles(text, "; gives", logged.recorded.handles.as_slice())

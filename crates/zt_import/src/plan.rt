@@ -1,6 +1,8 @@
 use crate::first_messages::FirstMessages;
+use crate::joins::{EndName, Joins};
 use crate::kind_signs::Sign;
-use crate::seen_objects::{SeenObjects, Sent, Unread};
+use crate::seen_objects::{Reading, SeenObjects, Sent, Unread};
+use crate::trail::JoinedEnd;
 use std::alloc::{AllocError, Global};
 use std::collections::HashMap;
 use zt_bits::Status;
@@ -55,11 +57,49 @@ pub(crate) struct Plan {
     /// What each handle of each process names.
     known: HashMap<(u64, u32), usize>,
     first_messages: FirstMessages,
+    joins: Joins,
+    /// What each end is joined by that is.
+    pub(crate) joined: HashMap<usize, JoinedEnd>,
+    /// Each object that comes from nowhere, by the first handle that the log has of it.
+    named: HashMap<EndName, usize>,
 }
 
+/// How often the ends that are joined are found anew, since what is known of handles in messages follows from them.
+const ROUNDS: usize = 8;
+
 impl Plan {
+    /// What a log needs, with those ends joined that have no third.
     pub(crate) fn of(alloc: Global, calls: &[LoggedCall]) -> Result<Plan, LogFault> {
-        let mut plan = Plan::new(alloc);
+        let mut plan = Plan::with(alloc, calls, Joins::Guessed)?;
+        for _ in 0..ROUNDS {
+            let Ok(partners) = plan.partners(alloc, calls) else {
+                return Err(Cause::OutOfMemory.at(0));
+            };
+            if plan.is_joined_by(&partners) {
+                return plan.with_joined(alloc, calls);
+            }
+            let Ok(joins) = plan.joins_of(alloc, &partners) else {
+                return Err(Cause::OutOfMemory.at(0));
+            };
+            plan = Plan::with(alloc, calls, Joins::Found(joins))?;
+        }
+        Plan::with(alloc, calls, Joins::Found(HashMap::new(alloc)))
+    }
+
+    /// The same, with what each joined end is joined by.
+    fn with_joined(mut self, alloc: Global, calls: &[LoggedCall]) -> Result<Plan, LogFault> {
+        match self.joined_ends(alloc, calls) {
+            Ok(joined) => {
+                self.joined = joined;
+                Ok(self)
+            }
+            Err(_) => Err(Cause::OutOfMemory.at(0)),
+        }
+    }
+
+    /// What a log needs where these ends are joined.
+    fn with(alloc: Global, calls: &[LoggedCall], joins: Joins) -> Result<Plan, LogFault> {
+        let mut plan = Plan::new(alloc, joins);
         for index in 0..calls.len() {
             let logged = &calls[index];
             match plan.see(index, logged) {
@@ -73,7 +113,7 @@ impl Plan {
         }
     }
 
-    fn new(alloc: Global) -> Plan {
+    fn new(alloc: Global, joins: Joins) -> Plan {
         Plan {
             processes: Vec::new(alloc),
             objects: SeenObjects::new(alloc),
@@ -82,6 +122,9 @@ impl Plan {
             comings: HashMap::new(alloc),
             known: HashMap::new(alloc),
             first_messages: FirstMessages::new(alloc),
+            joins,
+            joined: HashMap::new(alloc),
+            named: HashMap::new(alloc),
         }
     }
 
@@ -95,7 +138,7 @@ impl Plan {
         }
         match &logged.call {
             Call::ChannelWrite { handle, parcel } => {
-                self.see_write(logged.process, *handle, parcel)?;
+                self.see_write(index, logged.process, *handle, parcel)?;
                 Ok(())
             }
             Call::ChannelRead { handle, .. } => {
@@ -290,7 +333,7 @@ impl Plan {
     ) -> Result<Option<usize>, AllocError> {
         match self.comings.get(&process).copied() {
             Some(Coming::Adopted(place)) => {
-                let object = self.objects.add(Some((process, handle)))?;
+                let object = self.add_adopted(process, handle)?;
                 if let Some(adopted) = self.processes.get_mut(place) {
                     adopted.objects.push(object)?;
                 }
@@ -307,9 +350,29 @@ impl Plan {
         }
     }
 
+    /// An object that comes from nowhere, by the first handle that the log has of it.
+    fn add_adopted(&mut self, process: u64, handle: HandleValue) -> Result<usize, AllocError> {
+        let object = self.objects.add(Some((process, handle)))?;
+        if !self.named.contains_key(&(process, handle.0)) {
+            self.named.insert((process, handle.0), object)?;
+        }
+        Ok(object)
+    }
+
+    /// Whether an object comes from nowhere, and the first handle that the log has of it names no other that does.
+    pub(crate) fn is_named(&self, object: usize) -> bool {
+        match self.objects.adopted(object) {
+            Some((process, handle)) => {
+                self.named.get(&(process, handle.0)).copied() == Some(object)
+            }
+            None => false,
+        }
+    }
+
     /// A message was written.
     fn see_write(
         &mut self,
+        call: usize,
         process: u64,
         handle: HandleValue,
         parcel: &Parcel,
@@ -319,7 +382,8 @@ impl Plan {
         };
         let objects = self.objects_of(process, parcel)?;
         let handles = objects.len();
-        if self.objects.send(end, Sent { objects })? {
+        self.objects.send(end, Sent { objects })?;
+        if self.objects.add_written(end, call)? {
             let bytes = parcel.bytes().as_slice();
             self.first_messages.add(bytes, handles, end)?;
         }
@@ -345,6 +409,7 @@ impl Plan {
         let Some(end) = self.object_of(logged.process, handle) else {
             return self.see_new(logged);
         };
+        self.objects.add_read(end, Reading::Message(index))?;
         self.find_peer(logged, end)?;
         match self.objects.receive(end) {
             Some(message) => self.see_received(logged, message.objects.as_slice()),
@@ -391,6 +456,9 @@ impl Plan {
         found: Unread,
         is_discarded: bool,
     ) -> Result<(), AllocError> {
+        if is_discarded {
+            self.objects.add_read(end, Reading::Discarded(found.call))?;
+        }
         if self.objects.is_alone(end) {
             self.objects.add_unread(end, found);
             if is_discarded {
@@ -441,22 +509,56 @@ impl Plan {
         Ok(())
     }
 
-    /// Finds the peer of an end at which a message is read: the end at which it was written as the first.
+    /// Finds the peer of an end at which a message is read, where that may be yet.
     fn find_peer(&mut self, logged: &LoggedCall, end: usize) -> Result<(), AllocError> {
-        let Some(bytes) = &logged.recorded.bytes else {
-            return Ok(());
-        };
         if !self.objects.is_open(end) {
             return Ok(());
         }
-        let handles = logged.recorded.handles.len();
-        let found = self
-            .first_messages
-            .take(bytes.as_slice(), handles, &self.objects, end)?;
+        let found = if self.joins.are_guessed() {
+            self.guessed_peer(logged, end)?
+        } else {
+            self.found_peer(end)
+        };
         if let Some(other) = found {
             self.objects.pair(other, end);
         }
         Ok(())
+    }
+
+    /// The end at which the message that is read here was written as the first.
+    fn guessed_peer(
+        &mut self,
+        logged: &LoggedCall,
+        end: usize,
+    ) -> Result<Option<usize>, AllocError> {
+        let Some(bytes) = &logged.recorded.bytes else {
+            return Ok(None);
+        };
+        let handles = logged.recorded.handles.len();
+        self.first_messages
+            .take(bytes.as_slice(), handles, &self.objects, end)
+    }
+
+    /// The end that is joined with this one.
+    fn found_peer(&self, end: usize) -> Option<usize> {
+        let (process, handle) = self.objects.adopted(end)?;
+        let name = self.joins.other((process, handle.0))?;
+        let other = self.named.get(&name).copied()?;
+        if self.is_named(end) && self.objects.is_open(other) {
+            Some(other)
+        } else {
+            None
+        }
+    }
+
+    /// The ends at which the message that a call reads was written first.
+    pub(crate) fn writers_of(&self, read: &LoggedCall) -> Result<&[usize], AllocError> {
+        match &read.recorded.bytes {
+            Some(bytes) => self
+                .first_messages
+                .ends(bytes.as_slice(), read.recorded.handles.len()),
+            None => Ok(&[]),
+        }
     }
 
     /// The handles of a message that was read name these objects.
@@ -484,7 +586,7 @@ impl Plan {
     ) -> Result<(), AllocError> {
         let mut objects = Vec::new(*self.processes.allocator());
         for handle in logged.recorded.handles.as_slice() {
-            let object = self.objects.add(Some((logged.process, *handle)))?;
+            let object = self.add_adopted(logged.process, *handle)?;
             self.name(logged.process, *handle, object)?;
             objects.push(object)?;
         }

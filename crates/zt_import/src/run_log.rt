@@ -1,13 +1,14 @@
-ghost use Rattle.std.specs.Prelude.{◌≡◌, ◌^◌, ◌<◌, ◌≤◌, ◌&&◌, suc, ℕ, [], false, IfOk, OnOk, length};
+ghost use Rattle.std.specs.Prelude.{◌≡◌, ◌<◌, suc, [], IfOk, OnOk, length};
 ghost use Rattle.zt_history.specs.Tree.{opening_tree};
-ghost use Rattle.zt_import.specs.Imports.{Loads, IsImportOf, AreTheLogsCalls, differs};
-ghost use Rattle.std.specs.Option.{option_to_list};
-ghost use Rattle.zt_import.specs.Trails.{numbers_in, below, answer_at, difference_of, IsMadeOf, AreMadeBy};
-ghost use Rattle.zt_import.specs.ProofsOnly.TakenCalls.{IsOneStepMore, ComparesMore, nothing_compared, import_of};
+ghost use Rattle.zt_import.specs.Imports.{Loads, IsImportOf, CountsBySchedule, AreTheLogsCalls, differs};
+ghost use Rattle.std.specs.Option.{option_copied};
+ghost use Rattle.zt_import.specs.Trails.{IsMadeOf, pair_of, spawned_in};
+ghost use Rattle.zt_import.specs.ProofsOnly.TakenCalls.{IsOneStepMore, HasRun, Learns, Processes, process_in};
 ghost use Rattle.zt_import.specs.declared.trail.Origin.TheVariants as origin;
 
 use crate::adoption::Adoption;
 use crate::compared::Compared;
+use crate::differences::compare_all;
 use crate::numbers::Numbers;
 use crate::plan::Plan;
 use crate::taken::Taken;
@@ -87,20 +88,20 @@ impl Imported {
     }
 }
 
-/// Runs the calls of a log over a history, behind what makes that which they use and never got. Where it is strict it ends
-/// behind the first call whose reply differs, but for what may be by the schedule.
-pub fn import(alloc: Global, calls: &[LoggedCall], is_strict: bool) -> Result<Imported, LogFault>
+/// Runs the calls of a log over a history, behind what makes that which they use and never got, and compares their replies.
+pub fn import(alloc: Global, calls: &[LoggedCall]) -> Result<Imported, LogFault>
     ensures loads { IfOk result Loads }
-    ensures differences { IfOk result (λ it. (number : ℕ) × (number ≤ length calls.now) × IsImportOf calls.now number it) }
-    ensures whole { IfOk result (λ it. (is_strict && differs it) ≡ false → numbers_in it.trail ≡ below (length calls.now)) }
-    ensures calls { IfOk result (λ it. AreTheLogsCalls calls.now it) }
+    ensures differences { IfOk result (IsImportOf calls.now) }
+    ensures by_schedule { IfOk result (CountsBySchedule calls.now) }
+    ensures calls { IfOk result (AreTheLogsCalls calls.now) }
 {
     let plan = Plan::of(alloc, calls)?;
     let Ok(mut taken) = Taken::new(alloc) else {
         return Err(Cause::OutOfMemory.at(0));
     };
     let mut compared = Compared::new(alloc);
-    run_all(alloc, &mut taken, &mut compared, &plan, calls, is_strict)?;
+    run_all(alloc, &mut taken, &plan, calls)?;
+    compare_all(alloc, &mut taken, &mut compared, calls)?;
     let _history = taken.history();
     Ok(Imported { taken, compared })
 }
@@ -109,16 +110,11 @@ pub fn import(alloc: Global, calls: &[LoggedCall], is_strict: bool) -> Result<Im
 fn run_all(
     alloc: Global,
     taken: &mut Taken,
-    compared: &mut Compared,
     plan: &Plan,
     calls: &[LoggedCall],
-    is_strict: bool,
 ) -> Result<(), LogFault>
-    requires taken { taken.old ≡ record { tree = opening_tree; trail = [] } }
-    requires compared { compared.old ≡ nothing_compared }
-    ensures differences { OnOk result ((number : ℕ) × (number ≤ length calls.now) × IsImportOf calls.now number (import_of taken.new compared.new)) }
-    ensures whole { OnOk result ((is_strict && differs (import_of taken.new compared.new)) ≡ false → numbers_in taken.new.trail ≡ below (length calls.now)) }
-    ensures calls { OnOk result (AreMadeBy calls.now taken.new.tree.made taken.new.trail) }
+    requires { taken.old ≡ record { tree = opening_tree; trail = [] } }
+    ensures { OnOk result ((processes : Processes) × HasRun calls.now (length calls.now) taken.new processes) }
 {
     let mut numbers = Numbers::new(alloc);
     let mut adoption = Adoption::new(alloc);
@@ -127,29 +123,17 @@ fn run_all(
         Err(cause) => return Err(cause.at(0)),
     }
     for index in 0..calls.len() {
-        match run_one(
-            taken,
-            compared,
-            &mut numbers,
-            &mut adoption,
-            plan,
-            calls,
-            index,
-        ) {
+        match run_one(taken, &mut numbers, &mut adoption, plan, calls, index) {
             Ok(()) => {}
             Err(cause) => return Err(cause.at(calls[index].line)),
-        }
-        if is_strict && compared.by_schedule() < compared.count() {
-            return Ok(());
         }
     }
     Ok(())
 }
 
-/// Runs a call of the log, and compares its reply.
+/// Runs a call of the log.
 fn run_one(
     taken: &mut Taken,
-    compared: &mut Compared,
     numbers: &mut Numbers,
     adoption: &mut Adoption,
     plan: &Plan,
@@ -157,33 +141,14 @@ fn run_one(
     index: usize,
 ) -> Result<(), Cause>
     requires within { index < length calls.now }
-    requires few { length calls.now < 2 ^ 64 }
-    requires so_far { IsImportOf calls.now index (import_of taken.old compared.old) }
-    requires made { AreMadeBy calls.now taken.old.tree.made taken.old.trail }
-    ensures one { OnOk result (IsImportOf calls.now (suc index) (import_of taken.new compared.new)) }
-    ensures made { OnOk result (AreMadeBy calls.now taken.new.tree.made taken.new.trail) }
+    requires so_far { HasRun calls.now index taken.old numbers.old.processes }
+    ensures { OnOk result (HasRun calls.now (suc index) taken.new numbers.new.processes) }
 {
     let logged = &calls[index];
     adoption.write_outside(taken, plan, calls, index)?;
     let moment = run_call(taken, numbers, index, logged)?;
     learn(numbers, plan, logged, taken.reply(&moment))?;
-    compare(taken, compared, index, logged, moment)?;
     Ok(())
-}
-
-/// Compares the reply of a moment with what the log has.
-fn compare(
-    taken: &Taken,
-    compared: &mut Compared,
-    index: usize,
-    logged: &LoggedCall,
-    moment: Option<Moment>,
-) -> Result<(), AllocError>
-    ensures { OnOk result (ComparesMore compared.old compared.new
-        (option_to_list (difference_of logged.now index moment (answer_at taken.now.tree.made moment)))) }
-{
-    let reply = taken.reply(&moment);
-    compared.add(index, logged, moment, reply)
 }
 
 /// Runs a call of the log under the numbers of the trace.
@@ -194,7 +159,7 @@ fn run_call(
     logged: &LoggedCall,
 ) -> Result<Option<Moment>, Cause>
     ensures one { IfOk result (λ moment. IsOneStepMore taken.old taken.new (record { origin = origin.Logged index; moment = moment })) }
-    ensures made { IfOk result (λ moment. IsMadeOf taken.new.tree.made moment logged.now.call) }
+    ensures made { IfOk result (λ moment. IsMadeOf taken.new.tree.made moment (process_in numbers.now.processes logged.now.process) logged.now.call) }
 {
     let call = numbers.call(logged.process, &logged.call)?;
     taken.ask(
@@ -210,7 +175,25 @@ fn learn(
     plan: &Plan,
     logged: &LoggedCall,
     reply: Option<&Reply>,
-) -> Result<(), AllocError> {
+) -> Result<(), AllocError>
+    ensures { OnOk result (Learns numbers.old.processes numbers.new.processes (pair_of logged.now.recorded.process (spawned_in (option_copied reply.entry)))) }
+{
+    numbers.learn_process(logged.recorded.process, reply)?;
+    learn_handles(numbers, logged, reply)?;
+    match reply {
+        Some(Reply::Spawned(_, _)) => learn_argument(numbers, plan, logged),
+        _ => Ok(()),
+    }
+}
+
+/// The handles that a call got.
+fn learn_handles(
+    numbers: &mut Numbers,
+    logged: &LoggedCall,
+    reply: Option<&Reply>,
+) -> Result<(), AllocError>
+    ensures { OnOk result (numbers.new.processes ≡ numbers.old.processes) }
+{
     let process = logged.process;
     let handles = logged.recorded.handles.as_slice();
     match reply {
@@ -219,28 +202,19 @@ fn learn(
             numbers.set_handles(process, handles, &[*first, *second])
         }
         Some(Reply::Message(_, values)) => numbers.set_handles(process, handles, values.as_slice()),
-        Some(Reply::Spawned(value, koid)) => {
-            numbers.set_handles(process, handles, &[*value])?;
-            match logged.recorded.process {
-                Some(child) => {
-                    numbers.set_process(child, *koid)?;
-                    learn_argument(numbers, plan, &logged.call, child)
-                }
-                None => Ok(()),
-            }
-        }
+        Some(Reply::Spawned(value, _)) => numbers.set_handles(process, handles, &[*value]),
         _ => Ok(()),
     }
 }
 
 /// A process that was spawned with an argument has it as its first handle.
-fn learn_argument(
-    numbers: &mut Numbers,
-    plan: &Plan,
-    call: &Call,
-    child: u64,
-) -> Result<(), AllocError> {
-    let Call::Spawn { argument, .. } = call else {
+fn learn_argument(numbers: &mut Numbers, plan: &Plan, logged: &LoggedCall) -> Result<(), AllocError>
+    ensures { OnOk result (numbers.new.processes ≡ numbers.old.processes) }
+{
+    let Call::Spawn { argument, .. } = &logged.call else {
+        return Ok(());
+    };
+    let Some(child) = logged.recorded.process else {
         return Ok(());
     };
     if argument.0 == 0 {

@@ -36,6 +36,15 @@ impl Unread {
     }
 }
 
+/// A message that came to an end.
+#[derive(Clone, Copy)]
+pub(crate) enum Reading {
+    /// The call of this number read it.
+    Message(usize),
+    /// The call of this number had too little room for it, and it is gone.
+    Discarded(usize),
+}
+
 /// An object, as the log tells of it.
 #[derive(Drop)]
 pub(crate) struct SeenObject {
@@ -52,6 +61,10 @@ pub(crate) struct SeenObject {
     pub(crate) sent: VecDeque<Sent>,
     /// The message that is the first at this end, while its peer is not known.
     pub(crate) unread: Option<Unread>,
+    /// The calls that wrote at this end, by their numbers, where it comes from nowhere.
+    pub(crate) written: Vec<usize>,
+    /// The messages that were read at this end, where it comes from nowhere.
+    pub(crate) read: Vec<Reading>,
 }
 
 /// The objects of a log, each under a number of its own.
@@ -79,6 +92,8 @@ impl SeenObjects {
             queue: VecDeque::new(alloc),
             sent: VecDeque::new(alloc),
             unread: None,
+            written: Vec::new(alloc),
+            read: Vec::new(alloc),
         })?;
         Ok(number)
     }
@@ -165,26 +180,73 @@ impl SeenObjects {
         }
     }
 
-    /// A message was written at this end. Tells whether it is the first at an end whose peer may yet be found.
-    pub(crate) fn send(&mut self, number: usize, message: Sent) -> Result<bool, AllocError> {
+    /// A message was written at this end.
+    pub(crate) fn send(&mut self, number: usize, message: Sent) -> Result<(), AllocError> {
         let is_open = self.is_open(number);
         match self.peer(number) {
-            Some(peer) => {
-                if let Some(object) = self.objects.get_mut(peer) {
-                    object.queue.push_back(message)?;
-                }
-                Ok(false)
+            Some(peer) => self.queue(peer, message),
+            None if is_open => self.keep_sent(number, message),
+            None => Ok(()),
+        }
+    }
+
+    /// A message waits at this end.
+    fn queue(&mut self, number: usize, message: Sent) -> Result<(), AllocError> {
+        match self.objects.get_mut(number) {
+            Some(object) => {
+                object.queue.push_back(message)?;
+                Ok(())
             }
-            None => match self.objects.get_mut(number) {
-                Some(object) => {
-                    let is_first = is_open && object.sent.is_empty();
-                    if is_open {
-                        object.sent.push_back(message)?;
-                    }
-                    Ok(is_first)
-                }
-                None => Ok(false),
-            },
+            None => Ok(()),
+        }
+    }
+
+    /// A message will wait at the peer of this end, once that is known.
+    fn keep_sent(&mut self, number: usize, message: Sent) -> Result<(), AllocError> {
+        match self.objects.get_mut(number) {
+            Some(object) => {
+                object.sent.push_back(message)?;
+                Ok(())
+            }
+            None => Ok(()),
+        }
+    }
+
+    /// The call of this number wrote at an end. Tells whether it is the first at one that comes from nowhere.
+    pub(crate) fn add_written(&mut self, number: usize, call: usize) -> Result<bool, AllocError> {
+        match self.objects.get_mut(number) {
+            Some(object) if object.adopted.is_some() => {
+                object.written.push(call)?;
+                Ok(object.written.len() == 1)
+            }
+            _ => Ok(false),
+        }
+    }
+
+    /// A message came to an end.
+    pub(crate) fn add_read(&mut self, number: usize, reading: Reading) -> Result<(), AllocError> {
+        match self.objects.get_mut(number) {
+            Some(object) if object.adopted.is_some() => {
+                object.read.push(reading)?;
+                Ok(())
+            }
+            _ => Ok(()),
+        }
+    }
+
+    /// The calls that wrote at an end that comes from nowhere.
+    pub(crate) fn written(&self, number: usize) -> &[usize] {
+        match self.objects.get(number) {
+            Some(object) => object.written.as_slice(),
+            None => &[],
+        }
+    }
+
+    /// The messages that came to an end that comes from nowhere.
+    pub(crate) fn read(&self, number: usize) -> &[Reading] {
+        match self.objects.get(number) {
+            Some(object) => object.read.as_slice(),
+            None => &[],
         }
     }
 

@@ -11,45 +11,41 @@ use crate::run_log::Imported;
 use crate::trail::{Origin, TrailStep};
 use std::alloc::{AllocError, Global};
 use zt_history::History;
-use zt_logs::LoggedCall;
+use zt_logs::CallLog;
 use zt_rows::{Call, Koid, Moment};
 use zt_text::laws::every_call_is_within;
 use zt_text::{LINE_BYTES, put_call};
 
 /// The session text of an import: ahead of each call a line that is skipped, which tells where it comes from.
-pub fn trace_text(
-    alloc: Global,
-    calls: &[LoggedCall],
-    imported: &Imported,
-) -> Result<Vec<u8>, AllocError>
+pub fn trace_text(alloc: Global, log: &CallLog, imported: &Imported) -> Result<Vec<u8>, AllocError>
     ensures { IfOk result (λ text. session_of text.items ≡ Ok (calls_of imported.now.tree.made)) }
 {
     let mut text = String::new(alloc);
-    put_steps(&mut text, calls, imported)?;
+    put_steps(&mut text, log, imported)?;
     Ok(text.into_bytes())
 }
 
 /// The first line, and the lines of all steps.
-fn put_steps(text: &mut String, calls: &[LoggedCall], imported: &Imported) -> Result<(), AllocError>
+fn put_steps(text: &mut String, log: &CallLog, imported: &Imported) -> Result<(), AllocError>
     requires { string_bytes text.old ≡ [] }
     ensures { OnOk result (session_of (string_bytes text.new) ≡ Ok (calls_of imported.now.tree.made)) }
 {
     text.push_str("zxtt 1\n")?;
-    put_trail(text, calls, imported.history(), imported.trail())?;
+    put_trail(text, log, imported.history(), imported.trail())?;
     Ok(())
 }
 
 /// The lines of steps.
 fn put_trail(
     text: &mut String,
-    calls: &[LoggedCall],
+    log: &CallLog,
     history: &History,
     trail: &[TrailStep],
 ) -> Result<(), AllocError>
     ensures { OnOk result (Writes (string_bytes text.old) (string_bytes text.new) (calls_by history.now.tree.made trail.now)) }
 {
     for place in 0..trail.len() {
-        put_step(text, calls, history, &trail[place])?;
+        put_step(text, log, history, &trail[place])?;
     }
     Ok(())
 }
@@ -57,7 +53,7 @@ fn put_trail(
 /// The lines of a step; none, where it made no moment.
 fn put_step(
     text: &mut String,
-    calls: &[LoggedCall],
+    log: &CallLog,
     history: &History,
     step: &TrailStep,
 ) -> Result<(), AllocError>
@@ -65,7 +61,7 @@ fn put_step(
 {
     match step.moment {
         Some(moment) => {
-            put_origin(text, calls, step.origin)?;
+            put_origin(text, log, step.origin)?;
             put_moment(text, history, moment)?;
             Ok(())
         }
@@ -74,10 +70,10 @@ fn put_step(
 }
 
 /// The line that tells where a call comes from.
-fn put_origin(text: &mut String, calls: &[LoggedCall], origin: Origin) -> Result<(), AllocError>
+fn put_origin(text: &mut String, log: &CallLog, origin: Origin) -> Result<(), AllocError>
     ensures { OnOk result (Writes (string_bytes text.old) (string_bytes text.new) []) }
 {
-    let line = origin_line(*text.allocator(), calls, origin)?;
+    let line = origin_line(*text.allocator(), log, origin)?;
     put_comment(text, line.as_str())
 }
 

@@ -1,14 +1,17 @@
-ghost use Rattle.std.specs.Prelude.{◌≡◌, ◌<◌, [], ◌∷◌, ◌++◌, None, IfOk, OnOk, OnErr, length, vec_len, vec_capacity};
+ghost use Rattle.std.specs.Prelude.{◌≡◌, ◌<◌, [], ◌∷◌, ◌++◌, true, IfOk, OnOk, OnErr, length, vec_len, vec_capacity};
 ghost use Rattle.std.specs.Option.{option_copied};
 ghost use Rattle.zt_history.specs.Tree.{opening_tree};
-ghost use Rattle.zt_import.specs.Trails.{answer_at, number_in, IsMadeOf};
-ghost use Rattle.zt_import.specs.ProofsOnly.TakenCalls.{IsTakenTrail, IsOneStepMore, IsAside, IsCallAt};
+ghost use Rattle.zt_history.specs.Tree.{state_at};
+ghost use Rattle.zt_import.specs.Schedule.{holds, port_at};
+ghost use Rattle.zt_import.specs.Trails.{answer_at, IsMadeOf};
+ghost use Rattle.zt_import.specs.ProofsOnly.TakenCalls.{IsTakenTrail, IsOneStepMore, IsAside, IsCallAt, is_beside};
 
+use crate::port_queue::{holds, port_of};
 use crate::trail::{Origin, TrailStep};
 use std::alloc::{AllocError, Global};
 use std::marker::Model;
 use zt_history::{BranchId, History};
-use zt_logs::Cause;
+use zt_logs::{Cause, LoggedPacket};
 use zt_rows::{Call, Koid, Moment, Refusal, Reply};
 
 /// The branch on which all calls are made.
@@ -74,7 +77,7 @@ impl Taken {
         call: &Call,
     ) -> Result<Option<Moment>, Cause>
         ensures one { IfOk result (λ moment. IsOneStepMore self.old self.new (record { origin = origin; moment = moment })) }
-        ensures made { IfOk result (λ moment. IsMadeOf self.new.tree.made moment call.now) }
+        ensures made { IfOk result (λ moment. IsMadeOf self.new.tree.made moment process call.now) }
     {
         self.trail.reserve(1)?;
         match called(&mut self.history, process, call)? {
@@ -89,17 +92,44 @@ impl Taken {
         }
     }
 
-    /// The same of a call that the log does not have.
+    /// The same of a call that the log does not have, and which makes no process for it.
     pub(crate) fn ask_aside(
         &mut self,
         origin: Origin,
         process: Koid,
         call: &Call,
     ) -> Result<Option<Moment>, Cause>
-        requires { number_in origin ≡ None }
+        requires { is_beside origin ≡ true }
         ensures { OnOk result (IsAside self.old self.new) }
     {
         self.ask(origin, process, call)
+    }
+
+    /// Whether this packet stands in the port's queue at a moment, or any, where none is told. The history goes there, at the cost
+    /// of the calls on the way.
+    pub(crate) fn holds(
+        &mut self,
+        moment: Moment,
+        port: Koid,
+        recorded: Option<LoggedPacket>,
+    ) -> Result<bool, Cause>
+        ensures found { IfOk result (λ found. found ≡ holds (state_at self.old.tree.made moment) port recorded) }
+        ensures same { self.new ≡ self.old }
+    {
+        self.history.goto(moment)?;
+        Ok(holds(self.history.store(), port, recorded))
+    }
+
+    /// The port on which the call of a moment waits. The history goes there.
+    pub(crate) fn port_at(&mut self, moment: Moment) -> Result<Option<Koid>, Cause>
+        ensures found { IfOk result (λ found. found ≡ port_at self.old.tree.made moment) }
+        ensures same { self.new ≡ self.old }
+    {
+        self.history.goto(moment)?;
+        match self.history.call_of(moment) {
+            Some((process, call)) => Ok(port_of(self.history.store(), process, call)),
+            None => Ok(None),
+        }
     }
 
     /// What the call of a moment answered.
@@ -116,7 +146,7 @@ impl Taken {
 /// Makes a call at the head of `main`, where its process is alive.
 fn called(history: &mut History, process: Koid, call: &Call) -> Result<Option<Moment>, Cause>
     requires { 0 < length history.old.tree.branches }
-    ensures ok { IfOk result (IsCallAt history.old.tree history.new.tree call.now) }
+    ensures ok { IfOk result (IsCallAt history.old.tree history.new.tree process call.now) }
     ensures err { OnErr result (history.new.tree ≡ history.old.tree) }
 {
     match history.call(MAIN, process, call) {

@@ -4,7 +4,9 @@ use zt_rows::{HandleValue, Moment};
 /// Why a call was asked of the history.
 #[derive(Clone, Copy, Debug)]
 pub enum Origin {
-    /// The log has a process of this number that nothing in it made, which needs it.
+    /// It makes the process that stands for the log's of this number, which nothing in the log made.
+    Adopted(u64),
+    /// A process of this number that nothing in the log made needs it.
     Process(u64),
     /// The log has a handle of this process that comes from nowhere, which needs it.
     Handle {
@@ -13,11 +15,28 @@ pub enum Origin {
         kind: Kind,
         /// Whether a use of the handle tells the kind.
         is_told: bool,
+        /// The other end, where both are made by this call.
+        joined: Option<JoinedEnd>,
+        /// How many objects of this kind were made before for other handles, of which each may have been the same one.
+        others: u64,
     },
     /// The call of the log with this number, counted from 0, needs it: the message that it reads came from outside.
     Outside(usize),
     /// It is the call of the log with this number, counted from 0.
     Logged(usize),
+}
+
+/// An end of a channel that comes from nowhere as the one that it is joined with does, and by what it is.
+#[derive(Clone, Copy, Debug)]
+pub struct JoinedEnd {
+    /// The process of the first handle that the log has of it.
+    pub process: u64,
+    pub handle: HandleValue,
+    /// How many messages were read at either end, each of which was written at the other.
+    pub messages: usize,
+    /// The lines where the first of them was written and read.
+    pub written: u64,
+    pub read: u64,
 }
 
 /// A call that was asked of the history, with the moment that it made; none, where its process was not alive.

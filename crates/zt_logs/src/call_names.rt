@@ -1,6 +1,10 @@
+ghost use Rattle.std.specs.Prelude.{◌≡◌};
+ghost use Rattle.std.specs.Str.{bytes_eq};
+ghost use Rattle.zt_logs.specs.CallNames.{bare, name_of, name_of_handle, name_of_channel, name_of_port, name_of_task, call_named};
+
 /// The calls that the semantics has.
 #[derive(Clone, Copy, Debug, PartialEq, Eq)]
-pub(crate) enum CallName {
+pub enum CallName {
     EventCreate,
     EventPairCreate,
     HandleClose,
@@ -23,38 +27,141 @@ pub(crate) enum CallName {
     ProcessExit,
 }
 
+/// Whether a name is this one.
+pub(crate) fn is(name: &[u8], word: &[u8]) -> bool
+    ensures { result ≡ bytes_eq name.now word.now }
+{
+    name == word
+}
+
+/// A name without the `zx_` ahead, if it has it.
+fn bare_name(name: &[u8]) -> &[u8]
+    ensures { result.now ≡ bare name.now }
+{
+    match name.strip_prefix(b"zx_") {
+        Some(bare) => bare,
+        None => name,
+    }
+}
+
 impl CallName {
     /// The call of this name, which may have `zx_` ahead.
-    pub(crate) fn of(name: &str) -> Option<CallName> {
-        match name.strip_prefix("zx_") {
-            Some(name) => CallName::of_bare(name),
-            None => CallName::of_bare(name),
+    pub(crate) fn of(name: &str) -> Option<CallName>
+        ensures { result ≡ call_named name.now }
+    {
+        CallName::of_bare(bare_name(name.as_bytes()))
+    }
+
+    #[tactic(auto, unfolding(crate::specs::CallNames::name_of))]
+    fn of_bare(name: &[u8]) -> Option<CallName>
+        ensures { result ≡ name_of name.now }
+    {
+        CallName::of_handle(name)
+            .or_else(|| CallName::of_channel(name))
+            .or_else(|| CallName::of_port(name))
+            .or_else(|| CallName::of_task(name))
+    }
+
+    /// The calls on events, pairs of events and handles.
+    #[tactic(auto, unfolding(crate::specs::CallNames::name_of_handle))]
+    fn of_handle(name: &[u8]) -> Option<CallName>
+        ensures { result ≡ name_of_handle name.now }
+    {
+        if is(name, b"event_create") {
+            Some(CallName::EventCreate)
+        } else if is(name, b"eventpair_create") {
+            Some(CallName::EventPairCreate)
+        } else if is(name, b"handle_close") {
+            Some(CallName::HandleClose)
+        } else if is(name, b"handle_duplicate") {
+            Some(CallName::HandleDuplicate)
+        } else if is(name, b"handle_replace") {
+            Some(CallName::HandleReplace)
+        } else {
+            None
         }
     }
 
-    fn of_bare(name: &str) -> Option<CallName> {
-        Some(match name {
-            "event_create" => CallName::EventCreate,
-            "eventpair_create" => CallName::EventPairCreate,
-            "handle_close" => CallName::HandleClose,
-            "handle_duplicate" => CallName::HandleDuplicate,
-            "handle_replace" => CallName::HandleReplace,
-            "object_signal" => CallName::ObjectSignal,
-            "object_signal_peer" => CallName::ObjectSignalPeer,
-            "channel_create" => CallName::ChannelCreate,
-            "channel_write" => CallName::ChannelWrite,
-            "channel_read" => CallName::ChannelRead,
-            "port_create" => CallName::PortCreate,
-            "object_wait_async" => CallName::ObjectWaitAsync,
-            "port_queue" => CallName::PortQueue,
-            "port_wait" => CallName::PortWait,
-            "port_cancel" => CallName::PortCancel,
-            "job_create" => CallName::JobCreate,
-            "spawn" => CallName::Spawn,
-            "job_set_critical" => CallName::JobSetCritical,
-            "task_kill" => CallName::TaskKill,
-            "process_exit" => CallName::ProcessExit,
-            _ => return None,
-        })
+    /// The calls on signals and channels.
+    #[tactic(auto, unfolding(crate::specs::CallNames::name_of_channel))]
+    fn of_channel(name: &[u8]) -> Option<CallName>
+        ensures { result ≡ name_of_channel name.now }
+    {
+        if is(name, b"object_signal") {
+            Some(CallName::ObjectSignal)
+        } else if is(name, b"object_signal_peer") {
+            Some(CallName::ObjectSignalPeer)
+        } else if is(name, b"channel_create") {
+            Some(CallName::ChannelCreate)
+        } else if is(name, b"channel_write") {
+            Some(CallName::ChannelWrite)
+        } else if is(name, b"channel_read") {
+            Some(CallName::ChannelRead)
+        } else {
+            None
+        }
     }
+
+    /// The calls on ports.
+    #[tactic(auto, unfolding(crate::specs::CallNames::name_of_port))]
+    fn of_port(name: &[u8]) -> Option<CallName>
+        ensures { result ≡ name_of_port name.now }
+    {
+        if is(name, b"port_create") {
+            Some(CallName::PortCreate)
+        } else if is(name, b"object_wait_async") {
+            Some(CallName::ObjectWaitAsync)
+        } else if is(name, b"port_queue") {
+            Some(CallName::PortQueue)
+        } else if is(name, b"port_wait") {
+            Some(CallName::PortWait)
+        } else if is(name, b"port_cancel") {
+            Some(CallName::PortCancel)
+        } else {
+            None
+        }
+    }
+
+    /// The calls on jobs and processes.
+    #[tactic(auto, unfolding(crate::specs::CallNames::name_of_task))]
+    fn of_task(name: &[u8]) -> Option<CallName>
+        ensures { result ≡ name_of_task name.now }
+    {
+        if is(name, b"job_create") {
+            Some(CallName::JobCreate)
+        } else if is(name, b"spawn") {
+            Some(CallName::Spawn)
+        } else if is(name, b"job_set_critical") {
+            Some(CallName::JobSetCritical)
+        } else if is(name, b"task_kill") {
+            Some(CallName::TaskKill)
+        } else if is(name, b"process_exit") {
+            Some(CallName::ProcessExit)
+        } else {
+            None
+        }
+    }
+}
+
+/// Whether a call that the semantics has not, of this name, changes nothing that it has. It may have `zx_` ahead.
+pub(crate) fn changes_nothing(name: &str) -> bool {
+    let bare = match name.strip_prefix("zx_") {
+        Some(bare) => bare,
+        None => name,
+    };
+    matches!(
+        bare,
+        "object_wait_one"
+            | "object_wait_many"
+            | "object_get_info"
+            | "object_get_property"
+            | "object_set_property"
+            | "handle_check_valid"
+            | "nanosleep"
+            | "clock_get_monotonic"
+            | "clock_get_boot"
+            | "ticks_get"
+            | "futex_wait"
+            | "futex_wake"
+    )
 }

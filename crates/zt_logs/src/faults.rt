@@ -21,6 +21,8 @@ pub enum Cause {
     TooLong,
     /// The line is no JSON object.
     NoObject,
+    /// A member of the object, or of one within it, is left out.
+    Missing(Place),
     /// A member of the object, or of one within it, has not the form wanted.
     Member { place: Place, wanted: WantedValue },
     /// The process of this number is spawned, and was there before.
@@ -33,6 +35,12 @@ pub enum WantedValue {
     /// A number up to this one.
     Number(u64),
     SignedNumber,
+    /// The number of a process, or its name.
+    Process,
+    /// Bits by their number or by their names.
+    Mask,
+    /// Options by their number or by their names.
+    Options,
     Text,
     Object,
     List,
@@ -42,6 +50,7 @@ pub enum WantedValue {
     /// The 32 bytes of a packet as digits.
     PacketDigits,
     PacketType,
+    UserPacket,
     /// So many bytes or items.
     AtMost(usize),
 }
@@ -90,6 +99,7 @@ impl fmt::Display for Cause {
             Cause::Full => write!(f, "no more than {} calls", zt_rows::LAST_MOMENT),
             Cause::TooLong => write!(f, "longer than {} bytes", crate::json_lines::LINE_BYTES),
             Cause::NoObject => write!(f, "no JSON object"),
+            Cause::Missing(place) => print_missing(place, f),
             Cause::Member { place, wanted } => write!(f, "{place}: {wanted}"),
             Cause::SpawnedTwice(process) => {
                 write!(f, "process {process} is spawned and was there before")
@@ -98,11 +108,32 @@ impl fmt::Display for Cause {
     }
 }
 
+/// What is missing, with the names that it may have.
+fn print_missing<W: fmt::Write>(place: &Place, f: &mut fmt::Formatter<W>) -> fmt::Result {
+    match place.member.second_name() {
+        Some(second) => write!(f, "{place} or {second}: missing"),
+        None => write!(f, "{place}: missing"),
+    }
+}
+
 impl fmt::Display for WantedValue {
     fn fmt<W: fmt::Write>(&self, f: &mut fmt::Formatter<W>) -> fmt::Result {
         match self {
             WantedValue::Number(most) => write!(f, "a number to {most} is wanted"),
             WantedValue::SignedNumber => write!(f, "a signed number of 64 bits is wanted"),
+            WantedValue::Process => write!(
+                f,
+                "a number to {} or a name of 1 to 64 bytes is wanted",
+                u64::MAX
+            ),
+            WantedValue::Mask => write!(
+                f,
+                "a number to {} or known names with | between them are wanted",
+                u32::MAX
+            ),
+            WantedValue::Options => {
+                write!(f, "a number or names with | between them are wanted")
+            }
             WantedValue::Text => write!(f, "a text is wanted"),
             WantedValue::Object => write!(f, "an object is wanted"),
             WantedValue::List => write!(f, "a list is wanted"),
@@ -110,6 +141,7 @@ impl fmt::Display for WantedValue {
             WantedValue::Digits => write!(f, "an even number of hexadecimal digits is wanted"),
             WantedValue::PacketDigits => write!(f, "64 hexadecimal digits are wanted"),
             WantedValue::PacketType => write!(f, "user or signal is wanted"),
+            WantedValue::UserPacket => write!(f, "user is wanted"),
             WantedValue::AtMost(most) => write!(f, "at most {most} are wanted"),
         }
     }

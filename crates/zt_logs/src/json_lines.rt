@@ -1,107 +1,274 @@
-ghost use Rattle.std.specs.Prelude.{◌<◌, length};
+ghost use Rattle.std.specs.Prelude.{◌≡◌, ◌<◌, ◌==◌, ◌++◌, [], ◌∷◌, length, IfOk, OnOk};
+ghost use Rattle.std.specs.List.{list_all, position};
+ghost use Rattle.serde_json.specs.View.{view};
+ghost use Rattle.zt_logs.specs.Lines.{lines_of, without_mark};
+ghost use Rattle.zt_logs.specs.Entries.{is_space, entry_for, entry_of, entries_of};
+ghost use Rattle.zt_logs.specs.Logged.{AreLogged};
+ghost use Rattle.zt_logs.specs.ProofsOnly.ReadLines.{IsParsed, IsLoggedIfAny, AddsLogged, IsReadUpTo};
 
-use crate::call_names::CallName;
+use crate::call_names::{CallName, changes_nothing};
 use crate::faults::{Cause, LogFault};
 use crate::logged::{CallLog, LoggedCall};
 use crate::logged_calls::call_of;
 use crate::members::Members;
+use crate::notes::{LogNote, LogNotes};
+use crate::options::options_of;
 use crate::places::{LineObject, Member};
+use crate::process_names::{NamedPlace, Naming, ProcessNames};
 use crate::recorded::recorded_of;
+use crate::skipped::{SkippedCall, skipped_of};
 use serde_json::Value;
-use std::alloc::Global;
+use std::alloc::{AllocError, Global};
 
 /// The most bytes of a line.
 pub const LINE_BYTES: usize = 1_048_576;
 
-/// The calls of a log, a JSON object in each line. Lines that are empty are passed by, and lines of other calls than those
-/// of the semantics are skipped and counted.
-pub fn read_log(alloc: Global, text: &[u8]) -> Result<CallLog, LogFault> {
+/// The calls of a log, a JSON object in each line. Lines that are empty are passed by, and so are lines of calls that change
+/// nothing; lines of other calls than those of the semantics are kept as skipped. A last line that is cut off is left
+/// out, with a note.
+pub fn read_log(alloc: Global, text: &[u8]) -> Result<CallLog, LogFault>
+    ensures lines { IfOk result (λ log. log.lines ≡ length (lines_of (without_mark text.now))) }
+    ensures calls { IfOk result (λ log. AreLogged (entries_of text.now) log.calls.items) }
+{
     let mut log = CallLog {
         calls: Vec::new(alloc),
         lines: 0,
-        skipped: 0,
+        skipped: Vec::new(alloc),
+        names: ProcessNames::new(alloc),
+        notes: LogNotes::new(alloc),
     };
+    let mut naming = Naming::new(alloc);
+    take_lines(alloc, &mut log, &mut naming, without_mark(text))?;
+    match naming.finish(alloc, &mut log) {
+        Ok(names) => log.names = names,
+        Err(_) => return Err(Cause::OutOfMemory.at(0)),
+    }
+    Ok(log)
+}
+
+/// The text behind a byte order mark, if it begins with one.
+fn without_mark(text: &[u8]) -> &[u8]
+    ensures { result.now ≡ without_mark text.now }
+{
+    match text.strip_prefix(b"\xef\xbb\xbf") {
+        Some(rest) => rest,
+        None => text,
+    }
+}
+
+/// Takes the calls of all lines.
+fn take_lines(
+    alloc: Global,
+    log: &mut CallLog,
+    naming: &mut Naming,
+    text: &[u8],
+) -> Result<(), LogFault>
+    requires lines { log.old.lines ≡ 0 }
+    requires calls { log.old.calls.items ≡ [] }
+    ensures { OnOk result (IsReadUpTo text.now [] log.new.lines log.new.calls.items) }
+{
     let mut left = text;
     while !left.is_empty() {
         let (line, others) = next_line(left);
         log.lines = log.lines.saturating_add(1);
         let number = log.lines;
-        match take_line(alloc, &mut log, number, line) {
+        match take_line(alloc, log, naming, line) {
             Ok(()) => {}
             Err(cause) => return Err(cause.at(number)),
         }
         left = others;
     }
-    Ok(log)
+    Ok(())
+}
+
+/// A line of a log.
+#[derive(Clone, Copy)]
+struct Line<'a> {
+    bytes: &'a [u8],
+    /// Whether a line feed ends it.
+    is_ended: bool,
 }
 
 /// The first line of some bytes, and those behind its line feed.
-fn next_line(bytes: &[u8]) -> (&[u8], &[u8])
+fn next_line(bytes: &[u8]) -> (Line<'_>, &[u8])
     requires { 0 < length bytes.now }
-    ensures { length result.1.now < length bytes.now }
+    ensures shorter { length result.1.now < length bytes.now }
+    ensures lines { lines_of bytes.now ≡ result.0.bytes.now ∷ lines_of result.1.now }
 {
-    match bytes.iter().position(|byte| *byte == b'\n') {
-        Some(place) => (&bytes[..place], &bytes[place + 1..]),
-        None => (bytes, &[]),
+    match feed_place(bytes) {
+        Some(place) => (
+            Line {
+                bytes: &bytes[..place],
+                is_ended: true,
+            },
+            &bytes[place + 1..],
+        ),
+        None => (
+            Line {
+                bytes,
+                is_ended: false,
+            },
+            &[],
+        ),
     }
 }
 
-/// Puts the call of the line of this number behind those before it, unless it is passed by or skipped.
-fn take_line(alloc: Global, log: &mut CallLog, number: u64, line: &[u8]) -> Result<(), Cause> {
-    if line.len() > LINE_BYTES {
+/// Where the first line feed stands.
+fn feed_place(bytes: &[u8]) -> Option<usize>
+    ensures { result ≡ position (λ byte. byte == 10) bytes.now }
+{
+    bytes.iter().position(|byte| *byte == b'\n')
+}
+
+/// Puts the call of the last line that was counted behind those before it, unless it is passed by or skipped.
+fn take_line(
+    alloc: Global,
+    log: &mut CallLog,
+    naming: &mut Naming,
+    line: Line<'_>,
+) -> Result<(), Cause>
+    ensures lines { log.new.lines ≡ log.old.lines }
+    ensures calls { OnOk result (AddsLogged (entry_of log.old.lines line.entry.bytes.now) log.old.calls.items log.new.calls.items) }
+{
+    if line.bytes.len() > LINE_BYTES {
         return Err(Cause::TooLong);
     }
-    if line
-        .iter()
-        .all(|byte| matches!(*byte, b' ' | b'\t' | b'\r'))
-    {
+    if is_blank(line.bytes) {
         return Ok(());
     }
-    let value = value_of(alloc, line)?;
-    match logged_in(alloc, number, &value)? {
-        Some(logged) => push_logged(&mut log.calls, logged),
-        None => {
-            log.skipped = log.skipped.saturating_add(1);
-            Ok(())
+    match json_in(alloc, line.bytes)? {
+        Parsed::Whole(value) => take_value(alloc, log, naming, &value),
+        Parsed::CutOff if !line.is_ended && is_begun(line.bytes) => {
+            note_cut_off(&mut log.notes, log.lines)
         }
+        _ => Err(Cause::NoObject),
     }
 }
 
-fn push_logged(calls: &mut Vec<LoggedCall>, logged: LoggedCall) -> Result<(), Cause> {
+/// Notes that the line of this number is cut off.
+fn note_cut_off(notes: &mut LogNotes, line: u64) -> Result<(), Cause> {
+    match notes.add(LogNote::CutOff { line }) {
+        Ok(()) => Ok(()),
+        Err(_) => Err(Cause::OutOfMemory),
+    }
+}
+
+/// Whether there is nothing but spaces.
+fn is_blank(line: &[u8]) -> bool
+    ensures { result ≡ list_all is_space line.now }
+{
+    line.iter().all(|byte| is_space(*byte))
+}
+
+fn is_space(byte: u8) -> bool
+    ensures { result ≡ is_space byte }
+{
+    matches!(byte, b' ' | b'\t' | b'\r')
+}
+
+/// Whether an object begins with the first byte that is no space.
+fn is_begun(line: &[u8]) -> bool {
+    line.iter().find(|byte| !is_space(**byte)) == Some(&b'{')
+}
+
+/// Puts the call that the value of a line tells behind those before it, unless it is skipped.
+fn take_value(
+    alloc: Global,
+    log: &mut CallLog,
+    naming: &mut Naming,
+    value: &Value,
+) -> Result<(), Cause>
+    ensures lines { log.new.lines ≡ log.old.lines }
+    ensures calls { OnOk result (AddsLogged (entry_for log.old.lines (view value.now)) log.old.calls.items log.new.calls.items) }
+{
+    match logged_in(alloc, log, naming, value)? {
+        Some(logged) => push_logged(&mut log.calls, logged),
+        None => Ok(()),
+    }
+}
+
+fn push_logged(calls: &mut Vec<LoggedCall>, logged: LoggedCall) -> Result<(), Cause>
+    ensures { OnOk result (calls.new.items ≡ calls.old.items ++ logged ∷ []) }
+{
     match calls.push(logged) {
         Ok(()) => Ok(()),
         Err(_) => Err(Cause::OutOfMemory),
     }
 }
 
-/// The JSON value that a line is.
-fn value_of(alloc: Global, line: &[u8]) -> Result<Value, Cause> {
+/// What a line is as JSON.
+#[derive(Drop)]
+enum Parsed {
+    Whole(Value),
+    /// The front of a text that could be read.
+    CutOff,
+    Broken,
+}
+
+fn json_in(alloc: Global, line: &[u8]) -> Result<Parsed, Cause>
+    ensures { IfOk result (IsParsed line.now) }
+{
     match Value::from_slice(alloc, line) {
-        Ok(value) => Ok(value),
+        Ok(value) => Ok(Parsed::Whole(value)),
         Err(error) => {
             if error.is_memory() {
                 Err(Cause::OutOfMemory)
+            } else if error.is_eof() {
+                Ok(Parsed::CutOff)
             } else {
-                Err(Cause::NoObject)
+                Ok(Parsed::Broken)
             }
         }
     }
 }
 
-/// The call that the value of a line tells; nothing, where the semantics has no such call.
-fn logged_in(alloc: Global, line: u64, value: &Value) -> Result<Option<LoggedCall>, Cause> {
+/// The call that the value of the last line tells; nothing, where the semantics has no such call. It is kept as skipped
+/// then, if it may change something.
+fn logged_in(
+    alloc: Global,
+    log: &mut CallLog,
+    naming: &mut Naming,
+    value: &Value,
+) -> Result<Option<LoggedCall>, Cause>
+    ensures lines { log.new.lines ≡ log.old.lines }
+    ensures calls { log.new.calls.items ≡ log.old.calls.items }
+    ensures logged { IfOk result (IsLoggedIfAny (entry_for log.old.lines (view value.now))) }
+{
     let members = Members::of_line(value)?;
-    let Some(name) = CallName::of(members.text(Member::Call)?) else {
+    let word = members.text(Member::Call)?;
+    let Some(name) = CallName::of(word) else {
+        if !changes_nothing(word) {
+            skip(alloc, &mut log.skipped, naming, word, &members)?;
+        }
         return Ok(None);
     };
-    let process = members.wide(Member::Process)?;
+    let place = log.calls.len();
+    let process = naming.number(NamedPlace::Caller(place), members.process(Member::Process)?)?;
     let args = members.object(Member::Args, LineObject::Args)?;
-    let recorded = recorded_of(alloc, name, &members)?;
-    let call = call_of(alloc, name, &args)?;
+    let recorded = recorded_of(alloc, name, &members, naming, place)?;
+    let options = options_of(alloc, &mut log.notes, log.lines, name, &args)?;
+    let call = call_of(alloc, name, &args, options)?;
     Ok(Some(LoggedCall {
-        line,
+        line: log.lines,
         process,
         call,
         recorded,
     }))
+}
+
+/// Keeps a line whose call the semantics does not know.
+fn skip(
+    alloc: Global,
+    skipped: &mut Vec<SkippedCall>,
+    naming: &mut Naming,
+    name: &str,
+    line: &Members<'_>,
+) -> Result<(), AllocError> {
+    let place = NamedPlace::Skipped(skipped.len());
+    let process = match line.process(Member::Process) {
+        Ok(process) => Some(naming.number(place, process)?),
+        Err(_) => None,
+    };
+    skipped.push(skipped_of(alloc, name, process, line)?)?;
+    Ok(())
 }

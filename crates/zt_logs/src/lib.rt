@@ -2,16 +2,25 @@
 //! answered.
 #![tactic(auto)]
 
+mod bit_names;
 mod call_names;
 mod faults;
 mod json_lines;
 mod logged;
 mod logged_calls;
 mod members;
+mod notes;
+mod numbers;
+mod options;
 mod places;
+mod process_names;
 mod recorded;
+mod skipped;
 
 pub use faults::{Cause, LogFault, WantedValue};
 pub use json_lines::{LINE_BYTES, read_log};
 pub use logged::{CallLog, LoggedCall, LoggedPacket, RecordedReply};
+pub use notes::{LogNote, LogNotes};
 pub use places::{LineObject, Member, Place};
+pub use process_names::ProcessNames;
+pub use skipped::SkippedCall;

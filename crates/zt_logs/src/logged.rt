@@ -1,3 +1,6 @@
+use crate::notes::LogNotes;
+use crate::process_names::ProcessNames;
+use crate::skipped::SkippedCall;
 use zt_bits::{Signals, Status};
 use zt_rows::{Call, HandleValue, Items};
 
@@ -6,7 +9,7 @@ use zt_rows::{Call, HandleValue, Items};
 pub struct LoggedCall {
     /// The number of the line, counted from 1.
     pub line: u64,
-    /// The process that made the call, by its number in the log.
+    /// The process that made the call, by its number in the log, or by that which stands for its name.
     pub process: u64,
     /// The call, whose handles are those of the log.
     pub call: Call,
@@ -43,11 +46,15 @@ pub enum LoggedPacket {
 }
 
 /// The calls of a log.
-#[derive(Debug, Drop)]
+#[derive(Drop)]
 pub struct CallLog {
     pub calls: Vec<LoggedCall>,
     /// How many lines there are, empty ones too.
     pub lines: u64,
-    /// How many of them have a call that the semantics does not know.
-    pub skipped: u64,
+    /// Those that have a call that the semantics does not know, and that may change something.
+    pub skipped: Vec<SkippedCall>,
+    /// The processes that it has by names.
+    pub names: ProcessNames,
+    /// What it has that is left out.
+    pub notes: LogNotes,
 }

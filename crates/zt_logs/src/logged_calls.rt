@@ -1,59 +1,93 @@
+ghost use Rattle.std.specs.Prelude.{IfOk};
+ghost use Rattle.zt_logs.specs.declared.call_names.CallName.TheVariants as called;
+ghost use Rattle.zt_logs.specs.Members.{data_at};
+ghost use Rattle.zt_logs.specs.LoggedCalls.{IsCallOf};
+
 use crate::call_names::CallName;
 use crate::faults::{Cause, WantedValue};
 use crate::members::Members;
+use crate::options::{EDGE, MAY_DISCARD};
 use crate::places::{LineObject, Member, Place};
 use std::alloc::Global;
 use zt_rows::{Call, MESSAGE_BYTES, Parcel};
 
-/// The call of this name with the arguments of a line.
-pub(crate) fn call_of(alloc: Global, name: CallName, args: &Members<'_>) -> Result<Call, Cause> {
+/// The call of this name with the arguments of a line, and these options.
+pub(crate) fn call_of(
+    alloc: Global,
+    name: CallName,
+    args: &Members<'_>,
+    options: u64,
+) -> Result<Call, Cause>
+    ensures { IfOk result (IsCallOf name (data_at args.now.value) options) }
+{
     match name {
         CallName::EventCreate => Ok(Call::EventCreate),
         CallName::EventPairCreate => Ok(Call::EventPairCreate),
+        CallName::HandleClose => handle_close(args),
+        CallName::HandleDuplicate => handle_duplicate(args),
+        CallName::HandleReplace => handle_replace(args),
+        CallName::ObjectSignal => object_signal(args),
+        CallName::ObjectSignalPeer => object_signal_peer(args),
         CallName::ChannelCreate => Ok(Call::ChannelCreate),
-        CallName::PortCreate => Ok(Call::PortCreate),
         CallName::ChannelWrite => channel_write(alloc, args),
-        CallName::ChannelRead => channel_read(args),
-        CallName::PortQueue
-        | CallName::PortWait
-        | CallName::PortCancel
-        | CallName::ObjectWaitAsync => port_call(name, args),
-        CallName::JobCreate
-        | CallName::Spawn
-        | CallName::JobSetCritical
-        | CallName::TaskKill
-        | CallName::ProcessExit => task_call(name, args),
-        _ => handle_call(name, args),
+        CallName::ChannelRead => channel_read(args, options),
+        CallName::PortCreate => Ok(Call::PortCreate),
+        CallName::ObjectWaitAsync => object_wait_async(args, options),
+        CallName::PortQueue => port_queue(args),
+        CallName::PortWait => port_wait(args),
+        CallName::PortCancel => port_cancel(args),
+        CallName::JobCreate => job_create(args),
+        CallName::Spawn => spawn(args),
+        CallName::JobSetCritical => job_set_critical(args),
+        CallName::TaskKill => task_kill(args),
+        CallName::ProcessExit => process_exit(args),
     }
 }
 
-/// A call on any handle.
-fn handle_call(name: CallName, args: &Members<'_>) -> Result<Call, Cause> {
+fn handle_close(args: &Members<'_>) -> Result<Call, Cause>
+    ensures { IfOk result (IsCallOf called.HandleClose (data_at args.now.value) 0) }
+{
     let handle = args.handle(Member::Handle)?;
-    match name {
-        CallName::HandleDuplicate => {
-            let rights = args.narrow(Member::Rights)?;
-            Ok(Call::HandleDuplicate { handle, rights })
-        }
-        CallName::HandleReplace => {
-            let rights = args.narrow(Member::Rights)?;
-            Ok(Call::HandleReplace { handle, rights })
-        }
-        CallName::ObjectSignal => {
-            let clear = args.signals(Member::Clear)?;
-            let set = args.signals(Member::Set)?;
-            Ok(Call::ObjectSignal { handle, clear, set })
-        }
-        CallName::ObjectSignalPeer => {
-            let clear = args.signals(Member::Clear)?;
-            let set = args.signals(Member::Set)?;
-            Ok(Call::ObjectSignalPeer { handle, clear, set })
-        }
-        _ => Ok(Call::HandleClose { handle }),
-    }
+    Ok(Call::HandleClose { handle })
 }
 
-fn channel_write(alloc: Global, args: &Members<'_>) -> Result<Call, Cause> {
+fn handle_duplicate(args: &Members<'_>) -> Result<Call, Cause>
+    ensures { IfOk result (IsCallOf called.HandleDuplicate (data_at args.now.value) 0) }
+{
+    let handle = args.handle(Member::Handle)?;
+    let rights = args.rights(Member::Rights)?;
+    Ok(Call::HandleDuplicate { handle, rights })
+}
+
+fn handle_replace(args: &Members<'_>) -> Result<Call, Cause>
+    ensures { IfOk result (IsCallOf called.HandleReplace (data_at args.now.value) 0) }
+{
+    let handle = args.handle(Member::Handle)?;
+    let rights = args.rights(Member::Rights)?;
+    Ok(Call::HandleReplace { handle, rights })
+}
+
+fn object_signal(args: &Members<'_>) -> Result<Call, Cause>
+    ensures { IfOk result (IsCallOf called.ObjectSignal (data_at args.now.value) 0) }
+{
+    let handle = args.handle(Member::Handle)?;
+    let clear = args.signals(Member::Clear)?;
+    let set = args.signals(Member::Set)?;
+    Ok(Call::ObjectSignal { handle, clear, set })
+}
+
+fn object_signal_peer(args: &Members<'_>) -> Result<Call, Cause>
+    ensures { IfOk result (IsCallOf called.ObjectSignalPeer (data_at args.now.value) 0) }
+{
+    let handle = args.handle(Member::Handle)?;
+    let clear = args.signals(Member::Clear)?;
+    let set = args.signals(Member::Set)?;
+    Ok(Call::ObjectSignalPeer { handle, clear, set })
+}
+
+fn channel_write(alloc: Global, args: &Members<'_>) -> Result<Call, Cause>
+    ensures { IfOk result (IsCallOf called.ChannelWrite (data_at args.now.value) 0) }
+{
     let handle = args.handle(Member::Handle)?;
     let bytes = args.bytes_or_none(alloc, Member::Bytes)?;
     let handles = args.handles(alloc, Member::Handles)?;
@@ -68,17 +102,20 @@ fn too_many_bytes() -> Cause {
     let place = Place {
         object: LineObject::Args,
         member: Member::Bytes,
+        is_second: false,
         item: None,
     };
     let wanted = WantedValue::AtMost(MESSAGE_BYTES);
     Cause::Member { place, wanted }
 }
 
-fn channel_read(args: &Members<'_>) -> Result<Call, Cause> {
+fn channel_read(args: &Members<'_>, options: u64) -> Result<Call, Cause>
+    ensures { IfOk result (IsCallOf called.ChannelRead (data_at args.now.value) options) }
+{
     let handle = args.handle(Member::Handle)?;
-    let bytes = args.narrow(Member::Bytes)?;
-    let handles = args.narrow(Member::Handles)?;
-    let discard = args.flag(Member::Discard)?;
+    let bytes = args.narrow(Member::ByteRoom)?;
+    let handles = args.narrow(Member::HandleRoom)?;
+    let discard = args.flag(Member::Discard)? || options & MAY_DISCARD != 0;
     Ok(Call::ChannelRead {
         handle,
         bytes,
@@ -87,61 +124,100 @@ fn channel_read(args: &Members<'_>) -> Result<Call, Cause> {
     })
 }
 
-/// A call that names a port.
-fn port_call(name: CallName, args: &Members<'_>) -> Result<Call, Cause> {
+fn object_wait_async(args: &Members<'_>, options: u64) -> Result<Call, Cause>
+    ensures { IfOk result (IsCallOf called.ObjectWaitAsync (data_at args.now.value) options) }
+{
     let port = args.handle(Member::Port)?;
-    match name {
-        CallName::ObjectWaitAsync => {
-            let handle = args.handle(Member::Handle)?;
-            let key = args.wide(Member::Key)?;
-            let signals = args.signals(Member::Signals)?;
-            let edge = args.flag(Member::Edge)?;
-            Ok(Call::ObjectWaitAsync {
-                handle,
-                port,
-                key,
-                signals,
-                edge,
-            })
-        }
-        CallName::PortQueue => {
-            let key = args.wide(Member::Key)?;
-            let bytes = args.packet_bytes(Member::Packet)?;
-            Ok(Call::PortQueue { port, key, bytes })
-        }
-        CallName::PortCancel => {
-            let source = args.handle(Member::Source)?;
-            let key = args.wide(Member::Key)?;
-            Ok(Call::PortCancel { port, source, key })
-        }
-        _ => Ok(Call::PortWait { port }),
+    let handle = args.handle(Member::Handle)?;
+    let key = args.wide(Member::Key)?;
+    let signals = args.signals(Member::Signals)?;
+    let edge = args.flag(Member::Edge)? || options & EDGE != 0;
+    Ok(Call::ObjectWaitAsync {
+        handle,
+        port,
+        key,
+        signals,
+        edge,
+    })
+}
+
+fn port_wait(args: &Members<'_>) -> Result<Call, Cause>
+    ensures { IfOk result (IsCallOf called.PortWait (data_at args.now.value) 0) }
+{
+    let port = args.handle(Member::CalledPort)?;
+    Ok(Call::PortWait { port })
+}
+
+fn port_cancel(args: &Members<'_>) -> Result<Call, Cause>
+    ensures { IfOk result (IsCallOf called.PortCancel (data_at args.now.value) 0) }
+{
+    let port = args.handle(Member::CalledPort)?;
+    let source = args.handle(Member::Source)?;
+    let key = args.wide(Member::Key)?;
+    Ok(Call::PortCancel { port, source, key })
+}
+
+/// The packet is a text of its bytes beside its key, or an object with both.
+fn port_queue(args: &Members<'_>) -> Result<Call, Cause>
+    ensures { IfOk result (IsCallOf called.PortQueue (data_at args.now.value) 0) }
+{
+    let port = args.handle(Member::CalledPort)?;
+    if args.has_object(Member::Packet) {
+        let packet = args.object(Member::Packet, LineObject::QueuedPacket)?;
+        is_user_packet(&packet)?;
+        let key = packet.wide(Member::Key)?;
+        let bytes = packet.packet_bytes(Member::PacketBytes)?;
+        return Ok(Call::PortQueue { port, key, bytes });
+    }
+    let key = args.wide(Member::Key)?;
+    let bytes = args.packet_bytes(Member::Packet)?;
+    Ok(Call::PortQueue { port, key, bytes })
+}
+
+/// Whether a packet is one of a user, as which it counts where it has no type.
+fn is_user_packet(packet: &Members<'_>) -> Result<(), Cause> {
+    if !packet.has(Member::Type) {
+        return Ok(());
+    }
+    match packet.text(Member::Type)? {
+        "user" | "ZX_PKT_TYPE_USER" => Ok(()),
+        _ => Err(packet.fault(Member::Type, WantedValue::UserPacket)),
     }
 }
 
-/// A call on jobs and processes.
-fn task_call(name: CallName, args: &Members<'_>) -> Result<Call, Cause> {
-    match name {
-        CallName::JobCreate => {
-            let job = args.handle(Member::Job)?;
-            Ok(Call::JobCreate { job })
-        }
-        CallName::Spawn => {
-            let job = args.handle(Member::Job)?;
-            let argument = args.handle_or_none(Member::Argument)?;
-            Ok(Call::Spawn { job, argument })
-        }
-        CallName::JobSetCritical => {
-            let job = args.handle(Member::Job)?;
-            let process = args.handle(Member::Handle)?;
-            Ok(Call::JobSetCritical { job, process })
-        }
-        CallName::TaskKill => {
-            let handle = args.handle(Member::Handle)?;
-            Ok(Call::TaskKill { handle })
-        }
-        _ => {
-            let code = args.signed(Member::Code)?;
-            Ok(Call::ProcessExit { code })
-        }
-    }
+fn job_create(args: &Members<'_>) -> Result<Call, Cause>
+    ensures { IfOk result (IsCallOf called.JobCreate (data_at args.now.value) 0) }
+{
+    let job = args.handle(Member::ParentJob)?;
+    Ok(Call::JobCreate { job })
+}
+
+fn spawn(args: &Members<'_>) -> Result<Call, Cause>
+    ensures { IfOk result (IsCallOf called.Spawn (data_at args.now.value) 0) }
+{
+    let job = args.handle(Member::Job)?;
+    let argument = args.handle_or_none(Member::Argument)?;
+    Ok(Call::Spawn { job, argument })
+}
+
+fn job_set_critical(args: &Members<'_>) -> Result<Call, Cause>
+    ensures { IfOk result (IsCallOf called.JobSetCritical (data_at args.now.value) 0) }
+{
+    let job = args.handle(Member::Job)?;
+    let process = args.handle(Member::CriticalProcess)?;
+    Ok(Call::JobSetCritical { job, process })
+}
+
+fn task_kill(args: &Members<'_>) -> Result<Call, Cause>
+    ensures { IfOk result (IsCallOf called.TaskKill (data_at args.now.value) 0) }
+{
+    let handle = args.handle(Member::Task)?;
+    Ok(Call::TaskKill { handle })
+}
+
+fn process_exit(args: &Members<'_>) -> Result<Call, Cause>
+    ensures { IfOk result (IsCallOf called.ProcessExit (data_at args.now.value) 0) }
+{
+    let code = args.signed(Member::Code)?;
+    Ok(Call::ProcessExit { code })
 }

@@ -1,7 +1,18 @@
 //! The members of a JSON object, each as what it has to be.
 
+ghost use Rattle.std.specs.Prelude.{◌≡◌, ◌++◌, ◌∷◌, [], Some, None, IfOk, OnOk, is_some, option_and_then};
+ghost use Rattle.serde_json.specs.Find.{as_str};
+ghost use Rattle.serde_json.specs.View.{view};
+ghost use Rattle.zt_logs.specs.Members.{named, field, data_at};
+ghost use Rattle.zt_logs.specs.Numbers.{IsNumber, IsNumberIn, IsNumberOrNone, IsMaskIn, IsSignedIn, flag_of};
+ghost use Rattle.zt_logs.specs.LoggedCalls.{AreBytes, ArePacketBytes, AreHandles};
+ghost use Rattle.zt_logs.specs.ProofsOnly.ReadLines.{AreNumbersOf};
+
+use crate::bit_names::{BitNames, bits_in};
 use crate::faults::{Cause, WantedValue};
+use crate::numbers::{narrow_in, number_in, signed_in};
 use crate::places::{LineObject, Member, Place};
+use crate::process_names::{ProcessWord, process_in};
 use hex::{FromHex, FromHexError};
 use serde_json::Value;
 use std::alloc::Global;
@@ -17,7 +28,9 @@ pub(crate) struct Members<'a> {
 
 impl<'a> Members<'a> {
     /// Those of a line.
-    pub(crate) fn of_line(line: &'a Value) -> Result<Members<'a>, Cause> {
+    pub(crate) fn of_line(line: &'a Value) -> Result<Members<'a>, Cause>
+        ensures { IfOk result (λ members. data_at members.value ≡ Some (view line.now)) }
+    {
         if !line.is_object() {
             return Err(Cause::NoObject);
         }
@@ -28,7 +41,9 @@ impl<'a> Members<'a> {
     }
 
     /// Those of an object within this one, which may be left out.
-    pub(crate) fn object(&self, name: Member, object: LineObject) -> Result<Members<'a>, Cause> {
+    pub(crate) fn object(&self, name: Member, object: LineObject) -> Result<Members<'a>, Cause>
+        ensures { IfOk result (λ members. data_at members.value ≡ field name (data_at self.now.value)) }
+    {
         let value = self.member(name);
         if let Some(value) = value {
             if !value.is_object() {
@@ -39,91 +54,170 @@ impl<'a> Members<'a> {
     }
 
     /// Whether there is a member of this name.
-    pub(crate) fn has(&self, name: Member) -> bool {
+    pub(crate) fn has(&self, name: Member) -> bool
+        ensures { result ≡ is_some (field name (data_at self.now.value)) }
+    {
         self.member(name).is_some()
     }
 
-    fn member(&self, name: Member) -> Option<&'a Value> {
-        match self.value {
-            Some(value) => value.get(name.name()),
-            None => None,
+    /// Whether a member is an object.
+    pub(crate) fn has_object(&self, name: Member) -> bool {
+        match self.member(name) {
+            Some(value) => value.is_object(),
+            None => false,
+        }
+    }
+
+    /// The member by its name, or by its second one.
+    pub(crate) fn member(&self, name: Member) -> Option<&'a Value>
+        ensures { data_at result ≡ field name (data_at self.now.value) }
+    {
+        match self.named(name.name()) {
+            Some(value) => Some(value),
+            None => self.named(name.second_name()?),
+        }
+    }
+
+    /// The value of this name, unless it is left out or null.
+    fn named(&self, name: &str) -> Option<&'a Value>
+        ensures { data_at result ≡ named name.now (data_at self.now.value) }
+    {
+        let value = self.value?.get(name)?;
+        if value.is_null() { None } else { Some(value) }
+    }
+
+    /// A member that may not be left out.
+    fn needed(&self, name: Member) -> Result<&'a Value, Cause>
+        ensures { IfOk result (λ value. field name (data_at self.now.value) ≡ Some (view value.now)) }
+    {
+        match self.member(name) {
+            Some(value) => Ok(value),
+            None => Err(Cause::Missing(self.place(name))),
+        }
+    }
+
+    /// Where a member stands.
+    fn place(&self, name: Member) -> Place {
+        Place {
+            object: self.object,
+            member: name,
+            is_second: self.has(name) && self.named(name.name()).is_none(),
+            item: None,
         }
     }
 
     /// A member that has not the form wanted.
     pub(crate) fn fault(&self, name: Member, wanted: WantedValue) -> Cause {
-        let place = Place {
-            object: self.object,
-            member: name,
-            item: None,
-        };
+        let place = self.place(name);
         Cause::Member { place, wanted }
     }
 
     /// A text.
-    pub(crate) fn text(&self, name: Member) -> Result<&'a str, Cause> {
-        match self.member(name) {
-            Some(Value::String(text)) => Ok(text.as_str()),
-            _ => Err(self.fault(name, WantedValue::Text)),
+    pub(crate) fn text(&self, name: Member) -> Result<&'a str, Cause>
+        ensures { IfOk result (λ text. option_and_then as_str (field name (data_at self.now.value)) ≡ Some text.now) }
+    {
+        match self.needed(name)?.as_str() {
+            Some(text) => Ok(text),
+            None => Err(self.fault(name, WantedValue::Text)),
         }
     }
 
+    /// A process, by its number or its name.
+    pub(crate) fn process(&self, name: Member) -> Result<ProcessWord<'a>, Cause> {
+        match process_in(self.needed(name)?) {
+            Some(process) => Ok(process),
+            None => Err(self.fault(name, WantedValue::Process)),
+        }
+    }
+
+    /// A process, where there is one.
+    pub(crate) fn process_if_any(&self, name: Member) -> Result<Option<ProcessWord<'a>>, Cause> {
+        if !self.has(name) {
+            return Ok(None);
+        }
+        Ok(Some(self.process(name)?))
+    }
+
     /// A number of 64 bits.
-    pub(crate) fn wide(&self, name: Member) -> Result<u64, Cause> {
-        match number_in(self.member(name)) {
+    pub(crate) fn wide(&self, name: Member) -> Result<u64, Cause>
+        ensures { IfOk result (IsNumberIn (field name (data_at self.now.value))) }
+    {
+        match number_in(self.needed(name)?) {
             Some(number) => Ok(number),
             None => Err(self.fault(name, WantedValue::Number(u64::MAX))),
         }
     }
 
-    /// A number of 64 bits, where there is one.
-    pub(crate) fn wide_if_any(&self, name: Member) -> Result<Option<u64>, Cause> {
-        if self.member(name).is_none() {
-            return Ok(None);
-        }
-        Ok(Some(self.wide(name)?))
-    }
-
     /// A number of 32 bits.
-    pub(crate) fn narrow(&self, name: Member) -> Result<u32, Cause> {
-        match narrow_in(self.member(name)) {
+    pub(crate) fn narrow(&self, name: Member) -> Result<u32, Cause>
+        ensures { IfOk result (IsNumberIn (field name (data_at self.now.value))) }
+    {
+        match narrow_in(self.needed(name)?) {
             Some(number) => Ok(number),
             None => Err(self.fault(name, WantedValue::Number(u64::from(u32::MAX)))),
         }
     }
 
     /// A handle.
-    pub(crate) fn handle(&self, name: Member) -> Result<HandleValue, Cause> {
+    pub(crate) fn handle(&self, name: Member) -> Result<HandleValue, Cause>
+        ensures { IfOk result (IsNumberIn (field name (data_at self.now.value))) }
+    {
         Ok(HandleValue(self.narrow(name)?))
     }
 
     /// A handle, or 0 where it is left out.
-    pub(crate) fn handle_or_none(&self, name: Member) -> Result<HandleValue, Cause> {
-        if self.member(name).is_none() {
+    pub(crate) fn handle_or_none(&self, name: Member) -> Result<HandleValue, Cause>
+        ensures { IfOk result (IsNumberOrNone (field name (data_at self.now.value))) }
+    {
+        if !self.has(name) {
             return Ok(HandleValue(0));
         }
         self.handle(name)
     }
 
+    /// A mask of rights.
+    pub(crate) fn rights(&self, name: Member) -> Result<u32, Cause>
+        ensures { IfOk result (IsMaskIn (field name (data_at self.now.value))) }
+    {
+        self.bits(name, BitNames::Rights)
+    }
+
     /// A mask of signals.
-    pub(crate) fn signals(&self, name: Member) -> Result<Signals, Cause> {
-        Ok(Signals(self.narrow(name)?))
+    pub(crate) fn signals(&self, name: Member) -> Result<Signals, Cause>
+        ensures { IfOk result (λ signals. IsMaskIn (field name (data_at self.now.value)) signals.0) }
+    {
+        Ok(Signals(self.bits(name, BitNames::Signals)?))
+    }
+
+    fn bits(&self, name: Member, names: BitNames) -> Result<u32, Cause>
+        ensures { IfOk result (IsMaskIn (field name (data_at self.now.value))) }
+    {
+        match bits_in(names, self.needed(name)?) {
+            Some(bits) => Ok(bits),
+            None => Err(self.fault(name, WantedValue::Mask)),
+        }
     }
 
     /// A signed number of 64 bits.
-    pub(crate) fn signed(&self, name: Member) -> Result<i64, Cause> {
-        match signed_in(self.member(name)) {
+    pub(crate) fn signed(&self, name: Member) -> Result<i64, Cause>
+        ensures { IfOk result (IsSignedIn (field name (data_at self.now.value))) }
+    {
+        match signed_in(self.needed(name)?) {
             Some(number) => Ok(number),
             None => Err(self.fault(name, WantedValue::SignedNumber)),
         }
     }
 
     /// True or false, where being left out is false.
-    pub(crate) fn flag(&self, name: Member) -> Result<bool, Cause> {
+    pub(crate) fn flag(&self, name: Member) -> Result<bool, Cause>
+        ensures { IfOk result (λ flag. flag_of (field name (data_at self.now.value)) ≡ Some flag) }
+    {
         match self.member(name) {
             None => Ok(false),
-            Some(Value::Bool(flag)) => Ok(*flag),
-            Some(_) => Err(self.fault(name, WantedValue::Flag)),
+            Some(value) => match value.as_bool() {
+                Some(flag) => Ok(flag),
+                None => Err(self.fault(name, WantedValue::Flag)),
+            },
         }
     }
 
@@ -133,22 +227,27 @@ impl<'a> Members<'a> {
         alloc: Global,
         name: Member,
     ) -> Result<Option<Items<u8>>, Cause> {
-        if self.member(name).is_none() {
-            return Ok(None);
+        match self.member(name) {
+            Some(value) => Ok(Some(Items::new(self.bytes_in(alloc, name, value)?))),
+            None => Ok(None),
         }
-        Ok(Some(Items::new(self.bytes(alloc, name)?)))
     }
 
     /// The bytes of a message; none, where they are left out.
-    pub(crate) fn bytes_or_none(&self, alloc: Global, name: Member) -> Result<Vec<u8>, Cause> {
-        if self.member(name).is_none() {
-            return Ok(Vec::new(alloc));
+    pub(crate) fn bytes_or_none(&self, alloc: Global, name: Member) -> Result<Vec<u8>, Cause>
+        ensures { IfOk result (λ bytes. AreBytes (field name (data_at self.now.value)) bytes.items) }
+    {
+        match self.member(name) {
+            Some(value) => self.bytes_in(alloc, name, value),
+            None => Ok(Vec::new(alloc)),
         }
-        self.bytes(alloc, name)
     }
 
-    fn bytes(&self, alloc: Global, name: Member) -> Result<Vec<u8>, Cause> {
-        let Some(Value::String(text)) = self.member(name) else {
+    /// The bytes that the value of this name writes.
+    fn bytes_in(&self, alloc: Global, name: Member, value: &Value) -> Result<Vec<u8>, Cause>
+        ensures { IfOk result (λ bytes. AreBytes (Some (view value.now)) bytes.items) }
+    {
+        let Some(text) = value.as_str() else {
             return Err(self.fault(name, WantedValue::Digits));
         };
         if text.len() / 2 > MESSAGE_BYTES {
@@ -162,8 +261,10 @@ impl<'a> Members<'a> {
     }
 
     /// The bytes of a user packet.
-    pub(crate) fn packet_bytes(&self, name: Member) -> Result<[u8; 32], Cause> {
-        let Some(Value::String(text)) = self.member(name) else {
+    pub(crate) fn packet_bytes(&self, name: Member) -> Result<[u8; 32], Cause>
+        ensures { IfOk result (ArePacketBytes (field name (data_at self.now.value))) }
+    {
+        let Some(text) = self.needed(name)?.as_str() else {
             return Err(self.fault(name, WantedValue::PacketDigits));
         };
         match <[u8; 32] as FromHex>::from_hex(text.as_bytes()) {
@@ -173,17 +274,32 @@ impl<'a> Members<'a> {
     }
 
     /// The handles of a list; none, where it is left out.
-    pub(crate) fn handles(&self, alloc: Global, name: Member) -> Result<Vec<HandleValue>, Cause> {
-        let mut handles = Vec::new(alloc);
+    pub(crate) fn handles(&self, alloc: Global, name: Member) -> Result<Vec<HandleValue>, Cause>
+        ensures { IfOk result (λ handles. AreHandles (field name (data_at self.now.value)) handles.items) }
+    {
         let Some(value) = self.member(name) else {
-            return Ok(handles);
+            return Ok(Vec::new(alloc));
         };
-        let Value::Array(list) = value else {
+        let Some(list) = value.as_array() else {
             return Err(self.fault(name, WantedValue::List));
         };
         if list.len() > MESSAGE_HANDLES {
             return Err(self.fault(name, WantedValue::AtMost(MESSAGE_HANDLES)));
         }
+        let handles = self.handles_in(alloc, name, list)?;
+        Ok(handles)
+    }
+
+    /// The handles that the values of a list are.
+    fn handles_in(
+        &self,
+        alloc: Global,
+        name: Member,
+        list: &Vec<Value>,
+    ) -> Result<Vec<HandleValue>, Cause>
+        ensures { IfOk result (λ handles. AreNumbersOf list.now.items handles.items) }
+    {
+        let mut handles = Vec::new(alloc);
         for item in 0..list.len() {
             let handle = self.handle_in(name, item, &list[item])?;
             push_handle(&mut handles, handle)?;
@@ -192,15 +308,14 @@ impl<'a> Members<'a> {
     }
 
     /// The handle that is this item of a list.
-    fn handle_in(&self, name: Member, item: usize, value: &Value) -> Result<HandleValue, Cause> {
-        match narrow_in(Some(value)) {
+    fn handle_in(&self, name: Member, item: usize, value: &Value) -> Result<HandleValue, Cause>
+        ensures { IfOk result (IsNumber (view value.now)) }
+    {
+        match narrow_in(value) {
             Some(number) => Ok(HandleValue(number)),
             None => {
-                let place = Place {
-                    object: self.object,
-                    member: name,
-                    item: Some(item),
-                };
+                let mut place = self.place(name);
+                place.item = Some(item);
                 let wanted = WantedValue::Number(u64::from(u32::MAX));
                 Err(Cause::Member { place, wanted })
             }
@@ -208,43 +323,12 @@ impl<'a> Members<'a> {
     }
 }
 
-fn push_handle(handles: &mut Vec<HandleValue>, handle: HandleValue) -> Result<(), Cause> {
+/// One handle more.
+pub(crate) fn push_handle(handles: &mut Vec<HandleValue>, handle: HandleValue) -> Result<(), Cause>
+    ensures { OnOk result (handles.new.items ≡ handles.old.items ++ handle ∷ []) }
+{
     match handles.push(handle) {
         Ok(()) => Ok(()),
         Err(_) => Err(Cause::OutOfMemory),
     }
-}
-
-/// The number that a value is: one of JSON without a fraction, or a text of `0x` and digits.
-fn number_in(value: Option<&Value>) -> Option<u64> {
-    match value {
-        Some(Value::Number(number)) => number.as_u64(),
-        Some(Value::String(text)) => hexadecimal(text.as_str()),
-        _ => None,
-    }
-}
-
-/// The number of 32 bits that a value is.
-fn narrow_in(value: Option<&Value>) -> Option<u32> {
-    match number_in(value) {
-        Some(number) => u32::try_from(number).ok(),
-        None => None,
-    }
-}
-
-/// The signed number that a value is.
-fn signed_in(value: Option<&Value>) -> Option<i64> {
-    match value {
-        Some(Value::Number(number)) => number.as_i64(),
-        _ => None,
-    }
-}
-
-/// The number that `0x` and 1 to 16 digits write.
-fn hexadecimal(text: &str) -> Option<u64> {
-    let digits = text.strip_prefix("0x")?;
-    if !digits.bytes().all(|byte| byte.is_ascii_hexdigit()) {
-        return None;
-    }
-    u64::from_str_radix(digits, 16).ok()
 }

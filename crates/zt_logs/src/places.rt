@@ -1,3 +1,7 @@
+ghost use Rattle.std.specs.Prelude.{◌≡◌};
+ghost use Rattle.std.specs.Option.{option_map};
+ghost use Rattle.zt_logs.specs.Members.{first_name, second_name};
+
 use std::fmt;
 
 /// Where a member of a line stands.
@@ -5,6 +9,8 @@ use std::fmt;
 pub struct Place {
     pub object: LineObject,
     pub member: Member,
+    /// Whether it stands there by its second name.
+    pub is_second: bool,
     /// Which item of a list it is.
     pub item: Option<usize>,
 }
@@ -15,9 +21,13 @@ pub enum LineObject {
     /// The line itself.
     Line,
     Args,
+    /// The packet in the arguments of one who queues it.
+    QueuedPacket,
     Out,
     /// The packet in what a wait got.
     Packet,
+    /// The signals of that packet.
+    PacketSignals,
 }
 
 /// The members that lines have.
@@ -29,55 +39,101 @@ pub enum Member {
     Status,
     Out,
     Handle,
+    /// The handle of a job or process that is killed.
+    Task,
+    /// The handle of a process that is made critical.
+    CriticalProcess,
     Handles,
+    /// How many handles there is room for.
+    HandleRoom,
+    /// The handle of a call that gives one.
+    OnlyHandle,
+    FirstHandle,
+    SecondHandle,
     Bytes,
+    /// How many bytes there is room for.
+    ByteRoom,
+    /// The bytes of a user packet.
+    PacketBytes,
     Rights,
     Clear,
     Set,
     Signals,
     Edge,
     Discard,
+    Options,
     Port,
+    /// The port of a call whose first argument it is.
+    CalledPort,
     Source,
     Key,
     Packet,
     Job,
+    /// The job under which another is made.
+    ParentJob,
     Argument,
     Code,
     Type,
+    /// The object of what a wait saw.
+    Signal,
     Trigger,
     Observed,
 }
 
 impl Member {
     /// The name by which a line has it.
-    pub fn name(self) -> &'static str {
+    pub fn name(self) -> &'static str
+        ensures { result.now ≡ first_name self }
+    {
         match self {
             Member::Process => "process",
             Member::Call => "call",
             Member::Args => "args",
             Member::Status => "status",
-            Member::Out => "out",
-            Member::Handle => "handle",
-            Member::Handles => "handles",
-            Member::Bytes => "bytes",
+            Member::Out | Member::OnlyHandle => "out",
+            Member::Handle | Member::Task | Member::CriticalProcess => "handle",
+            Member::Handles | Member::HandleRoom => "handles",
+            Member::FirstHandle => "out0",
+            Member::SecondHandle => "out1",
+            Member::Bytes | Member::ByteRoom | Member::PacketBytes => "bytes",
             Member::Rights => "rights",
             Member::Clear => "clear",
             Member::Set => "set",
             Member::Signals => "signals",
             Member::Edge => "edge",
             Member::Discard => "discard",
-            Member::Port => "port",
+            Member::Options => "options",
+            Member::Port | Member::CalledPort => "port",
             Member::Source => "source",
             Member::Key => "key",
             Member::Packet => "packet",
-            Member::Job => "job",
+            Member::Job | Member::ParentJob => "job",
             Member::Argument => "argument",
             Member::Code => "code",
             Member::Type => "type",
+            Member::Signal => "signal",
             Member::Trigger => "trigger",
             Member::Observed => "observed",
         }
+    }
+
+    /// The second name by which a line may have it: that of the system's reference.
+    pub fn second_name(self) -> Option<&'static str>
+        ensures { option_map (λ name. name.now) result ≡ second_name self }
+    {
+        Some(match self {
+            Member::Task => "task",
+            Member::CriticalProcess => "process",
+            Member::HandleRoom => "num_handles",
+            Member::ByteRoom => "num_bytes",
+            Member::PacketBytes => "user",
+            Member::Clear => "clear_mask",
+            Member::Set => "set_mask",
+            Member::CalledPort => "handle",
+            Member::ParentJob => "parent_job",
+            Member::Code => "retcode",
+            _ => return None,
+        })
     }
 }
 
@@ -87,15 +143,30 @@ impl LineObject {
         match self {
             LineObject::Line => "",
             LineObject::Args => "args.",
+            LineObject::QueuedPacket => "args.packet.",
             LineObject::Out => "out.",
             LineObject::Packet => "out.packet.",
+            LineObject::PacketSignals => "out.packet.signal.",
+        }
+    }
+}
+
+impl Place {
+    /// The name by which the member stands there.
+    fn name(&self) -> &'static str {
+        if !self.is_second {
+            return self.member.name();
+        }
+        match self.member.second_name() {
+            Some(second) => second,
+            None => self.member.name(),
         }
     }
 }
 
 impl fmt::Display for Place {
     fn fmt<W: fmt::Write>(&self, f: &mut fmt::Formatter<W>) -> fmt::Result {
-        write!(f, "{}{}", self.object.prefix(), self.member.name())?;
+        write!(f, "{}{}", self.object.prefix(), self.name())?;
         match self.item {
             Some(item) => write!(f, "[{item}]"),
             None => Ok(()),

@@ -1,21 +1,31 @@
-use crate::call_names::CallName;
+ghost use Rattle.std.specs.Prelude.{◌≡◌, IfOk};
+ghost use Rattle.zt_logs.specs.Members.{field, data_at};
+ghost use Rattle.zt_logs.specs.declared.places.Member.TheVariants as member;
+ghost use Rattle.zt_logs.specs.Answered.{IsOnlyGiven, AreBothGiven, AreGivenBy, IsAnswered, first_word, other_word, first_name_of, other_name_of, status_of};
+
+use crate::call_names::{CallName, is};
 use crate::faults::{Cause, WantedValue};
 use crate::logged::{LoggedPacket, RecordedReply};
-use crate::members::Members;
+use crate::members::{Members, push_handle};
 use crate::places::{LineObject, Member};
+use crate::process_names::{NamedPlace, Naming};
 use std::alloc::Global;
 use zt_bits::Status;
-use zt_rows::Items;
+use zt_rows::{HandleValue, Items};
 
-/// What a line says that the call of this name answered.
+/// What a line says that the call of this name answered, which has this place among the calls of the log.
 pub(crate) fn recorded_of(
     alloc: Global,
     name: CallName,
     line: &Members<'_>,
-) -> Result<RecordedReply, Cause> {
+    naming: &mut Naming,
+    call: usize,
+) -> Result<RecordedReply, Cause>
+    ensures { IfOk result (λ recorded. IsAnswered name (data_at line.now.value) recorded.status recorded.handles) }
+{
     let status = status_of(line.text(Member::Status)?);
     let out = line.object(Member::Out, LineObject::Out)?;
-    if status != Some(Status::Ok) {
+    let Some(Status::Ok) = status else {
         return Ok(RecordedReply {
             status,
             handles: Items::new(Vec::new(alloc)),
@@ -23,16 +33,16 @@ pub(crate) fn recorded_of(
             packet: None,
             process: None,
         });
-    }
+    };
     let packet = match name {
         CallName::PortWait => packet_of(&out)?,
         _ => None,
     };
     let process = match name {
-        CallName::Spawn => out.wide_if_any(Member::Process)?,
+        CallName::Spawn => made_process(&out, naming, call)?,
         _ => None,
     };
-    let handles = out.handles(alloc, Member::Handles)?;
+    let handles = given_handles(alloc, name, &out)?;
     let bytes = match name {
         CallName::ChannelRead => out.bytes_if_any(alloc, Member::Bytes)?,
         _ => None,
@@ -46,6 +56,71 @@ pub(crate) fn recorded_of(
     })
 }
 
+/// The process that a call made, where the line has it.
+fn made_process(out: &Members<'_>, naming: &mut Naming, call: usize) -> Result<Option<u64>, Cause> {
+    match out.process_if_any(Member::Process)? {
+        Some(process) => Ok(Some(naming.number(NamedPlace::Made(call), process)?)),
+        None => Ok(None),
+    }
+}
+
+/// The handles that a call of this name gave: a list, or each by its own name.
+fn given_handles(
+    alloc: Global,
+    name: CallName,
+    out: &Members<'_>,
+) -> Result<Vec<HandleValue>, Cause>
+    ensures { IfOk result (λ handles. AreGivenBy (field member.Handles (data_at out.now.value)) name (data_at out.now.value) handles.items) }
+{
+    if out.has(Member::Handles) {
+        return out.handles(alloc, Member::Handles);
+    }
+    match name {
+        CallName::EventCreate
+        | CallName::PortCreate
+        | CallName::HandleDuplicate
+        | CallName::HandleReplace
+        | CallName::JobCreate => only_handle(alloc, out),
+        CallName::EventPairCreate | CallName::ChannelCreate => both_handles(alloc, out),
+        CallName::HandleClose
+        | CallName::ObjectSignal
+        | CallName::ObjectSignalPeer
+        | CallName::ChannelWrite
+        | CallName::ChannelRead
+        | CallName::ObjectWaitAsync
+        | CallName::PortQueue
+        | CallName::PortWait
+        | CallName::PortCancel
+        | CallName::Spawn
+        | CallName::JobSetCritical
+        | CallName::TaskKill
+        | CallName::ProcessExit => Ok(Vec::new(alloc)),
+    }
+}
+
+/// The one handle that a call gave, where the line has it.
+fn only_handle(alloc: Global, out: &Members<'_>) -> Result<Vec<HandleValue>, Cause>
+    ensures { IfOk result (λ handles. IsOnlyGiven (field member.OnlyHandle (data_at out.now.value)) handles.items) }
+{
+    let mut handles = Vec::new(alloc);
+    if out.has(Member::OnlyHandle) {
+        push_handle(&mut handles, out.handle(Member::OnlyHandle)?)?;
+    }
+    Ok(handles)
+}
+
+/// The two handles that a call gave, where the line has one of them.
+fn both_handles(alloc: Global, out: &Members<'_>) -> Result<Vec<HandleValue>, Cause>
+    ensures { IfOk result (λ handles. AreBothGiven (field member.FirstHandle (data_at out.now.value)) (field member.SecondHandle (data_at out.now.value)) handles.items) }
+{
+    let mut handles = Vec::new(alloc);
+    if out.has(Member::FirstHandle) || out.has(Member::SecondHandle) {
+        push_handle(&mut handles, out.handle(Member::FirstHandle)?)?;
+        push_handle(&mut handles, out.handle(Member::SecondHandle)?)?;
+    }
+    Ok(handles)
+}
+
 /// The packet that a wait got, where the line has it.
 fn packet_of(out: &Members<'_>) -> Result<Option<LoggedPacket>, Cause> {
     if !out.has(Member::Packet) {
@@ -54,66 +129,134 @@ fn packet_of(out: &Members<'_>) -> Result<Option<LoggedPacket>, Cause> {
     let packet = out.object(Member::Packet, LineObject::Packet)?;
     let key = packet.wide(Member::Key)?;
     match packet.text(Member::Type)? {
-        "user" => {
-            let bytes = packet.packet_bytes(Member::Bytes)?;
+        "user" | "ZX_PKT_TYPE_USER" => {
+            let bytes = packet.packet_bytes(Member::PacketBytes)?;
             Ok(Some(LoggedPacket::User { key, bytes }))
         }
-        "signal" => {
-            let trigger = packet.signals(Member::Trigger)?;
-            let observed = packet.signals(Member::Observed)?;
-            Ok(Some(LoggedPacket::Signal {
-                key,
-                trigger,
-                observed,
-            }))
-        }
+        "signal" | "ZX_PKT_TYPE_SIGNAL_ONE" => Ok(Some(signal_packet(&packet, key)?)),
         _ => Err(packet.fault(Member::Type, WantedValue::PacketType)),
     }
 }
 
+/// What a packet of this key says that a wait saw, in the packet itself or in an object within it.
+fn signal_packet(packet: &Members<'_>, key: u64) -> Result<LoggedPacket, Cause> {
+    let seen = if packet.has(Member::Signal) {
+        packet.object(Member::Signal, LineObject::PacketSignals)?
+    } else {
+        *packet
+    };
+    let trigger = seen.signals(Member::Trigger)?;
+    let observed = seen.signals(Member::Observed)?;
+    Ok(LoggedPacket::Signal {
+        key,
+        trigger,
+        observed,
+    })
+}
+
 /// The status of a word, or of the name that the kernel's interface has for it.
-fn status_of(text: &str) -> Option<Status> {
-    match text.strip_prefix("ZX_ERR_") {
-        Some(name) => status_named(name),
-        None => status_word(text),
+fn status_of(text: &str) -> Option<Status>
+    ensures { result ≡ status_of text.now }
+{
+    let bytes = text.as_bytes();
+    match bytes.strip_prefix(b"ZX_ERR_") {
+        Some(name) => first_name_of(name).or_else(|| other_name_of(name)),
+        None => first_word(bytes).or_else(|| other_word(bytes)),
     }
 }
 
-fn status_word(word: &str) -> Option<Status> {
-    Some(match word {
-        "ok" | "ZX_OK" => Status::Ok,
-        "bad_handle" => Status::BadHandle,
-        "wrong_type" => Status::WrongType,
-        "access_denied" => Status::AccessDenied,
-        "invalid_args" => Status::InvalidArgs,
-        "not_supported" => Status::NotSupported,
-        "peer_closed" => Status::PeerClosed,
-        "should_wait" => Status::ShouldWait,
-        "buffer_too_small" => Status::BufferTooSmall,
-        "timed_out" => Status::TimedOut,
-        "bad_state" => Status::BadState,
-        "out_of_range" => Status::OutOfRange,
-        "not_found" => Status::NotFound,
-        "already_bound" => Status::AlreadyBound,
-        _ => return None,
-    })
+/// The statuses of most calls by their words.
+#[tactic(auto, unfolding(crate::specs::Answered::first_word))]
+fn first_word(text: &[u8]) -> Option<Status>
+    ensures { result ≡ first_word text.now }
+{
+    if is(text, b"ok") {
+        Some(Status::Ok)
+    } else if is(text, b"ZX_OK") {
+        Some(Status::Ok)
+    } else if is(text, b"bad_handle") {
+        Some(Status::BadHandle)
+    } else if is(text, b"wrong_type") {
+        Some(Status::WrongType)
+    } else if is(text, b"access_denied") {
+        Some(Status::AccessDenied)
+    } else if is(text, b"invalid_args") {
+        Some(Status::InvalidArgs)
+    } else if is(text, b"not_supported") {
+        Some(Status::NotSupported)
+    } else {
+        None
+    }
 }
 
-fn status_named(name: &str) -> Option<Status> {
-    Some(match name {
-        "BAD_HANDLE" => Status::BadHandle,
-        "WRONG_TYPE" => Status::WrongType,
-        "ACCESS_DENIED" => Status::AccessDenied,
-        "INVALID_ARGS" => Status::InvalidArgs,
-        "NOT_SUPPORTED" => Status::NotSupported,
-        "PEER_CLOSED" => Status::PeerClosed,
-        "SHOULD_WAIT" => Status::ShouldWait,
-        "BUFFER_TOO_SMALL" => Status::BufferTooSmall,
-        "TIMED_OUT" => Status::TimedOut,
-        "BAD_STATE" => Status::BadState,
-        "OUT_OF_RANGE" => Status::OutOfRange,
-        "NOT_FOUND" => Status::NotFound,
-        "ALREADY_BOUND" => Status::AlreadyBound,
-        _ => return None,
-    })
+/// The others.
+#[tactic(auto, unfolding(crate::specs::Answered::other_word))]
+fn other_word(text: &[u8]) -> Option<Status>
+    ensures { result ≡ other_word text.now }
+{
+    if is(text, b"peer_closed") {
+        Some(Status::PeerClosed)
+    } else if is(text, b"should_wait") {
+        Some(Status::ShouldWait)
+    } else if is(text, b"buffer_too_small") {
+        Some(Status::BufferTooSmall)
+    } else if is(text, b"timed_out") {
+        Some(Status::TimedOut)
+    } else if is(text, b"bad_state") {
+        Some(Status::BadState)
+    } else if is(text, b"out_of_range") {
+        Some(Status::OutOfRange)
+    } else if is(text, b"not_found") {
+        Some(Status::NotFound)
+    } else if is(text, b"already_bound") {
+        Some(Status::AlreadyBound)
+    } else {
+        None
+    }
+}
+
+/// Those of most calls by their names.
+#[tactic(auto, unfolding(crate::specs::Answered::first_name_of))]
+fn first_name_of(text: &[u8]) -> Option<Status>
+    ensures { result ≡ first_name_of text.now }
+{
+    if is(text, b"BAD_HANDLE") {
+        Some(Status::BadHandle)
+    } else if is(text, b"WRONG_TYPE") {
+        Some(Status::WrongType)
+    } else if is(text, b"ACCESS_DENIED") {
+        Some(Status::AccessDenied)
+    } else if is(text, b"INVALID_ARGS") {
+        Some(Status::InvalidArgs)
+    } else if is(text, b"NOT_SUPPORTED") {
+        Some(Status::NotSupported)
+    } else if is(text, b"PEER_CLOSED") {
+        Some(Status::PeerClosed)
+    } else {
+        None
+    }
+}
+
+/// The others.
+#[tactic(auto, unfolding(crate::specs::Answered::other_name_of))]
+fn other_name_of(text: &[u8]) -> Option<Status>
+    ensures { result ≡ other_name_of text.now }
+{
+    if is(text, b"SHOULD_WAIT") {
+        Some(Status::ShouldWait)
+    } else if is(text, b"BUFFER_TOO_SMALL") {
+        Some(Status::BufferTooSmall)
+    } else if is(text, b"TIMED_OUT") {
+        Some(Status::TimedOut)
+    } else if is(text, b"BAD_STATE") {
+        Some(Status::BadState)
+    } else if is(text, b"OUT_OF_RANGE") {
+        Some(Status::OutOfRange)
+    } else if is(text, b"NOT_FOUND") {
+        Some(Status::NotFound)
+    } else if is(text, b"ALREADY_BOUND") {
+        Some(Status::AlreadyBound)
+    } else {
+        None
+    }
 }

@@ -31,6 +31,12 @@ pub enum Fault {
     /// The log is not taken.
     #[error("zxtt-import: {0}")]
     Log(LogFault),
+    /// A process that the log has by a name is spawned, and was there before.
+    #[error("zxtt-import: line {line}: process {name} is spawned and was there before")]
+    SpawnedTwice { line: u64, name: String },
+    /// The import is strict, and something of the log is left out.
+    #[error("zxtt-import: {0}")]
+    LeftOut(String),
     /// Memory was refused.
     #[error("zxtt-import: out of memory")]
     OutOfMemory,
@@ -57,7 +63,8 @@ impl Fault {
             Fault::Unopened { .. } => 3,
             Fault::Read => 4,
             Fault::Write | Fault::Unwritten { .. } => 5,
-            Fault::Log(_) | Fault::OutOfMemory => 6,
+            Fault::Log(_) | Fault::SpawnedTwice { .. } | Fault::LeftOut(_) | Fault::OutOfMemory =>
+                6,
             Fault::Differs => 7,
         }
     }

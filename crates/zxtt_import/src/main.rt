@@ -8,10 +8,14 @@ mod words;
 
 use faults::Fault;
 use files::{read, write};
+use std::alloc::AllocError;
 use std::process::ExitCode;
 use words::{Asked, Words};
-use zt_import::{Imported, import, print_difference, trace_text};
-use zt_logs::{CallLog, read_log};
+use zt_import::{
+    Imported, adopted_in, calls_in, import, pairs_in, print_difference, print_skipped,
+    skips_handles, trace_text,
+};
+use zt_logs::{CallLog, Cause, LogFault, read_log};
 
 fn main(rt: HostRuntime) -> ExitCode {
     let words = match Words::of(&rt) {
@@ -40,36 +44,91 @@ fn ended(rt: &HostRuntime, done: &Result<(), Fault>) -> ExitCode {
 fn make_trace(rt: &HostRuntime, asked: &Asked<'_>) -> Result<(), Fault> {
     let text = read(rt, asked.log, asked.to)?;
     let log = read_log(rt.alloc(), text.as_slice())?;
-    let imported = import(rt.alloc(), log.calls.as_slice(), asked.is_strict)?;
-    tell_differences(rt, &log, &imported)?;
-    if asked.is_strict && imported.differs() {
+    tell_notes(rt, &log, asked.is_strict)?;
+    let imported = match import(rt.alloc(), log.calls.as_slice()) {
+        Ok(imported) => imported,
+        Err(fault) => return Err(fault_of(rt, &log, fault)?),
+    };
+    tell_differences(rt, &log, &imported, asked.is_strict)?;
+    let lacks = tell_skipped(rt, &log)?;
+    if asked.is_strict && (imported.differs() || lacks) {
         return Err(Fault::Differs);
     }
-    let trace = trace_text(rt.alloc(), log.calls.as_slice(), &imported)?;
+    let trace = trace_text(rt.alloc(), &log, &imported)?;
     write(rt, asked.to, trace.as_slice())?;
     tell_counts(rt, &log, &imported);
     Ok(())
 }
 
-/// Tells the differences, a line each.
-fn tell_differences(rt: &HostRuntime, log: &CallLog, imported: &Imported) -> Result<(), Fault> {
-    for difference in imported.differences() {
-        let line = print_difference(rt.alloc(), log.calls.as_slice(), imported, difference)?;
-        let _ = eprintln!(rt; "{line}");
+/// Tells what of the log is left out, a line each. Where the import is strict the first ends it.
+fn tell_notes(rt: &HostRuntime, log: &CallLog, is_strict: bool) -> Result<(), Fault> {
+    for note in log.notes.told() {
+        if is_strict {
+            return Err(Fault::LeftOut(format!(in rt.alloc(); "{note}")?));
+        }
+        let _ = eprintln!(rt; "{note}");
+    }
+    let more = log
+        .notes
+        .count()
+        .saturating_sub(log.notes.told().len() as u64);
+    if more > 0 {
+        let _ = eprintln!(rt; "and {more} more left out");
     }
     Ok(())
 }
 
+/// What ended the import, with the name of the process at fault, where the log has it by one.
+fn fault_of(rt: &HostRuntime, log: &CallLog, fault: LogFault) -> Result<Fault, AllocError> {
+    let Cause::SpawnedTwice(process) = fault.cause else {
+        return Ok(Fault::Log(fault));
+    };
+    match log.names.shown(process) {
+        Some(shown) => Ok(Fault::SpawnedTwice {
+            line: fault.line,
+            name: String::from_str(rt.alloc(), shown)?,
+        }),
+        None => Ok(Fault::Log(fault)),
+    }
+}
+
+/// Tells the differences, a line each; where it is strict, up to the first that is not by the schedule.
+fn tell_differences(
+    rt: &HostRuntime,
+    log: &CallLog,
+    imported: &Imported,
+    is_strict: bool,
+) -> Result<(), Fault> {
+    for difference in imported.differences() {
+        let line = print_difference(rt.alloc(), log.calls.as_slice(), imported, difference)?;
+        let _ = eprintln!(rt; "{line}");
+        if is_strict && !difference.by_schedule {
+            return Ok(());
+        }
+    }
+    Ok(())
+}
+
+/// Tells which calls were skipped, if any were, and whether one of them names a handle that its process has in the log.
+fn tell_skipped(rt: &HostRuntime, log: &CallLog) -> Result<bool, Fault> {
+    if log.skipped.is_empty() {
+        return Ok(false);
+    }
+    let line = print_skipped(rt.alloc(), log.calls.as_slice(), log.skipped.as_slice())?;
+    let _ = eprintln!(rt; "{line}");
+    Ok(skips_handles(rt.alloc(), log.calls.as_slice(), log.skipped.as_slice())?)
+}
+
 /// Tells how many lines and calls there were, and how many replies differ.
 fn tell_counts(rt: &HostRuntime, log: &CallLog, imported: &Imported) {
-    let calls = log.calls.len();
+    let calls = calls_in(imported.trail());
     let lines = log.lines;
-    let skipped = log.skipped;
-    let asked = imported.trail().len();
-    let adopted = asked.saturating_sub(calls);
+    let skipped = log.skipped.len();
+    let adopted = adopted_in(imported.trail());
+    let pairs = pairs_in(imported.trail());
     let differing = imported.count();
     let scheduled = imported.by_schedule();
     let _ = eprintln!(rt;
-        "zxtt-import: {calls} calls of {lines} lines, {skipped} skipped, {adopted} adopted; {differing} differences, {scheduled} of them by the schedule"
+        "zxtt-import: {calls} calls of {lines} lines, {skipped} skipped, {adopted} adopted, {pairs} pairs by their messages; {differing} differences, {scheduled} of them by the schedule"
     );
 }

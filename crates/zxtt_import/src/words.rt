@@ -28,7 +28,7 @@ fn to_help() -> &'static str {
 
 /// What the word `strict` does.
 fn strict_help() -> &'static str {
-    "Ends with status 7 at the first reply that differs, and writes nothing"
+    "Ends where something is left out, or at the first reply that differs; writes nothing"
 }
 
 /// What is said behind the words.
@@ -38,8 +38,9 @@ fn statuses<'a>() -> &'a str {
   2  the words were not accepted, or help was asked for
   3  a file could not be opened
   4  the log could not be read        5  the trace could not be written
-  6  a line of the log is at fault, or memory was refused
-  7  with --strict, a reply differs"
+  6  a line of the log is at fault, or memory was refused; with --strict, something is
+     left out
+  7  with --strict, a reply differs, or a skipped call names a handle of the log"
 }
 
 /// The words that the program was started with.

@@ -1,17 +1,22 @@
 -- What holds of the calls that were asked of a history, and what one more of them leaves.
-use Rattle.std.specs.Prelude.{◌≡◌, ℕ, suc, ◌^◌, ◌<◌, List, [], ◌∷◌, ◌++◌, length, take, count_by, Option, Some, None, Ok}
-use Rattle.std.specs.Option.{option_to_list}
+use Rattle.std.specs.Prelude.{◌≡◌, ◌==◌, ℕ, suc, ◌^◌, ◌<◌, Bool, true, false, nat_eq, List, [], ◌∷◌, ◌++◌, length, take, count_by, Option, Some, None, Ok, unwrap_or, if◌then◌else◌}
+use Rattle.std.specs.declared.hash.FoldHasher.{FoldHasher}
+use Rattle.std.specs.declared.hash.BuildHasherDefault.{BuildHasherDefault}
+use Rattle.std.specs.HashMap.{get, HashMap}
+use Rattle.std.specs.List.{cons_option}
 use Rattle.zt_rows.specs.declared.calls.Answer.TheVariants as answer
 use Rattle.zt_rows.specs.declared.calls.Call.{Call}
 use Rattle.zt_rows.specs.declared.calls.Reply.{Reply}
 use Rattle.zt_history.specs.HistoryRefusals.{call_on}
-use Rattle.zt_history.specs.Tree.{Tree}
+use Rattle.zt_history.specs.Tree.{Made, Tree}
 use Rattle.zt_book.specs.Log.{loaded}
 use Rattle.zt_logs.specs.declared.logged.LoggedCall.{LoggedCall}
 use Rattle.zt_import.specs.declared.trail.Difference.{Difference}
+use Rattle.zt_import.specs.declared.trail.Origin.{Origin}
+use Rattle.zt_import.specs.declared.trail.Origin.TheVariants as origin
 use Rattle.zt_import.specs.declared.trail.TrailStep.{TrailStep}
 use Rattle.zt_import.specs.Imports.{Import}
-use Rattle.zt_import.specs.Trails.{calls_of, number_in, numbers_in, moments_in, moments_to, difference_at, differences_of, IsMadeBy, AreMadeBy}
+use Rattle.zt_import.specs.Trails.{calls_of, number_in, numbers_in, moments_in, below, moments_to, pair_by, stands_for, IsMadeBy, AreMadeBy}
 
 pub record TakenView : Type 0 where
   pub tree : Tree
@@ -22,25 +27,73 @@ pub record IsTakenTrail (tree : Tree) (trail : List TrailStep) : Type 0 where
   pub main : 0 < length tree.branches
   pub moments : moments_in trail ≡ moments_to (length tree.made)
 
--- one step more, by which what differed before differs still
+-- ---- the processes that stand for those of the log
+
+-- behind the steps of a trail, given those before
+abbrev pub pairs_after : List LoggedCall → List Made → List (ℕ × ℕ) → List TrailStep → List (ℕ × ℕ)
+pairs_after calls made pairs [] = pairs
+pairs_after calls made pairs (step ∷ trail) = pairs_after calls made (cons_option (pair_by calls made step) pairs) trail
+
+abbrev pub pairs_in : List LoggedCall → TakenView → List (ℕ × ℕ)
+pairs_in calls view = pairs_after calls view.tree.made [] view.trail
+
+-- processes by their numbers in the log
+abbrev pub Processes : Type 0
+Processes = HashMap ℕ ℕ (BuildHasherDefault FoldHasher)
+
+-- the one of a number; 0, which is none, where there is none
+abbrev pub process_in : Processes → ℕ → ℕ
+process_in processes number = unwrap_or (get nat_eq processes number) 0
+
+-- they are those that stand for the log's
+abbrev pub Knows : List LoggedCall → TakenView → Processes → Type 0
+Knows calls view processes = (number : ℕ) → process_in processes number ≡ stands_for (pairs_in calls view) number
+
+-- they are those before, with a pair more, if there is one
+abbrev pub learned : Option (ℕ × ℕ) → (ℕ → ℕ) → ℕ → ℕ
+learned None before number = before number
+learned (Some pair) before number = if pair.0 == number then pair.1 else before number
+
+abbrev pub Learns : Processes → Processes → Option (ℕ × ℕ) → Type 0
+Learns old new pair = (number : ℕ) → process_in new number ≡ learned pair (process_in old) number
+
+-- ---- steps more
+
+-- a step neither is a call of the log nor makes a process for one
+abbrev pub is_beside : Origin → Bool
+is_beside (origin.Logged number) = false
+is_beside (origin.Adopted number) = false
+is_beside _ = true
+
+-- one step more
 pub record IsOneStepMore (old new : TakenView) (step : TrailStep) : Type 0 where
   pub trail : new.trail ≡ old.trail ++ step ∷ []
-  pub differences : (calls : List LoggedCall) → differences_of calls new.tree.made new.trail
-      ≡ differences_of calls old.tree.made old.trail ++ option_to_list (difference_at calls new.tree.made step)
-  pub made : (calls : List LoggedCall) → AreMadeBy calls old.tree.made old.trail
-      → IsMadeBy calls new.tree.made (number_in step.origin) step.moment → AreMadeBy calls new.tree.made new.trail
+  pub made : (calls : List LoggedCall) → AreMadeBy calls old.tree.made [] old.trail
+      → IsMadeBy calls new.tree.made (pairs_in calls old) (number_in step.origin) step.moment → AreMadeBy calls new.tree.made [] new.trail
+  pub pairs : (calls : List LoggedCall) → pairs_in calls new ≡ cons_option (pair_by calls new.tree.made step) (pairs_in calls old)
 
--- steps more, none of which is a call of the log
+-- steps more, all of them beside
 pub record IsAside (old new : TakenView) : Type 0 where
   pub numbers : numbers_in new.trail ≡ numbers_in old.trail
-  pub differences : (calls : List LoggedCall) → differences_of calls new.tree.made new.trail
-      ≡ differences_of calls old.tree.made old.trail
-  pub made : (calls : List LoggedCall) → AreMadeBy calls old.tree.made old.trail → AreMadeBy calls new.tree.made new.trail
+  pub made : (calls : List LoggedCall) → AreMadeBy calls old.tree.made [] old.trail → AreMadeBy calls new.tree.made [] new.trail
+  pub pairs : (calls : List LoggedCall) → pairs_in calls new ≡ pairs_in calls old
 
--- this call was made at this moment, or none
-abbrev pub IsCallAt : Tree → Tree → Call → Option ℕ → Type 0
-IsCallAt old new call None = new ≡ old
-IsCallAt old new call (Some moment) = (process : ℕ) × (reply : Reply) × (call_on old 0 process call ≡ Ok (answer.Called moment reply, new))
+-- steps more, none of which is a call of the log; the processes that they make for it are known
+pub record IsAdopting (old new : TakenView) (before after : Processes) : Type 0 where
+  pub numbers : numbers_in new.trail ≡ numbers_in old.trail
+  pub made : (calls : List LoggedCall) → AreMadeBy calls old.tree.made [] old.trail → AreMadeBy calls new.tree.made [] new.trail
+  pub known : (calls : List LoggedCall) → Knows calls old before → Knows calls new after
+
+-- the calls of the log before this number were asked, each as itself
+pub record HasRun (calls : List LoggedCall) (number : ℕ) (view : TakenView) (processes : Processes) : Type 0 where
+  pub numbers : numbers_in view.trail ≡ below number
+  pub made : AreMadeBy calls view.tree.made [] view.trail
+  pub known : Knows calls view processes
+
+-- this call was made at this moment by this process, or none
+abbrev pub IsCallAt : Tree → Tree → ℕ → Call → Option ℕ → Type 0
+IsCallAt old new process call None = new ≡ old
+IsCallAt old new process call (Some moment) = (reply : Reply) × (call_on old 0 process call ≡ Ok (answer.Called moment reply, new))
 
 -- ---- what is compared
 

@@ -1,0 +1,23 @@
+-- Which steps of a trail are in the trace, as lines of the log or beside them. This project's own.
+use Rattle.std.specs.Prelude.{Bool, false, not, ◌&&◌, is_some}
+use Rattle.zt_import.specs.declared.trail.Origin.{Origin}
+use Rattle.zt_import.specs.declared.trail.Origin.TheVariants as origin
+use Rattle.zt_import.specs.declared.trail.TrailStep.{TrailStep}
+use Rattle.zt_import.specs.Trails.{number_in}
+
+-- a line of the log is in the trace
+abbrev pub is_call : TrailStep → Bool
+is_call step = is_some (number_in step.origin) && is_some step.moment
+
+-- a call of the trace is no line of the log
+abbrev pub is_adopted : TrailStep → Bool
+is_adopted step = not (is_some (number_in step.origin)) && is_some step.moment
+
+-- two ends of the log are joined
+abbrev pub is_joined : Origin → Bool
+is_joined (origin.Handle _ _ _ _ joined _) = is_some joined
+is_joined _ = false
+
+-- they are made by a call of the trace
+abbrev pub is_pair : TrailStep → Bool
+is_pair step = is_joined step.origin && is_some step.moment

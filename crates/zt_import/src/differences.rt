@@ -1,0 +1,81 @@
+//! Which replies of a log differ from what the semantics answers.
+ghost use Rattle.std.specs.Prelude.{◌≡◌, OnOk};
+ghost use Rattle.std.specs.Option.{option_to_list};
+ghost use Rattle.zt_import.specs.Trails.{asked_in, difference_at, difference_of, differences_of};
+ghost use Rattle.zt_import.specs.ProofsOnly.TakenCalls.{ComparesMore, IsComparedAs, nothing_compared};
+
+use crate::compared::Compared;
+use crate::comparison::agrees;
+use crate::schedule::{AskedCall, asked_in, is_by_schedule};
+use crate::taken::Taken;
+use crate::trail::{Origin, TrailStep};
+use std::alloc::Global;
+use zt_logs::{Cause, LogFault, LoggedCall};
+use zt_rows::Moment;
+
+/// Compares the replies of all calls of a log with what the log has.
+pub(crate) fn compare_all(
+    alloc: Global,
+    taken: &mut Taken,
+    compared: &mut Compared,
+    calls: &[LoggedCall],
+) -> Result<(), LogFault>
+    requires { compared.old ≡ nothing_compared }
+    ensures differences { OnOk result (IsComparedAs (differences_of calls.now taken.old.tree.made taken.old.trail) compared.new) }
+    ensures same { taken.new ≡ taken.old }
+{
+    let Ok(asked) = asked_in(alloc, calls, taken.trail()) else {
+        return Err(Cause::OutOfMemory.at(0));
+    };
+    let count = taken.trail().len();
+    for place in 0..count {
+        let step = taken.trail()[place];
+        match compare_step(taken, compared, calls, asked.as_slice(), step) {
+            Ok(()) => {}
+            Err(cause) => return Err(cause.at(0)),
+        }
+    }
+    Ok(())
+}
+
+/// Compares the reply of a step, if it is a call of the log.
+fn compare_step(
+    taken: &mut Taken,
+    compared: &mut Compared,
+    calls: &[LoggedCall],
+    asked: &[AskedCall],
+    step: TrailStep,
+) -> Result<(), Cause>
+    ensures differences { OnOk result (ComparesMore compared.old compared.new
+        (option_to_list (difference_at calls.now taken.old.tree.made asked.now step))) }
+    ensures same { taken.new ≡ taken.old }
+{
+    match step.origin {
+        Origin::Logged(number) => match calls.get(number) {
+            Some(logged) => compare(taken, compared, asked, logged, number, step.moment),
+            None => Ok(()),
+        },
+        _ => Ok(()),
+    }
+}
+
+/// Compares the reply of a moment with what the log has.
+fn compare(
+    taken: &mut Taken,
+    compared: &mut Compared,
+    asked: &[AskedCall],
+    logged: &LoggedCall,
+    number: usize,
+    moment: Option<Moment>,
+) -> Result<(), Cause>
+    ensures differences { OnOk result (ComparesMore compared.old compared.new
+        (option_to_list (difference_of taken.old.tree.made asked.now logged.now number moment))) }
+    ensures same { taken.new ≡ taken.old }
+{
+    if agrees(&logged.recorded, taken.reply(&moment)) {
+        return Ok(());
+    }
+    let by_schedule = is_by_schedule(taken, asked, logged, number, moment)?;
+    compared.tell(number, moment, by_schedule)?;
+    Ok(())
+}

@@ -1,0 +1,331 @@
+//! Which ends of channels that come from nowhere are the two of one channel, by all that was read and written at them.
+
+use crate::plan::Plan;
+use crate::seen_objects::{Reading, SeenObjects};
+use crate::trail::JoinedEnd;
+use std::alloc::{AllocError, Global};
+use std::collections::HashMap;
+use zt_bits::Kind;
+use zt_logs::LoggedCall;
+use zt_rows::{Call, HandleValue};
+
+/// An end by the first handle that the log has of it, with its process.
+pub(crate) type EndName = (u64, u32);
+
+/// Which ends are joined while a log is gone over.
+#[derive(Drop)]
+pub(crate) enum Joins {
+    /// Those of which the first message that is read at one was the first to be written at the other, in turn. This is what most
+    /// logs come to.
+    Guessed,
+    /// These, each with its other one.
+    Found(HashMap<EndName, EndName>),
+}
+
+impl Joins {
+    pub(crate) fn are_guessed(&self) -> bool {
+        matches!(self, Joins::Guessed)
+    }
+
+    /// The end that is joined with this one.
+    pub(crate) fn other(&self, end: EndName) -> Option<EndName> {
+        match self {
+            Joins::Guessed => None,
+            Joins::Found(joins) => joins.get(&end).copied(),
+        }
+    }
+}
+
+/// What is known of the other end of each object, while ends are compared.
+#[derive(Clone, Copy)]
+enum Partner {
+    Nobody,
+    One(usize),
+    Several,
+}
+
+impl Partner {
+    /// One more that would do.
+    fn and(self, other: usize) -> Partner {
+        match self {
+            Partner::Nobody => Partner::One(other),
+            Partner::One(known) if known == other => self,
+            _ => Partner::Several,
+        }
+    }
+}
+
+/// The other end of each object, where all that was read and written at both leaves no third.
+#[derive(Drop)]
+pub(crate) struct Partners {
+    partners: Vec<Partner>,
+}
+
+impl Partners {
+    fn new(alloc: Global, count: usize) -> Result<Partners, AllocError> {
+        Ok(Partners {
+            partners: vec![in alloc; Partner::Nobody; count]?,
+        })
+    }
+
+    /// These two would do.
+    fn add(&mut self, one: usize, other: usize) {
+        if let Some(partner) = self.partners.get_mut(one) {
+            *partner = partner.and(other);
+        }
+        if let Some(partner) = self.partners.get_mut(other) {
+            *partner = partner.and(one);
+        }
+    }
+
+    fn at(&self, end: usize) -> Partner {
+        match self.partners.get(end) {
+            Some(partner) => *partner,
+            None => Partner::Nobody,
+        }
+    }
+
+    /// The end that alone would do for this one, and for which this one alone would do.
+    pub(crate) fn of(&self, end: usize) -> Option<usize> {
+        let Partner::One(other) = self.at(end) else {
+            return None;
+        };
+        match self.at(other) {
+            Partner::One(back) if back == end => Some(other),
+            _ => None,
+        }
+    }
+}
+
+impl Plan {
+    /// Compares all ends with those that may be their others.
+    pub(crate) fn partners(
+        &self,
+        alloc: Global,
+        calls: &[LoggedCall],
+    ) -> Result<Partners, AllocError> {
+        let mut partners = Partners::new(alloc, self.objects.count())?;
+        for end in 0..self.objects.count() {
+            self.add_partners(&mut partners, calls, end)?;
+        }
+        Ok(partners)
+    }
+
+    /// Compares an end with those at which the first message was written that is the first to be read here. Behind the second
+    /// that would do none is compared, and each is taken to do.
+    fn add_partners(
+        &self,
+        partners: &mut Partners,
+        calls: &[LoggedCall],
+        end: usize,
+    ) -> Result<(), AllocError> {
+        let Some(read) = self.first_read(calls, end) else {
+            return Ok(());
+        };
+        let mut found = 0usize;
+        for other in self.writers_of(read)? {
+            let other = *other;
+            if found > 1 || self.would_do(calls, end, other) {
+                partners.add(end, other);
+                found = found.saturating_add(1);
+            }
+        }
+        Ok(())
+    }
+
+    /// The call that reads the first message at an end that may have its other one in the log.
+    fn first_read<'a>(&self, calls: &'a [LoggedCall], end: usize) -> Option<&'a LoggedCall> {
+        if !self.may_be_joined(calls, end) {
+            return None;
+        }
+        match self.objects.read(end).first() {
+            Some(Reading::Message(call)) => calls.get(*call),
+            _ => None,
+        }
+    }
+
+    /// Whether an end comes from nowhere, and the log tells what the first message was that came there, if one did.
+    fn may_be_joined(&self, calls: &[LoggedCall], end: usize) -> bool {
+        self.is_named(end)
+            && match self.objects.read(end).first() {
+                Some(Reading::Message(call)) => tells_bytes(calls, *call),
+                Some(Reading::Discarded(_)) => false,
+                None => true,
+            }
+    }
+
+    /// Whether two ends would do as those of one channel: what was read at each was written at the other, in order.
+    fn would_do(&self, calls: &[LoggedCall], one: usize, other: usize) -> bool {
+        one != other
+            && self.may_be_joined(calls, other)
+            && follows(&self.objects, calls, one, other)
+            && follows(&self.objects, calls, other, one)
+    }
+
+    /// Whether the ends that are joined are just those that have no third.
+    pub(crate) fn is_joined_by(&self, partners: &Partners) -> bool {
+        for end in 0..self.objects.count() {
+            if self.objects.adopted(end).is_some() && self.objects.peer(end) != partners.of(end) {
+                return false;
+            }
+        }
+        true
+    }
+
+    /// What each end is joined by that is one of a channel, as its other end is.
+    pub(crate) fn joined_ends(
+        &self,
+        alloc: Global,
+        calls: &[LoggedCall],
+    ) -> Result<HashMap<usize, JoinedEnd>, AllocError> {
+        let mut joined = HashMap::new(alloc);
+        for end in 0..self.objects.count() {
+            if let Some(by) = self.joined_by(calls, end) {
+                insert_joined(&mut joined, end, by)?;
+            }
+        }
+        Ok(joined)
+    }
+
+    /// What an end is joined by with another.
+    fn joined_by(&self, calls: &[LoggedCall], end: usize) -> Option<JoinedEnd> {
+        let other = self.objects.peer(end)?;
+        let (process, handle) = self.objects.adopted(other)?;
+        if self.objects.adopted(end).is_none() || !self.are_channels(end, other) {
+            return None;
+        }
+        let (written, read) = self.first_message(end, other)?;
+        let here = messages_in(self.objects.read(end));
+        let there = messages_in(self.objects.read(other));
+        Some(JoinedEnd {
+            process,
+            handle,
+            messages: here.saturating_add(there),
+            written: line_of(calls, written),
+            read: line_of(calls, read),
+        })
+    }
+
+    fn are_channels(&self, end: usize, other: usize) -> bool {
+        self.objects.kind(end).0 == Kind::Channel && self.objects.kind(other).0 == Kind::Channel
+    }
+
+    /// Which call wrote the message that was the first to be read at one of two ends, and which read it.
+    fn first_message(&self, one: usize, other: usize) -> Option<(usize, usize)> {
+        let here = self.first_message_at(one, other);
+        let there = self.first_message_at(other, one);
+        match (here, there) {
+            (Some(here), Some(there)) => Some(if here.1 < there.1 { here } else { there }),
+            (Some(here), None) => Some(here),
+            (None, there) => there,
+        }
+    }
+
+    /// Which call wrote the first message that was read at an end, at the other one, and which read it.
+    fn first_message_at(&self, reader: usize, writer: usize) -> Option<(usize, usize)> {
+        let written = self.objects.written(writer).first().copied()?;
+        match self.objects.read(reader).first() {
+            Some(Reading::Message(read)) => Some((written, *read)),
+            _ => None,
+        }
+    }
+
+    /// These ends by their names.
+    pub(crate) fn joins_of(
+        &self,
+        alloc: Global,
+        partners: &Partners,
+    ) -> Result<HashMap<EndName, EndName>, AllocError> {
+        let mut joins = HashMap::new(alloc);
+        for end in 0..self.objects.count() {
+            if let Some(other) = partners.of(end) {
+                insert_join(
+                    &mut joins,
+                    self.objects.adopted(end),
+                    self.objects.adopted(other),
+                )?;
+            }
+        }
+        Ok(joins)
+    }
+}
+
+fn insert_joined(
+    joined: &mut HashMap<usize, JoinedEnd>,
+    end: usize,
+    by: JoinedEnd,
+) -> Result<(), AllocError> {
+    joined.insert(end, by)?;
+    Ok(())
+}
+
+/// How many messages were read, and not discarded.
+fn messages_in(read: &[Reading]) -> usize {
+    read.iter()
+        .filter(|reading| matches!(reading, Reading::Message(_)))
+        .count()
+}
+
+/// The line of a call; 0, where there is none of this number.
+fn line_of(calls: &[LoggedCall], call: usize) -> u64 {
+    match calls.get(call) {
+        Some(logged) => logged.line,
+        None => 0,
+    }
+}
+
+fn insert_join(
+    joins: &mut HashMap<EndName, EndName>,
+    one: Option<(u64, HandleValue)>,
+    other: Option<(u64, HandleValue)>,
+) -> Result<(), AllocError> {
+    if let (Some((process, handle)), Some((peer, far))) = (one, other) {
+        joins.insert((process, handle.0), (peer, far.0))?;
+    }
+    Ok(())
+}
+
+/// Whether each message that was read at an end, or discarded there, was written at the other before, in order.
+fn follows(objects: &SeenObjects, calls: &[LoggedCall], reader: usize, writer: usize) -> bool {
+    let written = objects.written(writer);
+    for (place, reading) in objects.read(reader).iter().enumerate() {
+        match written.get(place) {
+            Some(write) if is_message(calls, *write, *reading) => {}
+            _ => return false,
+        }
+    }
+    true
+}
+
+/// Whether what a call wrote is what was read, or can have been discarded.
+fn is_message(calls: &[LoggedCall], write: usize, reading: Reading) -> bool {
+    match reading {
+        Reading::Discarded(read) => write < read,
+        Reading::Message(read) => write < read && is_same(calls.get(write), calls.get(read)),
+    }
+}
+
+/// Whether a read has the bytes of what was written, as far as the log tells them, and as many handles.
+fn is_same(written: Option<&LoggedCall>, read: Option<&LoggedCall>) -> bool {
+    let (Some(written), Some(read)) = (written, read) else {
+        return false;
+    };
+    let Call::ChannelWrite { parcel, .. } = &written.call else {
+        return false;
+    };
+    if parcel.handles().len() != read.recorded.handles.len() {
+        return false;
+    }
+    match &read.recorded.bytes {
+        Some(bytes) => bytes.as_slice() == parcel.bytes().as_slice(),
+        None => true,
+    }
+}
+
+/// Whether the log tells the bytes that a call read.
+fn tells_bytes(calls: &[LoggedCall], read: usize) -> bool {
+    match calls.get(read) {
+        Some(logged) => logged.recorded.bytes.is_some(),
+        None => false,
+    }
+}

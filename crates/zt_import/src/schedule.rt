@@ -1,0 +1,202 @@
+//! What a schedule can do: which of the replies that differ may be otherwise only since threads ran in another order.
+ghost use Rattle.std.specs.Prelude.{◌≡◌, ◌++◌, ◌∷◌, [], IfOk, OnOk};
+ghost use Rattle.std.specs.Option.{option_to_list};
+ghost use Rattle.zt_import.specs.Schedule.{around, by_schedule, is_met, is_met_by, is_met_on, is_near, is_shortly_before, sought_for};
+ghost use Rattle.zt_import.specs.Trails.{asked_at, asked_in};
+
+use crate::comparison::may_be_scheduled;
+use crate::taken::Taken;
+use crate::trail::{Origin, TrailStep};
+use std::alloc::{AllocError, Global};
+use zt_bits::Status;
+use zt_logs::{Cause, LoggedCall, LoggedPacket};
+use zt_rows::{Koid, Moment};
+
+/// How many calls of a log before and behind one are looked at, and how many lines away they may stand.
+const NEAR: u64 = 512;
+
+/// A call of the log that was asked, with its line, and its moment, if it made one.
+#[derive(Clone, Copy, Debug)]
+pub(crate) struct AskedCall {
+    pub(crate) line: u64,
+    pub(crate) moment: Option<Moment>,
+}
+
+/// What has to be met near a wait for a packet, so that a schedule can have made it differ.
+#[derive(Clone, Copy)]
+pub(crate) enum Sought {
+    /// The packet that the log has, or any, where it tells none, in the port's queue before or behind.
+    Queued(Option<LoggedPacket>),
+    /// No packet in the port's queue before.
+    Empty,
+}
+
+/// The calls of the log among the steps, in their order.
+pub(crate) fn asked_in(
+    alloc: Global,
+    calls: &[LoggedCall],
+    trail: &[TrailStep],
+) -> Result<Vec<AskedCall>, AllocError>
+    ensures { IfOk result (λ asked. asked.items ≡ asked_in calls.now trail.now) }
+{
+    let mut asked = Vec::new(alloc);
+    for place in 0..trail.len() {
+        push_asked(&mut asked, calls, &trail[place])?;
+    }
+    Ok(asked)
+}
+
+/// The call of the log that a step is more, if it is one.
+fn push_asked(
+    asked: &mut Vec<AskedCall>,
+    calls: &[LoggedCall],
+    step: &TrailStep,
+) -> Result<(), AllocError>
+    ensures { OnOk result (asked.new.items ≡ asked.old.items ++ option_to_list (asked_at calls.now step.now)) }
+{
+    match step.origin {
+        Origin::Logged(number) => match calls.get(number) {
+            Some(logged) => push_call(asked, logged.line, step.moment),
+            None => Ok(()),
+        },
+        _ => Ok(()),
+    }
+}
+
+/// One call more.
+fn push_call(
+    asked: &mut Vec<AskedCall>,
+    line: u64,
+    moment: Option<Moment>,
+) -> Result<(), AllocError>
+    ensures { OnOk result (asked.new.items ≡ asked.old.items ++ record { line = line; moment = moment } ∷ []) }
+{
+    match asked.push(AskedCall { line, moment }) {
+        Ok(()) => Ok(()),
+        Err(_) => Err(AllocError),
+    }
+}
+
+/// Whether what the call of this number differs in is what a schedule can do. It looks at the states of the moments of 1,025
+/// calls of the log at most, and there at the port's queue alone.
+pub(crate) fn is_by_schedule(
+    taken: &mut Taken,
+    asked: &[AskedCall],
+    logged: &LoggedCall,
+    number: usize,
+    moment: Option<Moment>,
+) -> Result<bool, Cause>
+    ensures found { IfOk result (λ found. found ≡ by_schedule taken.old.tree.made asked.now logged.now number moment) }
+    ensures same { taken.new ≡ taken.old }
+{
+    let Some(made) = moment else {
+        return Ok(false);
+    };
+    if !may_be_scheduled(logged, taken.reply(&moment)) {
+        return Ok(false);
+    }
+    let port = taken.port_at(made)?;
+    is_met_on(taken, around(asked, number), logged, port)
+}
+
+/// Whether what a wait on the port looks for is met near it.
+fn is_met_on(
+    taken: &mut Taken,
+    asked: &[AskedCall],
+    logged: &LoggedCall,
+    port: Option<Koid>,
+) -> Result<bool, Cause>
+    ensures found { IfOk result (λ found. found ≡ is_met_on taken.old.tree.made port logged.now asked.now) }
+    ensures same { taken.new ≡ taken.old }
+{
+    match port {
+        Some(port) => {
+            let sought = sought_for(logged.recorded.status, logged.recorded.packet);
+            is_met(taken, asked, port, logged.line, sought)
+        }
+        None => Ok(false),
+    }
+}
+
+/// What a wait with this status in the log looks for.
+fn sought_for(status: Option<Status>, packet: Option<LoggedPacket>) -> Sought
+    ensures { result ≡ sought_for status packet }
+{
+    match status {
+        Some(Status::TimedOut) => Sought::Empty,
+        _ => Sought::Queued(packet),
+    }
+}
+
+/// The calls from 512 before the one of this number on, up to 1025.
+fn around(asked: &[AskedCall], number: usize) -> &[AskedCall]
+    ensures { result.now ≡ around number asked.now }
+{
+    let first = number.saturating_sub(512).min(asked.len());
+    let behind = &asked[first..];
+    &behind[..behind.len().min(1025)]
+}
+
+/// Whether it is met at the moment of one of these calls.
+fn is_met(
+    taken: &mut Taken,
+    asked: &[AskedCall],
+    port: Koid,
+    line: u64,
+    sought: Sought,
+) -> Result<bool, Cause>
+    ensures found { IfOk result (λ found. found ≡ is_met taken.old.tree.made port line sought asked.now) }
+    ensures same { taken.new ≡ taken.old }
+{
+    for place in 0..asked.len() {
+        if is_met_by(taken, asked[place], port, line, sought)? {
+            return Ok(true);
+        }
+    }
+    Ok(false)
+}
+
+/// Whether it is met at the moment of this call.
+fn is_met_by(
+    taken: &mut Taken,
+    asked: AskedCall,
+    port: Koid,
+    line: u64,
+    sought: Sought,
+) -> Result<bool, Cause>
+    ensures found { IfOk result (λ found. found ≡ is_met_by taken.old.tree.made port line sought asked) }
+    ensures same { taken.new ≡ taken.old }
+{
+    let Some(moment) = asked.moment else {
+        return Ok(false);
+    };
+    match sought {
+        Sought::Queued(packet) => {
+            if !is_near(line, asked.line) {
+                return Ok(false);
+            }
+            taken.holds(moment, port, packet)
+        }
+        Sought::Empty => {
+            if !is_shortly_before(line, asked.line) {
+                return Ok(false);
+            }
+            let holds = taken.holds(moment, port, None)?;
+            Ok(!holds)
+        }
+    }
+}
+
+/// Whether the lines are at most 512 apart.
+fn is_near(line: u64, other: u64) -> bool
+    ensures { result ≡ is_near line other }
+{
+    line.abs_diff(other) <= NEAR
+}
+
+/// Whether the other line stands ahead of this one, at most 512 lines.
+fn is_shortly_before(line: u64, other: u64) -> bool
+    ensures { result ≡ is_shortly_before line other }
+{
+    other < line && line - other <= NEAR
+}

@@ -1,0 +1,50 @@
+//! How many steps of a trail there are of each kind.
+ghost use Rattle.std.specs.Prelude.{◌≡◌, count_by};
+ghost use Rattle.zt_import.specs.Counts.{is_call, is_adopted, is_pair};
+
+use crate::trail::{Origin, TrailStep};
+
+/// How many lines of the log are in the trace.
+pub fn calls_in(trail: &[TrailStep]) -> usize
+    ensures { result ≡ count_by is_call trail.now }
+{
+    trail.iter().filter(|step| is_call(step)).count()
+}
+
+/// How many calls of the trace no line of the log is.
+pub fn adopted_in(trail: &[TrailStep]) -> usize
+    ensures { result ≡ count_by is_adopted trail.now }
+{
+    trail.iter().filter(|step| is_adopted(step)).count()
+}
+
+/// How many pairs of ends were joined by their messages.
+pub fn pairs_in(trail: &[TrailStep]) -> usize
+    ensures { result ≡ count_by is_pair trail.now }
+{
+    trail.iter().filter(|step| is_pair(step)).count()
+}
+
+/// Whether a step is a line of the log, and in the trace.
+fn is_call(step: &TrailStep) -> bool
+    ensures { result ≡ is_call step.now }
+{
+    matches!(step.origin, Origin::Logged(_)) && step.moment.is_some()
+}
+
+/// Whether a step is none, and in the trace.
+fn is_adopted(step: &TrailStep) -> bool
+    ensures { result ≡ is_adopted step.now }
+{
+    !matches!(step.origin, Origin::Logged(_)) && step.moment.is_some()
+}
+
+/// Whether a step makes two ends of the log as those of one channel.
+fn is_pair(step: &TrailStep) -> bool
+    ensures { result ≡ is_pair step.now }
+{
+    match step.origin {
+        Origin::Handle { joined, .. } => joined.is_some() && step.moment.is_some(),
+        _ => false,
+    }
+}

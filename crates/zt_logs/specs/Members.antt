@@ -1,0 +1,85 @@
+-- The fields of a JSON object of a line.
+use Rattle.std.specs.Prelude.{ℕ, List, Option, Some, None, is_some, option_and_then, if◌then◌else◌, codes}
+use Rattle.std.specs.Option.{option_map}
+use denote.Ref.{Bor}
+use Rattle.serde_json.specs.Data.{Data}
+use Rattle.serde_json.specs.Find.{get, as_null}
+use Rattle.serde_json.specs.View.{view}
+use Rattle.serde_json.specs.declared.value.Value.{Value}
+use Rattle.zt_logs.specs.declared.places.Member.{Member}
+use Rattle.zt_logs.specs.declared.places.Member.TheVariants as member
+
+-- the name of a field
+abbrev pub first_name : Member → List ℕ
+first_name member.Process = codes "process"
+first_name member.Call = codes "call"
+first_name member.Args = codes "args"
+first_name member.Status = codes "status"
+first_name member.Out = codes "out"
+first_name member.Handle = codes "handle"
+first_name member.Task = codes "handle"
+first_name member.CriticalProcess = codes "handle"
+first_name member.Handles = codes "handles"
+first_name member.HandleRoom = codes "handles"
+first_name member.OnlyHandle = codes "out"
+first_name member.FirstHandle = codes "out0"
+first_name member.SecondHandle = codes "out1"
+first_name member.Bytes = codes "bytes"
+first_name member.ByteRoom = codes "bytes"
+first_name member.PacketBytes = codes "bytes"
+first_name member.Rights = codes "rights"
+first_name member.Clear = codes "clear"
+first_name member.Set = codes "set"
+first_name member.Signals = codes "signals"
+first_name member.Edge = codes "edge"
+first_name member.Discard = codes "discard"
+first_name member.Options = codes "options"
+first_name member.Port = codes "port"
+first_name member.CalledPort = codes "port"
+first_name member.Source = codes "source"
+first_name member.Key = codes "key"
+first_name member.Packet = codes "packet"
+first_name member.Job = codes "job"
+first_name member.ParentJob = codes "job"
+first_name member.Argument = codes "argument"
+first_name member.Code = codes "code"
+first_name member.Type = codes "type"
+first_name member.Signal = codes "signal"
+first_name member.Trigger = codes "trigger"
+first_name member.Observed = codes "observed"
+
+-- the name of it in the system's reference, where that is another
+abbrev pub second_name : Member → Option (List ℕ)
+second_name member.Task = Some (codes "task")
+second_name member.CriticalProcess = Some (codes "process")
+second_name member.HandleRoom = Some (codes "num_handles")
+second_name member.ByteRoom = Some (codes "num_bytes")
+second_name member.PacketBytes = Some (codes "user")
+second_name member.Clear = Some (codes "clear_mask")
+second_name member.Set = Some (codes "set_mask")
+second_name member.CalledPort = Some (codes "handle")
+second_name member.ParentJob = Some (codes "parent_job")
+second_name member.Code = Some (codes "retcode")
+second_name _ = None
+
+-- a value, unless it is null
+abbrev pub not_null : Data → Option Data
+not_null d = if is_some (as_null d) then None else Some d
+
+-- what stands under this name in an object, which may be left out itself
+abbrev pub named : List ℕ → Option Data → Option Data
+named name object = option_and_then not_null (option_and_then (get name) object)
+
+-- this, or else what stands under the second name
+abbrev pub or_named : Option Data → Option (List ℕ) → Option Data → Option Data
+or_named (Some d) second object = Some d
+or_named None None object = None
+or_named None (Some second) object = named second object
+
+-- a field of an object: what stands under its name, or else under its second one
+abbrev pub field : Member → Option Data → Option Data
+field name object = or_named (named (first_name name) object) (second_name name) object
+
+-- what a reference that may be missing points to
+abbrev pub data_at : Option (Bor Value) → Option Data
+data_at value = option_map (λ v. view v.now) value

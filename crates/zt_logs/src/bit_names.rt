@@ -1,0 +1,177 @@
+//! The names of rights and signals, as the system's reference has them.
+
+ghost use Rattle.std.specs.Prelude.{IfSome};
+ghost use Rattle.serde_json.specs.View.{view};
+ghost use Rattle.zt_logs.specs.Numbers.{IsMask};
+
+use crate::numbers::{narrow, narrow_in};
+use serde_json::Value;
+
+/// Of what bits names are read.
+#[derive(Clone, Copy)]
+pub(crate) enum BitNames {
+    Rights,
+    Signals,
+}
+
+/// The bits that a value says: a number, or a text of names with `|` between them.
+pub(crate) fn bits_in(names: BitNames, value: &Value) -> Option<u32>
+    ensures { IfSome result (IsMask (view value.now)) }
+{
+    match narrow_in(value) {
+        Some(bits) => Some(bits),
+        None => named_bits(names, value.as_str()?),
+    }
+}
+
+/// The bits of names with `|` between them.
+fn named_bits(names: BitNames, text: &str) -> Option<u32> {
+    let mut bits = 0;
+    for part in text.split('|') {
+        bits |= bits_of(names, part.trim())?;
+    }
+    Some(bits)
+}
+
+/// The bits of a name, or those of a number.
+fn bits_of(names: BitNames, name: &str) -> Option<u32> {
+    let found = match names {
+        BitNames::Rights => right_named(name),
+        BitNames::Signals => signal_named(name),
+    };
+    match found {
+        Some(bits) => Some(bits),
+        None => narrow(crate::numbers::number_of(name)?),
+    }
+}
+
+/// The bits of a name of rights.
+fn right_named(name: &str) -> Option<u32> {
+    if let Some(set) = name.strip_prefix("ZX_RIGHTS_") {
+        return rights_set(set);
+    }
+    let word = match name.strip_prefix("ZX_RIGHT_") {
+        Some(word) => word,
+        None => name,
+    };
+    match basic_right(word) {
+        Some(bits) => Some(bits),
+        None => other_right(word),
+    }
+}
+
+/// The bits of several rights that have one name.
+fn rights_set(name: &str) -> Option<u32> {
+    Some(match name {
+        "BASIC" => 0xc003,
+        "IO" => 0xc,
+        "PROPERTY" => 0xc0,
+        "POLICY" => 0xc00,
+        _ => return None,
+    })
+}
+
+/// The right of a name, of those that most kinds of objects have.
+fn basic_right(word: &str) -> Option<u32> {
+    Some(match word {
+        "NONE" => 0,
+        "DUPLICATE" => 1,
+        "TRANSFER" => 1 << 1,
+        "READ" => 1 << 2,
+        "WRITE" => 1 << 3,
+        "DESTROY" => 1 << 9,
+        "SIGNAL" => 1 << 12,
+        "SIGNAL_PEER" => 1 << 13,
+        "WAIT" => 1 << 14,
+        "INSPECT" => 1 << 15,
+        "MANAGE_JOB" => 1 << 16,
+        "MANAGE_PROCESS" => 1 << 17,
+        "SAME_RIGHTS" => 1 << 31,
+        _ => return None,
+    })
+}
+
+/// The right of another name.
+fn other_right(word: &str) -> Option<u32> {
+    Some(match word {
+        "EXECUTE" => 1 << 4,
+        "MAP" => 1 << 5,
+        "GET_PROPERTY" => 1 << 6,
+        "SET_PROPERTY" => 1 << 7,
+        "ENUMERATE" => 1 << 8,
+        "SET_POLICY" => 1 << 10,
+        "GET_POLICY" => 1 << 11,
+        "MANAGE_THREAD" => 1 << 18,
+        "APPLY_PROFILE" => 1 << 19,
+        "MANAGE_SOCKET" => 1 << 20,
+        "OP_CHILDREN" => 1 << 21,
+        "RESIZE" => 1 << 22,
+        "ATTACH_VMO" => 1 << 23,
+        "MANAGE_VMO" => 1 << 24,
+        _ => return None,
+    })
+}
+
+/// The bits of a name of signals.
+fn signal_named(name: &str) -> Option<u32> {
+    let bare = match name.strip_prefix("ZX_") {
+        Some(bare) => bare,
+        None => name,
+    };
+    match bare.strip_prefix("USER_SIGNAL_") {
+        Some(number) => user_signal(number),
+        None => signal_word(without_kind(bare)),
+    }
+}
+
+/// The signals that programs give their own meaning.
+fn user_signal(number: &str) -> Option<u32> {
+    Some(match number {
+        "0" => 1 << 24,
+        "1" => 1 << 25,
+        "2" => 1 << 26,
+        "3" => 1 << 27,
+        "4" => 1 << 28,
+        "5" => 1 << 29,
+        "6" => 1 << 30,
+        "7" => 1 << 31,
+        "ALL" => 0xff00_0000,
+        _ => return None,
+    })
+}
+
+/// The name of a signal without the kind of its object.
+fn without_kind(name: &str) -> &str {
+    match name.split_once('_') {
+        Some(
+            (
+                "CHANNEL"
+                | "EVENT"
+                | "EVENTPAIR"
+                | "JOB"
+                | "PROCESS"
+                | "TASK"
+                | "OBJECT"
+                | "SIGNAL",
+                word,
+            ),
+        ) => word,
+        _ => name,
+    }
+}
+
+/// The signal of a word.
+fn signal_word(word: &str) -> Option<u32> {
+    Some(match word {
+        "NONE" => 0,
+        "READABLE" => 1,
+        "WRITABLE" => 1 << 1,
+        "PEER_CLOSED" => 1 << 2,
+        "SIGNALED" | "TERMINATED" => 1 << 3,
+        "NO_JOBS" => 1 << 4,
+        "NO_PROCESSES" => 1 << 5,
+        "NO_CHILDREN" => 1 << 6,
+        "HANDLE_CLOSED" => 1 << 23,
+        _ => return None,
+    })
+}

@@ -1,0 +1,95 @@
+//! The numbers that values of a log are.
+
+ghost use Rattle.std.specs.Prelude.{◌≡◌, ◌+◌, ◌*◌, ◌<◌, ◌≤◌, Some, IfSome};
+ghost use Rattle.std.specs.Char.{digit_value};
+ghost use Rattle.serde_json.specs.View.{view};
+ghost use Rattle.zt_logs.specs.Numbers.{IsWritten, IsNumberText, IsNumber, IsSignedIn};
+
+use serde_json::Value;
+
+/// A number of 64 bits: one of JSON without a fraction, or a text.
+pub(crate) fn number_in(value: &Value) -> Option<u64>
+    ensures { IfSome result (IsNumber (view value.now)) }
+{
+    match value.as_u64() {
+        Some(number) => Some(number),
+        None => number_of(value.as_str()?),
+    }
+}
+
+/// A number of 32 bits.
+pub(crate) fn narrow_in(value: &Value) -> Option<u32>
+    ensures { IfSome result (IsNumber (view value.now)) }
+{
+    narrow(number_in(value)?)
+}
+
+/// A number that has 32 bits.
+pub(crate) fn narrow(number: u64) -> Option<u32>
+    ensures { IfSome result (λ same. same ≡ number) }
+{
+    u32::try_from(number).ok()
+}
+
+/// A signed number of 64 bits: one of JSON without a fraction, or a text. The digits behind `0x` are those of its 64 bits.
+pub(crate) fn signed_in(value: &Value) -> Option<i64>
+    ensures { IfSome result (λ code. IsSignedIn (Some (view value.now)) code) }
+{
+    match value.as_i64() {
+        Some(number) => Some(number),
+        None => signed_of(value.as_str()?),
+    }
+}
+
+/// The number that a text writes: `0x` and hexadecimal digits, or decimal ones.
+pub(crate) fn number_of(text: &str) -> Option<u64>
+    ensures { IfSome result (IsNumberText text.now) }
+{
+    let bytes = text.as_bytes();
+    match bytes.strip_prefix(b"0x") {
+        Some(digits) => written(digits, 16),
+        None => written(bytes, 10),
+    }
+}
+
+/// The signed number that a text writes.
+fn signed_of(text: &str) -> Option<i64> {
+    let bytes = text.as_bytes();
+    if let Some(digits) = bytes.strip_prefix(b"0x") {
+        return Some(written(digits, 16)?.cast_signed());
+    }
+    let digits = match bytes.strip_prefix(b"-") {
+        Some(digits) => digits,
+        None => bytes,
+    };
+    written(digits, 10)?;
+    i64::from_str_radix(text, 10).ok()
+}
+
+/// The number of 64 bits that digits of a base write.
+fn written(digits: &[u8], base: u32) -> Option<u64>
+    requires low { 2 ≤ base }
+    requires high { base ≤ 36 }
+    ensures { IfSome result (IsWritten base digits.now) }
+{
+    if digits.is_empty() {
+        return None;
+    }
+    let mut number = 0u64;
+    for byte in digits {
+        number = with_digit(number, *byte, base)?;
+    }
+    Some(number)
+}
+
+/// A number with one digit more behind it.
+fn with_digit(number: u64, digit: u8, base: u32) -> Option<u64>
+    requires low { 2 ≤ base }
+    requires high { base ≤ 36 }
+    ensures { IfSome result (λ more. (digit_value digit < base) × (more ≡ number * base + digit_value digit)) }
+{
+    let digit = char::from(digit).to_digit(base)?;
+    number
+        .checked_mul(u64::from(base))?
+        .checked_add(u64::from(digit))
+}

@@ -1,0 +1,292 @@
+//! Processes that a log has by names.
+
+ghost use Rattle.std.specs.Prelude.{◌≡◌, OnOk, map};
+ghost use Rattle.zt_logs.specs.ProofsOnly.ReadLines.{without_process};
+
+use crate::logged::{CallLog, LoggedCall};
+use crate::numbers::number_of;
+use crate::skipped::SkippedCall;
+use serde_json::Value;
+use std::alloc::{AllocError, Global};
+use std::collections::HashMap;
+
+/// The most bytes of a name.
+const NAME_BYTES: usize = 64;
+
+/// The processes that a log has by names, each with the number that stands for it: one that no other process of the log has.
+#[derive(Drop)]
+pub struct ProcessNames {
+    shown: HashMap<u64, String>,
+}
+
+impl ProcessNames {
+    pub(crate) fn new(alloc: Global) -> ProcessNames {
+        ProcessNames {
+            shown: HashMap::new(alloc),
+        }
+    }
+
+    /// The name of the process of this number, where the log has it by one. Bytes that are not printable are shown as `?`.
+    pub fn shown(&self, process: u64) -> Option<&str> {
+        match self.shown.get(&process) {
+            Some(name) => Some(name.as_str()),
+            None => None,
+        }
+    }
+}
+
+/// A process, as a line has it.
+#[derive(Clone, Copy)]
+pub(crate) enum ProcessWord<'a> {
+    Number(u64),
+    Name(&'a str),
+}
+
+/// The process that a value is: a number, a text that is one, or a name of 1 to 64 bytes.
+pub(crate) fn process_in(value: &Value) -> Option<ProcessWord<'_>> {
+    match value {
+        Value::Number(number) => Some(ProcessWord::Number(number.as_u64()?)),
+        Value::String(text) => process_of(text.as_str()),
+        _ => None,
+    }
+}
+
+fn process_of(text: &str) -> Option<ProcessWord<'_>> {
+    if let Some(number) = number_of(text) {
+        return Some(ProcessWord::Number(number));
+    }
+    if text.is_empty() || text.len() > NAME_BYTES {
+        return None;
+    }
+    Some(ProcessWord::Name(text))
+}
+
+/// Where the process of a line stands in what was read.
+#[derive(Clone, Copy)]
+pub(crate) enum NamedPlace {
+    /// It makes the call of this place.
+    Caller(usize),
+    /// The call of this place made it.
+    Made(usize),
+    /// It makes the call of this place among those that are skipped.
+    Skipped(usize),
+}
+
+/// Where a process stands that the log has by a name.
+#[derive(Clone, Copy)]
+struct NameUse {
+    place: NamedPlace,
+    name: usize,
+}
+
+/// The names of processes that a log has so far.
+#[derive(Drop)]
+pub(crate) struct Naming {
+    places: HashMap<String, usize>,
+    shown: Vec<String>,
+    uses: Vec<NameUse>,
+}
+
+impl Naming {
+    pub(crate) fn new(alloc: Global) -> Naming {
+        Naming {
+            places: HashMap::new(alloc),
+            shown: Vec::new(alloc),
+            uses: Vec::new(alloc),
+        }
+    }
+
+    /// The number of the process that stands at this place. It is 0 for now where the log has it by a name.
+    pub(crate) fn number(
+        &mut self,
+        place: NamedPlace,
+        process: ProcessWord<'_>,
+    ) -> Result<u64, AllocError> {
+        match process {
+            ProcessWord::Number(number) => Ok(number),
+            ProcessWord::Name(name) => {
+                let name = self.place(name)?;
+                push_use(&mut self.uses, NameUse { place, name })?;
+                Ok(0)
+            }
+        }
+    }
+
+    /// The place of a name among those of the log.
+    fn place(&mut self, name: &str) -> Result<usize, AllocError> {
+        if let Some(place) = self.places.get(name) {
+            return Ok(*place);
+        }
+        let alloc = *self.shown.allocator();
+        let place = self.shown.len();
+        push_text(&mut self.shown, shown_name(alloc, name)?)?;
+        match self.places.insert(String::from_str(alloc, name)?, place) {
+            Ok(_) => Ok(place),
+            Err(_) => Err(AllocError),
+        }
+    }
+
+    /// Gives each name its number, and the calls those of their processes, also those that are skipped.
+    pub(crate) fn finish(self, alloc: Global, log: &mut CallLog) -> Result<ProcessNames, AllocError>
+        ensures calls { OnOk result (map without_process log.new.calls.items ≡ map without_process log.old.calls.items) }
+        ensures lines { log.new.lines ≡ log.old.lines }
+    {
+        let mut names = ProcessNames::new(alloc);
+        if self.uses.is_empty() {
+            return Ok(names);
+        }
+        let taken = numbers_of(alloc, log.calls.as_slice(), log.skipped.as_slice())?;
+        let numbers = free_numbers(alloc, &taken, self.shown.len())?;
+        for used in self.uses.as_slice() {
+            if let Some(number) = numbers.get(used.name) {
+                set_number(log, used.place, *number);
+            }
+        }
+        for (number, shown) in numbers.as_slice().iter().zip(self.shown) {
+            put_name(&mut names, *number, shown)?;
+        }
+        Ok(names)
+    }
+}
+
+fn put_name(names: &mut ProcessNames, number: u64, shown: String) -> Result<(), AllocError> {
+    match names.shown.insert(number, shown) {
+        Ok(_) => Ok(()),
+        Err(_) => Err(AllocError),
+    }
+}
+
+/// So many numbers that are not taken, the largest first.
+fn free_numbers(
+    alloc: Global,
+    taken: &HashMap<u64, ()>,
+    count: usize,
+) -> Result<Vec<u64>, AllocError> {
+    let mut numbers = Vec::new(alloc);
+    let mut next = u64::MAX;
+    for _ in 0..count {
+        next = last_free(taken, next);
+        push_number(&mut numbers, next)?;
+        next = next.saturating_sub(1);
+    }
+    Ok(numbers)
+}
+
+/// The last number up to this one that is not taken.
+fn last_free(taken: &HashMap<u64, ()>, most: u64) -> u64 {
+    let mut number = most;
+    while number > 0 && taken.contains_key(&number) {
+        number -= 1;
+    }
+    number
+}
+
+/// The numbers of the processes of calls.
+fn numbers_of(
+    alloc: Global,
+    calls: &[LoggedCall],
+    skipped: &[SkippedCall],
+) -> Result<HashMap<u64, ()>, AllocError> {
+    let mut taken = HashMap::new(alloc);
+    for logged in calls {
+        take_number(&mut taken, logged.process)?;
+        if let Some(made) = logged.recorded.process {
+            take_number(&mut taken, made)?;
+        }
+    }
+    take_skipped(&mut taken, skipped)?;
+    Ok(taken)
+}
+
+/// Takes those of the calls that are skipped.
+fn take_skipped(taken: &mut HashMap<u64, ()>, skipped: &[SkippedCall]) -> Result<(), AllocError> {
+    for call in skipped {
+        if let Some(process) = call.process {
+            take_number(taken, process)?;
+        }
+    }
+    Ok(())
+}
+
+fn take_number(taken: &mut HashMap<u64, ()>, number: u64) -> Result<(), AllocError> {
+    match taken.insert(number, ()) {
+        Ok(_) => Ok(()),
+        Err(_) => Err(AllocError),
+    }
+}
+
+/// Gives the process at this place its number.
+fn set_number(log: &mut CallLog, place: NamedPlace, number: u64)
+    ensures calls { map without_process log.new.calls.items ≡ map without_process log.old.calls.items }
+    ensures lines { log.new.lines ≡ log.old.lines }
+{
+    match place {
+        NamedPlace::Caller(call) => set_caller(&mut log.calls, call, number),
+        NamedPlace::Made(call) => set_made(&mut log.calls, call, number),
+        NamedPlace::Skipped(call) => set_skipped(&mut log.skipped, call, number),
+    }
+}
+
+fn set_caller(calls: &mut Vec<LoggedCall>, call: usize, number: u64)
+    ensures { map without_process calls.new.items ≡ map without_process calls.old.items }
+{
+    if let Some(logged) = calls.get_mut(call) {
+        logged.process = number;
+    }
+}
+
+fn set_made(calls: &mut Vec<LoggedCall>, call: usize, number: u64)
+    ensures { map without_process calls.new.items ≡ map without_process calls.old.items }
+{
+    if let Some(logged) = calls.get_mut(call) {
+        logged.recorded.process = Some(number);
+    }
+}
+
+fn set_skipped(skipped: &mut Vec<SkippedCall>, call: usize, number: u64) {
+    if let Some(call) = skipped.get_mut(call) {
+        call.process = Some(number);
+    }
+}
+
+fn push_use(uses: &mut Vec<NameUse>, used: NameUse) -> Result<(), AllocError> {
+    match uses.push(used) {
+        Ok(()) => Ok(()),
+        Err(_) => Err(AllocError),
+    }
+}
+
+fn push_text(texts: &mut Vec<String>, text: String) -> Result<(), AllocError> {
+    match texts.push(text) {
+        Ok(()) => Ok(()),
+        Err(_) => Err(AllocError),
+    }
+}
+
+fn push_number(numbers: &mut Vec<u64>, number: u64) -> Result<(), AllocError> {
+    match numbers.push(number) {
+        Ok(()) => Ok(()),
+        Err(_) => Err(AllocError),
+    }
+}
+
+/// A text with a `?` for each byte that is not printable; the first bytes of one that is longer than a name can be.
+pub(crate) fn shown_name(alloc: Global, name: &str) -> Result<String, AllocError> {
+    let mut shown = String::new(alloc);
+    for byte in name.bytes() {
+        if shown.len() >= NAME_BYTES {
+            shown.push_str("..")?;
+            return Ok(shown);
+        }
+        shown.push(shown_byte(byte))?;
+    }
+    Ok(shown)
+}
+
+fn shown_byte(byte: u8) -> char {
+    if matches!(byte, b' '..=b'~') {
+        char::from(byte)
+    } else {
+        '?'
+    }
+}
