@@ -96,7 +96,7 @@ impl Naming {
         }
     }
 
-    /// The number of the process that stands at this place. It is 0 for now where the log has it by a name.
+    /// The number of the process that stands at this place: 0 where the log has it by a name, which `finish` gives its number.
     pub(crate) fn number(
         &mut self,
         place: NamedPlace,
