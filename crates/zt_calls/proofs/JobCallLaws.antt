@@ -1,5 +1,5 @@
 -- What the parts of a call on jobs and processes do one after another is what the call does.
-use Rattle.std.proofs.Common.{◌≡◌, ◌≤◌, ℕ, ◌+◌, ◌-◌, ◌^◌, ◌<◌, Bool, true, false, ◌&&◌, ◌||◌, refl, sym, ap, ◌∙◌, subst, arith}
+use Rattle.std.proofs.Common.{lit≤, ◌≡◌, ◌≤◌, ℕ, zero, suc, ◌+◌, ◌-◌, ◌^◌, ◌<◌, Bool, true, false, ◌&&◌, ◌||◌, List, length, refl, sym, ap, ◌∙◌, subst, arith}
 use Rattle.std.specs.Prelude.{◌==◌, Option, None, Some, Result, Ok, Err, ok_or}
 use Rattle.zt_bits.specs.declared.kinds.Kind.{Kind}
 use Rattle.zt_bits.specs.declared.kinds.Kind.TheVariants as kind
@@ -14,11 +14,11 @@ use Rattle.zt_rows.specs.declared.rows.ObjectRow.{ObjectRow}
 use Rattle.zt_rows.specs.declared.rows.Row.TheVariants as rows
 use Rattle.zt_rows.specs.State.{State}
 use Rattle.zt_rows.specs.Reads.{as_object, counters, object, entry, is_live, is_job, is_process, is_live_job, is_live_process, on_object, runs}
-use Rattle.zt_rows.specs.Tests.{has_all, is_task, next_at}
+use Rattle.zt_rows.specs.Tests.{has_all, is_task, link_at, next_at}
 use Rattle.zt_rows.specs.Room.{HasRoom}
 use Rattle.zt_rows.specs.Handles.{◌>>=◌, check, handle_else, answered, as_caller, caller, value_of, whole, fresh, next_koid, install, make}
 use Rattle.zt_rows.specs.JobCalls.{argument, give_up, child, hand_over, spawn}
-use Rattle.zt_rows.specs.End.{ends_with}
+use Rattle.zt_rows.specs.End.{upward, links, chain, depth, ends_with}
 use Rattle.zt_rows.specs.Consistent.{IsSound}
 use Rattle.zt_rows.proofs.RowLaws.{or_left, or_right}
 use Rattle.zt_rows.proofs.SoundLaws.{runs-some}
@@ -119,6 +119,23 @@ koid-fits S x o room sound there =
     let high : x < next_koid S = (sound.of_objects x o there).high in
     let few : next_koid S ≤ 2 ^ 62 = room.koids in
     omega arith
+
+upward-few : (n l : ℕ) (above : ℕ → List ℕ) → ((y : ℕ) → length (above y) ≤ n) → length (upward l above) ≤ suc n
+upward-few n zero above few = omega arith
+upward-few n (suc k) above few = let e = few (suc k) in omega (arith, e)
+
+links-few : (n : ℕ) (S : State) (x : ℕ) → length (links n S x) ≤ n
+unfolding links
+links-few zero S x = lit≤ tt
+links-few (suc n) S x = upward-few n (link_at S x) (λ y. links n S y) (λ y. links-few n S y)
+
+-- so its depth fits
+pub depth-fits : (S : State) (x : ℕ) (o : ObjectRow) → HasRoom S → IsSound S → object S x ≡ Some o → depth S x < 2 ^ 64
+unfolding chain
+depth-fits S x o room sound there =
+    let few = links-few (x + 1) S x in
+    let fits = koid-fits S x o room sound there in
+    omega (arith, few, fits)
 
 pub next-fits : (S : State) → HasRoom S → next_koid S + 1 < 2 ^ 64
 next-fits S room = let few : next_koid S ≤ 2 ^ 62 = room.koids in omega arith

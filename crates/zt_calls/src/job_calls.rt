@@ -150,7 +150,7 @@ pub fn job_set_critical(
     if !is_under(step, above.koid, held.koid) {
         return Err(Failure::Status(Status::InvalidArgs));
     }
-    set_critical(step, held.koid, &object, above.koid)?;
+    set_critical(step, held.koid, above.koid)?;
     Ok(Reply::Status(Status::Ok))
 }
 

@@ -1,5 +1,4 @@
--- A walk from each member to what ends next to it finds what ends, where that is walkable; and the members are listed by
--- rising koids.
+-- A walk from each member to what ends next to it finds one set; and the members are listed by rising koids.
 use Rattle.std.proofs.Common.{◌≡◌, ◌≤◌, ◌<◌, ℕ, Bool, true, false, ◌||◌, List, [], ◌∷◌, ◌++◌, length, get_or, ◌⊎◌, inl, inr, refl, sym, ap, ◌∙◌, subst, arith}
 use Rattle.std.specs.Prelude.{◌==◌, if◌then◌else◌}
 use Rattle.std.proofs.lemmas.Bool.{eqb-true, eq-eqb, cases_lt}
@@ -80,19 +79,20 @@ noted_new koid known more waiting later pushed is =
 
 -- ---- the walk
 
--- all that is known ends; what waits is known; and what is known waits, or all that ends next to it is known
-pub record IsWalked (S : State) (task : ℕ) (ending known : ℕ → Bool) (waiting : List ℕ) : Type 0 where
-  pub inside : (x : ℕ) → known x ≡ true → ending x ≡ true
+-- each set that the walk stays in has what is known; what waits is known; and what is known waits, or all that ends next
+-- to it is known
+pub record IsWalked (S : State) (task : ℕ) (known : ℕ → Bool) (waiting : List ℕ) : Type 0 where
+  pub least : (found : ℕ → Bool) → found task ≡ true → ((y x : ℕ) → found y ≡ true → ends_next S y x ≡ true → found x ≡ true) → (x : ℕ) → known x ≡ true → found x ≡ true
   pub begun : known task ≡ true
   pub waits : (x : ℕ) → among waiting x ≡ true → known x ≡ true
   pub closed : (y : ℕ) → known y ≡ true → (among waiting y ≡ true) ⊎ ((x : ℕ) → ends_next S y x ≡ true → known x ≡ true)
 
-module _ (S : State) (task : ℕ) (ending : ℕ → Bool) (walkable : IsWalkable S task ending) where
-  pub walk-start : (none known : ℕ → Bool) (first waiting : List ℕ) → ((x : ℕ) → none x ≡ false) → first ≡ [] → ((x : ℕ) → known x ≡ (none x || (task == x))) → IsNoted none first known waiting → IsWalked S task ending known waiting
+module _ (S : State) (task : ℕ) where
+  pub walk-start : (none known : ℕ → Bool) (first waiting : List ℕ) → ((x : ℕ) → none x ≡ false) → first ≡ [] → ((x : ℕ) → known x ≡ (none x || (task == x))) → IsNoted none first known waiting → IsWalked S task known waiting
   walk-start none known first waiting empty bare is noted = record {
-    inside = λ x e. elim (or_true (none x) (task == x) (sym (is x) ∙ e)) [
+    least = λ found has all x e. elim (or_true (none x) (task == x) (sym (is x) ∙ e)) [
       | inl t ↦ absurd (true≢false (none x) t (empty x))
-      | inr same ↦ subst (λ z. ending z ≡ true) (eqb-true task x same) walkable.begun
+      | inr same ↦ subst (λ z. found z ≡ true) (eqb-true task x same) has
     ];
     begun = is task ∙ or_right (none task) (task == task) (eq-eqb task task refl);
     waits = λ x e. elim (noted.within x e) [
@@ -106,11 +106,11 @@ module _ (S : State) (task : ℕ) (ending : ℕ → Bool) (walkable : IsWalkable
   }
 
   -- one that waited has been looked at
-  pub walk-next : (at : ℕ) (known more : ℕ → Bool) (waiting rest later : List ℕ) → IsWalked S task ending known waiting → waiting ≡ rest ++ at ∷ [] → ((x : ℕ) → more x ≡ (known x || ends_next S at x)) → IsNoted known rest more later → IsWalked S task ending more later
+  pub walk-next : (at : ℕ) (known more : ℕ → Bool) (waiting rest later : List ℕ) → IsWalked S task known waiting → waiting ≡ rest ++ at ∷ [] → ((x : ℕ) → more x ≡ (known x || ends_next S at x)) → IsNoted known rest more later → IsWalked S task more later
   walk-next at known more waiting rest later walked popped is noted = record {
-    inside = λ x e. elim (or_true (known x) (ends_next S at x) (sym (is x) ∙ e)) [
-      | inl k ↦ walked.inside x k
-      | inr next ↦ walkable.closed at x (walked.inside at at_known) next
+    least = λ found has all x e. elim (or_true (known x) (ends_next S at x) (sym (is x) ∙ e)) [
+      | inl k ↦ walked.least found has all x k
+      | inr next ↦ all at x (walked.least found has all at at_known) next
     ];
     begun = grown task walked.begun;
     waits = λ x e. elim (noted.within x e) [
@@ -139,14 +139,19 @@ module _ (S : State) (task : ℕ) (ending : ℕ → Bool) (walkable : IsWalkable
       ]
       looked y (inr all) = inr (λ x next. grown x (all x next))
 
-  -- where nothing waits, what is known is what ends
-  pub walk-end : (known : ℕ → Bool) (waiting : List ℕ) → IsWalked S task ending known waiting → length waiting ≡ 0 → known ≡ ending
-  walk-end known waiting walked empty =
-      let each : (x : ℕ) → known x ≡ ending x = λ x. same_test (known x) (ending x) (walked.inside x) (walkable.least known walked.begun next x) in
+  -- where nothing waits, what is known is what the walk finds
+  pub walk-end : (known : ℕ → Bool) (waiting : List ℕ) → IsWalked S task known waiting → length waiting ≡ 0 → IsWalkable S task known
+  walk-end known waiting walked empty = record {
+    begun = walked.begun;
+    closed = λ y x k h. elim (walked.closed y k) [ inl w ↦ absurd (none-among waiting y empty w) | inr all ↦ all x h ];
+    least = walked.least;
+  }
+
+  -- the walk finds one set
+  pub walk-same : (a b : ℕ → Bool) → IsWalkable S task a → IsWalkable S task b → a ≡ b
+  walk-same a b one other =
+      let each : (x : ℕ) → a x ≡ b x = λ x. same_test (a x) (b x) (one.least b other.begun other.closed x) (other.least a one.begun one.closed x) in
       λ i x. each x i
-    where
-      next : (y x : ℕ) → known y ≡ true → ends_next S y x ≡ true → known x ≡ true
-      next y x k h = elim (walked.closed y k) [ inl w ↦ absurd (none-among waiting y empty w) | inr all ↦ all x h ]
 
 -- ---- the members by rising koids
 

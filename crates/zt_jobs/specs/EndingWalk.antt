@@ -1,5 +1,5 @@
 -- The walk over what ends with a process or job: from parent to child, and from a process to the job that it is
--- critical to. This project's own form.
+-- critical to. Of each process or job of each state it finds one set. This project's own form.
 use Rattle.std.specs.Prelude.{◌≡◌, ℕ, Bool, true, not, ◌==◌, ◌&&◌, ◌||◌, Option, None, Some}
 use Rattle.zt_rows.specs.declared.rows.ObjectRow.{ObjectRow}
 use Rattle.zt_rows.specs.State.{State}
@@ -34,3 +34,7 @@ pub record IsWalkable (S : State) (task : ℕ) (ending : ℕ → Bool) : Type 0 
   pub begun : ending task ≡ true
   pub closed : (y x : ℕ) → ending y ≡ true → ends_next S y x ≡ true → ending x ≡ true
   pub least : (found : ℕ → Bool) → found task ≡ true → ((y x : ℕ) → found y ≡ true → ends_next S y x ≡ true → found x ≡ true) → (x : ℕ) → ending x ≡ true → found x ≡ true
+
+-- the set without the process that ends by itself
+abbrev pub all_but : ℕ → (ℕ → Bool) → ℕ → Bool
+all_but process ending x = ending x && not (x == process)

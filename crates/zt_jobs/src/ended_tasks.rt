@@ -1,15 +1,14 @@
-ghost use Rattle.std.specs.Prelude.{◌≡◌, ◌==◌, true, IfOk, OnOk, OnErr};
+ghost use Rattle.std.specs.Prelude.{◌≡◌, ◌==◌, ℕ, Bool, true, IfOk, OnOk, OnErr};
 ghost use Rattle.zt_rows.specs.declared.keys.RowKey.TheVariants as key_variant;
 ghost use Rattle.zt_rows.specs.declared.rows.Life.TheVariants as life_variant;
-ghost use Rattle.zt_rows.specs.End.{end, ends_with};
-ghost use Rattle.zt_rows.specs.JobCalls.{others};
+ghost use Rattle.zt_rows.specs.End.{end};
 ghost use Rattle.zt_rows.specs.State.{change};
 ghost use Rattle.zt_rows.specs.Tests.{among};
 ghost use Rattle.zt_store.specs.Places.{Keeps};
 ghost use Rattle.zt_store.specs.StepView.{Advanced, AsBegun};
 ghost use Rattle.zt_store.specs.ProofsOnly.StepView.{IsAhead};
 ghost use Rattle.zt_store.specs.KoidSets.{only};
-ghost use Rattle.zt_jobs.specs.EndingWalk.{IsWalkable};
+ghost use Rattle.zt_jobs.specs.EndingWalk.{IsWalkable, all_but};
 ghost use Rattle.zt_jobs.specs.ProofsOnly.TaskTree.{IsRising};
 ghost use Rattle.zt_jobs.specs.EndedTasks.{handles_of};
 ghost use Rattle.zt_jobs.specs.ProofsOnly.EndedTasks.{left_behind, with_end, with_life};
@@ -21,20 +20,22 @@ use std::alloc::{AllocError, Global};
 use zt_rows::{Held, Koid, Life, ObjectRow, Row, RowKey};
 use zt_store::Step;
 
-/// Ends the process so, and kills what else ends with it: each of them has no parent any more, their entries go, and
-/// so do the waits that they made. Answers what the entries held, by rising process and value. The work grows with
-/// what ends, with the places that its entries had and with its waits: no other row is looked at.
+/// Ends the process so, and kills what else the walk from it finds, which in a sound state is what ends with it: each of
+/// them has no parent any more, their entries go, and so do the waits that they made. Answers what the entries held, by
+/// rising process and value. The work grows with what ends, with the places that its entries had and with its waits: no
+/// other row is looked at.
 pub fn end_process(
     alloc: Global,
     step: &mut Step,
     process: Koid,
     how: Life,
 ) -> Result<Vec<Held>, AllocError>
-    requires { let S = step.old.current in IsWalkable S process (ends_with S process) }
-    ensures handles { let S = step.old.current in
-        IfOk result (λ taken. taken.items ≡ handles_of S (ends_with S process)) }
-    ensures ended { let S = step.old.current in OnOk result (Advanced step.old step.new
-        (end (end S (λ x. x == process) how) (others S process) life_variant.Killed)) }
+    ensures found { IfOk result (λ _. (ending : ℕ → Bool) × IsWalkable step.old.current process ending) }
+    ensures handles { let S = step.old.current in (ending : ℕ → Bool) → IsWalkable S process ending
+        → IfOk result (λ taken. taken.items ≡ handles_of S ending) }
+    ensures ended { let S = step.old.current in (ending : ℕ → Bool) → IsWalkable S process ending
+        → OnOk result (Advanced step.old step.new
+        (end (end S (λ x. x == process) how) (all_but process ending) life_variant.Killed)) }
     ensures err { OnErr result (AsBegun step.old step.new) }
     ensures kept { Keeps step.old.places step.new.places }
 {
@@ -49,20 +50,21 @@ pub fn end_process(
     done
 }
 
-/// Ends the job so and all that ends with it: each of them has no parent any more, their entries go, and so do the
-/// waits that they made. Answers what the entries held, by rising process and value. The work grows with what ends,
-/// with the places that their entries had and with their waits: no other row is looked at.
+/// Ends the job so and all that the walk from it finds, which in a sound state is what ends with it: each of them has no
+/// parent any more, their entries go, and so do the waits that they made. Answers what the entries held, by rising process
+/// and value. The work grows with what ends, with the places that their entries had and with their waits: no other row is
+/// looked at.
 pub fn end_subtree(
     alloc: Global,
     step: &mut Step,
     job: Koid,
     how: Life,
 ) -> Result<Vec<Held>, AllocError>
-    requires { let S = step.old.current in IsWalkable S job (ends_with S job) }
-    ensures handles { let S = step.old.current in
-        IfOk result (λ taken. taken.items ≡ handles_of S (ends_with S job)) }
-    ensures ended { let S = step.old.current in
-        OnOk result (Advanced step.old step.new (end S (ends_with S job) how)) }
+    ensures found { IfOk result (λ _. (ending : ℕ → Bool) × IsWalkable step.old.current job ending) }
+    ensures handles { let S = step.old.current in (ending : ℕ → Bool) → IsWalkable S job ending
+        → IfOk result (λ taken. taken.items ≡ handles_of S ending) }
+    ensures ended { let S = step.old.current in (ending : ℕ → Bool) → IsWalkable S job ending
+        → OnOk result (Advanced step.old step.new (end S ending how)) }
     ensures err { OnErr result (AsBegun step.old step.new) }
     ensures kept { Keeps step.old.places step.new.places }
 {
@@ -77,8 +79,8 @@ pub fn end_subtree(
     done
 }
 
-/// Kills the members, which end with the process, but for the process itself, which ends so. Answers what their entries
-/// held. Refused, the step stands in the middle of it.
+/// Kills the members, but for the process, which is one of them and ends so. Answers what their entries held. Refused, the
+/// step stands in the middle of it.
 fn exit_all(
     alloc: Global,
     step: &mut Step,
@@ -87,13 +89,11 @@ fn exit_all(
     how: Life,
 ) -> Result<Vec<Held>, AllocError>
     requires rising { IsRising members.now }
-    requires members { among members.now ≡ ends_with step.old.current process }
-    requires member { ends_with step.old.current process process ≡ true }
+    requires member { among members.now process ≡ true }
     ensures ahead { IsAhead step.old step.new }
-    ensures handles { let S = step.old.current in
-        IfOk result (λ taken. taken.items ≡ handles_of S (ends_with S process)) }
-    ensures ended { let S = step.old.current in OnOk result (step.new.current
-        ≡ end (end S (λ x. x == process) how) (others S process) life_variant.Killed) }
+    ensures handles { IfOk result (λ taken. taken.items ≡ handles_of step.old.current (among members.now)) }
+    ensures ended { OnOk result (step.new.current
+        ≡ end (end step.old.current (λ x. x == process) how) (all_but process (among members.now)) life_variant.Killed) }
 {
     let taken = end_all(alloc, step, members, Life::Killed)?;
     set_life(step, process, how)?;

@@ -1,5 +1,4 @@
 ghost use Rattle.std.specs.Prelude.{◌≡◌, ◌==◌, ◌||◌, ℕ, IfOk, OnOk};
-ghost use Rattle.zt_rows.specs.End.{ends_with};
 ghost use Rattle.zt_rows.specs.Tests.{among};
 ghost use Rattle.zt_store.specs.KoidSets.{only};
 ghost use Rattle.zt_jobs.specs.EndingWalk.{IsWalkable, ends_next, is_child_in, is_critical_to};
@@ -13,25 +12,24 @@ use std::alloc::{AllocError, Global};
 use zt_rows::Koid;
 use zt_store::Step;
 
-/// What ends with the process or job, by rising koids.
+/// What the walk over what ends with the process or job finds, by rising koids.
 pub(crate) fn members_ending(
     alloc: Global,
     step: &Step,
     task: Koid,
 ) -> Result<Vec<Koid>, AllocError>
-    requires { let S = step.now.current in IsWalkable S task (ends_with S task) }
-    ensures members { IfOk result (λ members. among members.items ≡ ends_with step.now.current task) }
+    ensures members { IfOk result (λ members. IsWalkable step.now.current task (among members.items)) }
     ensures rising { IfOk result (λ members. IsRising members.items) }
 {
     let known = known_ending(alloc, step, task)?;
-    known.by_koid(alloc)
+    let members = known.by_koid(alloc)?;
+    Ok(members)
 }
 
-/// What ends with the process or job. What ends next to one that is known is found by its parent and by what it is
-/// critical to, so that no other object is looked at, and each waits for this once.
+/// What the walk over what ends with the process or job finds. What ends next to one that is known is found by its parent
+/// and by what it is critical to, so that no other object is looked at, and each waits for this once.
 fn known_ending(alloc: Global, step: &Step, task: Koid) -> Result<FoundKoids, AllocError>
-    requires { let S = step.now.current in IsWalkable S task (ends_with S task) }
-    ensures { IfOk result (λ known. found known ≡ ends_with step.now.current task) }
+    ensures { IfOk result (λ known. IsWalkable step.now.current task (found known)) }
 {
     let mut known = FoundKoids::new(alloc);
     let mut waiting = Vec::new(alloc);

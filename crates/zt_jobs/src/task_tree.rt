@@ -1,4 +1,4 @@
-ghost use Rattle.std.specs.Prelude.{◌≡◌, ◌+◌, ◌<◌, ◌^◌};
+ghost use Rattle.std.specs.Prelude.{◌≡◌, ◌<◌, ◌^◌};
 ghost use Rattle.zt_rows.specs.End.{chain, depth, is_live_task, is_under};
 ghost use Rattle.zt_rows.specs.Reads.{object};
 ghost use Rattle.zt_rows.specs.Tests.{among, link_at};
@@ -11,7 +11,7 @@ use zt_store::Step;
 /// How many jobs are above the process or job. It takes no memory, and follows no more links than the koid has
 /// koids below it.
 pub fn depth(step: &Step, koid: Koid) -> u64
-    requires { koid + 1 < 2 ^ 64 }
+    requires { depth step.now.current koid < 2 ^ 64 }
     ensures { result ≡ depth step.now.current koid }
 {
     let mut at = koid;

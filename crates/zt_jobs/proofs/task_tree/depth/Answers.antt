@@ -27,3 +27,12 @@ returns c =
     let v : c.koid.inside.0 ≡ c.args.koid = c.koid.view_is in
     let past : c.koid.inside.0 < c.links.above = c.links-test.false in
     followed-all c.args.step.now.current c.args.koid c.links.above c.links.at (omega arith) c.links.invariant.followed
+
+pub overflow_add-above : goal.overflow_add-above
+overflow_add-above c =
+    let v : c.koid.inside.0 ≡ c.args.koid = c.koid.view_is in
+    let le : c.links.above ≤ c.koid.inside.0 = c.links-test.true in
+    let more = followed-more c.args.step.now.current c.args.koid c.links.above c.links.at c.link_of-at.result (omega arith)
+    c.links.invariant.followed c.link_of-at.ensures (sym c.eq.ensures ∙ c.if-eq.false) in
+    let few = c.requires in
+    omega (arith, more, few)
