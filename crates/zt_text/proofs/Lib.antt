@@ -12,12 +12,14 @@ pub mod ShownFields
 pub mod ShownWords
 pub mod ShownLengths
 pub mod ShownCalls
+pub mod ShownLines
 pub mod LineLemmas
 pub mod SessionLemmas
 pub mod SessionTexts
 pub mod SpelledFields
 pub mod SpelledLines
 pub mod SpelledSessions
+pub mod SpelledTrees
 pub mod SavedLemmas
 pub mod SessionCallLemmas
 pub mod SavedTrees

@@ -189,3 +189,22 @@ at_few client moment few low =
     let last = handle_few moment low in
     let whole = joined_fewer 32 (codes "cursor") (decimal client ∷ codes "at" ∷ decimal moment ∷ []) in
     grind (arith, nat_tests, last, number, whole)
+
+-- ---- the lines of commands, and of questions to the pinned copy
+
+pub number_few : (word : List ℕ) (n : ℕ) → length word ≤ 20 → n < 2 ^ 64 → nat_lt 140000 (length (words (word ∷ decimal n ∷ []))) ≡ false
+number_few word n few small =
+    let last = key_few n small in
+    let whole = joined_few 32 (word ∷ decimal n ∷ []) in
+    grind (arith, nat_tests, few, last, whole)
+
+pub words_few : (word next : List ℕ) (n : ℕ) → length word ≤ 20 → length next ≤ 20 → n < 2 ^ 64 → nat_lt 140000 (length (words (word ∷ next ∷ decimal n ∷ []))) ≡ false
+words_few word next n few less small =
+    let last = key_few n small in
+    let whole = joined_few 32 (word ∷ next ∷ decimal n ∷ []) in
+    grind (arith, nat_tests, few, less, last, whole)
+
+pub named_few : (word name : List ℕ) → length word ≤ 6 → length name ≤ 139993 → nat_lt 140000 (length (words (word ∷ name ∷ []))) ≡ false
+named_few word name few short =
+    let whole = joined_fewer 32 word (name ∷ []) in
+    grind (arith, nat_tests, few, short, whole)

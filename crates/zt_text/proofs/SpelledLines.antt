@@ -45,12 +45,12 @@ value_of (Err e) make made h = absurd (err_ok e made h)
 -- ---- fields
 
 -- a form, with what shows the values that it reads
-record Form (A : Type 0) : Type 0 where
-  read : List ℕ → Option A
-  shows : A → List ℕ
-  spelled : (word : List ℕ) (value : A) → read word ≡ Some value → word ≡ shows value
+pub record Form (A : Type 0) : Type 0 where
+  pub read : List ℕ → Option A
+  pub shows : A → List ℕ
+  pub spelled : (word : List ℕ) (value : A) → read word ≡ Some value → word ≡ shows value
 
-abbrev handle_form : Form ℕ
+abbrev pub handle_form : Form ℕ
 handle_form = record { read = handle_of; shows = decimal; spelled = decimal_spelled (2 ^ 32 - 1) (lit< tt) }
 
 abbrev key_form : Form ℕ
@@ -77,18 +77,18 @@ handles_form = record { read = handles_of; shows = shown_list decimal; spelled =
 abbrev count_form : Form ℕ
 count_form = record { read = count_of; shows = decimal; spelled = count_spelled }
 
-abbrev name_form : Form (List ℕ)
+abbrev pub name_form : Form (List ℕ)
 name_form = record { read = name_of; shows = λ name. name; spelled = name_spelled }
 
 abbrev happening_form : Form Happening
 happening_form = record { read = happening_of; shows = happening_word; spelled = happening_spelled }
 
 -- the bytes of fields
-abbrev texts : List Placed → List (List ℕ)
+abbrev pub texts : List Placed → List (List ℕ)
 texts [] = []
 texts (first ∷ others) = first.bytes ∷ texts others
 
-texts_placed : (column : ℕ) (fields : List (List ℕ)) → texts (placed column fields) ≡ fields
+pub texts_placed : (column : ℕ) (fields : List (List ℕ)) → texts (placed column fields) ≡ fields
 unfolding placed
 texts_placed column [] = refl
 texts_placed column (first ∷ others) = ap (λ ws. first ∷ ws) (texts_placed (column + length first + 1) others)
@@ -117,7 +117,7 @@ first_then form (x ∷ xs) behind others made h =
     value_then form x.bytes x.column (record { fields = xs; behind = behind }) (form.read x.bytes) refl others made h
 
 -- where something is read behind a field, the field shows its value
-field_then : {A B : Type 0} (form : Form A) (left : Unread) (others : A × Unread → Result B Refusal) (made : B)
+pub field_then : {A B : Type 0} (form : Form A) (left : Unread) (others : A × Unread → Result B Refusal) (made : B)
     → (field form.read left >>= others) ≡ Ok made
     → (value : A) × (rest : Unread) × (texts left.fields ≡ form.shows value ∷ texts rest.fields) × (others (value, rest) ≡ Ok made)
 unfolding field
@@ -248,7 +248,7 @@ four_flag_read name first second third fourth make left made h =
 
 -- ---- what is made of them
 
-abbrev Words : Type 0
+abbrev pub Words : Type 0
 Words = List (List ℕ)
 
 spelled_as : {T : Type 0} (show_words : T → Words) (put : Words → Words) (fields arguments : Words) (value made : T) → value ≡ made → fields ≡ arguments
@@ -261,13 +261,13 @@ no_field show_words put value shown left made h =
     let t = end_then left value made h in
     spelled_as show_words put (texts left.fields) [] value made t.0 t.1 shown
 
-one_field : {A T : Type 0} (show_words : T → Words) (put : Words → Words) (first : Form A) (make : A → T) → ((a : A) → show_words (make a) ≡ put (first.shows a ∷ []))
+pub one_field : {A T : Type 0} (show_words : T → Words) (put : Words → Words) (first : Form A) (make : A → T) → ((a : A) → show_words (make a) ≡ put (first.shows a ∷ []))
     → (left : Unread) (made : T) → reads_one first make left ≡ Ok made → show_words made ≡ put (texts left.fields)
 one_field show_words put first make shown left made h =
     let t = one_read first make left made h in
     spelled_as show_words put (texts left.fields) (first.shows t.0 ∷ []) (make t.0) made t.1 t.2 (shown t.0)
 
-two_fields : {A B T : Type 0} (show_words : T → Words) (put : Words → Words) (first : Form A) (second : Form B) (make : A → B → T)
+pub two_fields : {A B T : Type 0} (show_words : T → Words) (put : Words → Words) (first : Form A) (second : Form B) (make : A → B → T)
     → ((a : A) (b : B) → show_words (make a b) ≡ put (first.shows a ∷ second.shows b ∷ []))
     → (left : Unread) (made : T) → reads_two first second make left ≡ Ok made → show_words made ≡ put (texts left.fields)
 two_fields show_words put first second make shown left made h =
@@ -303,13 +303,13 @@ named_if : {T : Type 0} (Spells : List ℕ → Type 0) (b : Bool) (word name : L
 named_if Spells true word name x y made is this other h = subst Spells (sym ((bytes_eq-Decides word name).0 is)) (this h)
 named_if Spells false word name x y made is this other h = other h
 
-named : {T : Type 0} (Spells : List ℕ → Type 0) (word name : List ℕ) (x y : Result T Refusal) (made : T)
+pub named : {T : Type 0} (Spells : List ℕ → Type 0) (word name : List ℕ) (x y : Result T Refusal) (made : T)
     → (x ≡ Ok made → Spells name) → (y ≡ Ok made → Spells word) → (if bytes_eq word name then x else y) ≡ Ok made → Spells word
 named Spells word name x y made this other h = named_if Spells (bytes_eq word name) word name x y made refl this other h
 
 -- ---- each call
 
-abbrev call_words : Call → Words
+abbrev pub call_words : Call → Words
 call_words made = call_name made ∷ call_arguments made
 
 event_create_spelled : (left : Unread) (made : Call) → event_create left ≡ Ok made → call_words made ≡ codes "event_create" ∷ texts left.fields
@@ -457,7 +457,7 @@ call_spelled left made h = call_first left.fields left.behind made h
 abbrev made_words : ℕ × Call → Words
 made_words made = decimal made.0 ∷ call_words made.1
 
-process_call_spelled : (left : Unread) (made : ℕ × Call) → process_call left ≡ Ok made → texts left.fields ≡ made_words made
+pub process_call_spelled : (left : Unread) (made : ℕ × Call) → process_call left ≡ Ok made → texts left.fields ≡ made_words made
 unfolding process_call
 process_call_spelled left made h =
     let process = field_then {B = ℕ × Call} key_form left (λ x. call x.1 >>= λ c. Ok (x.0, c)) made h in
@@ -466,7 +466,7 @@ process_call_spelled left made h =
 
 -- ---- each command
 
-only_name_spelled : (left : Unread) (name : List ℕ) → only_name left ≡ Ok name → name ∷ [] ≡ texts left.fields
+pub only_name_spelled : (left : Unread) (name : List ℕ) → only_name left ≡ Ok name → name ∷ [] ≡ texts left.fields
 unfolding only_name
 only_name_spelled left name h = one_field (λ n. n ∷ []) (λ ws. ws) name_form (λ n. n) (λ n. refl) left name h
 

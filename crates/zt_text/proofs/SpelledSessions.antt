@@ -31,7 +31,7 @@ byte_before true first byte bytes lines is rest =
 byte_before false first byte bytes [] is rest = cc
 byte_before false first byte bytes (l ∷ ls) is rest = ap (λ bs. first ∷ bs) rest
 
-lines_joined : (text : List ℕ) → is_whole text ≡ true → flat_map as_line (lines_of text) ≡ text
+pub lines_joined : (text : List ℕ) → is_whole text ≡ true → flat_map as_line (lines_of text) ≡ text
 lines_joined [] ends = refl
 lines_joined (byte ∷ []) ends = last_line (byte == 10) byte refl ends
 lines_joined (first ∷ byte ∷ bytes) ends =

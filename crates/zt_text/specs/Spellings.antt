@@ -1,19 +1,21 @@
 -- Nothing has a second spelling: what reads as something is what shows it.
-use Rattle.std.specs.Prelude.{◌≡◌, ℕ, Bool, true, false, not, ◌==◌, List, [], ◌∷◌, Option, Some, Ok, codes}
-use Rattle.std.specs.List.{list_all}
+use Rattle.std.specs.Prelude.{◌≡◌, ℕ, ◌^◌, ◌<◌, ◌≤◌, ⊤, Bool, true, false, not, ◌==◌, List, [], ◌∷◌, length, Option, Some, Ok, codes}
+use Rattle.std.specs.List.{All, list_all}
 use Rattle.std.specs.Fmt.{decimal}
 use Rattle.zt_rows.specs.declared.calls.Call.{Call}
 use Rattle.zt_rows.specs.declared.calls.Command.{Command}
 use Rattle.zt_rows.specs.declared.calls.Command.TheVariants as commands
 use Rattle.zt_rows.specs.declared.calls.Happening.{Happening}
 use Rattle.zt_rows.specs.declared.calls.Happening.TheVariants.{Made, Ended, PeerClosed, Leaked}
+use Rattle.zt_rows.specs.declared.saved.Saved.{Saved}
 use Rattle.zt_text.specs.declared.read_lines.Line.{Line}
 use Rattle.zt_text.specs.declared.read_lines.Line.TheVariants as line
 use Rattle.zt_text.specs.Lines.{lines_of}
 use Rattle.zt_text.specs.ReadLines.{is_skipped, read_as}
 use Rattle.zt_text.specs.ShownNumbers.{words}
-use Rattle.zt_text.specs.Calls.{call_name, call_arguments, shown_call, session_text}
+use Rattle.zt_text.specs.Calls.{IsWithin, call_name, call_arguments, shown_call, session_text}
 use Rattle.zt_text.specs.Session.{session_of}
+use Rattle.zt_text.specs.SavedTexts.{saved_of, saved_text}
 
 -- a field that a form reads is the field that shows what it reads
 abbrev pub IsSpelledAsShown : {A : Type 0} → (List ℕ → Option A) → (A → List ℕ) → Type 0
@@ -53,6 +55,38 @@ line_words line.PinnedShow = codes "pinned" ∷ codes "show" ∷ []
 line_words (line.PinnedHolders koid) = codes "pinned" ∷ codes "holders" ∷ decimal koid ∷ []
 line_words line.PinnedLeaks = codes "pinned" ∷ codes "leaks" ∷ []
 
+-- a byte of a name: a visible character of ASCII
+abbrev pub IsVisible : ℕ → Type 0
+IsVisible byte = (33 ≤ byte) × (byte ≤ 126)
+
+-- a name that a command can have: one such byte or more, and so few that the line is not too long
+abbrev pub IsNameAsked : List ℕ → Type 0
+IsNameAsked name = (1 ≤ length name) × (length name ≤ 139993) × All IsVisible name
+
+-- the numbers and names that a command can have
+abbrev pub IsCommandAsked : Command → Type 0
+IsCommandAsked (commands.Call process made) = (process < 2 ^ 64) × IsWithin made
+IsCommandAsked (commands.Goto moment) = moment < 2 ^ 32
+IsCommandAsked (commands.Back count) = (1 ≤ count) × (count ≤ 1048576)
+IsCommandAsked (commands.Branch name) = IsNameAsked name
+IsCommandAsked (commands.Follow name) = IsNameAsked name
+IsCommandAsked commands.Show = ⊤
+IsCommandAsked (commands.Holders koid) = koid < 2 ^ 64
+IsCommandAsked commands.Leaks = ⊤
+IsCommandAsked (commands.When what koid) = koid < 2 ^ 64
+IsCommandAsked commands.Pin = ⊤
+
+-- and those of all that a line can ask
+abbrev pub IsAsked : Line → Type 0
+IsAsked (line.Command asked) = IsCommandAsked asked
+IsAsked line.PinnedShow = ⊤
+IsAsked (line.PinnedHolders koid) = koid < 2 ^ 64
+IsAsked line.PinnedLeaks = ⊤
+
+-- the words of what can be asked, with a space between, ask just that
+abbrev pub WordsAskWhatTheySay : Type 0
+WordsAskWhatTheySay = (asked : Line) → IsAsked asked → read_as (words (line_words asked)) ≡ Ok (Some asked)
+
 -- a line that asks something has the words of what it asks, with a space between
 abbrev pub LinesHaveTheWordsOfWhatTheyAsk : Type 0
 LinesHaveTheWordsOfWhatTheyAsk = (text : List ℕ) (asked : Line) → read_as text ≡ Ok (Some asked) → text ≡ words (line_words asked)
@@ -79,3 +113,9 @@ abbrev pub SessionsAreSpelledAsShown : Type 0
 SessionsAreSpelledAsShown =
     (text : List ℕ) (calls : List (ℕ × Call)) → session_of text ≡ Ok calls → skips_nothing text ≡ true → is_whole text ≡ true
     → text ≡ session_text calls
+
+-- so is a text of version 2 that reads as a tree
+abbrev pub SavedTreesAreSpelledAsShown : Type 0
+SavedTreesAreSpelledAsShown =
+    (text : List ℕ) (lines : List (List ℕ)) (saved : Saved) → lines_of text ≡ codes "zxtt 2" ∷ lines → saved_of text ≡ Ok saved
+    → skips_nothing text ≡ true → is_whole text ≡ true → text ≡ saved_text saved

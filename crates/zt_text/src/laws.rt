@@ -19,7 +19,7 @@ ghost use Rattle.zt_text.specs.SessionCalls.{LinesLeft, calls_left, in_front_of,
 ghost use Rattle.zt_rows.specs.CallsInARow.{in_a_row};
 ghost use Rattle.zt_text.specs.SavedTexts.{IsSaved, IsSavedCall, IsHeadWithin, IsPlaceWithin, saved_of, saved_text};
 ghost use Rattle.zt_text.specs.Columns.{ColumnsTellFirstFaults};
-ghost use Rattle.zt_text.specs.Spellings.{IsSpelledAsShown, CallsAreSpelledAsShown, LinesHaveTheWordsOfWhatTheyAsk, LinesAskDifferentThings, SessionsAreSpelledAsShown};
+ghost use Rattle.zt_text.specs.Spellings.{IsSpelledAsShown, CallsAreSpelledAsShown, LinesHaveTheWordsOfWhatTheyAsk, LinesAskDifferentThings, SavedTreesAreSpelledAsShown, SessionsAreSpelledAsShown, WordsAskWhatTheySay};
 ghost use Rattle.zt_text.specs.Rows.{IsKeyWithin, IsRowWithin};
 ghost use Rattle.zt_text.specs.Answers.{row_line};
 ghost use Rattle.zt_text.specs.ShownNumbers.{shown_mask, shown_bytes, shown_list};
@@ -195,6 +195,12 @@ pub fn lines_have_the_words_of_what_they_ask()
     ensures { LinesHaveTheWordsOfWhatTheyAsk }
 {}
 
+/// What can be asked is asked by its words, with a space between: so each call, each command and each question to the
+/// pinned copy has exactly one line.
+pub fn lines_read_back()
+    ensures { WordsAskWhatTheySay }
+{}
+
 /// No two lines ask the same.
 pub fn lines_ask_different_things()
     ensures { LinesAskDifferentThings }
@@ -290,6 +296,12 @@ pub fn calls_read_as_a_row()
 /// A session text that reads as calls is their session text, but for skipped lines and the line feed of its last line.
 pub fn sessions_are_spelled_as_shown()
     ensures { SessionsAreSpelledAsShown }
+{}
+
+/// A session text of version 2 that reads as a tree is the text of that tree, but for skipped lines and the line feed of
+/// its last line.
+pub fn saved_trees_are_spelled_as_shown()
+    ensures { SavedTreesAreSpelledAsShown }
 {}
 
 /// The column of a line's fault is that of the first field with which no line begins that asks something, or is behind
