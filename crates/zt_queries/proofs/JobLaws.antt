@@ -1,9 +1,8 @@
--- A job with a live process as its child, as its own row shows it, is not leaked; and only what lives has a job above it.
-use Rattle.std.proofs.Common.{◌≡◌, ◌<◌, ℕ, suc, ◌+◌, Bool, true, false, not, ◌&&◌, ◌||◌, cond, List, [], ◌∷◌, refl, sym, ap, ◌∙◌, subst, arith}
-use Rattle.std.specs.Prelude.{Some, ◌==◌, bit_and, bit_or, count_by}
+-- What a process that runs has as its parent is not leaked; and only what lives has a job above it.
+use Rattle.std.proofs.Common.{◌≡◌, ◌<◌, ℕ, suc, ◌+◌, Bool, true, false, not, ◌&&◌, ◌||◌, cond, List, [], ◌∷◌, refl, ap, subst, arith}
+use Rattle.std.specs.Prelude.{Some, ◌==◌, count_by}
 use Rattle.std.specs.List.{list_any}
-use Rattle.std.proofs.lemmas.Nat.{and_assoc, and_or_self}
-use Rattle.std.proofs.lemmas.Bool.{eqb-true, eq-eqb}
+use Rattle.std.proofs.lemmas.Bool.{eqb-true}
 use Rattle.zt_bits.specs.declared.kinds.Kind.{Kind}
 use Rattle.zt_bits.specs.declared.kinds.Kind.TheVariants as kind
 use Rattle.zt_rows.specs.declared.keys.RowKey.{RowKey}
@@ -12,36 +11,18 @@ use Rattle.zt_rows.specs.declared.rows.ObjectRow.{ObjectRow}
 use Rattle.zt_rows.specs.declared.rows.Row.{Row}
 use Rattle.zt_rows.specs.declared.rows.Row.TheVariants as rows
 use Rattle.zt_rows.specs.State.{State, row}
-use Rattle.zt_rows.specs.Reads.{as_object, object, is_job, is_process, is_live, is_live_job, is_live_process}
-use Rattle.zt_rows.specs.Settle.{bit_if, derived_mask, derived_by, is_child_job_of, is_child_process_of}
+use Rattle.zt_rows.specs.Reads.{as_object, object, is_job, is_process, is_live_job, is_live_process}
+use Rattle.zt_rows.specs.Settle.{is_child_process_of}
 use Rattle.zt_rows.specs.Support.{root_job}
-use Rattle.zt_rows.specs.Tests.{among, any_row, count_row, has_all, is_task, link_at, object_link, without_bits}
+use Rattle.zt_rows.specs.Tests.{among, count_row, is_task, link_at, object_link}
 use Rattle.zt_rows.specs.End.{chain, links}
-use Rattle.zt_rows.specs.Consistent.{IsSound, IsConsistent}
+use Rattle.zt_rows.specs.Consistent.{IsSound}
 use Rattle.zt_rows.proofs.AboveLaws.{parent-above}
-use Rattle.zt_rows.proofs.RowLaws.{In, in-row, in-list_any, count-cons, or_left, or_right, and_left, and_right, true≢false, not_true}
+use Rattle.zt_rows.proofs.RowLaws.{In, in-row, in-list_any, count-cons, or_left, or_right, and_left, and_right, not_true}
 use Rattle.zt_queries.specs.Leaks.{is_leaked}
-use Rattle.zt_queries.specs.ProofsOnly.NameSearch.{has_process}
 use Rattle.zt_queries.proofs.LeakLaws.{in-upward, leaked-lost}
 use Rattle.zt_queries.proofs.NameLaws.{task-ends}
-use Rattle.zt_queries.proofs.OnceLaws.{off}
 use Rattle.zt_queries.proofs.ReachLaws.{among-in}
-
--- ---- the signals of a job
-
-standing : (bits derived bit : ℕ) → bit_and derived bit ≡ bit → bit_and (bit_or bits derived) bit ≡ bit
-standing bits derived bit e =
-    ap (bit_and (bit_or bits derived)) (sym e) ∙ sym (and_assoc bit (bit_or bits derived) derived) ∙ ap (λ z. bit_and z bit) (and_or_self derived bits) ∙ e
-
-job-derives : (S : State) (x : ℕ) (o : ObjectRow) (k : Kind) → is_job k ≡ true
-    → bit_or (without_bits o.signals.0 (derived_mask k)) (derived_by k S x o)
-    ≡ bit_or (without_bits o.signals.0 56) (bit_or (bit_if (not (is_live o.life)) 8) (bit_or (bit_if (not (any_row (is_child_job_of x) S)) 16) (bit_if (not (any_row (is_child_process_of x) S)) 32)))
-job-derives S x o kind.Job e = refl
-job-derives S x o kind.Process e = cc
-job-derives S x o kind.Channel e = cc
-job-derives S x o kind.Event e = cc
-job-derives S x o kind.EventPair e = cc
-job-derives S x o kind.Port e = cc
 
 -- ---- what is above
 
@@ -76,32 +57,9 @@ job-no-process kind.Port e f = cc
 
 -- ---- a live process as its child
 
-stand-process : (s : ℕ) (l j : Bool) → has_all (bit_or (without_bits s 56) (bit_or (bit_if l 8) (bit_or (bit_if j 16) 32))) 32 ≡ true
-stand-process s true true = eq-eqb _ 32 (standing (without_bits s 56) 56 32 refl)
-stand-process s true false = eq-eqb _ 32 (standing (without_bits s 56) 40 32 refl)
-stand-process s false true = eq-eqb _ 32 (standing (without_bits s 56) 48 32 refl)
-stand-process s false false = eq-eqb _ 32 (standing (without_bits s 56) 32 32 refl)
-
 child-process : (S : State) (x : ℕ) (k : RowKey) (r : Row) → row S k ≡ Some r → is_child_process_of x k r ≡ true → (y : ℕ) × (q : ObjectRow) × (object S y ≡ Some q) × (is_live_process q ≡ true) × (q.link ≡ x)
 child-process S x (key.Object y) (rows.Object q) there e = (y, q, ap as_object there, and_left (is_live_process q) _ e, eqb-true q.link x (and_right (is_live_process q) _ e))
 child-process S x _ _ there e = cc
-
-pub process-keeps : (S : State) → IsConsistent S → (x : ℕ) (o : ObjectRow) → object S x ≡ Some o → has_process o ≡ true → is_leaked S x ≡ false
-unfolding any_row
-process-keeps S c x o at has = not_true (is_leaked S x) (λ leaks. by (any_row (is_child_process_of x) S) refl leaks)
-  where
-    by : (b : Bool) → any_row (is_child_process_of x) S ≡ b → is_leaked S x ≡ true → ⊥
-    by true t leaks =
-        let w = in-list_any (λ (e : RowKey × Row). is_child_process_of x e.0 e.1) S.rows t in
-        let p = child-process S x w.0.0 w.0.1 (in-row S w.0.0 w.0.1 w.1) w.2 in
-        let up : among (chain S p.0) x ≡ true = subst (λ z. among (chain S p.0) z ≡ true) p.4 (parent-above S c.sound p.0 p.1 p.2 (or_left (is_live_process p.1) _ p.3)) in
-        (leaked-lost S x leaks).not_above p.0 p.1 p.2 (or_left (is_live_process p.1) _ p.3) (among-in x (chain S p.0) up)
-    by false f leaks =
-        let stands : has_all o.signals.0 32 ≡ true =
-        sym (ap (λ s. has_all s 32) (sym (job-derives S x o o.kind (and_left (is_job o.kind) _ has)) ∙ c.agrees x o at))
-        ∙ ap (λ b. has_all (bit_or (without_bits o.signals.0 56) (bit_or (bit_if (not (is_live o.life)) 8) (bit_or (bit_if (not (any_row (is_child_job_of x) S)) 16) (bit_if (not b) 32)))) 32) f
-        ∙ stand-process o.signals.0 (not (is_live o.life)) (not (any_row (is_child_job_of x) S)) in
-        true≢false (has_all o.signals.0 32) stands (off (has_all o.signals.0 32) (and_right (is_job o.kind) _ has))
 
 some-row : (p : RowKey × Row → Bool) (es : List (RowKey × Row)) → 0 < count_by p es → list_any p es ≡ true
 some-row p [] some = absurd (omega (arith, some))

@@ -139,78 +139,6 @@ pub all-low : (f : ℕ → Option ℕ) (q : ℕ) (ys : List ℕ) → ((y : ℕ) 
 all-low f q [] low best up r e = up r e
 all-low f q (y ∷ ys) low best up r e = all-low f q ys (λ z m. low z (inr m)) (later best (f y)) (by_both q best (f y) up (low y (inl refl))) r e
 
--- the latest is not before one of them
-later-up : (a b : Option ℕ) (r : ℕ) → (a ≡ Some r) ⊎ (b ≡ Some r) → (l : ℕ) × (later a b ≡ Some l) × (r ≤ l)
-later-up None b r (inl e) = none_is r e
-later-up None b r (inr e) = (r, e, omega arith)
-later-up (Some m) None r (inl e) = (m, refl, omega (arith, some_one m r e))
-later-up (Some m) None r (inr e) = none_is r e
-later-up (Some m) (Some n) r (inl e) = (max m n, refl, omega (arith, some_one m r e))
-later-up (Some m) (Some n) r (inr e) = (max m n, refl, omega (arith, some_one n r e))
-
-best-up : (f : ℕ → Option ℕ) (ys : List ℕ) (r : ℕ) (best : Option ℕ) → best ≡ Some r → (l : ℕ) × (fold (λ b y. later b (f y)) best ys ≡ Some l) × (r ≤ l)
-best-up f [] r best e = (r, e, omega arith)
-best-up f (y ∷ ys) r best e =
-    let u = later-up best (f y) r (inl e) in
-    let w = best-up f ys u.0 (later best (f y)) u.1 in
-    let a : r ≤ u.0 = u.2 in
-    let b : u.0 ≤ w.0 = w.2 in
-    (w.0, w.1, omega arith)
-
-fold-up : (f : ℕ → Option ℕ) (ys : List ℕ) (y : ℕ) → In y ys → (r : ℕ) → f y ≡ Some r → (best : Option ℕ) → (l : ℕ) × (fold (λ b y. later b (f y)) best ys ≡ Some l) × (r ≤ l)
-fold-up f [] y m r e best = absurd m
-fold-up f (z ∷ ys) y (inl same) r e best =
-    let u = later-up best (f z) r (inr (ap f (sym same) ∙ e)) in
-    let w = best-up f ys u.0 (later best (f z)) u.1 in
-    let a : r ≤ u.0 = u.2 in
-    let b : u.0 ≤ w.0 = w.2 in
-    (w.0, w.1, omega arith)
-fold-up f (z ∷ ys) y (inr m) r e best = fold-up f ys y m r e (later best (f z))
-
--- it is one of them
-fold-one : (f : ℕ → Option ℕ) (P : ℕ → Type 0) (ys : List ℕ) → ((y : ℕ) → In y ys → (r : ℕ) → f y ≡ Some r → P r) → (best : Option ℕ) → ((r : ℕ) → best ≡ Some r → P r)
-    → (r : ℕ) → fold (λ b y. later b (f y)) best ys ≡ Some r → P r
-fold-one f P [] each best first r e = first r e
-fold-one f P (y ∷ ys) each best first r e = fold-one f P ys (λ z m. each z (inr m)) (later best (f y)) (λ q g. one q best (f y) g first (each y (inl refl))) r e
-  where
-    max-one : (m n q : ℕ) → max m n ≡ q → (m ≡ q) ⊎ (n ≡ q)
-    max-one m n q e = elim (cases_lt m n) [
-      | inl l ↦ inr (omega (arith, l, e))
-      | inr g ↦ inl (omega (arith, g, e))
-    ]
-
-    one : (q : ℕ) (a b : Option ℕ) → later a b ≡ Some q → ((r : ℕ) → a ≡ Some r → P r) → ((r : ℕ) → b ≡ Some r → P r) → P q
-    one q None b e g h = h q e
-    one q (Some m) None e g h = g q e
-    one q (Some m) (Some n) e g h = elim (max-one m n q (some_one (max m n) q e)) [
-      | inl s ↦ g q (ap Some s)
-      | inr s ↦ h q (ap Some s)
-    ]
-
-pub names-on : (made : List Made) (at : ℕ) (ends : List ℕ) (r : ℕ) → last_of_names made at ends ≡ Some r → among (path made at) r ≡ true
-unfolding last_let_go
-names-on made at ends r e =
-    fold-one (λ y. last_let_go y made at) (λ q. among (path made at) q ≡ true) ends
-    (λ y m q g. (filter-among (lets_go_at y made) (path made at) q (last-among (filter (lets_go_at y made) (path made at)) q g)).0) None (λ q g. none_is q g) r e
-
--- nor is the last that passes
-pub last-up : (made : List Made) → Falls made → (P : ℕ → Bool) (r : ℕ) → P r ≡ true → (at : ℕ) → among (path made at) r ≡ true → (l : ℕ) × (last_or None (filter P (path made at)) ≡ Some l) × (r ≤ l)
-last-up made falls P r passes = by_parents made falls (λ at. among (path made at) r ≡ true → (l : ℕ) × (last_or None (filter P (path made at)) ≡ Some l) × (r ≤ l)) base step_up
-  where
-    base : among (path made 0) r ≡ true → (l : ℕ) × (last_or None (filter P (path made 0)) ≡ Some l) × (r ≤ l)
-    base on = absurd (true≢false (among (path made 0) r) on (ap (λ p. among p r) (path-opening made)))
-
-    step_up : (i : ℕ) → (among (path made (parent_at made (suc i))) r ≡ true → (l : ℕ) × (last_or None (filter P (path made (parent_at made (suc i)))) ≡ Some l) × (r ≤ l))
-        → among (path made (suc i)) r ≡ true → (l : ℕ) × (last_or None (filter P (path made (suc i))) ≡ Some l) × (r ≤ l)
-    step_up i rest on = by (P (suc i)) refl
-      where
-        by : (b : Bool) → P (suc i) ≡ b → (l : ℕ) × (last_or None (filter P (path made (suc i))) ≡ Some l) × (r ≤ l)
-        by true e = (suc i, one-more made falls P i ∙ ap (λ b. if b then Some (suc i) else last_or None (filter P (path made (parent_at made (suc i))))) e, among-early made falls (suc i) r on)
-        by false e =
-            let apart : r ≡ suc i → ⊥ = λ same. true≢false (P r) passes (ap P same ∙ e) in
-            let w = rest (sym (among-other made falls i r apart) ∙ on) in
-            (w.0, one-more made falls P i ∙ ap (λ b. if b then Some (suc i) else last_or None (filter P (path made (parent_at made (suc i))))) e ∙ w.1, w.2)
-
 -- ---- what is out of reach and was there
 
 abbrev is_out : State → ℕ → Bool
@@ -539,22 +467,6 @@ module _ (made : List Made) (are : AreMoments made) (at x : ℕ) (within : at �
   pub unreached-now : among (reached S) x ≡ false
   unreached-now = not_true (among (reached S) x) (λ t. true≢false (among ends x) s.itself (off (among ends x) (reached-least S (λ y. not (among ends y)) others_of x t)))
 
-  -- where it is leaked at the end, the moment at which it was is the one of which that is shown
-  pub one-leak : (m : ℕ) → is_leaked S x ≡ true → ((i : ℕ) → among (path made at) (suc i) ≡ true → at_moment (leaked x) made (suc i) ≡ true → m ≡ suc i)
-      → last_on (happens happening.Leaked x) made at ≡ Some m
-  unfolding last_on
-  one-leak m now is = let b = begun made are.falls x at now in by b.0 b.1 b.2
-    where
-      unmade : (b : Bool) → (not b && b) ≡ true → ⊥
-      unmade true e = cc
-      unmade false e = cc
-
-      by : (q : ℕ) → among (path made at) q ≡ true → at_moment (leaked x) made q ≡ true → last_or None (filter (at_moment (leaked x) made) (path made at)) ≡ Some m
-      by zero on leaks = absurd (unmade (is_leaked (state_at made 0) x) leaks)
-      by (suc i) on leaks =
-          one-last (filter (at_moment (leaked x) made) (path made at)) (suc i) (once made are at within x happening.Leaked) (among-filter (at_moment (leaked x) made) (path made at) (suc i) on leaks)
-          ∙ ap Some (sym (is i on leaks))
-
   pub leaked-by : stands_passive S x ≡ true → last_on (happens happening.Leaked x) made at ≡ last_of_all made at x ends
   unfolding last_on
   leaked-by passive = let b = begun made are.falls x at (passive-leaked S last-consistent x passive unreached-now) in by b.0 b.1 b.2
@@ -568,31 +480,6 @@ module _ (made : List Made) (are : AreMoments made) (at x : ℕ) (within : at �
       by (suc i) on leaks =
           one-last (filter (at_moment (leaked x) made) (path made at)) (suc i) (once made are at within x happening.Leaked) (among-filter (at_moment (leaked x) made) (path made at) (suc i) on leaks)
           ∙ sym (found-then i on leaks passive)
-
-  -- ---- where every name that went did so up to a moment
-
-  module _ (m : ℕ) (low : (r : ℕ) → last_of_names made at ends ≡ Some r → r ≤ m) where
-    pub none-behind : (i : ℕ) → among (path made at) (suc i) ≡ true → m < suc i → (y : ℕ) → among ends y ≡ true → lets_go_at y made (suc i) ≡ false
-    unfolding last_let_go
-    none-behind i on high y h = not_true (lets_go_at y made (suc i)) (λ t.
-        let l = last-up made are.falls (lets_go_at y made) (suc i) t at on in
-        let f = fold-up (λ z. last_let_go z made at) ends y (among-in y ends h) l.0 (last-is y l.0 l.1) None in
-        let a : suc i ≤ l.0 = l.2 in
-        let b : l.0 ≤ f.0 = f.2 in
-        let c : f.0 ≤ m = low f.0 f.1 in
-        omega arith)
-      where
-        last-is : (z r : ℕ) → last_or None (filter (lets_go_at z made) (path made at)) ≡ Some r → last_let_go z made at ≡ Some r
-        last-is z r e = e
-
-  -- what is leaked before a moment is so before its call
-  pub crossed : (m : ℕ) → among (path made at) m ≡ true → (i : ℕ) (on : among (path made at) (suc i) ≡ true) (leaks : at_moment (leaked x) made (suc i) ≡ true) → suc i < m → is_leaked (state_at made (parent_at made m)) x ≡ false → ⊥
-  crossed zero on_r i on leaks l kept = omega (arith, l)
-  crossed (suc j) on_r i on leaks l kept =
-      true≢false (is_leaked (state_at made (parent_at made (suc j))) x)
-      ((leads i on leaks (parent_at made (suc j)) (on_up i on leaks j l on_r) (later_up i on leaks j l on_r)).1
-      (there-then i on leaks (parent_at made (suc j)) (on_up i on leaks j l on_r) (later_up i on leaks j l on_r)))
-      kept
 
 -- the same as it is found
 pub told-by : (made : List Made) (are : AreMoments made) (at x : ℕ) (within : at ≤ length made) → stands_passive (state_at made at) x ≡ true

@@ -24,6 +24,5 @@ pub mod JobLaws
 pub mod ChildLaws
 pub mod LetGoLaws
 pub mod LostChildLaws
-pub mod EndedJobLaws
 pub mod NameSearchLaws
 pub mod RecordReachLaws

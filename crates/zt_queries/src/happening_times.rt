@@ -1,5 +1,6 @@
-ghost use Rattle.std.specs.Prelude.{◌≡◌, ◌≤◌, Ok, IfOk, IfErr, length};
+ghost use Rattle.std.specs.Prelude.{◌≡◌, ◌≢◌, ◌≤◌, Ok, IfOk, IfErr, length};
 ghost use Rattle.zt_rows.specs.declared.calls.Happening.TheVariants as happening;
+ghost use Rattle.zt_rows.specs.declared.refusals.Refusal.TheVariants as refusal;
 ghost use Rattle.zt_history.specs.Tree.{state_at};
 ghost use Rattle.zt_queries.specs.HappeningTimes.{is_known, when_on, IsRefusedWhen};
 ghost use Rattle.zt_queries.specs.ProofsOnly.RowHappenings.{happening_of};
@@ -20,6 +21,7 @@ pub fn made(
     requires there { at ≤ length history.now.tree.made }
     ensures ok { IfOk result (λ found. when_on happening.Made history.now.tree.made at koid ≡ Ok found) }
     ensures refused { IfErr result (IsRefusedWhen (when_on happening.Made history.now.tree.made at koid)) }
+    ensures memory { IfErr result (λ why. why ≢ refusal.OutOfMemory) }
 {
     when(history, at, koid, RowHappening::Made)
 }
@@ -34,6 +36,7 @@ pub fn ended(
     requires there { at ≤ length history.now.tree.made }
     ensures ok { IfOk result (λ found. when_on happening.Ended history.now.tree.made at koid ≡ Ok found) }
     ensures refused { IfErr result (IsRefusedWhen (when_on happening.Ended history.now.tree.made at koid)) }
+    ensures memory { IfErr result (λ why. why ≢ refusal.OutOfMemory) }
 {
     when(history, at, koid, RowHappening::Ended)
 }
@@ -49,6 +52,7 @@ pub fn peer_closed(
     requires there { at ≤ length history.now.tree.made }
     ensures ok { IfOk result (λ found. when_on happening.PeerClosed history.now.tree.made at koid ≡ Ok found) }
     ensures refused { IfErr result (IsRefusedWhen (when_on happening.PeerClosed history.now.tree.made at koid)) }
+    ensures memory { IfErr result (λ why. why ≢ refusal.OutOfMemory) }
 {
     when(history, at, koid, RowHappening::PeerClosed)
 }
@@ -63,6 +67,7 @@ fn when(
     requires there { at ≤ length history.now.tree.made }
     ensures ok { IfOk result (λ found. when_on (happening_of what) history.now.tree.made at koid ≡ Ok found) }
     ensures refused { IfErr result (IsRefusedWhen (when_on (happening_of what) history.now.tree.made at koid)) }
+    ensures memory { IfErr result (λ why. why ≢ refusal.OutOfMemory) }
 {
     if !is_known(history, at, koid) {
         return Err(Refusal::NoObject);

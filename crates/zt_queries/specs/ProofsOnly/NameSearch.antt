@@ -1,7 +1,7 @@
 -- What keeps an object that is out of reach: names in messages, at endpoints whose names stand in messages in turn, and the live
 -- jobs below a live job; and the last moment at which one of these lost a name or a child, or the object ended. This project's
 -- own. Used by proofs only.
-use Rattle.std.specs.Prelude.{◌≡◌, ◌≤◌, ◌==◌, ◌&&◌, ℕ, Bool, true, false, not, if◌then◌else◌, ⊤, List, [], ◌∷◌, ◌++◌, fold, count_by, length, take, max, nat_lt, Option, None, Some}
+use Rattle.std.specs.Prelude.{◌≡◌, ◌≤◌, ◌==◌, ◌&&◌, ℕ, Bool, true, false, not, if◌then◌else◌, ⊤, List, [], ◌∷◌, ◌++◌, fold, count_by, length, take, max, Option, None, Some}
 use Rattle.std.specs.List.{list_any}
 use Rattle.zt_rows.specs.declared.calls.Happening.TheVariants as happening
 use Rattle.zt_rows.specs.declared.keys.RowKey.{RowKey}
@@ -11,9 +11,9 @@ use Rattle.zt_rows.specs.declared.rows.Row.{Row}
 use Rattle.zt_rows.specs.declared.rows.Row.TheVariants as rows
 use Rattle.zt_rows.specs.Keys.{rowkey_eq}
 use Rattle.zt_rows.specs.State.{State, row}
-use Rattle.zt_rows.specs.Reads.{as_object, object, on_object, is_job, is_live, is_live_process}
+use Rattle.zt_rows.specs.Reads.{object, on_object, is_job, is_live_process}
 use Rattle.zt_rows.specs.Settle.{is_child_process_of}
-use Rattle.zt_rows.specs.Tests.{among, count_row, has_all}
+use Rattle.zt_rows.specs.Tests.{among, count_row}
 use Rattle.zt_history.specs.Tree.{Made, state_at}
 use Rattle.zt_history.specs.declared.row_happenings.RowHappening.TheVariants as turn
 use Rattle.zt_history.specs.RowHappenings.{last_shown}
@@ -150,22 +150,3 @@ IsToldBy made at x leak_time.Unknown = ⊤
 abbrev pub AreFound : List Made → ℕ → ℕ → FoundNames → Type 0
 AreFound made m x (found_names.All named lost) = IsLastOfBoth made m x named lost
 AreFound made m x (found_names.Told told) = IsToldBy made m x told
-
--- ---- jobs
-
--- it is a job that has ended
-abbrev pub is_ended_job : ObjectRow → Bool
-is_ended_job o = is_job o.kind && not (is_live o.life)
-
--- it is a job on which the signal does not stand that it has no processes
-abbrev pub has_process : ObjectRow → Bool
-has_process o = is_job o.kind && not (has_all o.signals.0 0x20)
-
-abbrev pub has_process_row : Option Row → Bool
-has_process_row r = on_object has_process (as_object r)
-
--- the first of two moments, if it is there and not before the second
-abbrev pub unless_before : Option ℕ → Option ℕ → Option ℕ
-unless_before None b = None
-unless_before (Some m) None = Some m
-unless_before (Some m) (Some n) = if nat_lt m n then None else Some m

@@ -1,3 +1,16 @@
+//! The moment at which an object was leaked. `leaked_since` goes through these cases in this order, and the first one that tells
+//! is the answer:
+//!
+//! 1. The object went, and the record of the call by which it went shows that an entry reached it (`never_leaked.rt`,
+//!    `record_reach.rt`). It was never leaked.
+//! 2. It is there at the position, and is the root job, a process that runs, or named by an entry that was put by the call that made
+//!    it or by the last one that took a name of it away (`never_leaked.rt`). It was never leaked.
+//! 3. It is there at the position, is no job that has ended, and all its names stand in messages that nothing reaches
+//!    (`name_search.rt`). It was leaked by the last call that took one of these names away, or ended what kept it.
+//! 4. A row of the object or a record of the path shows that it was not leaked where it is there last (`unleaked_signs.rt`). It
+//!    was never leaked.
+//! 5. All else is looked for in a graph (`graph.rt`), which the records of the path move (`moved_graph.rt`) and which is searched for
+//!    what is reached (`reachability.rt`, `leak_list.rt`). The moment is found by halving, here.
 ghost use Rattle.std.specs.Prelude.{◌≡◌, ◌==◌, ◌&&◌, ◌||◌, ◌≤◌, ◌<◌, ◌+◌, true, false, Some, IfOk, IfErr, Ok, None, filter, length};
 ghost use Rattle.std.specs.List.{last_or};
 ghost use Rattle.zt_rows.specs.declared.calls.Happening.TheVariants as happening;
@@ -36,11 +49,11 @@ use zt_rows::{Koid, Moment, ROOT_JOB, Refusal};
 /// the rows that the call changed, and takes no memory. Where it is there at the position and is neither a job nor a process that
 /// runs, the notes of what it and the endpoints above it let go lead to the messages that name them: this costs a look at each of
 /// these moments, and takes memory for those endpoints and messages. Where an entry turns up among these names, that takes a walk
-/// over entries up to the first one. So it is of a job, with what it and the live jobs below it let go and what children they lost.
+/// over entries up to the first one. So it is of a live job, with what it and the live jobs below it let go and what children they
+/// lost.
 ///
-/// What is left, as an object that is gone, one that was let go very often, a job that was killed out of reach with none but jobs
-/// below it, or a position elsewhere, is told behind the lists of two paths: by what the object's own row or the records show of
-/// the moment at which it was there last, or else in a graph that the records of the path move, without a store: since what is
+/// What is left, as an object that is gone, one that was let go very often, a job that has ended, or a position elsewhere, is told
+/// behind the lists of two paths: by what the object's own row or the records show of the moment at which it was there last, or else in a graph that the records of the path move, without a store: since what is
 /// leaked stays so, half of the moments that are left are passed over by each look at what is reached. It takes memory for two such
 /// graphs.
 pub fn leaked_since(

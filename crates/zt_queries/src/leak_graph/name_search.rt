@@ -3,8 +3,7 @@
 //! that are left stand in messages at endpoints of which the same holds. Each such message came at a moment at which what it names
 //! lost an entry, so the notes of what was let go lead to it, and the count of its names tells when all are found. A live job is
 //! kept by its live children too, which are jobs of which the same holds: so it was leaked by the last call by which a name went or
-//! a child ended, its own or that of such an endpoint or job. A job that ended was leaked by the last call by which a name went, or
-//! by the one by which its last child ended, which the records tell.
+//! a child ended, its own or that of such an endpoint or job. Of a job that has ended the graph tells.
 ghost use Rattle.std.specs.Prelude.{◌≡◌, ◌≤◌, ◌==◌, ◌∷◌, [], false, true, Some, IfOk, OnOk, length, count_by};
 ghost use Rattle.std.specs.Option.{option_copied};
 ghost use Rattle.zt_rows.specs.declared.keys.RowKey.TheVariants as key_variant;
@@ -12,22 +11,20 @@ ghost use Rattle.zt_rows.specs.Reads.{is_live_job, object, on_object};
 ghost use Rattle.zt_rows.specs.State.{row};
 ghost use Rattle.zt_rows.specs.Support.{root_job};
 ghost use Rattle.zt_rows.specs.Tests.{exists};
-ghost use Rattle.zt_history.specs.LostChild.{last_lost_child};
-ghost use Rattle.zt_history.specs.Tree.{parent_at, state_at};
+ghost use Rattle.zt_history.specs.Tree.{state_at};
 ghost use Rattle.zt_queries.specs.Leaks.{is_leaked};
 ghost use Rattle.zt_index.specs.KoidCounts.{named_by};
 ghost use Rattle.zt_index.specs.ProofsOnly.KoidCounts.{total};
-ghost use Rattle.zt_queries.specs.ProofsOnly.NameSearch.{AreFound, AreChildrenIn, IsHeldBy, IsLastOfNames, has_process_row, is_ended_job, is_passive, stands_passive, IsGuarded, later, unless_before, Widens, with_end, IsNameCount, times_named, IsToldBy};
+ghost use Rattle.zt_queries.specs.ProofsOnly.NameSearch.{AreFound, AreChildrenIn, IsHeldBy, is_passive, stands_passive, IsGuarded, later, Widens, with_end, IsNameCount, times_named, IsToldBy};
 
 use crate::leak_graph::unleaked_signs::is_entered;
-use crate::path_pair::{object_in, row_over};
 use crate::support_list::{is_live_job, is_live_process};
 use bitflags::Flags;
 use indexmap::IndexSet;
 use std::alloc::{AllocError, Global};
-use zt_bits::{Kind, Signals};
+use zt_bits::Kind;
 use zt_history::{History, RowHappening};
-use zt_rows::{Held, Koid, Life, Moment, ObjectRow, ROOT_JOB, Row, RowKey};
+use zt_rows::{Held, Koid, Moment, ObjectRow, ROOT_JOB, Row, RowKey};
 use zt_store::{Record, Store};
 
 /// So many endpoints and jobs at most are gone through, which are more than there can be objects.
@@ -100,8 +97,6 @@ pub(crate) fn told_by_names(
                 told_of_passive(alloc, history, koid)
             } else if is_live_job(&found) && koid != ROOT_JOB {
                 told_of_job(alloc, history, koid)
-            } else if is_ended_job(&found) && koid != ROOT_JOB {
-                told_of_ended_job(alloc, history, koid)
             } else {
                 Ok(told_by_entries(history, koid, koid))
             }
@@ -115,13 +110,6 @@ fn is_passive(object: &ObjectRow) -> bool
     ensures { result ≡ is_passive object.now }
 {
     object.kind != Kind::Job && !is_live_process(object)
-}
-
-/// Whether it is a job that has ended.
-fn is_ended_job(object: &ObjectRow) -> bool
-    ensures { result ≡ is_ended_job object.now }
-{
-    object.kind == Kind::Job && object.life != Life::Live
 }
 
 /// The same of an object that is neither a job nor a process that runs: of the moment at which it ended, if it is a process, and
@@ -148,81 +136,6 @@ fn told_of_job(alloc: Global, history: &History, koid: Koid) -> Result<LeakTime,
     match search_names(alloc, history, koid)? {
         FoundNames::All { names, children } => Ok(LeakTime::Known(later(children, names))),
         FoundNames::Told(told) => Ok(told),
-    }
-}
-
-/// The same of a job that has ended, other than the root job.
-fn told_of_ended_job(alloc: Global, history: &History, koid: Koid) -> Result<LeakTime, AllocError>
-    requires ended { on_object is_ended_job (object (state_at history.now.tree.made history.now.position) koid) ≡ true }
-    requires no_root { (koid == root_job) ≡ false }
-    ensures { IfOk result (IsToldBy history.now.tree.made history.now.position koid) }
-{
-    history.position();
-    match search_names(alloc, history, koid)? {
-        FoundNames::All { names, .. } => Ok(told_behind(history, koid, names)),
-        FoundNames::Told(told) => Ok(told),
-    }
-}
-
-/// The same where all names are found, with the last moment at which one was let go. Where the job lost no child later, that is
-/// the one; else that by which it lost its last child, if it is shown to have been kept before.
-fn told_behind(history: &History, koid: Koid, names: Option<Moment>) -> LeakTime
-    requires ended { on_object is_ended_job (object (state_at history.now.tree.made history.now.position) koid) ≡ true }
-    requires no_root { (koid == root_job) ≡ false }
-    requires names { IsLastOfNames history.now.tree.made history.now.position koid names }
-    ensures { IsToldBy history.now.tree.made history.now.position koid result }
-{
-    match history.last_lost_child(koid, history.position()) {
-        Some(child) => match unless_before(names, Some(child)) {
-            Some(name) => LeakTime::Known(Some(name)),
-            None => {
-                if was_kept(history, koid, child) {
-                    LeakTime::Known(Some(child))
-                } else {
-                    LeakTime::Unknown
-                }
-            }
-        },
-        None => match names {
-            Some(last) => LeakTime::Known(Some(last)),
-            None => LeakTime::Unknown,
-        },
-    }
-}
-
-/// The first of two moments, if it is there and not before the second.
-fn unless_before(first: Option<Moment>, second: Option<Moment>) -> Option<Moment>
-    ensures { result ≡ unless_before first second }
-{
-    match (first, second) {
-        (Some(a), Some(b)) => { if a < b { None } else { Some(a) } }
-        (other, None) => other,
-        (None, Some(_)) => None,
-    }
-}
-
-/// Whether it is shown that the job was not leaked before the call of this moment, by which it lost a child: it ended later, or a
-/// process ran below it.
-fn was_kept(history: &History, koid: Koid, moment: Moment) -> bool
-    requires lost { last_lost_child koid history.now.tree.made history.now.position ≡ Some moment }
-    requires ended { on_object is_ended_job (object (state_at history.now.tree.made history.now.position) koid) ≡ true }
-    requires no_root { (koid == root_job) ≡ false }
-    ensures { result ≡ true → is_leaked (state_at history.now.tree.made (parent_at history.now.tree.made moment)) koid ≡ false }
-{
-    let over = history.last_shown(RowHappening::Ended, koid, history.position());
-    match unless_before(Some(moment), over) {
-        Some(_) => has_process_row(row_over(history, moment, &RowKey::Object(koid), None)),
-        None => true,
-    }
-}
-
-/// Whether it is the row of a job with a live process as its child, as its signals show it.
-fn has_process_row(row: Option<&Row>) -> bool
-    ensures { result ≡ has_process_row (option_copied row.entry) }
-{
-    match object_in(row) {
-        Some(found) => { found.kind == Kind::Job && !found.signals.contains(Signals::NO_PROCESSES) }
-        None => false,
     }
 }
 
