@@ -1,6 +1,6 @@
-ghost use Rattle.std.specs.Prelude.{◌≡◌, ◌==◌, ◌++◌, ◌∷◌, [], map, if◌then◌else◌, None, Ok, IfOk, IfErr, OnOk, OnErr};
+ghost use Rattle.std.specs.Prelude.{◌≡◌, ◌⊎◌, ◌==◌, ◌++◌, ◌∷◌, [], map, if◌then◌else◌, None, Ok, IfOk, IfErr, OnOk, OnErr};
 ghost use Rattle.std.specs.List.{list_any};
-ghost use Rattle.zt_history.specs.HistoryRefusals.{IsHistoryRefusal};
+ghost use Rattle.zt_history.specs.HistoryRefusals.{IsHistoryRefusal, moment_on};
 ghost use Rattle.zt_history.specs.Timeline.{moved_to, IsPath};
 ghost use Rattle.zt_history.specs.Tree.{end_of};
 ghost use Rattle.zt_look.specs.CallList.{calls_on, asked_among, is_asked, is_within, is_failed, is_by, is_about, touched, touches, is_of, names, if_object, StandsFor};
@@ -38,7 +38,7 @@ pub struct CallFilter {
 
 /// The calls on the path to a moment that are asked for, in the path's order. Where those are asked for that changed rows of an
 /// object, the history goes over the moments from the first that is asked for to the last, at the cost of their records, and then to
-/// the moment; else it stays where it stands.
+/// the moment, also where memory is refused on the way; else it stays where it stands.
 pub fn calls(
     alloc: Global,
     history: &mut History,
@@ -48,6 +48,8 @@ pub fn calls(
     ensures ok { IfOk result (λ list. calls_on history.old.tree at asked.now ≡ Ok list.items) }
     ensures refused { IfErr result (IsHistoryRefusal (calls_on history.old.tree at asked.now)) }
     ensures moved { OnOk result (history.new ≡ if_object asked.now (moved_to history.old at) history.old) }
+    ensures stands { OnErr result ((history.new ≡ history.old) ⊎ (history.new ≡ if_object asked.now (moved_to history.old at) history.old)) }
+    ensures nowhere { IfErr (moment_on history.old.tree at) (λ _. history.new ≡ history.old) }
     ensures tree { OnErr result (history.new.tree ≡ history.old.tree) }
 {
     let way = history.path(at)?;
@@ -92,7 +94,7 @@ fn push_within(
     }
 }
 
-/// The calls on a path that are asked for; the history goes along it.
+/// The calls on a path that are asked for; the history goes along it to its end, whether or not there is memory for all.
 fn calls_along(
     alloc: Global,
     history: &mut History,
@@ -101,15 +103,29 @@ fn calls_along(
 ) -> Result<Vec<CallMade>, AllocError>
     requires { IsPath history.old.tree.made way.now }
     ensures ok { IfOk result (λ list. list.items ≡ asked_among history.old.tree.made asked.now way.now) }
-    ensures moved { OnOk result (history.new ≡ moved_to history.old (end_of way.now)) }
-    ensures tree { OnErr result (history.new.tree ≡ history.old.tree) }
+    ensures moved { history.new ≡ moved_to history.old (end_of way.now) }
+{
+    let list = calls_over(alloc, history, way, asked);
+    history.along(way);
+    list
+}
+
+/// The calls on a path that are asked for; the history goes to the moments that are.
+fn calls_over(
+    alloc: Global,
+    history: &mut History,
+    way: &[Moment],
+    asked: &CallFilter,
+) -> Result<Vec<CallMade>, AllocError>
+    requires { IsPath history.old.tree.made way.now }
+    ensures ok { IfOk result (λ list. list.items ≡ asked_among history.old.tree.made asked.now way.now) }
+    ensures tree { history.new.tree ≡ history.old.tree }
 {
     limits(history);
     let mut list = Vec::new(alloc);
     for place in 0..way.len() {
         push_last(&mut list, history, &way[..place + 1], way[place], asked)?;
     }
-    history.along(way);
     Ok(list)
 }
 

@@ -1,7 +1,7 @@
 ghost use Rattle.std.specs.Prelude.{◌≡◌, ◌++◌, ◌∷◌, [], map, Ok, IfOk, IfErr, OnOk, OnErr};
 ghost use Rattle.std.specs.Option.{option_copied};
-ghost use Rattle.zt_history.specs.HistoryRefusals.{IsHistoryRefusal};
-ghost use Rattle.zt_history.specs.Timeline.{moved_to};
+ghost use Rattle.zt_history.specs.HistoryRefusals.{IsHistoryRefusal, moment_on};
+ghost use Rattle.zt_history.specs.Timeline.{IsMovedAtMost, moved_to, unmoved};
 ghost use Rattle.zt_look.specs.Changes.{changed_on, changes_at};
 ghost use Rattle.zt_look.specs.ProofsOnly.RecordSides.{row_before, change_under};
 
@@ -20,11 +20,13 @@ pub struct Change {
 }
 
 /// The rows that the call of a moment changed, in the order of their keys, the counters first; none at the opening. The
-/// history goes to the moment, at the cost of the records on the way.
+/// history goes to the moment, at the cost of the records on the way; refused, it stands there or where it stood.
 pub fn changed(alloc: Global, history: &mut History, moment: Moment) -> Result<Vec<Change>, Refusal>
     ensures ok { IfOk result (λ list. changed_on history.old.tree moment ≡ Ok list.items) }
     ensures refused { IfErr result (IsHistoryRefusal (changed_on history.old.tree moment)) }
     ensures moved { OnOk result (history.new ≡ moved_to history.old moment) }
+    ensures stands { OnErr result (IsMovedAtMost history.old history.new moment) }
+    ensures nowhere { IfErr (moment_on history.old.tree moment) (λ _. history.new ≡ unmoved history.old) }
     ensures tree { OnErr result (history.new.tree ≡ history.old.tree) }
 {
     history.goto(moment)?;

@@ -1,4 +1,4 @@
-ghost use Rattle.std.specs.Prelude.{◌≡◌, ◌++◌, ◌∷◌, [], ◌||◌, ◌<◌, ◌≤◌, nat_le, nat_lt, position, ℕ, true, length, map, drop, Ok, IfOk, IfErr, IfSome, OnOk, OnErr};
+ghost use Rattle.std.specs.Prelude.{◌≡◌, ◌⊎◌, ◌++◌, ◌∷◌, [], ◌||◌, ◌<◌, ◌≤◌, nat_le, nat_lt, position, ℕ, true, length, map, drop, Ok, IfOk, IfErr, IfSome, OnOk, OnErr};
 ghost use Rattle.std.specs.BTreeSet.{contains, IsOrdered};
 ghost use Rattle.std.specs.List.{flat_map, list_any, position_or_len};
 ghost use Rattle.std.specs.Option.{option_copied};
@@ -61,7 +61,8 @@ struct ObjectChange {
 
 /// What happened to objects in the calls on the path to a moment, as far as it is asked for: moment by moment, in each by
 /// rising koid, and to one object in the order in which `HappeningSet` lists it. The history goes back along the path and then
-/// to the moment, at the cost of its records; where leaks are asked for, at that of their search too.
+/// to the moment, also where memory is refused on the way, at the cost of its records; where leaks are asked for, at that of their
+/// search too.
 pub fn events(
     alloc: Global,
     history: &mut History,
@@ -72,6 +73,8 @@ pub fn events(
     ensures within { OnOk result (moment_on history.old.tree at ≡ Ok at) }
     ensures refused { IfErr result (IsHistoryRefusal (moment_on history.old.tree at)) }
     ensures moved { OnOk result (history.new ≡ moved_to history.old at) }
+    ensures stands { OnErr result ((history.new ≡ history.old) ⊎ (history.new ≡ moved_to history.old at)) }
+    ensures nowhere { IfErr (moment_on history.old.tree at) (λ _. history.new ≡ history.old) }
     ensures tree { OnErr result (history.new.tree ≡ history.old.tree) }
 {
     let way = history.path(at)?;
@@ -92,6 +95,9 @@ pub fn events_between(
     ensures within { OnOk result (moment_on history.old.tree at ≡ Ok at) }
     ensures refused { IfErr result (IsHistoryRefusal (moment_on history.old.tree at)) }
     ensures moved { OnOk result (history.new ≡ moved_to history.old (end_of (up_to asked.now.last (path history.old.tree.made at)))) }
+    ensures stands { OnErr result ((history.new ≡ history.old)
+        ⊎ (history.new ≡ moved_to history.old (end_of (up_to asked.now.last (path history.old.tree.made at))))) }
+    ensures nowhere { IfErr (moment_on history.old.tree at) (λ _. history.new ≡ history.old) }
     ensures tree { OnErr result (history.new.tree ≡ history.old.tree) }
 {
     limits(history);
@@ -140,7 +146,8 @@ fn first_from(way: &[Moment], first: Moment) -> Option<usize>
     way.iter().position(|moment| *moment >= first)
 }
 
-/// The events on a path from this place of it on; the history goes back along it, and then to its end.
+/// The events on a path from this place of it on; the history goes back along it, and then to its end, whether or not there is
+/// memory for all.
 fn events_along(
     alloc: Global,
     history: &mut History,
@@ -151,8 +158,25 @@ fn events_along(
     requires path { IsPath history.old.tree.made way.now }
     requires start { start ≤ length way.now }
     ensures ok { IfOk result (λ list. AreEvents history.old.tree.made asked.now (drop start way.now) list.items) }
-    ensures moved { OnOk result (history.new ≡ moved_to history.old (end_of way.now)) }
-    ensures tree { OnErr result (history.new.tree ≡ history.old.tree) }
+    ensures moved { history.new ≡ moved_to history.old (end_of way.now) }
+{
+    let list = events_back(alloc, history, way, start, asked);
+    history.along(way);
+    list
+}
+
+/// The events on a path from this place of it on; the history goes to its end, and back along it.
+fn events_back(
+    alloc: Global,
+    history: &mut History,
+    way: &[Moment],
+    start: usize,
+    asked: &HappeningSet,
+) -> Result<Vec<ObjectEvent>, AllocError>
+    requires path { IsPath history.old.tree.made way.now }
+    requires start { start ≤ length way.now }
+    ensures ok { IfOk result (λ list. AreEvents history.old.tree.made asked.now (drop start way.now) list.items) }
+    ensures tree { history.new.tree ≡ history.old.tree }
 {
     limits(history);
     history.along(way);
@@ -163,7 +187,6 @@ fn events_along(
         history.along(&way[..place]);
         push_moment(alloc, &mut list, &mut set, history, moment, asked)?;
     }
-    history.along(way);
     list.reverse();
     Ok(list)
 }

@@ -1,8 +1,9 @@
-ghost use Rattle.std.specs.Prelude.{◌≡◌, ◌++◌, ◌∷◌, [], ℕ, map, reverse, if◌then◌else◌, Some, Ok, IfOk, IfErr, OnOk, OnErr};
+ghost use Rattle.std.specs.Prelude.{◌≡◌, ◌⊎◌, ◌++◌, ◌∷◌, [], ℕ, map, reverse, if◌then◌else◌, Some, Ok, IfOk, IfErr, OnOk, OnErr};
 ghost use Rattle.std.specs.BTreeMap.{get};
 ghost use Rattle.std.specs.List.{filter_map};
 ghost use Rattle.std.specs.Option.{option_copied, option_map};
 ghost use Rattle.std.specs.Ordering.{nat_cmp};
+ghost use Rattle.zt_rows.specs.declared.refusals.Refusal.TheVariants as refusal;
 ghost use Rattle.zt_rows.specs.Reads.{as_message, as_entry, entry};
 ghost use Rattle.zt_rows.specs.State.{row};
 ghost use Rattle.zt_history.specs.HistoryRefusals.{moment_on};
@@ -46,7 +47,7 @@ pub struct QueuedMessage {
 type Ends = BTreeMap<u64, (Moment, MessageEnd)>;
 
 /// The messages that were queued at an endpoint on the path to a moment, in the order in which they came. The history goes
-/// back along the path and forth again, at the cost of its records.
+/// back along the path and forth again, also where memory is refused on the way, at the cost of its records.
 pub fn messages(
     alloc: Global,
     history: &mut History,
@@ -57,6 +58,9 @@ pub fn messages(
     ensures refused { IfErr result (IsRefusedWhen (messages_on history.old.tree at koid)) }
     ensures moment { IfErr result (λ refusal. IfErr (moment_on history.old.tree at) (λ reason. refusal ≡ reason)) }
     ensures moved { OnOk result (history.new ≡ moved_to history.old at) }
+    ensures stands { OnErr result ((history.new ≡ history.old) ⊎ (history.new ≡ moved_to history.old at)) }
+    ensures nowhere { IfErr (moment_on history.old.tree at) (λ _. history.new ≡ history.old) }
+    ensures unknown { IfErr result (λ why. why ≡ refusal.NoObject → history.new ≡ moved_to history.old at) }
     ensures tree { OnErr result (history.new.tree ≡ history.old.tree) }
 {
     let way = history.path(at)?;
@@ -75,7 +79,7 @@ fn is_known(store: &Store, koid: Koid) -> bool
     koid >= ROOT_JOB && koid < store.counters().next_koid
 }
 
-/// The messages that come on a path; the history goes back along it and forth again.
+/// The messages that come on a path; the history goes back along it and forth again, whether or not there is memory for all.
 fn messages_along(
     alloc: Global,
     history: &mut History,
@@ -84,8 +88,23 @@ fn messages_along(
 ) -> Result<Vec<QueuedMessage>, AllocError>
     requires { IsPath history.old.tree.made way.now }
     ensures ok { IfOk result (λ list. list.items ≡ messages_along history.old.tree.made koid way.now) }
-    ensures moved { OnOk result (history.new ≡ moved_to history.old (end_of way.now)) }
-    ensures tree { OnErr result (history.new.tree ≡ history.old.tree) }
+    ensures moved { history.new ≡ moved_to history.old (end_of way.now) }
+{
+    let list = messages_back(alloc, history, way, koid);
+    history.along(way);
+    list
+}
+
+/// The messages that come on a path; the history goes back along it.
+fn messages_back(
+    alloc: Global,
+    history: &mut History,
+    way: &[Moment],
+    koid: Koid,
+) -> Result<Vec<QueuedMessage>, AllocError>
+    requires { IsPath history.old.tree.made way.now }
+    ensures ok { IfOk result (λ list. list.items ≡ messages_along history.old.tree.made koid way.now) }
+    ensures tree { history.new.tree ≡ history.old.tree }
 {
     limits(history);
     let mut ends = BTreeMap::new(alloc);
@@ -95,7 +114,6 @@ fn messages_along(
         go_over(&mut list, &mut ends, history, koid)?;
     }
     list.as_mut_slice().reverse();
-    history.along(way);
     Ok(list)
 }
 

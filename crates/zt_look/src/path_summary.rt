@@ -1,4 +1,4 @@
-ghost use Rattle.std.specs.Prelude.{◌≡◌, Ok, IfOk, IfErr, OnOk, OnErr};
+ghost use Rattle.std.specs.Prelude.{◌≡◌, ◌⊎◌, Ok, IfOk, IfErr, OnOk, OnErr};
 ghost use Rattle.zt_history.specs.HistoryRefusals.{IsHistoryRefusal, moment_on};
 ghost use Rattle.zt_history.specs.Timeline.{moved_to};
 ghost use Rattle.zt_history.specs.Tree.{path};
@@ -36,6 +36,8 @@ pub fn summary(alloc: Global, history: &mut History, at: Moment) -> Result<PathS
     ensures within { OnOk result (moment_on history.old.tree at ≡ Ok at) }
     ensures refused { IfErr result (IsHistoryRefusal (moment_on history.old.tree at)) }
     ensures moved { OnOk result (history.new ≡ moved_to history.old at) }
+    ensures stands { OnErr result ((history.new ≡ history.old) ⊎ (history.new ≡ moved_to history.old at)) }
+    ensures nowhere { IfErr (moment_on history.old.tree at) (λ _. history.new ≡ history.old) }
     ensures tree { OnErr result (history.new.tree ≡ history.old.tree) }
 {
     let way = history.path(at)?;

@@ -2,3 +2,4 @@ pub mod CutLaws
 pub mod QueryLaws
 pub mod AnswerLaws
 pub mod HeaderLaws
+pub mod ObjectLaws

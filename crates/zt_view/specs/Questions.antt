@@ -1,5 +1,5 @@
 -- Questions about a history, and the texts that answer them.
-use Rattle.std.specs.Prelude.{◌≡◌, ◌⊎◌, ℕ, List, [], ◌++◌, take, Option, None, Some, Result, Ok, Err, false}
+use Rattle.std.specs.Prelude.{◌≡◌, ⊤, ℕ, List, [], ◌++◌, take, Option, None, Some, Result, Ok, Err, false}
 use Rattle.std.specs.List.{flat_map}
 use Rattle.std.specs.Option.{option_map}
 use Rattle.zt_rows.specs.declared.calls.Call.{Call}
@@ -8,7 +8,7 @@ use Rattle.zt_rows.specs.declared.refusals.Refusal.{Refusal}
 use Rattle.zt_rows.specs.declared.refusals.Refusal.TheVariants as refusal
 use Rattle.zt_history.specs.HistoryRefusals.{IsHistoryRefusal, check, moment_on}
 use Rattle.zt_history.specs.Tree.{Made, Tree, call_at, name_at, path, state_at}
-use Rattle.zt_queries.specs.HappeningTimes.{is_known}
+use Rattle.zt_queries.specs.HappeningTimes.{is_known, IsRefusedWhen}
 use Rattle.zt_look.specs.declared.branch_list.BranchLook.{BranchLook}
 use Rattle.zt_look.specs.declared.event_list.ObjectEvent.{ObjectEvent}
 use Rattle.zt_look.specs.declared.object_look.ObjectLook.{ObjectLook}
@@ -62,6 +62,12 @@ IsAnswer (question.Object koid at) t text =
     (look : ObjectLook) × IsObjectLook t.made at koid look × (text ≡ object_lines false (state_at t.made at) look ++ times_text t.made look)
 IsAnswer question.Branches t text = text ≡ flat_map (branch_text t) (branches_of t)
 
+-- why nothing is told of an object at a moment: the moment is looked for first, without memory; where it is there, memory may be
+-- refused on the way to it, ahead of the object
+abbrev pub IsObjectRefusal : Result ℕ Refusal → Result ⊤ Refusal → Refusal → Type 0
+IsObjectRefusal (Err reason) known given = given ≡ reason
+IsObjectRefusal (Ok _) known given = IsRefusedWhen known given
+
 -- the question has no answer of the tree for this reason, or memory was refused
 abbrev pub IsUnanswered : ViewQuestion → Tree → Refusal → Type 0
 IsUnanswered (question.Change moment) t reason = IsHistoryRefusal (changed_on t moment) reason
@@ -69,7 +75,7 @@ IsUnanswered (question.Calls at wanted) t reason = IsHistoryRefusal (calls_on t 
 IsUnanswered (question.Events at wanted) t reason = IsHistoryRefusal (moment_on t at) reason
 IsUnanswered (question.Path at from) t reason = IsHistoryRefusal (moment_on t at) reason
 IsUnanswered (question.Object koid at) t reason =
-    IsHistoryRefusal (moment_on t at) reason ⊎ IsHistoryRefusal (check (is_known (state_at t.made at) koid) refusal.NoObject) reason
+    IsObjectRefusal (moment_on t at) (check (is_known (state_at t.made at) koid) refusal.NoObject) reason
 IsUnanswered question.Branches t reason = reason ≡ refusal.OutOfMemory
 
 -- what is found, or why nothing is

@@ -187,6 +187,7 @@ fn put_event(
 }
 
 /// An object at a moment, and when each of the four happened to it.
+#[tactic(auto, using(crate::proofs::ObjectLaws::unanswered_way, crate::proofs::ObjectLaws::unanswered_there, crate::proofs::ObjectLaws::unanswered_memory))]
 fn object_lines(
     alloc: Global,
     history: &mut History,

@@ -4,7 +4,7 @@ use Rattle.zt_history.specs.Timeline.{IsPath}
 use Rattle.zt_history.specs.Tree.{Tree}
 use Rattle.zt_look.specs.CallList.{asked_among}
 use Rattle.zt_look.proofs.CallLaws.{prefix-path, asked-more}
-use Rattle.zt_look.proofs.call_list.calls_along.Goals as goal
+use Rattle.zt_look.proofs.call_list.calls_over.Goals as goal
 
 pub push_last-requires-clause-path : goal.push_last-requires-clause-path
 push_last-requires-clause-path c =

@@ -8,7 +8,7 @@ use Rattle.zt_look.specs.EventList.{AreEvents}
 use Rattle.zt_look.specs.ProofsOnly.EventsSoFar.{AddsMoment}
 use Rattle.zt_look.specs.ProofsOnly.UnleakedSet.{IsUnleakedSet}
 use Rattle.zt_look.proofs.EventLaws.{front-path, moment-some, moment-within, moment-parent, moment-end, events-back}
-use Rattle.zt_look.proofs.event_list.events_along.Goals as goal
+use Rattle.zt_look.proofs.event_list.events_back.Goals as goal
 
 pub along-requires-in-loop-place : goal.along-requires-in-loop-place
 along-requires-in-loop-place c =

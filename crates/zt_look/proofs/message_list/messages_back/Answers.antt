@@ -11,7 +11,7 @@ use Rattle.zt_look.specs.MessageList.{end_at, queued_at}
 use Rattle.zt_look.specs.ProofsOnly.MessageEnds.{end_over}
 use Rattle.zt_look.proofs.CallLaws.{prefix-path}
 use Rattle.zt_look.proofs.MessageLaws.{path-ends, path-listed}
-use Rattle.zt_look.proofs.message_list.messages_along.Goals as goal
+use Rattle.zt_look.proofs.message_list.messages_back.Goals as goal
 
 pub along-requires : goal.along-requires
 along-requires c =

@@ -5,7 +5,7 @@ use Rattle.std.specs.Prelude.{reverse}
 use Rattle.zt_history.specs.Tree.{end_of, state_at}
 use Rattle.zt_look.specs.EventList.{AreEvents}
 use Rattle.zt_look.specs.ProofsOnly.UnleakedSet.{IsUnleakedSet}
-use Rattle.zt_look.proofs.event_list.events_along.Given as goal
+use Rattle.zt_look.proofs.event_list.events_back.Given as goal
 
 abbrev pub invariant-loop-place : goal.invariant-loop-place
 invariant-loop-place l = record {

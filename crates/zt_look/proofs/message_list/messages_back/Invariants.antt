@@ -6,7 +6,7 @@ use Rattle.std.specs.Ordering.{nat_cmp}
 use Rattle.zt_history.specs.Tree.{end_of, state_at}
 use Rattle.zt_look.specs.MessageList.{messages_along}
 use Rattle.zt_look.specs.ProofsOnly.MessageEnds.{AreEnds}
-use Rattle.zt_look.proofs.message_list.messages_along.Given as goal
+use Rattle.zt_look.proofs.message_list.messages_back.Given as goal
 
 abbrev pub invariant-loop-place : goal.invariant-loop-place
 invariant-loop-place l = record {
