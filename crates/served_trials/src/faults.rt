@@ -23,6 +23,9 @@ pub enum TrialFault {
     /// A gate was called around something that is no command, or not around each command.
     #[error("a gate was called elsewhere")]
     GateElsewhere,
+    /// A gate heard other lines or answers than those of its client.
+    #[error("a gate heard otherwise than told")]
+    HeardOtherwise,
     /// A client, or the one beside it, was left otherwise than told.
     #[error("a client was left otherwise than told")]
     LeftOtherwise,

@@ -1,9 +1,9 @@
-//! Gates that hold clients, and gates that count.
+//! Gates that hold clients, gates that count, and gates that hear.
 
 use crate::faults::TrialFault;
 use crate::served_clients::serve;
-use std::sync::Wait;
 use std::sync::atomic::{AtomicBool, AtomicU64, AtomicUsize, Ordering};
+use std::sync::{Mutex, Wait};
 use std::thread;
 use std::thread::Threads;
 use std::time::{Clock, Duration};
@@ -23,6 +23,11 @@ fn calls() -> &'static [u8] {
 /// What a client types: four commands, of which the second is refused, and lines that are none.
 fn lines() -> &'static [u8] {
     b"1025 event_create\n# a comment\n\nbad\npinned show\ngoto 9\ngoto 0\npin\npinned show\n"
+}
+
+/// What a gate hears of these lines: each with its answer behind it, which a line that is skipped has not.
+fn lines_answered() -> &'static [u8] {
+    b"1025 event_create\n1 ok 7\n# a comment\n\nbad\nrefused 10 BadLine 1\npinned show\nrefused 4 NoMoment\ngoto 9\nrefused 4 NoMoment\ngoto 0\nat 0\npin\npinned 0\npinned show\nrows 0 4\ncounters 1026 0\nobject 1024 job 0x00000010 0 live 0\nobject 1025 process 0x00000000 1024 live 1\nentry 1025 3 1024 0x0003d203\n"
 }
 
 /// Nothing is called around commands.
@@ -156,6 +161,29 @@ impl Gate for Counting {
     }
 }
 
+/// Keeps what it hears of client 1: each line and its answer.
+#[derive(Drop)]
+struct Hearing<'a, R> {
+    rt: &'a R,
+    heard: Mutex<Vec<u8>>,
+}
+
+impl<R: Wait> Gate for Hearing<'_, R> {
+    fn before(&self, _client: u8, _n: u32) {}
+
+    fn after(&self, _client: u8, _n: u32) {}
+
+    fn heard(&self, client: u8, line: &[u8], text: &[u8]) {
+        if client == 1 {
+            let mut heard = self.heard.lock(self.rt);
+            // (where memory is refused, what was heard is not what the trial wants)
+            let _ = heard.extend_from_slice(line);
+            let _ = heard.push(b'\n');
+            let _ = heard.extend_from_slice(text);
+        }
+    }
+}
+
 /// Two clients, of whom the first is held until the second has its first answer.
 pub fn second_before_first<R: Threads + Wait + AllocGlobal + Clock + Sync>(
     rt: &R,
@@ -208,6 +236,23 @@ pub fn around_commands<R: Threads + Wait + AllocGlobal + Sync>(
         Ok(rows)
     } else {
         Err(TrialFault::GateElsewhere)
+    }
+}
+
+/// One client, whose gate hears each of its lines, those that are skipped too, with its answer.
+pub fn each_line_heard<R: Threads + Wait + AllocGlobal + Sync>(
+    rt: &R,
+) -> Result<usize, TrialFault> {
+    let gate = Hearing {
+        rt,
+        heard: Mutex::new(Vec::new(rt.alloc())),
+    };
+    let rows = rows_of_all(rt, [lines()].as_slice(), &gate)?;
+    let Hearing { rt: _, heard } = gate;
+    if heard.into_inner().as_slice() == lines_answered() {
+        Ok(rows)
+    } else {
+        Err(TrialFault::HeardOtherwise)
     }
 }
 

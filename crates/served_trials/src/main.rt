@@ -10,7 +10,7 @@ mod sockets;
 mod typed;
 
 use faults::TrialFault;
-use gates::{around_commands, each_for_the_others, second_before_first};
+use gates::{around_commands, each_for_the_others, each_line_heard, second_before_first};
 use lost_between::{second_reads_fail, second_writes_fail};
 use lost_clients::{half_a_line, reads_fail, writes_fail};
 use sockets::{four_clients, two_clients};
@@ -25,6 +25,11 @@ fn main(rt: HostRuntime) -> io::Result<()> {
         &rt,
         "gates are called around commands alone",
         around_commands(&rt),
+    )?;
+    report(
+        &rt,
+        "a gate hears each line with its answer",
+        each_line_heard(&rt),
     )?;
     report(&rt, "each read fails once", reads_fail(&rt))?;
     report(&rt, "each write fails once", writes_fail(&rt))?;

@@ -57,6 +57,10 @@ impl<'a, R: Wait, A: Naming + Beginning, B: Naming, C: Naming, D: Naming, G: Gat
         self.gate.after(client, number);
         given
     }
+
+    fn hear(&self, line: &[u8], text: &[u8]) {
+        self.gate.heard(self.pass.client(), line, text);
+    }
 }
 
 impl<'a, R: Wait, A: Naming + Beginning, B: Naming, C: Naming, D: Naming, G: Gate> PassResponder<
@@ -97,7 +101,7 @@ fn next_number(rows: usize) -> u32 {
 /// Answers the lines of the reader, as the pass's client of the shared book, until its end or the first failure. Where it
 /// is stopped, a command that was answered before stands, whether or not its answer could be written. It waits for the
 /// book's lock and for the gate, which is called ahead of each command and when it is answered or refused, outside the
-/// lock; other lines call neither.
+/// lock. It hears each line with its answer, commands or not.
 pub fn session<
     R: Wait,
     I: Read,

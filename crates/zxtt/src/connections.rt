@@ -2,42 +2,51 @@
 
 ghost use Rattle.std.specs.Prelude.{◌≡◌, IfOk};
 
-use crate::client_lines::ClientLines;
 use crate::faults::Fault;
+use crate::heard::{Heading, said_of};
 use std::io;
 use std::net::{Shutdown, TcpListener, TcpStream};
+use std::sync::atomic::{AtomicU64, Ordering};
 use zt_console::Counted;
 use zt_shared::Gate;
 
 /// The two directions of a client's connection.
-pub type Directions<'a, R> = (Counted<ClientLines<'a, R, TcpStream>>, Counted<TcpStream>);
+pub type Directions = (Counted<TcpStream>, Counted<TcpStream>);
+
+/// A client's connection, and how many lines of the client were answered or skipped.
+#[derive(Drop)]
+struct Connection {
+    end: TcpStream,
+    answered: AtomicU64,
+}
 
 /// The connections of the clients 1, 2 and so on. Each is shut for writing when its client's session has ended, so that the
-/// client gets the end of its answers while others are served. On standard error is said how many are waited for, who comes and who goes.
+/// client gets the end of its answers while others are served. On standard error is said how many are waited for, who comes and who
+/// goes, and, where that is asked for, why lines were refused.
 #[derive(Drop)]
 pub struct Connections<'a, R> {
     rt: &'a R,
     /// How many clients there are to be.
     clients: u8,
-    /// Whether lines that do not read are explained.
+    /// Whether lines that were refused are explained.
     explains: bool,
-    ends: Vec<TcpStream>,
+    accepted: Vec<Connection>,
 }
 
 impl<'a, R: AllocGlobal + Eprint> Connections<'a, R> {
     /// None yet, of so many clients.
     pub fn new(rt: &'a R, clients: u8, explains: bool) -> Connections<'a, R> {
-        let ends = Vec::new(rt.alloc());
+        let accepted = Vec::new(rt.alloc());
         Connections {
             rt,
             clients,
             explains,
-            ends,
+            accepted,
         }
     }
 
     /// The next connection, which is that of this client.
-    pub fn accept(&mut self, listener: &TcpListener, client: u8) -> Result<Directions<'a, R>, Fault>
+    pub fn accept(&mut self, listener: &TcpListener, client: u8) -> Result<Directions, Fault>
         ensures { IfOk result (λ ends. (ends.0.1 ≡ 0) × (ends.1.1 ≡ 0)) }
     {
         self.say_who_lacks(client);
@@ -45,7 +54,7 @@ impl<'a, R: AllocGlobal + Eprint> Connections<'a, R> {
             Ok(accepted) => accepted,
             Err(error) => return Err(Fault::Unconnected(error)),
         };
-        let directions = self.keep(connection, client)?;
+        let directions = self.keep(connection)?;
         let _ = eprintln!(self.rt; "zxtt: client {client} came from {address}");
         Ok(directions)
     }
@@ -58,19 +67,28 @@ impl<'a, R: AllocGlobal + Eprint> Connections<'a, R> {
     }
 
     /// Puts a connection behind the others, and gives its directions.
-    fn keep(&mut self, connection: TcpStream, client: u8) -> Result<Directions<'a, R>, Fault>
+    fn keep(&mut self, connection: TcpStream) -> Result<Directions, Fault>
         ensures { IfOk result (λ ends. (ends.0.1 ≡ 0) × (ends.1.1 ≡ 0)) }
     {
         let (reader, writer) = match both(&connection) {
             Ok(both) => both,
             Err(error) => return Err(Fault::Unconnected(error)),
         };
-        match self.ends.push(connection) {
-            Ok(()) => {
-                let lines = ClientLines::new(reader, self.rt, client, self.explains);
-                Ok((Counted::new(lines), Counted::new(writer)))
-            }
+        let accepted = Connection {
+            end: connection,
+            answered: AtomicU64::new(0),
+        };
+        match self.accepted.push(accepted) {
+            Ok(()) => Ok((Counted::new(reader), Counted::new(writer))),
             Err(_) => Err(Fault::of_memory()),
+        }
+    }
+
+    /// Says why a line was refused that was answered by this text, in one piece; nothing, where it was not. Where memory is refused
+    /// nothing is said.
+    fn explain(&self, heading: Heading, line: &[u8], text: &[u8]) {
+        if let Ok(Some(said)) = said_of(self.rt.alloc(), heading, line, text) {
+            let _ = eprint!(self.rt; "{said}");
         }
     }
 }
@@ -82,16 +100,33 @@ fn both(connection: &TcpStream) -> io::Result<(TcpStream, TcpStream)> {
     Ok((reader, writer))
 }
 
-impl<R: Eprint> Gate for Connections<'_, R> {
+impl<R> Connections<'_, R> {
+    /// The connection of a client.
+    fn of_client(&self, client: u8) -> Option<&Connection> {
+        self.accepted.get(usize::from(client).saturating_sub(1))
+    }
+}
+
+impl<R: AllocGlobal + Eprint> Gate for Connections<'_, R> {
     fn before(&self, _client: u8, _n: u32) {}
 
     fn after(&self, _client: u8, _n: u32) {}
 
+    fn heard(&self, client: u8, line: &[u8], text: &[u8]) {
+        if !self.explains {
+            return;
+        }
+        if let Some(connection) = self.of_client(client) {
+            let before = connection.answered.fetch_add(1, Ordering::SeqCst);
+            let heading = Heading::Client(client, before.saturating_add(1));
+            self.explain(heading, line, text);
+        }
+    }
+
     fn ended(&self, client: u8) {
-        let place = usize::from(client).saturating_sub(1);
-        if let Some(end) = self.ends.get(place) {
+        if let Some(connection) = self.of_client(client) {
             // (a client that is gone has nothing to be shut)
-            let _ = end.shutdown(Shutdown::Write);
+            let _ = connection.end.shutdown(Shutdown::Write);
         }
         let _ = eprintln!(self.rt; "zxtt: client {client} went");
     }

@@ -32,7 +32,7 @@ pub fn said_of(
 }
 
 /// What is said of a line that was refused so; nothing, for what no line is refused as.
-pub fn explained(
+fn explained(
     alloc: Global,
     heading: Heading,
     line: &[u8],

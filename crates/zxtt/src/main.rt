@@ -13,7 +13,6 @@ ghost use Rattle.zxtt.specs.Traces.{BeginsFrom};
 mod advice;
 mod answer_lines;
 mod attendant;
-mod client_lines;
 mod connections;
 mod explanation;
 mod faults;

@@ -5,7 +5,6 @@ ghost use Rattle.zt_shared.specs.OpenedBook.{IsNamed};
 ghost use Rattle.zt_shared.specs.Sharing.{IsFresh};
 ghost use Rattle.zt_console.specs.Sessions.{IsCountable};
 
-use crate::client_lines::ClientLines;
 use crate::connections::Connections;
 use crate::faults::Fault;
 use std::alloc::Global;
@@ -20,7 +19,7 @@ use zt_shared::account::Naming;
 use zt_shared::{Beginning, Blanks, Pass, open_book};
 
 /// Serves so many clients that connect to a port of 127.0.0.1 over the book, prints how many rows its log has when all of
-/// them have gone, and gives it back. Where that is asked for, it says why lines do not read.
+/// them have gone, and gives it back. Where that is asked for, it says why lines were refused.
 pub fn serve<
     R: Net<Listener = TcpListener, Stream = TcpStream>
         + Threads
@@ -96,12 +95,12 @@ fn serve_book<
 }
 
 /// A connection for each pass, in the order in which they come.
-fn accept_all<'a, A: Naming + Beginning, B: Naming, C: Naming, D: Naming, R: AllocGlobal + Eprint>(
+fn accept_all<A: Naming + Beginning, B: Naming, C: Naming, D: Naming, R: AllocGlobal + Eprint>(
     alloc: Global,
-    connections: &mut Connections<'a, R>,
+    connections: &mut Connections<'_, R>,
     listener: &TcpListener,
     passes: Vec<Pass<A, B, C, D>>,
-) -> Result<Vec<Caller<ClientLines<'a, R, TcpStream>, TcpStream, A, B, C, D>>, Fault>
+) -> Result<Vec<Caller<TcpStream, TcpStream, A, B, C, D>>, Fault>
     ensures passes { IfOk result (λ callers. map (λ caller. caller.2) callers.items ≡ passes.items) }
     ensures counts { IfOk result (λ callers. All IsCountable callers.items) }
 {
