@@ -42,7 +42,7 @@ RIGHT_NAMES = {bit: f'ZX_RIGHT_{name}' for bit, name in RIGHT_NAMES.items()}
 SIGNAL_NAMES = {0: 'CHANNEL_READABLE', 1: 'CHANNEL_WRITABLE', 2: 'EVENTPAIR_PEER_CLOSED', 3: 'TASK_TERMINATED', 4: 'JOB_NO_JOBS'}
 SIGNAL_NAMES |= {5: 'JOB_NO_PROCESSES'} | {24 + number: f'USER_SIGNAL_{number}' for number in range(8)}
 SIGNAL_NAMES = {bit: f'ZX_{name}' for bit, name in SIGNAL_NAMES.items()}
-OTHERS = ['vmo_create', 'zx_vmar_map', 'zx_thread_create', 'EVENT_CREATE', '']
+OTHERS = ['vmo_write', 'zx_vmar_map', 'zx_thread_start', 'EVENT_CREATE', '']
 CHANGE_NOTHING = ['zx_clock_get_monotonic', 'zx_nanosleep', 'object_get_info', 'zx_object_wait_one']
 
 
@@ -430,6 +430,25 @@ class Writer:
             return dict(zip(names, handles))
         return {'handles': handles}
 
+    def put_form(self, it, entry):
+        """Another call that is this one alone."""
+        if it.call == 'handle_close':
+            entry['call'] += '_many'
+            entry['args']['handles'] = [entry['args'].pop('handle')]
+        elif it.call == 'channel_write':
+            entry['call'] += '_etc'
+            if entry['args'].get('handles'):
+                entry['args']['handles'] = [self.moved(handle) for handle in entry['args']['handles']]
+        elif it.call == 'channel_read':
+            entry['call'] += '_etc'
+            if entry['out'].get('handles'):
+                entry['out']['handles'] = [self.any.choice([handle, {'handle': handle, 'rights': 2}]) for handle in entry['out']['handles']]
+
+    def moved(self, handle):
+        """A handle that `channel_write_etc` moves as it is."""
+        same = self.any.choice([{'rights': 0x80000000}, {'rights': 'ZX_RIGHT_SAME_RIGHTS'}, {'rights': None}, {}])
+        return {'operation': self.any.choice([0, '0x0', 'ZX_HANDLE_OP_MOVE']), 'handle': handle, 'type': 0, 'result': 0} | same
+
     def entry(self, it):
         """The entry of a call."""
         entry = {
@@ -439,6 +458,8 @@ class Writer:
         for handle in it.handles_gone():
             self.numbers.take(it.process, handle)
         entry['out'] = self.out(it)
+        if self.any.random() < 0.15:
+            self.put_form(it, entry)
         for name in ('args', 'out'):
             if not entry[name] and self.any.random() < 0.5:
                 del entry[name]

@@ -5,3 +5,4 @@ pub mod ListLaws
 pub mod ImportLaws
 pub mod ComparedLaws
 pub mod TextLaws
+pub mod PartLaws

@@ -1,13 +1,24 @@
 -- Which steps of a trail are in the trace, as lines of the log or beside them. This project's own.
-use Rattle.std.specs.Prelude.{Bool, false, not, ◌&&◌, is_some}
+use Rattle.std.specs.Prelude.{ℕ, Bool, false, not, ◌&&◌, is_some, List, Option, Some, None, slice_get}
+use Rattle.zt_logs.specs.declared.logged.LoggedCall.{LoggedCall}
 use Rattle.zt_import.specs.declared.trail.Origin.{Origin}
 use Rattle.zt_import.specs.declared.trail.Origin.TheVariants as origin
 use Rattle.zt_import.specs.declared.trail.TrailStep.{TrailStep}
+use Rattle.zt_import.specs.Parts.{is_counted}
 use Rattle.zt_import.specs.Trails.{number_in}
 
--- a line of the log is in the trace
-abbrev pub is_call : TrailStep → Bool
-is_call step = is_some (number_in step.origin) && is_some step.moment
+-- the call of this number counts for its line
+abbrev pub ends_line : Option LoggedCall → Bool
+ends_line None = false
+ends_line (Some logged) = is_counted logged.part
+
+abbrev pub ends_line_by : List LoggedCall → Option ℕ → Bool
+ends_line_by calls None = false
+ends_line_by calls (Some number) = ends_line (slice_get calls number)
+
+-- a line of the log is in the trace: the call that counts for it is
+abbrev pub is_call : List LoggedCall → TrailStep → Bool
+is_call calls step = ends_line_by calls (number_in step.origin) && is_some step.moment
 
 -- a call of the trace is no line of the log
 abbrev pub is_adopted : TrailStep → Bool

@@ -1,6 +1,7 @@
 -- Definitions to believe: public clauses are stated in them.
 pub mod Comparison
 pub mod Schedule
+pub mod Parts
 pub mod Trails
 pub mod Counts
 pub mod Imports

@@ -61,8 +61,7 @@ is_near line other = nat_lt other (line + 513) && nat_lt line (other + 513)
 abbrev pub is_shortly_before : ℕ → ℕ → Bool
 is_shortly_before line other = nat_lt other line && nat_lt line (other + 513)
 
--- the calls of the log from 512 before the one of this number on, up to 1025. A line has one call at most, so that no other call
--- of the log is near
+-- the calls of the log from 512 before the one of this number on, up to 1025
 abbrev pub around : ℕ → List AskedCall → List AskedCall
 around number asked = take 1025 (drop (number - 512) asked)
 

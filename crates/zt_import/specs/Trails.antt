@@ -7,7 +7,7 @@ use Rattle.zt_rows.specs.declared.calls.Call.{Call}
 use Rattle.zt_rows.specs.declared.calls.Call.TheVariants as call
 use Rattle.zt_rows.specs.declared.calls.Reply.{Reply}
 use Rattle.zt_rows.specs.declared.calls.Reply.TheVariants as reply
-use Rattle.zt_history.specs.Tree.{Made, call_at, reply_at}
+use Rattle.zt_history.specs.Tree.{Made, call_at}
 use Rattle.zt_logs.specs.declared.logged.LoggedCall.{LoggedCall}
 use Rattle.zt_import.specs.declared.trail.Difference.{Difference}
 use Rattle.zt_import.specs.declared.trail.Origin.{Origin}
@@ -15,6 +15,7 @@ use Rattle.zt_import.specs.declared.trail.Origin.TheVariants as origin
 use Rattle.zt_import.specs.declared.trail.TrailStep.{TrailStep}
 use Rattle.zt_import.specs.declared.schedule.AskedCall.{AskedCall}
 use Rattle.zt_import.specs.Comparison.{agrees}
+use Rattle.zt_import.specs.Parts.{is_last, ahead_of, answering, answered_at}
 use Rattle.zt_import.specs.Schedule.{by_schedule}
 
 -- the calls of moments, each with its process
@@ -64,14 +65,20 @@ asked_in calls trail = filter_map (asked_at calls) trail
 
 -- what a step's call answered; nothing, where it was not made
 abbrev pub answer_at : List Made → Option ℕ → Option Reply
-answer_at made None = None
-answer_at made (Some moment) = reply_at made moment
+answer_at made moment = answered_at made moment
 
--- what differs of this call of the log, which has this number and made this moment, among those that were asked
-abbrev pub difference_of : List Made → List AskedCall → LoggedCall → ℕ → Option ℕ → Option Difference
-difference_of made asked logged number moment =
+-- what differs of this call of the log, which has this number and whose line was answered at this moment
+abbrev pub difference_with : List Made → List AskedCall → LoggedCall → ℕ → Option ℕ → Option Difference
+difference_with made asked logged number moment =
     if agrees logged.recorded (answer_at made moment) then None
     else Some (record { call = number; moment = moment; by_schedule = by_schedule made asked logged number moment })
+
+-- the same of one that made this moment: where others of its line stand behind it, it differs from nothing; of the line's calls the
+-- first that was not ok is that which answered it, or else the last
+abbrev pub difference_of : List Made → List AskedCall → LoggedCall → ℕ → Option ℕ → Option Difference
+difference_of made asked logged number moment =
+    if is_last logged.part then difference_with made asked logged number (answering made (ahead_of number logged.part.ahead asked) moment)
+    else None
 
 abbrev pub difference_for : List Made → List AskedCall → Option LoggedCall → ℕ → Option ℕ → Option Difference
 difference_for made asked None number moment = None

@@ -60,7 +60,7 @@ fn is_status(recorded: Option<Status>, status: Status) -> bool
 }
 
 /// A number for each status.
-fn status_number(status: Status) -> u8
+pub(crate) fn status_number(status: Status) -> u8
     ensures { result ≡ status_number status }
 {
     match status {

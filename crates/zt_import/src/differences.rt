@@ -6,6 +6,7 @@ ghost use Rattle.zt_import.specs.ProofsOnly.TakenCalls.{ComparesMore, IsCompared
 
 use crate::compared::Compared;
 use crate::comparison::agrees;
+use crate::parts::{ahead_of, answering, is_last};
 use crate::schedule::{AskedCall, asked_in, is_by_schedule};
 use crate::taken::Taken;
 use crate::trail::{Origin, TrailStep};
@@ -59,7 +60,7 @@ fn compare_step(
     }
 }
 
-/// Compares the reply of a moment with what the log has.
+/// Compares the reply of the last call of a line with what the log has; of several calls, that of the first that was not ok.
 fn compare(
     taken: &mut Taken,
     compared: &mut Compared,
@@ -72,6 +73,11 @@ fn compare(
         (option_to_list (difference_of taken.old.tree.made asked.now logged.now number moment))) }
     ensures same { taken.new ≡ taken.old }
 {
+    if !is_last(logged.part) {
+        return Ok(());
+    }
+    let ahead = ahead_of(asked, number, logged.part.ahead);
+    let moment = answering(taken, ahead, moment);
     if agrees(&logged.recorded, taken.reply(&moment)) {
         return Ok(());
     }

@@ -3,8 +3,10 @@ ghost use Rattle.std.specs.Option.{option_copied};
 ghost use Rattle.zt_import.specs.Trails.{bare, pair_of, spawned_in};
 ghost use Rattle.zt_import.specs.ProofsOnly.TakenCalls.{Learns, process_in};
 
+use crate::parts::is_last;
 use std::alloc::{AllocError, Global};
 use std::collections::HashMap;
+use zt_logs::LinePart;
 use zt_rows::{Call, HandleValue, Koid, Parcel, Reply};
 
 /// A handle value that no handle has.
@@ -13,8 +15,11 @@ pub(crate) const NO_HANDLE: HandleValue = HandleValue(4_294_967_292);
 /// What the numbers of the log are in the trace: processes, and the handles of each.
 #[derive(Drop)]
 pub(crate) struct Numbers {
+    alloc: Global,
     pub(crate) processes: HashMap<u64, Koid>,
     handles: HashMap<(u64, u32), HandleValue>,
+    /// Those that the calls of a line gave for the message that the last of them writes, by their places in it.
+    copies: HashMap<usize, HandleValue>,
 }
 
 impl Numbers {
@@ -22,8 +27,10 @@ impl Numbers {
         ensures { (number : ℕ) → process_in result.processes number ≡ 0 }
     {
         Numbers {
+            alloc,
             processes: HashMap::new(alloc),
             handles: HashMap::new(alloc),
+            copies: HashMap::new(alloc),
         }
     }
 
@@ -95,6 +102,43 @@ impl Numbers {
             self.set_handle(process, handles[place], values[place])?;
         }
         Ok(())
+    }
+
+    /// From here on the handle that a call of a line gave stands at its place in the message of the line; one that none has,
+    /// where it gave none. Behind the last call of the line there is none.
+    pub(crate) fn learn_copy(
+        &mut self,
+        part: LinePart,
+        reply: Option<&Reply>,
+    ) -> Result<(), AllocError>
+        ensures { OnOk result (self.new.processes ≡ self.old.processes) }
+    {
+        match part.gives {
+            Some(place) => self.keep_copy(place, given(reply)),
+            None => {
+                if part.count > 1 && is_last(part) {
+                    self.copies = HashMap::new(self.alloc);
+                }
+                Ok(())
+            }
+        }
+    }
+
+    fn keep_copy(&mut self, place: usize, value: HandleValue) -> Result<(), AllocError>
+        ensures { self.new.processes ≡ self.old.processes }
+    {
+        match self.copies.insert(place, value) {
+            Ok(_) => Ok(()),
+            Err(_) => Err(AllocError),
+        }
+    }
+
+    /// The handle at this place of a message that the process writes.
+    fn sent(&self, process: u64, place: usize, handle: HandleValue) -> HandleValue {
+        match self.copies.get(&place) {
+            Some(value) => *value,
+            None => self.handle(process, handle),
+        }
     }
 
     /// The handle of the process; one that none has, where it is not known.
@@ -249,9 +293,17 @@ impl Numbers {
     {
         let mut named = Vec::new(alloc);
         for place in 0..handles.len() {
-            push_handle(&mut named, self.handle(process, handles[place]))?;
+            push_handle(&mut named, self.sent(process, place, handles[place]))?;
         }
         Ok(named)
+    }
+}
+
+/// The handle that a reply gives; one that none has, where it gives none.
+fn given(reply: Option<&Reply>) -> HandleValue {
+    match reply {
+        Some(Reply::Handle(value)) => *value,
+        _ => NO_HANDLE,
     }
 }
 

@@ -2,7 +2,7 @@ use crate::trail::{JoinedEnd, Origin};
 use crate::used_handles::handles_in;
 use std::alloc::{AllocError, Global};
 use zt_bits::Kind;
-use zt_logs::{CallLog, LoggedCall};
+use zt_logs::{CallLog, LineForm, LinePart, LoggedCall};
 use zt_rows::HandleValue;
 use zt_text::put_mask;
 
@@ -114,7 +114,27 @@ fn put_logged(text: &mut String, log: &CallLog, logged: &LoggedCall) -> Result<(
     put_process(text, log, logged.process)?;
     let handles = handles_in(*text.allocator(), &logged.call)?;
     put_handles(text, handle_word(handles.len()), handles.as_slice())?;
-    put_handles(text, "; gives", logged.recorded.handles.as_slice())
+    put_handles(text, "; gives", logged.recorded.handles.as_slice())?;
+    put_part(text, logged.part)
+}
+
+/// The name of the call that the line has, where that is none of the semantics, and which of its calls this is of several; or for
+/// what it stands in.
+fn put_part(text: &mut String, part: LinePart) -> Result<(), AllocError> {
+    if let LineForm::StandIn(kind) = part.form {
+        text.push_str("; stands in for ")?;
+        return text.push_str(kind.words());
+    }
+    let Some(word) = part.form.word() else {
+        return Ok(());
+    };
+    text.push_str("; by ")?;
+    text.push_str(word)?;
+    if part.count <= 1 {
+        return Ok(());
+    }
+    write!(text, ", {} of ", part.ahead.saturating_add(1))?;
+    write!(text, "{}", part.count)
 }
 
 /// The word ahead of so many handles.

@@ -2,11 +2,12 @@ use crate::first_messages::FirstMessages;
 use crate::joins::{EndName, Joins};
 use crate::kind_signs::Sign;
 use crate::seen_objects::{Reading, SeenObjects, Sent, Unread};
+use crate::stand_ins::{StandInUses, found, rights_of, signal_key};
 use crate::trail::JoinedEnd;
 use std::alloc::{AllocError, Global};
 use std::collections::HashMap;
 use zt_bits::Status;
-use zt_logs::{Cause, LogFault, LoggedCall};
+use zt_logs::{Cause, LineForm, LogFault, LoggedCall};
 use zt_rows::{Call, HandleValue, Parcel};
 
 /// A process that makes calls and that nothing in the log made, with the objects of its handles that come from nowhere.
@@ -58,6 +59,8 @@ pub(crate) struct Plan {
     known: HashMap<(u64, u32), usize>,
     first_messages: FirstMessages,
     joins: Joins,
+    /// The calls on what stands in for another object.
+    pub(crate) uses: StandInUses,
     /// What each end is joined by that is.
     pub(crate) joined: HashMap<usize, JoinedEnd>,
     /// Each object that comes from nowhere, by the first handle that the log has of it.
@@ -123,6 +126,7 @@ impl Plan {
             known: HashMap::new(alloc),
             first_messages: FirstMessages::new(alloc),
             joins,
+            uses: StandInUses::new(alloc),
             joined: HashMap::new(alloc),
             named: HashMap::new(alloc),
         }
@@ -132,6 +136,7 @@ impl Plan {
     fn see(&mut self, index: usize, logged: &LoggedCall) -> Result<(), Cause> {
         self.see_process(logged.process)?;
         self.see_uses(logged)?;
+        self.see_stand_in_uses(index, logged)?;
         if logged.recorded.status != Some(Status::Ok) {
             self.see_too_large(index, logged)?;
             return Ok(());
@@ -155,10 +160,105 @@ impl Plan {
                 Ok(())
             }
             _ => {
-                self.see_new(logged)?;
+                self.see_made(logged)?;
                 Ok(())
             }
         }
+    }
+
+    /// Objects were made, which may stand in for others.
+    fn see_made(&mut self, logged: &LoggedCall) -> Result<(), AllocError> {
+        let LineForm::StandIn(kind) = logged.part.form else {
+            return self.see_new(logged);
+        };
+        for handle in logged.recorded.handles.as_slice() {
+            let object = self.objects.add(None)?;
+            self.objects.set_stand_in(object, rights_of(kind));
+            self.name(logged.process, *handle, object)?;
+        }
+        Ok(())
+    }
+
+    /// Goes over a call on what stands in for another object, if it is one.
+    fn see_stand_in_uses(&mut self, index: usize, logged: &LoggedCall) -> Result<(), AllocError> {
+        let process = logged.process;
+        match &logged.call {
+            Call::HandleDuplicate { handle, rights } | Call::HandleReplace { handle, rights } => {
+                match self.stand_in(process, *handle) {
+                    Some(has) => self.uses.cut(index, *rights, has),
+                    None => Ok(()),
+                }
+            }
+            Call::ObjectSignal { handle, .. }
+            | Call::ObjectSignalPeer { handle, .. }
+            | Call::TaskKill { handle } => {
+                if found(logged.recorded.status) && self.stand_in(process, *handle).is_some() {
+                    self.uses.leave(index)?;
+                }
+                Ok(())
+            }
+            _ => self.see_stand_in_waits(index, logged),
+        }
+    }
+
+    /// The same of waits, and of what they give.
+    fn see_stand_in_waits(&mut self, index: usize, logged: &LoggedCall) -> Result<(), AllocError> {
+        let process = logged.process;
+        match &logged.call {
+            Call::ObjectWaitAsync {
+                handle,
+                port,
+                key,
+                ..
+            } => self.see_stand_in_wait(index, logged, *handle, *port, *key),
+            Call::PortCancel { port, source, key } => {
+                if self.stand_in(process, *source).is_none() || !found(logged.recorded.status) {
+                    return Ok(());
+                }
+                self.uses.leave(index)?;
+                match self.object_of(process, *port) {
+                    Some(port) => self.uses.end_waits(port, *key),
+                    None => Ok(()),
+                }
+            }
+            Call::PortWait { port } => {
+                if let (Some(port), Some(key)) = (
+                    self.object_of(process, *port),
+                    signal_key(logged),
+                ) {
+                    if self.uses.take_wait(port, key)? {
+                        self.uses.leave(index)?;
+                    }
+                }
+                Ok(())
+            }
+            _ => Ok(()),
+        }
+    }
+
+    /// A wait on what stands in for another object is in no trace, and its packet is none there.
+    fn see_stand_in_wait(
+        &mut self,
+        index: usize,
+        logged: &LoggedCall,
+        handle: HandleValue,
+        port: HandleValue,
+        key: u64,
+    ) -> Result<(), AllocError> {
+        let status = logged.recorded.status;
+        if self.stand_in(logged.process, handle).is_none() || !found(status) {
+            return Ok(());
+        }
+        self.uses.leave(index)?;
+        match self.object_of(logged.process, port) {
+            Some(port) if status == Some(Status::Ok) => self.uses.add_wait(port, key),
+            _ => Ok(()),
+        }
+    }
+
+    /// The rights of what stands in for another object, if a handle of a process names that.
+    fn stand_in(&self, process: u64, handle: HandleValue) -> Option<u32> {
+        self.objects.stand_in(self.object_of(process, handle)?)
     }
 
     /// A process that nothing made before its first call comes from nowhere.

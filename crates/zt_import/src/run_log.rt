@@ -180,6 +180,7 @@ fn learn(
 {
     numbers.learn_process(logged.recorded.process, reply)?;
     learn_handles(numbers, logged, reply)?;
+    numbers.learn_copy(logged.part, reply)?;
     match reply {
         Some(Reply::Spawned(_, _)) => learn_argument(numbers, plan, logged),
         _ => Ok(()),

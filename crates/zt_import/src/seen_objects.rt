@@ -51,6 +51,8 @@ pub(crate) struct SeenObject {
     pub(crate) signs: KindSigns,
     /// By which handle of which process the log has it first, where it comes from nowhere.
     pub(crate) adopted: Option<(u64, HandleValue)>,
+    /// The rights that it has, where it stands in for an object that the semantics has not.
+    pub(crate) stand_in: Option<u32>,
     /// The other end of a channel, where it is known.
     pub(crate) peer: Option<usize>,
     /// A message came to it that the log does not have as written.
@@ -87,6 +89,7 @@ impl SeenObjects {
         self.objects.push(SeenObject {
             signs: KindSigns::none(),
             adopted,
+            stand_in: None,
             peer: None,
             is_outside: false,
             queue: VecDeque::new(alloc),
@@ -102,6 +105,21 @@ impl SeenObjects {
     pub(crate) fn adopted(&self, number: usize) -> Option<(u64, HandleValue)> {
         match self.objects.get(number) {
             Some(object) => object.adopted,
+            None => None,
+        }
+    }
+
+    /// This object stands in for one that the semantics has not, and has these rights.
+    pub(crate) fn set_stand_in(&mut self, number: usize, rights: u32) {
+        if let Some(object) = self.objects.get_mut(number) {
+            object.stand_in = Some(rights);
+        }
+    }
+
+    /// The rights of an object that stands in for one that the semantics has not.
+    pub(crate) fn stand_in(&self, number: usize) -> Option<u32> {
+        match self.objects.get(number) {
+            Some(object) => object.stand_in,
             None => None,
         }
     }

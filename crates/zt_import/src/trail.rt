@@ -46,8 +46,8 @@ pub struct TrailStep {
     pub moment: Option<Moment>,
 }
 
-/// A call of the log, counted from 0, whose reply differs from what the log has, with its moment; none, where its process
-/// was not alive.
+/// A call of the log, counted from 0, which is the last of its line, whose reply differs from what the log has, with the moment of
+/// that reply: the first of the line's calls that was not ok, or else the last; none, where its process was not alive.
 #[derive(Debug, Drop)]
 pub struct Difference {
     pub call: usize,

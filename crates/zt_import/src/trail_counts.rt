@@ -2,13 +2,15 @@
 ghost use Rattle.std.specs.Prelude.{◌≡◌, count_by};
 ghost use Rattle.zt_import.specs.Counts.{is_call, is_adopted, is_pair};
 
+use crate::parts::is_counted;
 use crate::trail::{Origin, TrailStep};
+use zt_logs::LoggedCall;
 
 /// How many lines of the log are in the trace.
-pub fn calls_in(trail: &[TrailStep]) -> usize
-    ensures { result ≡ count_by is_call trail.now }
+pub fn calls_in(calls: &[LoggedCall], trail: &[TrailStep]) -> usize
+    ensures { result ≡ count_by (is_call calls.now) trail.now }
 {
-    trail.iter().filter(|step| is_call(step)).count()
+    trail.iter().filter(|step| is_call(calls, step)).count()
 }
 
 /// How many calls of the trace no line of the log is.
@@ -25,11 +27,17 @@ pub fn pairs_in(trail: &[TrailStep]) -> usize
     trail.iter().filter(|step| is_pair(step)).count()
 }
 
-/// Whether a step is a line of the log, and in the trace.
-fn is_call(step: &TrailStep) -> bool
-    ensures { result ≡ is_call step.now }
+/// Whether a step is the call that counts for a line of the log, and in the trace.
+fn is_call(calls: &[LoggedCall], step: &TrailStep) -> bool
+    ensures { result ≡ is_call calls.now step.now }
 {
-    matches!(step.origin, Origin::Logged(_)) && step.moment.is_some()
+    match step.origin {
+        Origin::Logged(number) => match calls.get(number) {
+            Some(logged) => is_counted(logged.part) && step.moment.is_some(),
+            None => false,
+        },
+        _ => false,
+    }
 }
 
 /// Whether a step is none, and in the trace.

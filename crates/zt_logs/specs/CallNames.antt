@@ -3,6 +3,8 @@ use Rattle.std.specs.Prelude.{ℕ, List, Option, Some, None, take, drop, if◌th
 use Rattle.std.specs.Str.{bytes_eq}
 use Rattle.zt_logs.specs.declared.call_names.CallName.{CallName}
 use Rattle.zt_logs.specs.declared.call_names.CallName.TheVariants as called
+use Rattle.zt_logs.specs.declared.other_kinds.OtherKind.{OtherKind}
+use Rattle.zt_logs.specs.OtherKinds.{kind_made}
 
 -- a name without the `zx_` ahead, if it has it
 abbrev pub bare : List ℕ → List ℕ
@@ -48,6 +50,26 @@ name_of_task name =
     else (if bytes_eq name (codes "process_exit") then Some called.ProcessExit
     else None))))
 
+-- the calls that are others of these here, one or several
+unfoldable pub name_of_form : List ℕ → Option CallName
+name_of_form name =
+    if bytes_eq name (codes "handle_close_many") then Some called.HandleCloseMany
+    else (if bytes_eq name (codes "channel_write_etc") then Some called.ChannelWriteEtc
+    else (if bytes_eq name (codes "channel_read_etc") then Some called.ChannelReadEtc
+    else (if bytes_eq name (codes "channel_call") then Some called.ChannelCall
+    else (if bytes_eq name (codes "channel_call_etc") then Some called.ChannelCallEtc
+    else (if bytes_eq name (codes "process_create") then Some called.ProcessCreate
+    else (if bytes_eq name (codes "process_start") then Some called.ProcessStart
+    else None))))))
+
+-- the calls that make objects which the semantics has not
+abbrev pub made_of : Option OtherKind → Option CallName
+made_of None = None
+made_of (Some kind) = Some (called.Made kind)
+
+abbrev pub name_of_made : List ℕ → Option CallName
+name_of_made name = made_of (kind_made name)
+
 -- this name, or else that one
 abbrev pub or_name : Option CallName → Option CallName → Option CallName
 or_name None other = other
@@ -55,7 +77,9 @@ or_name (Some name) other = Some name
 
 -- the call of this name
 unfoldable pub name_of : List ℕ → Option CallName
-name_of name = or_name (or_name (or_name (name_of_handle name) (name_of_channel name)) (name_of_port name)) (name_of_task name)
+name_of name =
+    or_name (or_name (or_name (or_name (or_name (name_of_handle name) (name_of_channel name)) (name_of_port name)) (name_of_task name)) (name_of_form name))
+    (name_of_made name)
 
 -- the same of a name that may have `zx_` ahead
 abbrev pub call_named : List ℕ → Option CallName

@@ -9,7 +9,7 @@ use Rattle.zt_logs.specs.declared.call_names.CallName.{CallName}
 use Rattle.zt_logs.specs.declared.call_names.CallName.TheVariants as called
 use Rattle.zt_logs.specs.declared.places.Member.TheVariants as member
 use Rattle.zt_logs.specs.Members.{field}
-use Rattle.zt_logs.specs.Numbers.{IsNumber, IsNumberIn, IsNumberOrNone, IsMaskIn, IsMaskOrNone, IsSignedIn, flag_of}
+use Rattle.zt_logs.specs.Numbers.{IsNumber, IsNumberIn, IsNumberOrNone, IsMaskIn, IsSignedIn, flag_of}
 
 -- bytes as pairs of digits; none, where they are left out
 abbrev pub AreBytes : Option Data → List ℕ → Type 0
@@ -64,6 +64,9 @@ IsCallOf called.ChannelWrite args options (call.ChannelWrite handle parcel) =
 IsCallOf called.ChannelRead args options (call.ChannelRead handle bytes handles discard) =
     IsNumberIn (field member.Handle args) handle × IsNumberIn (field member.ByteRoom args) bytes
     × IsNumberIn (field member.HandleRoom args) handles × IsAsked options 1 (field member.Discard args) discard
+IsCallOf called.ChannelReadEtc args options (call.ChannelRead handle bytes handles discard) =
+    IsNumberIn (field member.Handle args) handle × IsNumberIn (field member.ByteRoom args) bytes
+    × IsNumberIn (field member.HandleRoom args) handles × IsAsked options 1 (field member.Discard args) discard
 IsCallOf called.ObjectWaitAsync args options (call.ObjectWaitAsync handle port key signals edge) =
     IsNumberIn (field member.Handle args) handle × IsNumberIn (field member.Port args) port × IsNumberIn (field member.Key args) key
     × IsMaskIn (field member.Signals args) signals.0 × IsAsked options 2 (field member.Edge args) edge
@@ -75,13 +78,11 @@ IsCallOf called.PortCancel args options (call.PortCancel port source key) =
 IsCallOf called.JobCreate args options (call.JobCreate job) = IsNumberIn (field member.ParentJob args) job
 IsCallOf called.Spawn args options (call.Spawn job argument) =
     IsNumberIn (field member.Job args) job × IsNumberOrNone (field member.Argument args) argument
+-- a process that is started stands as the job of its spawn, until the line that made it tells that
+IsCallOf called.ProcessStart args options (call.Spawn job argument) =
+    IsNumberIn (field member.StartedProcess args) job × IsNumberOrNone (field member.FirstArgument args) argument
 IsCallOf called.JobSetCritical args options (call.JobSetCritical job process) =
     IsNumberIn (field member.Job args) job × IsNumberIn (field member.CriticalProcess args) process
 IsCallOf called.TaskKill args options (call.TaskKill handle) = IsNumberIn (field member.Task args) handle
 IsCallOf called.ProcessExit args options (call.ProcessExit code) = IsSignedIn (field member.Code args) code
 IsCallOf name args options other = ⊥
-
--- the call that the value of a line is
-abbrev pub IsCallNamed : Option CallName → Option Data → Call → Type 0
-IsCallNamed None args other = ⊥
-IsCallNamed (Some name) args other = (options : ℕ) × IsMaskOrNone (field member.Options args) options × IsCallOf name args options other

@@ -16,6 +16,7 @@ first_name member.Call = codes "call"
 first_name member.Args = codes "args"
 first_name member.Status = codes "status"
 first_name member.Out = codes "out"
+first_name member.Operation = codes "operation"
 first_name member.Handle = codes "handle"
 first_name member.Task = codes "handle"
 first_name member.CriticalProcess = codes "handle"
@@ -47,6 +48,16 @@ first_name member.Type = codes "type"
 first_name member.Signal = codes "signal"
 first_name member.Trigger = codes "trigger"
 first_name member.Observed = codes "observed"
+first_name member.ProcessHandle = codes "proc_handle"
+first_name member.VmarHandle = codes "vmar_handle"
+first_name member.StartedProcess = codes "handle"
+first_name member.FirstArgument = codes "arg1"
+first_name member.WrittenBytes = codes "wr_bytes"
+first_name member.WrittenHandles = codes "wr_handles"
+first_name member.ReadByteRoom = codes "rd_num_bytes"
+first_name member.ReadHandleRoom = codes "rd_num_handles"
+first_name member.ReadBytes = codes "rd_bytes"
+first_name member.ReadHandles = codes "rd_handles"
 
 -- the name of it in the system's reference, where that is another
 abbrev pub second_name : Member → Option (List ℕ)
@@ -60,6 +71,9 @@ second_name member.Set = Some (codes "set_mask")
 second_name member.CalledPort = Some (codes "handle")
 second_name member.ParentJob = Some (codes "parent_job")
 second_name member.Code = Some (codes "retcode")
+second_name member.StartedProcess = Some (codes "process")
+second_name member.ReadBytes = Some (codes "bytes")
+second_name member.ReadHandles = Some (codes "handles")
 second_name _ = None
 
 -- a value, unless it is null

@@ -1,8 +1,10 @@
 ghost use Rattle.std.specs.Prelude.{◌≡◌};
 ghost use Rattle.std.specs.Str.{bytes_eq};
-ghost use Rattle.zt_logs.specs.CallNames.{bare, name_of, name_of_handle, name_of_channel, name_of_port, name_of_task, call_named};
+ghost use Rattle.zt_logs.specs.CallNames.{bare, name_of, name_of_handle, name_of_channel, name_of_port, name_of_task, name_of_form, name_of_made, call_named};
 
-/// The calls that the semantics has.
+use crate::other_kinds::OtherKind;
+
+/// The calls that the semantics has, and those that are several of them.
 #[derive(Clone, Copy, Debug, PartialEq, Eq)]
 pub enum CallName {
     EventCreate,
@@ -25,6 +27,15 @@ pub enum CallName {
     JobSetCritical,
     TaskKill,
     ProcessExit,
+    HandleCloseMany,
+    ChannelWriteEtc,
+    ChannelReadEtc,
+    ChannelCall,
+    ChannelCallEtc,
+    ProcessCreate,
+    ProcessStart,
+    /// It makes or gives an object that the semantics has not.
+    Made(OtherKind),
 }
 
 /// Whether a name is this one.
@@ -60,6 +71,8 @@ impl CallName {
             .or_else(|| CallName::of_channel(name))
             .or_else(|| CallName::of_port(name))
             .or_else(|| CallName::of_task(name))
+            .or_else(|| CallName::of_form(name))
+            .or_else(|| CallName::of_made(name))
     }
 
     /// The calls on events, pairs of events and handles.
@@ -97,6 +110,40 @@ impl CallName {
             Some(CallName::ChannelWrite)
         } else if is(name, b"channel_read") {
             Some(CallName::ChannelRead)
+        } else {
+            None
+        }
+    }
+
+    /// The calls that make objects which the semantics has not.
+    fn of_made(name: &[u8]) -> Option<CallName>
+        ensures { result ≡ name_of_made name.now }
+    {
+        match OtherKind::made_by(name) {
+            Some(kind) => Some(CallName::Made(kind)),
+            None => None,
+        }
+    }
+
+    /// The calls that are others of these here, one or several.
+    #[tactic(auto, unfolding(crate::specs::CallNames::name_of_form))]
+    fn of_form(name: &[u8]) -> Option<CallName>
+        ensures { result ≡ name_of_form name.now }
+    {
+        if is(name, b"handle_close_many") {
+            Some(CallName::HandleCloseMany)
+        } else if is(name, b"channel_write_etc") {
+            Some(CallName::ChannelWriteEtc)
+        } else if is(name, b"channel_read_etc") {
+            Some(CallName::ChannelReadEtc)
+        } else if is(name, b"channel_call") {
+            Some(CallName::ChannelCall)
+        } else if is(name, b"channel_call_etc") {
+            Some(CallName::ChannelCallEtc)
+        } else if is(name, b"process_create") {
+            Some(CallName::ProcessCreate)
+        } else if is(name, b"process_start") {
+            Some(CallName::ProcessStart)
         } else {
             None
         }

@@ -51,6 +51,8 @@ pub enum WantedValue {
     PacketDigits,
     PacketType,
     UserPacket,
+    /// What becomes of a handle that is sent.
+    Operation,
     /// So many bytes or items.
     AtMost(usize),
 }
@@ -142,6 +144,10 @@ impl fmt::Display for WantedValue {
             WantedValue::PacketDigits => write!(f, "64 hexadecimal digits are wanted"),
             WantedValue::PacketType => write!(f, "user or signal is wanted"),
             WantedValue::UserPacket => write!(f, "user is wanted"),
+            WantedValue::Operation => write!(
+                f,
+                "ZX_HANDLE_OP_MOVE or ZX_HANDLE_OP_DUPLICATE is wanted"
+            ),
             WantedValue::AtMost(most) => write!(f, "at most {most} are wanted"),
         }
     }

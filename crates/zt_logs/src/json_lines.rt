@@ -4,17 +4,19 @@ ghost use Rattle.serde_json.specs.View.{view};
 ghost use Rattle.zt_logs.specs.Lines.{lines_of, without_mark};
 ghost use Rattle.zt_logs.specs.Entries.{is_space, entry_for, entry_of, entries_of};
 ghost use Rattle.zt_logs.specs.Logged.{AreLogged};
-ghost use Rattle.zt_logs.specs.ProofsOnly.ReadLines.{IsParsed, IsLoggedIfAny, AddsLogged, IsReadUpTo};
+ghost use Rattle.zt_logs.specs.Members.{data_at};
+ghost use Rattle.zt_logs.specs.ProofsOnly.ReadLines.{IsParsed, AddsLogged, AddsCalls, IsReadUpTo};
 
 use crate::call_names::{CallName, changes_nothing};
 use crate::faults::{Cause, LogFault};
-use crate::logged::{CallLog, LoggedCall};
-use crate::logged_calls::call_of;
+use crate::line_calls::{calls_of, form_of};
+use crate::logged::CallLog;
+use crate::logged_parts::{LineHead, push_parts};
 use crate::members::Members;
 use crate::notes::{LogNote, LogNotes};
 use crate::options::options_of;
 use crate::places::{LineObject, Member};
-use crate::process_names::{NamedPlace, Naming, ProcessNames};
+use crate::process_names::{NamedPlace, Naming, ProcessNames, ProcessWord};
 use crate::recorded::recorded_of;
 use crate::skipped::{SkippedCall, skipped_of};
 use serde_json::Value;
@@ -171,7 +173,8 @@ fn is_begun(line: &[u8]) -> bool {
     line.iter().find(|byte| !is_space(**byte)) == Some(&b'{')
 }
 
-/// Puts the call that the value of a line tells behind those before it, unless it is skipped.
+/// Puts the calls that the value of a line tells behind those before it, unless it is skipped.
+#[tactic(auto, using(crate::proofs::LineCallLaws::line_added, crate::proofs::LineCallLaws::no_line_added))]
 fn take_value(
     alloc: Global,
     log: &mut CallLog,
@@ -181,18 +184,16 @@ fn take_value(
     ensures lines { log.new.lines ≡ log.old.lines }
     ensures calls { OnOk result (AddsLogged (entry_for log.old.lines (view value.now)) log.old.calls.items log.new.calls.items) }
 {
-    match logged_in(alloc, log, naming, value)? {
-        Some(logged) => push_logged(&mut log.calls, logged),
-        None => Ok(()),
-    }
-}
-
-fn push_logged(calls: &mut Vec<LoggedCall>, logged: LoggedCall) -> Result<(), Cause>
-    ensures { OnOk result (calls.new.items ≡ calls.old.items ++ logged ∷ []) }
-{
-    match calls.push(logged) {
-        Ok(()) => Ok(()),
-        Err(_) => Err(Cause::OutOfMemory),
+    let members = Members::of_line(value)?;
+    let word = members.text(Member::Call)?;
+    match CallName::of(word) {
+        Some(name) => take_call(alloc, log, naming, name, &members),
+        None => {
+            if !changes_nothing(word) {
+                skip(alloc, &mut log.skipped, naming, word, &members)?;
+            }
+            Ok(())
+        }
     }
 }
 
@@ -222,38 +223,48 @@ fn json_in(alloc: Global, line: &[u8]) -> Result<Parsed, Cause>
     }
 }
 
-/// The call that the value of the last line tells; nothing, where the semantics has no such call. It is kept as skipped
-/// then, if it may change something.
-fn logged_in(
+/// Puts the calls of the last line, which has this name, behind those before it.
+#[tactic(auto, using(crate::proofs::LineCallLaws::calls_added))]
+fn take_call(
     alloc: Global,
     log: &mut CallLog,
     naming: &mut Naming,
-    value: &Value,
-) -> Result<Option<LoggedCall>, Cause>
+    name: CallName,
+    line: &Members<'_>,
+) -> Result<(), Cause>
     ensures lines { log.new.lines ≡ log.old.lines }
-    ensures calls { log.new.calls.items ≡ log.old.calls.items }
-    ensures logged { IfOk result (IsLoggedIfAny (entry_for log.old.lines (view value.now))) }
+    ensures calls { OnOk result (AddsCalls name log.old.lines (data_at line.now.value) log.old.calls.items log.new.calls.items) }
 {
-    let members = Members::of_line(value)?;
-    let word = members.text(Member::Call)?;
-    let Some(name) = CallName::of(word) else {
-        if !changes_nothing(word) {
-            skip(alloc, &mut log.skipped, naming, word, &members)?;
-        }
-        return Ok(None);
-    };
-    let place = log.calls.len();
-    let process = naming.number(NamedPlace::Caller(place), members.process(Member::Process)?)?;
-    let args = members.object(Member::Args, LineObject::Args)?;
-    let recorded = recorded_of(alloc, name, &members, naming, place)?;
+    let caller = line.process(Member::Process)?;
+    let args = line.object(Member::Args, LineObject::Args)?;
     let options = options_of(alloc, &mut log.notes, log.lines, name, &args)?;
-    let call = call_of(alloc, name, &args, options)?;
-    Ok(Some(LoggedCall {
+    let parts = calls_of(alloc, name, line, &args, options)?;
+    let count = parts.len();
+    let place = log.calls.len();
+    let process = name_parts(naming, caller, place, count)?;
+    let last = place.saturating_add(count.saturating_sub(1));
+    let recorded = recorded_of(alloc, name, line, naming, last)?;
+    let head = LineHead {
         line: log.lines,
         process,
-        call,
-        recorded,
-    }))
+        form: form_of(name),
+        count,
+    };
+    push_parts(alloc, &mut log.calls, head, parts, recorded)
+}
+
+/// The number of the process that makes the calls of a line, of which there are so many from this place on.
+fn name_parts(
+    naming: &mut Naming,
+    caller: ProcessWord<'_>,
+    place: usize,
+    count: usize,
+) -> Result<u64, AllocError> {
+    let mut number = 0;
+    for ahead in 0..count {
+        number = naming.number(NamedPlace::Caller(place.saturating_add(ahead)), caller)?;
+    }
+    Ok(number)
 }
 
 /// Keeps a line whose call the semantics does not know.

@@ -4,14 +4,19 @@
 
 mod bit_names;
 mod call_names;
+mod dispositions;
 mod faults;
 mod json_lines;
+mod line_calls;
+mod line_parts;
 mod logged;
 mod logged_calls;
+mod logged_parts;
 mod members;
 mod notes;
 mod numbers;
 mod options;
+mod other_kinds;
 mod places;
 mod process_names;
 mod recorded;
@@ -19,8 +24,11 @@ mod skipped;
 
 pub use faults::{Cause, LogFault, WantedValue};
 pub use json_lines::{LINE_BYTES, read_log};
+pub use line_calls::PartCall;
+pub use line_parts::{LineForm, LinePart};
 pub use logged::{CallLog, LoggedCall, LoggedPacket, RecordedReply};
-pub use notes::{LogNote, LogNotes};
+pub use notes::{LogNote, LogNotes, StartNote};
+pub use other_kinds::OtherKind;
 pub use places::{LineObject, Member, Place};
 pub use process_names::ProcessNames;
 pub use skipped::SkippedCall;

@@ -1,10 +1,11 @@
+use crate::line_parts::LinePart;
 use crate::notes::LogNotes;
 use crate::process_names::ProcessNames;
 use crate::skipped::SkippedCall;
 use zt_bits::{Signals, Status};
 use zt_rows::{Call, HandleValue, Items};
 
-/// A line of a log: a call that returned, with what the real system answered.
+/// A line of a log, or one of the calls that it is: a call that returned, with what the real system answered.
 #[derive(Debug, Drop)]
 pub struct LoggedCall {
     /// The number of the line, counted from 1.
@@ -13,6 +14,9 @@ pub struct LoggedCall {
     pub process: u64,
     /// The call, whose handles are those of the log.
     pub call: Call,
+    /// Which of the calls of its line it is.
+    pub part: LinePart,
+    /// What was answered to the line, for the last of its calls; for those ahead of it what follows of it.
     pub recorded: RecordedReply,
 }
 

@@ -1,4 +1,5 @@
-ghost use Rattle.std.specs.Prelude.{IfOk};
+ghost use Rattle.std.specs.Prelude.{◌≡◌, true, IfOk};
+ghost use Rattle.zt_logs.specs.LineCalls.{is_one_call};
 ghost use Rattle.zt_logs.specs.declared.call_names.CallName.TheVariants as called;
 ghost use Rattle.zt_logs.specs.Members.{data_at};
 ghost use Rattle.zt_logs.specs.LoggedCalls.{IsCallOf};
@@ -18,6 +19,7 @@ pub(crate) fn call_of(
     args: &Members<'_>,
     options: u64,
 ) -> Result<Call, Cause>
+    requires { is_one_call name ≡ true }
     ensures { IfOk result (IsCallOf name (data_at args.now.value) options) }
 {
     match name {
@@ -30,7 +32,14 @@ pub(crate) fn call_of(
         CallName::ObjectSignalPeer => object_signal_peer(args),
         CallName::ChannelCreate => Ok(Call::ChannelCreate),
         CallName::ChannelWrite => channel_write(alloc, args),
-        CallName::ChannelRead => channel_read(args, options),
+        CallName::ChannelRead | CallName::ChannelReadEtc => channel_read(args, options),
+        CallName::ProcessStart => process_start(args),
+        CallName::HandleCloseMany
+        | CallName::ChannelWriteEtc
+        | CallName::ChannelCall
+        | CallName::ChannelCallEtc
+        | CallName::ProcessCreate
+        | CallName::Made(_) => unreachable!(),
         CallName::PortCreate => Ok(Call::PortCreate),
         CallName::ObjectWaitAsync => object_wait_async(args, options),
         CallName::PortQueue => port_queue(args),
@@ -98,7 +107,7 @@ fn channel_write(alloc: Global, args: &Members<'_>) -> Result<Call, Cause>
 }
 
 /// More bytes than a message takes.
-fn too_many_bytes() -> Cause {
+pub(crate) fn too_many_bytes() -> Cause {
     let place = Place {
         object: LineObject::Args,
         member: Member::Bytes,
@@ -197,6 +206,15 @@ fn spawn(args: &Members<'_>) -> Result<Call, Cause>
 {
     let job = args.handle(Member::Job)?;
     let argument = args.handle_or_none(Member::Argument)?;
+    Ok(Call::Spawn { job, argument })
+}
+
+/// A process that is started stands as the job of its spawn, until the line that made it tells that.
+fn process_start(args: &Members<'_>) -> Result<Call, Cause>
+    ensures { IfOk result (IsCallOf called.ProcessStart (data_at args.now.value) 0) }
+{
+    let job = args.handle(Member::StartedProcess)?;
+    let argument = args.handle_or_none(Member::FirstArgument)?;
     Ok(Call::Spawn { job, argument })
 }
 

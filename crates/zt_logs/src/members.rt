@@ -1,12 +1,14 @@
 //! The members of a JSON object, each as what it has to be.
 
-ghost use Rattle.std.specs.Prelude.{◌≡◌, ◌++◌, ◌∷◌, [], Some, None, IfOk, OnOk, is_some, option_and_then};
+ghost use Rattle.std.specs.Prelude.{◌≡◌, ◌++◌, ◌∷◌, [], Some, None, IfOk, IfSome, OnOk, is_some, option_and_then};
 ghost use Rattle.serde_json.specs.Find.{as_str};
 ghost use Rattle.serde_json.specs.View.{view};
 ghost use Rattle.zt_logs.specs.Members.{named, field, data_at};
 ghost use Rattle.zt_logs.specs.Numbers.{IsNumber, IsNumberIn, IsNumberOrNone, IsMaskIn, IsSignedIn, flag_of};
 ghost use Rattle.zt_logs.specs.LoggedCalls.{AreBytes, ArePacketBytes, AreHandles};
-ghost use Rattle.zt_logs.specs.ProofsOnly.ReadLines.{AreNumbersOf};
+ghost use Rattle.zt_logs.specs.LineCalls.{IsOperation, IsOperationIn};
+ghost use Rattle.zt_logs.specs.Answered.{IsReadNumber, AreReadHandles};
+ghost use Rattle.zt_logs.specs.ProofsOnly.ReadLines.{AreNumbersOf, AreReadNumbersOf, IsListAt};
 
 use crate::bit_names::{BitNames, bits_in};
 use crate::faults::{Cause, WantedValue};
@@ -274,20 +276,128 @@ impl<'a> Members<'a> {
     }
 
     /// The handles of a list; none, where it is left out.
+    #[tactic(auto, using(crate::proofs::ListedLaws::handles_at, crate::proofs::ListedLaws::no_handles_at))]
     pub(crate) fn handles(&self, alloc: Global, name: Member) -> Result<Vec<HandleValue>, Cause>
         ensures { IfOk result (λ handles. AreHandles (field name (data_at self.now.value)) handles.items) }
     {
-        let Some(value) = self.member(name) else {
-            return Ok(Vec::new(alloc));
-        };
-        let Some(list) = value.as_array() else {
-            return Err(self.fault(name, WantedValue::List));
-        };
-        if list.len() > MESSAGE_HANDLES {
-            return Err(self.fault(name, WantedValue::AtMost(MESSAGE_HANDLES)));
+        match self.list(name)? {
+            Some(list) => self.handles_in(alloc, name, list),
+            None => Ok(Vec::new(alloc)),
         }
-        let handles = self.handles_in(alloc, name, list)?;
+    }
+
+    /// The same of a list of any length.
+    #[tactic(auto, using(crate::proofs::ListedLaws::handles_at, crate::proofs::ListedLaws::no_handles_at))]
+    pub(crate) fn all_handles(&self, alloc: Global, name: Member) -> Result<Vec<HandleValue>, Cause>
+        ensures { IfOk result (λ handles. AreHandles (field name (data_at self.now.value)) handles.items) }
+    {
+        match self.any_list(name)? {
+            Some(list) => self.handles_in(alloc, name, list),
+            None => Ok(Vec::new(alloc)),
+        }
+    }
+
+    /// The same of a list of handles that a message had, each alone or in an object with what it names.
+    #[tactic(auto, using(crate::proofs::ListedLaws::read_at, crate::proofs::ListedLaws::no_read_at))]
+    pub(crate) fn read_handles(
+        &self,
+        alloc: Global,
+        name: Member,
+    ) -> Result<Vec<HandleValue>, Cause>
+        ensures { IfOk result (λ handles. AreReadHandles (field name (data_at self.now.value)) handles.items) }
+    {
+        match self.list(name)? {
+            Some(list) => self.read_handles_in(alloc, name, list),
+            None => Ok(Vec::new(alloc)),
+        }
+    }
+
+    /// The handles that the values of a list are, or have.
+    fn read_handles_in(
+        &self,
+        alloc: Global,
+        name: Member,
+        list: &[Value],
+    ) -> Result<Vec<HandleValue>, Cause>
+        ensures { IfOk result (λ handles. AreReadNumbersOf list.now handles.items) }
+    {
+        let mut handles = Vec::new(alloc);
+        for item in 0..list.len() {
+            let handle = self.read_handle_in(name, item, &list[item])?;
+            push_handle(&mut handles, handle)?;
+        }
         Ok(handles)
+    }
+
+    /// The handle that this item of a list is, or has.
+    fn read_handle_in(&self, name: Member, item: usize, value: &Value) -> Result<HandleValue, Cause>
+        ensures { IfOk result (IsReadNumber (view value.now)) }
+    {
+        match value.get(Member::Handle.name()) {
+            Some(handle) => self.handle_in(name, item, handle),
+            None => self.handle_in(name, item, value),
+        }
+    }
+
+    /// A list of what a message can have, which may be left out.
+    pub(crate) fn list(&self, name: Member) -> Result<Option<&'a [Value]>, Cause>
+        ensures { IfOk result (IsListAt (field name (data_at self.now.value))) }
+    {
+        let list = self.any_list(name)?;
+        if let Some(items) = list {
+            if items.len() > MESSAGE_HANDLES {
+                return Err(self.fault(name, WantedValue::AtMost(MESSAGE_HANDLES)));
+            }
+        }
+        Ok(list)
+    }
+
+    /// A list, which may be left out.
+    fn any_list(&self, name: Member) -> Result<Option<&'a [Value]>, Cause>
+        ensures { IfOk result (IsListAt (field name (data_at self.now.value))) }
+    {
+        let Some(value) = self.member(name) else {
+            return Ok(None);
+        };
+        match value.as_array() {
+            Some(list) => Ok(Some(list.as_slice())),
+            None => Err(self.fault(name, WantedValue::List)),
+        }
+    }
+
+    /// The members of an object that is this item of a list of handles that are sent.
+    pub(crate) fn item(
+        &self,
+        name: Member,
+        item: usize,
+        value: &'a Value,
+    ) -> Result<Members<'a>, Cause>
+        ensures { IfOk result (λ members. data_at members.value ≡ Some (view value.now)) }
+    {
+        if !value.is_object() {
+            let mut place = self.place(name);
+            place.item = Some(item);
+            let wanted = WantedValue::Object;
+            return Err(Cause::Member { place, wanted });
+        }
+        let object = match name {
+            Member::WrittenHandles => LineObject::CalledHandle(item),
+            _ => LineObject::SentHandle(item),
+        };
+        Ok(Members {
+            object,
+            value: Some(value),
+        })
+    }
+
+    /// Whether a handle that is sent stays, since a duplicate of it is sent.
+    pub(crate) fn is_duplicate(&self, name: Member) -> Result<bool, Cause>
+        ensures { IfOk result (IsOperationIn (field name (data_at self.now.value))) }
+    {
+        match is_duplicate_in(self.needed(name)?) {
+            Some(is_duplicate) => Ok(is_duplicate),
+            None => Err(self.fault(name, WantedValue::Operation)),
+        }
     }
 
     /// The handles that the values of a list are.
@@ -295,9 +405,9 @@ impl<'a> Members<'a> {
         &self,
         alloc: Global,
         name: Member,
-        list: &Vec<Value>,
+        list: &[Value],
     ) -> Result<Vec<HandleValue>, Cause>
-        ensures { IfOk result (λ handles. AreNumbersOf list.now.items handles.items) }
+        ensures { IfOk result (λ handles. AreNumbersOf list.now handles.items) }
     {
         let mut handles = Vec::new(alloc);
         for item in 0..list.len() {
@@ -320,6 +430,22 @@ impl<'a> Members<'a> {
                 Err(Cause::Member { place, wanted })
             }
         }
+    }
+}
+
+/// Whether an operation on a handle, by its number or its name, is that of duplicating it.
+fn is_duplicate_in(value: &Value) -> Option<bool>
+    ensures { IfSome result (IsOperation (view value.now)) }
+{
+    match number_in(value) {
+        Some(0) => Some(false),
+        Some(1) => Some(true),
+        Some(_) => None,
+        None => match value.as_str()? {
+            "ZX_HANDLE_OP_MOVE" => Some(false),
+            "ZX_HANDLE_OP_DUPLICATE" => Some(true),
+            _ => None,
+        },
     }
 }
 

@@ -15,8 +15,30 @@ pub enum LogNote {
     LeftOption { line: u64, name: &'static str },
     /// Options of a call that are not known, by their bits.
     UnknownOptions { line: u64, options: u64 },
+    /// What a line says of a process that it starts.
+    Start { line: u64, note: StartNote },
     /// An option of a call that is not known, by its name.
     UnknownOption { line: u64, name: String },
+}
+
+/// What of the start of a process is left out.
+#[derive(Clone, Copy, Debug, PartialEq, Eq)]
+pub enum StartNote {
+    /// All of it: no line of the log made the process.
+    Unknown,
+    /// Its argument, since the process was made before, for a line that uses its handle.
+    LateArgument,
+}
+
+impl StartNote {
+    fn words(self) -> &'static str {
+        match self {
+            StartNote::Unknown => "no line made its process, left out",
+            StartNote::LateArgument => {
+                "args.arg1: its process was needed before, and arg1 is used since, left out"
+            }
+        }
+    }
 }
 
 impl fmt::Display for LogNote {
@@ -25,6 +47,10 @@ impl fmt::Display for LogNote {
             LogNote::CutOff { line } => write!(f, "line {line}: cut off in the middle, left out"),
             LogNote::LeftOption { line, name } => {
                 write!(f, "line {line}: args.options: {name} is left out")
+            }
+            LogNote::Start { line, note } => {
+                write!(f, "line {line}: ")?;
+                write!(f, "{}", note.words())
             }
             LogNote::UnknownOptions { line, options } => {
                 write!(
@@ -65,6 +91,11 @@ impl LogNotes {
     /// How many there are.
     pub fn count(&self) -> u64 {
         self.count
+    }
+
+    /// One note more, of the start of a process.
+    pub fn add_start(&mut self, line: u64, note: StartNote) -> Result<(), AllocError> {
+        self.add(LogNote::Start { line, note })
     }
 
     /// One note more.

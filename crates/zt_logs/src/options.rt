@@ -88,7 +88,8 @@ fn named_option(
 /// The option that a call has by this name.
 fn option_named(call: CallName, name: &str) -> Option<u64> {
     Some(match (call, name) {
-        (CallName::ChannelRead, "ZX_CHANNEL_READ_MAY_DISCARD") => MAY_DISCARD,
+        (CallName::ChannelRead | CallName::ChannelReadEtc, "ZX_CHANNEL_READ_MAY_DISCARD") =>
+            MAY_DISCARD,
         (CallName::ObjectWaitAsync, "ZX_WAIT_ASYNC_ONCE") => 0,
         (CallName::ObjectWaitAsync, "ZX_WAIT_ASYNC_TIMESTAMP") => 1,
         (CallName::ObjectWaitAsync, "ZX_WAIT_ASYNC_EDGE") => EDGE,
@@ -103,7 +104,7 @@ fn option_named(call: CallName, name: &str) -> Option<u64> {
 /// The option of a call that is known and not taken here.
 fn left_out(call: CallName) -> Option<(u64, &'static str)> {
     Some(match call {
-        CallName::ChannelWrite => (2, "ZX_CHANNEL_WRITE_USE_IOVEC"),
+        CallName::ChannelWrite | CallName::ChannelWriteEtc => (2, "ZX_CHANNEL_WRITE_USE_IOVEC"),
         CallName::PortCreate => (1, "ZX_PORT_BIND_TO_INTERRUPT"),
         CallName::JobSetCritical => (1, "ZX_JOB_CRITICAL_PROCESS_RETCODE_NONZERO"),
         _ => return None,
@@ -113,7 +114,7 @@ fn left_out(call: CallName) -> Option<(u64, &'static str)> {
 /// The options of a call that are taken here, or ask for nothing that is told here.
 fn taken(call: CallName) -> u64 {
     match call {
-        CallName::ChannelRead => MAY_DISCARD,
+        CallName::ChannelRead | CallName::ChannelReadEtc => MAY_DISCARD,
         CallName::ObjectWaitAsync => EDGE | TIMESTAMPS,
         _ => 0,
     }

@@ -28,6 +28,10 @@ pub enum LineObject {
     Packet,
     /// The signals of that packet.
     PacketSignals,
+    /// A handle of a message that is written, by its place in the list.
+    SentHandle(usize),
+    /// The same of a call that reads the answer, too.
+    CalledHandle(usize),
 }
 
 /// The members that lines have.
@@ -56,6 +60,8 @@ pub enum Member {
     /// The bytes of a user packet.
     PacketBytes,
     Rights,
+    /// Whether a handle is moved or duplicated.
+    Operation,
     Clear,
     Set,
     Signals,
@@ -78,6 +84,26 @@ pub enum Member {
     Signal,
     Trigger,
     Observed,
+    /// The handle of a process that was made.
+    ProcessHandle,
+    /// That of its address space.
+    VmarHandle,
+    /// The handle of a process that is started.
+    StartedProcess,
+    /// What it is given.
+    FirstArgument,
+    /// The bytes that a call writes before it reads.
+    WrittenBytes,
+    /// The handles of them.
+    WrittenHandles,
+    /// How many bytes of the answer there is room for.
+    ReadByteRoom,
+    /// How many handles.
+    ReadHandleRoom,
+    /// The bytes of the answer.
+    ReadBytes,
+    /// Its handles.
+    ReadHandles,
 }
 
 impl Member {
@@ -91,6 +117,7 @@ impl Member {
             Member::Args => "args",
             Member::Status => "status",
             Member::Out | Member::OnlyHandle => "out",
+            Member::Operation => "operation",
             Member::Handle | Member::Task | Member::CriticalProcess => "handle",
             Member::Handles | Member::HandleRoom => "handles",
             Member::FirstHandle => "out0",
@@ -114,6 +141,16 @@ impl Member {
             Member::Signal => "signal",
             Member::Trigger => "trigger",
             Member::Observed => "observed",
+            Member::ProcessHandle => "proc_handle",
+            Member::VmarHandle => "vmar_handle",
+            Member::StartedProcess => "handle",
+            Member::FirstArgument => "arg1",
+            Member::WrittenBytes => "wr_bytes",
+            Member::WrittenHandles => "wr_handles",
+            Member::ReadByteRoom => "rd_num_bytes",
+            Member::ReadHandleRoom => "rd_num_handles",
+            Member::ReadBytes => "rd_bytes",
+            Member::ReadHandles => "rd_handles",
         }
     }
 
@@ -132,6 +169,9 @@ impl Member {
             Member::CalledPort => "handle",
             Member::ParentJob => "parent_job",
             Member::Code => "retcode",
+            Member::StartedProcess => "process",
+            Member::ReadBytes => "bytes",
+            Member::ReadHandles => "handles",
             _ => return None,
         })
     }
@@ -147,6 +187,8 @@ impl LineObject {
             LineObject::Out => "out.",
             LineObject::Packet => "out.packet.",
             LineObject::PacketSignals => "out.packet.signal.",
+            LineObject::SentHandle(_) => "args.handles",
+            LineObject::CalledHandle(_) => "args.wr_handles",
         }
     }
 }
@@ -166,7 +208,11 @@ impl Place {
 
 impl fmt::Display for Place {
     fn fmt<W: fmt::Write>(&self, f: &mut fmt::Formatter<W>) -> fmt::Result {
-        write!(f, "{}{}", self.object.prefix(), self.name())?;
+        write!(f, "{}", self.object.prefix())?;
+        if let LineObject::SentHandle(item) | LineObject::CalledHandle(item) = self.object {
+            write!(f, "[{item}].")?;
+        }
+        write!(f, "{}", self.name())?;
         match self.item {
             Some(item) => write!(f, "[{item}]"),
             None => Ok(()),

@@ -1,7 +1,7 @@
-ghost use Rattle.std.specs.Prelude.{◌≡◌, IfOk};
+ghost use Rattle.std.specs.Prelude.{◌≡◌, ◌∷◌, [], IfOk};
 ghost use Rattle.zt_logs.specs.Members.{field, data_at};
 ghost use Rattle.zt_logs.specs.declared.places.Member.TheVariants as member;
-ghost use Rattle.zt_logs.specs.Answered.{IsOnlyGiven, AreBothGiven, AreGivenBy, IsAnswered, first_word, other_word, first_name_of, other_name_of, status_of};
+ghost use Rattle.zt_logs.specs.Answered.{IsOnlyGiven, AreBothGiven, AreGivenBy, IsAnswered, first_word, other_word, first_name_of, other_name_of, status_of, status_in, answered_status};
 
 use crate::call_names::{CallName, is};
 use crate::faults::{Cause, WantedValue};
@@ -23,7 +23,7 @@ pub(crate) fn recorded_of(
 ) -> Result<RecordedReply, Cause>
     ensures { IfOk result (λ recorded. IsAnswered name (data_at line.now.value) recorded.status recorded.handles) }
 {
-    let status = status_of(line.text(Member::Status)?);
+    let status = answered_status(name, status_in(line)?);
     let out = line.object(Member::Out, LineObject::Out)?;
     let Some(Status::Ok) = status else {
         return Ok(RecordedReply {
@@ -39,12 +39,19 @@ pub(crate) fn recorded_of(
         _ => None,
     };
     let process = match name {
-        CallName::Spawn => made_process(&out, naming, call)?,
+        CallName::Spawn | CallName::ProcessCreate | CallName::ProcessStart => {
+            made_process(&out, naming, call)?
+        }
         _ => None,
     };
     let handles = given_handles(alloc, name, &out)?;
     let bytes = match name {
-        CallName::ChannelRead => out.bytes_if_any(alloc, Member::Bytes)?,
+        CallName::ChannelRead | CallName::ChannelReadEtc => {
+            out.bytes_if_any(alloc, Member::Bytes)?
+        }
+        CallName::ChannelCall | CallName::ChannelCallEtc => {
+            out.bytes_if_any(alloc, Member::ReadBytes)?
+        }
         _ => None,
     };
     Ok(RecordedReply {
@@ -72,6 +79,13 @@ fn given_handles(
 ) -> Result<Vec<HandleValue>, Cause>
     ensures { IfOk result (λ handles. AreGivenBy (field member.Handles (data_at out.now.value)) name (data_at out.now.value) handles.items) }
 {
+    match name {
+        CallName::ChannelReadEtc => return out.read_handles(alloc, Member::Handles),
+        CallName::ChannelCallEtc => return out.read_handles(alloc, Member::ReadHandles),
+        CallName::ChannelCall => return out.handles(alloc, Member::ReadHandles),
+        CallName::ProcessCreate => return named_handle(alloc, out, Member::ProcessHandle),
+        _ => {}
+    }
     if out.has(Member::Handles) {
         return out.handles(alloc, Member::Handles);
     }
@@ -82,7 +96,16 @@ fn given_handles(
         | CallName::HandleReplace
         | CallName::JobCreate => only_handle(alloc, out),
         CallName::EventPairCreate | CallName::ChannelCreate => both_handles(alloc, out),
+        CallName::Made(kind) if kind.has_ends() => both_handles(alloc, out),
+        CallName::Made(_) => only_handle(alloc, out),
         CallName::HandleClose
+        | CallName::HandleCloseMany
+        | CallName::ChannelWriteEtc
+        | CallName::ChannelReadEtc
+        | CallName::ChannelCall
+        | CallName::ChannelCallEtc
+        | CallName::ProcessCreate
+        | CallName::ProcessStart
         | CallName::ObjectSignal
         | CallName::ObjectSignalPeer
         | CallName::ChannelWrite
@@ -102,11 +125,38 @@ fn given_handles(
 fn only_handle(alloc: Global, out: &Members<'_>) -> Result<Vec<HandleValue>, Cause>
     ensures { IfOk result (λ handles. IsOnlyGiven (field member.OnlyHandle (data_at out.now.value)) handles.items) }
 {
-    let mut handles = Vec::new(alloc);
-    if out.has(Member::OnlyHandle) {
-        push_handle(&mut handles, out.handle(Member::OnlyHandle)?)?;
+    named_handle(alloc, out, Member::OnlyHandle)
+}
+
+/// The one handle of this name, where the line has it.
+#[tactic(auto, using(crate::proofs::AnswerLaws::only_none, crate::proofs::AnswerLaws::only_one))]
+fn named_handle(alloc: Global, out: &Members<'_>, name: Member) -> Result<Vec<HandleValue>, Cause>
+    ensures { IfOk result (λ handles. IsOnlyGiven (field name (data_at out.now.value)) handles.items) }
+{
+    if !out.has(name) {
+        return Ok(Vec::new(alloc));
     }
+    one_handle(alloc, out.handle(name)?)
+}
+
+fn one_handle(alloc: Global, handle: HandleValue) -> Result<Vec<HandleValue>, Cause>
+    ensures { IfOk result (λ handles. handles.items ≡ handle ∷ []) }
+{
+    let mut handles = Vec::new(alloc);
+    push_handle(&mut handles, handle)?;
     Ok(handles)
+}
+
+/// The status of the last call of a line of this name: a `channel_call` that timed out has written.
+fn answered_status(name: CallName, status: Option<Status>) -> Option<Status>
+    ensures { result ≡ answered_status name status }
+{
+    match (name, status) {
+        (CallName::ChannelCall | CallName::ChannelCallEtc, Some(Status::TimedOut)) => {
+            Some(Status::Ok)
+        }
+        _ => status,
+    }
 }
 
 /// The two handles that a call gave, where the line has one of them.
@@ -152,6 +202,13 @@ fn signal_packet(packet: &Members<'_>, key: u64) -> Result<LoggedPacket, Cause> 
         trigger,
         observed,
     })
+}
+
+/// The status of a line.
+pub(crate) fn status_in(line: &Members<'_>) -> Result<Option<Status>, Cause>
+    ensures { IfOk result (λ status. status ≡ status_in (data_at line.now.value)) }
+{
+    Ok(status_of(line.text(Member::Status)?))
 }
 
 /// The status of a word, or of the name that the kernel's interface has for it.

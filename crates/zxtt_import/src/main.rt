@@ -12,8 +12,8 @@ use std::alloc::AllocError;
 use std::process::ExitCode;
 use words::{Asked, Words};
 use zt_import::{
-    Imported, adopted_in, calls_in, import, pairs_in, print_difference, print_skipped,
-    skips_handles, trace_text,
+    Imported, LeftCalls, adopted_in, calls_in, import, join_starts, leave_out, pairs_in,
+    place_requests, print_difference, print_left, print_skipped, skips_handles, trace_text,
 };
 use zt_logs::{CallLog, Cause, LogFault, read_log};
 
@@ -43,13 +43,20 @@ fn ended(rt: &HostRuntime, done: &Result<(), Fault>) -> ExitCode {
 /// Makes the trace of a log, and tells where replies differ.
 fn make_trace(rt: &HostRuntime, asked: &Asked<'_>) -> Result<(), Fault> {
     let text = read(rt, asked.log, asked.to)?;
-    let log = read_log(rt.alloc(), text.as_slice())?;
+    let mut log = read_log(rt.alloc(), text.as_slice())?;
+    join_starts(rt.alloc(), &mut log)?;
+    place_requests(rt.alloc(), &mut log)?;
     tell_notes(rt, &log, asked.is_strict)?;
+    let left = match leave_out(rt.alloc(), &mut log) {
+        Ok(left) => left,
+        Err(fault) => return Err(fault_of(rt, &log, fault)?),
+    };
     let imported = match import(rt.alloc(), log.calls.as_slice()) {
         Ok(imported) => imported,
         Err(fault) => return Err(fault_of(rt, &log, fault)?),
     };
     tell_differences(rt, &log, &imported, asked.is_strict)?;
+    tell_left(rt, &left)?;
     let lacks = tell_skipped(rt, &log)?;
     if asked.is_strict && (imported.differs() || lacks) {
         return Err(Fault::Differs);
@@ -109,6 +116,16 @@ fn tell_differences(
     Ok(())
 }
 
+/// Tells which calls are in no trace since they are on what stands in for another object, if any are.
+fn tell_left(rt: &HostRuntime, left: &LeftCalls) -> Result<(), Fault> {
+    if left.is_empty() {
+        return Ok(());
+    }
+    let line = print_left(rt.alloc(), left)?;
+    let _ = eprintln!(rt; "{line}");
+    Ok(())
+}
+
 /// Tells which calls were skipped, if any were, and whether one of them names a handle that its process has in the log.
 fn tell_skipped(rt: &HostRuntime, log: &CallLog) -> Result<bool, Fault> {
     if log.skipped.is_empty() {
@@ -121,7 +138,7 @@ fn tell_skipped(rt: &HostRuntime, log: &CallLog) -> Result<bool, Fault> {
 
 /// Tells how many lines and calls there were, and how many replies differ.
 fn tell_counts(rt: &HostRuntime, log: &CallLog, imported: &Imported) {
-    let calls = calls_in(imported.trail());
+    let calls = calls_in(log.calls.as_slice(), imported.trail());
     let lines = log.lines;
     let skipped = log.skipped.len();
     let adopted = adopted_in(imported.trail());

@@ -1,14 +1,24 @@
 -- How far a log is read. Used by proofs only.
-use Rattle.std.specs.Prelude.{◌≡◌, ◌+◌, ◌++◌, ℕ, List, [], ◌∷◌, length, Option, Some, None}
+use Rattle.std.specs.Prelude.{suc, ◌≡◌, ◌+◌, ◌++◌, ℕ, List, [], ◌∷◌, length, Option, Some, None}
 use Rattle.zt_logs.specs.declared.logged.LoggedCall.{LoggedCall}
-use Rattle.serde_json.specs.View.{view}
+use Rattle.serde_json.specs.View.{view, items_view}
 use Rattle.zt_logs.specs.declared.json_lines.Parsed.{Parsed}
 use Rattle.zt_logs.specs.declared.json_lines.Parsed.TheVariants as parsed
 use Rattle.serde_json.specs.declared.value.Value.{Value}
 use Rattle.zt_logs.specs.Lines.{lines_of}
 use Rattle.zt_logs.specs.Numbers.{IsNumber}
 use Rattle.zt_logs.specs.Entries.{Entry, entries_behind, json_of}
-use Rattle.zt_logs.specs.Logged.{IsLogged, AreLogged}
+use Rattle.zt_logs.specs.LineCalls.{IsDisposition, AreAnswerReads, has_read}
+use Rattle.zt_logs.specs.Answered.{IsReadNumber}
+use Rattle.zt_logs.specs.Logged.{IsLogged, IsPart, AreAhead, part_status, AreCalled, AreLogged}
+use Rattle.zt_logs.specs.declared.line_calls.PartCall.{PartCall}
+use Rattle.zt_logs.specs.declared.logged.RecordedReply.{RecordedReply}
+use Rattle.zt_bits.specs.declared.statuses.Status.{Status}
+use Rattle.zt_logs.specs.declared.call_names.CallName.{CallName}
+use Rattle.zt_logs.specs.declared.dispositions.Disposition.{Disposition}
+use Rattle.serde_json.specs.Data.{Data}
+use Rattle.serde_json.specs.Find.{as_array}
+use denote.Ref.{Bor}
 
 -- numbers that the values of a list are
 abbrev pub AreNumbersOf : List Value → List ℕ → Type 0
@@ -23,17 +33,61 @@ IsParsed line (parsed.Whole value) = json_of line ≡ Some (view value)
 IsParsed line parsed.CutOff = json_of line ≡ None
 IsParsed line parsed.Broken = json_of line ≡ None
 
--- a call is there where a line is one
-abbrev pub IsLoggedIfAny : Option Entry → Option LoggedCall → Type 0
-IsLoggedIfAny None None = Unit {0}
-IsLoggedIfAny None (Some logged) = ⊥
-IsLoggedIfAny (Some entry) None = ⊥
-IsLoggedIfAny (Some entry) (Some logged) = IsLogged entry logged
+-- what they are where each is one alone or in an object
+abbrev pub AreReadNumbersOf : List Value → List ℕ → Type 0
+AreReadNumbersOf [] [] = Unit {0}
+AreReadNumbersOf [] (n ∷ ns) = ⊥
+AreReadNumbersOf (value ∷ values) [] = ⊥
+AreReadNumbersOf (value ∷ values) (n ∷ ns) = IsReadNumber (view value) n × AreReadNumbersOf values ns
+
+-- handles that are sent
+abbrev pub AreDispositionsOf : List Value → List Disposition → Type 0
+AreDispositionsOf [] [] = Unit {0}
+AreDispositionsOf [] (sent ∷ others) = ⊥
+AreDispositionsOf (value ∷ values) [] = ⊥
+AreDispositionsOf (value ∷ values) (sent ∷ others) = IsDisposition (view value) sent × AreDispositionsOf values others
+
+-- a list, if there is one
+abbrev pub IsListAt : Option Data → Option (Bor (List Value)) → Type 0
+IsListAt None None = Unit {0}
+IsListAt None (Some list) = ⊥
+IsListAt (Some d) None = ⊥
+IsListAt (Some d) (Some list) = as_array d ≡ Some (items_view list.now)
+
+-- the calls of a line, of which the last has this answer
+pub record ArePartsWith (line : ℕ) (parts : List PartCall) (recorded : RecordedReply) (calls : List LoggedCall) : Type 0 where
+  pub others : List PartCall
+  pub part : PartCall
+  pub ahead : List LoggedCall
+  pub last : LoggedCall
+  pub in_parts : parts ≡ others ++ part ∷ []
+  pub in_calls : calls ≡ ahead ++ last ∷ []
+  pub are_ahead : AreAhead line (suc (length others)) (part_status recorded.status) 0 others ahead
+  pub is_last : IsPart line (suc (length others)) (length others) part last
+  pub answered : last.recorded ≡ recorded
+
+-- a read of the answer more, where the call read
+abbrev pub AddsAnswer : Option Status → Option Data → List PartCall → List PartCall → Type 0
+AddsAnswer answered args old new = (reads : List PartCall) × AreAnswerReads (has_read answered) args reads × (new ≡ old ++ reads)
 
 -- the calls before a line, and behind it
 abbrev pub AddsLogged : Option Entry → List LoggedCall → List LoggedCall → Type 0
 AddsLogged None old new = new ≡ old
-AddsLogged (Some entry) old new = (logged : LoggedCall) × (new ≡ old ++ logged ∷ []) × IsLogged entry logged
+AddsLogged (Some entry) old new = (line : List LoggedCall) × (new ≡ old ++ line) × IsLogged entry line
+
+-- the calls before, and those of a line that are ahead of its last
+abbrev pub AddsAhead : ℕ → ℕ → Option Status → List PartCall → List LoggedCall → List LoggedCall → Type 0
+AddsAhead line count answered parts old new = (ahead : List LoggedCall) × (new ≡ old ++ ahead) × AreAhead line count answered 0 parts ahead
+
+-- and all of a line, whose last has this answer; none, where it has none
+abbrev pub AddsParts : ℕ → List PartCall → RecordedReply → List LoggedCall → List LoggedCall → Type 0
+AddsParts line [] recorded old new = new ≡ old
+AddsParts line (part ∷ parts) recorded old new =
+    (calls : List LoggedCall) × (new ≡ old ++ calls) × ArePartsWith line (part ∷ parts) recorded calls
+
+-- the same of the line of this name behind so many others
+abbrev pub AddsCalls : CallName → ℕ → Option Data → List LoggedCall → List LoggedCall → Type 0
+AddsCalls name number value old new = (line : List LoggedCall) × (new ≡ old ++ line) × AreCalled number name value line
 
 -- the calls of the lines of a text ahead of what is left of it, of which there are so many
 pub record IsReadUpTo (text left : List ℕ) (count : ℕ) (calls : List LoggedCall) : Type 0 where

@@ -1,13 +1,13 @@
--- The handles are those of the list.
-use Rattle.std.proofs.Common.{◌≡◌, Some}
-use Rattle.serde_json.specs.Find.{as_array}
-use Rattle.serde_json.specs.View.{view, items_view}
+-- The handles are those of the list, if there is one.
+use Rattle.std.proofs.lemmas.Result.{IfOk-weaker}
 use Rattle.zt_logs.specs.Members.{field, data_at}
-use Rattle.zt_logs.proofs.ListedLaws.{handles_seen}
+use Rattle.zt_logs.specs.LoggedCalls.{AreHandles}
+use Rattle.zt_logs.specs.ProofsOnly.ReadLines.{AreNumbersOf}
+use Rattle.zt_logs.proofs.ListedLaws.{handles_at}
 use Rattle.zt_logs.proofs.members.Members.handles.Goals as goal
 
-pub returns : goal.returns
-returns c =
-    let there : Some (view c.in-Some.value.now) ≡ field c.args.name (data_at c.args.self.now.value) = c.in-Some.ensures in
-    let list : Some (items_view c.in-Some-as_array.list.now.items) ≡ as_array (view c.in-Some.value.now) = c.in-Some-as_array.ensures in
-    rw (← there) (handles_seen (view c.in-Some.value.now) c.in-Some-as_array.list.now.items c.in_ok-handles.handles.items list c.in_ok-handles.ensures)
+pub returns-in-Some : goal.returns-in-Some
+returns-in-Some c =
+    let there = field c.args.name (data_at c.args.self.now.value) in
+    IfOk-weaker c.handles_in.result (λ handles. AreNumbersOf c.in-Some.list.now handles.items) (λ handles. AreHandles there handles.items)
+    (λ handles are. handles_at there c.in_ok-list.field-0 c.in-Some.list handles.items c.in_ok-list.ensures c.in-Some.is are) c.handles_in.ensures

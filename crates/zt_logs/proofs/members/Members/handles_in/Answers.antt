@@ -5,7 +5,7 @@ use Rattle.zt_logs.proofs.members.Members.handles_in.Goals as goal
 
 pub loop-item-preserved : goal.loop-item-preserved
 loop-item-preserved c =
-    let low : c.loop-item.item < length c.args.list.now.items = search rules in
+    let low : c.loop-item.item < length c.args.list.now = search rules in
     let pushed : c.push_handle.new.handles.items ≡ c.loop-item.handles.items ++ c.in_ok-handle.handle ∷ [] = c.in_ok-push_handle.ensures in
-    rw pushed (numbers_next c.args.list.now.items c.loop-item.item c.loop-item.handles.items c.index.result.now c.in_ok-handle.handle low
-    c.index.ensures c.loop-item.invariant c.in_ok-handle.ensures)
+    rw pushed (numbers_next c.args.list.now c.loop-item.item c.loop-item.handles.items c.index-list-item.result c.in_ok-handle.handle low
+    c.index-list-item.is c.loop-item.invariant c.in_ok-handle.ensures)

@@ -1,0 +1,56 @@
+//! Lines that are several calls: which of them ends one, and whose answer is that of the line.
+ghost use Rattle.std.specs.Prelude.{◌≡◌};
+ghost use Rattle.zt_import.specs.Parts.{is_last, is_counted, ahead_of, answering, is_ok_at};
+
+use crate::comparison::{status_number, status_of};
+use crate::schedule::AskedCall;
+use crate::taken::Taken;
+use zt_logs::LinePart;
+use zt_rows::Moment;
+
+/// Whether a call is the last of its line.
+pub(crate) fn is_last(part: LinePart) -> bool
+    ensures { result ≡ is_last part }
+{
+    part.count <= part.ahead.saturating_add(1)
+}
+
+/// Whether a call counts for its line.
+pub(crate) fn is_counted(part: LinePart) -> bool
+    ensures { result ≡ is_counted part }
+{
+    is_last(part) && !part.is_apart
+}
+
+/// The calls of the line of this number, which is its last, that stand ahead of it.
+pub(crate) fn ahead_of(asked: &[AskedCall], number: usize, ahead: usize) -> &[AskedCall]
+    ensures { result.now ≡ ahead_of number ahead asked.now }
+{
+    let first = number.saturating_sub(ahead).min(asked.len());
+    let behind = &asked[first..];
+    &behind[..behind.len().min(ahead)]
+}
+
+/// The moment of the first of these calls that was not ok; else this one.
+#[tactic(auto, using(crate::proofs::PartLaws::answering_next, crate::proofs::PartLaws::answering_here, crate::proofs::PartLaws::answering_last))]
+pub(crate) fn answering(taken: &Taken, asked: &[AskedCall], last: Option<Moment>) -> Option<Moment>
+    ensures { result ≡ answering taken.now.tree.made asked.now last }
+{
+    for place in 0..asked.len() {
+        let call = asked[place];
+        if !is_ok_at(taken, call.moment) {
+            return call.moment;
+        }
+    }
+    last
+}
+
+/// Whether the call of a moment was ok; none was, where there is no moment.
+fn is_ok_at(taken: &Taken, moment: Option<Moment>) -> bool
+    ensures { result ≡ is_ok_at taken.now.tree.made moment }
+{
+    match taken.reply(&moment) {
+        Some(reply) => status_number(status_of(reply)) == 0,
+        None => false,
+    }
+}

@@ -1,0 +1,111 @@
+//! What `channel_call` writes, which others read before it returns.
+
+use crate::started::Places;
+use std::alloc::{AllocError, Global};
+use std::collections::HashMap;
+use zt_bits::Status;
+use zt_logs::{CallLog, Cause, LineForm, LinePart, LogFault, LoggedCall};
+use zt_rows::Call;
+
+/// How many calls ahead of the return a read of the message is looked for.
+const NEAR: usize = 512;
+
+/// Puts what each `channel_call` of a log writes right before the first call of another process that reads it, where one does before
+/// it returns: it is the last such call that reads no other's.
+pub fn place_requests(alloc: Global, log: &mut CallLog) -> Result<(), LogFault> {
+    match placed(alloc, log) {
+        Ok(()) => Ok(()),
+        Err(_) => Err(Cause::OutOfMemory.at(0)),
+    }
+}
+
+fn placed(alloc: Global, log: &mut CallLog) -> Result<(), AllocError> {
+    let mut places = Places::new(alloc);
+    let mut taken = HashMap::new(alloc);
+    for number in 0..log.calls.len() {
+        if let Some(read) = read_of(log.calls.as_slice(), &taken, number) {
+            taken.insert(read, ())?;
+            put_all(log.calls.as_mut_slice(), &mut places, number, read)?;
+        }
+    }
+    places.apply(alloc, log)
+}
+
+/// Whether a call is what a `channel_call` writes.
+fn is_request(logged: &LoggedCall) -> bool {
+    matches!(
+        logged.part.form,
+        LineForm::ChannelCall | LineForm::ChannelCallEtc
+    ) && matches!(logged.call, Call::ChannelWrite { .. })
+        && !matches!(
+            logged.recorded.status,
+            Some(Status::BadHandle | Status::AccessDenied | Status::InvalidArgs)
+        )
+}
+
+/// The last call ahead of this one that reads its message, and that reads no other's, where this one is what a `channel_call`
+/// writes.
+fn read_of(calls: &[LoggedCall], taken: &HashMap<usize, ()>, number: usize) -> Option<usize> {
+    let request = calls.get(number)?;
+    if !is_request(request) {
+        return None;
+    }
+    for back in 1..=NEAR.min(number) {
+        let place = number.saturating_sub(back);
+        if !taken.contains_key(&place) && reads(calls.get(place)?, request) {
+            return Some(place);
+        }
+    }
+    None
+}
+
+/// Whether a call reads what another writes, by what it has.
+fn reads(logged: &LoggedCall, request: &LoggedCall) -> bool {
+    let Call::ChannelWrite { parcel, .. } = &request.call else {
+        return false;
+    };
+    if logged.process == request.process || !matches!(logged.call, Call::ChannelRead { .. }) {
+        return false;
+    }
+    match &logged.recorded.bytes {
+        Some(bytes) => {
+            bytes.as_slice() == parcel.bytes().as_slice()
+                && logged.recorded.handles.len() == parcel.handles().len()
+        }
+        None => false,
+    }
+}
+
+/// Puts what a `channel_call` writes, with what makes the handles that it sends, ahead of the call that reads it. It was ok.
+fn put_all(
+    calls: &mut [LoggedCall],
+    places: &mut Places,
+    number: usize,
+    read: usize,
+) -> Result<(), AllocError> {
+    let Some(request) = calls.get(number) else {
+        return Ok(());
+    };
+    let LinePart { ahead, count, .. } = request.part;
+    let written = ahead.saturating_add(1);
+    for place in number.saturating_sub(ahead)..=number {
+        places.put(place, read)?;
+        if let Some(logged) = calls.get_mut(place) {
+            logged.part.count = written;
+            logged.part.is_apart = written < count;
+            logged.recorded.status = Some(Status::Ok);
+        }
+    }
+    if written < count {
+        stand_alone(calls, number.saturating_add(1));
+    }
+    Ok(())
+}
+
+/// The call of this number is the only one of its line.
+fn stand_alone(calls: &mut [LoggedCall], number: usize) {
+    if let Some(logged) = calls.get_mut(number) {
+        logged.part.ahead = 0;
+        logged.part.count = 1;
+    }
+}

@@ -1,0 +1,141 @@
+//! The handles of `channel_write_etc`, each with what becomes of it.
+
+ghost use Rattle.std.specs.Prelude.{◌≡◌, ◌++◌, ◌∷◌, [], Some, IfOk, OnOk, map};
+ghost use Rattle.std.specs.Option.{option_to_list};
+ghost use Rattle.serde_json.specs.View.{view};
+ghost use Rattle.zt_logs.specs.Members.{field, data_at};
+ghost use Rattle.zt_logs.specs.LineCalls.{IsDisposition, AreDispositionsIn, copy_of, copies_of, sources_of};
+ghost use Rattle.zt_logs.specs.ProofsOnly.ReadLines.{AreDispositionsOf};
+
+use crate::faults::Cause;
+use crate::line_calls::{PartCall, push_part};
+use crate::members::{Members, push_handle};
+use crate::places::Member;
+use serde_json::Value;
+use std::alloc::Global;
+use zt_rows::{Call, HandleValue};
+
+/// The rights that a handle keeps which is sent or duplicated with as many as it has.
+pub(crate) const SAME_RIGHTS: u32 = 0x8000_0000;
+
+/// A handle that is written into a message.
+#[derive(Clone, Copy, Debug)]
+pub(crate) struct Disposition {
+    /// Whether a duplicate of it is written, and it stays.
+    pub(crate) is_duplicate: bool,
+    pub(crate) handle: HandleValue,
+    /// Those that the message has it with.
+    pub(crate) rights: u32,
+}
+
+/// Those of a list; none, where it is left out.
+#[tactic(auto, using(crate::proofs::ListedLaws::sent_at, crate::proofs::ListedLaws::no_sent_at))]
+pub(crate) fn dispositions(
+    alloc: Global,
+    args: &Members<'_>,
+    name: Member,
+) -> Result<Vec<Disposition>, Cause>
+    ensures { IfOk result (λ ds. AreDispositionsIn (field name (data_at args.now.value)) ds.items) }
+{
+    match args.list(name)? {
+        Some(list) => dispositions_in(alloc, args, name, list),
+        None => Ok(Vec::new(alloc)),
+    }
+}
+
+/// Those that the values of a list are.
+fn dispositions_in(
+    alloc: Global,
+    args: &Members<'_>,
+    name: Member,
+    list: &[Value],
+) -> Result<Vec<Disposition>, Cause>
+    ensures { IfOk result (λ ds. AreDispositionsOf list.now ds.items) }
+{
+    let mut dispositions = Vec::new(alloc);
+    for item in 0..list.len() {
+        let disposition = disposition_in(args, name, item, &list[item])?;
+        push_disposition(&mut dispositions, disposition)?;
+    }
+    Ok(dispositions)
+}
+
+/// The one that this item of a list is. Without rights it keeps those that it has.
+fn disposition_in(
+    args: &Members<'_>,
+    name: Member,
+    item: usize,
+    value: &Value,
+) -> Result<Disposition, Cause>
+    ensures { IfOk result (IsDisposition (view value.now)) }
+{
+    let sent = args.item(name, item, value)?;
+    let is_duplicate = sent.is_duplicate(Member::Operation)?;
+    let handle = sent.handle(Member::Handle)?;
+    let rights = if sent.has(Member::Rights) {
+        sent.rights(Member::Rights)?
+    } else {
+        SAME_RIGHTS
+    };
+    Ok(Disposition {
+        is_duplicate,
+        handle,
+        rights,
+    })
+}
+
+/// One more.
+fn push_disposition(
+    dispositions: &mut Vec<Disposition>,
+    disposition: Disposition,
+) -> Result<(), Cause>
+    ensures { OnOk result (dispositions.new.items ≡ dispositions.old.items ++ disposition ∷ []) }
+{
+    match dispositions.push(disposition) {
+        Ok(()) => Ok(()),
+        Err(_) => Err(Cause::OutOfMemory),
+    }
+}
+
+/// The calls that make of these handles those that are sent.
+pub(crate) fn copies_of(alloc: Global, dispositions: &[Disposition]) -> Result<Vec<PartCall>, Cause>
+    ensures { IfOk result (λ parts. parts.items ≡ copies_of dispositions.now) }
+{
+    let mut parts = Vec::new(alloc);
+    for place in 0..dispositions.len() {
+        push_copy(&mut parts, place, dispositions[place])?;
+    }
+    Ok(parts)
+}
+
+/// The call that makes of the handle at this place the one that is sent, if it is another.
+fn push_copy(parts: &mut Vec<PartCall>, place: usize, disposition: Disposition) -> Result<(), Cause>
+    ensures { OnOk result (parts.new.items ≡ parts.old.items ++ option_to_list (copy_of place disposition)) }
+{
+    let Disposition {
+        is_duplicate,
+        handle,
+        rights,
+    } = disposition;
+    if is_duplicate {
+        push_part(parts, Some(place), Call::HandleDuplicate { handle, rights })
+    } else if rights == SAME_RIGHTS {
+        Ok(())
+    } else {
+        push_part(parts, Some(place), Call::HandleReplace { handle, rights })
+    }
+}
+
+/// The handles as the process has them.
+pub(crate) fn sources_of(
+    alloc: Global,
+    dispositions: &[Disposition],
+) -> Result<Vec<HandleValue>, Cause>
+    ensures { IfOk result (λ handles. handles.items ≡ sources_of dispositions.now) }
+{
+    let mut handles = Vec::new(alloc);
+    for place in 0..dispositions.len() {
+        push_handle(&mut handles, dispositions[place].handle)?;
+    }
+    Ok(handles)
+}

@@ -1,0 +1,157 @@
+//! The calls of a line behind those of the lines before it.
+
+ghost use Rattle.std.specs.Prelude.{◌≡◌, ◌++◌, ◌∷◌, [], OnOk, IfOk, length};
+ghost use Rattle.std.specs.Option.{option_to_list};
+ghost use Rattle.zt_logs.specs.Logged.{IsPart, part_status};
+ghost use Rattle.zt_logs.specs.ProofsOnly.ReadLines.{AddsAhead, AddsParts};
+
+use crate::faults::Cause;
+use crate::line_calls::PartCall;
+use crate::line_parts::{LineForm, LinePart};
+use crate::logged::{LoggedCall, RecordedReply};
+use crate::members::push_handle;
+use std::alloc::{AllocError, Global};
+use zt_bits::Status;
+use zt_rows::{HandleValue, Items};
+
+/// What all calls of a line have in common.
+#[derive(Clone, Copy)]
+pub(crate) struct LineHead {
+    pub(crate) line: u64,
+    pub(crate) process: u64,
+    pub(crate) form: LineForm,
+    /// How many calls it has.
+    pub(crate) count: usize,
+}
+
+impl LineHead {
+    /// The call of the line behind so many others of it.
+    fn call(self, ahead: usize, part: PartCall, recorded: RecordedReply) -> LoggedCall
+        ensures part { IsPart self.line self.count ahead part result }
+        ensures recorded { result.recorded ≡ recorded }
+    {
+        let PartCall {
+            gives,
+            given: _,
+            call,
+        } = part;
+        LoggedCall {
+            line: self.line,
+            process: self.process,
+            call,
+            part: LinePart {
+                form: self.form,
+                ahead,
+                count: self.count,
+                gives,
+                is_apart: false,
+            },
+            recorded,
+        }
+    }
+}
+
+/// Puts the calls of a line behind those before. What was answered is that of the last; those ahead of it have the status that
+/// follows of it.
+#[tactic(auto, using(crate::proofs::LineCallLaws::parts_added, crate::proofs::LineCallLaws::none_added))]
+pub(crate) fn push_parts(
+    alloc: Global,
+    calls: &mut Vec<LoggedCall>,
+    head: LineHead,
+    mut parts: Vec<PartCall>,
+    recorded: RecordedReply,
+) -> Result<(), Cause>
+    requires { head.count ≡ length parts.items }
+    ensures { OnOk result (AddsParts head.line parts.items recorded calls.old.items calls.new.items) }
+{
+    let Some(last) = parts.pop() else {
+        return Ok(());
+    };
+    let status = part_status(recorded.status);
+    push_ahead(alloc, calls, head, parts.as_slice(), status)?;
+    push_logged(calls, head.call(parts.len(), last, recorded))
+}
+
+/// Puts those that are ahead of the last.
+fn push_ahead(
+    alloc: Global,
+    calls: &mut Vec<LoggedCall>,
+    head: LineHead,
+    parts: &[PartCall],
+    status: Option<Status>,
+) -> Result<(), Cause>
+    ensures { OnOk result (AddsAhead head.line head.count status parts.now calls.old.items calls.new.items) }
+{
+    for ahead in 0..parts.len() {
+        let part = copy_of(&parts[ahead])?;
+        let recorded = ahead_answer(alloc, status, part.given)?;
+        push_logged(calls, head.call(ahead, part, recorded))?;
+    }
+    Ok(())
+}
+
+/// The same call of a line.
+fn copy_of(part: &PartCall) -> Result<PartCall, AllocError>
+    ensures { IfOk result (λ copy. copy ≡ part.now) }
+{
+    let call = part.call.copy()?;
+    Ok(PartCall {
+        gives: part.gives,
+        given: part.given,
+        call,
+    })
+}
+
+/// The status of the calls ahead of the last one, where the line has this: they were ok where the last one found its peer
+/// closed, or an answer for which it had too little room.
+fn part_status(status: Option<Status>) -> Option<Status>
+    ensures { result ≡ part_status status }
+{
+    match status {
+        Some(Status::PeerClosed | Status::BufferTooSmall) => Some(Status::Ok),
+        _ => status,
+    }
+}
+
+/// The answer of a call ahead of the last of its line: this status, and the handle that it gave.
+fn ahead_answer(
+    alloc: Global,
+    status: Option<Status>,
+    given: Option<HandleValue>,
+) -> Result<RecordedReply, Cause>
+    ensures status { IfOk result (λ recorded. recorded.status ≡ status) }
+    ensures handles { IfOk result (λ recorded. recorded.handles ≡ option_to_list given) }
+{
+    let handles = given_handles(alloc, given)?;
+    Ok(RecordedReply {
+        status,
+        handles: Items::new(handles),
+        bytes: None,
+        packet: None,
+        process: None,
+    })
+}
+
+/// The handle that was given, if one was.
+fn given_handles(alloc: Global, given: Option<HandleValue>) -> Result<Vec<HandleValue>, Cause>
+    ensures { IfOk result (λ handles. handles.items ≡ option_to_list given) }
+{
+    let mut handles = Vec::new(alloc);
+    match given {
+        Some(handle) => {
+            push_handle(&mut handles, handle)?;
+            Ok(handles)
+        }
+        None => Ok(handles),
+    }
+}
+
+/// One call more.
+fn push_logged(calls: &mut Vec<LoggedCall>, logged: LoggedCall) -> Result<(), Cause>
+    ensures { OnOk result (calls.new.items ≡ calls.old.items ++ logged ∷ []) }
+{
+    match calls.push(logged) {
+        Ok(()) => Ok(()),
+        Err(_) => Err(Cause::OutOfMemory),
+    }
+}
