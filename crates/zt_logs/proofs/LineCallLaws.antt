@@ -2,7 +2,7 @@
 use Rattle.std.proofs.Common.{◌≡◌, ℕ, suc, List, [], ◌∷◌, ◌++◌, length, Option, Some, None, refl, sym, ◌∙◌, ap, subst, arith}
 use Rattle.std.proofs.lemmas.List.{append_assoc, append-nil}
 use Rattle.std.specs.Option.{option_map}
-use Rattle.serde_json.specs.Data.{Data}
+use Rattle.json.specs.Json.{Json}
 use Rattle.zt_logs.specs.declared.call_names.CallName.{CallName}
 use Rattle.zt_logs.specs.declared.line_calls.PartCall.{PartCall}
 use Rattle.zt_logs.specs.declared.logged.LoggedCall.{LoggedCall}
@@ -48,7 +48,7 @@ none_added line [] recorded old is = refl
 none_added line (p ∷ ps) recorded old is = cc is
 
 -- they are those that the line says
-pub calls_added : (number : ℕ) (name : CallName) (value args : Option Data) (options : ℕ) (parts : List PartCall) (recorded : RecordedReply) (old new : List LoggedCall)
+pub calls_added : (number : ℕ) (name : CallName) (value args : Option Json) (options : ℕ) (parts : List PartCall) (recorded : RecordedReply) (old new : List LoggedCall)
     → args ≡ field member.Args value → IsMaskOrNone (field member.Options args) options → AreCallsOf name value options parts
     → IsAnswered name value recorded.status recorded.handles → AddsParts number parts recorded old new → AddsCalls name number value old new
 calls_added number name value args options [] recorded old new is mask are answered added =
@@ -70,7 +70,7 @@ calls_added number name value args options (p ∷ ps) recorded old new is mask a
     (calls, added, (p ∷ ps, options, subst (λ a. IsMaskOrNone (field member.Options a) options) is mask, are, all))
 
 -- so are those of a line that is known by its value
-pub line_added : (number : ℕ) (d : Data) (value : Option Data) (name : CallName) (old new : List LoggedCall) → called d ≡ Some name → value ≡ Some d
+pub line_added : (number : ℕ) (d : Json) (value : Option Json) (name : CallName) (old new : List LoggedCall) → called d ≡ Some name → value ≡ Some d
     → AddsCalls name number value old new → AddsLogged (entry_for number d) old new
 line_added number d value name old new is at (line, added, are) =
     let entry : entry_for number d ≡ Some (number, d) = ap (option_map (λ _. (number, d))) is in
@@ -78,5 +78,5 @@ line_added number d value name old new is at (line, added, are) =
     subst (λ v. AreNamed number (called d) v line) at (subst (λ n. AreNamed number n value line) (sym is) are) in
     subst (λ e. AddsLogged e old new) (sym entry) (line, added, here)
 
-pub no_line_added : (number : ℕ) (d : Data) (old new : List LoggedCall) → called d ≡ None → new ≡ old → AddsLogged (entry_for number d) old new
+pub no_line_added : (number : ℕ) (d : Json) (old new : List LoggedCall) → called d ≡ None → new ≡ old → AddsLogged (entry_for number d) old new
 no_line_added number d old new is same = subst (λ e. AddsLogged e old new) (sym (ap (option_map (λ _. (number, d))) is)) same

@@ -1,10 +1,12 @@
 -- The first line of some bytes, by where the first line feed stands.
-use Rattle.std.proofs.Common.{◌≡◌, ℕ, ◌+◌, ◌-◌, ◌<◌, ◌≤◌, suc, Bool, true, false, List, [], ◌∷◌, length, Some, None, refl, ap, arith}
-use Rattle.std.specs.Prelude.{◌==◌, take, drop, if◌then◌else◌, nat_lt}
+use Rattle.std.proofs.Common.{◌≡◌, ℕ, ◌+◌, ◌-◌, ◌<◌, ◌≤◌, suc, Bool, true, false, List, [], ◌∷◌, length, Option, Some, None, refl, sym, ap, arith}
+use Rattle.std.specs.Prelude.{◌==◌, take, drop, if◌then◌else◌, nat_lt, slice_index}
 use Rattle.std.specs.List.{onto_first, position, position_or_len}
 use Rattle.std.proofs.lemmas.Bool.{ltb-true, ltb-false}
 use Rattle.std.proofs.lemmas.Grind.{common_steps}
 use Rattle.std.proofs.lemmas.List.{take_all}
+use Rattle.std.proofs.lemmas.List.Sums.{position_or_len_is}
+use Rattle.memchr.specs.Find.{IsFirstByte, is_byte}
 use Rattle.zt_logs.specs.Lines.{lines_of}
 
 abbrev is_feed : ℕ → Bool
@@ -80,3 +82,24 @@ few_lines (x ∷ xs) = elim (x == 10) as (λ b. length (if b then [] ∷ lines_o
   | true ↦ omega (arith, few_lines xs)
   | false ↦ omega (arith, few_lines xs, onto_few x (lines_of xs))
 ]
+
+-- the first place of a line feed, as it is searched for
+fails : (b : Bool) → ¬ (b ≡ true) → b ≡ false
+fails true other = absurd (other refl)
+fails false other = refl
+
+pub first_feed : (bytes : List ℕ) (r : Option ℕ) → IsFirstByte (is_byte 10) bytes r → r ≡ position (λ byte. byte == 10) bytes
+first_feed bytes None none =
+    let whole : position_or_len is_feed bytes ≡ length bytes =
+    position_or_len_is is_feed bytes (length bytes) 0 (omega arith) (λ k low. fails (is_feed (slice_index bytes k)) (none k (omega arith) low)) (λ low. absurd (omega (arith, low))) in
+    elim (nat_lt (position_or_len is_feed bytes) (length bytes)) as (λ b. nat_lt (position_or_len is_feed bytes) (length bytes) ≡ b → None ≡ position is_feed bytes) [
+      | true ↦ λ e. absurd (omega (arith, whole, ltb-true (position_or_len is_feed bytes) (length bytes) e))
+      | false ↦ λ e. rw e refl
+    ] refl
+first_feed bytes (Some place) (first, here) =
+    let at : position_or_len is_feed bytes ≡ place =
+    position_or_len_is is_feed bytes place 0 (omega (arith, first.high)) (λ k low. fails (is_feed (slice_index bytes k)) (first.before k (omega arith) low)) (λ low. here) in
+    elim (nat_lt (position_or_len is_feed bytes) (length bytes)) as (λ b. nat_lt (position_or_len is_feed bytes) (length bytes) ≡ b → Some place ≡ position is_feed bytes) [
+      | true ↦ λ e. rw e (ap Some (sym at))
+      | false ↦ λ e. absurd (omega (arith, at, first.high, ltb-false (position_or_len is_feed bytes) (length bytes) e))
+    ] refl

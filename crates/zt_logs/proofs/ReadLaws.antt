@@ -5,8 +5,7 @@ use Rattle.std.specs.List.{cons_option}
 use Rattle.std.specs.Option.{option_to_list}
 use Rattle.std.specs.Str.{IsUtf8, is_utf8}
 use Rattle.std.proofs.lemmas.Str.{IsUtf8-from_is_utf8, is_utf8-from_IsUtf8}
-use Rattle.serde_json.specs.Data.{Data}
-use Rattle.serde_json.specs.Read.{read}
+use Rattle.json.specs.Json.{Json, document}
 use Rattle.zt_logs.specs.declared.logged.LoggedCall.{LoggedCall}
 use Rattle.zt_logs.specs.Lines.{lines_of}
 use Rattle.zt_bits.specs.declared.statuses.Status.{Status}
@@ -19,13 +18,13 @@ use Rattle.zt_logs.specs.ProofsOnly.ReadLines.{AddsLogged, IsReadUpTo, without_p
 
 -- ---- the JSON of a line
 
-pub json_read : (bytes : List ℕ) (d : Data) → IsUtf8 bytes × (read bytes ≡ Some d) → json_of bytes ≡ Some d
+pub json_read : (bytes : List ℕ) (d : Json) → IsUtf8 bytes × (document bytes ≡ Some d) → json_of bytes ≡ Some d
 unfolding json_of
 json_read bytes d is = rw (is_utf8-from_IsUtf8 bytes is.0) is.1
 
-pub json_refused : (bytes : List ℕ) → (IsUtf8 bytes → read bytes ≡ None) → json_of bytes ≡ None
+pub json_refused : (bytes : List ℕ) → (IsUtf8 bytes → document bytes ≡ None) → json_of bytes ≡ None
 unfolding json_of
-json_refused bytes none = elim (is_utf8 bytes) as (λ b. is_utf8 bytes ≡ b → (if b then read bytes else None) ≡ None) [
+json_refused bytes none = elim (is_utf8 bytes) as (λ b. is_utf8 bytes ≡ b → (if b then document bytes else None) ≡ None) [
   | true ↦ λ e. none (IsUtf8-from_is_utf8 bytes e)
   | false ↦ λ e. refl
 ] refl
@@ -103,7 +102,7 @@ one_same : (last : LoggedCall) (new : List LoggedCall) → map without_process n
     → (n : LoggedCall) × (new ≡ n ∷ []) × (without_process n ≡ without_process last)
 one_same last new same = one_mapped LoggedCall LoggedCall without_process last new same
 
-parts_same : (line : ℕ) (name : CallName) (value : Option Data) (parts : List PartCall) (old new : List LoggedCall)
+parts_same : (line : ℕ) (name : CallName) (value : Option Json) (parts : List PartCall) (old new : List LoggedCall)
     → map without_process new ≡ map without_process old → AreParts line name value parts old → AreParts line name value parts new
 parts_same line name value parts old new same are =
     let (ahead, rest, split, a, b) = split_same are.ahead (are.last ∷ []) new (same ∙ ap (map without_process) are.in_calls) in
@@ -122,13 +121,13 @@ parts_same line name value parts old new same are =
       answered = subst (λ (logged : LoggedCall). IsAnswered name value logged.recorded.status logged.recorded.handles) (sym is) are.answered;
     }
 
-all_same : (line : ℕ) (name : CallName) (value : Option Data) (parts : List PartCall) (old new : List LoggedCall)
+all_same : (line : ℕ) (name : CallName) (value : Option Json) (parts : List PartCall) (old new : List LoggedCall)
     → map without_process new ≡ map without_process old → AreAllParts line name value parts old → AreAllParts line name value parts new
 all_same line name value [] old [] same are = refl
 all_same line name value [] old (n ∷ ns) same are = cc (same, are)
 all_same line name value (p ∷ ps) old new same are = parts_same line name value (p ∷ ps) old new same are
 
-named_same : (line : ℕ) (name : Option CallName) (value : Option Data) (old new : List LoggedCall) → map without_process new ≡ map without_process old
+named_same : (line : ℕ) (name : Option CallName) (value : Option Json) (old new : List LoggedCall) → map without_process new ≡ map without_process old
     → AreNamed line name value old → AreNamed line name value new
 named_same line None value old new same are = absurd are
 named_same line (Some name) value old new same (parts, options, mask, fits, are) =

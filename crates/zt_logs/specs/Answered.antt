@@ -1,8 +1,8 @@
 -- What a line says that was answered.
 use Rattle.std.specs.Prelude.{◌≡◌, ◌⊎◌, ℕ, Bool, true, false, List, [], ◌∷◌, Option, Some, None, option_and_then, take, drop, if◌then◌else◌, codes}
 use Rattle.std.specs.Str.{bytes_eq}
-use Rattle.serde_json.specs.Data.{Data, Items, no_items, item}
-use Rattle.serde_json.specs.Find.{as_str, as_array, get}
+use Rattle.json.specs.Json.{Json, Items, no_items, item}
+use Rattle.json.specs.Find.{as_str, as_array, get}
 use Rattle.zt_bits.specs.declared.statuses.Status.{Status}
 use Rattle.zt_bits.specs.declared.statuses.Status.TheVariants as status
 use Rattle.zt_logs.specs.declared.call_names.CallName.{CallName}
@@ -73,22 +73,22 @@ status_of text =
     else or_status (first_word text) (other_word text)
 
 -- the one handle that a call gave, if the line has it
-abbrev pub IsOnlyGiven : Option Data → List ℕ → Type 0
+abbrev pub IsOnlyGiven : Option Json → List ℕ → Type 0
 IsOnlyGiven None handles = handles ≡ []
 IsOnlyGiven (Some d) handles = (n : ℕ) × IsNumber d n × (handles ≡ n ∷ [])
 
 -- the two handles that a call gave, if the line has one of them
-abbrev pub AreBothGiven : Option Data → Option Data → List ℕ → Type 0
+abbrev pub AreBothGiven : Option Json → Option Json → List ℕ → Type 0
 AreBothGiven None None handles = handles ≡ []
 AreBothGiven first second handles = (m n : ℕ) × IsNumberIn first m × IsNumberIn second n × (handles ≡ m ∷ n ∷ [])
 
 -- the handles of an object, which has two ends or is one
-abbrev pub AreEndsGiven : Bool → Option Data → List ℕ → Type 0
+abbrev pub AreEndsGiven : Bool → Option Json → List ℕ → Type 0
 AreEndsGiven true out handles = AreBothGiven (field member.FirstHandle out) (field member.SecondHandle out) handles
 AreEndsGiven false out handles = IsOnlyGiven (field member.OnlyHandle out) handles
 
 -- handles that a call of this name gave, each by its own name
-abbrev pub AreGivenByName : CallName → Option Data → List ℕ → Type 0
+abbrev pub AreGivenByName : CallName → Option Json → List ℕ → Type 0
 AreGivenByName called.EventCreate out handles = IsOnlyGiven (field member.OnlyHandle out) handles
 AreGivenByName called.PortCreate out handles = IsOnlyGiven (field member.OnlyHandle out) handles
 AreGivenByName called.HandleDuplicate out handles = IsOnlyGiven (field member.OnlyHandle out) handles
@@ -100,7 +100,7 @@ AreGivenByName (called.Made kind) out handles = AreEndsGiven (has_ends kind) out
 AreGivenByName name out handles = handles ≡ []
 
 -- a handle that a message had, alone or in an object with what it names
-abbrev pub IsReadNumber : Data → ℕ → Type 0
+abbrev pub IsReadNumber : Json → ℕ → Type 0
 IsReadNumber d n = IsNumber d n ⊎ IsNumberIn (get (first_name member.Handle) d) n
 
 abbrev pub AreReadNumbers : Items → List ℕ → Type 0
@@ -109,12 +109,12 @@ AreReadNumbers no_items (n ∷ ns) = ⊥
 AreReadNumbers (item d ds) [] = ⊥
 AreReadNumbers (item d ds) (n ∷ ns) = IsReadNumber d n × AreReadNumbers ds ns
 
-abbrev pub AreReadHandles : Option Data → List ℕ → Type 0
+abbrev pub AreReadHandles : Option Json → List ℕ → Type 0
 AreReadHandles None handles = handles ≡ []
 AreReadHandles (Some d) handles = (list : Items) × (as_array d ≡ Some list) × AreReadNumbers list handles
 
 -- handles that a call of this name gave: a list, or each by its own name
-abbrev pub AreGivenBy : Option Data → CallName → Option Data → List ℕ → Type 0
+abbrev pub AreGivenBy : Option Json → CallName → Option Json → List ℕ → Type 0
 AreGivenBy listed called.ChannelReadEtc out handles = AreReadHandles listed handles
 AreGivenBy listed called.ChannelCallEtc out handles = AreReadHandles (field member.ReadHandles out) handles
 AreGivenBy listed called.ChannelCall out handles = AreHandles (field member.ReadHandles out) handles
@@ -123,12 +123,12 @@ AreGivenBy None name out handles = AreGivenByName name out handles
 AreGivenBy (Some d) name out handles = AreHandles (Some d) handles
 
 -- what a line says of the status and, where that is ok, of the handles that were given
-abbrev pub AreAnswered : Option Status → CallName → Option Data → List ℕ → Type 0
+abbrev pub AreAnswered : Option Status → CallName → Option Json → List ℕ → Type 0
 AreAnswered (Some status.Ok) name out handles = AreGivenBy (field member.Handles out) name out handles
 AreAnswered other name out handles = handles ≡ []
 
 -- the status of a line
-abbrev pub status_in : Option Data → Option Status
+abbrev pub status_in : Option Json → Option Status
 status_in line = option_and_then status_of (option_and_then as_str (field member.Status line))
 
 -- that of its last call: a channel_call that timed out has written
@@ -137,7 +137,7 @@ answered_status called.ChannelCall (Some status.TimedOut) = Some status.Ok
 answered_status called.ChannelCallEtc (Some status.TimedOut) = Some status.Ok
 answered_status name answered = answered
 
-abbrev pub IsAnswered : CallName → Option Data → Option Status → List ℕ → Type 0
+abbrev pub IsAnswered : CallName → Option Json → Option Status → List ℕ → Type 0
 IsAnswered name line answered handles =
     (answered ≡ answered_status name (status_in line))
     × AreAnswered answered name (field member.Out line) handles

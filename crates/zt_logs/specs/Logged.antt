@@ -3,7 +3,7 @@ use Rattle.std.specs.Prelude.{◌≡◌, ℕ, suc, List, [], ◌∷◌, ◌++◌
 use Rattle.std.specs.Option.{option_to_list}
 use Rattle.zt_bits.specs.declared.statuses.Status.{Status}
 use Rattle.zt_bits.specs.declared.statuses.Status.TheVariants as status
-use Rattle.serde_json.specs.Data.{Data}
+use Rattle.json.specs.Json.{Json}
 use Rattle.zt_logs.specs.declared.call_names.CallName.{CallName}
 use Rattle.zt_logs.specs.declared.line_calls.PartCall.{PartCall}
 use Rattle.zt_logs.specs.declared.logged.LoggedCall.{LoggedCall}
@@ -38,7 +38,7 @@ AreAhead line count answered ahead (part ∷ parts) (logged ∷ calls) =
     × AreAhead line count answered (suc ahead) parts calls
 
 -- the calls of a line that has some: those ahead, and the last, which has what the line says of the answer
-pub record AreParts (line : ℕ) (name : CallName) (value : Option Data) (parts : List PartCall) (calls : List LoggedCall) : Type 0 where
+pub record AreParts (line : ℕ) (name : CallName) (value : Option Json) (parts : List PartCall) (calls : List LoggedCall) : Type 0 where
   pub others : List PartCall
   pub part : PartCall
   pub ahead : List LoggedCall
@@ -50,17 +50,17 @@ pub record AreParts (line : ℕ) (name : CallName) (value : Option Data) (parts 
   pub answered : IsAnswered name value last.recorded.status last.recorded.handles
 
 -- the calls of a line; none, where it is none
-abbrev pub AreAllParts : ℕ → CallName → Option Data → List PartCall → List LoggedCall → Type 0
+abbrev pub AreAllParts : ℕ → CallName → Option Json → List PartCall → List LoggedCall → Type 0
 AreAllParts line name value [] calls = calls ≡ []
 AreAllParts line name value (part ∷ parts) calls = AreParts line name value (part ∷ parts) calls
 
 -- the calls of a line with this name are those that its arguments and options say
-abbrev pub AreCalled : ℕ → CallName → Option Data → List LoggedCall → Type 0
+abbrev pub AreCalled : ℕ → CallName → Option Json → List LoggedCall → Type 0
 AreCalled line name value calls =
     (parts : List PartCall) × (options : ℕ) × IsMaskOrNone (field member.Options (field member.Args value)) options
     × AreCallsOf name value options parts × AreAllParts line name value parts calls
 
-abbrev pub AreNamed : ℕ → Option CallName → Option Data → List LoggedCall → Type 0
+abbrev pub AreNamed : ℕ → Option CallName → Option Json → List LoggedCall → Type 0
 AreNamed line None value calls = ⊥
 AreNamed line (Some name) value calls = AreCalled line name value calls
 

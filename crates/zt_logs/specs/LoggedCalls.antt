@@ -1,8 +1,8 @@
 -- Which call a line is.
 use Rattle.std.specs.Prelude.{◌≡◌, ◌⊎◌, ◌||◌, ◌==◌, not, ℕ, Bool, List, [], ◌∷◌, Option, Some, None, Ok, bit_and}
 use Rattle.hex.specs.Hex.{decode_of, decode_sized}
-use Rattle.serde_json.specs.Data.{Data, Items, no_items, item}
-use Rattle.serde_json.specs.Find.{as_str, as_array}
+use Rattle.json.specs.Json.{Json, Items, no_items, item}
+use Rattle.json.specs.Find.{as_str, as_array}
 use Rattle.zt_rows.specs.declared.calls.Call.{Call}
 use Rattle.zt_rows.specs.declared.calls.Call.TheVariants as call
 use Rattle.zt_logs.specs.declared.call_names.CallName.{CallName}
@@ -12,7 +12,7 @@ use Rattle.zt_logs.specs.Members.{field}
 use Rattle.zt_logs.specs.Numbers.{IsNumber, IsNumberIn, IsNumberOrNone, IsMaskIn, IsSignedIn, flag_of}
 
 -- bytes as pairs of digits; none, where they are left out
-abbrev pub AreBytes : Option Data → List ℕ → Type 0
+abbrev pub AreBytes : Option Json → List ℕ → Type 0
 AreBytes None bytes = bytes ≡ []
 AreBytes (Some d) bytes = (text : List ℕ) × (as_str d ≡ Some text) × (decode_of text ≡ Ok bytes)
 
@@ -24,27 +24,27 @@ AreNumbers (item d ds) [] = ⊥
 AreNumbers (item d ds) (n ∷ ns) = IsNumber d n × AreNumbers ds ns
 
 -- a list of handles; none, where it is left out
-abbrev pub AreHandles : Option Data → List ℕ → Type 0
+abbrev pub AreHandles : Option Json → List ℕ → Type 0
 AreHandles None handles = handles ≡ []
 AreHandles (Some d) handles = (list : Items) × (as_array d ≡ Some list) × AreNumbers list handles
 
 -- the 32 bytes of a packet as pairs of digits
-abbrev pub ArePacketBytes : Option Data → List ℕ → Type 0
+abbrev pub ArePacketBytes : Option Json → List ℕ → Type 0
 ArePacketBytes None bytes = ⊥
 ArePacketBytes (Some d) bytes = (text : List ℕ) × (as_str d ≡ Some text) × (decode_sized text 32 ≡ Ok bytes)
 
 -- a packet with its key: a text of its bytes beside the key, or an object with both
-abbrev pub IsQueued : Option Data → Option Data → ℕ → List ℕ → Type 0
+abbrev pub IsQueued : Option Json → Option Json → ℕ → List ℕ → Type 0
 IsQueued packet args key bytes =
     (IsNumberIn (field member.Key args) key × ArePacketBytes packet bytes)
     ⊎ (IsNumberIn (field member.Key packet) key × ArePacketBytes (field member.PacketBytes packet) bytes)
 
 -- whether an option is asked for, by its bit or by a field of its own
-abbrev pub IsAsked : ℕ → ℕ → Option Data → Bool → Type 0
+abbrev pub IsAsked : ℕ → ℕ → Option Json → Bool → Type 0
 IsAsked options bit told asked = (flag : Bool) × (flag_of told ≡ Some flag) × (asked ≡ (flag || not (bit_and options bit == 0)))
 
 -- a call of this name with these arguments and options
-abbrev pub IsCallOf : CallName → Option Data → ℕ → Call → Type 0
+abbrev pub IsCallOf : CallName → Option Json → ℕ → Call → Type 0
 IsCallOf called.EventCreate args options call.EventCreate = Unit {0}
 IsCallOf called.EventPairCreate args options call.EventPairCreate = Unit {0}
 IsCallOf called.ChannelCreate args options call.ChannelCreate = Unit {0}

@@ -1,11 +1,12 @@
 -- The fields of a JSON object of a line.
-use Rattle.std.specs.Prelude.{ℕ, List, Option, Some, None, is_some, option_and_then, if◌then◌else◌, codes}
+use Rattle.std.specs.Prelude.{ℕ, List, Option, Some, None, option_and_then, if◌then◌else◌, codes}
 use Rattle.std.specs.Option.{option_map}
 use denote.Ref.{Bor}
-use Rattle.serde_json.specs.Data.{Data}
-use Rattle.serde_json.specs.Find.{get, as_null}
-use Rattle.serde_json.specs.View.{view}
-use Rattle.serde_json.specs.declared.value.Value.{Value}
+use Rattle.json.specs.Json.{Json}
+use Rattle.json.specs.Find.{get, is_null}
+use Rattle.json.specs.Value.{value_view}
+use Rattle.json.specs.declared.value.Value.{Value}
+use Rattle.std.specs.declared.alloc.Global.{Global}
 use Rattle.zt_logs.specs.declared.places.Member.{Member}
 use Rattle.zt_logs.specs.declared.places.Member.TheVariants as member
 
@@ -77,23 +78,23 @@ second_name member.ReadHandles = Some (codes "handles")
 second_name _ = None
 
 -- a value, unless it is null
-abbrev pub not_null : Data → Option Data
-not_null d = if is_some (as_null d) then None else Some d
+abbrev pub not_null : Json → Option Json
+not_null d = if is_null d then None else Some d
 
 -- what stands under this name in an object, which may be left out itself
-abbrev pub named : List ℕ → Option Data → Option Data
+abbrev pub named : List ℕ → Option Json → Option Json
 named name object = option_and_then not_null (option_and_then (get name) object)
 
 -- this, or else what stands under the second name
-abbrev pub or_named : Option Data → Option (List ℕ) → Option Data → Option Data
+abbrev pub or_named : Option Json → Option (List ℕ) → Option Json → Option Json
 or_named (Some d) second object = Some d
 or_named None None object = None
 or_named None (Some second) object = named second object
 
 -- a field of an object: what stands under its name, or else under its second one
-abbrev pub field : Member → Option Data → Option Data
+abbrev pub field : Member → Option Json → Option Json
 field name object = or_named (named (first_name name) object) (second_name name) object
 
 -- what a reference that may be missing points to
-abbrev pub data_at : Option (Bor Value) → Option Data
-data_at value = option_map (λ v. view v.now) value
+abbrev pub data_at : Option (Bor (Value Global)) → Option Json
+data_at value = option_map (λ v. value_view v.now) value

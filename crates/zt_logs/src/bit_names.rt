@@ -1,11 +1,11 @@
 //! The names of rights and signals, as the system's reference has them.
 
 ghost use Rattle.std.specs.Prelude.{IfSome};
-ghost use Rattle.serde_json.specs.View.{view};
+ghost use Rattle.json.specs.Value.{value_view};
 ghost use Rattle.zt_logs.specs.Numbers.{IsMask};
 
 use crate::numbers::{narrow, narrow_in};
-use serde_json::Value;
+use json::Value;
 
 /// Of what bits names are read.
 #[derive(Clone, Copy)]
@@ -15,8 +15,8 @@ pub(crate) enum BitNames {
 }
 
 /// The bits that a value says: a number, or a text of names with `|` between them.
-pub(crate) fn bits_in(names: BitNames, value: &Value) -> Option<u32>
-    ensures { IfSome result (IsMask (view value.now)) }
+pub(crate) fn bits_in(names: BitNames, value: &Value<'_>) -> Option<u32>
+    ensures { IfSome result (IsMask (value_view value.now)) }
 {
     match narrow_in(value) {
         Some(bits) => Some(bits),

@@ -2,7 +2,7 @@
 
 ghost use Rattle.std.specs.Prelude.{◌≡◌, ◌++◌, ◌∷◌, [], Some, IfOk, OnOk, map};
 ghost use Rattle.std.specs.Option.{option_to_list};
-ghost use Rattle.serde_json.specs.View.{view};
+ghost use Rattle.json.specs.Value.{value_view};
 ghost use Rattle.zt_logs.specs.Members.{field, data_at};
 ghost use Rattle.zt_logs.specs.LineCalls.{IsDisposition, AreDispositionsIn, copy_of, copies_of, sources_of};
 ghost use Rattle.zt_logs.specs.ProofsOnly.ReadLines.{AreDispositionsOf};
@@ -11,7 +11,7 @@ use crate::faults::Cause;
 use crate::line_calls::{PartCall, push_part};
 use crate::members::{Members, push_handle};
 use crate::places::Member;
-use serde_json::Value;
+use json::Value;
 use std::alloc::Global;
 use zt_rows::{Call, HandleValue};
 
@@ -32,7 +32,7 @@ pub(crate) struct Disposition {
 #[tactic(auto, using(crate::proofs::ListedLaws::sent_at, crate::proofs::ListedLaws::no_sent_at))]
 pub(crate) fn dispositions(
     alloc: Global,
-    args: &Members<'_>,
+    args: &Members<'_, '_>,
     name: Member,
 ) -> Result<Vec<Disposition>, Cause>
     ensures { IfOk result (λ ds. AreDispositionsIn (field name (data_at args.now.value)) ds.items) }
@@ -44,11 +44,11 @@ pub(crate) fn dispositions(
 }
 
 /// Those that the values of a list are.
-fn dispositions_in(
+fn dispositions_in<'a, 'text>(
     alloc: Global,
-    args: &Members<'_>,
+    args: &Members<'a, 'text>,
     name: Member,
-    list: &[Value],
+    list: &'a [Value<'text>],
 ) -> Result<Vec<Disposition>, Cause>
     ensures { IfOk result (λ ds. AreDispositionsOf list.now ds.items) }
 {
@@ -61,13 +61,13 @@ fn dispositions_in(
 }
 
 /// The one that this item of a list is. Without rights it keeps those that it has.
-fn disposition_in(
-    args: &Members<'_>,
+fn disposition_in<'a, 'text>(
+    args: &Members<'a, 'text>,
     name: Member,
     item: usize,
-    value: &Value,
+    value: &'a Value<'text>,
 ) -> Result<Disposition, Cause>
-    ensures { IfOk result (IsDisposition (view value.now)) }
+    ensures { IfOk result (IsDisposition (value_view value.now)) }
 {
     let sent = args.item(name, item, value)?;
     let is_duplicate = sent.is_duplicate(Member::Operation)?;

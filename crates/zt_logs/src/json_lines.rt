@@ -1,8 +1,8 @@
-ghost use Rattle.std.specs.Prelude.{◌≡◌, ◌<◌, ◌==◌, ◌++◌, [], ◌∷◌, length, IfOk, OnOk};
+ghost use Rattle.std.specs.Prelude.{◌≡◌, ◌<◌, ◌==◌, ◌++◌, [], ◌∷◌, length, None, IfOk, OnOk};
 ghost use Rattle.std.specs.List.{list_all, position};
-ghost use Rattle.serde_json.specs.View.{view};
+ghost use Rattle.json.specs.Value.{value_view};
 ghost use Rattle.zt_logs.specs.Lines.{lines_of, without_mark};
-ghost use Rattle.zt_logs.specs.Entries.{is_space, entry_for, entry_of, entries_of};
+ghost use Rattle.zt_logs.specs.Entries.{is_space, json_of, entry_for, entry_of, entries_of};
 ghost use Rattle.zt_logs.specs.Logged.{AreLogged};
 ghost use Rattle.zt_logs.specs.Members.{data_at};
 ghost use Rattle.zt_logs.specs.ProofsOnly.ReadLines.{IsParsed, AddsLogged, AddsCalls, IsReadUpTo};
@@ -19,7 +19,8 @@ use crate::places::{LineObject, Member};
 use crate::process_names::{NamedPlace, Naming, ProcessNames, ProcessWord};
 use crate::recorded::recorded_of;
 use crate::skipped::{SkippedCall, skipped_of};
-use serde_json::Value;
+use json::{Error, Scratch, Value};
+use memchr::memchr;
 use std::alloc::{AllocError, Global};
 
 /// The most bytes of a line.
@@ -40,7 +41,14 @@ pub fn read_log(alloc: Global, text: &[u8]) -> Result<CallLog, LogFault>
         notes: LogNotes::new(alloc),
     };
     let mut naming = Naming::new(alloc);
-    take_lines(alloc, &mut log, &mut naming, without_mark(text))?;
+    let mut scratch = Scratch::new(alloc);
+    take_lines(
+        alloc,
+        &mut log,
+        &mut naming,
+        &mut scratch,
+        without_mark(text),
+    )?;
     match naming.finish(alloc, &mut log) {
         Ok(names) => log.names = names,
         Err(_) => return Err(Cause::OutOfMemory.at(0)),
@@ -63,6 +71,7 @@ fn take_lines(
     alloc: Global,
     log: &mut CallLog,
     naming: &mut Naming,
+    scratch: &mut Scratch,
     text: &[u8],
 ) -> Result<(), LogFault>
     requires lines { log.old.lines ≡ 0 }
@@ -74,7 +83,7 @@ fn take_lines(
         let (line, others) = next_line(left);
         log.lines = log.lines.saturating_add(1);
         let number = log.lines;
-        match take_line(alloc, log, naming, line) {
+        match take_line(alloc, log, naming, scratch, line) {
             Ok(()) => {}
             Err(cause) => return Err(cause.at(number)),
         }
@@ -116,10 +125,11 @@ fn next_line(bytes: &[u8]) -> (Line<'_>, &[u8])
 }
 
 /// Where the first line feed stands.
+#[tactic(auto, using(crate::proofs::LineLaws::first_feed))]
 fn feed_place(bytes: &[u8]) -> Option<usize>
     ensures { result ≡ position (λ byte. byte == 10) bytes.now }
 {
-    bytes.iter().position(|byte| *byte == b'\n')
+    memchr(b'\n', bytes)
 }
 
 /// Puts the call of the last line that was counted behind those before it, unless it is passed by or skipped.
@@ -127,6 +137,7 @@ fn take_line(
     alloc: Global,
     log: &mut CallLog,
     naming: &mut Naming,
+    scratch: &mut Scratch,
     line: Line<'_>,
 ) -> Result<(), Cause>
     ensures lines { log.new.lines ≡ log.old.lines }
@@ -138,7 +149,7 @@ fn take_line(
     if is_blank(line.bytes) {
         return Ok(());
     }
-    match json_in(alloc, line.bytes)? {
+    match json_in(alloc, line.bytes, scratch)? {
         Parsed::Whole(value) => take_value(alloc, log, naming, &value),
         Parsed::CutOff if !line.is_ended && is_begun(line.bytes) => {
             note_cut_off(&mut log.notes, log.lines)
@@ -179,10 +190,10 @@ fn take_value(
     alloc: Global,
     log: &mut CallLog,
     naming: &mut Naming,
-    value: &Value,
+    value: &Value<'_>,
 ) -> Result<(), Cause>
     ensures lines { log.new.lines ≡ log.old.lines }
-    ensures calls { OnOk result (AddsLogged (entry_for log.old.lines (view value.now)) log.old.calls.items log.new.calls.items) }
+    ensures calls { OnOk result (AddsLogged (entry_for log.old.lines (value_view value.now)) log.old.calls.items log.new.calls.items) }
 {
     let members = Members::of_line(value)?;
     let word = members.text(Member::Call)?;
@@ -199,18 +210,31 @@ fn take_value(
 
 /// What a line is as JSON.
 #[derive(Drop)]
-enum Parsed {
-    Whole(Value),
+enum Parsed<'a> {
+    Whole(Value<'a>),
     /// The front of a text that could be read.
     CutOff,
     Broken,
 }
 
-fn json_in(alloc: Global, line: &[u8]) -> Result<Parsed, Cause>
+fn json_in<'a>(alloc: Global, line: &'a [u8], scratch: &'a mut Scratch) -> Result<Parsed<'a>, Cause>
     ensures { IfOk result (IsParsed line.now) }
 {
-    match Value::from_slice(alloc, line) {
+    match Value::from_slice(alloc, line, scratch) {
         Ok(value) => Ok(Parsed::Whole(value)),
+        Err(Error::Invalid) => refused(alloc, line),
+        // The others come of a tape or a strict read.
+        Err(Error::OutOfMemory | Error::TooLong | Error::DuplicateKey) => Err(Cause::OutOfMemory),
+    }
+}
+
+/// What a line is that is no JSON. `json` does not tell whether it ends where more was to come, and `serde_json` does.
+fn refused<'a>(alloc: Global, line: &[u8]) -> Result<Parsed<'a>, Cause>
+    requires { json_of line.now ≡ None }
+    ensures { IfOk result (IsParsed line.now) }
+{
+    match serde_json::Value::from_slice(alloc, line) {
+        Ok(_) => Ok(Parsed::Broken),
         Err(error) => {
             if error.is_memory() {
                 Err(Cause::OutOfMemory)
@@ -230,7 +254,7 @@ fn take_call(
     log: &mut CallLog,
     naming: &mut Naming,
     name: CallName,
-    line: &Members<'_>,
+    line: &Members<'_, '_>,
 ) -> Result<(), Cause>
     ensures lines { log.new.lines ≡ log.old.lines }
     ensures calls { OnOk result (AddsCalls name log.old.lines (data_at line.now.value) log.old.calls.items log.new.calls.items) }
@@ -273,7 +297,7 @@ fn skip(
     skipped: &mut Vec<SkippedCall>,
     naming: &mut Naming,
     name: &str,
-    line: &Members<'_>,
+    line: &Members<'_, '_>,
 ) -> Result<(), AllocError> {
     let place = NamedPlace::Skipped(skipped.len());
     let process = match line.process(Member::Process) {

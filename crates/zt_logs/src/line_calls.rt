@@ -51,8 +51,8 @@ pub(crate) fn form_of(name: CallName) -> LineForm {
 pub(crate) fn calls_of(
     alloc: Global,
     name: CallName,
-    line: &Members<'_>,
-    args: &Members<'_>,
+    line: &Members<'_, '_>,
+    args: &Members<'_, '_>,
     options: u64,
 ) -> Result<Vec<PartCall>, Cause>
     requires { data_at args.now.value ≡ field member.Args (data_at line.now.value) }
@@ -79,7 +79,7 @@ fn one_call(alloc: Global, call: Call) -> Result<Vec<PartCall>, Cause>
 }
 
 /// What stands in for an object that the semantics has not; nothing, where the line gives no handle to it.
-fn made(alloc: Global, kind: OtherKind, line: &Members<'_>) -> Result<Vec<PartCall>, Cause>
+fn made(alloc: Global, kind: OtherKind, line: &Members<'_, '_>) -> Result<Vec<PartCall>, Cause>
     ensures { IfOk result (λ parts. AreMade kind (data_at line.now.value) parts.items) }
 {
     let status = status_in(line)?;
@@ -95,7 +95,7 @@ fn made(alloc: Global, kind: OtherKind, line: &Members<'_>) -> Result<Vec<PartCa
 }
 
 /// Whether the handles of an object of this kind are given.
-fn gives(kind: OtherKind, out: &Members<'_>) -> bool
+fn gives(kind: OtherKind, out: &Members<'_, '_>) -> bool
     ensures { result ≡ gives kind (data_at out.now.value) }
 {
     out.has(Member::Handles)
@@ -107,7 +107,7 @@ fn gives(kind: OtherKind, out: &Members<'_>) -> bool
 }
 
 /// A close of each handle; one of none, where there are no handles.
-fn close_many(alloc: Global, args: &Members<'_>) -> Result<Vec<PartCall>, Cause>
+fn close_many(alloc: Global, args: &Members<'_, '_>) -> Result<Vec<PartCall>, Cause>
     ensures { IfOk result (λ parts. AreCloses (data_at args.now.value) parts.items) }
 {
     let handles = args.all_handles(alloc, Member::Handles)?;
@@ -134,7 +134,7 @@ fn closes_of(alloc: Global, handles: &[HandleValue]) -> Result<Vec<PartCall>, Ca
 }
 
 /// What makes the handles that are sent, and a write of those that the line names.
-fn write_etc(alloc: Global, args: &Members<'_>) -> Result<Vec<PartCall>, Cause>
+fn write_etc(alloc: Global, args: &Members<'_, '_>) -> Result<Vec<PartCall>, Cause>
     ensures { IfOk result (λ parts. AreWrites (data_at args.now.value) parts.items) }
 {
     written(alloc, args, Member::Bytes, Member::Handles)
@@ -143,7 +143,7 @@ fn write_etc(alloc: Global, args: &Members<'_>) -> Result<Vec<PartCall>, Cause>
 /// The same of bytes and handles by other names.
 fn written(
     alloc: Global,
-    args: &Members<'_>,
+    args: &Members<'_, '_>,
     bytes: Member,
     handles: Member,
 ) -> Result<Vec<PartCall>, Cause>
@@ -166,8 +166,8 @@ fn written(
 /// A write of handles as they are, and a read, where an answer came or could have.
 fn channel_call(
     alloc: Global,
-    line: &Members<'_>,
-    args: &Members<'_>,
+    line: &Members<'_, '_>,
+    args: &Members<'_, '_>,
 ) -> Result<Vec<PartCall>, Cause>
     requires { data_at args.now.value ≡ field member.Args (data_at line.now.value) }
     ensures { IfOk result (λ parts. AreCallsWith AreRequests (data_at line.now.value) parts.items) }
@@ -180,8 +180,8 @@ fn channel_call(
 /// The same with what makes the handles that are sent.
 fn channel_call_etc(
     alloc: Global,
-    line: &Members<'_>,
-    args: &Members<'_>,
+    line: &Members<'_, '_>,
+    args: &Members<'_, '_>,
 ) -> Result<Vec<PartCall>, Cause>
     requires { data_at args.now.value ≡ field member.Args (data_at line.now.value) }
     ensures { IfOk result (λ parts. AreCallsWith (AreWritten member.WrittenBytes member.WrittenHandles) (data_at line.now.value) parts.items) }
@@ -194,8 +194,8 @@ fn channel_call_etc(
 /// A read of the answer more, where one came or could have.
 fn push_answer(
     parts: &mut Vec<PartCall>,
-    line: &Members<'_>,
-    args: &Members<'_>,
+    line: &Members<'_, '_>,
+    args: &Members<'_, '_>,
 ) -> Result<(), Cause>
     ensures { OnOk result (AddsAnswer (status_in (data_at line.now.value)) (data_at args.now.value) parts.old.items parts.new.items) }
 {
@@ -229,7 +229,7 @@ fn has_read(status: Option<Status>) -> bool
 }
 
 /// A write of handles as they are.
-fn request(alloc: Global, args: &Members<'_>) -> Result<Vec<PartCall>, Cause>
+fn request(alloc: Global, args: &Members<'_, '_>) -> Result<Vec<PartCall>, Cause>
     ensures { IfOk result (λ parts. AreRequests (data_at args.now.value) parts.items) }
 {
     let handle = args.handle(Member::Handle)?;
@@ -244,8 +244,8 @@ fn request(alloc: Global, args: &Members<'_>) -> Result<Vec<PartCall>, Cause>
 /// What stands in for the address space of a process, and a spawn.
 fn process_create(
     alloc: Global,
-    line: &Members<'_>,
-    args: &Members<'_>,
+    line: &Members<'_, '_>,
+    args: &Members<'_, '_>,
 ) -> Result<Vec<PartCall>, Cause>
     requires { data_at args.now.value ≡ field member.Args (data_at line.now.value) }
     ensures { IfOk result (λ parts. AreCreates (data_at line.now.value) parts.items) }
@@ -258,7 +258,7 @@ fn process_create(
 }
 
 /// What stands in for an address space, where the line gives a handle to it.
-fn spaces(alloc: Global, line: &Members<'_>) -> Result<Vec<PartCall>, Cause>
+fn spaces(alloc: Global, line: &Members<'_, '_>) -> Result<Vec<PartCall>, Cause>
     ensures { IfOk result (λ parts. AreSpaces (status_in (data_at line.now.value)) (field member.VmarHandle (field member.Out (data_at line.now.value))) parts.items) }
 {
     let out = line.object(Member::Out, LineObject::Out)?;
@@ -269,7 +269,7 @@ fn spaces(alloc: Global, line: &Members<'_>) -> Result<Vec<PartCall>, Cause>
 }
 
 #[tactic(auto, using(crate::proofs::AnswerLaws::space_none, crate::proofs::AnswerLaws::space_one))]
-fn space_in(alloc: Global, out: &Members<'_>) -> Result<Vec<PartCall>, Cause>
+fn space_in(alloc: Global, out: &Members<'_, '_>) -> Result<Vec<PartCall>, Cause>
     ensures { IfOk result (λ parts. IsSpaceAt (field member.VmarHandle (data_at out.now.value)) parts.items) }
 {
     if !out.has(Member::VmarHandle) {

@@ -16,7 +16,7 @@ use zt_rows::{Call, MESSAGE_BYTES, Parcel};
 pub(crate) fn call_of(
     alloc: Global,
     name: CallName,
-    args: &Members<'_>,
+    args: &Members<'_, '_>,
     options: u64,
 ) -> Result<Call, Cause>
     requires { is_one_call name ≡ true }
@@ -53,14 +53,14 @@ pub(crate) fn call_of(
     }
 }
 
-fn handle_close(args: &Members<'_>) -> Result<Call, Cause>
+fn handle_close(args: &Members<'_, '_>) -> Result<Call, Cause>
     ensures { IfOk result (IsCallOf called.HandleClose (data_at args.now.value) 0) }
 {
     let handle = args.handle(Member::Handle)?;
     Ok(Call::HandleClose { handle })
 }
 
-fn handle_duplicate(args: &Members<'_>) -> Result<Call, Cause>
+fn handle_duplicate(args: &Members<'_, '_>) -> Result<Call, Cause>
     ensures { IfOk result (IsCallOf called.HandleDuplicate (data_at args.now.value) 0) }
 {
     let handle = args.handle(Member::Handle)?;
@@ -68,7 +68,7 @@ fn handle_duplicate(args: &Members<'_>) -> Result<Call, Cause>
     Ok(Call::HandleDuplicate { handle, rights })
 }
 
-fn handle_replace(args: &Members<'_>) -> Result<Call, Cause>
+fn handle_replace(args: &Members<'_, '_>) -> Result<Call, Cause>
     ensures { IfOk result (IsCallOf called.HandleReplace (data_at args.now.value) 0) }
 {
     let handle = args.handle(Member::Handle)?;
@@ -76,7 +76,7 @@ fn handle_replace(args: &Members<'_>) -> Result<Call, Cause>
     Ok(Call::HandleReplace { handle, rights })
 }
 
-fn object_signal(args: &Members<'_>) -> Result<Call, Cause>
+fn object_signal(args: &Members<'_, '_>) -> Result<Call, Cause>
     ensures { IfOk result (IsCallOf called.ObjectSignal (data_at args.now.value) 0) }
 {
     let handle = args.handle(Member::Handle)?;
@@ -85,7 +85,7 @@ fn object_signal(args: &Members<'_>) -> Result<Call, Cause>
     Ok(Call::ObjectSignal { handle, clear, set })
 }
 
-fn object_signal_peer(args: &Members<'_>) -> Result<Call, Cause>
+fn object_signal_peer(args: &Members<'_, '_>) -> Result<Call, Cause>
     ensures { IfOk result (IsCallOf called.ObjectSignalPeer (data_at args.now.value) 0) }
 {
     let handle = args.handle(Member::Handle)?;
@@ -94,7 +94,7 @@ fn object_signal_peer(args: &Members<'_>) -> Result<Call, Cause>
     Ok(Call::ObjectSignalPeer { handle, clear, set })
 }
 
-fn channel_write(alloc: Global, args: &Members<'_>) -> Result<Call, Cause>
+fn channel_write(alloc: Global, args: &Members<'_, '_>) -> Result<Call, Cause>
     ensures { IfOk result (IsCallOf called.ChannelWrite (data_at args.now.value) 0) }
 {
     let handle = args.handle(Member::Handle)?;
@@ -118,7 +118,7 @@ pub(crate) fn too_many_bytes() -> Cause {
     Cause::Member { place, wanted }
 }
 
-fn channel_read(args: &Members<'_>, options: u64) -> Result<Call, Cause>
+fn channel_read(args: &Members<'_, '_>, options: u64) -> Result<Call, Cause>
     ensures { IfOk result (IsCallOf called.ChannelRead (data_at args.now.value) options) }
 {
     let handle = args.handle(Member::Handle)?;
@@ -133,7 +133,7 @@ fn channel_read(args: &Members<'_>, options: u64) -> Result<Call, Cause>
     })
 }
 
-fn object_wait_async(args: &Members<'_>, options: u64) -> Result<Call, Cause>
+fn object_wait_async(args: &Members<'_, '_>, options: u64) -> Result<Call, Cause>
     ensures { IfOk result (IsCallOf called.ObjectWaitAsync (data_at args.now.value) options) }
 {
     let port = args.handle(Member::Port)?;
@@ -150,14 +150,14 @@ fn object_wait_async(args: &Members<'_>, options: u64) -> Result<Call, Cause>
     })
 }
 
-fn port_wait(args: &Members<'_>) -> Result<Call, Cause>
+fn port_wait(args: &Members<'_, '_>) -> Result<Call, Cause>
     ensures { IfOk result (IsCallOf called.PortWait (data_at args.now.value) 0) }
 {
     let port = args.handle(Member::CalledPort)?;
     Ok(Call::PortWait { port })
 }
 
-fn port_cancel(args: &Members<'_>) -> Result<Call, Cause>
+fn port_cancel(args: &Members<'_, '_>) -> Result<Call, Cause>
     ensures { IfOk result (IsCallOf called.PortCancel (data_at args.now.value) 0) }
 {
     let port = args.handle(Member::CalledPort)?;
@@ -167,7 +167,7 @@ fn port_cancel(args: &Members<'_>) -> Result<Call, Cause>
 }
 
 /// The packet is a text of its bytes beside its key, or an object with both.
-fn port_queue(args: &Members<'_>) -> Result<Call, Cause>
+fn port_queue(args: &Members<'_, '_>) -> Result<Call, Cause>
     ensures { IfOk result (IsCallOf called.PortQueue (data_at args.now.value) 0) }
 {
     let port = args.handle(Member::CalledPort)?;
@@ -184,7 +184,7 @@ fn port_queue(args: &Members<'_>) -> Result<Call, Cause>
 }
 
 /// Whether a packet is one of a user, as which it counts where it has no type.
-fn is_user_packet(packet: &Members<'_>) -> Result<(), Cause> {
+fn is_user_packet(packet: &Members<'_, '_>) -> Result<(), Cause> {
     if !packet.has(Member::Type) {
         return Ok(());
     }
@@ -194,14 +194,14 @@ fn is_user_packet(packet: &Members<'_>) -> Result<(), Cause> {
     }
 }
 
-fn job_create(args: &Members<'_>) -> Result<Call, Cause>
+fn job_create(args: &Members<'_, '_>) -> Result<Call, Cause>
     ensures { IfOk result (IsCallOf called.JobCreate (data_at args.now.value) 0) }
 {
     let job = args.handle(Member::ParentJob)?;
     Ok(Call::JobCreate { job })
 }
 
-fn spawn(args: &Members<'_>) -> Result<Call, Cause>
+fn spawn(args: &Members<'_, '_>) -> Result<Call, Cause>
     ensures { IfOk result (IsCallOf called.Spawn (data_at args.now.value) 0) }
 {
     let job = args.handle(Member::Job)?;
@@ -210,7 +210,7 @@ fn spawn(args: &Members<'_>) -> Result<Call, Cause>
 }
 
 /// A process that is started stands as the job of its spawn, until the line that made it tells that.
-fn process_start(args: &Members<'_>) -> Result<Call, Cause>
+fn process_start(args: &Members<'_, '_>) -> Result<Call, Cause>
     ensures { IfOk result (IsCallOf called.ProcessStart (data_at args.now.value) 0) }
 {
     let job = args.handle(Member::StartedProcess)?;
@@ -218,7 +218,7 @@ fn process_start(args: &Members<'_>) -> Result<Call, Cause>
     Ok(Call::Spawn { job, argument })
 }
 
-fn job_set_critical(args: &Members<'_>) -> Result<Call, Cause>
+fn job_set_critical(args: &Members<'_, '_>) -> Result<Call, Cause>
     ensures { IfOk result (IsCallOf called.JobSetCritical (data_at args.now.value) 0) }
 {
     let job = args.handle(Member::Job)?;
@@ -226,14 +226,14 @@ fn job_set_critical(args: &Members<'_>) -> Result<Call, Cause>
     Ok(Call::JobSetCritical { job, process })
 }
 
-fn task_kill(args: &Members<'_>) -> Result<Call, Cause>
+fn task_kill(args: &Members<'_, '_>) -> Result<Call, Cause>
     ensures { IfOk result (IsCallOf called.TaskKill (data_at args.now.value) 0) }
 {
     let handle = args.handle(Member::Task)?;
     Ok(Call::TaskKill { handle })
 }
 
-fn process_exit(args: &Members<'_>) -> Result<Call, Cause>
+fn process_exit(args: &Members<'_, '_>) -> Result<Call, Cause>
     ensures { IfOk result (IsCallOf called.ProcessExit (data_at args.now.value) 0) }
 {
     let code = args.signed(Member::Code)?;

@@ -1,8 +1,8 @@
 //! The members of a JSON object, each as what it has to be.
 
 ghost use Rattle.std.specs.Prelude.{◌≡◌, ◌++◌, ◌∷◌, [], Some, None, IfOk, IfSome, OnOk, is_some, option_and_then};
-ghost use Rattle.serde_json.specs.Find.{as_str};
-ghost use Rattle.serde_json.specs.View.{view};
+ghost use Rattle.json.specs.Find.{as_str};
+ghost use Rattle.json.specs.Value.{value_view};
 ghost use Rattle.zt_logs.specs.Members.{named, field, data_at};
 ghost use Rattle.zt_logs.specs.Numbers.{IsNumber, IsNumberIn, IsNumberOrNone, IsMaskIn, IsSignedIn, flag_of};
 ghost use Rattle.zt_logs.specs.LoggedCalls.{AreBytes, ArePacketBytes, AreHandles};
@@ -16,24 +16,24 @@ use crate::numbers::{narrow_in, number_in, signed_in};
 use crate::places::{LineObject, Member, Place};
 use crate::process_names::{ProcessWord, process_in};
 use hex::{FromHex, FromHexError};
-use serde_json::Value;
+use json::Value;
 use std::alloc::Global;
 use zt_bits::Signals;
 use zt_rows::{HandleValue, Items, MESSAGE_BYTES, MESSAGE_HANDLES};
 
 /// An object of a line, or one within it that is left out.
 #[derive(Clone, Copy)]
-pub(crate) struct Members<'a> {
+pub(crate) struct Members<'a, 'text> {
     object: LineObject,
-    value: Option<&'a Value>,
+    value: Option<&'a Value<'text>>,
 }
 
-impl<'a> Members<'a> {
+impl<'a, 'text> Members<'a, 'text> {
     /// Those of a line.
-    pub(crate) fn of_line(line: &'a Value) -> Result<Members<'a>, Cause>
-        ensures { IfOk result (λ members. data_at members.value ≡ Some (view line.now)) }
+    pub(crate) fn of_line(line: &'a Value<'text>) -> Result<Members<'a, 'text>, Cause>
+        ensures { IfOk result (λ members. data_at members.value ≡ Some (value_view line.now)) }
     {
-        if !line.is_object() {
+        if !is_object(line) {
             return Err(Cause::NoObject);
         }
         Ok(Members {
@@ -43,12 +43,16 @@ impl<'a> Members<'a> {
     }
 
     /// Those of an object within this one, which may be left out.
-    pub(crate) fn object(&self, name: Member, object: LineObject) -> Result<Members<'a>, Cause>
+    pub(crate) fn object(
+        &self,
+        name: Member,
+        object: LineObject,
+    ) -> Result<Members<'a, 'text>, Cause>
         ensures { IfOk result (λ members. data_at members.value ≡ field name (data_at self.now.value)) }
     {
         let value = self.member(name);
         if let Some(value) = value {
-            if !value.is_object() {
+            if !is_object(value) {
                 return Err(self.fault(name, WantedValue::Object));
             }
         }
@@ -65,13 +69,13 @@ impl<'a> Members<'a> {
     /// Whether a member is an object.
     pub(crate) fn has_object(&self, name: Member) -> bool {
         match self.member(name) {
-            Some(value) => value.is_object(),
+            Some(value) => is_object(value),
             None => false,
         }
     }
 
     /// The member by its name, or by its second one.
-    pub(crate) fn member(&self, name: Member) -> Option<&'a Value>
+    pub(crate) fn member(&self, name: Member) -> Option<&'a Value<'text>>
         ensures { data_at result ≡ field name (data_at self.now.value) }
     {
         match self.named(name.name()) {
@@ -81,7 +85,7 @@ impl<'a> Members<'a> {
     }
 
     /// The value of this name, unless it is left out or null.
-    fn named(&self, name: &str) -> Option<&'a Value>
+    fn named(&self, name: &str) -> Option<&'a Value<'text>>
         ensures { data_at result ≡ named name.now (data_at self.now.value) }
     {
         let value = self.value?.get(name)?;
@@ -89,8 +93,8 @@ impl<'a> Members<'a> {
     }
 
     /// A member that may not be left out.
-    fn needed(&self, name: Member) -> Result<&'a Value, Cause>
-        ensures { IfOk result (λ value. field name (data_at self.now.value) ≡ Some (view value.now)) }
+    fn needed(&self, name: Member) -> Result<&'a Value<'text>, Cause>
+        ensures { IfOk result (λ value. field name (data_at self.now.value) ≡ Some (value_view value.now)) }
     {
         match self.member(name) {
             Some(value) => Ok(value),
@@ -115,7 +119,7 @@ impl<'a> Members<'a> {
     }
 
     /// A text.
-    pub(crate) fn text(&self, name: Member) -> Result<&'a str, Cause>
+    pub(crate) fn text(&self, name: Member) -> Result<&'text str, Cause>
         ensures { IfOk result (λ text. option_and_then as_str (field name (data_at self.now.value)) ≡ Some text.now) }
     {
         match self.needed(name)?.as_str() {
@@ -125,7 +129,7 @@ impl<'a> Members<'a> {
     }
 
     /// A process, by its number or its name.
-    pub(crate) fn process(&self, name: Member) -> Result<ProcessWord<'a>, Cause> {
+    pub(crate) fn process(&self, name: Member) -> Result<ProcessWord<'text>, Cause> {
         match process_in(self.needed(name)?) {
             Some(process) => Ok(process),
             None => Err(self.fault(name, WantedValue::Process)),
@@ -133,7 +137,7 @@ impl<'a> Members<'a> {
     }
 
     /// A process, where there is one.
-    pub(crate) fn process_if_any(&self, name: Member) -> Result<Option<ProcessWord<'a>>, Cause> {
+    pub(crate) fn process_if_any(&self, name: Member) -> Result<Option<ProcessWord<'text>>, Cause> {
         if !self.has(name) {
             return Ok(None);
         }
@@ -246,8 +250,8 @@ impl<'a> Members<'a> {
     }
 
     /// The bytes that the value of this name writes.
-    fn bytes_in(&self, alloc: Global, name: Member, value: &Value) -> Result<Vec<u8>, Cause>
-        ensures { IfOk result (λ bytes. AreBytes (Some (view value.now)) bytes.items) }
+    fn bytes_in(&self, alloc: Global, name: Member, value: &Value<'_>) -> Result<Vec<u8>, Cause>
+        ensures { IfOk result (λ bytes. AreBytes (Some (value_view value.now)) bytes.items) }
     {
         let Some(text) = value.as_str() else {
             return Err(self.fault(name, WantedValue::Digits));
@@ -317,7 +321,7 @@ impl<'a> Members<'a> {
         &self,
         alloc: Global,
         name: Member,
-        list: &[Value],
+        list: &[Value<'_>],
     ) -> Result<Vec<HandleValue>, Cause>
         ensures { IfOk result (λ handles. AreReadNumbersOf list.now handles.items) }
     {
@@ -330,8 +334,13 @@ impl<'a> Members<'a> {
     }
 
     /// The handle that this item of a list is, or has.
-    fn read_handle_in(&self, name: Member, item: usize, value: &Value) -> Result<HandleValue, Cause>
-        ensures { IfOk result (IsReadNumber (view value.now)) }
+    fn read_handle_in(
+        &self,
+        name: Member,
+        item: usize,
+        value: &Value<'_>,
+    ) -> Result<HandleValue, Cause>
+        ensures { IfOk result (IsReadNumber (value_view value.now)) }
     {
         match value.get(Member::Handle.name()) {
             Some(handle) => self.handle_in(name, item, handle),
@@ -340,7 +349,7 @@ impl<'a> Members<'a> {
     }
 
     /// A list of what a message can have, which may be left out.
-    pub(crate) fn list(&self, name: Member) -> Result<Option<&'a [Value]>, Cause>
+    pub(crate) fn list(&self, name: Member) -> Result<Option<&'a [Value<'text>]>, Cause>
         ensures { IfOk result (IsListAt (field name (data_at self.now.value))) }
     {
         let list = self.any_list(name)?;
@@ -353,15 +362,15 @@ impl<'a> Members<'a> {
     }
 
     /// A list, which may be left out.
-    fn any_list(&self, name: Member) -> Result<Option<&'a [Value]>, Cause>
+    fn any_list(&self, name: Member) -> Result<Option<&'a [Value<'text>]>, Cause>
         ensures { IfOk result (IsListAt (field name (data_at self.now.value))) }
     {
         let Some(value) = self.member(name) else {
             return Ok(None);
         };
-        match value.as_array() {
-            Some(list) => Ok(Some(list.as_slice())),
-            None => Err(self.fault(name, WantedValue::List)),
+        match value {
+            Value::Array(list) => Ok(Some(list.as_slice())),
+            _ => Err(self.fault(name, WantedValue::List)),
         }
     }
 
@@ -370,11 +379,11 @@ impl<'a> Members<'a> {
         &self,
         name: Member,
         item: usize,
-        value: &'a Value,
-    ) -> Result<Members<'a>, Cause>
-        ensures { IfOk result (λ members. data_at members.value ≡ Some (view value.now)) }
+        value: &'a Value<'text>,
+    ) -> Result<Members<'a, 'text>, Cause>
+        ensures { IfOk result (λ members. data_at members.value ≡ Some (value_view value.now)) }
     {
-        if !value.is_object() {
+        if !is_object(value) {
             let mut place = self.place(name);
             place.item = Some(item);
             let wanted = WantedValue::Object;
@@ -405,7 +414,7 @@ impl<'a> Members<'a> {
         &self,
         alloc: Global,
         name: Member,
-        list: &[Value],
+        list: &[Value<'_>],
     ) -> Result<Vec<HandleValue>, Cause>
         ensures { IfOk result (λ handles. AreNumbersOf list.now handles.items) }
     {
@@ -418,8 +427,8 @@ impl<'a> Members<'a> {
     }
 
     /// The handle that is this item of a list.
-    fn handle_in(&self, name: Member, item: usize, value: &Value) -> Result<HandleValue, Cause>
-        ensures { IfOk result (IsNumber (view value.now)) }
+    fn handle_in(&self, name: Member, item: usize, value: &Value<'_>) -> Result<HandleValue, Cause>
+        ensures { IfOk result (IsNumber (value_view value.now)) }
     {
         match narrow_in(value) {
             Some(number) => Ok(HandleValue(number)),
@@ -433,9 +442,13 @@ impl<'a> Members<'a> {
     }
 }
 
+fn is_object(value: &Value<'_>) -> bool {
+    matches!(value, Value::Object(_))
+}
+
 /// Whether an operation on a handle, by its number or its name, is that of duplicating it.
-fn is_duplicate_in(value: &Value) -> Option<bool>
-    ensures { IfSome result (IsOperation (view value.now)) }
+fn is_duplicate_in(value: &Value<'_>) -> Option<bool>
+    ensures { IfSome result (IsOperation (value_view value.now)) }
 {
     match number_in(value) {
         Some(0) => Some(false),

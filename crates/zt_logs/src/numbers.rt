@@ -2,24 +2,25 @@
 
 ghost use Rattle.std.specs.Prelude.{◌≡◌, ◌+◌, ◌*◌, ◌<◌, ◌≤◌, Some, IfSome};
 ghost use Rattle.std.specs.Char.{digit_value};
-ghost use Rattle.serde_json.specs.View.{view};
-ghost use Rattle.zt_logs.specs.Numbers.{IsWritten, IsNumberText, IsNumber, IsSignedIn};
+ghost use Rattle.json.specs.Value.{value_view};
+ghost use Rattle.zt_logs.specs.Numbers.{IsWritten, IsNumberText, IsNumber, IsSigned, IsSignedIn};
 
-use serde_json::Value;
+use json::Value;
 
 /// A number of 64 bits: one of JSON without a fraction, or a text.
-pub(crate) fn number_in(value: &Value) -> Option<u64>
-    ensures { IfSome result (IsNumber (view value.now)) }
+pub(crate) fn number_in(value: &Value<'_>) -> Option<u64>
+    ensures { IfSome result (IsNumber (value_view value.now)) }
 {
-    match value.as_u64() {
-        Some(number) => Some(number),
-        None => number_of(value.as_str()?),
+    match value {
+        Value::Number(digits) => written(digits.as_bytes(), 10),
+        Value::String(text) => number_of(*text),
+        _ => None,
     }
 }
 
 /// A number of 32 bits.
-pub(crate) fn narrow_in(value: &Value) -> Option<u32>
-    ensures { IfSome result (IsNumber (view value.now)) }
+pub(crate) fn narrow_in(value: &Value<'_>) -> Option<u32>
+    ensures { IfSome result (IsNumber (value_view value.now)) }
 {
     narrow(number_in(value)?)
 }
@@ -31,14 +32,25 @@ pub(crate) fn narrow(number: u64) -> Option<u32>
     u32::try_from(number).ok()
 }
 
-/// A signed number of 64 bits: one of JSON without a fraction, or a text. The digits behind `0x` are those of its 64 bits.
-pub(crate) fn signed_in(value: &Value) -> Option<i64>
-    ensures { IfSome result (λ code. IsSignedIn (Some (view value.now)) code) }
+/// A signed number of 64 bits: one of JSON without a fraction, or a text.
+pub(crate) fn signed_in(value: &Value<'_>) -> Option<i64>
+    ensures { IfSome result (λ code. IsSignedIn (Some (value_view value.now)) code) }
 {
-    match value.as_i64() {
-        Some(number) => Some(number),
-        None => signed_of(value.as_str()?),
+    match value {
+        Value::Number(text) => signed_number(*text),
+        Value::String(text) => signed_of(*text),
+        _ => None,
     }
+}
+
+/// The signed number that a number of JSON is, if it has no fraction. `-0` is none: it is a float.
+fn signed_number(text: &str) -> Option<i64>
+    ensures { IfSome result (IsSigned text.now) }
+{
+    if text == "-0" {
+        return None;
+    }
+    i64::from_str_radix(text, 10).ok()
 }
 
 /// The number that a text writes: `0x` and hexadecimal digits, or decimal ones.
@@ -52,7 +64,7 @@ pub(crate) fn number_of(text: &str) -> Option<u64>
     }
 }
 
-/// The signed number that a text writes.
+/// The signed number that a text writes. The digits behind `0x` are those of its 64 bits.
 fn signed_of(text: &str) -> Option<i64> {
     let bytes = text.as_bytes();
     if let Some(digits) = bytes.strip_prefix(b"0x") {
@@ -67,7 +79,7 @@ fn signed_of(text: &str) -> Option<i64> {
 }
 
 /// The number of 64 bits that digits of a base write.
-fn written(digits: &[u8], base: u32) -> Option<u64>
+pub(crate) fn written(digits: &[u8], base: u32) -> Option<u64>
     requires low { 2 ≤ base }
     requires high { base ≤ 36 }
     ensures { IfSome result (IsWritten base digits.now) }

@@ -29,7 +29,7 @@ pub(crate) fn options_of(
     notes: &mut LogNotes,
     line: u64,
     name: CallName,
-    args: &Members<'_>,
+    args: &Members<'_, '_>,
 ) -> Result<u64, Cause>
     ensures { IfOk result (IsMaskOrNone (field member.Options (data_at args.now.value))) }
 {

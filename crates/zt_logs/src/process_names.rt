@@ -4,9 +4,9 @@ ghost use Rattle.std.specs.Prelude.{◌≡◌, OnOk, map};
 ghost use Rattle.zt_logs.specs.ProofsOnly.ReadLines.{without_process};
 
 use crate::logged::{CallLog, LoggedCall};
-use crate::numbers::number_of;
+use crate::numbers::{number_of, written};
 use crate::skipped::SkippedCall;
-use serde_json::Value;
+use json::Value;
 use std::alloc::{AllocError, Global};
 use std::collections::HashMap;
 
@@ -43,10 +43,10 @@ pub(crate) enum ProcessWord<'a> {
 }
 
 /// The process that a value is: a number, a text that is one, or a name of 1 to 64 bytes.
-pub(crate) fn process_in(value: &Value) -> Option<ProcessWord<'_>> {
+pub(crate) fn process_in<'a>(value: &Value<'a>) -> Option<ProcessWord<'a>> {
     match value {
-        Value::Number(number) => Some(ProcessWord::Number(number.as_u64()?)),
-        Value::String(text) => process_of(text.as_str()),
+        Value::Number(digits) => Some(ProcessWord::Number(written(digits.as_bytes(), 10)?)),
+        Value::String(text) => process_of(*text),
         _ => None,
     }
 }

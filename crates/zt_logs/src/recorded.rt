@@ -17,7 +17,7 @@ use zt_rows::{HandleValue, Items};
 pub(crate) fn recorded_of(
     alloc: Global,
     name: CallName,
-    line: &Members<'_>,
+    line: &Members<'_, '_>,
     naming: &mut Naming,
     call: usize,
 ) -> Result<RecordedReply, Cause>
@@ -64,7 +64,11 @@ pub(crate) fn recorded_of(
 }
 
 /// The process that a call made, where the line has it.
-fn made_process(out: &Members<'_>, naming: &mut Naming, call: usize) -> Result<Option<u64>, Cause> {
+fn made_process(
+    out: &Members<'_, '_>,
+    naming: &mut Naming,
+    call: usize,
+) -> Result<Option<u64>, Cause> {
     match out.process_if_any(Member::Process)? {
         Some(process) => Ok(Some(naming.number(NamedPlace::Made(call), process)?)),
         None => Ok(None),
@@ -75,7 +79,7 @@ fn made_process(out: &Members<'_>, naming: &mut Naming, call: usize) -> Result<O
 fn given_handles(
     alloc: Global,
     name: CallName,
-    out: &Members<'_>,
+    out: &Members<'_, '_>,
 ) -> Result<Vec<HandleValue>, Cause>
     ensures { IfOk result (λ handles. AreGivenBy (field member.Handles (data_at out.now.value)) name (data_at out.now.value) handles.items) }
 {
@@ -122,7 +126,7 @@ fn given_handles(
 }
 
 /// The one handle that a call gave, where the line has it.
-fn only_handle(alloc: Global, out: &Members<'_>) -> Result<Vec<HandleValue>, Cause>
+fn only_handle(alloc: Global, out: &Members<'_, '_>) -> Result<Vec<HandleValue>, Cause>
     ensures { IfOk result (λ handles. IsOnlyGiven (field member.OnlyHandle (data_at out.now.value)) handles.items) }
 {
     named_handle(alloc, out, Member::OnlyHandle)
@@ -130,7 +134,11 @@ fn only_handle(alloc: Global, out: &Members<'_>) -> Result<Vec<HandleValue>, Cau
 
 /// The one handle of this name, where the line has it.
 #[tactic(auto, using(crate::proofs::AnswerLaws::only_none, crate::proofs::AnswerLaws::only_one))]
-fn named_handle(alloc: Global, out: &Members<'_>, name: Member) -> Result<Vec<HandleValue>, Cause>
+fn named_handle(
+    alloc: Global,
+    out: &Members<'_, '_>,
+    name: Member,
+) -> Result<Vec<HandleValue>, Cause>
     ensures { IfOk result (λ handles. IsOnlyGiven (field name (data_at out.now.value)) handles.items) }
 {
     if !out.has(name) {
@@ -160,7 +168,7 @@ fn answered_status(name: CallName, status: Option<Status>) -> Option<Status>
 }
 
 /// The two handles that a call gave, where the line has one of them.
-fn both_handles(alloc: Global, out: &Members<'_>) -> Result<Vec<HandleValue>, Cause>
+fn both_handles(alloc: Global, out: &Members<'_, '_>) -> Result<Vec<HandleValue>, Cause>
     ensures { IfOk result (λ handles. AreBothGiven (field member.FirstHandle (data_at out.now.value)) (field member.SecondHandle (data_at out.now.value)) handles.items) }
 {
     let mut handles = Vec::new(alloc);
@@ -172,7 +180,7 @@ fn both_handles(alloc: Global, out: &Members<'_>) -> Result<Vec<HandleValue>, Ca
 }
 
 /// The packet that a wait got, where the line has it.
-fn packet_of(out: &Members<'_>) -> Result<Option<LoggedPacket>, Cause> {
+fn packet_of(out: &Members<'_, '_>) -> Result<Option<LoggedPacket>, Cause> {
     if !out.has(Member::Packet) {
         return Ok(None);
     }
@@ -189,7 +197,7 @@ fn packet_of(out: &Members<'_>) -> Result<Option<LoggedPacket>, Cause> {
 }
 
 /// What a packet of this key says that a wait saw, in the packet itself or in an object within it.
-fn signal_packet(packet: &Members<'_>, key: u64) -> Result<LoggedPacket, Cause> {
+fn signal_packet(packet: &Members<'_, '_>, key: u64) -> Result<LoggedPacket, Cause> {
     let seen = if packet.has(Member::Signal) {
         packet.object(Member::Signal, LineObject::PacketSignals)?
     } else {
@@ -205,7 +213,7 @@ fn signal_packet(packet: &Members<'_>, key: u64) -> Result<LoggedPacket, Cause> 
 }
 
 /// The status of a line.
-pub(crate) fn status_in(line: &Members<'_>) -> Result<Option<Status>, Cause>
+pub(crate) fn status_in(line: &Members<'_, '_>) -> Result<Option<Status>, Cause>
     ensures { IfOk result (λ status. status ≡ status_in (data_at line.now.value)) }
 {
     Ok(status_of(line.text(Member::Status)?))

@@ -3,8 +3,9 @@
 use crate::members::Members;
 use crate::numbers::narrow_in;
 use crate::places::Member;
-use serde_json::Value;
+use json::Value;
 use std::alloc::{AllocError, Global};
+use std::collections::BTreeMap;
 use zt_rows::HandleValue;
 
 /// A line of a log whose call the semantics does not know.
@@ -22,7 +23,7 @@ pub(crate) fn skipped_of(
     alloc: Global,
     name: &str,
     process: Option<u64>,
-    line: &Members<'_>,
+    line: &Members<'_, '_>,
 ) -> Result<SkippedCall, AllocError> {
     let mut handles = Vec::new(alloc);
     push_named(&mut handles, line.member(Member::Args))?;
@@ -34,17 +35,33 @@ pub(crate) fn skipped_of(
     })
 }
 
-/// The handles in the members of an object.
-fn push_named(handles: &mut Vec<HandleValue>, object: Option<&Value>) -> Result<(), AllocError> {
+/// The handles in the members of an object, in the order of their names. Of members with one name the last counts.
+fn push_named(
+    handles: &mut Vec<HandleValue>,
+    object: Option<&Value<'_>>,
+) -> Result<(), AllocError> {
     let Some(Value::Object(members)) = object else {
         return Ok(());
     };
-    for (name, value) in members {
-        if is_handle_name(name.as_str()) {
-            push_values(handles, value)?;
-        }
+    let named = named_handles(*handles.allocator(), members.as_slice())?;
+    for value in named.values() {
+        push_values(handles, *value)?;
     }
     Ok(())
+}
+
+/// The members whose names are those of handles.
+fn named_handles<'a, 'text>(
+    alloc: Global,
+    members: &'a [(&'text str, Value<'text>)],
+) -> Result<BTreeMap<&'text str, &'a Value<'text>>, AllocError> {
+    let mut named = BTreeMap::new(alloc);
+    for member in members {
+        if is_handle_name(member.0) {
+            named.insert(member.0, &member.1)?;
+        }
+    }
+    Ok(named)
 }
 
 /// Whether what stands under this name are handles.
@@ -53,7 +70,7 @@ fn is_handle_name(name: &str) -> bool {
 }
 
 /// A handle, or each of a list, where an object in it has one as its member `handle`.
-fn push_values(handles: &mut Vec<HandleValue>, value: &Value) -> Result<(), AllocError> {
+fn push_values(handles: &mut Vec<HandleValue>, value: &Value<'_>) -> Result<(), AllocError> {
     let Value::Array(list) = value else {
         return push_value(handles, value);
     };
@@ -67,7 +84,7 @@ fn push_values(handles: &mut Vec<HandleValue>, value: &Value) -> Result<(), Allo
 }
 
 /// The handle that a value is, if it is one. 0 is none.
-fn push_value(handles: &mut Vec<HandleValue>, value: &Value) -> Result<(), AllocError> {
+fn push_value(handles: &mut Vec<HandleValue>, value: &Value<'_>) -> Result<(), AllocError> {
     match narrow_in(value) {
         Some(number) if number != 0 => {
             handles.push(HandleValue(number))?;

@@ -1,10 +1,11 @@
 -- How far a log is read. Used by proofs only.
 use Rattle.std.specs.Prelude.{suc, ◌≡◌, ◌+◌, ◌++◌, ℕ, List, [], ◌∷◌, length, Option, Some, None}
 use Rattle.zt_logs.specs.declared.logged.LoggedCall.{LoggedCall}
-use Rattle.serde_json.specs.View.{view, items_view}
+use Rattle.json.specs.Value.{value_view, items_view}
 use Rattle.zt_logs.specs.declared.json_lines.Parsed.{Parsed}
 use Rattle.zt_logs.specs.declared.json_lines.Parsed.TheVariants as parsed
-use Rattle.serde_json.specs.declared.value.Value.{Value}
+use Rattle.json.specs.declared.value.Value.{Value}
+use Rattle.std.specs.declared.alloc.Global.{Global}
 use Rattle.zt_logs.specs.Lines.{lines_of}
 use Rattle.zt_logs.specs.Numbers.{IsNumber}
 use Rattle.zt_logs.specs.Entries.{Entry, entries_behind, json_of}
@@ -16,39 +17,39 @@ use Rattle.zt_logs.specs.declared.logged.RecordedReply.{RecordedReply}
 use Rattle.zt_bits.specs.declared.statuses.Status.{Status}
 use Rattle.zt_logs.specs.declared.call_names.CallName.{CallName}
 use Rattle.zt_logs.specs.declared.dispositions.Disposition.{Disposition}
-use Rattle.serde_json.specs.Data.{Data}
-use Rattle.serde_json.specs.Find.{as_array}
+use Rattle.json.specs.Json.{Json}
+use Rattle.json.specs.Find.{as_array}
 use denote.Ref.{Bor}
 
 -- numbers that the values of a list are
-abbrev pub AreNumbersOf : List Value → List ℕ → Type 0
+abbrev pub AreNumbersOf : List (Value Global) → List ℕ → Type 0
 AreNumbersOf [] [] = Unit {0}
 AreNumbersOf [] (n ∷ ns) = ⊥
 AreNumbersOf (value ∷ values) [] = ⊥
-AreNumbersOf (value ∷ values) (n ∷ ns) = IsNumber (view value) n × AreNumbersOf values ns
+AreNumbersOf (value ∷ values) (n ∷ ns) = IsNumber (value_view value) n × AreNumbersOf values ns
 
 -- what a line is as JSON
 abbrev pub IsParsed : List ℕ → Parsed → Type 0
-IsParsed line (parsed.Whole value) = json_of line ≡ Some (view value)
+IsParsed line (parsed.Whole value) = json_of line ≡ Some (value_view value)
 IsParsed line parsed.CutOff = json_of line ≡ None
 IsParsed line parsed.Broken = json_of line ≡ None
 
 -- what they are where each is one alone or in an object
-abbrev pub AreReadNumbersOf : List Value → List ℕ → Type 0
+abbrev pub AreReadNumbersOf : List (Value Global) → List ℕ → Type 0
 AreReadNumbersOf [] [] = Unit {0}
 AreReadNumbersOf [] (n ∷ ns) = ⊥
 AreReadNumbersOf (value ∷ values) [] = ⊥
-AreReadNumbersOf (value ∷ values) (n ∷ ns) = IsReadNumber (view value) n × AreReadNumbersOf values ns
+AreReadNumbersOf (value ∷ values) (n ∷ ns) = IsReadNumber (value_view value) n × AreReadNumbersOf values ns
 
 -- handles that are sent
-abbrev pub AreDispositionsOf : List Value → List Disposition → Type 0
+abbrev pub AreDispositionsOf : List (Value Global) → List Disposition → Type 0
 AreDispositionsOf [] [] = Unit {0}
 AreDispositionsOf [] (sent ∷ others) = ⊥
 AreDispositionsOf (value ∷ values) [] = ⊥
-AreDispositionsOf (value ∷ values) (sent ∷ others) = IsDisposition (view value) sent × AreDispositionsOf values others
+AreDispositionsOf (value ∷ values) (sent ∷ others) = IsDisposition (value_view value) sent × AreDispositionsOf values others
 
 -- a list, if there is one
-abbrev pub IsListAt : Option Data → Option (Bor (List Value)) → Type 0
+abbrev pub IsListAt : Option Json → Option (Bor (List (Value Global))) → Type 0
 IsListAt None None = Unit {0}
 IsListAt None (Some list) = ⊥
 IsListAt (Some d) None = ⊥
@@ -67,7 +68,7 @@ pub record ArePartsWith (line : ℕ) (parts : List PartCall) (recorded : Recorde
   pub answered : last.recorded ≡ recorded
 
 -- a read of the answer more, where the call read
-abbrev pub AddsAnswer : Option Status → Option Data → List PartCall → List PartCall → Type 0
+abbrev pub AddsAnswer : Option Status → Option Json → List PartCall → List PartCall → Type 0
 AddsAnswer answered args old new = (reads : List PartCall) × AreAnswerReads (has_read answered) args reads × (new ≡ old ++ reads)
 
 -- the calls before a line, and behind it
@@ -86,7 +87,7 @@ AddsParts line (part ∷ parts) recorded old new =
     (calls : List LoggedCall) × (new ≡ old ++ calls) × ArePartsWith line (part ∷ parts) recorded calls
 
 -- the same of the line of this name behind so many others
-abbrev pub AddsCalls : CallName → ℕ → Option Data → List LoggedCall → List LoggedCall → Type 0
+abbrev pub AddsCalls : CallName → ℕ → Option Json → List LoggedCall → List LoggedCall → Type 0
 AddsCalls name number value old new = (line : List LoggedCall) × (new ≡ old ++ line) × AreCalled number name value line
 
 -- the calls of the lines of a text ahead of what is left of it, of which there are so many
