@@ -8,7 +8,7 @@ from random_log import Answered
 from trials import LIMIT, Trouble, expect, lines_of, run, run_well
 
 LAST = re.compile(
-    r'zxtt-import: (\d+) calls of (\d+) lines, (\d+) skipped, (\d+) adopted, (\d+) pairs by their messages; '
+    r'zxtt-import: (\d+) calls of (\d+) lines, (\d+) skipped, (\d+) adopted, (\d+) pairs by their messages, (\d+) moved; '
     r'(\d+) differences, (\d+) of them by the schedule'
 )
 NOTHING = 4294967292  # the handle of a trace by which nothing is named
@@ -39,12 +39,17 @@ class Import:
         return [line for line in self.told() if re.match(r'line \d+: (no )?moment', line)]
 
     def counts(self):
-        """What the last line counts but for pairs: calls, lines, skipped, adopted, differences, and those by the schedule."""
-        return self.all_counts()[:4] + self.all_counts()[5:]
+        """What the last line counts but for pairs and moved calls: calls, lines, skipped, adopted, differences, and those by the
+        schedule."""
+        return self.all_counts()[:4] + self.all_counts()[6:]
 
     def pairs(self):
         """How many pairs of ends were joined by their messages."""
         return self.all_counts()[4]
+
+    def moved(self):
+        """How many calls were moved ahead of others."""
+        return self.all_counts()[5]
 
     def all_counts(self):
         last = LAST.fullmatch(self.said[-1]) if self.said else None

@@ -2,8 +2,7 @@
 use Rattle.std.proofs.Common.{◌≡◌, ℕ, suc, ◌^◌, ◌≤◌, ◌<◌, List, [], ◌∷◌, ◌++◌, length, take, get_or, Option, Some, None, refl, sym, ◌∙◌, ap, subst, arith}
 use Rattle.std.specs.Prelude.{slice_get}
 use Rattle.std.specs.List.{filter_map, cons_option}
-use Rattle.std.specs.Option.{option_map, option_to_list}
-use Rattle.std.proofs.lemmas.List.{append-nil}
+use Rattle.std.specs.Option.{option_to_list}
 use Rattle.zt_history.specs.Tree.{opening_tree}
 use Rattle.zt_rows.specs.declared.calls.Reply.{Reply}
 use Rattle.zt_logs.specs.declared.logged.LoggedCall.{LoggedCall}
@@ -12,9 +11,10 @@ use Rattle.zt_import.specs.declared.trail.Origin.TheVariants as origin
 use Rattle.zt_import.specs.declared.trail.Difference.{Difference}
 use Rattle.zt_import.specs.declared.trail.TrailStep.{TrailStep}
 use Rattle.zt_import.specs.declared.schedule.AskedCall.{AskedCall}
-use Rattle.zt_import.specs.Trails.{number_in, numbers_in, below, asked_by, asked_at, asked_in, difference_for, difference_by, difference_at, differences_of, answer_at, spawned_in, child_in, pair_of, pair_by, stands_for, IsMadeOf, IsMadeFor, AreMadeBy}
+use Rattle.zt_import.specs.Trails.{number_in, numbers_in, asked_in, difference_for, difference_by, difference_at, differences_of, answer_at, spawned_in, child_in, pair_of, pair_by, stands_for, IsMadeOf, IsMadeFor, AreMadeBy}
 use Rattle.zt_import.specs.Imports.{IsImportOf}
-use Rattle.zt_import.specs.ProofsOnly.TakenCalls.{TakenView, ComparedView, IsOneStepMore, IsAside, IsAdopting, HasRun, Processes, process_in, pairs_in, Knows, Learns, IsComparedAs, ComparesMore, import_of, nothing_compared}
+use Rattle.zt_import.specs.Orders.{IsOrder}
+use Rattle.zt_import.specs.ProofsOnly.TakenCalls.{TakenView, ComparedView, IsOneStepMore, IsAside, IsAdopting, HasRun, IsRunOf, Processes, process_in, pairs_in, Knows, Learns, IsComparedAs, ComparesMore, import_of, nothing_compared}
 use Rattle.zt_import.proofs.ComparedLaws.{compared-none}
 use Rattle.zt_import.proofs.ListLaws.{so-far-none, so-far-next, so-far-all, so-far-few}
 use Rattle.zt_import.proofs.TrailLaws.{filter_map-push, learned-stands}
@@ -26,7 +26,7 @@ step_at number moment = record { origin = origin.Logged number; moment = moment 
 
 -- none was asked before the first
 pub none-run : (calls : List LoggedCall) (old new : TakenView) (before after : Processes) → old ≡ record { tree = opening_tree; trail = [] }
-    → ((number : ℕ) → process_in before number ≡ 0) → IsAdopting old new before after → HasRun calls 0 new after
+    → ((number : ℕ) → process_in before number ≡ 0) → IsAdopting old new before after → HasRun calls [] new after
 none-run calls old new before after opening none adopting =
     let P : TakenView → Type 0 = λ view. AreMadeBy calls view.tree.made [] view.trail in
     let Q : TakenView → Type 0 = λ view. Knows calls view before in
@@ -37,11 +37,11 @@ none-run calls old new before after opening none adopting =
     }
 
 -- and one call more
-pub one-run : (calls : List LoggedCall) (number : ℕ) (logged : LoggedCall) (a b d : TakenView) (before after : Processes) (moment : Option ℕ)
-    → slice_get calls number ≡ Some logged → HasRun calls number a before → IsAside a b → IsOneStepMore b d (step_at number moment)
+pub one-run : (calls : List LoggedCall) (done : List ℕ) (number : ℕ) (logged : LoggedCall) (a b d : TakenView) (before after : Processes) (moment : Option ℕ)
+    → slice_get calls number ≡ Some logged → HasRun calls done a before → IsAside a b → IsOneStepMore b d (step_at number moment)
     → IsMadeOf d.tree.made moment (process_in before logged.process) logged.call → (answer : Option Reply) → answer ≡ answer_at d.tree.made moment
-    → Learns before after (pair_of logged.recorded.process (spawned_in answer)) → HasRun calls (suc number) d after
-one-run calls number logged a b d before after moment found so aside more here answer is learns =
+    → Learns before after (pair_of logged.recorded.process (spawned_in answer)) → HasRun calls (done ++ number ∷ []) d after
+one-run calls done number logged a b d before after moment found so aside more here answer is learns =
     let knows : Knows calls b before = λ n. so.known n ∙ ap (λ pairs. stands_for pairs n) (sym (aside.pairs calls)) in
     let P : ℕ → Type 0 = λ process. IsMadeOf d.tree.made moment process logged.call in
     let pair = pair_of logged.recorded.process (spawned_in answer) in
@@ -92,9 +92,13 @@ compared-all calls view asked k compared whole is so =
     let Q : List AskedCall → Type 0 = λ asked. IsComparedAs (filter_map (difference_at calls view.tree.made asked) view.trail) compared in
     subst Q is (subst P (so-far-all f view.trail k whole) so)
 
-pub imported : (calls : List LoggedCall) (view : TakenView) (processes : Processes) (compared : ComparedView) → HasRun calls (length calls) view processes
+pub run_of : (calls : List LoggedCall) (numbers : List ℕ) (view : TakenView) (processes : Processes) → IsOrder calls numbers
+    → HasRun calls numbers view processes → IsRunOf calls view
+run_of calls numbers view processes order run = record { numbers = subst (IsOrder calls) (sym run.numbers) order; made = run.made }
+
+pub imported : (calls : List LoggedCall) (view : TakenView) (compared : ComparedView) → IsRunOf calls view
     → IsComparedAs (differences_of calls view.tree.made view.trail) compared → IsImportOf calls (import_of view compared)
-imported calls view processes compared run so = record { numbers = run.numbers; told = so.told; count = so.count }
+imported calls view compared run so = record { numbers = run.numbers; told = so.told; count = so.count }
 
 -- the same of views and lists that are these
 pub compared-step : (calls : List LoggedCall) (V T N : TakenView) (asked given : List AskedCall) (counted list : List TrailStep) (k j : ℕ) (step : TrailStep) (old new : ComparedView)
@@ -127,6 +131,7 @@ not-logged (origin.Logged number) other = absurd (other number refl)
 not-logged (origin.Adopted number) other = refl
 not-logged (origin.Process number) other = refl
 not-logged (origin.Handle process handle kind is_told joined others) other = refl
+not-logged (origin.Duplicate process handle first far) other = refl
 not-logged (origin.Outside number) other = refl
 
 module _ (calls : List LoggedCall) (view : TakenView) (asked : List AskedCall) (step : TrailStep) (compared : ComparedView) where
@@ -144,11 +149,3 @@ module _ (calls : List LoggedCall) (view : TakenView) (asked : List AskedCall) (
       → ComparesMore compared compared (option_to_list (difference_at calls view.tree.made asked step))
   missing-compared number is none =
       none-by (Some number) (ap number_in is) (ap (λ found. difference_for view.tree.made asked found number step.moment) none)
-
-pub not-asked : (calls : List LoggedCall) (step : TrailStep) (xs : List AskedCall) (number : ℕ) → step.origin ≡ origin.Logged number
-    → slice_get calls number ≡ None → xs ≡ xs ++ option_to_list (asked_at calls step)
-not-asked calls step xs number is none =
-    let nothing : asked_at calls step ≡ None =
-    ap (λ n. asked_by calls n step.moment) (ap number_in is)
-    ∙ ap (option_map (λ (logged : LoggedCall). let it : AskedCall = record { line = logged.line; moment = step.moment } in it)) none in
-    sym (ap (λ o. xs ++ option_to_list o) nothing ∙ append-nil xs)

@@ -3,6 +3,8 @@ pub mod LoadedLaws
 pub mod TrailLaws
 pub mod ListLaws
 pub mod ImportLaws
+pub mod OrderLaws
+pub mod AskedLaws
 pub mod ComparedLaws
 pub mod TextLaws
 pub mod PartLaws

@@ -1,5 +1,5 @@
 -- A walk over the packets of a port tells whether one of them is the one that is sought.
-use Rattle.std.proofs.Common.{◌≡◌, ℕ, ◌^◌, ◌≤◌, ◌<◌, Bool, true, false, ◌&&◌, Option, Some, None, is_some, refl, sym, ◌∙◌, ap, inl, inr, arith}
+use Rattle.std.proofs.Common.{◌≡◌, ℕ, ◌^◌, ◌<◌, Bool, true, false, Option, Some, None, is_some, refl, sym, ◌∙◌, ap, inl, inr, arith}
 use Rattle.std.specs.Prelude.{◌==◌}
 use Rattle.std.specs.Option.{option_map_or}
 use Rattle.std.proofs.lemmas.Bool.{cases_lt, true≢false, eqb-true, eq-eqb}
@@ -12,7 +12,7 @@ use Rattle.zt_rows.specs.Reads.{packet, as_packet}
 use Rattle.zt_rows.specs.State.{State, row}
 use Rattle.zt_rows.proofs.ReadLaws.{packet-row}
 use Rattle.zt_rows.proofs.RowLaws.{any_row-at, at-any_row, and_left, and_right, and_both, not_true}
-use Rattle.zt_index.specs.Chains.{IsShortOf, IsNext}
+use Rattle.zt_index.specs.Chains.{IsNext}
 use Rattle.zt_index.specs.Criteria.{has_packet}
 use Rattle.zt_logs.specs.declared.logged.LoggedPacket.{LoggedPacket}
 use Rattle.zt_import.specs.Schedule.{holds, is_queued, is_recorded}

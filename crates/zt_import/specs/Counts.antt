@@ -1,5 +1,6 @@
 -- Which steps of a trail are in the trace, as lines of the log or beside them. This project's own.
-use Rattle.std.specs.Prelude.{ℕ, Bool, false, not, ◌&&◌, is_some, List, Option, Some, None, slice_get}
+use Rattle.std.specs.Prelude.{ℕ, ◌+◌, Bool, false, not, ◌&&◌, cond, nat_lt, List, [], ◌∷◌, is_some, Option, Some, None, slice_get}
+use Rattle.std.specs.List.{list_any}
 use Rattle.zt_logs.specs.declared.logged.LoggedCall.{LoggedCall}
 use Rattle.zt_import.specs.declared.trail.Origin.{Origin}
 use Rattle.zt_import.specs.declared.trail.Origin.TheVariants as origin
@@ -32,3 +33,12 @@ is_joined _ = false
 -- they are made by a call of the trace
 abbrev pub is_pair : TrailStep → Bool
 is_pair step = is_joined step.origin && is_some step.moment
+
+-- a call stands ahead of one that is before it in the log
+abbrev pub is_moved : ℕ → List ℕ → Bool
+is_moved number behind = list_any (λ other. nat_lt other number) behind
+
+-- how many of these calls do, by their numbers in the order in which they are run
+abbrev pub moved_in : List ℕ → ℕ
+moved_in [] = 0
+moved_in (number ∷ behind) = cond (is_moved number behind) 1 0 + moved_in behind

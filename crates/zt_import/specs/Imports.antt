@@ -6,7 +6,8 @@ use Rattle.zt_book.specs.Log.{loaded}
 use Rattle.zt_logs.specs.declared.logged.LoggedCall.{LoggedCall}
 use Rattle.zt_import.specs.declared.trail.Difference.{Difference}
 use Rattle.zt_import.specs.declared.trail.TrailStep.{TrailStep}
-use Rattle.zt_import.specs.Trails.{calls_of, numbers_in, moments_in, below, moments_to, differences_of, AreMadeBy}
+use Rattle.zt_import.specs.Orders.{IsOrder}
+use Rattle.zt_import.specs.Trails.{calls_of, numbers_in, moments_in, moments_to, differences_of, AreMadeBy}
 
 pub record Import : Type 0 where
   pub tree : Tree
@@ -24,9 +25,9 @@ pub record Loads (it : Import) : Type 0 where
   pub loads : loaded (calls_of it.tree.made) ≡ Ok it.tree
   pub moments : moments_in it.trail ≡ moments_to (length it.tree.made)
 
--- the calls of a log are steps in their order; all of them that differ are counted, and the first hundred told
+-- the calls of a log are steps, in an order in which they may be run; all of them that differ are counted, and the first hundred told
 pub record IsImportOf (calls : List LoggedCall) (it : Import) : Type 0 where
-  pub numbers : numbers_in it.trail ≡ below (length calls)
+  pub numbers : IsOrder calls (numbers_in it.trail)
   pub told : it.told ≡ take 100 (differences_of calls it.tree.made it.trail)
   pub count : it.count ≡ length (differences_of calls it.tree.made it.trail)
 

@@ -3,6 +3,7 @@ pub mod Comparison
 pub mod Schedule
 pub mod Parts
 pub mod Trails
+pub mod Orders
 pub mod Counts
 pub mod Imports
 -- Used by proofs only: no public clause depends on them.

@@ -1,5 +1,5 @@
 -- Lines of a log that are several calls: which call ends one, and whose answer is that of the line. This project's own.
-use Rattle.std.specs.Prelude.{ℕ, suc, ◌-◌, Bool, true, false, not, ◌&&◌, nat_lt, List, [], ◌∷◌, take, drop, Option, Some, None, if◌then◌else◌, ◌==◌}
+use Rattle.std.specs.Prelude.{ℕ, suc, ◌-◌, Bool, false, not, ◌&&◌, nat_lt, List, [], ◌∷◌, take, drop, Option, Some, None, if◌then◌else◌, ◌==◌}
 use Rattle.zt_rows.specs.declared.calls.Reply.{Reply}
 use Rattle.zt_history.specs.Tree.{Made, reply_at}
 use Rattle.zt_logs.specs.declared.line_parts.LinePart.{LinePart}

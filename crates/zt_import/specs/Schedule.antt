@@ -67,30 +67,34 @@ around number asked = take 1025 (drop (number - 512) asked)
 
 -- ---- what a wait could have met
 
--- what has to be near: a packet in the port's queue before or behind, or, for a wait that timed out, no packet in it before
-abbrev pub is_met_at : List Made → ℕ → ℕ → Sought → ℕ → Option ℕ → Bool
-is_met_at made port line (sought.Queued recorded) other (Some moment) = is_near line other && holds (state_at made moment) port recorded
-is_met_at made port line sought.Empty other (Some moment) = is_shortly_before line other && not (holds (state_at made moment) port None)
-is_met_at made port line it other None = false
+-- what has to be near: a packet in the port's queue before or behind, or, for a wait that timed out, no packet in it before, by the
+-- lines and by the moments
+abbrev pub is_met_at : List Made → ℕ → ℕ → ℕ → Sought → ℕ → Option ℕ → Bool
+is_met_at made port line waited (sought.Queued recorded) other (Some moment) =
+    is_near line other && holds (state_at made moment) port recorded
+is_met_at made port line waited sought.Empty other (Some moment) =
+    (is_shortly_before line other && nat_lt moment waited) && not (holds (state_at made moment) port None)
+is_met_at made port line waited it other None = false
 
-abbrev pub is_met_by : List Made → ℕ → ℕ → Sought → AskedCall → Bool
-is_met_by made port line it asked = is_met_at made port line it asked.line asked.moment
+abbrev pub is_met_by : List Made → ℕ → ℕ → ℕ → Sought → AskedCall → Bool
+is_met_by made port line waited it asked = is_met_at made port line waited it asked.line asked.moment
 
 -- some call of the list has made a moment at which it is so
-abbrev pub is_met : List Made → ℕ → ℕ → Sought → List AskedCall → Bool
-is_met made port line it asked = list_any (is_met_by made port line it) asked
+abbrev pub is_met : List Made → ℕ → ℕ → ℕ → Sought → List AskedCall → Bool
+is_met made port line waited it asked = list_any (is_met_by made port line waited it) asked
 
 -- what a wait with this status in the log looks for, and with this packet, if the log tells one
 abbrev pub sought_for : Option Status → Option LoggedPacket → Sought
 sought_for (Some status.TimedOut) recorded = sought.Empty
 sought_for _ recorded = sought.Queued recorded
 
-abbrev pub is_met_on : List Made → Option ℕ → LoggedCall → List AskedCall → Bool
-is_met_on made None logged asked = false
-is_met_on made (Some port) logged asked = is_met made port logged.line (sought_for logged.recorded.status logged.recorded.packet) asked
+abbrev pub is_met_on : List Made → Option ℕ → LoggedCall → ℕ → List AskedCall → Bool
+is_met_on made None logged waited asked = false
+is_met_on made (Some port) logged waited asked =
+    is_met made port logged.line waited (sought_for logged.recorded.status logged.recorded.packet) asked
 
 -- what the call of this number, which made this moment, differs in is what a schedule can do
 abbrev pub by_schedule : List Made → List AskedCall → LoggedCall → ℕ → Option ℕ → Bool
 by_schedule made asked logged number None = false
 by_schedule made asked logged number (Some moment) =
-    may_be_scheduled logged (reply_at made moment) && is_met_on made (port_at made moment) logged (around number asked)
+    may_be_scheduled logged (reply_at made moment) && is_met_on made (port_at made moment) logged moment (around number asked)

@@ -1,6 +1,6 @@
 -- The calls that were asked of a history for a log, and those of them whose replies differ from what the log has. This
 -- project's own.
-use Rattle.std.specs.Prelude.{◌≡◌, ◌==◌, ℕ, ⊤, zero, suc, List, [], ◌∷◌, ◌++◌, map, length, Option, Some, None, slice_get, if◌then◌else◌}
+use Rattle.std.specs.Prelude.{◌≡◌, ◌==◌, ℕ, ⊤, zero, suc, List, [], ◌∷◌, ◌++◌, map, length, Option, Some, None, slice_get, slice_set, if◌then◌else◌}
 use Rattle.std.specs.List.{filter_map, cons_option}
 use Rattle.std.specs.Option.{option_map}
 use Rattle.zt_rows.specs.declared.calls.Call.{Call}
@@ -49,17 +49,30 @@ moments_to (suc n) = moments_to n ++ suc n ∷ []
 
 -- ---- the calls of the log among the steps
 
--- the call of this number, with its line, asked at this moment
-abbrev pub asked_by : List LoggedCall → Option ℕ → Option ℕ → Option AskedCall
-asked_by calls None moment = None
-asked_by calls (Some number) moment = option_map (λ logged. record { line = logged.line; moment = moment }) (slice_get calls number)
+-- a call with its line, before it is asked
+abbrev pub not_asked : LoggedCall → AskedCall
+not_asked logged = record { line = logged.line; moment = None }
 
-abbrev pub asked_at : List LoggedCall → TrailStep → Option AskedCall
-asked_at calls step = asked_by calls (number_in step.origin) step.moment
+-- the call of this number, if there is one, was asked at this moment
+abbrev pub put_call : List AskedCall → ℕ → Option LoggedCall → Option ℕ → List AskedCall
+put_call asked number None moment = asked
+put_call asked number (Some logged) moment = slice_set asked number (record { line = logged.line; moment = moment })
 
--- in their order, so that the call of each number stands at its place
+abbrev pub put_number : List LoggedCall → List AskedCall → Option ℕ → Option ℕ → List AskedCall
+put_number calls asked None moment = asked
+put_number calls asked (Some number) moment = put_call asked number (slice_get calls number) moment
+
+-- so was that of a step, if it is one of the log
+abbrev pub put_asked : List LoggedCall → List AskedCall → TrailStep → List AskedCall
+put_asked calls asked step = put_number calls asked (number_in step.origin) step.moment
+
+abbrev pub asked_after : List LoggedCall → List AskedCall → List TrailStep → List AskedCall
+asked_after calls asked [] = asked
+asked_after calls asked (step ∷ trail) = asked_after calls (put_asked calls asked step) trail
+
+-- all calls of the log, each at its own place, in whichever order they were asked
 abbrev pub asked_in : List LoggedCall → List TrailStep → List AskedCall
-asked_in calls trail = filter_map (asked_at calls) trail
+asked_in calls trail = asked_after calls (map not_asked calls) trail
 
 -- ---- differences
 

@@ -2,11 +2,11 @@ ghost use Rattle.std.specs.Prelude.{◌≡◌, true, OnOk};
 ghost use Rattle.zt_import.specs.ProofsOnly.TakenCalls.{IsAdopting, IsAside, is_beside};
 
 use crate::numbers::{NO_HANDLE, Numbers};
-use crate::plan::{AdoptedProcess, OutsideContent, OutsideMessage, Plan};
+use crate::plan::{AdoptedHandle, AdoptedProcess, OutsideContent, OutsideMessage, Plan};
 use crate::taken::Taken;
 use crate::trail::Origin;
 use std::alloc::{AllocError, Global};
-use std::collections::HashMap;
+use std::collections::{HashMap, VecDeque};
 use zt_bits::Kind;
 use zt_logs::{Cause, LoggedCall};
 use zt_rows::{Call, FIRST_HANDLE, HandleValue, MESSAGE_HANDLES, Parcel, ROOT_PROCESS, Reply};
@@ -19,6 +19,8 @@ pub(crate) struct Adoption {
     ends: HashMap<usize, HandleValue>,
     /// The other ends of ends whose peers the log does not have, by the objects of those.
     others: HashMap<usize, HandleValue>,
+    /// Duplicates that are not yet sent, by their objects.
+    duplicates: HashMap<usize, VecDeque<HandleValue>>,
     kinds: MadeKinds,
 }
 
@@ -69,6 +71,7 @@ impl Adoption {
             alloc,
             ends: HashMap::new(alloc),
             others: HashMap::new(alloc),
+            duplicates: HashMap::new(alloc),
             kinds: MadeKinds::none(),
         }
     }
@@ -105,7 +108,7 @@ impl Adoption {
             argument: far,
         };
         adopt_process(taken, numbers, number, &spawn)?;
-        for batch in process.objects.as_slice().chunks(MESSAGE_HANDLES) {
+        for batch in process.handles.as_slice().chunks(MESSAGE_HANDLES) {
             self.give(taken, numbers, plan, number, near, batch)?;
         }
         Ok(())
@@ -119,11 +122,11 @@ impl Adoption {
         plan: &Plan,
         process: u64,
         near: HandleValue,
-        objects: &[usize],
+        adopted: &[AdoptedHandle],
     ) -> Result<(), Cause>
         ensures { OnOk result (IsAdopting taken.old taken.new numbers.old.processes numbers.new.processes) }
     {
-        let handles = self.made(taken, plan, objects)?;
+        let handles = self.made(taken, plan, adopted)?;
         let bytes = Vec::new(self.alloc);
         write(taken, Origin::Process(process), near, bytes, handles)?;
         let read = Call::ChannelRead {
@@ -134,7 +137,7 @@ impl Adoption {
         };
         let reader = numbers.process(process);
         let moment = taken.ask_aside(Origin::Process(process), reader, &read)?;
-        name_read(numbers, plan, objects, taken.reply(&moment))?;
+        name_read(numbers, adopted, taken.reply(&moment))?;
         Ok(())
     }
 
@@ -143,27 +146,87 @@ impl Adoption {
         &mut self,
         taken: &mut Taken,
         plan: &Plan,
-        objects: &[usize],
+        adopted: &[AdoptedHandle],
     ) -> Result<Vec<HandleValue>, Cause>
         ensures { OnOk result (IsAside taken.old taken.new) }
     {
         let mut handles = Vec::new(self.alloc);
-        for object in objects {
-            let handle = self.make(taken, plan, *object)?;
+        for object in adopted {
+            let handle = self.handle_to(taken, plan, object.object)?;
             push_handle(&mut handles, handle)?;
         }
         Ok(handles)
+    }
+
+    /// Makes an object, unless it was made before and has a duplicate that is left. Gives the root process's handle to it.
+    fn handle_to(
+        &mut self,
+        taken: &mut Taken,
+        plan: &Plan,
+        object: usize,
+    ) -> Result<HandleValue, Cause>
+        ensures { OnOk result (IsAside taken.old taken.new) }
+    {
+        if let Some(handle) = self.take_duplicate(object) {
+            return Ok(handle);
+        }
+        let handle = self.make(taken, plan, object)?;
+        self.duplicate(taken, plan, object, handle)?;
+        Ok(handle)
+    }
+
+    /// A duplicate of an object that is left.
+    fn take_duplicate(&mut self, object: usize) -> Option<HandleValue> {
+        self.duplicates.get_mut(&object)?.pop_front()
+    }
+
+    /// Makes a duplicate for each handle more that the log has of an object. Of an end of a channel there are none.
+    fn duplicate(
+        &mut self,
+        taken: &mut Taken,
+        plan: &Plan,
+        object: usize,
+        handle: HandleValue,
+    ) -> Result<(), Cause>
+        ensures { OnOk result (IsAside taken.old taken.new) }
+    {
+        let mut made = VecDeque::new(self.alloc);
+        let (kind, _) = plan.kind(object);
+        if kind == Kind::Channel {
+            return Ok(());
+        }
+        for again in plan.objects.again(object) {
+            let call = Call::HandleDuplicate {
+                handle,
+                rights: SAME_RIGHTS,
+            };
+            let one = ask_one(taken, duplicate_origin(plan, object, *again), &call)?;
+            push_duplicate(&mut made, one)?;
+        }
+        self.keep_duplicates(object, made)?;
+        Ok(())
+    }
+
+    fn keep_duplicates(
+        &mut self,
+        object: usize,
+        made: VecDeque<HandleValue>,
+    ) -> Result<(), AllocError> {
+        if !made.is_empty() {
+            self.duplicates.insert(object, made)?;
+        }
+        Ok(())
     }
 
     /// Makes an object. Gives the root process's handle to it.
     fn make(&mut self, taken: &mut Taken, plan: &Plan, object: usize) -> Result<HandleValue, Cause>
         ensures { OnOk result (IsAside taken.old taken.new) }
     {
-        let (kind, is_told) = plan.objects.kind(object);
+        let (kind, is_told) = plan.kind(object);
         let others = self.kinds.add(kind);
         let origin = origin_of(plan, object, kind, is_told, others);
         match kind {
-            Kind::Channel => self.make_end(taken, plan, object, origin),
+            Kind::Channel => self.make_end(taken, plan, object, origin, &Call::ChannelCreate),
             Kind::Port => ask_one(taken, origin, &Call::PortCreate),
             Kind::Job => {
                 let call = Call::JobCreate { job: FIRST_HANDLE };
@@ -176,18 +239,21 @@ impl Adoption {
                 };
                 ask_one(taken, origin, &call)
             }
-            Kind::EventPair => Ok(ask_two(taken, origin, &Call::EventPairCreate)?.0),
+            Kind::EventPair => {
+                self.make_end(taken, plan, object, origin, &Call::EventPairCreate)
+            }
             Kind::Event => ask_one(taken, origin, &Call::EventCreate),
         }
     }
 
-    /// Makes an end of a channel, unless it was made with its peer.
+    /// Makes an end of a channel or an event pair by this call, unless it was made with its peer.
     fn make_end(
         &mut self,
         taken: &mut Taken,
         plan: &Plan,
         object: usize,
         origin: Origin,
+        call: &Call,
     ) -> Result<HandleValue, Cause>
         requires { is_beside origin ≡ true }
         ensures { OnOk result (IsAside taken.old taken.new) }
@@ -195,7 +261,7 @@ impl Adoption {
         if let Some(handle) = self.ends.get(&object).copied() {
             return Ok(handle);
         }
-        let (end, other) = ask_two(taken, origin, &Call::ChannelCreate)?;
+        let (end, other) = ask_two(taken, origin, call)?;
         match joined_peer(plan, object) {
             Some(peer) => self.keep_end(peer, other)?,
             None => self.keep_other(object, other)?,
@@ -229,7 +295,7 @@ impl Adoption {
         match self.others.get(&message.end).copied() {
             Some(other) => {
                 let bytes = bytes_of(self.alloc, calls, message)?;
-                let handles = self.made(taken, plan, message.objects.as_slice())?;
+                let handles = self.made(taken, plan, message.handles.as_slice())?;
                 write(taken, Origin::Outside(index), other, bytes, handles)
             }
             None => Ok(()),
@@ -291,6 +357,30 @@ fn origin_of(plan: &Plan, object: usize, kind: Kind, is_told: bool, others: u64)
     }
 }
 
+/// All rights that a handle has.
+const SAME_RIGHTS: u32 = 0x8000_0000;
+
+/// How the call that makes a duplicate is told of.
+fn duplicate_origin(plan: &Plan, object: usize, again: (u64, HandleValue)) -> Origin
+    ensures { is_beside result ≡ true }
+{
+    let (process, handle) = again;
+    match plan.objects.adopted(object) {
+        Some((first_process, first_handle)) => Origin::Duplicate {
+            process,
+            handle,
+            first_process,
+            first_handle,
+        },
+        None => Origin::Process(process),
+    }
+}
+
+fn push_duplicate(made: &mut VecDeque<HandleValue>, handle: HandleValue) -> Result<(), AllocError> {
+    made.push_back(handle)?;
+    Ok(())
+}
+
 /// The other end of a channel that is made with this one, if it is one of the log.
 fn joined_peer(plan: &Plan, object: usize) -> Option<usize> {
     if plan.joined.contains_key(&object) {
@@ -320,34 +410,31 @@ fn write(
     }
 }
 
-/// The handles that were read name these objects.
+/// The handles that were read stand for these.
 fn name_read(
     numbers: &mut Numbers,
-    plan: &Plan,
-    objects: &[usize],
+    adopted: &[AdoptedHandle],
     reply: Option<&Reply>,
 ) -> Result<(), AllocError>
     ensures { OnOk result (numbers.new.processes ≡ numbers.old.processes) }
 {
     match reply {
-        Some(Reply::Message(_, values)) => name_all(numbers, plan, objects, values.as_slice()),
+        Some(Reply::Message(_, values)) => name_all(numbers, adopted, values.as_slice()),
         _ => Ok(()),
     }
 }
 
-/// These handles name these objects.
+/// These handles stand for these of the log.
 fn name_all(
     numbers: &mut Numbers,
-    plan: &Plan,
-    objects: &[usize],
+    adopted: &[AdoptedHandle],
     values: &[HandleValue],
 ) -> Result<(), AllocError>
     ensures { OnOk result (numbers.new.processes ≡ numbers.old.processes) }
 {
-    for place in 0..objects.len().min(values.len()) {
-        if let Some((process, handle)) = plan.objects.adopted(objects[place]) {
-            numbers.set_handle(process, handle, values[place])?;
-        }
+    for place in 0..adopted.len().min(values.len()) {
+        let named = adopted[place];
+        numbers.set_handle(named.process, named.handle, values[place])?;
     }
     Ok(())
 }

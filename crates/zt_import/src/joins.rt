@@ -1,5 +1,6 @@
 //! Which ends of channels that come from nowhere are the two of one channel, by all that was read and written at them.
 
+use crate::arranged::Arranged;
 use crate::plan::Plan;
 use crate::seen_objects::{Reading, SeenObjects};
 use crate::trail::JoinedEnd;
@@ -78,6 +79,13 @@ impl Partners {
         }
     }
 
+    /// Of an end this one is the other, or none.
+    fn set(&mut self, end: usize, partner: Partner) {
+        if let Some(known) = self.partners.get_mut(end) {
+            *known = partner;
+        }
+    }
+
     fn at(&self, end: usize) -> Partner {
         match self.partners.get(end) {
             Some(partner) => *partner,
@@ -103,12 +111,25 @@ impl Plan {
         &self,
         alloc: Global,
         calls: &[LoggedCall],
+        order: &Arranged,
     ) -> Result<Partners, AllocError> {
         let mut partners = Partners::new(alloc, self.objects.count())?;
         for end in 0..self.objects.count() {
-            self.add_partners(&mut partners, calls, end)?;
+            self.add_partners(&mut partners, calls, order, end)?;
         }
+        self.set_told(&mut partners);
         Ok(partners)
+    }
+
+    /// Where the log tells the peer of an end by its koid, that alone is it.
+    fn set_told(&self, partners: &mut Partners) {
+        for end in 0..self.objects.count() {
+            match self.koids.joined(end) {
+                Some(other) => partners.set(end, Partner::One(other)),
+                None if self.koids.tells_peer(end) => partners.set(end, Partner::Nobody),
+                None => {}
+            }
+        }
     }
 
     /// Compares an end with those at which the first message was written that is the first to be read here. Behind the second
@@ -117,6 +138,7 @@ impl Plan {
         &self,
         partners: &mut Partners,
         calls: &[LoggedCall],
+        order: &Arranged,
         end: usize,
     ) -> Result<(), AllocError> {
         let Some(read) = self.first_read(calls, end) else {
@@ -125,7 +147,7 @@ impl Plan {
         let mut found = 0usize;
         for other in self.writers_of(read)? {
             let other = *other;
-            if found > 1 || self.would_do(calls, end, other) {
+            if found > 1 || self.would_do(calls, order, end, other) {
                 partners.add(end, other);
                 found = found.saturating_add(1);
             }
@@ -155,11 +177,11 @@ impl Plan {
     }
 
     /// Whether two ends would do as those of one channel: what was read at each was written at the other, in order.
-    fn would_do(&self, calls: &[LoggedCall], one: usize, other: usize) -> bool {
+    fn would_do(&self, calls: &[LoggedCall], order: &Arranged, one: usize, other: usize) -> bool {
         one != other
             && self.may_be_joined(calls, other)
-            && follows(&self.objects, calls, one, other)
-            && follows(&self.objects, calls, other, one)
+            && follows(&self.objects, calls, order, one, other)
+            && follows(&self.objects, calls, order, other, one)
     }
 
     /// Whether the ends that are joined are just those that have no third.
@@ -170,6 +192,52 @@ impl Plan {
             }
         }
         true
+    }
+
+    /// Moves the writes at the ends of channels whose others are known ahead of the reads of what they wrote. Tells whether one was
+    /// moved.
+    pub(crate) fn move_writes(
+        &self,
+        calls: &[LoggedCall],
+        order: &mut Arranged,
+        partners: &Partners,
+    ) -> Result<bool, AllocError> {
+        let before = order.moves().len();
+        for end in 0..self.objects.count() {
+            if let Some(other) = self.other_end(partners, end) {
+                self.move_writes_at(calls, order, end, other)?;
+            }
+        }
+        Ok(order.moves().len() > before)
+    }
+
+    /// The end of the same channel, where the log made that, or it is joined.
+    fn other_end(&self, partners: &Partners, end: usize) -> Option<usize> {
+        match self.objects.adopted(end) {
+            Some(_) => partners.of(end),
+            None => self.objects.peer(end),
+        }
+    }
+
+    /// The same of the reads at one end. Each is of the next message that was written and is the same.
+    fn move_writes_at(
+        &self,
+        calls: &[LoggedCall],
+        order: &mut Arranged,
+        reader: usize,
+        writer: usize,
+    ) -> Result<(), AllocError> {
+        let written = self.objects.written(writer);
+        let mut next = 0usize;
+        for reading in self.objects.read(reader) {
+            if let Some((place, write)) = next_same(calls, written, next, *reading) {
+                let from = order.place_of(write);
+                let to = order.place_of(reading.call());
+                let _is_moved = order.move_line(calls, from, to)?;
+                next = place.saturating_add(1);
+            }
+        }
+        Ok(())
     }
 
     /// What each end is joined by that is one of a channel, as its other end is.
@@ -194,6 +262,15 @@ impl Plan {
         if self.objects.adopted(end).is_none() || !self.are_channels(end, other) {
             return None;
         }
+        if self.koids.joined(end).is_some() {
+            return Some(JoinedEnd {
+                process,
+                handle,
+                messages: 0,
+                written: 0,
+                read: 0,
+            });
+        }
         let (written, read) = self.first_message(end, other)?;
         let here = messages_in(self.objects.read(end));
         let there = messages_in(self.objects.read(other));
@@ -207,7 +284,9 @@ impl Plan {
     }
 
     fn are_channels(&self, end: usize, other: usize) -> bool {
-        self.objects.kind(end).0 == Kind::Channel && self.objects.kind(other).0 == Kind::Channel
+        let (one, _) = self.kind(end);
+        let (two, _) = self.kind(other);
+        one == two && matches!(one, Kind::Channel | Kind::EventPair)
     }
 
     /// Which call wrote the message that was the first to be read at one of two ends, and which read it.
@@ -267,7 +346,7 @@ fn messages_in(read: &[Reading]) -> usize {
 }
 
 /// The line of a call; 0, where there is none of this number.
-fn line_of(calls: &[LoggedCall], call: usize) -> u64 {
+pub(crate) fn line_of(calls: &[LoggedCall], call: usize) -> u64 {
     match calls.get(call) {
         Some(logged) => logged.line,
         None => 0,
@@ -286,11 +365,17 @@ fn insert_join(
 }
 
 /// Whether each message that was read at an end, or discarded there, was written at the other before, in order.
-fn follows(objects: &SeenObjects, calls: &[LoggedCall], reader: usize, writer: usize) -> bool {
+fn follows(
+    objects: &SeenObjects,
+    calls: &[LoggedCall],
+    order: &Arranged,
+    reader: usize,
+    writer: usize,
+) -> bool {
     let written = objects.written(writer);
     for (place, reading) in objects.read(reader).iter().enumerate() {
         match written.get(place) {
-            Some(write) if is_message(calls, *write, *reading) => {}
+            Some(write) if is_message(calls, order, *write, *reading) => {}
             _ => return false,
         }
     }
@@ -298,11 +383,42 @@ fn follows(objects: &SeenObjects, calls: &[LoggedCall], reader: usize, writer: u
 }
 
 /// Whether what a call wrote is what was read, or can have been discarded.
-fn is_message(calls: &[LoggedCall], write: usize, reading: Reading) -> bool {
+fn is_message(calls: &[LoggedCall], order: &Arranged, write: usize, reading: Reading) -> bool {
     match reading {
-        Reading::Discarded(read) => write < read,
-        Reading::Message(read) => write < read && is_same(calls.get(write), calls.get(read)),
+        Reading::Discarded(read) => is_ahead(calls, order, write, read),
+        Reading::Message(read) => {
+            is_same(calls.get(write), calls.get(read)) && is_ahead(calls, order, write, read)
+        }
     }
+}
+
+/// How many messages are looked at for the one that a call read.
+const WRITES: usize = 8;
+
+/// The next write of the message that a call read, or discarded, with its place.
+fn next_same(
+    calls: &[LoggedCall],
+    written: &[usize],
+    next: usize,
+    reading: Reading,
+) -> Option<(usize, usize)> {
+    for place in next..written.len().min(next.saturating_add(WRITES)) {
+        let write = written[place];
+        let is_found = match reading {
+            Reading::Discarded(_) => true,
+            Reading::Message(read) => is_same(calls.get(write), calls.get(read)),
+        };
+        if is_found {
+            return Some((place, write));
+        }
+    }
+    None
+}
+
+/// Whether a call stands ahead of another in an order, or may be moved there.
+fn is_ahead(calls: &[LoggedCall], order: &Arranged, one: usize, other: usize) -> bool {
+    order.precedes(one, other)
+        || order.can_move_line(calls, order.place_of(one), order.place_of(other))
 }
 
 /// Whether a read has the bytes of what was written, as far as the log tells them, and as many handles.

@@ -3,14 +3,20 @@
 #![tactic(auto)]
 
 mod adoption;
+mod arranged;
+mod causes;
 mod compared;
 mod comparison;
 mod difference_lines;
 mod differences;
+mod evidence;
 mod first_messages;
 mod joins;
 mod kind_signs;
+mod look;
+mod moved;
 mod numbers;
+mod order;
 mod origin_lines;
 mod parts;
 mod plan;
@@ -18,18 +24,21 @@ mod port_queue;
 mod requests;
 mod run_log;
 mod schedule;
+mod scratch;
 mod seen_objects;
 mod session_lines;
 mod skipped_names;
 mod stand_ins;
 mod started;
 mod taken;
+mod told_koids;
 mod trail;
 mod trail_counts;
 mod used_handles;
 
 pub use compared::TOLD;
 pub use difference_lines::print_difference;
+pub use moved::moved_in;
 pub use requests::place_requests;
 pub use run_log::{Imported, import};
 pub use session_lines::trace_text;

@@ -124,6 +124,18 @@ impl Numbers {
         }
     }
 
+    /// No call of a line gave a handle for its message from here on.
+    pub(crate) fn forget_copies(&mut self)
+        ensures { self.new.processes ≡ self.old.processes }
+    {
+        self.copies = HashMap::new(self.alloc);
+    }
+
+    /// Whether a call of a line gave a handle for its message that is not yet written.
+    pub(crate) fn has_copies(&self) -> bool {
+        !self.copies.is_empty()
+    }
+
     fn keep_copy(&mut self, place: usize, value: HandleValue) -> Result<(), AllocError>
         ensures { self.new.processes ≡ self.old.processes }
     {

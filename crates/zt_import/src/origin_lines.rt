@@ -1,20 +1,40 @@
 use crate::trail::{JoinedEnd, Origin};
 use crate::used_handles::handles_in;
+use itoa::Buffer;
 use std::alloc::{AllocError, Global};
 use zt_bits::Kind;
 use zt_logs::{CallLog, LineForm, LinePart, LoggedCall};
 use zt_rows::HandleValue;
 use zt_text::put_mask;
 
-/// Where a call comes from, in the numbers of the log, as it stands behind the `#` of a line that is skipped.
+/// The room that most lines need, so that one is written without asking for more.
+const USUAL_BYTES: usize = 120;
+
+/// Where a call comes from, in the numbers of the log, and ahead of which call it is moved, as it stands behind the `#` of a line that is skipped.
 pub(crate) fn origin_line(
     alloc: Global,
     log: &CallLog,
     origin: Origin,
+    ahead: Option<usize>,
 ) -> Result<String, AllocError> {
-    let mut text = String::new(alloc);
+    let mut text = String::with_capacity(alloc, USUAL_BYTES)?;
     put_origin(&mut text, log, origin)?;
+    put_ahead(&mut text, log, ahead)?;
     Ok(text)
+}
+
+/// That a call is moved ahead of another one, where it is.
+fn put_ahead(text: &mut String, log: &CallLog, ahead: Option<usize>) -> Result<(), AllocError> {
+    match ahead {
+        Some(index) => match log.calls.get(index) {
+            Some(logged) => {
+                text.push_str("; moved ahead of line ")?;
+                put_number(text, logged.line)
+            }
+            None => Ok(()),
+        },
+        None => Ok(()),
+    }
 }
 
 fn put_origin(text: &mut String, log: &CallLog, origin: Origin) -> Result<(), AllocError> {
@@ -39,9 +59,26 @@ fn put_origin(text: &mut String, log: &CallLog, origin: Origin) -> Result<(), Al
             put_others(text, others)?;
             put_joined(text, log, joined)
         }
+        Origin::Duplicate {
+            process,
+            handle,
+            first_process,
+            first_handle,
+        } => {
+            text.push_str(" adopted: ")?;
+            put_process(text, log, process)?;
+            text.push_str(", handle ")?;
+            put_mask(text, handle.0)?;
+            text.push_str(", of the object of handle ")?;
+            put_mask(text, first_handle.0)?;
+            text.push_str(" of ")?;
+            put_process(text, log, first_process)
+        }
         Origin::Outside(index) => match log.calls.get(index) {
             Some(logged) => {
-                write!(text, " from outside, for line {}: ", logged.line)?;
+                text.push_str(" from outside, for line ")?;
+                put_number(text, logged.line)?;
+                text.push_str(": ")?;
                 put_process(text, log, logged.process)
             }
             None => Ok(()),
@@ -53,11 +90,17 @@ fn put_origin(text: &mut String, log: &CallLog, origin: Origin) -> Result<(), Al
     }
 }
 
+/// A decimal.
+fn put_number(text: &mut String, number: u64) -> Result<(), AllocError> {
+    text.push_str(Buffer::new().format(number))
+}
+
 /// A process as the log has it, by its number or its name.
 fn put_process(text: &mut String, log: &CallLog, process: u64) -> Result<(), AllocError> {
+    text.push_str("process ")?;
     match log.names.shown(process) {
-        Some(name) => write!(text, "process {name}"),
-        None => write!(text, "process {process}"),
+        Some(name) => text.push_str(name),
+        None => put_number(text, process),
     }
 }
 
@@ -97,6 +140,9 @@ fn put_joined(
     put_mask(text, end.handle.0)?;
     text.push_str(" of ")?;
     put_process(text, log, end.process)?;
+    if end.messages == 0 {
+        return text.push_str(" by their koids");
+    }
     write!(text, " by {} ", end.messages)?;
     text.push_str(message_word(end.messages))?;
     write!(text, ", the first of line {}, ", end.written)?;
@@ -110,7 +156,9 @@ fn message_word<'a>(count: usize) -> &'a str {
 
 /// The line of the log, with the process and the handles by their numbers there.
 fn put_logged(text: &mut String, log: &CallLog, logged: &LoggedCall) -> Result<(), AllocError> {
-    write!(text, " line {}: ", logged.line)?;
+    text.push_str(" line ")?;
+    put_number(text, logged.line)?;
+    text.push_str(": ")?;
     put_process(text, log, logged.process)?;
     let handles = handles_in(*text.allocator(), &logged.call)?;
     put_handles(text, handle_word(handles.len()), handles.as_slice())?;

@@ -1,20 +1,31 @@
+use crate::arranged::Arranged;
+use crate::evidence::Evidence;
 use crate::first_messages::FirstMessages;
 use crate::joins::{EndName, Joins};
 use crate::kind_signs::Sign;
 use crate::seen_objects::{Reading, SeenObjects, Sent, Unread};
 use crate::stand_ins::{StandInUses, found, rights_of, signal_key};
+use crate::told_koids::ToldKoids;
 use crate::trail::JoinedEnd;
 use std::alloc::{AllocError, Global};
 use std::collections::HashMap;
-use zt_bits::Status;
+use zt_bits::{Kind, Status};
 use zt_logs::{Cause, LineForm, LogFault, LoggedCall};
 use zt_rows::{Call, HandleValue, Parcel};
 
-/// A process that makes calls and that nothing in the log made, with the objects of its handles that come from nowhere.
+/// A process that makes calls and that nothing in the log made, with its handles that come from nowhere.
 #[derive(Drop)]
 pub(crate) struct AdoptedProcess {
     pub(crate) number: u64,
-    pub(crate) objects: Vec<usize>,
+    pub(crate) handles: Vec<AdoptedHandle>,
+}
+
+/// A handle of a process that comes from nowhere.
+#[derive(Clone, Copy)]
+pub(crate) struct AdoptedHandle {
+    pub(crate) object: usize,
+    pub(crate) process: u64,
+    pub(crate) handle: HandleValue,
 }
 
 /// A message that calls come upon and that nothing in the log wrote.
@@ -23,8 +34,7 @@ pub(crate) struct OutsideMessage {
     /// At which end.
     pub(crate) end: usize,
     pub(crate) content: OutsideContent,
-    /// Those of its handles.
-    pub(crate) objects: Vec<usize>,
+    pub(crate) handles: Vec<AdoptedHandle>,
 }
 
 /// The bytes of a message from outside.
@@ -65,28 +75,132 @@ pub(crate) struct Plan {
     pub(crate) joined: HashMap<usize, JoinedEnd>,
     /// Each object that comes from nowhere, by the first handle that the log has of it.
     named: HashMap<EndName, usize>,
+    /// What the log tells of the objects of handles.
+    pub(crate) koids: ToldKoids,
+    pub(crate) evidence: Evidence,
+    /// The objects that are those of other handles, by the names of both.
+    merged: HashMap<EndName, EndName>,
+}
+
+/// Which ends are joined, and which objects are those of other handles.
+#[derive(Drop)]
+struct Found {
+    joins: HashMap<EndName, EndName>,
+    merged: HashMap<EndName, EndName>,
 }
 
 /// How often the ends that are joined are found anew, since what is known of handles in messages follows from them.
 const ROUNDS: usize = 8;
 
+/// How often more, since calls are moved by what is found.
+const MOVING_ROUNDS: usize = 16;
+
 impl Plan {
     /// What a log needs, with those ends joined that have no third.
-    pub(crate) fn of(alloc: Global, calls: &[LoggedCall]) -> Result<Plan, LogFault> {
-        let mut plan = Plan::with(alloc, calls, Joins::Guessed)?;
-        for _ in 0..ROUNDS {
-            let Ok(partners) = plan.partners(alloc, calls) else {
-                return Err(Cause::OutOfMemory.at(0));
-            };
-            if plan.is_joined_by(&partners) {
-                return plan.with_joined(alloc, calls);
+    pub(crate) fn of(
+        alloc: Global,
+        calls: &[LoggedCall],
+        order: &mut Arranged,
+    ) -> Result<Plan, LogFault> {
+        let none = HashMap::new(alloc);
+        let mut plan = Plan::with(alloc, calls, order, Joins::Guessed, none)?;
+        for _ in 0..ROUNDS + MOVING_ROUNDS {
+            match plan.found_again(alloc, calls, order) {
+                Ok(Some(found)) => {
+                    let Found { joins, merged } = found;
+                    plan = Plan::with(alloc, calls, order, Joins::Found(joins), merged)?;
+                }
+                Ok(None) => return plan.with_joined(alloc, calls),
+                Err(_) => return Err(Cause::OutOfMemory.at(0)),
             }
-            let Ok(joins) = plan.joins_of(alloc, &partners) else {
-                return Err(Cause::OutOfMemory.at(0));
-            };
-            plan = Plan::with(alloc, calls, Joins::Found(joins))?;
         }
-        Plan::with(alloc, calls, Joins::Found(HashMap::new(alloc)))
+        let none = HashMap::new(alloc);
+        Plan::with(alloc, calls, order, Joins::Found(HashMap::new(alloc)), none)
+    }
+
+    /// Which ends are joined and which objects are one, unless it is taken so. Where calls were moved, objects are compared anew.
+    fn found_again(
+        &self,
+        alloc: Global,
+        calls: &[LoggedCall],
+        order: &mut Arranged,
+    ) -> Result<Option<Found>, AllocError> {
+        let before = order.moves().len();
+        let joins = self.joins_again(alloc, calls, order)?;
+        let merged = if order.moves().len() > before {
+            Some(HashMap::new(alloc))
+        } else {
+            self.merged_again(alloc)?
+        };
+        match (joins, merged) {
+            (None, None) => Ok(None),
+            (joins, merged) => Ok(Some(Found {
+                joins: match joins {
+                    Some(joins) => joins,
+                    None => self.joins_of(alloc, &self.partners(alloc, calls, order)?)?,
+                },
+                merged: match merged {
+                    Some(merged) => merged,
+                    None => self.merged_names(alloc)?,
+                },
+            })),
+        }
+    }
+
+    /// The objects that are those of other handles, with more of them, if there are more.
+    fn merged_again(&self, alloc: Global) -> Result<Option<HashMap<EndName, EndName>>, AllocError> {
+        let mut merged = self.merged_names(alloc)?;
+        let before = merged.len();
+        for same in self.same_objects(alloc)?.as_slice() {
+            let (one, other) = *same;
+            self.merge(&mut merged, one.max(other), one.min(other))?;
+        }
+        if merged.len() > before {
+            Ok(Some(merged))
+        } else {
+            Ok(None)
+        }
+    }
+
+    /// A later object is that of an earlier one.
+    fn merge(
+        &self,
+        merged: &mut HashMap<EndName, EndName>,
+        later: usize,
+        earlier: usize,
+    ) -> Result<(), AllocError> {
+        if let (Some((process, handle)), Some((first, name))) = (
+            self.objects.adopted(later),
+            self.objects.adopted(earlier),
+        ) {
+            if !merged.contains_key(&(process, handle.0)) {
+                merged.insert((process, handle.0), (first, name.0))?;
+            }
+        }
+        Ok(())
+    }
+
+    fn merged_names(&self, alloc: Global) -> Result<HashMap<EndName, EndName>, AllocError> {
+        let mut merged = HashMap::new(alloc);
+        for (later, earlier) in &self.merged {
+            merged.insert(*later, *earlier)?;
+        }
+        Ok(merged)
+    }
+
+    /// Which ends are joined, unless just those are. Of each of them the writes are moved ahead of their reads.
+    fn joins_again(
+        &self,
+        alloc: Global,
+        calls: &[LoggedCall],
+        order: &mut Arranged,
+    ) -> Result<Option<HashMap<EndName, EndName>>, AllocError> {
+        let partners = self.partners(alloc, calls, order)?;
+        let is_moved = self.move_writes(calls, order, &partners)?;
+        if !is_moved && self.is_joined_by(&partners) {
+            return Ok(None);
+        }
+        Ok(Some(self.joins_of(alloc, &partners)?))
     }
 
     /// The same, with what each joined end is joined by.
@@ -101,13 +215,22 @@ impl Plan {
     }
 
     /// What a log needs where these ends are joined.
-    fn with(alloc: Global, calls: &[LoggedCall], joins: Joins) -> Result<Plan, LogFault> {
+    fn with(
+        alloc: Global,
+        calls: &[LoggedCall],
+        order: &Arranged,
+        joins: Joins,
+        merged: HashMap<EndName, EndName>,
+    ) -> Result<Plan, LogFault> {
         let mut plan = Plan::new(alloc, joins);
-        for index in 0..calls.len() {
-            let logged = &calls[index];
-            match plan.see(index, logged) {
-                Ok(()) => {}
-                Err(cause) => return Err(cause.at(logged.line)),
+        plan.merged = merged;
+        for index in order.numbers() {
+            let index = *index;
+            if let Some(logged) = calls.get(index) {
+                match plan.see(index, logged) {
+                    Ok(()) => {}
+                    Err(cause) => return Err(cause.at(logged.line)),
+                }
             }
         }
         match plan.leave_unread() {
@@ -129,13 +252,59 @@ impl Plan {
             uses: StandInUses::new(alloc),
             joined: HashMap::new(alloc),
             named: HashMap::new(alloc),
+            koids: ToldKoids::new(alloc),
+            evidence: Evidence::new(alloc),
+            merged: HashMap::new(alloc),
         }
     }
 
-    /// Goes over a call of the log.
+    /// Goes over a call of the log, with the koids that its line tells.
     fn see(&mut self, index: usize, logged: &LoggedCall) -> Result<(), Cause> {
+        self.koids.begin_line(logged)?;
+        self.see_call(index, logged)?;
+        self.see_koids(logged)?;
+        self.see_evidence(logged)?;
+        Ok(())
+    }
+
+    /// What the line tells of objects that are known now.
+    fn see_koids(&mut self, logged: &LoggedCall) -> Result<(), AllocError> {
+        for told in logged.koids.as_slice() {
+            if let Some(object) = self.object_of(logged.process, told.handle) {
+                if let Some(peer) = self.koids.tell(object, *told)? {
+                    self.pair_by_koids(object, peer)?;
+                }
+            }
+        }
+        Ok(())
+    }
+
+    /// The kind of an object, and whether a use tells it, of it or of that with which it is joined by their koids.
+    pub(crate) fn kind(&self, object: usize) -> (Kind, bool) {
+        let (kind, is_told) = self.objects.kind(object);
+        if is_told {
+            return (kind, is_told);
+        }
+        match self.koids.joined(object) {
+            Some(peer) => self.objects.kind(peer),
+            None => (kind, is_told),
+        }
+    }
+
+    /// Two ends are those of one pair, as far as neither is known as one of another.
+    fn pair_by_koids(&mut self, one: usize, other: usize) -> Result<(), AllocError> {
+        if one != other && self.objects.is_open(one) && self.objects.is_open(other) {
+            self.objects.pair(one, other);
+            self.koids.join(one, other)?;
+        }
+        Ok(())
+    }
+
+    /// Goes over a call of the log.
+    fn see_call(&mut self, index: usize, logged: &LoggedCall) -> Result<(), Cause> {
         self.see_process(logged.process)?;
         self.see_uses(logged)?;
+        self.see_koids(logged)?;
         self.see_stand_in_uses(index, logged)?;
         if logged.recorded.status != Some(Status::Ok) {
             self.see_too_large(index, logged)?;
@@ -267,10 +436,10 @@ impl Plan {
             return Ok(());
         }
         let place = self.processes.len();
-        let objects = Vec::new(*self.processes.allocator());
+        let handles = Vec::new(*self.processes.allocator());
         self.processes.push(AdoptedProcess {
             number: process,
-            objects,
+            handles,
         })?;
         self.comings.insert(process, Coming::Adopted(place))?;
         Ok(())
@@ -415,8 +584,17 @@ impl Plan {
         Ok(())
     }
 
+    /// The object of a handle, where it comes from nowhere.
+    pub(crate) fn adopted_of(&self, process: u64, handle: HandleValue) -> Option<usize> {
+        let object = self.object_of(process, handle)?;
+        match self.objects.adopted(object) {
+            Some(_) => Some(object),
+            None => None,
+        }
+    }
+
     /// What a handle of a process names, where it is known.
-    fn object_of(&self, process: u64, handle: HandleValue) -> Option<usize> {
+    pub(crate) fn object_of(&self, process: u64, handle: HandleValue) -> Option<usize> {
         self.known.get(&(process, handle.0)).copied()
     }
 
@@ -433,9 +611,13 @@ impl Plan {
     ) -> Result<Option<usize>, AllocError> {
         match self.comings.get(&process).copied() {
             Some(Coming::Adopted(place)) => {
-                let object = self.add_adopted(process, handle)?;
+                let object = self.adopted_object(process, handle)?;
                 if let Some(adopted) = self.processes.get_mut(place) {
-                    adopted.objects.push(object)?;
+                    adopted.handles.push(AdoptedHandle {
+                        object,
+                        process,
+                        handle,
+                    })?;
                 }
                 self.name(process, handle, object)?;
                 Ok(Some(object))
@@ -448,6 +630,27 @@ impl Plan {
             }
             _ => Ok(None),
         }
+    }
+
+    /// The object of a handle that comes from nowhere: the one of its koid, where that came before, or another.
+    fn adopted_object(&mut self, process: u64, handle: HandleValue) -> Result<usize, AllocError> {
+        let found = match self.koids.object(handle) {
+            Some(object) => Some(object),
+            None => self.merged_object(process, handle),
+        };
+        match found {
+            Some(object) if self.objects.adopted(object).is_some() => {
+                self.objects.add_again(object, process, handle)?;
+                Ok(object)
+            }
+            _ => self.add_adopted(process, handle),
+        }
+    }
+
+    /// The object of another handle that is the one of this, by what was done and seen.
+    fn merged_object(&self, process: u64, handle: HandleValue) -> Option<usize> {
+        let name = self.merged.get(&(process, handle.0)).copied()?;
+        self.named.get(&name).copied()
     }
 
     /// An object that comes from nowhere, by the first handle that the log has of it.
@@ -584,13 +787,19 @@ impl Plan {
         let Some(unread) = self.objects.take_unread(end) else {
             return Ok(());
         };
-        let mut objects = Vec::new(*self.processes.allocator());
+        let mut handles = Vec::new(*self.processes.allocator());
         for _ in 0..unread.handle_count() {
-            let object = self.objects.add(Some((unread.process, HandleValue(0))))?;
-            objects.push(object)?;
+            let process = unread.process;
+            let handle = HandleValue(0);
+            let object = self.objects.add(Some((process, handle)))?;
+            handles.push(AdoptedHandle {
+                object,
+                process,
+                handle,
+            })?;
         }
         let content = OutsideContent::Unread(unread.size());
-        self.write_outside(unread.call, end, content, objects)
+        self.write_outside(unread.call, end, content, handles)
     }
 
     fn write_outside(
@@ -598,12 +807,12 @@ impl Plan {
         call: usize,
         end: usize,
         content: OutsideContent,
-        objects: Vec<usize>,
+        handles: Vec<AdoptedHandle>,
     ) -> Result<(), AllocError> {
         let message = OutsideMessage {
             end,
             content,
-            objects,
+            handles,
         };
         self.outside.insert(call, message)?;
         Ok(())
@@ -684,18 +893,24 @@ impl Plan {
         logged: &LoggedCall,
         end: usize,
     ) -> Result<(), AllocError> {
-        let mut objects = Vec::new(*self.processes.allocator());
+        let mut handles = Vec::new(*self.processes.allocator());
+        let process = logged.process;
         for handle in logged.recorded.handles.as_slice() {
-            let object = self.add_adopted(logged.process, *handle)?;
-            self.name(logged.process, *handle, object)?;
-            objects.push(object)?;
+            let handle = *handle;
+            let object = self.adopted_object(process, handle)?;
+            self.name(process, handle, object)?;
+            handles.push(AdoptedHandle {
+                object,
+                process,
+                handle,
+            })?;
         }
         self.objects.set_outside(end);
         let call = match self.objects.take_unread(end) {
             Some(unread) => unread.call,
             None => index,
         };
-        self.write_outside(call, end, OutsideContent::Read(index), objects)
+        self.write_outside(call, end, OutsideContent::Read(index), handles)
     }
 
     /// A process was made, and has the argument.

@@ -1,15 +1,23 @@
-ghost use Rattle.std.specs.Prelude.{◌≡◌, ◌<◌, suc, [], IfOk, OnOk, length};
+ghost use Rattle.std.specs.Prelude.{◌≡◌, ◌<◌, ℕ, List, [], ◌∷◌, ◌++◌, IfOk, OnOk, length};
 ghost use Rattle.zt_history.specs.Tree.{opening_tree};
 ghost use Rattle.zt_import.specs.Imports.{Loads, IsImportOf, CountsBySchedule, AreTheLogsCalls, differs};
 ghost use Rattle.std.specs.Option.{option_copied};
+ghost use Rattle.zt_import.specs.Orders.{IsOrder};
 ghost use Rattle.zt_import.specs.Trails.{IsMadeOf, pair_of, spawned_in};
-ghost use Rattle.zt_import.specs.ProofsOnly.TakenCalls.{IsOneStepMore, HasRun, Learns, Processes, process_in};
+ghost use Rattle.zt_import.specs.ProofsOnly.TakenCalls.{IsOneStepMore, HasRun, IsRunOf, Learns, process_in};
 ghost use Rattle.zt_import.specs.declared.trail.Origin.TheVariants as origin;
 
 use crate::adoption::Adoption;
+use crate::arranged::Arranged;
+use crate::causes::may_be_by_order;
 use crate::compared::Compared;
+use crate::comparison::agrees;
 use crate::differences::compare_all;
+use crate::joins::line_of;
+use crate::look::look;
 use crate::numbers::Numbers;
+use crate::order::ordered;
+use crate::parts::is_last;
 use crate::plan::Plan;
 use crate::taken::Taken;
 use crate::trail::{Difference, Origin, TrailStep};
@@ -88,33 +96,123 @@ impl Imported {
     }
 }
 
-/// Runs the calls of a log over a history, behind what makes that which they use and never got, and compares their replies.
+/// How often an order is looked for, each time behind what was moved before.
+const ROUNDS: usize = 8;
+
+/// Runs the calls of a log over a history, behind what makes that which they use and never got, and compares their replies. They are run in
+/// the order of the log, but for those that are moved ahead of calls of other processes.
 pub fn import(alloc: Global, calls: &[LoggedCall]) -> Result<Imported, LogFault>
     ensures loads { IfOk result Loads }
     ensures differences { IfOk result (IsImportOf calls.now) }
     ensures by_schedule { IfOk result (CountsBySchedule calls.now) }
     ensures calls { IfOk result (AreTheLogsCalls calls.now) }
 {
-    let plan = Plan::of(alloc, calls)?;
-    let Ok(mut taken) = Taken::new(alloc) else {
-        return Err(Cause::OutOfMemory.at(0));
-    };
+    let mut taken = best_run(alloc, calls)?;
     let mut compared = Compared::new(alloc);
-    run_all(alloc, &mut taken, &plan, calls)?;
     compare_all(alloc, &mut taken, &mut compared, calls)?;
     let _history = taken.history();
     Ok(Imported { taken, compared })
 }
 
-/// Makes what is adopted, and then runs the calls in turn.
+/// The calls, run in the order of the log, or in another one in which fewer replies differ.
+fn best_run(alloc: Global, calls: &[LoggedCall]) -> Result<Taken, LogFault>
+    ensures { IfOk result (IsRunOf calls.now) }
+{
+    let mut order = match Arranged::of(alloc, calls) {
+        Ok(order) => order,
+        Err(_) => return Err(Cause::OutOfMemory.at(0)),
+    };
+    let taken = run_in(alloc, calls, &mut order)?;
+    let found = count_differing(calls, &taken);
+    if found.by_order == 0 {
+        return Ok(taken);
+    }
+    let other = other_run(alloc, calls, &mut order)?;
+    if differing_in(calls, &other) < found.count {
+        Ok(other)
+    } else {
+        Ok(taken)
+    }
+}
+
+/// The calls, run in an order that is looked for.
+fn other_run(alloc: Global, calls: &[LoggedCall], order: &mut Arranged) -> Result<Taken, LogFault>
+    ensures { IfOk result (IsRunOf calls.now) }
+{
+    for _ in 0..ROUNDS {
+        let plan = Plan::of(alloc, calls, order)?;
+        let before = order.moves().len();
+        look(alloc, calls, &plan, order)?;
+        if order.moves().len() == before {
+            return run_in(alloc, calls, order);
+        }
+    }
+    run_in(alloc, calls, order)
+}
+
+/// The calls, run in an order.
+fn run_in(alloc: Global, calls: &[LoggedCall], order: &mut Arranged) -> Result<Taken, LogFault>
+    ensures { IfOk result (IsRunOf calls.now) }
+{
+    let plan = Plan::of(alloc, calls, order)?;
+    let Ok(numbers) = ordered(alloc, calls, order.moves()) else {
+        return Err(Cause::OutOfMemory.at(0));
+    };
+    let Ok(mut taken) = Taken::new(alloc) else {
+        return Err(Cause::OutOfMemory.at(0));
+    };
+    run_all(alloc, &mut taken, &plan, calls, numbers.as_slice())?;
+    Ok(taken)
+}
+
+/// How many replies differ, and of how many of them another order may make it so that they do not.
+#[derive(Clone, Copy)]
+struct Differing {
+    count: usize,
+    by_order: usize,
+}
+
+fn count_differing(calls: &[LoggedCall], taken: &Taken) -> Differing {
+    let mut found = Differing {
+        count: 0,
+        by_order: 0,
+    };
+    for step in taken.trail() {
+        if let Origin::Logged(number) = step.origin {
+            if let Some(logged) = calls.get(number) {
+                add_differing(&mut found, logged, taken.reply(&step.moment));
+            }
+        }
+    }
+    found
+}
+
+fn differing_in(calls: &[LoggedCall], taken: &Taken) -> usize {
+    count_differing(calls, taken).count
+}
+
+/// One call more.
+fn add_differing(found: &mut Differing, logged: &LoggedCall, reply: Option<&Reply>) {
+    if agrees(&logged.recorded, reply) || !is_last(logged.part) && !may_be_by_order(logged, reply) {
+        return;
+    }
+    found.count = found.count.saturating_add(1);
+    if may_be_by_order(logged, reply) {
+        found.by_order = found.by_order.saturating_add(1);
+    }
+}
+
+/// Makes what is adopted, and then runs the calls of these numbers in turn.
 fn run_all(
     alloc: Global,
     taken: &mut Taken,
     plan: &Plan,
     calls: &[LoggedCall],
+    order: &[usize],
 ) -> Result<(), LogFault>
-    requires { taken.old ≡ record { tree = opening_tree; trail = [] } }
-    ensures { OnOk result ((processes : Processes) × HasRun calls.now (length calls.now) taken.new processes) }
+    requires opening { taken.old ≡ record { tree = opening_tree; trail = [] } }
+    requires order { IsOrder calls.now order.now }
+    ensures { OnOk result (IsRunOf calls.now taken.new) }
 {
     let mut numbers = Numbers::new(alloc);
     let mut adoption = Adoption::new(alloc);
@@ -122,10 +220,11 @@ fn run_all(
         Ok(()) => {}
         Err(cause) => return Err(cause.at(0)),
     }
-    for index in 0..calls.len() {
+    for place in 0..order.len() {
+        let index = order[place];
         match run_one(taken, &mut numbers, &mut adoption, plan, calls, index) {
             Ok(()) => {}
-            Err(cause) => return Err(cause.at(calls[index].line)),
+            Err(cause) => return Err(cause.at(line_of(calls, index))),
         }
     }
     Ok(())
@@ -140,9 +239,9 @@ fn run_one(
     calls: &[LoggedCall],
     index: usize,
 ) -> Result<(), Cause>
-    requires within { index < length calls.now }
-    requires so_far { HasRun calls.now index taken.old numbers.old.processes }
-    ensures { OnOk result (HasRun calls.now (suc index) taken.new numbers.new.processes) }
+    requires { index < length calls.now }
+    ensures { OnOk result ((done : List ℕ) → HasRun calls.now done taken.old numbers.old.processes
+        → HasRun calls.now (done ++ index ∷ []) taken.new numbers.new.processes) }
 {
     let logged = &calls[index];
     adoption.write_outside(taken, plan, calls, index)?;
@@ -152,7 +251,7 @@ fn run_one(
 }
 
 /// Runs a call of the log under the numbers of the trace.
-fn run_call(
+pub(crate) fn run_call(
     taken: &mut Taken,
     numbers: &Numbers,
     index: usize,
@@ -170,7 +269,7 @@ fn run_call(
 }
 
 /// From here on what the log got is what the trace got.
-fn learn(
+pub(crate) fn learn(
     numbers: &mut Numbers,
     plan: &Plan,
     logged: &LoggedCall,
@@ -181,6 +280,9 @@ fn learn(
     numbers.learn_process(logged.recorded.process, reply)?;
     learn_handles(numbers, logged, reply)?;
     numbers.learn_copy(logged.part, reply)?;
+    if logged.part.count > 1 && matches!(logged.call, Call::ChannelWrite { .. }) {
+        numbers.forget_copies();
+    }
     match reply {
         Some(Reply::Spawned(_, _)) => learn_argument(numbers, plan, logged),
         _ => Ok(()),

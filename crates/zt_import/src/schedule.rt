@@ -1,8 +1,8 @@
 //! What a schedule can do: which of the replies that differ may be otherwise only since threads ran in another order.
-ghost use Rattle.std.specs.Prelude.{◌≡◌, ◌++◌, ◌∷◌, [], IfOk, OnOk};
-ghost use Rattle.std.specs.Option.{option_to_list};
+ghost use Rattle.std.specs.Prelude.{◌≡◌, ◌++◌, ◌∷◌, [], IfOk, OnOk, map, slice_set};
+ghost use Rattle.std.specs.Option.{option_copied};
 ghost use Rattle.zt_import.specs.Schedule.{around, by_schedule, is_met, is_met_by, is_met_on, is_near, is_shortly_before, sought_for};
-ghost use Rattle.zt_import.specs.Trails.{asked_at, asked_in};
+ghost use Rattle.zt_import.specs.Trails.{asked_in, not_asked, put_asked, put_call};
 
 use crate::comparison::may_be_scheduled;
 use crate::taken::Taken;
@@ -12,7 +12,7 @@ use zt_bits::Status;
 use zt_logs::{Cause, LoggedCall, LoggedPacket};
 use zt_rows::{Koid, Moment};
 
-/// How many calls of a log before and behind one are looked at, and how many lines away they may stand.
+/// How many lines away from a call others may stand that are near.
 const NEAR: u64 = 512;
 
 /// A call of the log that was asked, with its line, and its moment, if it made one.
@@ -31,7 +31,7 @@ pub(crate) enum Sought {
     Empty,
 }
 
-/// The calls of the log among the steps, in their order.
+/// The calls of the log, each at its own place, as the steps of a trail asked them.
 pub(crate) fn asked_in(
     alloc: Global,
     calls: &[LoggedCall],
@@ -39,27 +39,59 @@ pub(crate) fn asked_in(
 ) -> Result<Vec<AskedCall>, AllocError>
     ensures { IfOk result (λ asked. asked.items ≡ asked_in calls.now trail.now) }
 {
-    let mut asked = Vec::new(alloc);
+    let mut asked = not_asked(alloc, calls)?;
     for place in 0..trail.len() {
-        push_asked(&mut asked, calls, &trail[place])?;
+        put_asked(&mut asked, calls, trail[place]);
     }
     Ok(asked)
 }
 
-/// The call of the log that a step is more, if it is one.
-fn push_asked(
-    asked: &mut Vec<AskedCall>,
-    calls: &[LoggedCall],
-    step: &TrailStep,
-) -> Result<(), AllocError>
-    ensures { OnOk result (asked.new.items ≡ asked.old.items ++ option_to_list (asked_at calls.now step.now)) }
+/// The calls of the log, none of which has a moment.
+fn not_asked(alloc: Global, calls: &[LoggedCall]) -> Result<Vec<AskedCall>, AllocError>
+    ensures { IfOk result (λ asked. asked.items ≡ map not_asked calls.now) }
+{
+    let mut asked = Vec::new(alloc);
+    for place in 0..calls.len() {
+        push_call(&mut asked, calls[place].line, None)?;
+    }
+    Ok(asked)
+}
+
+/// The call of the log that a step is, if it is one, has its moment.
+fn put_asked(asked: &mut Vec<AskedCall>, calls: &[LoggedCall], step: TrailStep)
+    ensures { asked.new.items ≡ put_asked calls.now asked.old.items step }
 {
     match step.origin {
-        Origin::Logged(number) => match calls.get(number) {
-            Some(logged) => push_call(asked, logged.line, step.moment),
-            None => Ok(()),
-        },
-        _ => Ok(()),
+        Origin::Logged(number) => put_call(asked, number, calls.get(number), step.moment),
+        _ => {}
+    }
+}
+
+/// The call of this number, if there is one, has this moment.
+fn put_call(
+    asked: &mut Vec<AskedCall>,
+    number: usize,
+    found: Option<&LoggedCall>,
+    moment: Option<Moment>,
+)
+    ensures { asked.new.items ≡ put_call asked.old.items number (option_copied found.entry) moment }
+{
+    match found {
+        Some(logged) => {
+            let line = logged.line;
+            set_asked(asked, number, AskedCall { line, moment })
+        }
+        None => {}
+    }
+}
+
+/// Sets the one of a place, if there is one.
+#[tactic(auto, using(crate::proofs::AskedLaws::set_past))]
+fn set_asked(asked: &mut Vec<AskedCall>, place: usize, call: AskedCall)
+    ensures { asked.new.items ≡ slice_set asked.old.items place call }
+{
+    if place < asked.len() {
+        asked[place] = call;
     }
 }
 
@@ -96,7 +128,7 @@ pub(crate) fn is_by_schedule(
         return Ok(false);
     }
     let port = taken.port_at(made)?;
-    is_met_on(taken, around(asked, number), logged, port)
+    is_met_on(taken, around(asked, number), logged, port, made)
 }
 
 /// Whether what a wait on the port looks for is met near it.
@@ -105,14 +137,15 @@ fn is_met_on(
     asked: &[AskedCall],
     logged: &LoggedCall,
     port: Option<Koid>,
+    waited: Moment,
 ) -> Result<bool, Cause>
-    ensures found { IfOk result (λ found. found ≡ is_met_on taken.old.tree.made port logged.now asked.now) }
+    ensures found { IfOk result (λ found. found ≡ is_met_on taken.old.tree.made port logged.now waited asked.now) }
     ensures same { taken.new ≡ taken.old }
 {
     match port {
         Some(port) => {
             let sought = sought_for(logged.recorded.status, logged.recorded.packet);
-            is_met(taken, asked, port, logged.line, sought)
+            is_met(taken, asked, port, logged.line, waited, sought)
         }
         None => Ok(false),
     }
@@ -143,13 +176,14 @@ fn is_met(
     asked: &[AskedCall],
     port: Koid,
     line: u64,
+    waited: Moment,
     sought: Sought,
 ) -> Result<bool, Cause>
-    ensures found { IfOk result (λ found. found ≡ is_met taken.old.tree.made port line sought asked.now) }
+    ensures found { IfOk result (λ found. found ≡ is_met taken.old.tree.made port line waited sought asked.now) }
     ensures same { taken.new ≡ taken.old }
 {
     for place in 0..asked.len() {
-        if is_met_by(taken, asked[place], port, line, sought)? {
+        if is_met_by(taken, asked[place], port, line, waited, sought)? {
             return Ok(true);
         }
     }
@@ -162,9 +196,10 @@ fn is_met_by(
     asked: AskedCall,
     port: Koid,
     line: u64,
+    waited: Moment,
     sought: Sought,
 ) -> Result<bool, Cause>
-    ensures found { IfOk result (λ found. found ≡ is_met_by taken.old.tree.made port line sought asked) }
+    ensures found { IfOk result (λ found. found ≡ is_met_by taken.old.tree.made port line waited sought asked) }
     ensures same { taken.new ≡ taken.old }
 {
     let Some(moment) = asked.moment else {
@@ -178,7 +213,7 @@ fn is_met_by(
             taken.holds(moment, port, packet)
         }
         Sought::Empty => {
-            if !is_shortly_before(line, asked.line) {
+            if !(is_shortly_before(line, asked.line) && moment < waited) {
                 return Ok(false);
             }
             let holds = taken.holds(moment, port, None)?;

@@ -45,12 +45,23 @@ pub(crate) enum Reading {
     Discarded(usize),
 }
 
+impl Reading {
+    /// The call to which it came.
+    pub(crate) fn call(self) -> usize {
+        match self {
+            Reading::Message(call) | Reading::Discarded(call) => call,
+        }
+    }
+}
+
 /// An object, as the log tells of it.
 #[derive(Drop)]
 pub(crate) struct SeenObject {
     pub(crate) signs: KindSigns,
     /// By which handle of which process the log has it first, where it comes from nowhere.
     pub(crate) adopted: Option<(u64, HandleValue)>,
+    /// By which handles of which processes it comes from nowhere too.
+    pub(crate) again: Vec<(u64, HandleValue)>,
     /// The rights that it has, where it stands in for an object that the semantics has not.
     pub(crate) stand_in: Option<u32>,
     /// The other end of a channel, where it is known.
@@ -63,9 +74,9 @@ pub(crate) struct SeenObject {
     pub(crate) sent: VecDeque<Sent>,
     /// The message that is the first at this end, while its peer is not known.
     pub(crate) unread: Option<Unread>,
-    /// The calls that wrote at this end, by their numbers, where it comes from nowhere.
+    /// The calls that wrote at this end, by their numbers.
     pub(crate) written: Vec<usize>,
-    /// The messages that were read at this end, where it comes from nowhere.
+    /// The messages that were read at this end.
     pub(crate) read: Vec<Reading>,
 }
 
@@ -89,6 +100,7 @@ impl SeenObjects {
         self.objects.push(SeenObject {
             signs: KindSigns::none(),
             adopted,
+            again: Vec::new(alloc),
             stand_in: None,
             peer: None,
             is_outside: false,
@@ -106,6 +118,27 @@ impl SeenObjects {
         match self.objects.get(number) {
             Some(object) => object.adopted,
             None => None,
+        }
+    }
+
+    /// The log has an object that comes from nowhere by one more handle.
+    pub(crate) fn add_again(
+        &mut self,
+        number: usize,
+        process: u64,
+        handle: HandleValue,
+    ) -> Result<(), AllocError> {
+        if let Some(object) = self.objects.get_mut(number) {
+            object.again.push((process, handle))?;
+        }
+        Ok(())
+    }
+
+    /// By which handles the log has an object that comes from nowhere, behind the first.
+    pub(crate) fn again(&self, number: usize) -> &[(u64, HandleValue)] {
+        match self.objects.get(number) {
+            Some(object) => object.again.as_slice(),
+            None => &[],
         }
     }
 
@@ -233,26 +266,26 @@ impl SeenObjects {
     /// The call of this number wrote at an end. Tells whether it is the first at one that comes from nowhere.
     pub(crate) fn add_written(&mut self, number: usize, call: usize) -> Result<bool, AllocError> {
         match self.objects.get_mut(number) {
-            Some(object) if object.adopted.is_some() => {
+            Some(object) => {
                 object.written.push(call)?;
-                Ok(object.written.len() == 1)
+                Ok(object.adopted.is_some() && object.written.len() == 1)
             }
-            _ => Ok(false),
+            None => Ok(false),
         }
     }
 
     /// A message came to an end.
     pub(crate) fn add_read(&mut self, number: usize, reading: Reading) -> Result<(), AllocError> {
         match self.objects.get_mut(number) {
-            Some(object) if object.adopted.is_some() => {
+            Some(object) => {
                 object.read.push(reading)?;
                 Ok(())
             }
-            _ => Ok(()),
+            None => Ok(()),
         }
     }
 
-    /// The calls that wrote at an end that comes from nowhere.
+    /// The calls that wrote at an end.
     pub(crate) fn written(&self, number: usize) -> &[usize] {
         match self.objects.get(number) {
             Some(object) => object.written.as_slice(),
@@ -260,7 +293,7 @@ impl SeenObjects {
         }
     }
 
-    /// The messages that came to an end that comes from nowhere.
+    /// The messages that came to an end.
     pub(crate) fn read(&self, number: usize) -> &[Reading] {
         match self.objects.get(number) {
             Some(object) => object.read.as_slice(),

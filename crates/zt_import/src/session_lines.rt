@@ -6,6 +6,7 @@ ghost use Rattle.zt_text.specs.Session.{session_of};
 ghost use Rattle.zt_import.specs.Trails.{calls_of};
 ghost use Rattle.zt_import.specs.ProofsOnly.ReadTexts.{Writes, step_calls, calls_by, is_no_feed, fits};
 
+use crate::moved::passed_by;
 use crate::origin_lines::origin_line;
 use crate::run_log::Imported;
 use crate::trail::{Origin, TrailStep};
@@ -31,7 +32,14 @@ fn put_steps(text: &mut String, log: &CallLog, imported: &Imported) -> Result<()
     ensures { OnOk result (session_of (string_bytes text.new) ≡ Ok (calls_of imported.now.tree.made)) }
 {
     text.push_str("zxtt 1\n")?;
-    put_trail(text, log, imported.history(), imported.trail())?;
+    let passed = passed_by(*text.allocator(), imported.trail())?;
+    put_trail(
+        text,
+        log,
+        imported.history(),
+        imported.trail(),
+        passed.as_slice(),
+    )?;
     Ok(())
 }
 
@@ -41,13 +49,23 @@ fn put_trail(
     log: &CallLog,
     history: &History,
     trail: &[TrailStep],
+    passed: &[Option<usize>],
 ) -> Result<(), AllocError>
     ensures { OnOk result (Writes (string_bytes text.old) (string_bytes text.new) (calls_by history.now.tree.made trail.now)) }
 {
     for place in 0..trail.len() {
-        put_step(text, log, history, &trail[place])?;
+        let ahead = ahead_at(passed, place);
+        put_step(text, log, history, &trail[place], ahead)?;
     }
     Ok(())
+}
+
+/// The call ahead of which that of a place is moved, if it is.
+fn ahead_at(passed: &[Option<usize>], place: usize) -> Option<usize> {
+    match passed.get(place) {
+        Some(ahead) => *ahead,
+        None => None,
+    }
 }
 
 /// The lines of a step; none, where it made no moment.
@@ -56,12 +74,13 @@ fn put_step(
     log: &CallLog,
     history: &History,
     step: &TrailStep,
+    ahead: Option<usize>,
 ) -> Result<(), AllocError>
     ensures { OnOk result (Writes (string_bytes text.old) (string_bytes text.new) (step_calls history.now.tree.made step.now)) }
 {
     match step.moment {
         Some(moment) => {
-            put_origin(text, log, step.origin)?;
+            put_origin(text, log, step.origin, ahead)?;
             put_moment(text, history, moment)?;
             Ok(())
         }
@@ -70,10 +89,15 @@ fn put_step(
 }
 
 /// The line that tells where a call comes from.
-fn put_origin(text: &mut String, log: &CallLog, origin: Origin) -> Result<(), AllocError>
+fn put_origin(
+    text: &mut String,
+    log: &CallLog,
+    origin: Origin,
+    ahead: Option<usize>,
+) -> Result<(), AllocError>
     ensures { OnOk result (Writes (string_bytes text.old) (string_bytes text.new) []) }
 {
-    let line = origin_line(*text.allocator(), log, origin)?;
+    let line = origin_line(*text.allocator(), log, origin, ahead)?;
     put_comment(text, line.as_str())
 }
 

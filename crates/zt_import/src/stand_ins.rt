@@ -1,6 +1,7 @@
 //! Objects that the semantics has not, for which events stand in: which calls on them are in no trace, since no event answers as
 //! they do.
 
+use crate::arranged::Arranged;
 use crate::plan::Plan;
 use std::alloc::{AllocError, Global};
 use std::collections::{HashMap, HashSet};
@@ -154,7 +155,10 @@ pub fn leave_out(alloc: Global, log: &mut CallLog) -> Result<LeftCalls, LogFault
     {
         return Ok(left);
     }
-    let plan = Plan::of(alloc, log.calls.as_slice())?;
+    let Ok(mut order) = Arranged::of(alloc, log.calls.as_slice()) else {
+        return Err(Cause::OutOfMemory.at(0));
+    };
+    let plan = Plan::of(alloc, log.calls.as_slice(), &mut order)?;
     let calls = std::mem::replace(&mut log.calls, Vec::new(alloc));
     match keep(&plan.uses, calls, &mut log.calls, &mut left) {
         Ok(()) => Ok(left),

@@ -4,7 +4,9 @@ use crate::used_handles::handles_in;
 use std::alloc::{AllocError, Global};
 use std::collections::HashMap;
 use zt_bits::Status;
-use zt_logs::{CallLog, Cause, LineForm, LinePart, LogFault, LoggedCall, OtherKind, StartNote};
+use zt_logs::{
+    CallLog, CallTimes, Cause, LineForm, LinePart, LogFault, LoggedCall, OtherKind, StartNote,
+};
 use zt_rows::{Call, HandleValue};
 
 /// A process that was made, and not yet started.
@@ -271,7 +273,7 @@ fn join(
     if let Some(call) = spawned(log.calls.as_slice(), pending.made, argument) {
         set_call(log.calls.as_mut_slice(), pending.made, call);
     }
-    set_line(log.calls.as_mut_slice(), pending, start.line);
+    set_line(log.calls.as_mut_slice(), pending, &start);
     set_process(log.calls.as_mut_slice(), pending.made, start.process);
     let place = match pending.used {
         Some(used) => used,
@@ -289,7 +291,14 @@ struct Start {
     argument: HandleValue,
     /// The number of the process, if the line has it.
     process: Option<u64>,
+    times: CallTimes,
 }
+
+/// Nothing tells when a call began and returned.
+const NO_TIMES: CallTimes = CallTimes {
+    began: None,
+    ended: None,
+};
 
 fn start_in(calls: &[LoggedCall], number: usize) -> Option<Start> {
     let logged = calls.get(number)?;
@@ -299,6 +308,7 @@ fn start_in(calls: &[LoggedCall], number: usize) -> Option<Start> {
             caller: logged.process,
             argument: *argument,
             process: logged.recorded.process,
+            times: logged.times,
         }),
         _ => None,
     }
@@ -323,13 +333,17 @@ fn set_call(calls: &mut [LoggedCall], number: usize, call: Call) {
     logged.call = call;
 }
 
-/// A spawn is that of the line of its start, unless a call in between uses the process.
-fn set_line(calls: &mut [LoggedCall], pending: Pending, line: u64) {
+/// A spawn is that of the line of its start, unless a call in between uses the process: then it stands where neither line tells
+/// when it was made.
+fn set_line(calls: &mut [LoggedCall], pending: Pending, start: &Start) {
     let Some(logged) = calls.get_mut(pending.made) else {
         return;
     };
     if pending.used.is_none() {
-        logged.line = line;
+        logged.line = start.line;
+        logged.times = start.times;
+    } else {
+        logged.times = NO_TIMES;
     }
 }
 

@@ -4,14 +4,16 @@ ghost use Rattle.zt_history.specs.Tree.{opening_tree};
 ghost use Rattle.zt_history.specs.Tree.{state_at};
 ghost use Rattle.zt_import.specs.Schedule.{holds, port_at};
 ghost use Rattle.zt_import.specs.Trails.{answer_at, IsMadeOf};
-ghost use Rattle.zt_import.specs.ProofsOnly.TakenCalls.{IsTakenTrail, IsOneStepMore, IsAside, IsCallAt, is_beside};
+ghost use Rattle.zt_import.specs.ProofsOnly.TakenCalls.{IsTakenTrail, IsOneStepMore, IsAside, IsCallAt, IsTriedAt, is_beside};
 
+use crate::causes::may_be_by_order;
+use crate::comparison::agrees;
 use crate::port_queue::{holds, port_of};
 use crate::trail::{Origin, TrailStep};
 use std::alloc::{AllocError, Global};
 use std::marker::Model;
 use zt_history::{BranchId, History};
-use zt_logs::{Cause, LoggedPacket};
+use zt_logs::{Cause, LoggedCall, LoggedPacket};
 use zt_rows::{Call, Koid, Moment, Refusal, Reply};
 
 /// The branch on which all calls are made.
@@ -92,6 +94,36 @@ impl Taken {
         }
     }
 
+    /// Asks a call of the log where it answers what the log has, or where no other order can make it so, and tells whether. Else
+    /// nothing is taken.
+    pub(crate) fn ask_agreeing(
+        &mut self,
+        origin: Origin,
+        process: Koid,
+        call: &Call,
+        logged: &LoggedCall,
+    ) -> Result<bool, Cause> {
+        self.trail.reserve(1)?;
+        match called_agreeing(&mut self.history, process, call, logged)? {
+            Tried::Made(moment) => {
+                push_kept(&mut self.trail, origin, moment);
+                Ok(true)
+            }
+            Tried::Undone => Ok(false),
+        }
+    }
+
+    /// What the last call answered; nothing, where it was not made.
+    pub(crate) fn last_reply(&self) -> Option<&Reply> {
+        match self.trail.last() {
+            Some(step) => match step.moment {
+                Some(moment) => self.history.reply_of(moment),
+                None => None,
+            },
+            None => None,
+        }
+    }
+
     /// The same of a call that the log does not have, and which makes no process for it.
     pub(crate) fn ask_aside(
         &mut self,
@@ -141,6 +173,53 @@ impl Taken {
             None => None,
         }
     }
+}
+
+/// What became of a call that was to be made only where its reply is kept.
+enum Tried {
+    /// It made this moment; none, where its process is not alive.
+    Made(Option<Moment>),
+    /// It was taken back.
+    Undone,
+}
+
+/// Makes a call at the head of `main`, and takes it back where its reply is not what the log has and another order may make it so.
+fn called_agreeing(
+    history: &mut History,
+    process: Koid,
+    call: &Call,
+    logged: &LoggedCall,
+) -> Result<Tried, Cause>
+    requires { 0 < length history.old.tree.branches }
+    ensures ok { IfOk result (IsTriedAt history.old.tree history.new.tree process call.now) }
+    ensures err { OnErr result (history.new.tree ≡ history.old.tree) }
+{
+    match history.call(MAIN, process, call) {
+        Ok(made) => {
+            let (moment, reply) = made;
+            if is_kept(logged, Some(&reply)) {
+                Ok(Tried::Made(Some(moment)))
+            } else {
+                history.retract();
+                Ok(Tried::Undone)
+            }
+        }
+        Err(refusal) => match refusal {
+            Refusal::NoProcess => {
+                if is_kept(logged, None) {
+                    Ok(Tried::Made(None))
+                } else {
+                    Ok(Tried::Undone)
+                }
+            }
+            _ => Err(Cause::from(refusal)),
+        },
+    }
+}
+
+/// Whether a reply is what the log has, or no other order can make it so.
+fn is_kept(logged: &LoggedCall, reply: Option<&Reply>) -> bool {
+    agrees(&logged.recorded, reply) || !may_be_by_order(logged, reply)
 }
 
 /// Makes a call at the head of `main`, where its process is alive.

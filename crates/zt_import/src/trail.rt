@@ -20,6 +20,13 @@ pub enum Origin {
         /// How many objects of this kind were made before for other handles, of which each may have been the same one.
         others: u64,
     },
+    /// The log has a handle of this process that comes from nowhere, of the object of a handle that did before.
+    Duplicate {
+        process: u64,
+        handle: HandleValue,
+        first_process: u64,
+        first_handle: HandleValue,
+    },
     /// The call of the log with this number, counted from 0, needs it: the message that it reads came from outside.
     Outside(usize),
     /// It is the call of the log with this number, counted from 0.
@@ -32,7 +39,7 @@ pub struct JoinedEnd {
     /// The process of the first handle that the log has of it.
     pub process: u64,
     pub handle: HandleValue,
-    /// How many messages were read at either end, each of which was written at the other.
+    /// How many messages were read at either end, each of which was written at the other; 0, where the log tells that by koids.
     pub messages: usize,
     /// The lines where the first of them was written and read.
     pub written: u64,

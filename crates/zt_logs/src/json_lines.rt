@@ -9,6 +9,7 @@ ghost use Rattle.zt_logs.specs.ProofsOnly.ReadLines.{IsParsed, AddsLogged, AddsC
 
 use crate::call_names::{CallName, changes_nothing};
 use crate::faults::{Cause, LogFault};
+use crate::koids::koids_of;
 use crate::line_calls::{calls_of, form_of};
 use crate::logged::CallLog;
 use crate::logged_parts::{LineHead, push_parts};
@@ -19,6 +20,7 @@ use crate::places::{LineObject, Member};
 use crate::process_names::{NamedPlace, Naming, ProcessNames, ProcessWord};
 use crate::recorded::recorded_of;
 use crate::skipped::{SkippedCall, skipped_of};
+use crate::times::times_of;
 use json::{Error, Scratch, Value};
 use memchr::memchr;
 use std::alloc::{AllocError, Global};
@@ -273,8 +275,10 @@ fn take_call(
         process,
         form: form_of(name),
         count,
+        times: times_of(line),
     };
-    push_parts(alloc, &mut log.calls, head, parts, recorded)
+    let koids = koids_of(alloc, line)?;
+    push_parts(alloc, &mut log.calls, head, parts, recorded, koids)
 }
 
 /// The number of the process that makes the calls of a line, of which there are so many from this place on.

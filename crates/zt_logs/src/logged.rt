@@ -1,7 +1,9 @@
+use crate::koids::HandleKoid;
 use crate::line_parts::LinePart;
 use crate::notes::LogNotes;
 use crate::process_names::ProcessNames;
 use crate::skipped::SkippedCall;
+use crate::times::CallTimes;
 use zt_bits::{Signals, Status};
 use zt_rows::{Call, HandleValue, Items};
 
@@ -12,6 +14,9 @@ pub struct LoggedCall {
     pub line: u64,
     /// The process that made the call, by its number in the log, or by that which stands for its name.
     pub process: u64,
+    pub times: CallTimes,
+    /// The objects of its handles, and their peers, as far as the line tells.
+    pub koids: Vec<HandleKoid>,
     /// The call, whose handles are those of the log.
     pub call: Call,
     /// Which of the calls of its line it is.

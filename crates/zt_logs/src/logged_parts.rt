@@ -6,10 +6,12 @@ ghost use Rattle.zt_logs.specs.Logged.{IsPart, part_status};
 ghost use Rattle.zt_logs.specs.ProofsOnly.ReadLines.{AddsAhead, AddsParts};
 
 use crate::faults::Cause;
+use crate::koids::HandleKoid;
 use crate::line_calls::PartCall;
 use crate::line_parts::{LineForm, LinePart};
 use crate::logged::{LoggedCall, RecordedReply};
 use crate::members::push_handle;
+use crate::times::CallTimes;
 use std::alloc::{AllocError, Global};
 use zt_bits::Status;
 use zt_rows::{HandleValue, Items};
@@ -22,11 +24,18 @@ pub(crate) struct LineHead {
     pub(crate) form: LineForm,
     /// How many calls it has.
     pub(crate) count: usize,
+    pub(crate) times: CallTimes,
 }
 
 impl LineHead {
     /// The call of the line behind so many others of it.
-    fn call(self, ahead: usize, part: PartCall, recorded: RecordedReply) -> LoggedCall
+    fn call(
+        self,
+        ahead: usize,
+        part: PartCall,
+        recorded: RecordedReply,
+        koids: Vec<HandleKoid>,
+    ) -> LoggedCall
         ensures part { IsPart self.line self.count ahead part result }
         ensures recorded { result.recorded ≡ recorded }
     {
@@ -38,6 +47,8 @@ impl LineHead {
         LoggedCall {
             line: self.line,
             process: self.process,
+            times: self.times,
+            koids,
             call,
             part: LinePart {
                 form: self.form,
@@ -52,7 +63,7 @@ impl LineHead {
 }
 
 /// Puts the calls of a line behind those before. What was answered is that of the last; those ahead of it have the status that
-/// follows of it.
+/// follows of it. The last has the koids of the line.
 #[tactic(auto, using(crate::proofs::LineCallLaws::parts_added, crate::proofs::LineCallLaws::none_added))]
 pub(crate) fn push_parts(
     alloc: Global,
@@ -60,6 +71,7 @@ pub(crate) fn push_parts(
     head: LineHead,
     mut parts: Vec<PartCall>,
     recorded: RecordedReply,
+    koids: Vec<HandleKoid>,
 ) -> Result<(), Cause>
     requires { head.count ≡ length parts.items }
     ensures { OnOk result (AddsParts head.line parts.items recorded calls.old.items calls.new.items) }
@@ -69,7 +81,7 @@ pub(crate) fn push_parts(
     };
     let status = part_status(recorded.status);
     push_ahead(alloc, calls, head, parts.as_slice(), status)?;
-    push_logged(calls, head.call(parts.len(), last, recorded))
+    push_logged(calls, head.call(parts.len(), last, recorded, koids))
 }
 
 /// Puts those that are ahead of the last.
@@ -85,7 +97,7 @@ fn push_ahead(
     for ahead in 0..parts.len() {
         let part = copy_of(&parts[ahead])?;
         let recorded = ahead_answer(alloc, status, part.given)?;
-        push_logged(calls, head.call(ahead, part, recorded))?;
+        push_logged(calls, head.call(ahead, part, recorded, Vec::new(alloc)))?;
     }
     Ok(())
 }

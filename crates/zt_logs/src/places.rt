@@ -84,6 +84,14 @@ pub enum Member {
     Signal,
     Trigger,
     Observed,
+    /// When the call returned.
+    Time,
+    TimeStamp,
+    /// When it began.
+    Began,
+    Koids,
+    /// The objects that are the peers of those of handles.
+    RelatedKoids,
     /// The handle of a process that was made.
     ProcessHandle,
     /// That of its address space.
@@ -141,6 +149,11 @@ impl Member {
             Member::Signal => "signal",
             Member::Trigger => "trigger",
             Member::Observed => "observed",
+            Member::Time => "time",
+            Member::TimeStamp => "ts",
+            Member::Began => "began",
+            Member::Koids => "koids",
+            Member::RelatedKoids => "related_koids",
             Member::ProcessHandle => "proc_handle",
             Member::VmarHandle => "vmar_handle",
             Member::StartedProcess => "handle",
@@ -169,6 +182,7 @@ impl Member {
             Member::CalledPort => "handle",
             Member::ParentJob => "parent_job",
             Member::Code => "retcode",
+            Member::Time => "timestamp",
             Member::StartedProcess => "process",
             Member::ReadBytes => "bytes",
             Member::ReadHandles => "handles",

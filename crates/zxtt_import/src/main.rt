@@ -12,7 +12,7 @@ use std::alloc::AllocError;
 use std::process::ExitCode;
 use words::{Asked, Words};
 use zt_import::{
-    Imported, LeftCalls, adopted_in, calls_in, import, join_starts, leave_out, pairs_in,
+    Imported, LeftCalls, adopted_in, calls_in, import, join_starts, leave_out, moved_in, pairs_in,
     place_requests, print_difference, print_left, print_skipped, skips_handles, trace_text,
 };
 use zt_logs::{CallLog, Cause, LogFault, read_log};
@@ -143,9 +143,10 @@ fn tell_counts(rt: &HostRuntime, log: &CallLog, imported: &Imported) {
     let skipped = log.skipped.len();
     let adopted = adopted_in(imported.trail());
     let pairs = pairs_in(imported.trail());
+    let moved = moved_in(imported.trail());
     let differing = imported.count();
     let scheduled = imported.by_schedule();
     let _ = eprintln!(rt;
-        "zxtt-import: {calls} calls of {lines} lines, {skipped} skipped, {adopted} adopted, {pairs} pairs by their messages; {differing} differences, {scheduled} of them by the schedule"
+        "zxtt-import: {calls} calls of {lines} lines, {skipped} skipped, {adopted} adopted, {pairs} pairs by their messages, {moved} moved; {differing} differences, {scheduled} of them by the schedule"
     );
 }

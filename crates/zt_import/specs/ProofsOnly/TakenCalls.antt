@@ -15,8 +15,11 @@ use Rattle.zt_import.specs.declared.trail.Difference.{Difference}
 use Rattle.zt_import.specs.declared.trail.Origin.{Origin}
 use Rattle.zt_import.specs.declared.trail.Origin.TheVariants as origin
 use Rattle.zt_import.specs.declared.trail.TrailStep.{TrailStep}
+use Rattle.zt_import.specs.declared.taken.Tried.{Tried}
+use Rattle.zt_import.specs.declared.taken.Tried.TheVariants as tried
 use Rattle.zt_import.specs.Imports.{Import}
-use Rattle.zt_import.specs.Trails.{calls_of, number_in, numbers_in, moments_in, below, moments_to, pair_by, stands_for, IsMadeBy, AreMadeBy}
+use Rattle.zt_import.specs.Orders.{IsOrder}
+use Rattle.zt_import.specs.Trails.{calls_of, number_in, numbers_in, moments_in, moments_to, pair_by, stands_for, IsMadeBy, AreMadeBy}
 
 pub record TakenView : Type 0 where
   pub tree : Tree
@@ -84,16 +87,26 @@ pub record IsAdopting (old new : TakenView) (before after : Processes) : Type 0 
   pub made : (calls : List LoggedCall) → AreMadeBy calls old.tree.made [] old.trail → AreMadeBy calls new.tree.made [] new.trail
   pub known : (calls : List LoggedCall) → Knows calls old before → Knows calls new after
 
--- the calls of the log before this number were asked, each as itself
-pub record HasRun (calls : List LoggedCall) (number : ℕ) (view : TakenView) (processes : Processes) : Type 0 where
-  pub numbers : numbers_in view.trail ≡ below number
+-- the calls of the log of these numbers were asked in turn, each as itself
+pub record HasRun (calls : List LoggedCall) (done : List ℕ) (view : TakenView) (processes : Processes) : Type 0 where
+  pub numbers : numbers_in view.trail ≡ done
   pub made : AreMadeBy calls view.tree.made [] view.trail
   pub known : Knows calls view processes
+
+-- all calls of the log were asked, in an order in which they may be run
+pub record IsRunOf (calls : List LoggedCall) (view : TakenView) : Type 0 where
+  pub numbers : IsOrder calls (numbers_in view.trail)
+  pub made : AreMadeBy calls view.tree.made [] view.trail
 
 -- this call was made at this moment by this process, or none
 abbrev pub IsCallAt : Tree → Tree → ℕ → Call → Option ℕ → Type 0
 IsCallAt old new process call None = new ≡ old
 IsCallAt old new process call (Some moment) = (reply : Reply) × (call_on old 0 process call ≡ Ok (answer.Called moment reply, new))
+
+-- it was made and kept, or taken back
+abbrev pub IsTriedAt : Tree → Tree → ℕ → Call → Tried → Type 0
+IsTriedAt old new process call (tried.Made moment) = IsCallAt old new process call moment
+IsTriedAt old new process call tried.Undone = new ≡ old
 
 -- ---- what is compared
 

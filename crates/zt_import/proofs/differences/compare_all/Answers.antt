@@ -1,5 +1,5 @@
 -- One step more.
-use Rattle.std.proofs.Common.{◌≡◌, ◌+◌, suc, refl, sym, ap, ◌∙◌, arith}
+use Rattle.std.proofs.Common.{◌≡◌, ◌+◌, suc, arith}
 use Rattle.zt_import.proofs.ImportLaws.{compared-step, compared-whole}
 use Rattle.zt_import.proofs.differences.compare_all.Goals as goal
 

@@ -1,5 +1,5 @@
 -- The one that is sought is found, or none is left.
-use Rattle.std.proofs.Common.{◌≡◌, Option, ℕ, sym, ◌∙◌, subst}
+use Rattle.std.proofs.Common.{sym, ◌∙◌, subst}
 use Rattle.zt_import.specs.ProofsOnly.PortQueue.{AreOthersBefore}
 use Rattle.zt_import.proofs.PortQueueLaws.{one-held, none-held}
 use Rattle.zt_import.proofs.port_queue.holds.Goals as goal

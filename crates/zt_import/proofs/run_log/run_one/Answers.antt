@@ -7,9 +7,9 @@ use Rattle.zt_import.proofs.ImportLaws.{one-run}
 use Rattle.zt_import.proofs.run_log.run_one.Goals as goal
 
 pub returns : goal.returns
-returns c =
+returns c = λ done so.
     let found : slice_get c.args.calls.now c.args.index ≡ Some c.index-calls-index.result =
-    slice_get_read c.args.calls.now (length c.args.calls.now) c.args.index c.index-calls-index.result refl c.requires.within c.index-calls-index.is in
-    one-run c.args.calls.now c.args.index c.index-calls-index.result c.args.taken.now c.write_outside.new.taken c.run_call.new.taken c.args.numbers.now.processes
-    c.learn.new.numbers.processes c.in_ok-moment.moment found c.requires.so_far c.in_ok-write_outside.ensures c.in_ok-moment.ensures.one c.in_ok-moment.ensures.made
+    slice_get_read c.args.calls.now (length c.args.calls.now) c.args.index c.index-calls-index.result refl c.requires c.index-calls-index.is in
+    one-run c.args.calls.now done c.args.index c.index-calls-index.result c.args.taken.now c.write_outside.new.taken c.run_call.new.taken c.args.numbers.now.processes
+    c.learn.new.numbers.processes c.in_ok-moment.moment found so c.in_ok-write_outside.ensures c.in_ok-moment.ensures.one c.in_ok-moment.ensures.made
     (option_copied c.reply.result) c.reply.ensures c.in_ok-learn.ensures

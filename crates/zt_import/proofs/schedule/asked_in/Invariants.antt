@@ -1,7 +1,7 @@
--- The calls of the log among the steps so far.
-use Rattle.std.proofs.Common.{◌≡◌, take}
-use Rattle.zt_import.specs.Trails.{asked_in}
+-- The steps so far have asked the calls.
+use Rattle.std.proofs.Common.{◌≡◌, take, map}
+use Rattle.zt_import.specs.Trails.{asked_after, not_asked}
 use Rattle.zt_import.proofs.schedule.asked_in.Given as goal
 
 abbrev pub invariant-loop-place : goal.invariant-loop-place
-invariant-loop-place l = l.asked.items ≡ asked_in l.calls (take l.place l.trail)
+invariant-loop-place l = l.asked.items ≡ asked_after l.calls (map not_asked l.calls) (take l.place l.trail)

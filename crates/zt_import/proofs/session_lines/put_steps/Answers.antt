@@ -6,5 +6,5 @@ use Rattle.zt_import.proofs.session_lines.put_steps.Goals as goal
 pub returns : goal.returns
 returns c =
     session-put (string_bytes c.args.text.now) (string_bytes c.push_str.new.self) (string_bytes c.put_trail.new.text) c.args.imported.now
-    c.history.result.now.tree c.trail.result.now c.requires c.in_ok-push_str.ensures.bytes c.history.ensures.tree c.trail.ensures
+    c.history.result.now.tree c.trail-2.result.now c.requires c.in_ok-push_str.ensures.bytes c.history.ensures.tree c.trail-2.ensures
     c.history.ensures.loads c.in_ok-put_trail.ensures

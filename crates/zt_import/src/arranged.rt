@@ -1,0 +1,313 @@
+//! The calls of a log in an order that is looked for, call by call.
+
+use crate::order::{Move, may_precede, move_ahead};
+use std::alloc::{AllocError, Global};
+use std::collections::HashMap;
+use zt_bits::Status;
+use zt_logs::LoggedCall;
+use zt_rows::Call;
+
+/// The most spawns that are moved ahead of one call: that of its process, of that one's parent, and so on.
+const ANCESTORS: usize = 64;
+
+/// The calls of a log in the order to which moves led so far.
+#[derive(Drop)]
+pub(crate) struct Arranged {
+    numbers: Vec<usize>,
+    /// The place of each call.
+    places: Vec<usize>,
+    moves: Vec<Move>,
+}
+
+impl Arranged {
+    /// The order of the log, but for each `spawn` that stands behind a call of the process that it makes: it is moved ahead of the
+    /// first of them.
+    pub(crate) fn of(alloc: Global, calls: &[LoggedCall]) -> Result<Arranged, AllocError> {
+        let mut order = Arranged {
+            numbers: Vec::new(alloc),
+            places: Vec::new(alloc),
+            moves: Vec::new(alloc),
+        };
+        for number in 0..calls.len() {
+            order.push(number)?;
+        }
+        order.move_spawns(alloc, calls)?;
+        Ok(order)
+    }
+
+    fn push(&mut self, number: usize) -> Result<(), AllocError> {
+        self.numbers.push(number)?;
+        self.places.push(number)?;
+        Ok(())
+    }
+
+    /// The call of a place.
+    pub(crate) fn at(&self, place: usize) -> Option<usize> {
+        self.numbers.get(place).copied()
+    }
+
+    /// The place of a call.
+    pub(crate) fn place_of(&self, number: usize) -> usize {
+        match self.places.get(number) {
+            Some(place) => *place,
+            None => number,
+        }
+    }
+
+    pub(crate) fn numbers(&self) -> &[usize] {
+        self.numbers.as_slice()
+    }
+
+    /// The moves that led to it.
+    pub(crate) fn moves(&self) -> &[Move] {
+        self.moves.as_slice()
+    }
+
+    /// Whether a call may be moved from one place to an earlier one.
+    pub(crate) fn can_move(&self, calls: &[LoggedCall], from: usize, to: usize) -> bool {
+        to <= from && self.can_pass(calls, from, to, from)
+    }
+
+    /// Moves a call ahead, where it may be moved so far, and tells whether it was.
+    pub(crate) fn move_ahead(
+        &mut self,
+        calls: &[LoggedCall],
+        from: usize,
+        to: usize,
+    ) -> Result<bool, AllocError> {
+        if from <= to || !self.can_move(calls, from, to) {
+            return Ok(false);
+        }
+        let made = Move { from, to };
+        self.moves.push(made)?;
+        let _is_there = move_ahead(calls, &mut self.numbers, made);
+        self.place_again(from, to);
+        Ok(true)
+    }
+
+    /// Moves a call ahead, with those ahead of it that are of its line, where all may be moved so far. Tells whether they were.
+    pub(crate) fn move_line(
+        &mut self,
+        calls: &[LoggedCall],
+        from: usize,
+        to: usize,
+    ) -> Result<bool, AllocError> {
+        if !self.can_move_line(calls, from, to) {
+            return Ok(false);
+        }
+        let first = self.line_begin(calls, from);
+        for place in first..from.saturating_add(1) {
+            let target = to.saturating_add(place.saturating_sub(first));
+            let _is_moved = self.move_ahead(calls, place, target)?;
+        }
+        Ok(true)
+    }
+
+    /// Whether a call may be moved ahead with those ahead of it that are of its line.
+    pub(crate) fn can_move_line(&self, calls: &[LoggedCall], from: usize, to: usize) -> bool {
+        let first = self.line_begin(calls, from);
+        first > to
+            && self.are_of_line(calls, first, from)
+            && (first..from.saturating_add(1)).all(|place| self.can_pass(calls, place, to, first))
+    }
+
+    /// The place of the first call of the line of that of a place.
+    fn line_begin(&self, calls: &[LoggedCall], place: usize) -> usize {
+        match self.at(place) {
+            Some(number) => match calls.get(number) {
+                Some(logged) => place.saturating_sub(logged.part.ahead),
+                None => place,
+            },
+            None => place,
+        }
+    }
+
+    /// Whether the calls of these places are of one line.
+    fn are_of_line(&self, calls: &[LoggedCall], first: usize, last: usize) -> bool {
+        let line = self.line_at(calls, last);
+        (first..last).all(|place| self.line_at(calls, place) == line)
+    }
+
+    fn line_at(&self, calls: &[LoggedCall], place: usize) -> Option<u64> {
+        let number = self.at(place)?;
+        match calls.get(number) {
+            Some(logged) => Some(logged.line),
+            None => None,
+        }
+    }
+
+    /// Whether the call of a place may be moved ahead of all that stand between two places.
+    pub(crate) fn can_pass(
+        &self,
+        calls: &[LoggedCall],
+        from: usize,
+        begin: usize,
+        end: usize,
+    ) -> bool {
+        let Some(number) = self.at(from) else {
+            return false;
+        };
+        for place in begin..end {
+            match self.at(place) {
+                Some(passed) if may_precede(calls, number, passed) => {}
+                _ => return false,
+            }
+        }
+        true
+    }
+
+    /// The calls of these places have them.
+    fn place_again(&mut self, from: usize, to: usize) {
+        for place in to..from.saturating_add(1) {
+            if let Some(number) = self.numbers.get(place).copied() {
+                if let Some(known) = self.places.get_mut(number) {
+                    *known = place;
+                }
+            }
+        }
+    }
+
+    /// Whether the first of two calls stands ahead of the other.
+    pub(crate) fn precedes(&self, one: usize, other: usize) -> bool {
+        self.place_of(one) < self.place_of(other)
+    }
+
+    /// Moves each `spawn` ahead of the calls of its process.
+    fn move_spawns(&mut self, alloc: Global, calls: &[LoggedCall]) -> Result<(), AllocError> {
+        let spawns = spawns_in(alloc, calls)?;
+        if spawns.is_empty() {
+            return Ok(());
+        }
+        let mut known = HashMap::new(alloc);
+        for place in 0..calls.len() {
+            self.move_spawns_to(calls, &spawns, &known, place)?;
+            if let Some(process) = self.process_at(calls, place) {
+                know(&mut known, process)?;
+            }
+        }
+        Ok(())
+    }
+
+    /// Moves the `spawn` of the process that makes the call of a place there, and so that of its parent.
+    fn move_spawns_to(
+        &mut self,
+        calls: &[LoggedCall],
+        spawns: &HashMap<u64, usize>,
+        known: &HashMap<u64, ()>,
+        place: usize,
+    ) -> Result<(), AllocError> {
+        for _ in 0..ANCESTORS {
+            let Some(process) = self.process_at(calls, place) else {
+                return Ok(());
+            };
+            let spawn = match spawns.get(&process) {
+                Some(spawn) if !known.contains_key(&process) => *spawn,
+                _ => return Ok(()),
+            };
+            if !self.move_with_others(calls, self.place_of(spawn), place)? {
+                return Ok(());
+            }
+        }
+        Ok(())
+    }
+}
+
+impl Arranged {
+    /// Moves a call ahead, and the calls of its process that stand between, each in its order, where all may be moved so far. Tells whether
+    /// they were.
+    fn move_with_others(
+        &mut self,
+        calls: &[LoggedCall],
+        from: usize,
+        to: usize,
+    ) -> Result<bool, AllocError> {
+        if from <= to || !self.can_move_with_others(calls, from, to) {
+            return Ok(false);
+        }
+        let process = self.process_at(calls, from);
+        let mut next = to;
+        for place in to..from.saturating_add(1) {
+            if self.process_at(calls, place) == process {
+                let _is_moved = self.move_ahead(calls, place, next)?;
+                next = next.saturating_add(1);
+            }
+        }
+        Ok(true)
+    }
+
+    /// Whether a call may be moved ahead with those of its process that stand between.
+    fn can_move_with_others(&self, calls: &[LoggedCall], from: usize, to: usize) -> bool {
+        let process = self.process_at(calls, from);
+        for place in to..from.saturating_add(1) {
+            if self.process_at(calls, place) == process && !self.can_pass_others(calls, place, to) {
+                return false;
+            }
+        }
+        true
+    }
+
+    /// Whether a call may be moved ahead of those of other processes that stand between.
+    fn can_pass_others(&self, calls: &[LoggedCall], from: usize, to: usize) -> bool {
+        let process = self.process_at(calls, from);
+        let Some(number) = self.at(from) else {
+            return false;
+        };
+        for place in to..from {
+            let is_other = self.process_at(calls, place) != process;
+            if is_other
+                && !self
+                    .at(place)
+                    .is_some_and(|passed| may_precede(calls, number, passed))
+            {
+                return false;
+            }
+        }
+        true
+    }
+
+    /// The process that makes the call of a place.
+    fn process_at(&self, calls: &[LoggedCall], place: usize) -> Option<u64> {
+        let number = self.at(place)?;
+        match calls.get(number) {
+            Some(logged) => Some(logged.process),
+            None => None,
+        }
+    }
+}
+
+fn know(known: &mut HashMap<u64, ()>, process: u64) -> Result<(), AllocError> {
+    match known.insert(process, ()) {
+        Ok(_) => Ok(()),
+        Err(_) => Err(AllocError),
+    }
+}
+
+/// Which call makes each process.
+fn spawns_in(alloc: Global, calls: &[LoggedCall]) -> Result<HashMap<u64, usize>, AllocError> {
+    let mut spawns = HashMap::new(alloc);
+    for number in 0..calls.len() {
+        if let Some(process) = spawned_by(&calls[number]) {
+            put_spawn(&mut spawns, process, number)?;
+        }
+    }
+    Ok(spawns)
+}
+
+fn put_spawn(
+    spawns: &mut HashMap<u64, usize>,
+    process: u64,
+    number: usize,
+) -> Result<(), AllocError> {
+    match spawns.insert(process, number) {
+        Ok(_) => Ok(()),
+        Err(_) => Err(AllocError),
+    }
+}
+
+/// The process that a call made.
+fn spawned_by(logged: &LoggedCall) -> Option<u64> {
+    match logged.call {
+        Call::Spawn { .. } if logged.recorded.status == Some(Status::Ok) => logged.recorded.process,
+        _ => None,
+    }
+}

@@ -1,0 +1,78 @@
+//! When calls of a log began and returned.
+
+use crate::members::Members;
+use crate::numbers::number_in;
+use crate::places::Member;
+use json::Value;
+use std::num::{nearest_u64_to_f64, saturating_f64_to_u64};
+
+/// A time on the clock of a log: whole units, and the rest in parts of 10 to the power of 9 of one.
+#[derive(Clone, Copy, Debug, PartialEq, Eq)]
+pub struct LogTime {
+    pub whole: u64,
+    pub part: u64,
+}
+
+/// When a call began and returned, as far as its line tells.
+#[derive(Clone, Copy, Debug, PartialEq, Eq)]
+pub struct CallTimes {
+    /// On the clock of `ended`, or a line's number where that is not told.
+    pub began: Option<LogTime>,
+    pub ended: Option<LogTime>,
+}
+
+/// When the call of a line began and returned. A time of another form is as one that is left out.
+pub(crate) fn times_of(line: &Members<'_, '_>) -> CallTimes {
+    CallTimes {
+        began: time_at(line, Member::Began),
+        ended: time_at(line, Member::Time).or(time_at(line, Member::TimeStamp)),
+    }
+}
+
+fn time_at(line: &Members<'_, '_>, name: Member) -> Option<LogTime> {
+    let value = line.member(name)?;
+    if let Some(whole) = number_in(value) {
+        return Some(LogTime { whole, part: 0 });
+    }
+    match value {
+        Value::String(text) => time_of(*text),
+        _ => broken_time(value.as_f64()?),
+    }
+}
+
+/// The parts of a unit that are counted.
+const PARTS: f64 = 1_000_000_000.0;
+
+/// A time with a fraction.
+fn broken_time(time: f64) -> Option<LogTime> {
+    if !(time >= 0.0 && time.is_finite()) {
+        return None;
+    }
+    let whole = saturating_f64_to_u64(time);
+    let part = saturating_f64_to_u64((time - nearest_u64_to_f64(whole)) * PARTS);
+    Some(LogTime { whole, part })
+}
+
+/// A time that a text writes: decimals, a point and decimals.
+fn time_of(text: &str) -> Option<LogTime> {
+    let (whole, part) = text.split_once(".")?;
+    let whole = u64::from_str_radix(whole, 10).ok()?;
+    let part = part_of(part.as_bytes())?;
+    Some(LogTime { whole, part })
+}
+
+/// What decimals behind a point are in parts of 10 to the power of 9. More than nine of them are not looked at.
+fn part_of(digits: &[u8]) -> Option<u64> {
+    if digits.is_empty() || !digits.iter().all(|digit| digit.is_ascii_digit()) {
+        return None;
+    }
+    let mut part = 0u64;
+    for place in 0..9usize {
+        let digit = match digits.get(place) {
+            Some(digit) => u64::from(digit.saturating_sub(b'0')),
+            None => 0,
+        };
+        part = part.saturating_mul(10).saturating_add(digit);
+    }
+    Some(part)
+}
