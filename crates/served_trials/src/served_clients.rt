@@ -49,12 +49,12 @@ fn serve_named<
     requires third { IsNamed C.name C.parts C.cells blanks.third }
     requires fourth { IsNamed D.name D.parts D.cells blanks.fourth }
 {
-    let (shared, passes) = match open::<A, B, C, D>(rt.alloc(), blanks) {
-        Ok(opened) => opened,
+    let (opened, passes) = match open::<A, B, C, D>(rt.alloc(), blanks) {
+        Ok(whole) => whole,
         Err(refusal) => return Err(refusal),
     };
     let callers = callers(rt.alloc(), passes, ends)?;
-    match sessions(rt, rt.alloc(), shared, callers, gate) {
+    match sessions(rt, rt.alloc(), opened, callers, gate) {
         Ok((book, served)) => Ok((book.into_log(), served)),
         Err(_) => Err(Refusal::OutOfMemory),
     }

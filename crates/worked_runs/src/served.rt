@@ -48,8 +48,8 @@ fn serve_named<A: Naming + Beginning, B: Naming, C: Naming, D: Naming, R: Wait +
     requires fresh { IsFresh 1 book }
 {
     match open_book::<A, B, C, D>(rt.alloc(), blanks, book) {
-        Ok((shared, mut passes)) => match passes.pop() {
-            Some(pass) => serve_pass(rt, &shared, pass, asked),
+        Ok((opened, mut passes)) => match passes.pop() {
+            Some(pass) => serve_pass(rt, opened.shared(), pass, asked),
             None => unreachable!(),
         },
         Err((_, refusal)) => Err(refusal),

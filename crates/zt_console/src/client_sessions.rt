@@ -14,7 +14,7 @@ use std::sync::Wait;
 use std::thread::Threads;
 use zt_book::Book;
 use zt_shared::account::Naming;
-use zt_shared::{Beginning, Gate, Pass, Shared, close_book};
+use zt_shared::{Beginning, Gate, OpenedBook, Pass, close_book};
 
 /// What a client brings: where its lines come from, where their text goes, and its pass.
 pub type Caller<I, O, A, B, C, D> = (Counted<I>, Counted<O>, Pass<A, B, C, D>);
@@ -63,20 +63,21 @@ pub fn sessions<
 >(
     rt: &R,
     alloc: Global,
-    shared: Shared<A, B, C, D>,
+    opened: OpenedBook<A, B, C, D>,
     callers: Vec<Caller<I, O, A, B, C, D>>,
     gate: &G,
-) -> Result<(Book, Vec<Served<I, O>>), (Shared<A, B, C, D>, Vec<Caller<I, O, A, B, C, D>>)>
+) -> Result<(Book, Vec<Served<I, O>>), (OpenedBook<A, B, C, D>, Vec<Caller<I, O, A, B, C, D>>)>
     requires all { IsPermutation (numbers A.clients) (map (λ caller. caller.2.client) callers.items) }
     requires counts { All IsCountable callers.items }
     ensures log { IfOk result (λ done. IsOneLog A.clients (map (λ caller. told_in done.0.log caller.2) callers.items) done.0.log) }
     ensures end { IfOk result (λ done. All (λ caller. Replays caller.2.base done.0.log done.0.session) callers.items) }
+    ensures begun { IfOk result (λ done. Replays opened.base done.0.log done.0.session) }
     ensures clients { IfOk result (λ done. length done.0.session.clients ≡ A.clients) }
     ensures each { IfOk result (λ done. AllZip (λ caller served. IsServed I.remaining O.contents caller (told_in done.0.log caller.2) served.reader served.writer served.end) callers.items done.1.items) }
-    ensures refused { IfErr result (λ back. (back.0 ≡ shared) × (back.1 ≡ callers)) }
+    ensures refused { IfErr result (λ back. (back.0 ≡ opened) × (back.1 ≡ callers)) }
 {
     let Ok(lists) = room_for(alloc, callers.len()) else {
-        return Err((shared, callers));
+        return Err((opened, callers));
     };
     let SessionLists {
         mut waiting,
@@ -86,9 +87,9 @@ pub fn sessions<
         mut passes,
     } = lists;
     take_places(&mut waiting, callers);
-    let places = serve_all(rt, alloc, &shared, gate, waiting, threads, places);
+    let places = serve_all(rt, alloc, opened.shared(), gate, waiting, threads, places);
     leave_places(places, &mut served, &mut passes);
-    let book = close_book(shared, passes);
+    let book = close_book(opened, passes);
     Ok((book, served))
 }
 

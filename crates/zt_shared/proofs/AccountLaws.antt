@@ -1,12 +1,11 @@
 -- What the two sides of an account know.
-use Rattle.std.proofs.Common.{◌≡◌, ℕ, suc, ◌<◌, List, [], ◌∷◌, ◌++◌, length, map, take, get_or, refl, ap, sym, ◌∙◌, arith, Some, None}
-use Rattle.std.specs.Prelude.{Option, IfSome}
+use Rattle.std.proofs.Common.{◌≡◌, ℕ, suc, ◌≤◌, ◌<◌, Bool, true, false, cond, List, [], ◌∷◌, ◌++◌, length, map, take, get_or, refl, ap, sym, ◌∙◌, arith, Some, None}
+use Rattle.std.specs.Prelude.{Option, IfSome, nat_le}
 use Rattle.std.proofs.lemmas.List.{take_more, length-map, length_push, map_push, get_or-map}
 use Rattle.std.specs.declared.alloc.Global.{Global}
 use Rattle.once_cell.specs.Once.{Agrees, cell_name}
 use Rattle.zt_shared.specs.declared.account.NoteSlot.{NoteSlot}
-use Rattle.zt_shared.specs.Accounts.{most}
-use Rattle.zt_shared.specs.ProofsOnly.Accounts.{somes, cells_of, known_of, KnowsItsRows}
+use Rattle.zt_shared.specs.Accounts.{most, smaller, somes, cells_of, known_of, KnowsItsRows}
 
 module _ {T : Type 0} where
   pub somes-all : (xs : List T) → somes (map Some xs) ≡ xs
@@ -93,3 +92,9 @@ pub name-at : (cells : List (Global × ℕ)) (names : List ℕ) (i : ℕ) (cell 
 name-at cells names i cell named within at =
     let inside : i < length cells = omega (arith, length-map cells cell_name, ap length named, within) in
     ap cell_name at ∙ (sym (get_or-map cell_name cells i cell 0 inside) ∙ ap (λ ns. get_or ns i 0) named)
+
+-- what both numbers reach the smaller one reaches
+pub smaller-reached : (k m n : ℕ) → k ≤ m → k ≤ n → k ≤ smaller m n
+smaller-reached k m n first second =
+    let either : (b : Bool) → k ≤ cond b m n = λ b. elim b as (λ b. k ≤ cond b m n) [ true ↦ first | false ↦ second ] in
+    either (nat_le m n)

@@ -8,9 +8,8 @@ use Rattle.zt_rows.specs.declared.saved.Saved.{Saved}
 use Rattle.zt_book.specs.Session.{Session}
 use Rattle.zt_book.specs.SavedSessions.{saved_of_session, loaded_saved}
 use Rattle.zt_book.specs.Log.{BookView, Replays, IsWholeLog}
-use Rattle.zt_shared.specs.Sharing.{PassView, IsFresh, first_parts}
-use Rattle.zt_shared.specs.ProofsOnly.Sharing.{begun, begun_by}
-use Rattle.zt_shared.specs.ProofsOnly.LockedBooks.{IsLockedBook}
+use Rattle.zt_shared.specs.Sharing.{PassView, IsFresh, begun, begun_by, first_parts}
+use Rattle.zt_shared.specs.LockedBooks.{IsLockedBook}
 use Rattle.zt_shared.specs.ProofsOnly.OpenedBook.{part_of}
 use Rattle.zt_shared.proofs.SharingLaws.{sides}
 

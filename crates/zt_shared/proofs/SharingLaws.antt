@@ -21,9 +21,8 @@ use Rattle.zt_book.specs.Log.{SessionLog, Replays, rows_of, IsCounted, snapshot_
 use Rattle.zt_shared.specs.Accounts.{most}
 use Rattle.once_cell.specs.declared.race.note.Note.{Note}
 use Rattle.zt_rows.specs.declared.saved.Saved.{Saved}
-use Rattle.zt_shared.specs.Sharing.{PassView, IsPartOf, IsAnsweredOnPass, IsRefusedTo, IsPinnedOnPass, IsCopyOf, told_to, logged, said_in}
-use Rattle.zt_shared.specs.ProofsOnly.Sharing.{begun}
-use Rattle.zt_shared.specs.ProofsOnly.LockedBooks.{Shown, Sides, sides_of, IsLockedBook}
+use Rattle.zt_shared.specs.Sharing.{PassView, IsPartOf, IsAnsweredOnPass, IsRefusedTo, IsPinnedOnPass, IsCopyOf, begun, told_to, logged, said_in}
+use Rattle.zt_shared.specs.LockedBooks.{Shown, Sides, sides_of, IsLockedBook}
 
 -- a session with its log
 abbrev pub standing : Session → List Recorded → SessionLog

@@ -1,5 +1,5 @@
 -- Several clients with one book: what each of them was told is its part of one log, which replays. This project's own.
-use Rattle.std.specs.Prelude.{◌≡◌, ◌≢◌, ℕ, zero, suc, List, [], ◌∷◌, ◌++◌, length, map, take, slice_get, Option, None, Err, All}
+use Rattle.std.specs.Prelude.{◌≡◌, ◌≢◌, ℕ, zero, suc, List, [], ◌∷◌, ◌++◌, length, map, take, slice_get, Option, None, Some, Result, Ok, Err, All}
 use Rattle.std.specs.List.{AllByRecursion}
 use Rattle.zt_rows.specs.declared.calls.Answer.{Answer}
 use Rattle.zt_rows.specs.declared.calls.Answer.TheVariants as answer
@@ -7,12 +7,14 @@ use Rattle.zt_rows.specs.declared.calls.Command.{Command}
 use Rattle.zt_rows.specs.declared.calls.Command.TheVariants as command
 use Rattle.zt_rows.specs.declared.refusals.Refusal.{Refusal}
 use Rattle.zt_rows.specs.declared.refusals.Refusal.TheVariants as refusal
+use Rattle.zt_rows.specs.declared.saved.Saved.{Saved}
 use Rattle.zt_rows.specs.Opening.{opening}
 use Rattle.zt_rows.specs.Step.{run}
 use Rattle.zt_history.specs.Tree.{Tree, calls_to}
 use Rattle.zt_queries.specs.FrozenCopy.{Snapshot}
 use Rattle.zt_book.specs.declared.log.Recorded.{Recorded}
-use Rattle.zt_book.specs.Session.{Session, serve}
+use Rattle.zt_book.specs.Session.{Session, opening_session, serve}
+use Rattle.zt_book.specs.SavedSessions.{loaded_saved}
 use Rattle.zt_book.specs.Log.{BookView, Replays, IsOf, rows_of}
 
 -- ---- the rows of one client
@@ -35,6 +37,16 @@ logged log client asked answered = log ++ record { client = client; asked = aske
 pub record IsFresh (clients : ℕ) (book : BookView) : Type 0 where
   pub many : length book.session.clients ≡ clients
   pub empty : book.log ≡ []
+
+-- the session of so many clients that loading gives
+abbrev pub begun_by : ℕ → Result Session (ℕ × Refusal) → Session
+begun_by clients (Ok M) = M
+begun_by clients (Err fault) = opening_session clients
+
+-- the session of so many clients at which a log begins, as the base cell tells it: the one that is written down there
+abbrev pub begun : ℕ → Option Saved → Session
+begun clients None = opening_session clients
+begun clients (Some saved) = begun_by clients (loaded_saved clients saved)
 
 -- ---- passes
 

@@ -1,9 +1,8 @@
 //! An account: a list of rows that two sides keep in common, though only one of them is at hand at a time. It knows
 //! nothing of what the rows say.
-ghost use Rattle.std.specs.Prelude.{◌≡◌, ℕ, ◌<◌, ◌++◌, ◌∷◌, [], length, slice_index, slice_index_or, vec_len, vec_capacity, OnOk, OnErr, IfSome, None, Some};
+ghost use Rattle.std.specs.Prelude.{◌≡◌, ℕ, ◌≤◌, ◌<◌, ◌++◌, ◌∷◌, [], length, slice_index, slice_index_or, vec_len, vec_capacity, OnOk, OnErr, IfSome, None, Some};
 ghost use Rattle.once_cell.specs.Once.{cell_name, Agrees};
-ghost use Rattle.zt_shared.specs.Accounts.{most};
-ghost use Rattle.zt_shared.specs.ProofsOnly.Accounts.{cells_of, known_of};
+ghost use Rattle.zt_shared.specs.Accounts.{most, cells_of, known_of};
 
 use once_cell::race::{Note, OnceBox};
 use std::alloc::{AllocError, Global};
@@ -51,7 +50,7 @@ struct NoteSlot<T> {
     note: Note<T>,
 }
 
-/// The side of the account that lies under a lock. Contracts see it as its rows, though it holds none of them.
+/// The side of the account that lies under a lock. Contracts see its rows, though it holds none of them, and its room.
 #[derive(Drop)]
 pub struct LockSide<N: Naming, T> {
     cells: Vec<OnceBox<T>>,
@@ -60,18 +59,18 @@ pub struct LockSide<N: Naming, T> {
 }
 
 impl<N: Naming, T> Model for LockSide<N, T> {
-    ghost use Rattle.std.specs.Prelude.{◌≡◌, List, map, length};
+    ghost use Rattle.std.specs.Prelude.{◌≡◌, ◌-◌, map, length, vec_len, vec_capacity};
     ghost use Rattle.once_cell.specs.Once.{cell_name};
-    ghost use Rattle.zt_shared.specs.ProofsOnly.Accounts.{KnowsItsRows, known_of, somes};
+    ghost use Rattle.zt_shared.specs.Accounts.{Side, KnowsItsRows, known_of, somes};
 
-    ghost Value = { List T };
+    ghost Value = { Side T };
 
-    ghost view = { λ k. somes (known_of k.notes.items) };
+    ghost view = { λ k. record { rows = somes (known_of k.notes.items); room = vec_capacity k.notes - vec_len k.notes } };
 
     ghost invariant = { λ k. (map cell_name k.cells.items ≡ N.cells) × KnowsItsRows N.cells k.notes.items (somes (known_of k.notes.items)) × (k.book.total ≡ length k.notes.items) };
 }
 
-/// The side of the account that a client has. Contracts see it as its rows.
+/// The side of the account that a client has. Contracts see its rows, and its room.
 #[derive(Drop)]
 pub struct PassSide<N: Naming, T> {
     rows: Vec<T>,
@@ -80,12 +79,12 @@ pub struct PassSide<N: Naming, T> {
 }
 
 impl<N: Naming, T> Model for PassSide<N, T> {
-    ghost use Rattle.std.specs.Prelude.{◌≡◌, List, map, length};
-    ghost use Rattle.zt_shared.specs.ProofsOnly.Accounts.{KnowsItsRows};
+    ghost use Rattle.std.specs.Prelude.{◌≡◌, ◌-◌, length, vec_len, vec_capacity};
+    ghost use Rattle.zt_shared.specs.Accounts.{Side, KnowsItsRows, smaller};
 
-    ghost Value = { List T };
+    ghost Value = { Side T };
 
-    ghost view = { λ p. p.rows.items };
+    ghost view = { λ p. record { rows = p.rows.items; room = smaller (vec_capacity p.notes - vec_len p.notes) (vec_capacity p.rows - vec_len p.rows) } };
 
     ghost invariant = { λ p. KnowsItsRows N.cells p.notes.items p.rows.items × (p.share.parts ≡ 1) × (N.parts ≡ 1) × (p.share.amount ≡ length p.notes.items) };
 }
@@ -108,8 +107,8 @@ impl<T: Drop> Blank<T> {
         requires ledger { self.ledger ≡ N.name }
         requires whole { N.parts ≡ 1 }
         requires cells { self.cells ≡ N.cells }
-        ensures lock { result.0 ≡ [] }
-        ensures pass { result.1 ≡ [] }
+        ensures lock { result.0.rows ≡ [] }
+        ensures pass { result.1.rows ≡ [] }
     {
         let Blank { cells, ledger } = self;
         let (book, share) = ledger.open::<N>();
@@ -137,27 +136,28 @@ impl<N: Naming, T: Drop> LockSide<N, T> {
     pub fn agree(&mut self, side: &mut PassSide<N, T>)
         ensures lock { self.new ≡ self.old }
         ensures pass { side.new ≡ side.old }
-        ensures same { self.old ≡ side.old }
+        ensures same { self.old.rows ≡ side.old.rows }
     {
         self.book.audit(&mut side.share);
         compare_all(&mut self.notes, &mut side.notes);
     }
 
-    /// Asks for the memory that one row more takes on both sides.
+    /// Asks for the memory that one row more takes on both sides: adding it asks for no more, but for the row's own.
     pub fn reserve(&mut self, side: &mut PassSide<N, T>) -> Result<(), Refused>
-        ensures lock { self.new ≡ self.old }
-        ensures pass { side.new ≡ side.old }
+        ensures lock { self.new.rows ≡ self.old.rows }
+        ensures pass { side.new.rows ≡ side.old.rows }
+        ensures room { OnOk result ((1 ≤ self.new.room) × (1 ≤ side.new.room)) }
     {
         room(&mut self.notes, &mut side.notes, &mut side.rows)
     }
 
     /// Puts a row on both sides, and an equal one into its cell, or, refused, does neither.
     pub fn add(&mut self, side: &mut PassSide<N, T>, shown: Box<T>, row: T) -> Result<(), Refused>
-        requires room { length self.old < most }
+        requires room { length self.old.rows < most }
         requires equal { shown.value ≡ row }
-        ensures lock { OnOk result (self.new ≡ self.old ++ row ∷ []) }
-        ensures pass { OnOk result (side.new ≡ side.old ++ row ∷ []) }
-        ensures unchanged { OnErr result ((self.new ≡ self.old) × (side.new ≡ side.old)) }
+        ensures lock { OnOk result (self.new.rows ≡ self.old.rows ++ row ∷ []) }
+        ensures pass { OnOk result (side.new.rows ≡ side.old.rows ++ row ∷ []) }
+        ensures unchanged { OnErr result ((self.new.rows ≡ self.old.rows) × (side.new.rows ≡ side.old.rows)) }
     {
         self.book.audit(&mut side.share);
         let Ok(()) = room(&mut self.notes, &mut side.notes, &mut side.rows) else {
@@ -181,7 +181,7 @@ impl<N: Naming, T: Drop> LockSide<N, T> {
 impl<N: Naming, T> PassSide<N, T> {
     /// The rows.
     pub fn rows(&self) -> &[T]
-        ensures { result.now ≡ self.now }
+        ensures { result.now ≡ self.now.rows }
     {
         self.rows.as_slice()
     }
@@ -218,6 +218,8 @@ fn compare_all<T>(ours: &mut Vec<NoteSlot<T>>, theirs: &mut Vec<NoteSlot<T>>)
     requires cells { cells_of ours.old.items ≡ cells_of theirs.old.items }
     ensures ours { ours.new.items ≡ ours.old.items }
     ensures theirs { theirs.new.items ≡ theirs.old.items }
+    ensures room_of_ours { vec_capacity ours.new ≡ vec_capacity ours.old }
+    ensures room_of_theirs { vec_capacity theirs.new ≡ vec_capacity theirs.old }
     ensures all { (at : ℕ) → at < length ours.old.items → IfSome (slice_index_or (known_of theirs.old.items) at None) (Agrees (slice_index_or (known_of ours.old.items) at None)) }
 {
     for at in 0..ours.len() {
@@ -232,6 +234,8 @@ fn compare<T>(ours: &mut Vec<NoteSlot<T>>, theirs: &mut Vec<NoteSlot<T>>, at: us
     requires cell { slice_index (cells_of ours.old.items) at ≡ slice_index (cells_of theirs.old.items) at }
     ensures ours { ours.new.items ≡ ours.old.items }
     ensures theirs { theirs.new.items ≡ theirs.old.items }
+    ensures room_of_ours { vec_capacity ours.new ≡ vec_capacity ours.old }
+    ensures room_of_theirs { vec_capacity theirs.new ≡ vec_capacity theirs.old }
     ensures one { IfSome (slice_index_or (known_of theirs.old.items) at None) (Agrees (slice_index_or (known_of ours.old.items) at None)) }
 {
     let mine = &mut ours[at];

@@ -21,10 +21,10 @@ fn enter<N: Naming>(
     asked: Command,
     said: &Answer,
 ) -> Result<(), Refused>
-    requires room { length ours.old < most }
-    ensures ours { OnOk result (ours.new ≡ ours.old ++ (asked, said.now) ∷ []) }
-    ensures mine { OnOk result (mine.new ≡ mine.old ++ (asked, said.now) ∷ []) }
-    ensures unchanged { OnErr result ((ours.new ≡ ours.old) × (mine.new ≡ mine.old)) }
+    requires room { length ours.old.rows < most }
+    ensures ours { OnOk result (ours.new.rows ≡ ours.old.rows ++ (asked, said.now) ∷ []) }
+    ensures mine { OnOk result (mine.new.rows ≡ mine.old.rows ++ (asked, said.now) ∷ []) }
+    ensures unchanged { OnErr result ((ours.new.rows ≡ ours.old.rows) × (mine.new.rows ≡ mine.old.rows)) }
 {
     match row(alloc, asked, said) {
         Ok((shown, row)) => ours.add(mine, shown, row),
@@ -86,14 +86,14 @@ pub(crate) fn turn<N: Naming>(
 ) -> Result<Answer, Refusal>
     requires numbered { 1 ≤ client }
     requires known { client ≤ length book.old.session.clients }
-    requires told { ours.old ≡ told_to client book.old.log }
+    requires told { ours.old.rows ≡ told_to client book.old.log }
     ensures served { IfOk result (λ said. serve book.old.session client asked ≡ Ok (said, book.new.session)) }
     ensures logged { IfOk result (λ said. book.new.log ≡ logged book.old.log client asked said) }
-    ensures ours { IfOk result (λ said. ours.new ≡ ours.old ++ (asked, said) ∷ []) }
-    ensures mine { IfOk result (λ said. mine.new ≡ mine.old ++ (asked, said) ∷ []) }
+    ensures ours { IfOk result (λ said. ours.new.rows ≡ ours.old.rows ++ (asked, said) ∷ []) }
+    ensures mine { IfOk result (λ said. mine.new.rows ≡ mine.old.rows ++ (asked, said) ∷ []) }
     ensures clients { length book.new.session.clients ≡ length book.old.session.clients }
     ensures refused { IfErr result (λ why. why ≢ refusal.OutOfMemory → serve book.old.session client asked ≡ Err why) }
-    ensures same { OnErr result ((standing_of book.new ≡ standing_of book.old) × (ours.new ≡ ours.old) × (mine.new ≡ mine.old)) }
+    ensures same { OnErr result ((standing_of book.new ≡ standing_of book.old) × (ours.new.rows ≡ ours.old.rows) × (mine.new.rows ≡ mine.old.rows)) }
 {
     let Ok(()) = ours.reserve(mine) else {
         drop(asked);
@@ -125,15 +125,15 @@ pub(crate) fn pin_turn<N: Naming>(
 ) -> Result<(Answer, Frozen), Refusal>
     requires numbered { 1 ≤ client }
     requires known { client ≤ length book.old.session.clients }
-    requires told { ours.old ≡ told_to client book.old.log }
+    requires told { ours.old.rows ≡ told_to client book.old.log }
     ensures served { IfOk result (λ pinned. serve book.old.session client command.Pin ≡ Ok (pinned.0, book.new.session)) }
     ensures frozen { IfOk result (λ pinned. pinned.1 ≡ snapshot_at book.old.session.tree (position_of book.old.session client)) }
     ensures logged { IfOk result (λ pinned. book.new.log ≡ logged book.old.log client command.Pin pinned.0) }
-    ensures ours { IfOk result (λ pinned. ours.new ≡ ours.old ++ (command.Pin, pinned.0) ∷ []) }
-    ensures mine { IfOk result (λ pinned. mine.new ≡ mine.old ++ (command.Pin, pinned.0) ∷ []) }
+    ensures ours { IfOk result (λ pinned. ours.new.rows ≡ ours.old.rows ++ (command.Pin, pinned.0) ∷ []) }
+    ensures mine { IfOk result (λ pinned. mine.new.rows ≡ mine.old.rows ++ (command.Pin, pinned.0) ∷ []) }
     ensures clients { length book.new.session.clients ≡ length book.old.session.clients }
     ensures refused { IfErr result (λ why. why ≢ refusal.OutOfMemory → serve book.old.session client command.Pin ≡ Err why) }
-    ensures same { OnErr result ((standing_of book.new ≡ standing_of book.old) × (ours.new ≡ ours.old) × (mine.new ≡ mine.old)) }
+    ensures same { OnErr result ((standing_of book.new ≡ standing_of book.old) × (ours.new.rows ≡ ours.old.rows) × (mine.new.rows ≡ mine.old.rows)) }
 {
     let Ok(()) = ours.reserve(mine) else {
         return Err(Refusal::OutOfMemory);

@@ -4,22 +4,26 @@ ghost use Rattle.zt_shared.specs.Sharing.{IsOneLog, numbers};
 
 use crate::account::Naming;
 use crate::pass::{Beginning, Pass};
-use crate::shared::Shared;
+use crate::shared::{OpenedBook, Shared};
 use zt_book::{Book, Log};
 
-/// The book of a shared book to which all its passes came back, in any order. Its log is the one that `close` gives, and
-/// it stands where that log ends. It takes no memory.
+/// The book of a shared book to which all its passes came back, in any order. Its log is the one that `close` gives: it
+/// begins where the shared book began, also where there are no clients, and the book stands where it ends. It takes no
+/// memory.
 pub fn close_book<A: Naming + Beginning, B: Naming, C: Naming, D: Naming>(
-    shared: Shared<A, B, C, D>,
+    opened: OpenedBook<A, B, C, D>,
     mut passes: Vec<Pass<A, B, C, D>>,
 ) -> Book
     requires all { IsPermutation (numbers A.clients) (map (λ pass. pass.client) passes.items) }
     ensures log { IsOneLog A.clients passes.items result.log }
     ensures end { All (λ pass. Replays pass.base result.log result.session) passes.items }
+    ensures begun { Replays opened.base result.log result.session }
     ensures clients { length result.session.clients ≡ A.clients }
 {
+    let OpenedBook { shared, mut told } = opened;
     let Shared { lock } = shared;
     let mut locked = lock.into_inner();
+    locked.agree_on_beginning(&mut told);
     locked.agree_with_all(&mut passes);
     locked.into_book()
 }
@@ -27,11 +31,11 @@ pub fn close_book<A: Naming + Beginning, B: Naming, C: Naming, D: Naming>(
 /// The one log of a shared book to which all its passes came back, in any order: each pass is its client's part of it.
 /// It takes no memory.
 pub fn close<A: Naming + Beginning, B: Naming, C: Naming, D: Naming>(
-    shared: Shared<A, B, C, D>,
+    opened: OpenedBook<A, B, C, D>,
     passes: Vec<Pass<A, B, C, D>>,
 ) -> Log
     requires all { IsPermutation (numbers A.clients) (map (λ pass. pass.client) passes.items) }
     ensures { IsOneLog A.clients passes.items result }
 {
-    close_book(shared, passes).into_log()
+    close_book(opened, passes).into_log()
 }

@@ -14,4 +14,4 @@ pub use closed_book::{close, close_book};
 pub use gate::Gate;
 pub use opened_book::{Blanks, open, open_book};
 pub use pass::{Beginning, Pass, Said};
-pub use shared::Shared;
+pub use shared::{OpenedBook, Shared};

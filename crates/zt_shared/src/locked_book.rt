@@ -1,11 +1,11 @@
-ghost use Rattle.std.specs.Prelude.{◌≡◌, ◌≢◌, ◌++◌, ◌∷◌, [], All, Ok, Err, IfOk, IfErr, OnErr, IfSome, length};
+ghost use Rattle.std.specs.Prelude.{◌≡◌, ◌≢◌, ◌++◌, ◌∷◌, [], All, Ok, Err, IfOk, IfErr, OnErr, IfSome, IsSome, length};
 ghost use Rattle.std.specs.List.{AllByRecursion};
 ghost use Rattle.zt_rows.specs.declared.calls.Command.TheVariants as command;
 ghost use Rattle.zt_rows.specs.declared.refusals.Refusal.TheVariants as refusal;
 ghost use Rattle.zt_book.specs.Session.{serve, position_of};
-ghost use Rattle.zt_book.specs.Log.{IsOf, snapshot_at};
+ghost use Rattle.zt_book.specs.Log.{Replays, IsOf, snapshot_at};
 ghost use Rattle.once_cell.specs.Once.{Agrees};
-ghost use Rattle.zt_shared.specs.Sharing.{IsPartOf, logged};
+ghost use Rattle.zt_shared.specs.Sharing.{IsPartOf, begun, logged};
 
 use crate::account::{LockSide, Naming};
 use crate::answered_command::{pin_turn, turn};
@@ -33,14 +33,14 @@ pub(crate) struct LockedBook<A: Naming + Beginning, B: Naming, C: Naming, D: Nam
 
 impl<A: Naming + Beginning, B: Naming, C: Naming, D: Naming> Model for LockedBook<A, B, C, D> {
     ghost use Rattle.once_cell.specs.Once.{cell_name};
-    ghost use Rattle.zt_shared.specs.ProofsOnly.Sharing.{begun};
-    ghost use Rattle.zt_shared.specs.ProofsOnly.LockedBooks.{Shown, IsLockedBook};
+    ghost use Rattle.zt_shared.specs.Sharing.{begun};
+    ghost use Rattle.zt_shared.specs.LockedBooks.{Shown, IsLockedBook};
 
     ghost Value = { Shown };
 
     ghost view = { λ d. record { base = begun A.clients d.told.known; session = d.book.session; log = d.book.log } };
 
-    ghost invariant = { λ d. IsLockedBook A.base A.clients (cell_name d.base) d.told d.book.session d.book.log (record { first = d.first; second = d.second; third = d.third; fourth = d.fourth }) };
+    ghost invariant = { λ d. IsLockedBook A.base A.clients (cell_name d.base) d.told d.book.session d.book.log (record { first = d.first.rows; second = d.second.rows; third = d.third.rows; fourth = d.fourth.rows }) };
 }
 
 impl<A: Naming + Beginning, B: Naming, C: Naming, D: Naming> LockedBook<A, B, C, D> {
@@ -123,6 +123,17 @@ impl<A: Naming + Beginning, B: Naming, C: Naming, D: Naming> LockedBook<A, B, C,
         }
     }
 
+    /// The log begins where this note of the base cell says. It changes nothing and takes no memory.
+    pub(crate) fn agree_on_beginning(&mut self, told: &mut Note<Saved>)
+        requires cell { told.old.cell ≡ A.base }
+        requires known { IsSome told.old.known }
+        ensures locked { self.new ≡ self.old }
+        ensures told { told.new ≡ told.old }
+        ensures base { begun A.clients told.old.known ≡ self.old.base }
+    {
+        agree_on_base(&mut self.told, told);
+    }
+
     /// Each of the passes is a part of the log. It changes nothing and takes no memory.
     pub(crate) fn agree_with_all(&mut self, passes: &mut Vec<Pass<A, B, C, D>>)
         ensures locked { self.new ≡ self.old }
@@ -134,10 +145,11 @@ impl<A: Naming + Beginning, B: Naming, C: Naming, D: Naming> LockedBook<A, B, C,
         }
     }
 
-    /// The book, with a log of which each row is of one of the clients. It takes no memory.
+    /// The book, with a log that replays, and of which each row is of one of the clients. It takes no memory.
     pub(crate) fn into_book(self) -> Book
         ensures session { result.session ≡ self.session }
         ensures log { result.log ≡ self.log }
+        ensures replays { Replays self.base result.log result.session }
         ensures clients { length result.session.clients ≡ A.clients }
         ensures others { AllByRecursion (IsOf A.clients) result.log }
     {

@@ -3,16 +3,15 @@ ghost use Rattle.once_cell.specs.Once.{cell_name};
 ghost use Rattle.zt_rows.specs.declared.refusals.Refusal.TheVariants as refusal;
 ghost use Rattle.zt_book.specs.Session.{opening_session};
 ghost use Rattle.zt_book.specs.SavedSessions.{saved_of_session};
-ghost use Rattle.zt_shared.specs.Sharing.{IsFresh, first_parts};
-ghost use Rattle.zt_shared.specs.ProofsOnly.Sharing.{begun};
+ghost use Rattle.zt_shared.specs.Sharing.{IsFresh, begun, first_parts};
 ghost use Rattle.zt_shared.specs.OpenedBook.{IsNamed};
 ghost use Rattle.zt_shared.specs.ProofsOnly.OpenedBook.{part_of};
-ghost use Rattle.zt_shared.specs.ProofsOnly.ClientSlots.{slot_number, slot_rows};
+ghost use Rattle.zt_shared.specs.ClientSlots.{slot_number, slot_rows};
 
 use crate::account::{Blank, Naming, Refused, claim};
 use crate::locked_book::LockedBook;
 use crate::pass::{Beginning, Pass, Said, Slot};
-use crate::shared::Shared;
+use crate::shared::{OpenedBook, Shared};
 use once_cell::race::{Note, OnceBox};
 use std::alloc::{AllocError, Global};
 use std::marker::Model;
@@ -83,12 +82,13 @@ fn empty_accounts(alloc: Global, clients: u8) -> Result<Blanks, AllocError>
 pub fn open<A: Naming + Beginning, B: Naming, C: Naming, D: Naming>(
     alloc: Global,
     blanks: Blanks,
-) -> Result<(Shared<A, B, C, D>, Vec<Pass<A, B, C, D>>), Refusal>
+) -> Result<(OpenedBook<A, B, C, D>, Vec<Pass<A, B, C, D>>), Refusal>
     requires base { (blanks.base ≡ A.base) × (blanks.clients ≡ A.clients) }
     requires first { IsNamed A.name A.parts A.cells blanks.first }
     requires second { IsNamed B.name B.parts B.cells blanks.second }
     requires third { IsNamed C.name C.parts C.cells blanks.third }
     requires fourth { IsNamed D.name D.parts D.cells blanks.fourth }
+    ensures base { IfOk result (λ opened. opened.0.base ≡ opening_session blanks.clients) }
     ensures passes { IfOk result (λ opened. opened.1.items ≡ first_parts blanks.clients (opening_session blanks.clients)) }
     ensures refused { IfErr result (λ why. why ≡ refusal.OutOfMemory) }
 {
@@ -108,13 +108,14 @@ pub fn open_book<A: Naming + Beginning, B: Naming, C: Naming, D: Naming>(
     alloc: Global,
     blanks: Blanks,
     book: Book,
-) -> Result<(Shared<A, B, C, D>, Vec<Pass<A, B, C, D>>), (Book, Refusal)>
+) -> Result<(OpenedBook<A, B, C, D>, Vec<Pass<A, B, C, D>>), (Book, Refusal)>
     requires base { (blanks.base ≡ A.base) × (blanks.clients ≡ A.clients) }
     requires first { IsNamed A.name A.parts A.cells blanks.first }
     requires second { IsNamed B.name B.parts B.cells blanks.second }
     requires third { IsNamed C.name C.parts C.cells blanks.third }
     requires fourth { IsNamed D.name D.parts D.cells blanks.fourth }
     requires fresh { IsFresh blanks.clients book }
+    ensures base { IfOk result (λ opened. opened.0.base ≡ book.session) }
     ensures passes { IfOk result (λ opened. opened.1.items ≡ first_parts blanks.clients book.session) }
     ensures refused { IfErr result (λ back. (back.0 ≡ book) × (back.1 ≡ refusal.OutOfMemory)) }
 {
@@ -152,7 +153,7 @@ fn hand_over<A: Naming + Beginning, B: Naming, C: Naming, D: Naming>(
     book: Book,
     mut passes: Vec<Pass<A, B, C, D>>,
     mut told: Note<Saved>,
-) -> (Shared<A, B, C, D>, Vec<Pass<A, B, C, D>>)
+) -> (OpenedBook<A, B, C, D>, Vec<Pass<A, B, C, D>>)
     requires base { (blanks.base ≡ A.base) × (blanks.clients ≡ A.clients) }
     requires first { IsNamed A.name A.parts A.cells blanks.first }
     requires second { IsNamed B.name B.parts B.cells blanks.second }
@@ -161,7 +162,8 @@ fn hand_over<A: Naming + Beginning, B: Naming, C: Naming, D: Naming>(
     requires fresh { IsFresh blanks.clients book }
     requires empty { (passes.items ≡ []) × (4 ≤ vec_capacity passes) }
     requires told { (told.cell ≡ blanks.base) × (told.known ≡ Some (saved_of_session book.session)) }
-    ensures { result.1.items ≡ first_parts blanks.clients book.session }
+    ensures base { result.0.base ≡ book.session }
+    ensures passes { result.1.items ≡ first_parts blanks.clients book.session }
 {
     book.log_replays();
     what_was_loaded_is_loaded_again();
@@ -181,6 +183,7 @@ fn hand_over<A: Naming + Beginning, B: Naming, C: Naming, D: Naming>(
     hand_out(&mut passes, &mut told, clients, Slot::Second(two));
     hand_out(&mut passes, &mut told, clients, Slot::Third(three));
     hand_out(&mut passes, &mut told, clients, Slot::Fourth(four));
+    let begins = told.again();
     let locked = LockedBook {
         book,
         base,
@@ -192,7 +195,14 @@ fn hand_over<A: Naming + Beginning, B: Naming, C: Naming, D: Naming>(
         alloc,
     };
     let lock = Mutex::new(locked);
-    (Shared { lock }, passes)
+    let shared = Shared { lock };
+    (
+        OpenedBook {
+            shared,
+            told: begins,
+        },
+        passes,
+    )
 }
 
 /// Puts the pass of a client behind the others, where there are so many clients.

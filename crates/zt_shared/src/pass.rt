@@ -1,7 +1,7 @@
 ghost use Rattle.std.specs.Prelude.{◌≡◌, length};
 ghost use Rattle.std.specs.Option.{option_map};
 ghost use Rattle.zt_shared.specs.Sharing.{row_at};
-ghost use Rattle.zt_shared.specs.ProofsOnly.ClientSlots.{slot_number, slot_rows};
+ghost use Rattle.zt_shared.specs.ClientSlots.{slot_number, slot_rows};
 
 use crate::account::{Naming, PassSide};
 use once_cell::race::Note;
@@ -46,11 +46,11 @@ pub struct Pass<A: Naming + Beginning, B: Naming, C: Naming, D: Naming> {
 impl<A: Naming + Beginning, B: Naming, C: Naming, D: Naming> Model for Pass<A, B, C, D> {
     ghost use Rattle.std.specs.Prelude.{◌≡◌, ◌≤◌, IsSome};
     ghost use Rattle.zt_shared.specs.Sharing.{PassView};
-    ghost use Rattle.zt_shared.specs.ProofsOnly.Sharing.{begun};
+    ghost use Rattle.zt_shared.specs.Sharing.{begun};
 
     ghost Value = { PassView };
 
-    ghost use Rattle.zt_shared.specs.ProofsOnly.ClientSlots.{slot_number, slot_rows};
+    ghost use Rattle.zt_shared.specs.ClientSlots.{slot_number, slot_rows};
 
     ghost view = { λ p. record { client = slot_number p.slot; base = begun A.clients p.told.known; rows = slot_rows p.slot } };
 

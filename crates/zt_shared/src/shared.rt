@@ -5,14 +5,43 @@ ghost use Rattle.zt_shared.specs.Sharing.{IsAnsweredOnPass, IsRefusedTo, IsPinne
 use crate::account::Naming;
 use crate::locked_book::LockedBook;
 use crate::pass::{Beginning, Pass};
+use once_cell::race::Note;
+use std::marker::Model;
 use std::sync::{Mutex, Wait};
 use zt_queries::Frozen;
-use zt_rows::{Answer, Command, Refusal};
+use zt_rows::{Answer, Command, Refusal, Saved};
 
-/// A book that several clients share. Each has a pass, by which it speaks.
+/// What the threads of several clients share of a book. Each client has a pass, by which it speaks.
 #[derive(Drop)]
 pub struct Shared<A: Naming + Beginning, B: Naming, C: Naming, D: Naming> {
     pub(crate) lock: Mutex<LockedBook<A, B, C, D>>,
+}
+
+/// A shared book that was opened: what the clients share, and where its log begins. Whoever has it lends the one to their
+/// threads, and closes the other when all have come back.
+#[derive(Drop)]
+pub struct OpenedBook<A: Naming + Beginning, B: Naming, C: Naming, D: Naming> {
+    pub(crate) shared: Shared<A, B, C, D>,
+    pub(crate) told: Note<Saved>,
+}
+
+impl<A: Naming + Beginning, B: Naming, C: Naming, D: Naming> Model for OpenedBook<A, B, C, D> {
+    ghost use Rattle.std.specs.Prelude.{◌≡◌, IsSome};
+    ghost use Rattle.zt_shared.specs.Sharing.{begun};
+    ghost use Rattle.zt_shared.specs.OpenedBook.{Opened};
+
+    ghost Value = { Opened };
+
+    ghost view = { λ o. record { base = begun A.clients o.told.known } };
+
+    ghost invariant = { λ o. (o.told.cell ≡ A.base) × IsSome o.told.known };
+}
+
+impl<A: Naming + Beginning, B: Naming, C: Naming, D: Naming> OpenedBook<A, B, C, D> {
+    /// What the clients' threads share.
+    pub fn shared(&self) -> &Shared<A, B, C, D> {
+        &self.shared
+    }
 }
 
 impl<A: Naming + Beginning, B: Naming, C: Naming, D: Naming> Shared<A, B, C, D> {

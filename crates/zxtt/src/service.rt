@@ -83,12 +83,12 @@ fn serve_book<
     requires fourth { IsNamed D.name D.parts D.cells blanks.fourth }
     requires fresh { IsFresh blanks.clients book }
 {
-    let (shared, passes) = match open_book::<A, B, C, D>(rt.alloc(), blanks, book) {
-        Ok(opened) => opened,
+    let (opened, passes) = match open_book::<A, B, C, D>(rt.alloc(), blanks, book) {
+        Ok(whole) => whole,
         Err((_, refusal)) => return Err(Fault::Refused(refusal)),
     };
     let callers = accept_all(rt.alloc(), &mut connections, listener, passes)?;
-    match sessions(rt, rt.alloc(), shared, callers, &connections) {
+    match sessions(rt, rt.alloc(), opened, callers, &connections) {
         Ok((book, _)) => Ok(book),
         Err(_) => Err(Fault::of_memory()),
     }

@@ -15,7 +15,7 @@ fn add<N: Naming>(
     theirs: &mut PassSide<N, u8>,
     row: u8,
 ) -> Result<bool, AllocError>
-    requires { length ours.old < most }
+    requires { length ours.old.rows < most }
 {
     let shown = Box::new(alloc, row)?;
     Ok(ours.reserve(theirs).is_ok() && ours.add(theirs, shown, row).is_ok())

@@ -8,7 +8,7 @@ use std::alloc::Global;
 use zt_book::Book;
 use zt_rows::{Call, HandleValue, ROOT_PROCESS};
 use zt_shared::account::Naming;
-use zt_shared::{Beginning, Blanks, Pass, Shared, open, open_book};
+use zt_shared::{Beginning, Blanks, OpenedBook, Pass, open, open_book};
 
 /// A book over an event that was made and closed again.
 fn loaded(alloc: Global) -> Option<Book>
@@ -30,7 +30,7 @@ fn loaded(alloc: Global) -> Option<Book>
 }
 
 /// A shared book, with the passes of its two clients and a book like it.
-pub(super) type Opened<A, B, C, D> = (Shared<A, B, C, D>, Twins<A, B, C, D>);
+pub(super) type Opened<A, B, C, D> = (OpenedBook<A, B, C, D>, Twins<A, B, C, D>);
 
 /// The passes of two clients, and a book like theirs.
 fn twins_of<A: Naming + Beginning, B: Naming, C: Naming, D: Naming>(
@@ -45,11 +45,11 @@ fn twins_of<A: Naming + Beginning, B: Naming, C: Naming, D: Naming>(
 
 /// The shared book, where it has such twins.
 fn beside<A: Naming + Beginning, B: Naming, C: Naming, D: Naming>(
-    shared: Shared<A, B, C, D>,
+    opened: OpenedBook<A, B, C, D>,
     twins: Option<Twins<A, B, C, D>>,
 ) -> Option<Opened<A, B, C, D>> {
     match twins {
-        Some(twins) => Some((shared, twins)),
+        Some(twins) => Some((opened, twins)),
         None => None,
     }
 }
@@ -66,7 +66,7 @@ pub(super) fn at_opening<A: Naming + Beginning, B: Naming, C: Naming, D: Naming>
     requires fourth { IsNamed D.name D.parts D.cells blanks.fourth }
 {
     match open::<A, B, C, D>(alloc, blanks) {
-        Ok((shared, passes)) => beside(shared, twins_of(passes, Book::new(alloc, 2).ok())),
+        Ok((opened, passes)) => beside(opened, twins_of(passes, Book::new(alloc, 2).ok())),
         Err(_) => None,
     }
 }
@@ -85,7 +85,7 @@ pub(super) fn over_loaded<A: Naming + Beginning, B: Naming, C: Naming, D: Naming
 {
     let book = loaded(alloc)?;
     match open_book::<A, B, C, D>(alloc, blanks, book) {
-        Ok((shared, passes)) => beside(shared, twins_of(passes, loaded(alloc))),
+        Ok((opened, passes)) => beside(opened, twins_of(passes, loaded(alloc))),
         Err(_) => None,
     }
 }

@@ -15,7 +15,7 @@ use std::thread::Threads;
 use zt_book::{Book, Log};
 use zt_rows::Refusal;
 use zt_shared::account::Naming;
-use zt_shared::{Beginning, Blanks, Shared};
+use zt_shared::{Beginning, Blanks, OpenedBook, Shared};
 
 /// A channel of which one client closes an end while the other writes to it, and asks who closed its peer.
 const CLOSED_END: [Told; 4] = [
@@ -109,14 +109,14 @@ fn is_told(alloc: Global, log: &Log, twin: &mut Book, trial: SharedTrial) -> boo
 /// Whether the log that closing gives has what was to be told, and is the twin's.
 fn closes_to_a_log<A: Naming + Beginning, B: Naming, C: Naming, D: Naming>(
     alloc: Global,
-    shared: Shared<A, B, C, D>,
+    opened: OpenedBook<A, B, C, D>,
     twins: Twins<A, B, C, D>,
     trial: SharedTrial,
 ) -> bool
     requires { A.clients ≡ 2 }
 {
     let Twins { one, two, mut twin } = twins;
-    match closed(alloc, shared, one, two) {
+    match closed(alloc, opened, one, two) {
         Some(log) => {
             is_told(alloc, &log, &mut twin, trial) && is_same_log(alloc, &log, twin.log())
         }
@@ -127,14 +127,14 @@ fn closes_to_a_log<A: Naming + Beginning, B: Naming, C: Naming, D: Naming>(
 /// Whether the book that closing gives has such a log, and is saved and loaded again.
 fn closes_to_a_book<A: Naming + Beginning, B: Naming, C: Naming, D: Naming>(
     alloc: Global,
-    shared: Shared<A, B, C, D>,
+    opened: OpenedBook<A, B, C, D>,
     twins: Twins<A, B, C, D>,
     trial: SharedTrial,
 ) -> bool
     requires { A.clients ≡ 2 }
 {
     let Twins { one, two, mut twin } = twins;
-    match closed_book(alloc, shared, one, two) {
+    match closed_book(alloc, opened, one, two) {
         Some(mut book) => {
             is_told(alloc, book.log(), &mut twin, trial)
                 && is_same_log(alloc, book.log(), twin.log())
@@ -147,15 +147,15 @@ fn closes_to_a_book<A: Naming + Beginning, B: Naming, C: Naming, D: Naming>(
 /// Whether closing gives what was to be told.
 fn closes<A: Naming + Beginning, B: Naming, C: Naming, D: Naming>(
     alloc: Global,
-    shared: Shared<A, B, C, D>,
+    opened: OpenedBook<A, B, C, D>,
     twins: Twins<A, B, C, D>,
     trial: SharedTrial,
 ) -> bool
     requires { A.clients ≡ 2 }
 {
     match trial {
-        SharedTrial::Saved => closes_to_a_book(alloc, shared, twins, trial),
-        _ => closes_to_a_log(alloc, shared, twins, trial),
+        SharedTrial::Saved => closes_to_a_book(alloc, opened, twins, trial),
+        _ => closes_to_a_log(alloc, opened, twins, trial),
     }
 }
 
@@ -192,8 +192,9 @@ fn holds_over<
     requires two { blanks.clients ≡ 2 }
 {
     match opened::<A, B, C, D>(alloc, blanks, trial) {
-        Some((shared, mut twins)) => {
-            try_over(rt, alloc, &shared, &mut twins, trial) && closes(alloc, shared, twins, trial)
+        Some((whole, mut twins)) => {
+            try_over(rt, alloc, whole.shared(), &mut twins, trial)
+                && closes(alloc, whole, twins, trial)
         }
         None => false,
     }

@@ -10,7 +10,7 @@ use std::sync::Wait;
 use zt_book::{Book, Log};
 use zt_rows::Refusal;
 use zt_shared::account::Naming;
-use zt_shared::{Beginning, Pass, Shared, close, close_book};
+use zt_shared::{Beginning, OpenedBook, Pass, Shared, close, close_book};
 
 /// The passes of two clients, and the other book.
 #[derive(Drop)]
@@ -148,25 +148,25 @@ fn in_a_row<A: Naming + Beginning, B: Naming, C: Naming, D: Naming>(
 /// The log of two clients.
 pub(super) fn closed<A: Naming + Beginning, B: Naming, C: Naming, D: Naming>(
     alloc: Global,
-    shared: Shared<A, B, C, D>,
+    opened: OpenedBook<A, B, C, D>,
     one: Pass<A, B, C, D>,
     two: Pass<A, B, C, D>,
 ) -> Option<Log>
     requires { A.clients ≡ 2 }
 {
     let passes = in_a_row(alloc, one, two)?;
-    Some(close(shared, passes))
+    Some(close(opened, passes))
 }
 
 /// The book of two clients.
 pub(super) fn closed_book<A: Naming + Beginning, B: Naming, C: Naming, D: Naming>(
     alloc: Global,
-    shared: Shared<A, B, C, D>,
+    opened: OpenedBook<A, B, C, D>,
     one: Pass<A, B, C, D>,
     two: Pass<A, B, C, D>,
 ) -> Option<Book>
     requires { A.clients ≡ 2 }
 {
     let passes = in_a_row(alloc, one, two)?;
-    Some(close_book(shared, passes))
+    Some(close_book(opened, passes))
 }

@@ -1,8 +1,7 @@
 use Rattle.std.proofs.Common.{◌≡◌, ◌<◌, ◌∷◌, ◌++◌, [], length, get_or, Some, refl, sym, ◌∙◌, ap, arith}
 use Rattle.std.proofs.lemmas.List.{length_push}
 use Rattle.zt_shared.specs.declared.account.NoteSlot.{NoteSlot}
-use Rattle.zt_shared.specs.Accounts.{most}
-use Rattle.zt_shared.specs.ProofsOnly.Accounts.{known_of, somes}
+use Rattle.zt_shared.specs.Accounts.{most, known_of, somes}
 use Rattle.zt_shared.proofs.AccountLaws.{noted-length, noted-more, lock-more, somes-more, name-at}
 use Rattle.zt_shared.proofs.account.LockSide.add.Goals as goal
 
@@ -22,7 +21,7 @@ invariant_of-self-2 g c =
     let note_slot : NoteSlot g.row.T.Denot = record { number = c.len-at.result; note = c.again.result } in
     let many : length before ≡ length rows = noted-length g.N.Naming.cells before rows c.self.invariant.1 in
     let at : c.len-at.result ≡ length rows = c.len-at.ensures ∙ (c.room.new.ours.ok.0 ∙ (ap length c.room.ensures.ours ∙ many)) in
-    let room : length rows < most = rw c.self.view_is c.requires.room in
+    let room : length rows < most = rw (ap (λ v. v.rows) c.self.view_is) c.requires.room in
     let within : c.len-at.result < length g.N.Naming.cells = omega (arith, at, room, c.self.invariant.1.full) in
     let cell : c.again.result.cell ≡ get_or g.N.Naming.cells (length rows) 0 =
     ap (λ n. n.cell) c.again.ensures.1 ∙ (c.in-Some.ensures.0 ∙ (name-at c.self.inside.cells.items g.N.Naming.cells c.len-at.result c.index.result.now c.self.invariant.0 within c.index.ensures ∙ ap (λ i. get_or g.N.Naming.cells i 0) at)) in
@@ -44,7 +43,7 @@ invariant_of-side-2 g c =
     let our-many : length ours ≡ length (somes (known_of ours)) = noted-length g.N.Naming.cells ours (somes (known_of ours)) c.self.invariant.1 in
     let many : length before ≡ length rows = noted-length g.N.Naming.cells before rows c.side.invariant.0 in
     let at : c.len-at.result ≡ length rows = c.len-at.ensures ∙ (c.room.new.ours.ok.0 ∙ (ap length c.room.ensures.ours ∙ (same ∙ many))) in
-    let our-room : length (somes (known_of ours)) < most = rw c.self.view_is c.requires.room in
+    let our-room : length (somes (known_of ours)) < most = rw (ap (λ v. v.rows) c.self.view_is) c.requires.room in
     let room : length rows < most = omega (arith, our-room, our-many, same, many) in
     let within : c.len-at.result < length g.N.Naming.cells = omega (arith, at, room, c.side.invariant.0.full) in
     let cell : c.again.new.self.cell ≡ get_or g.N.Naming.cells (length rows) 0 =
@@ -65,4 +64,4 @@ returns-clause-lock g c =
     let note_slot : NoteSlot g.row.T.Denot = record { number = c.len-at.result; note = c.again.result } in
     let known : c.again.result.known ≡ Some c.args.shown.value = ap (λ n. n.known) c.again.ensures.1 ∙ c.in-Some.ensures.1 in
     let grown : c.push_reserved.new.self.items ≡ before ++ note_slot ∷ [] = c.push_reserved.ensures.items ∙ ap (λ w. w ++ note_slot ∷ []) c.room.ensures.ours in
-    ap (λ w. somes (known_of w)) grown ∙ (somes-more before note_slot c.args.shown.value known ∙ rw (c.self.view_is, c.requires.equal) refl)
+    ap (λ w. somes (known_of w)) grown ∙ (somes-more before note_slot c.args.shown.value known ∙ rw (ap (λ v. v.rows) c.self.view_is, c.requires.equal) refl)

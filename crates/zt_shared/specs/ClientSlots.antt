@@ -1,4 +1,4 @@
--- A client's side of its account, among those of four clients. Used by proofs only.
+-- A client's side of its account, among those of four clients.
 use Rattle.std.specs.Prelude.{ℕ, List}
 use Rattle.zt_rows.specs.declared.calls.Answer.{Answer}
 use Rattle.zt_rows.specs.declared.calls.Command.{Command}
@@ -13,7 +13,7 @@ module _ {A B C D : Type 0} where
   slot_number (Fourth side) = 4
 
   abbrev pub slot_rows : Slot A B C D → List (Command × Answer)
-  slot_rows (First side) = side
-  slot_rows (Second side) = side
-  slot_rows (Third side) = side
-  slot_rows (Fourth side) = side
+  slot_rows (First side) = side.rows
+  slot_rows (Second side) = side.rows
+  slot_rows (Third side) = side.rows
+  slot_rows (Fourth side) = side.rows

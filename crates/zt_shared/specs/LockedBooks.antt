@@ -1,4 +1,4 @@
--- What lies under the lock of a shared book. Used by proofs only.
+-- What lies under the lock of a shared book.
 use Rattle.std.specs.Prelude.{◌≡◌, ℕ, List, length, IsSome}
 use Rattle.once_cell.specs.declared.race.note.Note.{Note}
 use Rattle.zt_rows.specs.declared.calls.Answer.{Answer}
@@ -7,8 +7,7 @@ use Rattle.zt_rows.specs.declared.saved.Saved.{Saved}
 use Rattle.zt_book.specs.declared.log.Recorded.{Recorded}
 use Rattle.zt_book.specs.Session.{Session}
 use Rattle.zt_book.specs.Log.{Replays}
-use Rattle.zt_shared.specs.Sharing.{told_to}
-use Rattle.zt_shared.specs.ProofsOnly.Sharing.{begun}
+use Rattle.zt_shared.specs.Sharing.{told_to, begun}
 
 -- how it is seen: the session at which the log begins, the session at which it ends, and the log
 pub record Shown : Type 0 where
