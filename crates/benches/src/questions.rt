@@ -18,9 +18,9 @@ fn when(
 ) -> Result<Option<Moment>, Refusal> {
     let at = history.last();
     match what {
-        Happening::Made => made(alloc, history, at, koid),
-        Happening::Ended => ended(alloc, history, at, koid),
-        Happening::PeerClosed => peer_closed(alloc, history, at, koid),
+        Happening::Made => made(history, at, koid),
+        Happening::Ended => ended(history, at, koid),
+        Happening::PeerClosed => peer_closed(history, at, koid),
         Happening::Leaked => leaked_since(alloc, history, at, koid),
     }
 }

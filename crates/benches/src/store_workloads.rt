@@ -39,14 +39,14 @@ fn store_of(alloc: Global, objects: u64) -> Result<Store, AllocError> {
     Ok(store)
 }
 
-/// The time of so many steps of two puts each, one after another over the objects.
+/// The time of so many steps of two puts each, one after another over the objects. As in a history, each begins in the place of
+/// the one before it.
 fn time_of_steps(rt: &impl Clock, alloc: Global, objects: u64, count: u64) -> Result<Duration> {
-    let mut store = store_of(alloc, objects)?;
+    let mut step = Step::begin(store_of(alloc, objects)?);
     let start = Instant::now(rt)?;
     for i in 0..count {
         let koid = FIRST.saturating_add(i % objects.max(1));
-        let (after, _) = step_of_two(store, koid, i)?;
-        store = after;
+        record_of_two(&mut step, koid, i)?;
     }
     Ok(start.elapsed(rt)?)
 }
@@ -73,9 +73,17 @@ fn step_of_two(store: Store, koid: u64, number: u64) -> Result<(Store, Record), 
     ensures { IfOk result (λ done. fits done.0.places done.1 ≡ true) }
 {
     let mut step = Step::begin(store);
-    put_counters(&mut step, number)?;
-    put_event(&mut step, koid, number)?;
-    Ok(step.finish())
+    let kept = record_of_two(&mut step, koid, number)?;
+    Ok((step.abandon(), kept))
+}
+
+/// Puts the counters and one object, and ends the step with its record.
+fn record_of_two(step: &mut Step, koid: u64, number: u64) -> Result<Record, AllocError>
+    ensures { IfOk result (λ kept. fits step.new.places kept ≡ true) }
+{
+    put_counters(step, number)?;
+    put_event(step, koid, number)?;
+    Ok(step.take_record())
 }
 
 fn put_counters(step: &mut Step, number: u64) -> Result<(), AllocError> {

@@ -1,4 +1,4 @@
--- The words that answers and rows show for a status and for a kind.
+-- The words that answers and rows show for a status and for a kind, and the number of a status.
 use Rattle.std.specs.Prelude.{ℕ, List, codes}
 use Rattle.zt_bits.specs.declared.kinds.Kind.{Kind}
 use Rattle.zt_bits.specs.declared.kinds.Kind.TheVariants.{Job, Process, Channel, Event, EventPair, Port}
@@ -28,3 +28,20 @@ status_word status.BadState = codes "bad_state"
 status_word status.OutOfRange = codes "out_of_range"
 status_word status.NotFound = codes "not_found"
 status_word status.AlreadyBound = codes "already_bound"
+
+-- its place in their list
+abbrev pub status_number : Status → ℕ
+status_number status.Ok = 0
+status_number status.BadHandle = 1
+status_number status.WrongType = 2
+status_number status.AccessDenied = 3
+status_number status.InvalidArgs = 4
+status_number status.NotSupported = 5
+status_number status.PeerClosed = 6
+status_number status.ShouldWait = 7
+status_number status.BufferTooSmall = 8
+status_number status.TimedOut = 9
+status_number status.BadState = 10
+status_number status.OutOfRange = 11
+status_number status.NotFound = 12
+status_number status.AlreadyBound = 13

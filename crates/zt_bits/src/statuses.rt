@@ -1,5 +1,5 @@
 ghost use Rattle.std.specs.Prelude.{◌≡◌};
-ghost use Rattle.zt_bits.specs.Words.{status_word};
+ghost use Rattle.zt_bits.specs.Words.{status_number, status_word};
 
 /// What a system call answers: `Ok`, or why it did not do what was asked.
 #[derive(Clone, Copy, Debug, PartialEq, Eq)]
@@ -40,6 +40,27 @@ impl Status {
             Status::OutOfRange => "out_of_range",
             Status::NotFound => "not_found",
             Status::AlreadyBound => "already_bound",
+        }
+    }
+    /// The place of the status in their list, from 0.
+    pub fn number(self) -> u8
+        ensures { result ≡ status_number self }
+    {
+        match self {
+            Status::Ok => 0,
+            Status::BadHandle => 1,
+            Status::WrongType => 2,
+            Status::AccessDenied => 3,
+            Status::InvalidArgs => 4,
+            Status::NotSupported => 5,
+            Status::PeerClosed => 6,
+            Status::ShouldWait => 7,
+            Status::BufferTooSmall => 8,
+            Status::TimedOut => 9,
+            Status::BadState => 10,
+            Status::OutOfRange => 11,
+            Status::NotFound => 12,
+            Status::AlreadyBound => 13,
         }
     }
 }

@@ -4,13 +4,18 @@ use Rattle.std.specs.Prelude.{All, replicate}
 use Rattle.std.proofs.Math.Seq.{take-suc}
 use Rattle.std.proofs.lemmas.List.{length-replicate, length-take-le, get_or-replicate}
 use Rattle.std.proofs.lemmas.List.Elements.{All-take, All-append, All-map, All-replicate}
+use Rattle.std.specs.Prelude.{Result, Ok, Err, IfOk}
+use Rattle.std.proofs.lemmas.Bool.{le-ltb}
+use Rattle.zt_rows.specs.declared.saved.Cursor.{Cursor as SavedCursor}
+use Rattle.zt_rows.specs.declared.saved.SavedBranch.{SavedBranch}
+use Rattle.zt_rows.specs.declared.saved.SavedCall.{SavedCall}
 use Rattle.zt_history.specs.Tree.{Tree}
 use Rattle.zt_history.specs.TreeInvariant.{IsTree}
 use Rattle.zt_book.specs.declared.client.Client.{Client}
 use Rattle.zt_book.specs.declared.client.Cursor.{Cursor}
-use Rattle.zt_book.specs.Session.{first_client}
-use Rattle.zt_book.specs.SavedSessions.{client_at, clients_at}
-use Rattle.zt_book.specs.ProofsOnly.Clients.{IsClient, IsCursor}
+use Rattle.zt_book.specs.Session.{Session, first_client}
+use Rattle.zt_book.specs.SavedSessions.{◌>>=◌, client_at, clients_at, loaded_saved, loaded_tree, seated}
+use Rattle.zt_book.specs.ProofsOnly.Clients.{ClientsView, IsClient, IsCursor}
 use Rattle.zt_book.proofs.ClientsLaws.{first-stands}
 
 -- behind a list, as many of another as one likes
@@ -54,3 +59,22 @@ clients-stand t is clients cursors all =
     (All-append (IsClient t) (map client_at cursors) (replicate clients first_client)
     (All-map (IsClient t) client_at cursors (λ k d lt. record { cursor = all k d lt; pinned = tt; rows = omega arith }))
     (All-replicate (IsClient t) clients first_client (first-stands t is)))
+
+-- a session is loaded of its tree and its cursors
+pub loaded_of_parts : (clients : ℕ) (moments : List SavedCall) (branches : List SavedBranch) (cursors : List SavedCursor) (t : Tree) (M : Session) → clients ≤ 4
+    → loaded_tree (record { moments = moments; branches = branches; cursors = [] }) ≡ Ok t
+    → seated clients (length moments + length branches) t cursors ≡ Ok M
+    → loaded_saved clients (record { moments = moments; branches = branches; cursors = cursors }) ≡ Ok M
+loaded_of_parts clients moments branches cursors t M few tree seats =
+    rw (le-ltb 4 clients few)
+    (ap (λ r. r >>= λ u. seated clients (length moments + length branches) u cursors) tree ∙ seats)
+
+-- the same of what is made of clients that are seated
+pub loaded_if_seated : {E : Type 0} (clients number : ℕ) (moments : List SavedCall) (branches : List SavedBranch) (cursors : List SavedCursor) (t : Tree) (r : Result ClientsView E) → clients ≤ 4
+    → number ≡ length moments + length branches
+    → loaded_tree (record { moments = moments; branches = branches; cursors = [] }) ≡ Ok t
+    → IfOk r (λ d. seated clients number t cursors ≡ Ok d.session)
+    → IfOk r (λ d. loaded_saved clients (record { moments = moments; branches = branches; cursors = cursors }) ≡ Ok d.session)
+loaded_if_seated clients number moments branches cursors t (Ok d) few is tree seats =
+    loaded_of_parts clients moments branches cursors t d.session few tree (ap (λ n. seated clients n t cursors) (sym is) ∙ seats)
+loaded_if_seated clients number moments branches cursors t (Err e) few is tree seats = tt

@@ -10,7 +10,7 @@ use Rattle.zt_history.specs.HistoryRefusals.{call_on}
 use Rattle.zt_history.specs.Tree.{Tree, opening_tree, state_at, calls_to}
 use Rattle.zt_queries.specs.FrozenCopy.{Snapshot}
 use Rattle.zt_book.specs.declared.log.Recorded.{Recorded}
-use Rattle.zt_book.specs.Session.{Session, opening_session, session_over, client_of, most_rows, serve}
+use Rattle.zt_book.specs.Session.{Session, opening_session, session_over, client_of, most_clients, most_rows, serve}
 use Rattle.zt_book.specs.SavedSessions.{loaded_saved}
 
 -- ---- the log
@@ -32,7 +32,7 @@ IsOf clients row = (1 ≤ row.client) × (row.client ≤ clients)
 -- what was answered to a client is counted: so many rows of it are in the log, and not too many; there are no rows of
 -- others
 pub record IsCounted (M : Session) (log : List Recorded) : Type 0 where
-  pub few : length M.clients ≤ 4
+  pub few : length M.clients ≤ most_clients
   pub each : (client : ℕ) → 1 ≤ client → client ≤ length M.clients → (client_of M client).rows ≡ length (rows_of client log)
   pub within : (client : ℕ) → 1 ≤ client → client ≤ length M.clients → (client_of M client).rows ≤ most_rows
   pub of_clients : AllByRecursion (IsOf (length M.clients)) log

@@ -70,6 +70,10 @@ standing M client cursor = with_client M client (record (client_of M client) { c
 abbrev pub counted : Session → ℕ → Session
 counted M client = with_client M client (record (client_of M client) { rows = (client_of M client).rows + 1 })
 
+-- the most clients of a book
+abbrev pub most_clients : ℕ
+most_clients = 4
+
 -- the most answered commands of a client
 abbrev pub most_rows : ℕ
 most_rows = 4096

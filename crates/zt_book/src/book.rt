@@ -2,14 +2,14 @@ ghost use Rattle.std.specs.Prelude.{◌≡◌, ◌≢◌, ◌≤◌, ◌<◌, �
 ghost use Rattle.zt_rows.specs.declared.calls.Command.TheVariants as command;
 ghost use Rattle.zt_history.specs.Timeline.{Timeline};
 ghost use Rattle.zt_history.specs.Tree.{Tree};
-ghost use Rattle.zt_book.specs.Session.{serve, client_of, most_rows, position_of, IsCommandRefusal};
+ghost use Rattle.zt_book.specs.Session.{serve, client_of, most_clients, most_rows, position_of, IsCommandRefusal};
 ghost use Rattle.zt_book.specs.SavedSessions.{loaded_saved, saved_of_session, unanswered, without_moments};
 ghost use Rattle.zt_book.specs.Log.{IsBegun, IsCounted, IsWholeLog, standing_of, first_book, book_at, book_over, loaded, snapshot_at, IsUnloaded};
 
 use crate::client::Client;
 use crate::clients::Clients;
 use crate::load_progress::{LoadProgress, Untold};
-use crate::loaded_clients::{session_of, session_of_all};
+use crate::loaded_clients::session_of;
 use crate::loaded_history::history_of;
 use crate::log::Log;
 use crate::tree_look::TreeLook;
@@ -21,9 +21,9 @@ use zt_rows::{Answer, CLIENT_ROWS, CLIENTS, Call, Command, Koid, Refusal, Saved}
 
 /// The client to which the last command was answered, and what was known of it before.
 #[derive(Clone, Copy)]
-pub(crate) struct LastServed {
-    pub(crate) client: u8,
-    pub(crate) was: Client,
+struct LastServed {
+    client: u8,
+    was: Client,
 }
 
 /// The tree of moments with the clients that stand in it, and the log of what they were answered. The clients are
@@ -61,8 +61,8 @@ impl Book {
     /// The book of so many clients at the opening, each following `main`.
     pub fn new(alloc: Global, clients: u8) -> Result<Book, Refusal>
         ensures ok { IfOk result (λ book. book ≡ first_book clients) }
-        ensures few { OnOk result (clients ≤ 4) }
-        ensures too_many { IsErrOf result Refusal.TooManyClients ↔ (4 < clients) }
+        ensures few { OnOk result (clients ≤ most_clients) }
+        ensures too_many { IsErrOf result Refusal.TooManyClients ↔ (most_clients < clients) }
         ensures refusals { IfErr result (λ refusal. refusal ≢ Refusal.TooManyClients → refusal ≡ Refusal.OutOfMemory) }
     {
         if clients > CLIENTS {
@@ -77,18 +77,16 @@ impl Book {
     /// the call, from 0, or 0 for too many clients and for want of memory.
     pub fn load(alloc: Global, clients: u8, calls: &[(Koid, Call)]) -> Result<Book, (u64, Refusal)>
         ensures ok { IfOk result (λ book. (tree : Tree) × (loaded calls.now ≡ Ok tree) × (book ≡ book_over tree clients)) }
-        ensures few { OnOk result (clients ≤ 4) }
+        ensures few { OnOk result (clients ≤ most_clients) }
         ensures refused { IfErr result (IsUnloaded clients (loaded calls.now)) }
     {
         if clients > CLIENTS {
             return Err((0, Refusal::TooManyClients));
         }
-        match history_of(alloc, calls) {
-            Ok(history) => match Clients::new(alloc, history, clients) {
-                Ok(all_clients) => Ok(begin(alloc, all_clients)),
-                Err(_) => Err((0, Refusal::OutOfMemory)),
-            },
-            Err(fault) => Err(fault),
+        let history = history_of(alloc, calls)?;
+        match Clients::new(alloc, history, clients) {
+            Ok(all_clients) => Ok(begin(alloc, all_clients)),
+            Err(_) => Err((0, Refusal::OutOfMemory)),
         }
     }
 
@@ -100,40 +98,21 @@ impl Book {
         ensures ok { IfOk result (λ book. loaded_saved clients saved.now ≡ Ok book.session) }
         ensures first { IfOk result (λ book. book ≡ book_at book.session) }
         ensures clients { IfOk result (λ book. length book.session.clients ≡ clients) }
-        ensures few { OnOk result (clients ≤ 4) }
-        ensures refused { IfErr result (IsUnloaded clients (loaded_saved clients saved.now)) }
-    {
-        Book::load_saved_told(alloc, clients, saved, &Untold)
-    }
-
-    /// As `load_saved`, which tells after each moment that is loaded how many are, of all of them.
-    pub fn load_saved_told<P: LoadProgress>(
-        alloc: Global,
-        clients: u8,
-        saved: &Saved,
-        told: &P,
-    ) -> Result<Book, (u64, Refusal)>
-        ensures ok { IfOk result (λ book. loaded_saved clients saved.now ≡ Ok book.session) }
-        ensures first { IfOk result (λ book. book ≡ book_at book.session) }
-        ensures clients { IfOk result (λ book. length book.session.clients ≡ clients) }
-        ensures few { OnOk result (clients ≤ 4) }
+        ensures few { OnOk result (clients ≤ most_clients) }
         ensures refused { IfErr result (IsUnloaded clients (loaded_saved clients saved.now)) }
     {
         if clients > CLIENTS {
             return Err((0, Refusal::TooManyClients));
         }
-        let moments = saved.moments.as_slice();
-        let branches = saved.branches.as_slice();
-        let cursors = saved.cursors.as_slice();
-        match session_of(alloc, clients, moments, branches, cursors, told) {
-            Ok(all_clients) => Ok(begin(alloc, all_clients)),
-            Err(fault) => Err(fault),
+        match saved.copy() {
+            Ok(copied) => Book::take_saved(alloc, clients, copied, &Untold),
+            Err(_) => Err((0, Refusal::OutOfMemory)),
         }
     }
 
-    /// As `load_saved_told`, of a tree that is not needed any more: its moments are let go one by one as they are loaded, so that
-    /// it and the book are never there both as a whole.
-    pub fn load_all_told<P: LoadProgress>(
+    /// As `load_saved`, of a tree that is not needed any more, which tells after each moment that is loaded how many are, of all of
+    /// them. The moments are let go one by one as they are loaded, so that the tree and the book are never there both as a whole.
+    pub fn take_saved<P: LoadProgress>(
         alloc: Global,
         clients: u8,
         saved: Saved,
@@ -142,7 +121,7 @@ impl Book {
         ensures ok { IfOk result (λ book. loaded_saved clients saved ≡ Ok book.session) }
         ensures first { IfOk result (λ book. book ≡ book_at book.session) }
         ensures clients { IfOk result (λ book. length book.session.clients ≡ clients) }
-        ensures few { OnOk result (clients ≤ 4) }
+        ensures few { OnOk result (clients ≤ most_clients) }
         ensures refused { IfErr result (IsUnloaded clients (loaded_saved clients saved)) }
     {
         if clients > CLIENTS {
@@ -154,10 +133,9 @@ impl Book {
             cursors,
         } = saved;
         let (branches, cursors) = (branches.as_slice(), cursors.as_slice());
-        match session_of_all(alloc, clients, moments.into_vec(), branches, cursors, told) {
-            Ok(all_clients) => Ok(begin(alloc, all_clients)),
-            Err(fault) => Err(fault),
-        }
+        let moments = moments.into_vec();
+        let all_clients = session_of(alloc, clients, moments, branches, cursors, told)?;
+        Ok(begin(alloc, all_clients))
     }
 
     /// Answers a command of a client, and writes both in the log. Refused, session and log are as before.
@@ -175,19 +153,17 @@ impl Book {
         self.last = None;
         self.all_clients.limits();
         let was = self.all_clients.client(client);
-        match self.all_clients.serve(client, request) {
-            Ok(said) => match self.log.add(client, request, &said) {
-                Ok(()) => {
-                    self.last = Some(LastServed { client, was });
-                    Ok(said)
-                }
-                Err(_) => {
-                    drop(said);
-                    self.all_clients.retract(client, was);
-                    Err(Refusal::OutOfMemory)
-                }
-            },
-            Err(refusal) => Err(refusal),
+        let said = self.all_clients.serve(client, request)?;
+        match self.log.add(client, request, &said) {
+            Ok(()) => {
+                self.last = Some(LastServed { client, was });
+                Ok(said)
+            }
+            Err(_) => {
+                drop(said);
+                self.all_clients.retract(client, was);
+                Err(Refusal::OutOfMemory)
+            }
         }
     }
 
@@ -205,10 +181,8 @@ impl Book {
         ensures clients { length self.new.session.clients ≡ length self.old.session.clients }
     {
         let frozen = self.frozen(client)?;
-        match self.serve(client, &Command::Pin) {
-            Ok(said) => Ok((said, frozen)),
-            Err(reason) => Err(reason),
-        }
+        let said = self.serve(client, &Command::Pin)?;
+        Ok((said, frozen))
     }
 
     /// The session as it is written down: the tree, and where each client stands. What a client pinned is left out, and
@@ -300,7 +274,7 @@ impl Book {
     /// How many clients there are. It takes no memory.
     pub fn clients(&self) -> u8
         ensures clients { result ≡ length self.now.session.clients }
-        ensures few { result ≤ 4 }
+        ensures few { result ≤ most_clients }
     {
         self.all_clients.limits();
         self.all_clients.clients()

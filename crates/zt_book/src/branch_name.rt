@@ -2,13 +2,18 @@ ghost use Rattle.std.specs.Prelude.{◌≡◌};
 ghost use Rattle.std.specs.List.{list_all};
 ghost use Rattle.zt_book.specs.Session.{is_letter, is_name, is_name_byte};
 
+/// The most bytes of a branch's name.
+const NAME_BYTES: usize = 32;
+
 /// Whether a branch can have the name: 1 to 32 small letters, digits, `_` and `-`, of which the first is a letter.
 pub(crate) fn is_name(name: &[u8]) -> bool
     ensures { result ≡ is_name name.now }
 {
     match name {
         [] => false,
-        [first, others @ ..] => is_letter(*first) && are_name_bytes(others) && others.len() <= 31,
+        [first, others @ ..] => is_letter(*first)
+            && are_name_bytes(others)
+            && others.len() < NAME_BYTES,
     }
 }
 

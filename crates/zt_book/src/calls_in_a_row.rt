@@ -5,6 +5,7 @@ ghost use Rattle.zt_history.specs.HistoryRefusals.{IsHistoryRefusal};
 ghost use Rattle.zt_history.specs.Tree.{head_moved, last_moment};
 ghost use Rattle.zt_book.specs.Log.{book_at, IsUnloadedBy};
 ghost use Rattle.zt_book.specs.SavedSessions.{loaded_saved, with_moment};
+ghost use Rattle.zt_book.specs.Session.{most_clients};
 
 use crate::book::{Book, begin};
 use crate::clients::Clients;
@@ -59,7 +60,7 @@ impl CallsInARow {
     #[inline(always)]
     pub fn push(&mut self, process: Koid, call: Call) -> Result<(), (u64, Refusal)>
         ensures ok { OnOk result (self.new ≡ self.old ++ (process, call) ∷ []) }
-        ensures refused { IfErr result (λ fault. (clients : ℕ) (behind : List (ℕ × Call)) → clients ≤ 4
+        ensures refused { IfErr result (λ fault. (clients : ℕ) (behind : List (ℕ × Call)) → clients ≤ most_clients
             → IsUnloadedBy false (loaded_saved clients (in_a_row (self.old ++ (process, call) ∷ behind))) fault) }
         ensures err { OnErr result (self.new ≡ self.old) }
     {
@@ -72,7 +73,7 @@ impl CallsInARow {
 
     /// The book of so many clients over the tree of these calls: its branch `main` leads to the last one, and all clients follow it.
     pub fn finish(self, alloc: Global, clients: u8) -> Result<Book, Refusal>
-        requires { clients ≤ 4 }
+        requires { clients ≤ most_clients }
         ensures ok { IfOk result (λ book. loaded_saved clients (in_a_row self) ≡ Ok book.session) }
         ensures first { IfOk result (λ book. book ≡ book_at book.session) }
         ensures clients { IfOk result (λ book. length book.session.clients ≡ clients) }
@@ -80,10 +81,8 @@ impl CallsInARow {
     {
         let CallsInARow { mut history } = self;
         lead_main_to_last(&mut history);
-        match Clients::new(alloc, history, clients) {
-            Ok(all_clients) => Ok(begin(alloc, all_clients)),
-            Err(_) => Err(Refusal::OutOfMemory),
-        }
+        let all_clients = Clients::new(alloc, history, clients)?;
+        Ok(begin(alloc, all_clients))
     }
 }
 
@@ -99,10 +98,8 @@ pub(crate) fn make_at(
     ensures refused { IfErr result (IsHistoryRefusal (with_moment history.old.tree (record { parent = parent; process = process; call = call }))) }
     ensures err { OnErr result (history.new.tree ≡ history.old.tree) }
 {
-    match history.take_call_at(parent, process, call) {
-        Ok(_) => Ok(()),
-        Err(reason) => Err(reason),
-    }
+    history.take_call_at(parent, process, call)?;
+    Ok(())
 }
 
 /// Gives `main` the last moment as its head.

@@ -1,10 +1,13 @@
 ghost use Rattle.std.specs.Prelude.{◌≡◌, ◌≤◌, ◌<◌, ◌-◌, All, IfOk, IfErr, OnOk, length, map};
 ghost use Rattle.zt_history.specs.Timeline.{Timeline};
 ghost use Rattle.zt_history.specs.TreeInvariant.{IsTree};
-ghost use Rattle.zt_book.specs.Session.{client_of, counted, position_of, session_over, with_client};
+ghost use Rattle.zt_book.specs.Session.{client_of, counted, most_clients, most_rows, position_of, session_over, with_client};
 ghost use Rattle.zt_book.specs.SavedSessions.{client_at, unanswered};
 ghost use Rattle.zt_book.specs.Log.{snapshot_at};
 ghost use Rattle.zt_book.specs.ProofsOnly.Clients.{IsClient, IsCursor, Stand, session_before};
+
+mod commands;
+mod saved_session;
 
 use crate::client::{Client, Cursor};
 use crate::tree_look::TreeLook;
@@ -17,10 +20,10 @@ use zt_rows::{Moment, Refusal};
 /// The history, with the clients that stand in it.
 #[derive(Drop)]
 pub(crate) struct Clients {
-    pub(crate) history: History,
-    pub(crate) clients: Vec<Client>,
+    history: History,
+    clients: Vec<Client>,
     /// Whether the last command changed the history.
-    pub(crate) grown: bool,
+    grown: bool,
 }
 
 impl Model for Clients {
@@ -37,7 +40,7 @@ impl Clients {
     /// So many clients over a history, each following `main`.
     #[tactic(auto, using(crate::proofs::ClientsLaws::first_all_clients))]
     pub(crate) fn new(alloc: Global, history: History, clients: u8) -> Result<Clients, AllocError>
-        requires { clients ≤ 4 }
+        requires { clients ≤ most_clients }
         ensures { IfOk result (λ all_clients. all_clients.session ≡ session_over history.tree clients) }
     {
         let _position = history.position();
@@ -57,7 +60,7 @@ impl Clients {
 
     /// These clients over a history.
     pub(crate) fn over(history: History, clients: Vec<Client>) -> Clients
-        requires few { length clients.items ≤ 4 }
+        requires few { length clients.items ≤ most_clients }
         requires stand { All (IsClient history.tree) clients.items }
         ensures { result.session ≡ record { tree = history.tree; clients = clients.items } }
     {
@@ -71,7 +74,7 @@ impl Clients {
 
     /// What holds of all clients and of their history.
     pub(crate) fn limits(&self)
-        ensures few { length self.now.session.clients ≤ 4 }
+        ensures few { length self.now.session.clients ≤ most_clients }
         ensures stand { Stand self.now.session }
         ensures tree { IsTree self.now.session.tree }
     {
@@ -187,7 +190,7 @@ impl Clients {
     pub(crate) fn count(&mut self, client: u8)
         requires numbered { 1 ≤ client }
         requires known { client ≤ length self.old.session.clients }
-        requires few { (client_of self.old.session client).rows < 4096 }
+        requires few { (client_of self.old.session client).rows < most_rows }
         ensures session { self.new.session ≡ counted self.old.session client }
         ensures earlier { self.new.earlier ≡ self.old.earlier }
     {

@@ -7,13 +7,13 @@ ghost use Rattle.zt_rows.specs.declared.saved.Saved.{Saved};
 ghost use Rattle.zt_book.specs.declared.log.Recorded.{Recorded};
 ghost use Rattle.zt_book.specs.Log.{IsWholeLog, loaded};
 ghost use Rattle.zt_book.specs.SavedSessions.{loaded_saved, over_loaded, saved_of_session, unanswered};
-ghost use Rattle.zt_book.specs.Session.{Session};
+ghost use Rattle.zt_book.specs.Session.{Session, most_clients};
 
 /// Calls are loaded as the tree is in which each is made at the moment of the one before it: the session is the same,
 /// and so is the first fault.
 #[tactic(auto, using(crate::proofs::RowLaws::row_law))]
 pub fn calls_are_loaded_as_a_tree_of_them_in_a_row()
-    ensures { (clients : ℕ) (calls : List (ℕ × Call)) → clients ≤ 4
+    ensures { (clients : ℕ) (calls : List (ℕ × Call)) → clients ≤ most_clients
         → loaded_saved clients (in_a_row calls) ≡ over_loaded clients (loaded calls) }
 {}
 

@@ -6,14 +6,12 @@ mod branch_name;
 mod calls_in_a_row;
 mod client;
 mod clients;
-mod commands;
 pub mod laws;
 mod load_progress;
 mod loaded_clients;
 mod loaded_history;
 mod loaded_tree;
 mod log;
-mod saved_session;
 mod tree_look;
 
 pub use book::Book;

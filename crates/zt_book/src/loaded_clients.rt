@@ -1,5 +1,5 @@
 ghost use Rattle.std.specs.Prelude.{◌≡◌, ◌+◌, ◌≤◌, ◌<◌, ◌^◌, false, [], All, Ok, Err, IfOk, IfErr, length, slice_index_or};
-ghost use Rattle.zt_book.specs.Session.{first_client};
+ghost use Rattle.zt_book.specs.Session.{first_client, most_clients};
 ghost use Rattle.zt_book.specs.SavedSessions.{clients_at, in_turn, loaded_saved, place_on, seated, with_cursor};
 ghost use Rattle.zt_book.specs.Log.{IsUnloadedBy};
 ghost use Rattle.zt_book.specs.ProofsOnly.Clients.{IsCursor};
@@ -8,31 +8,14 @@ use crate::client::{Client, Cursor};
 use crate::clients::Clients;
 use crate::load_progress::LoadProgress;
 use crate::loaded_history::{MAIN, fault};
-use crate::loaded_tree::{tree_of, tree_of_all};
+use crate::loaded_tree::tree_of;
 use std::alloc::{AllocError, Global};
 use zt_history::History;
 use zt_rows::{Cursor as SavedCursor, Refusal, SavedBranch, SavedCall};
 
-/// So many clients over the tree of these moments and branches, where these cursors tell.
+/// So many clients over the tree of these moments and branches, where these cursors tell. The memory of the moments is given back
+/// as they are made.
 pub(crate) fn session_of<P: LoadProgress>(
-    alloc: Global,
-    clients: u8,
-    moments: &[SavedCall],
-    branches: &[SavedBranch],
-    cursors: &[SavedCursor],
-    told: &P,
-) -> Result<Clients, (u64, Refusal)>
-    requires { clients ≤ 4 }
-    ensures ok { IfOk result (λ all_clients. loaded_saved clients (record { moments = moments.now; branches = branches.now; cursors = cursors.now }) ≡ Ok all_clients.session) }
-    ensures refused { IfErr result (IsUnloadedBy false (loaded_saved clients (record { moments = moments.now; branches = branches.now; cursors = cursors.now }))) }
-{
-    let history = tree_of(alloc, moments, branches, told)?;
-    let number = moments.len() as u64 + branches.len() as u64;
-    seat(alloc, clients, number, history, cursors)
-}
-
-/// The same of moments that are not needed any more, whose memory is given back as they are made.
-pub(crate) fn session_of_all<P: LoadProgress>(
     alloc: Global,
     clients: u8,
     moments: Vec<SavedCall>,
@@ -40,12 +23,12 @@ pub(crate) fn session_of_all<P: LoadProgress>(
     cursors: &[SavedCursor],
     told: &P,
 ) -> Result<Clients, (u64, Refusal)>
-    requires { clients ≤ 4 }
+    requires { clients ≤ most_clients }
     ensures ok { IfOk result (λ all_clients. loaded_saved clients (record { moments = moments.items; branches = branches.now; cursors = cursors.now }) ≡ Ok all_clients.session) }
     ensures refused { IfErr result (IsUnloadedBy false (loaded_saved clients (record { moments = moments.items; branches = branches.now; cursors = cursors.now }))) }
 {
     let number = moments.len() as u64 + branches.len() as u64;
-    let history = tree_of_all(alloc, moments, branches, told)?;
+    let history = tree_of(alloc, moments, branches, told)?;
     seat(alloc, clients, number, history, cursors)
 }
 
@@ -57,7 +40,7 @@ fn seat(
     history: History,
     cursors: &[SavedCursor],
 ) -> Result<Clients, (u64, Refusal)>
-    requires few { clients ≤ 4 }
+    requires few { clients ≤ most_clients }
     requires counted { number + length cursors.now < 2 ^ 64 }
     ensures ok { IfOk result (λ all_clients. seated clients number history.tree cursors.now ≡ Ok all_clients.session) }
     ensures refused { IfErr result (IsUnloadedBy false (seated clients number history.tree cursors.now)) }

@@ -11,26 +11,8 @@ use std::alloc::Global;
 use zt_history::History;
 use zt_rows::{Refusal, SavedBranch, SavedCall};
 
-/// The history of these moments and branches.
+/// The history of these moments and branches. As a moment is made, it is let go, and of its list what is no more used.
 pub(crate) fn tree_of<P: LoadProgress>(
-    alloc: Global,
-    moments: &[SavedCall],
-    branches: &[SavedBranch],
-    told: &P,
-) -> Result<History, (u64, Refusal)>
-    ensures ok { IfOk result (λ history. loaded_tree (record { moments = moments.now; branches = branches.now; cursors = [] }) ≡ Ok history.tree) }
-    ensures refused { IfErr result (IsUnloadedBy false (loaded_tree (record { moments = moments.now; branches = branches.now; cursors = [] }))) }
-{
-    let Ok(mut history) = History::new(alloc) else {
-        return Err((0, Refusal::OutOfMemory));
-    };
-    put_moments(&mut history, moments, told)?;
-    put_branches(&mut history, moments.len() as u64, branches)?;
-    Ok(history)
-}
-
-/// The same of moments that are not needed any more: as one is made, it is let go, and of its list what is no more used.
-pub(crate) fn tree_of_all<P: LoadProgress>(
     alloc: Global,
     moments: Vec<SavedCall>,
     branches: &[SavedBranch],
@@ -43,13 +25,13 @@ pub(crate) fn tree_of_all<P: LoadProgress>(
         return Err((0, Refusal::OutOfMemory));
     };
     let number = moments.len() as u64;
-    put_all_moments(&mut history, moments, told)?;
+    put_moments(&mut history, moments, told)?;
     put_branches(&mut history, number, branches)?;
     Ok(history)
 }
 
 /// Makes each of these moments in turn, lets it go, and tells so.
-fn put_all_moments<P: LoadProgress>(
+fn put_moments<P: LoadProgress>(
     history: &mut History,
     moments: Vec<SavedCall>,
     told: &P,
@@ -80,35 +62,6 @@ fn give_back(list: &mut Vec<SavedCall>)
 {
     if list.len() <= list.capacity() / 2 {
         list.shrink_to_fit();
-    }
-}
-
-/// Makes each of these moments in turn, and tells so.
-fn put_moments<P: LoadProgress>(
-    history: &mut History,
-    moments: &[SavedCall],
-    told: &P,
-) -> Result<(), (u64, Refusal)>
-    ensures ok { OnOk result (in_turn with_moment 0 history.old.tree moments.now ≡ Ok history.new.tree) }
-    ensures refused { IfErr result (IsUnloadedBy false (in_turn with_moment 0 history.old.tree moments.now)) }
-{
-    for place in 0..moments.len() {
-        match put_moment(history, &moments[place]) {
-            Ok(()) => told.loaded(place + 1, moments.len()),
-            Err(reason) => return Err(fault(place as u64, reason)),
-        }
-    }
-    Ok(())
-}
-
-/// Makes one moment more.
-fn put_moment(history: &mut History, saved: &SavedCall) -> Result<(), Refusal>
-    ensures ok { OnOk result (with_moment history.old.tree saved.now ≡ Ok history.new.tree) }
-    ensures refused { IfErr result (IsHistoryRefusal (with_moment history.old.tree saved.now)) }
-{
-    match history.call_at(saved.parent, saved.process, &saved.call) {
-        Ok(_) => Ok(()),
-        Err(reason) => Err(reason),
     }
 }
 
@@ -173,8 +126,6 @@ fn put_branch(history: &mut History, saved: &SavedBranch) -> Result<(), Refusal>
     if history.find(saved.name.as_slice()).is_some() {
         return Err(Refusal::NameTaken);
     }
-    match history.branch(saved.name.as_slice(), saved.head) {
-        Ok(_) => Ok(()),
-        Err(reason) => Err(reason),
-    }
+    history.branch(saved.name.as_slice(), saved.head)?;
+    Ok(())
 }

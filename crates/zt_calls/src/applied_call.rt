@@ -1,11 +1,13 @@
 ghost use Rattle.std.specs.Prelude.{◌≡◌, ◌↔◌, ◌⊎◌, true, false, IfOk, IfErr, OnOk, OnErr, IsErrOf};
+ghost use Rattle.zt_rows.specs.declared.calls.Reply.{Reply};
 ghost use Rattle.zt_rows.specs.Reads.{runs};
 ghost use Rattle.zt_rows.specs.Room.{HasRoom};
-ghost use Rattle.zt_rows.specs.Step.{IsCall, direct, completed, step};
+ghost use Rattle.zt_rows.specs.State.{State};
+ghost use Rattle.zt_rows.specs.Step.{direct, step};
 ghost use Rattle.zt_rows.specs.Change.{before};
 ghost use Rattle.zt_rows.specs.Consistent.{IsSound, IsConsistent};
 ghost use Rattle.zt_store.specs.Places.{Keeps, fits};
-ghost use Rattle.zt_store.specs.StepView.{AsBegun, IsAtRest};
+ghost use Rattle.zt_store.specs.StepView.{Advanced, AsBegun, IsAtRest, Stepping};
 ghost use Rattle.zt_calls.specs.ProofsOnly.CallOutcomes.{Does};
 
 use crate::channel_calls::{channel_create, channel_read, channel_write};
@@ -16,9 +18,9 @@ use crate::object_calls::{event_create, eventpair_create, object_signal, object_
 use crate::port_calls::{object_wait_async, port_cancel, port_create, port_queue, port_wait};
 use std::alloc::{AllocError, Global};
 use std::mem;
-use zt_bits::{Kind, Status};
-use zt_cascade::{release_lost, settle};
-use zt_rows::{Call, Koid, Life, Refusal, Reply};
+use zt_bits::Status;
+use zt_cascade::{release, settle};
+use zt_rows::{Call, Held, Koid, Refusal, Reply};
 use zt_store::{Record, Step, Store};
 
 /// Whether the koid is that of a live process: only such a process may call.
@@ -26,7 +28,7 @@ pub fn runs(store: &Store, process: Koid) -> bool
     ensures { result ≡ runs store.now.state process }
 {
     match store.object(process) {
-        Some(object) => object.kind == Kind::Process && object.life == Life::Live,
+        Some(object) => object.is_live_process(),
         None => false,
     }
 }
@@ -51,45 +53,23 @@ pub fn apply(
     ensures consistent { IsConsistent store.new.state }
     ensures kept { Keeps store.old.places store.new.places }
 {
-    let mut step = Step::begin(mem::replace(store, Store::hollow(alloc)));
-    let done = apply_to(alloc, &mut step, process, call);
-    put_in_place(store, step.abandon());
-    done
-}
-
-/// Runs one call of a process as `apply` does, on the store of a step that has put nothing yet; so has the step that it leaves.
-#[tactic(auto, unfolding(zt_rows::specs::Step::step))]
-pub fn apply_to(
-    alloc: Global,
-    resting: &mut Step,
-    process: Koid,
-    call: &Call,
-) -> Result<(Reply, Record), Refusal>
-    requires rest { IsAtRest resting.old }
-    requires room { HasRoom resting.old.current }
-    requires consistent { IsConsistent resting.old.current }
-    ensures rest { IsAtRest resting.new }
-    ensures ok { IfOk result (λ answer. (resting.new.current, answer.0) ≡ step resting.old.current process call.now) }
-    ensures recorded { IfOk result (λ answer. answer.1 ≡ before resting.old.current resting.new.current) }
-    ensures fits { IfOk result (λ answer. fits resting.new.places answer.1 ≡ true) }
-    ensures no_process { IsErrOf result Refusal.NoProcess ↔ (runs resting.old.current process ≡ false) }
-    ensures refusals { IfErr result (λ refusal. (refusal ≡ Refusal.NoProcess) ⊎ (refusal ≡ Refusal.OutOfMemory)) }
-    ensures err { OnErr result (resting.new.current ≡ resting.old.current) }
-    ensures consistent { IsConsistent resting.new.current }
-    ensures kept { Keeps resting.old.places resting.new.places }
-{
-    if !runs(resting.store(), process) {
+    if !runs(store, process) {
         return Err(Refusal::NoProcess);
     }
+    let mut step = Step::begin(mem::replace(store, Store::hollow(alloc)));
     let mut reply = Reply::Status(Status::Ok);
-    match run_on(alloc, resting, process, call, &mut reply) {
+    let done = run_on(alloc, &mut step, process, call, &mut reply);
+    put_in_place(store, step.abandon());
+    match done {
         Ok(record) => Ok((reply, record)),
         Err(_) => Err(Refusal::OutOfMemory),
     }
 }
 
-/// Runs one call of a process that is known to run, as `apply_to` does, and leaves its reply where the caller says, since a reply is
-/// large and goes through memory at each return. It is refused for want of memory alone.
+/// Runs one call of a process that is known to run, as `apply` does, on the store of a step that has put nothing yet; so has the step
+/// that it leaves. What the call changes is followed by the removal of what nothing supports, the derived signals and the firing of
+/// waits. The reply is left where the caller says, since a reply is large and goes through memory at each return. It is refused for
+/// want of memory alone.
 #[tactic(auto, unfolding(zt_rows::specs::Step::step))]
 pub fn run_on(
     alloc: Global,
@@ -111,13 +91,12 @@ pub fn run_on(
     ensures kept { Keeps resting.old.places resting.new.places }
 {
     call.limits();
-    match carried_out(alloc, resting, process, call, reply) {
-        Ok(()) => Ok(resting.take_record()),
-        Err(e) => {
-            resting.reset();
-            Err(e)
-        }
-    }
+    let mut released = Vec::new(alloc);
+    let done = direct(alloc, resting, process, call, &mut released);
+    leave(done, reply)?;
+    release(resting, released.as_slice())?;
+    settle(resting)?;
+    Ok(resting.take_record())
 }
 
 /// Puts the store in the place of a hollow one, which has no memory to be given back.
@@ -127,46 +106,13 @@ fn put_in_place(place: &mut Store, store: Store)
     mem::forget(mem::replace(place, store));
 }
 
-/// The call itself, then the removal of what nothing supports, the derived signals and the firing of waits.
-fn carried_out(
-    alloc: Global,
-    step: &mut Step,
-    process: Koid,
-    call: &Call,
-    reply: &mut Reply,
-) -> Result<(), AllocError>
-    requires room { HasRoom step.old.current }
-    requires consistent { IsConsistent step.old.current }
-    requires running { runs step.old.current process ≡ true }
-    requires begun { step.old.current ≡ step.old.beginning }
-    requires limits { IsCall call.now }
-    ensures beginning { step.new.beginning ≡ step.old.beginning }
-    ensures ok { OnOk result ((step.new.current, reply.new) ≡ completed step.old.current (direct step.old.current process call.now)) }
-    ensures kept { Keeps step.old.places step.new.places }
-{
-    direct(alloc, step, process, call, reply)?;
-    release_lost(step)?;
-    settle(step, alloc)
-}
-
-/// The checks of the call in order, and then its change of rows.
+/// Leaves what the function of a call answered in the place, or tells that memory was refused to it.
 #[inline(always)]
-fn direct(
-    alloc: Global,
-    step: &mut Step,
-    process: Koid,
-    call: &Call,
-    reply: &mut Reply,
-) -> Result<(), AllocError>
-    requires room { HasRoom step.old.current }
-    requires sound { IsSound step.old.current }
-    requires running { runs step.old.current process ≡ true }
-    ensures beginning { step.new.beginning ≡ step.old.beginning }
-    ensures ok { OnOk result ((step.new.current, reply.new) ≡ direct step.old.current process call.now) }
-    ensures err { OnErr result (AsBegun step.old step.new) }
-    ensures kept { Keeps step.old.places step.new.places }
+fn leave(done: Result<Reply, Failure>, place: &mut Reply) -> Result<(), AllocError>
+    ensures ok { OnOk result ((d : State × Reply) (old new : Stepping) → Does d old new done → Advanced old new d.0 × (place.new ≡ d.1)) }
+    ensures err { OnErr result ((d : State × Reply) (old new : Stepping) → Does d old new done → AsBegun old new) }
 {
-    *reply = match answered(alloc, step, process, call) {
+    *place = match done {
         Ok(reply) => reply,
         Err(Failure::Status(status)) => Reply::Status(status),
         Err(Failure::OutOfMemory) => return Err(AllocError),
@@ -174,10 +120,17 @@ fn direct(
     Ok(())
 }
 
-/// The function of the call, with the call's arguments.
+/// The function of the call, with the call's arguments: its checks in order, and then its change of rows. The handles of what it ends
+/// are left in the list.
 #[inline(always)]
 #[tactic(auto, unfolding(zt_rows::specs::Step::direct))]
-fn answered(alloc: Global, step: &mut Step, process: Koid, call: &Call) -> Result<Reply, Failure>
+fn direct(
+    alloc: Global,
+    step: &mut Step,
+    process: Koid,
+    call: &Call,
+    released: &mut Vec<Held>,
+) -> Result<Reply, Failure>
     requires room { HasRoom step.old.current }
     requires sound { IsSound step.old.current }
     requires running { runs step.old.current process ≡ true }
@@ -229,7 +182,7 @@ fn answered(alloc: Global, step: &mut Step, process: Koid, call: &Call) -> Resul
             job,
             process: critical,
         } => job_set_critical(step, process, *job, *critical),
-        Call::TaskKill { handle } => task_kill(alloc, step, process, *handle),
-        Call::ProcessExit { code } => process_exit(alloc, step, process, *code),
+        Call::TaskKill { handle } => task_kill(alloc, step, process, *handle, released),
+        Call::ProcessExit { code } => process_exit(alloc, step, process, *code, released),
     }
 }

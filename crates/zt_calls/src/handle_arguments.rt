@@ -59,8 +59,11 @@ pub fn handle_to(
 ) -> Result<(Held, ObjectRow), Status>
     ensures { result ≡ handle_to step.now.current process handle wanted right.0 }
 {
-    let held = step.entry(process, handle).ok_or(Status::BadHandle)?;
-    let object = step.object(held.koid).ok_or(Status::BadHandle)?;
+    let held = step
+        .store()
+        .entry(process, handle)
+        .ok_or(Status::BadHandle)?;
+    let object = step.store().object(held.koid).ok_or(Status::BadHandle)?;
     if !wanted.takes(object.kind) {
         return Err(wanted.wrong_kind());
     }

@@ -19,7 +19,9 @@ pub fn handle_close(step: &mut Step, process: Koid, handle: HandleValue) -> Resu
     ensures kept { Keeps step.old.places step.new.places }
 {
     if handle != HandleValue(0) {
-        step.entry(process, handle).ok_or(Status::BadHandle)?;
+        step.store()
+            .entry(process, handle)
+            .ok_or(Status::BadHandle)?;
         take_out(step, process, handle)?;
     }
     Ok(Reply::Status(Status::Ok))
@@ -56,7 +58,10 @@ pub fn handle_replace(
     ensures does { Does (handle_replace step.old.current process handle rights) step.old step.new result }
     ensures kept { Keeps step.old.places step.new.places }
 {
-    let held = step.entry(process, handle).ok_or(Status::BadHandle)?;
+    let held = step
+        .store()
+        .entry(process, handle)
+        .ok_or(Status::BadHandle)?;
     let granted = asked(rights, held.rights);
     take_out(step, process, handle)?;
     let rights = granted.ok_or(Status::InvalidArgs)?;

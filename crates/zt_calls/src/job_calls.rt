@@ -154,13 +154,14 @@ pub fn job_set_critical(
     Ok(Reply::Status(Status::Ok))
 }
 
-/// Kills the process or the job that the handle names, and what ends with it. To kill what has ended is ok and changes
-/// nothing.
+/// Kills the process or the job that the handle names, and what ends with it, whose handles are left in the list, to be released.
+/// To kill what has ended is ok and changes nothing.
 pub fn task_kill(
     alloc: Global,
     step: &mut Step,
     process: Koid,
     handle: HandleValue,
+    released: &mut Vec<Held>,
 ) -> Result<Reply, Failure>
     requires sound { IsSound step.old.current }
     ensures does { Does (task_kill step.old.current process handle) step.old step.new result }
@@ -168,23 +169,24 @@ pub fn task_kill(
 {
     let (held, task) = handle_to(step, process, handle, WantedKind::Task, Rights::DESTROY)?;
     if task.life == Life::Live {
-        end_subtree(alloc, step, held.koid, Life::Killed)?;
+        *released = end_subtree(alloc, step, held.koid, Life::Killed)?;
     }
     Ok(Reply::Status(Status::Ok))
 }
 
-/// Ends the caller with the code, and kills what else ends with it.
+/// Ends the caller with the code, and kills what else ends with it. The handles of all these are left in the list, to be released.
 pub fn process_exit(
     alloc: Global,
     step: &mut Step,
     process: Koid,
     code: i64,
+    released: &mut Vec<Held>,
 ) -> Result<Reply, Failure>
     requires sound { IsSound step.old.current }
     requires running { runs step.old.current process ≡ true }
     ensures does { Does (process_exit step.old.current process code) step.old step.new result }
     ensures kept { Keeps step.old.places step.new.places }
 {
-    end_process(alloc, step, process, Life::Exited(code))?;
+    *released = end_process(alloc, step, process, Life::Exited(code))?;
     Ok(Reply::Status(Status::Ok))
 }

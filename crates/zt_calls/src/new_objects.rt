@@ -29,7 +29,7 @@ pub fn new_object(step: &mut Step, kind: Kind, link: Koid) -> Result<Koid, Alloc
     ensures err { OnErr result (AsBegun step.old step.new) }
     ensures kept { Keeps step.old.places step.new.places }
 {
-    let counters = step.counters();
+    let counters = step.store().counters();
     let koid = counters.next_koid;
     let raised = Counters {
         next_koid: Koid(koid.0 + 1),
@@ -53,7 +53,7 @@ pub fn new_pair(step: &mut Step, kind: Kind) -> Result<(Koid, Koid), AllocError>
     ensures err { OnErr result (AsBegun step.old step.new) }
     ensures kept { Keeps step.old.places step.new.places }
 {
-    let counters = step.counters();
+    let counters = step.store().counters();
     let near = counters.next_koid;
     let far = Koid(near.0 + 1);
     let raised = Counters {

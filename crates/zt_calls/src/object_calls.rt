@@ -105,7 +105,7 @@ pub fn object_signal_peer(
     if !may_set(object.kind, clear, set) {
         return Err(Failure::Status(Status::InvalidArgs));
     }
-    step.object(object.link).ok_or(Status::PeerClosed)?;
+    step.store().object(object.link).ok_or(Status::PeerClosed)?;
     set_bits(step, object.link, clear, set)?;
     Ok(Reply::Status(Status::Ok))
 }

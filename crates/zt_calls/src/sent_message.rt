@@ -22,7 +22,7 @@ pub fn message_for(
 {
     let (_, object) = handle_to(step, process, handle, WantedKind::Channel, Rights::WRITE)?;
     let handles = sent(alloc, step, process, handle, parcel.handles().as_slice())?;
-    step.object(object.link).ok_or(Status::PeerClosed)?;
+    step.store().object(object.link).ok_or(Status::PeerClosed)?;
     parcel.limits();
     let bytes = parcel.bytes().copy()?;
     let message = Message::new(bytes, handles).unwrap();
@@ -60,7 +60,7 @@ fn sendable(
 ) -> Result<Held, Status>
     ensures { result ≡ sendable step.now.current process channel earlier.now value }
 {
-    let held = step.entry(process, value).ok_or(Status::BadHandle)?;
+    let held = step.store().entry(process, value).ok_or(Status::BadHandle)?;
     if earlier.contains(&value) {
         return Err(Status::BadHandle);
     }

@@ -48,7 +48,7 @@ fn take_out_if_there(step: &mut Step, process: Koid, handle: HandleValue) -> Res
     ensures err { OnErr result (AsBegun step.old step.new) }
     ensures kept { Keeps step.old.places step.new.places }
 {
-    match step.entry(process, handle) {
+    match step.store().entry(process, handle) {
         Some(_) => take_out(step, process, handle),
         None => Ok(()),
     }

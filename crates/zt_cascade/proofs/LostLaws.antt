@@ -1,5 +1,5 @@
--- What goes had a support at the beginning of the step, by a row that is no longer there: so it is in a list that has what the
--- rows that were put may have lost.
+-- What goes and had a support at the beginning of the step had it by a row that is no longer there: so it is in a list that has
+-- what the rows that were put may have lost.
 use Rattle.std.proofs.Common.{◌≡◌, ℕ, Bool, true, false, ◌||◌, ◌&&◌, List, ◌++◌, ◌⊎◌, inl, inr, refl, sym, ap, ◌∙◌, subst}
 use Rattle.std.specs.Prelude.{◌==◌, Option, None, Some}
 use Rattle.std.proofs.lemmas.Bool.{eq-eqb}
@@ -19,6 +19,7 @@ use Rattle.zt_rows.proofs.SupportLaws.{KeptBy, by_child, by_entry, by_itself, by
 use Rattle.zt_rows.proofs.CollectLaws.{goes-free, goes-there}
 use Rattle.zt_store.specs.StepView.{DiffersAtTouched, Stepping, listed}
 use Rattle.zt_cascade.specs.OneByOne.{is_named}
+use Rattle.zt_cascade.specs.ToldObjects.{IsTold, by_birth, by_list, by_loss, IsCovered}
 use Rattle.zt_cascade.specs.ProofsOnly.LostObjects.{HasAllLost, HasLost, HasLostObject, SupportsAlike, named_by}
 use Rattle.zt_cascade.specs.ProofsOnly.RaisedWaits.{IsLonger}
 use Rattle.zt_cascade.specs.ProofsOnly.RemovedObject.{Covers, koids}
@@ -102,8 +103,8 @@ module _ (s : Stepping) (list : List ℕ) (differs : DiffersAtTouched s) (all : 
       | inl itself ↦ inr (by_itself itself.0 itself.1 ((λ i. (is_process (itself.2 i) && is_live (itself.3 i)) || (x == root_job)) ∙ t))
     ]
 
-    listed-there : ((y : ℕ) → exists s.beginning y ≡ true → is_supported s.beginning y ≡ true) → (o : ObjectRow) → object s.beginning x ≡ Some o → among list x ≡ true
-    listed-there supported o h = elim (listed-or-kept (supported-kept s.beginning x (supported x (exists-some s.beginning x o h)))) [
+    listed-lost : is_supported s.beginning x ≡ true → among list x ≡ true
+    listed-lost supported = elim (listed-or-kept (supported-kept s.beginning x supported)) [
       | inl t ↦ t
       | inr kept ↦ absurd (true≢false (is_supported s.current x) (kept-supported s.current x kept) (goes-free s.current x g))
     ]
@@ -121,10 +122,18 @@ module _ (s : Stepping) (list : List ℕ) (differs : DiffersAtTouched s) (all : 
             let w = some-exists s.current x (goes-there s.current x g) in
             absurd (no_object (object s.beginning x) w.0 none (ap as_object (sym (differs (key.Object x) t)) ∙ w.1))
 
-  -- where every object was supported at the beginning, all that goes is in the list
-  pub lost-covers : ((x : ℕ) → exists s.beginning x ≡ true → is_supported s.beginning x ≡ true) → Covers list s.current
-  lost-covers supported = record { each = λ x g. by x g (object s.beginning x) refl }
+    listed-born : exists s.beginning x ≡ false → among list x ≡ true
+    listed-born none = by (object s.beginning x) refl
+      where
+        by : (r : Option ObjectRow) → object s.beginning x ≡ r → among list x ≡ true
+        by (Some o) h = absurd (true≢false (exists s.beginning x) (exists-some s.beginning x o h) none)
+        by None h = listed-new h
+
+  -- all that is told of is in the list, where the released handles stand behind it
+  pub told-covers : (released : List Held) → IsCovered s released → Covers (list ++ koids released) s.current
+  told-covers released covered = record { each = λ x g. told x g (covered.told x g) }
     where
-      by : (x : ℕ) → goes s.current x ≡ true → (r : Option ObjectRow) → object s.beginning x ≡ r → among list x ≡ true
-      by x g (Some o) h = listed-there x g supported o h
-      by x g None h = listed-new x g h
+      told : (x : ℕ) → goes s.current x ≡ true → IsTold s released x → among (list ++ koids released) x ≡ true
+      told x g (by_list e) = among-right list (koids released) x (among-koids released x ∙ e)
+      told x g (by_birth e) = among-left list (koids released) x (listed-born x g e)
+      told x g (by_loss e) = among-left list (koids released) x (listed-lost x g e)

@@ -1,50 +1,24 @@
--- The list of what may go: what it holds to begin with, what one look at it leaves, and where it ends.
+-- The list of what may go: what one look at it leaves, and where it ends.
 use Rattle.std.proofs.Common.{not, ◌≡◌, ℕ, Bool, true, false, ◌||◌, List, [], ◌∷◌, ◌++◌, length, ◌⊎◌, inl, inr, refl, sym, ap, ◌∙◌, subst, arith}
 use Rattle.std.specs.Prelude.{Option, None, Some, if◌then◌else◌, ◌==◌, is_some, Result, Ok, Err, OnOk}
 use Rattle.std.proofs.lemmas.Bool.{eqb-true, eq-eqb}
-use Rattle.zt_rows.specs.declared.keys.RowKey.{RowKey}
-use Rattle.zt_rows.specs.declared.keys.RowKey.TheVariants as key
-use Rattle.zt_rows.specs.declared.rows.Held.{Held}
 use Rattle.zt_rows.specs.declared.rows.ObjectRow.{ObjectRow}
 use Rattle.zt_rows.specs.State.{State}
 use Rattle.zt_rows.specs.Reads.{object}
 use Rattle.zt_rows.specs.Support.{support_count, is_supported}
-use Rattle.zt_rows.specs.Tests.{among, exists, link_at}
+use Rattle.zt_rows.specs.Tests.{among, exists}
 use Rattle.zt_rows.specs.Collect.{without, goes, collect}
 use Rattle.std.proofs.lemmas.List.Folds.{list_any-append}
 use Rattle.zt_rows.proofs.RowLaws.{or_true, or_left, or_right, not_true, true≢false}
 use Rattle.zt_rows.proofs.ReadLaws.{some-exists, stayed}
 use Rattle.zt_rows.proofs.CollectLaws.{goes-there, free-goes, supported-stays}
-use Rattle.zt_store.specs.StepView.{Stepping, listed}
 use Rattle.zt_store.specs.KoidSets.{only}
 use Rattle.zt_cascade.specs.OneByOne.{IsOnTheWay, IsLetGo}
 use Rattle.zt_cascade.specs.JoinedLinks.{IsJoined}
-use Rattle.zt_cascade.specs.ToldObjects.{IsTold, by_list, by_put, by_child, IsCovered}
-use Rattle.zt_cascade.specs.ProofsOnly.ToldObjects.{IsListed, IsListedFree}
-use Rattle.zt_cascade.specs.ProofsOnly.RemovedObject.{koids, Covers}
+use Rattle.zt_cascade.specs.ProofsOnly.LostObjects.{IsListedFree}
+use Rattle.zt_cascade.specs.ProofsOnly.RemovedObject.{Covers}
 use Rattle.zt_cascade.proofs.OnTheWayLaws.{on_the_way-more, on_the_way-end, goes-newly}
 use Rattle.zt_cascade.proofs.JoinedLaws.{joined-without}
-use Rattle.zt_cascade.proofs.TakingLaws.{among-koids, among-left, among-right}
-use Rattle.zt_cascade.proofs.TouchedLaws.{LastsLonger}
-
--- ---- what was put
-
-pub listed-longer : (B S : State) → LastsLonger (IsListed B S)
-listed-longer B S (key.Object x) list later longer h = (λ g. longer x (h.0 g), λ g. longer (link_at B x) (h.1 g))
-listed-longer B S key.Counters list later longer h = tt
-listed-longer B S (key.Entry p g) list later longer h = tt
-listed-longer B S (key.Msg e n) list later longer h = tt
-listed-longer B S (key.Packet p n) list later longer h = tt
-listed-longer B S (key.Wait n) list later longer h = tt
-
--- all that is told of is in the list
-pub told-covers : (s : Stepping) (released : List Held) (list : List ℕ) → IsCovered s released → ((k : RowKey) → listed s.touched k ≡ true → IsListed s.beginning s.current k list) → Covers (list ++ koids released) s.current
-told-covers s released list covered touched = record { each = λ y g. told y g (covered.told y g) }
-  where
-    told : (y : ℕ) → goes s.current y ≡ true → IsTold s released y → among (list ++ koids released) y ≡ true
-    told y g (by_list e) = among-right list (koids released) y (among-koids released y ∙ e)
-    told y g (by_put e) = among-left list (koids released) y ((touched (key.Object y) e).0 g)
-    told y g (by_child z e l) = among-left list (koids released) y (subst (λ u. IsListedFree s.current u list) l (touched (key.Object z) e).1 g)
 
 -- ---- one look
 

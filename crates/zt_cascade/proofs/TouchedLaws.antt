@@ -47,9 +47,9 @@ past_end ks i end = elim (slice_get_cases ks i).1 [
   | inr w ↦ w.0
 ]
 
-pub so_far-all : (P : RowKey → List ℕ → Type 0) (ks : List RowKey) (i : ℕ) (list : List ℕ) → slice_get ks i ≡ None → HoldsSoFar P ks i list → (k : RowKey) → listed ks k ≡ true → P k list
-so_far-all P ks i list end so_far k there =
+-- it holds of all keys once the places are gone through
+pub so_far-end : (P : RowKey → List ℕ → Type 0) (ks : List RowKey) (i : ℕ) (list : List ℕ) → length ks ≤ i → HoldsSoFar P ks i list → (k : RowKey) → listed ks k ≡ true → P k list
+so_far-end P ks i list past so_far k there =
     let w = listed-at ks k there in
     let within : w.0 < length ks = slice_get_within ks w.0 k w.1 in
-    let past : length ks ≤ i = past_end ks i end in
     so_far w.0 k (omega arith) w.1

@@ -1,5 +1,4 @@
 -- Used by proofs only: no public clause depends on them.
-pub mod ToldObjects
 pub mod RemovedObject
 pub mod NearObjects
 pub mod RaisedWaits

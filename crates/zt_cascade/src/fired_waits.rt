@@ -21,7 +21,7 @@ pub(crate) fn fire_all(step: &mut Step) -> Result<(), AllocError>
     ensures ahead { IsAhead step.old step.new }
     ensures ok { OnOk result (step.new.current ≡ fold (fire step.old.beginning) step.old.current (waits step.old.current)) }
 {
-    if !step.ever_had_waits() {
+    if !step.store().ever_had_waits() {
         return Ok(());
     }
     let list = step.take_numbers();
@@ -41,7 +41,7 @@ fn fire_number(step: &mut Step, number: u64) -> Result<(), AllocError>
     ensures ahead { IsAhead step.old step.new }
     ensures ok { OnOk result (step.new.current ≡ fire_number step.old.beginning step.old.current number) }
 {
-    match step.wait(number) {
+    match step.store().wait(number) {
         Some(wait) => fire(step, number, &wait),
         None => Ok(()),
     }

@@ -9,9 +9,9 @@ ghost use Rattle.zt_rows.specs.Reads.{wait};
 ghost use Rattle.zt_rows.specs.Settle.{settle};
 ghost use Rattle.zt_rows.specs.Support.{is_supported};
 ghost use Rattle.zt_rows.specs.Tests.{exists, next_at};
-ghost use Rattle.zt_store.specs.StepView.{DiffersAtTouched, Stepping};
+ghost use Rattle.zt_store.specs.StepView.{Stepping};
 ghost use Rattle.zt_store.specs.KoidSets.{only};
-ghost use Rattle.zt_cascade.specs.ToldObjects.{IsCovered, NamesLost};
+ghost use Rattle.zt_cascade.specs.ToldObjects.{IsCovered};
 ghost use Rattle.zt_cascade.specs.OneByOne.{IsLetGo, IsOnTheWay};
 ghost use Rattle.zt_cascade.specs.JoinedLinks.{IsJoined};
 
@@ -35,12 +35,12 @@ pub fn removal_keeps_links_joined()
     ensures kept { (S : State) (going : ℕ → Bool) → IsJoined S → IsJoined (without S going) }
 {}
 
-/// Where every object was supported at the beginning of a step, and what the lost entries and messages named is in
-/// the list, the step and the list tell of every object that goes.
+/// Where every object was supported at the beginning of a step, the step tells of every object that goes, whatever list of
+/// handles is given beside it.
 pub fn what_a_step_loses_is_told()
     ensures { (s : Stepping) (released : List Held)
         → ((x : ℕ) → exists s.beginning x ≡ true → is_supported s.beginning x ≡ true)
-        → DiffersAtTouched s → NamesLost s released → IsCovered s released }
+        → IsCovered s released }
 {}
 
 /// Settling raises a next number by no more than there are numbers of waits, so that few waits leave room to fire.

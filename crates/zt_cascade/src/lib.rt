@@ -10,6 +10,5 @@ mod removed_rows;
 mod settled_signals;
 mod worklist;
 
-pub use lost_objects::release_lost;
 pub use settled_signals::settle;
 pub use worklist::release;

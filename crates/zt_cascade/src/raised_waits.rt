@@ -7,7 +7,6 @@ ghost use Rattle.zt_rows.specs.Tests.{has_all, signals_at};
 ghost use Rattle.zt_index.specs.Criteria.{is_at, is_on};
 ghost use Rattle.zt_cascade.specs.ProofsOnly.RaisedWaits.{HasMet, HasWoken, HasWokenAt, IsLonger, Lists, ListsMet};
 
-use crate::settled_signals::object_in;
 use std::alloc::AllocError;
 use zt_ports::is_met;
 use zt_rows::{HandleValue, Koid, ObjectRow, Row, RowKey};
@@ -19,13 +18,11 @@ pub(crate) fn woken(step: &Step, mut list: Vec<u64>) -> Result<Vec<u64>, AllocEr
     requires { IsConsistent step.now.beginning }
     ensures { IfOk result (λ list. HasMet step.now.beginning step.now.current list.items) }
 {
-    for i in 0..usize::MAX {
-        let Some(key) = step.touched(i) else {
-            return Ok(list);
-        };
-        add_woken(step, key, step.touched_was(i), &mut list)?;
+    for i in 0..step.touched_len() {
+        let (key, first) = step.touched_at(i);
+        add_woken(step, key, first, &mut list)?;
     }
-    Err(AllocError)
+    Ok(list)
 }
 
 /// Adds to the list the waits that can have come to be met since the row under the key was put: the wait itself, if it is
@@ -47,7 +44,7 @@ fn add_woken(
                 add_waits_on(step, process, handle, list)?;
             }
         }
-        RowKey::Object(koid) => add_waits_near(step, koid, object_in(first), list)?,
+        RowKey::Object(koid) => add_waits_near(step, koid, Row::as_object(first), list)?,
         _ => {}
     }
     Ok(())
@@ -58,7 +55,7 @@ fn add_if_met(step: &Step, number: u64, list: &mut Vec<u64>) -> Result<(), Alloc
     ensures listed { OnOk result (ListsMet step.now.beginning step.now.current number list.new.items) }
     ensures longer { OnOk result (IsLonger list.old.items list.new.items) }
 {
-    let Some(wait) = step.wait(number) else {
+    let Some(wait) = step.store().wait(number) else {
         return Ok(());
     };
     if is_met(step, &wait) {
@@ -78,7 +75,7 @@ fn add_waits_on(
     ensures longer { OnOk result (IsLonger list.old.items list.new.items) }
 {
     let mut low = None;
-    'waits: while let Some(number) = step.wait_on(process, handle, low) {
+    'waits: while let Some(number) = step.store().wait_on(process, handle, low) {
         list.push(number)?;
         low = Some(number);
     }
@@ -120,7 +117,7 @@ fn add_waits_at(step: &Step, koid: Koid, list: &mut Vec<u64>) -> Result<(), Allo
     ensures longer { OnOk result (IsLonger list.old.items list.new.items) }
 {
     let mut low = None;
-    'waits: while let Some(number) = step.wait_at(koid, low) {
+    'waits: while let Some(number) = step.store().wait_at(koid, low) {
         list.push(number)?;
         low = Some(number);
     }
@@ -131,7 +128,7 @@ fn add_waits_at(step: &Step, koid: Koid, list: &mut Vec<u64>) -> Result<(), Allo
 fn signals_now(step: &Step, koid: Koid) -> u32
     ensures { result ≡ signals_at step.now.current koid }
 {
-    match step.object(koid) {
+    match step.store().object(koid) {
         Some(object) => object.signals.0,
         None => 0,
     }

@@ -71,7 +71,7 @@ fn cut_link(step: &mut Step, went: Koid, koid: Koid) -> Result<(), AllocError>
     ensures ahead { IsAhead step.old step.new }
     ensures ok { OnOk result (step.new.current ≡ left_behind went step.old.current (key.Object koid)) }
 {
-    let Some(object) = step.object(koid) else {
+    let Some(object) = step.store().object(koid) else {
         return Ok(());
     };
     if !has_peer(&object, went) {
@@ -100,7 +100,7 @@ fn take_messages(step: &mut Step, endpoint: Koid, list: &mut Vec<Koid>) -> Resul
     ensures gone { OnOk result ((n : ℕ) → row step.new.current (key.Msg endpoint n) ≡ Option.None) }
     ensures suited { OnOk result ((k : RowKey) → SuitsKey k (row step.new.current k)) }
 {
-    while let Some(number) = step.first_message(endpoint) {
+    while let Some(number) = step.store().first_message(endpoint) {
         note_handles(step, endpoint, number, list)?;
         change(step, RowKey::Msg(endpoint, number), None)?;
     }
@@ -116,7 +116,7 @@ fn note_handles(
 ) -> Result<(), AllocError>
     ensures { OnOk result (list.new.items ≡ list.old.items ++ koids (handles_in (message step.now.current endpoint number))) }
 {
-    match step.message(endpoint, number) {
+    match step.store().message(endpoint, number) {
         Some(message) => add_koids(list, message.handles().as_slice()),
         None => Ok(()),
     }
@@ -139,7 +139,7 @@ fn take_packets(step: &mut Step, port: Koid) -> Result<(), AllocError>
     ensures partly { OnOk result (IsPartly port step.old.current step.new.current) }
     ensures gone { OnOk result ((n : ℕ) → row step.new.current (key.Packet port n) ≡ Option.None) }
 {
-    while let Some(number) = step.first_packet(port) {
+    while let Some(number) = step.store().first_packet(port) {
         change(step, RowKey::Packet(port, number), None)?;
     }
     Ok(())
@@ -152,7 +152,7 @@ fn take_waits(step: &mut Step, koid: Koid) -> Result<(), AllocError>
     ensures partly { OnOk result (IsPartly koid step.old.current step.new.current) }
     ensures waits { OnOk result ((n : ℕ) → IsLeft koid step.new.current (key.Wait n)) }
 {
-    'waits: while let Some(number) = step.wait_for(koid, None) {
+    'waits: while let Some(number) = step.store().wait_for(koid, None) {
         change(step, RowKey::Wait(number), None)?;
     }
     Ok(())

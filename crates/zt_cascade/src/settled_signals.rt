@@ -1,10 +1,10 @@
-ghost use Rattle.std.specs.Prelude.{◌≡◌, ◌<◌, ◌^◌, true, IfOk, OnErr, OnOk, Option};
+ghost use Rattle.std.specs.Prelude.{◌≡◌, ◌<◌, ◌^◌, true, OnErr, OnOk, Option};
 ghost use Rattle.std.specs.Option.{option_copied};
 ghost use Rattle.zt_rows.specs.Consistent.{IsConsistent};
-ghost use Rattle.zt_rows.specs.Reads.{as_object, object};
+ghost use Rattle.zt_rows.specs.Reads.{object};
 ghost use Rattle.zt_rows.specs.Settle.{refresh, settle};
 ghost use Rattle.zt_rows.specs.State.{row};
-ghost use Rattle.zt_rows.specs.Tests.{among, is_task};
+ghost use Rattle.zt_rows.specs.Tests.{among};
 ghost use Rattle.zt_store.specs.Places.{Keeps};
 ghost use Rattle.zt_store.specs.StepView.{Advanced, AsBegun, DiffersAtTouched};
 ghost use Rattle.zt_store.specs.ProofsOnly.StepView.{IsAhead};
@@ -13,7 +13,7 @@ ghost use Rattle.zt_cascade.specs.ProofsOnly.NearObjects.{StaysAlike, HasAllNear
 ghost use Rattle.zt_cascade.specs.ProofsOnly.RaisedWaits.{IsLonger};
 
 use crate::fired_waits::fire_all;
-use std::alloc::{AllocError, Global};
+use std::alloc::AllocError;
 use zt_bits::Kind;
 use zt_rows::{Koid, ObjectRow, Row, RowKey};
 use zt_store::Step;
@@ -23,7 +23,7 @@ use zt_store::Step;
 /// consistent, so that only what is near a key that it put can have other signals than before. The work grows with
 /// these keys and with the waits on what changed, and not with the rows that there are. Refused for memory,
 /// the step is as it was begun.
-pub fn settle(step: &mut Step, _alloc: Global) -> Result<(), AllocError>
+pub fn settle(step: &mut Step) -> Result<(), AllocError>
     requires began { IsConsistent step.old.beginning }
     requires room { HasRoomToFire step.old.beginning step.old.current }
     ensures ok { OnOk result (Advanced step.old step.new (settle step.old.beginning step.old.current)) }
@@ -70,13 +70,11 @@ fn list_near(step: &Step, list: &mut Vec<Koid>) -> Result<(), AllocError>
     ensures near { OnOk result (HasAllNear step.now list.new.items) }
     ensures differs { OnOk result (DiffersAtTouched step.now) }
 {
-    for i in 0..usize::MAX {
-        let Some(key) = step.touched(i) else {
-            return Ok(());
-        };
-        add_near(step, key, step.touched_was(i), list)?;
+    for i in 0..step.touched_len() {
+        let (key, first) = step.touched_at(i);
+        add_near(step, key, first, list)?;
     }
-    Err(AllocError)
+    Ok(())
 }
 
 /// Adds to the list the objects whose derived signals can follow from the row under the key, which was the first one at
@@ -92,7 +90,7 @@ fn add_near(
     ensures longer { OnOk result (IsLonger list.old.items list.new.items) }
 {
     match key {
-        RowKey::Object(koid) => add_near_object(step, koid, object_in(first), list),
+        RowKey::Object(koid) => add_near_object(step, koid, Row::as_object(first), list),
         RowKey::Msg(endpoint, _) => add_koid(endpoint, list),
         _ => Ok(()),
     }
@@ -107,16 +105,6 @@ fn add_koid(koid: Koid, list: &mut Vec<Koid>) -> Result<(), AllocError>
     Ok(())
 }
 
-/// The object whose row it is.
-pub(crate) fn object_in(row: Option<&Row>) -> Option<&ObjectRow>
-    ensures { option_copied result ≡ as_object (option_copied row.entry) }
-{
-    match row {
-        Some(Row::Object(object)) => Some(object),
-        _ => None,
-    }
-}
-
 /// Adds to the list the object and its parent, at the beginning and now, unless no derived signals tell its rows apart.
 fn add_near_object(
     step: &Step,
@@ -127,7 +115,7 @@ fn add_near_object(
     ensures near { OnOk result (HasNearObject koid (option_copied first.entry) (object step.now.current koid) list.new.items) }
     ensures longer { OnOk result (IsLonger list.old.items list.new.items) }
 {
-    match step.object(koid) {
+    match step.store().object(koid) {
         Some(now) => add_changed(koid, first, &now, list),
         None => add_parent(first, list),
     }
@@ -190,17 +178,7 @@ fn add_parent(task: Option<&ObjectRow>, list: &mut Vec<Koid>) -> Result<(), Allo
     ensures longer { OnOk result (IsLonger list.old.items list.new.items) }
 {
     match task {
-        Some(task) if is_task(task.kind) => add_koid(task.link, list),
+        Some(task) if task.is_task() => add_koid(task.link, list),
         _ => Ok(()),
-    }
-}
-
-/// Whether it is a job or a process.
-fn is_task(kind: Kind) -> bool
-    ensures { result ≡ is_task kind }
-{
-    match kind {
-        Kind::Job | Kind::Process => true,
-        _ => false,
     }
 }

@@ -1,8 +1,9 @@
 -- The cells as they are seen: a state and its places, after looks, an exchange and a growth of all tables.
-use Rattle.std.proofs.Common.{◌≡◌, ◌≤◌, ◌<◌, ℕ, zero, suc, ◌+◌, ◌^◌, ◌/◌, ◌%◌, true, false, cond, List, [], ◌∷◌, length, map, Option, Some, None, IsSome, refl, sym, ap, ◌∙◌, subst, arith}
+use Rattle.std.proofs.Common.{◌≡◌, ◌≤◌, ◌<◌, ℕ, zero, suc, ◌+◌, ◌*◌, ◌^◌, ◌/◌, ◌%◌, true, false, cond, List, [], ◌∷◌, length, get_or, map, Option, Some, None, IsSome, refl, sym, ap, ◌∙◌, subst, arith}
 use Rattle.std.specs.List.{sum}
 use Rattle.std.proofs.lemmas.Bool.{ltb-true, lt-ltb}
-use Rattle.std.proofs.lemmas.List.{get_or_past}
+use Rattle.std.specs.Prelude.{max}
+use Rattle.std.proofs.lemmas.List.{get_or_past, length-map}
 use Rattle.zt_rows.specs.declared.keys.RowKey.{RowKey}
 use Rattle.zt_rows.specs.declared.keys.RowKey.TheVariants as key
 use Rattle.zt_rows.specs.declared.rows.Row.{Row}
@@ -12,26 +13,18 @@ use Rattle.zt_rows.specs.Room.{SuitsKey}
 use Rattle.zt_rows.specs.State.{State, row, put}
 use Rattle.zt_rows.proofs.StateLaws.{row-put, same_state}
 use Rattle.zt_cells.specs.ProofsOnly.TablePlaces.{cell, table, cell_at, lengths, by_owner, entry, entry_places, IsNextCell}
-use Rattle.zt_cells.specs.ProofsOnly.RowTables.{row_tables_in, row_tables_of, look, sizes_of, places_in, state_in, Exchanged, Widened, IsCells}
+use Rattle.zt_cells.specs.ProofsOnly.RowTables.{row_tables_of, look, sizes_of, places_in, state_in, Exchanged, Widened, IsCells}
 use Rattle.zt_cells.specs.CellsView.{CellsView}
-use Rattle.zt_cells.specs.TableSizes.{TableSizes, place_of, length_at, has_place, waits_after, objects_after}
+use Rattle.zt_cells.specs.TableSizes.{TableSizes, place_of, length_at, has_place, most_owners, most_places, owners_in, waits_after, objects_after}
 use Rattle.zt_cells.specs.FirstNumber.{IsFirst, IsNextFrom}
 use Rattle.zt_cells.specs.ProofsOnly.NextValues.{IsNextValue}
 use Rattle.zt_cells.specs.declared.cells.row_tables.RowTables.{RowTables}
-use Rattle.zt_cells.specs.declared.cells.row_tables.OwnedTables.{OwnedTables}
 use Rattle.zt_cells.proofs.GridLaws.{length_table, length_entry_table}
 use Rattle.zt_cells.proofs.RowTableLaws.{at_lengths, at_entries}
 use Rattle.zt_cells.proofs.LookLaws.{row-state_in, length-state_in}
 
 abbrev pub seen_as : RowTables → CellsView
 seen_as c = record { state = state_in c; sizes = sizes_of c }
-
--- what borrowed row tables show is what the tables show
-pub seen-by : (t : OwnedTables) (c : RowTables) (s : CellsView) → c ≡ row_tables_in t → seen_as (row_tables_in t) ≡ s → seen_as c ≡ s
-seen-by t c s is seen = ap seen_as is ∙ seen
-
-pub cells-by : (t : OwnedTables) (c : RowTables) (places : ℕ) → c ≡ row_tables_in t → IsCells (row_tables_in t) places → IsCells c places
-cells-by t c places is good = subst (λ x. IsCells x places) (sym is) good
 
 -- ---- looks
 
@@ -205,6 +198,32 @@ end-waits c s is len e n le = row-wait c s is n ∙ past c.waits len n e le
 pub places-waits : (c : RowTables) (s : CellsView) → seen_as c ≡ s → (len : ℕ) → len ≡ length c.waits → len ≡ s.sizes.waits
 unfolding sizes_of
 places-waits c s is len e = e ∙ ap (λ (t : CellsView). t.sizes.waits) is
+
+pub places-objects : (c : RowTables) (s : CellsView) → seen_as c ≡ s → (len : ℕ) → len ≡ length c.objects → len ≡ s.sizes.objects
+unfolding sizes_of
+places-objects c s is len e = e ∙ ap (λ (t : CellsView). t.sizes.objects) is
+
+pub places-messages : (c : RowTables) (s : CellsView) → seen_as c ≡ s → (x y : ℕ) → x ≡ y → (len : ℕ) → len ≡ length (table c.messages x) → len ≡ get_or s.sizes.messages y 0
+unfolding sizes_of
+places-messages c s is x y same len e =
+    e ∙ ap (λ z. length (table c.messages z)) same ∙ sym (at_lengths c.messages y) ∙ ap (λ (t : CellsView). get_or t.sizes.messages y 0) is
+
+pub places-packets : (c : RowTables) (s : CellsView) → seen_as c ≡ s → (x y : ℕ) → x ≡ y → (len : ℕ) → len ≡ length (table c.packets x) → len ≡ get_or s.sizes.packets y 0
+unfolding sizes_of
+places-packets c s is x y same len e =
+    e ∙ ap (λ z. length (table c.packets z)) same ∙ sym (at_lengths c.packets y) ∙ ap (λ (t : CellsView). get_or t.sizes.packets y 0) is
+
+pub places-entries : (c : RowTables) (s : CellsView) → seen_as c ≡ s → (x most : ℕ) → most ≡ 4 * most_places (map lengths c.entries) x → most ≡ 4 * most_places s.sizes.entries x
+unfolding sizes_of
+places-entries c s is x most e = e ∙ ap (λ (t : CellsView). 4 * most_places t.sizes.entries x) is
+
+pub places-owners : (c : RowTables) (s : CellsView) → seen_as c ≡ s → (entries messages packets : ℕ) → entries ≡ most_owners (map lengths c.entries) → messages ≡ length c.messages → packets ≡ length c.packets → (most : ℕ) → most ≡ max entries (max messages packets) → most ≡ owners_in s.sizes
+unfolding sizes_of
+places-owners c s is entries messages packets es ms ps most e =
+    e
+    ∙ (λ j. max (es j) (max (ms j) (ps j)))
+    ∙ (λ j. max (most_owners (map lengths c.entries)) (max (sym (length-map c.messages length) j) (sym (length-map c.packets length) j)))
+    ∙ ap (λ (t : CellsView). owners_in t.sizes) is
 
 pub end-messages : (c : RowTables) (s : CellsView) → seen_as c ≡ s → (x y : ℕ) → x ≡ y → (len : ℕ) → len ≡ length (table c.messages x) → (n : ℕ) → len ≤ n → row s.state (key.Msg y n) ≡ None
 end-messages c s is x y same len e n le =

@@ -5,6 +5,7 @@ pub mod NextValueLaws
 pub mod PlaceLaws
 pub mod GridLaws
 pub mod RowTableLaws
+pub mod EndLaws
 pub mod NumberLaws
 pub mod LookLaws
 pub mod CellsLaws

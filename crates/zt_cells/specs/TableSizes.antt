@@ -1,5 +1,5 @@
 -- Where the rows of a store can stand: how many places its tables have. A place, once there, is never given up.
-use Rattle.std.specs.Prelude.{max, ℕ, ◌+◌, ◌/◌, ◌%◌, ◌==◌, nat_lt, if◌then◌else◌, Bool, List, [], ◌∷◌, slice_index_or}
+use Rattle.std.specs.Prelude.{max, ℕ, ◌+◌, ◌/◌, ◌%◌, ◌==◌, nat_lt, if◌then◌else◌, Bool, List, [], ◌∷◌, length, slice_index_or}
 use Rattle.zt_rows.specs.declared.keys.RowKey.{RowKey}
 use Rattle.zt_rows.specs.declared.keys.RowKey.TheVariants as key
 
@@ -52,3 +52,17 @@ objects_after _ objects = objects
 abbrev pub packets_after : RowKey → ℕ → ℕ → ℕ
 packets_after (key.Packet p n) x packets = if p == x then max packets (n + 1) else packets
 packets_after _ x packets = packets
+
+-- how many owners have places for entries, in whichever of the four tables by owner
+unfoldable pub most_owners : List (List ℕ) → ℕ
+most_owners sizes =
+    max (max (length (slice_index_or sizes 0 [])) (length (slice_index_or sizes 1 []))) (max (length (slice_index_or sizes 2 [])) (length (slice_index_or sizes 3 [])))
+
+-- the most places that the owner has in one of these four
+unfoldable pub most_places : List (List ℕ) → ℕ → ℕ
+most_places sizes x =
+    max (max (slice_index_or (slice_index_or sizes 0 []) x 0) (slice_index_or (slice_index_or sizes 1 []) x 0)) (max (slice_index_or (slice_index_or sizes 2 []) x 0) (slice_index_or (slice_index_or sizes 3 []) x 0))
+
+-- from this koid on no owner has a place
+abbrev pub owners_in : TableSizes → ℕ
+owners_in s = max (most_owners s.entries) (max (length s.messages) (length s.packets))

@@ -1,4 +1,4 @@
-ghost use Rattle.std.specs.Prelude.{◌≡◌, ◌≤◌, ◌+◌, ◌-◌, ◌^◌, ℕ, true, false, length, slice_index_or, IfOk, IsTrue, OnOk, Option, None};
+ghost use Rattle.std.specs.Prelude.{◌≡◌, ◌≤◌, ◌+◌, ◌-◌, ◌*◌, ◌^◌, ℕ, true, false, length, slice_index_or, IfOk, IsTrue, OnOk, None};
 ghost use Rattle.std.specs.Option.{option_copied};
 ghost use Rattle.zt_rows.specs.declared.keys.RowKey.{RowKey};
 ghost use Rattle.zt_rows.specs.declared.keys.RowKey.TheVariants as key_variant;
@@ -8,7 +8,7 @@ ghost use Rattle.zt_rows.specs.Room.{SuitsKey};
 ghost use Rattle.zt_rows.specs.State.{row, put};
 ghost use Rattle.zt_cells.specs.AlikeObjects.{AlikeExchanged};
 ghost use Rattle.zt_cells.specs.BareRows.{row_under};
-ghost use Rattle.zt_cells.specs.TableSizes.{objects_after, packets_after, waits_after, has_place, no_sizes};
+ghost use Rattle.zt_cells.specs.TableSizes.{most_places, objects_after, owners_in, packets_after, waits_after, has_place, no_sizes};
 ghost use Rattle.zt_cells.specs.CellsView.{CellsView};
 ghost use Rattle.zt_cells.specs.FirstNumber.{IsFirst, IsNextFrom};
 
@@ -23,7 +23,7 @@ mod row_tables;
 mod table;
 mod tables_by_owner;
 
-use crate::cells::row_tables::{OwnedTables, place_of};
+use crate::cells::row_tables::{RowTables, place_of};
 use crate::limits::MOST_PLACES;
 use std::alloc::{AllocError, Global};
 use std::marker::Model;
@@ -32,24 +32,23 @@ use zt_rows::{Counters, HandleValue, Held, Koid, Message, ObjectRow, Packet, Row
 /// The rows, each in the place of its key.
 #[derive(Drop)]
 pub struct Cells {
-    alloc: Global,
-    tables: OwnedTables,
+    tables: RowTables,
     /// How many places there are, but for that of the counters.
     places: usize,
 }
 
 impl Model for Cells {
-    ghost use Rattle.zt_cells.specs.ProofsOnly.RowTables.{row_tables_in, sizes_of, state_in, IsCells};
+    ghost use Rattle.zt_cells.specs.ProofsOnly.RowTables.{sizes_of, state_in, IsCells};
     ghost use Rattle.zt_cells.specs.CellsView.{CellsView};
 
     ghost Value = { CellsView };
 
     ghost view = { λ c. record {
-      state = state_in (row_tables_in c.tables);
-      sizes = sizes_of (row_tables_in c.tables);
+      state = state_in c.tables;
+      sizes = sizes_of c.tables;
     } };
 
-    ghost invariant = { λ c. IsCells (row_tables_in c.tables) c.places };
+    ghost invariant = { λ c. IsCells c.tables c.places };
 }
 
 impl Cells {
@@ -59,8 +58,7 @@ impl Cells {
         ensures { result ≡ record { state = hollow; sizes = no_sizes } }
     {
         Cells {
-            alloc,
-            tables: OwnedTables::new(
+            tables: RowTables::new(
                 alloc,
                 Row::Counters(Counters {
                     next_koid: Koid(0),
@@ -69,10 +67,6 @@ impl Cells {
             ),
             places: 0,
         }
-    }
-
-    pub fn alloc(&self) -> Global {
-        self.alloc
     }
 
     /// The row under the key. It takes no memory.
@@ -107,50 +101,35 @@ impl Cells {
     pub fn object(&self, koid: Koid) -> Option<ObjectRow>
         ensures { result ≡ object self.now.state koid }
     {
-        match self.look(RowKey::Object(koid)) {
-            Some(Row::Object(object)) => Some(*object),
-            _ => None,
-        }
+        Row::as_object(self.look(RowKey::Object(koid))).copied()
     }
 
     /// What the process holds by this handle value. It takes no memory.
     pub fn entry(&self, process: Koid, handle: HandleValue) -> Option<Held>
         ensures { result ≡ entry self.now.state process handle }
     {
-        match self.look(RowKey::Entry(process, handle)) {
-            Some(Row::Entry(held)) => Some(*held),
-            _ => None,
-        }
+        Row::as_entry(self.look(RowKey::Entry(process, handle)))
     }
 
     /// The message of this number in the endpoint's queue. It takes no memory.
     pub fn message(&self, endpoint: Koid, number: u64) -> Option<&Message>
         ensures { option_copied result ≡ message self.now.state endpoint number }
     {
-        match self.look(RowKey::Msg(endpoint, number)) {
-            Some(Row::Msg(message)) => Some(message),
-            _ => None,
-        }
+        Row::as_message(self.look(RowKey::Msg(endpoint, number)))
     }
 
     /// The packet of this number in the port. It takes no memory.
     pub fn packet(&self, port: Koid, number: u64) -> Option<Packet>
         ensures { result ≡ packet self.now.state port number }
     {
-        match self.look(RowKey::Packet(port, number)) {
-            Some(Row::Packet(packet)) => Some(*packet),
-            _ => None,
-        }
+        Row::as_packet(self.look(RowKey::Packet(port, number)))
     }
 
     /// The wait of this number. It takes no memory.
     pub fn wait(&self, number: u64) -> Option<Wait>
         ensures { result ≡ wait self.now.state number }
     {
-        match self.look(RowKey::Wait(number)) {
-            Some(Row::Wait(wait)) => Some(*wait),
-            _ => None,
-        }
+        Row::as_wait(self.look(RowKey::Wait(number)))
     }
 
     /// What holds of the rows: each suits its key, there are not too many, and no entry stands under a number that
@@ -161,9 +140,8 @@ impl Cells {
         ensures bounded { (x h : ℕ) → 2 ^ 32 ≤ h → row self.now.state (key_variant.Entry x h) ≡ None }
         ensures low { (x : ℕ) → 2 ^ 32 - 2 ≤ x → row self.now.state (key_variant.Object x) ≡ None }
     {
-        let row_tables = self.tables.row_tables();
-        row_tables.entries.limits();
-        row_tables.objects.limits();
+        self.tables.entries.limits();
+        self.tables.objects.limits();
     }
 
     /// Whether the key has its place. It takes no memory.
@@ -171,8 +149,7 @@ impl Cells {
     pub fn has_place(&self, key: RowKey) -> bool
         ensures { result ≡ has_place self.now.sizes key }
     {
-        let row_tables = self.tables.row_tables();
-        row_tables.has_place(key)
+        self.tables.has_place(key)
     }
 
     /// Makes the place of the key, and those below it in its table. Each table that grows asks once for all that it
@@ -186,6 +163,7 @@ impl Cells {
         ensures objects { self.new.sizes.objects ≤ objects_after key self.old.sizes.objects }
         ensures packets { (x : ℕ) → slice_index_or self.new.sizes.packets x 0 ≤ packets_after key x (slice_index_or self.old.sizes.packets x 0) }
     {
+        // A copy for each call that takes the key: the prover covers no second use of an enum that was passed by value.
         let (asked, counted) = (key, key);
         let place = place_of(asked);
         let len = self.tables.len_at(counted);
@@ -227,7 +205,6 @@ impl Cells {
         ensures { IfOk result (λ copied. copied ≡ self.now) }
     {
         Ok(Cells {
-            alloc: self.alloc,
             tables: self.tables.copy()?,
             places: self.places,
         })
@@ -237,24 +214,21 @@ impl Cells {
     pub fn first_message(&self, endpoint: Koid) -> Option<u64>
         ensures { IsFirst self.now.state (λ n. key_variant.Msg endpoint n) result }
     {
-        let row_tables = self.tables.row_tables();
-        row_tables.messages.next_from(endpoint.0 as usize, 0)
+        self.tables.messages.next_from(endpoint.0 as usize, 0)
     }
 
     /// The least number of a packet in the port. It takes no memory, and walks over no packet that went.
     pub fn first_packet(&self, port: Koid) -> Option<u64>
         ensures { IsFirst self.now.state (λ n. key_variant.Packet port n) result }
     {
-        let row_tables = self.tables.row_tables();
-        row_tables.packets.next_from(port.0 as usize, 0)
+        self.tables.packets.next_from(port.0 as usize, 0)
     }
 
     /// The least number from this one on of a packet in the port. It takes no memory, and walks over no packet that went.
     pub fn next_packet(&self, port: Koid, from: u64) -> Option<u64>
         ensures { IsNextFrom self.now.state (λ n. key_variant.Packet port n) from result }
     {
-        let row_tables = self.tables.row_tables();
-        row_tables.packets.next_from(port.0 as usize, from)
+        self.tables.packets.next_from(port.0 as usize, from)
     }
 
     /// The least value from this one on under which the process has an entry. It takes no memory, and walks over no handle
@@ -262,18 +236,17 @@ impl Cells {
     pub fn next_entry(&self, process: Koid, from: u64) -> Option<HandleValue>
         ensures { IsNextFrom self.now.state (λ h. key_variant.Entry process h) from result }
     {
-        let row_tables = self.tables.row_tables();
-        row_tables.entries.next_from(process, from)
+        self.tables.entries.next_from(process, from)
     }
 
     // ---- where walks over all rows end
 
     /// From this koid on there is no object.
     pub fn objects_end(&self) -> u64
-        ensures { (x : ℕ) → result ≤ x → row self.now.state (key_variant.Object x) ≡ None }
+        ensures end { (x : ℕ) → result ≤ x → row self.now.state (key_variant.Object x) ≡ None }
+        ensures places { result ≡ self.now.sizes.objects }
     {
-        let row_tables = self.tables.row_tables();
-        row_tables.objects.len() as u64
+        self.tables.objects.len() as u64
     }
 
     /// From this koid on no owner has entries, messages or packets.
@@ -281,38 +254,39 @@ impl Cells {
         ensures entries { (x h : ℕ) → result ≤ x → row self.now.state (key_variant.Entry x h) ≡ None }
         ensures messages { (x n : ℕ) → result ≤ x → row self.now.state (key_variant.Msg x n) ≡ None }
         ensures packets { (x n : ℕ) → result ≤ x → row self.now.state (key_variant.Packet x n) ≡ None }
+        ensures places { result ≡ owners_in self.now.sizes }
     {
-        let row_tables = self.tables.row_tables();
-        let owners = row_tables
+        let owners = self
+            .tables
             .messages
             .owners()
-            .max(row_tables.packets.owners());
-        row_tables.entries.owners().max(owners) as u64
+            .max(self.tables.packets.owners());
+        self.tables.entries.owners().max(owners) as u64
     }
 
     /// From this value on the process has no entry.
     pub fn entries_end(&self, process: Koid) -> u64
         ensures end { (h : ℕ) → result ≤ h → row self.now.state (key_variant.Entry process h) ≡ None }
         ensures few { result ≤ 2 ^ 51 }
+        ensures places { result ≡ 4 * most_places self.now.sizes.entries process }
     {
-        let row_tables = self.tables.row_tables();
-        row_tables.entries.end_of(process) as u64
+        self.tables.entries.end_of(process) as u64
     }
 
     /// From this number on the endpoint has no message.
     pub fn messages_end(&self, endpoint: Koid) -> u64
-        ensures { (n : ℕ) → result ≤ n → row self.now.state (key_variant.Msg endpoint n) ≡ None }
+        ensures end { (n : ℕ) → result ≤ n → row self.now.state (key_variant.Msg endpoint n) ≡ None }
+        ensures places { result ≡ slice_index_or self.now.sizes.messages endpoint 0 }
     {
-        let row_tables = self.tables.row_tables();
-        row_tables.messages.len_of(endpoint.0 as usize) as u64
+        self.tables.messages.len_of(endpoint.0 as usize) as u64
     }
 
     /// From this number on the port has no packet.
     pub fn packets_end(&self, port: Koid) -> u64
-        ensures { (n : ℕ) → result ≤ n → row self.now.state (key_variant.Packet port n) ≡ None }
+        ensures end { (n : ℕ) → result ≤ n → row self.now.state (key_variant.Packet port n) ≡ None }
+        ensures places { result ≡ slice_index_or self.now.sizes.packets port 0 }
     {
-        let row_tables = self.tables.row_tables();
-        row_tables.packets.len_of(port.0 as usize) as u64
+        self.tables.packets.len_of(port.0 as usize) as u64
     }
 
     /// From this number on there is no wait.
@@ -320,7 +294,6 @@ impl Cells {
         ensures end { (n : ℕ) → result ≤ n → row self.now.state (key_variant.Wait n) ≡ None }
         ensures places { result ≡ self.now.sizes.waits }
     {
-        let row_tables = self.tables.row_tables();
-        row_tables.waits.len() as u64
+        self.tables.waits.len() as u64
     }
 }

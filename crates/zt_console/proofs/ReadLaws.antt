@@ -1,6 +1,6 @@
 -- A session text that is read in turn: its lines are those of its parts, and so are its calls.
 use Rattle.std.proofs.Common.{◌≡◌, ℕ, ◌+◌, ◌<◌, ◌≤◌, Bool, true, false, List, [], ◌∷◌, ◌++◌, length, take, drop, get_or, Option, Some, None, Result, Ok, Err, IfSome, refl, sym, ap, ◌∙◌, append_assoc, arith, subst}
-use Rattle.std.specs.Prelude.{◌==◌, cond, codes}
+use Rattle.std.specs.Prelude.{◌==◌, cond, codes, is_ok, OnOk}
 use Rattle.std.specs.List.{onto_first}
 use Rattle.std.specs.Io.KnownBytes.{Consumes, IsAtEnd}
 use Rattle.std.proofs.lemmas.Bool.{eq-eqb}
@@ -121,6 +121,12 @@ loaded_all bytes row more is = by (calls_in 2 (lines_of bytes)) refl is
     by (Ok calls) read all = let same : row ++ calls ≡ more = cc in record { calls = calls; read = read; behind = sym same }
     by (Err fault) read all = absurd (cc)
 
+-- where they are told to be loaded
+pub loaded_where : (bytes : List ℕ) (row more : List (ℕ × Call)) (left : LinesLeft) (told : Result (Unit {0}) (ℕ × Refusal)) (done : Bool)
+    → left ≡ record { number = 2; lines = lines_of bytes } → done ≡ is_ok told → OnOk told (with_left row left ≡ Ok more) → done ≡ true → AreLoaded bytes row more
+loaded_where bytes row more left (Ok u) done all is loaded h = loaded_all bytes row more (ap (with_left row) (sym all) ∙ loaded)
+loaded_where bytes row more left (Err fault) done all is loaded h = absurd (cc)
+
 pub loaded_both : (xs ys : List ℕ) (row more last : List (ℕ × Call)) → ends_line xs ≡ true → AreLoaded xs row more → AreLoaded ys more last → AreLoaded (xs ++ ys) row last
 loaded_both xs ys row more last whole first second = record {
   calls = first.calls ++ second.calls;
@@ -237,11 +243,11 @@ row_ended before now after chunk part row count (Some last) so_far read none roo
 
 -- ---- the book
 
-first_left : (bytes : List ℕ) → row_lines (lines_of (with_first bytes)) ≡ Some (record { number = 2; lines = lines_of bytes })
+first_left : (bytes : List ℕ) → row_lines (lines_of (with_first bytes)) ≡ Ok (record { number = 2; lines = lines_of bytes })
 first_left bytes = refl
 
 pub book_read : (clients : ℕ) (before after : Option (List ℕ)) (row : List (ℕ × Call)) (book : BookView)
-    → ((text : List ℕ) (left : LinesLeft) → row_lines (lines_of text) ≡ Some left → saved_of text ≡ tree_of (calls_left left))
+    → ((text : List ℕ) (left : LinesLeft) → row_lines (lines_of text) ≡ Ok left → saved_of text ≡ tree_of (calls_left left))
     → IsRowRead before after row → loaded_saved clients (in_a_row row) ≡ Ok book.session → book ≡ book_at book.session → IsLoadedOfRead clients before after book
 book_read clients before after row book law read loaded begins = record {
   text = with_first read.bytes;

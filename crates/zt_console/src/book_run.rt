@@ -27,16 +27,11 @@ impl Responder for Book {
 
     fn ask(&mut self, request: &Command) -> Result<(Answer, Option<Frozen>), Refusal> {
         if is_pin(request) {
-            match self.pin(CLIENT) {
-                Ok((answer, copy)) => Ok((answer, Some(copy))),
-                Err(refusal) => Err(refusal),
-            }
-        } else {
-            match self.serve(CLIENT, request) {
-                Ok(answer) => Ok((answer, None)),
-                Err(refusal) => Err(refusal),
-            }
+            let (answer, copy) = self.pin(CLIENT)?;
+            return Ok((answer, Some(copy)));
         }
+        let answer = self.serve(CLIENT, request)?;
+        Ok((answer, None))
     }
 }
 

@@ -106,10 +106,8 @@ fn pinned_rows(alloc: Global, pinned: &Option<Frozen>) -> Result<Answer, Refusal
     let Some(copy) = pinned else {
         return Err(Refusal::NoMoment);
     };
-    match rows(alloc, copy) {
-        Ok(found) => Ok(Answer::Rows(copy.moment(), found)),
-        Err(refusal) => Err(refusal),
-    }
+    let found = rows(alloc, copy)?;
+    Ok(Answer::Rows(copy.moment(), found))
 }
 
 /// What keeps the object in the pinned copy.
@@ -119,10 +117,8 @@ fn pinned_holders(alloc: Global, pinned: &Option<Frozen>, koid: Koid) -> Result<
     let Some(copy) = pinned else {
         return Err(Refusal::NoMoment);
     };
-    match holders(alloc, copy, koid) {
-        Ok(found) => Ok(Answer::Holders(koid, found)),
-        Err(refusal) => Err(refusal),
-    }
+    let found = holders(alloc, copy, koid)?;
+    Ok(Answer::Holders(koid, found))
 }
 
 /// The leaked objects of the pinned copy.
@@ -132,10 +128,8 @@ fn pinned_leaks(alloc: Global, pinned: &Option<Frozen>) -> Result<Answer, Refusa
     let Some(copy) = pinned else {
         return Err(Refusal::NoMoment);
     };
-    match leaks(alloc, copy) {
-        Ok(found) => Ok(Answer::Leaks(copy.moment(), found)),
-        Err(refusal) => Err(refusal),
-    }
+    let found = leaks(alloc, copy)?;
+    Ok(Answer::Leaks(copy.moment(), found))
 }
 
 /// The text of an answer or of a refusal, which is given up.

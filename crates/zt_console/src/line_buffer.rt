@@ -1,5 +1,5 @@
 ghost use Rattle.std.specs.Prelude.{◌≡◌, ◌++◌, ◌≤◌, [], true, length, OnOk, OnErr};
-ghost use Rattle.zt_console.specs.ProofsOnly.LineFeed.{decisive, has_no_feed};
+ghost use Rattle.zt_console.specs.ProofsOnly.LineFeed.{decisive, decisive_bytes, has_no_feed};
 
 use std::alloc::{AllocError, Global};
 use std::marker::Model;
@@ -52,7 +52,7 @@ impl LineBuffer {
     pub(crate) fn bytes(&self) -> &[u8]
         ensures value { result.now ≡ self.now }
         ensures one { has_no_feed self.now ≡ true }
-        ensures short { length self.now ≤ 140001 }
+        ensures short { length self.now ≤ decisive_bytes }
     {
         self.bytes.as_slice()
     }

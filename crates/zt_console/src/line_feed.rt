@@ -140,13 +140,9 @@ fn answer_line<D: Responder>(
     ensures put { Put D.asks client.old line.now client.new waiting.old.items waiting.new.items (is_ok result) }
     ensures ready { D.ready client.new.responder }
 {
-    match text_for(alloc, client, line) {
-        Ok(text) => {
-            client.responder.hear(line, text.as_slice());
-            waiting.extend_from_slice(text.as_slice())
-        }
-        Err(fault) => Err(fault),
-    }
+    let text = text_for(alloc, client, line)?;
+    client.responder.hear(line, text.as_slice());
+    waiting.extend_from_slice(text.as_slice())
 }
 
 /// Memory was refused: writes the answers that wait, unless a write fails.
@@ -181,13 +177,9 @@ fn send<W: Write>(waiting: &mut Vec<u8>, writer: &mut Counted<W>) -> Result<(), 
     ensures empty { OnOk result (waiting.new.items ≡ []) }
     ensures counted { IsFailureCounted writer.old.1 writer.new.1 result }
 {
-    match write_text(waiting.as_slice(), writer) {
-        Ok(()) => {
-            waiting.clear();
-            Ok(())
-        }
-        Err(refusal) => Err(refusal),
-    }
+    write_text(waiting.as_slice(), writer)?;
+    waiting.clear();
+    Ok(())
 }
 
 /// Writes the whole text, unless a write fails.

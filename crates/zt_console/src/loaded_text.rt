@@ -1,4 +1,4 @@
-ghost use Rattle.std.specs.Prelude.{◌≡◌, ◌≤◌, ◌<◌, true, false, Some, Ok, length, IfOk, IfErr, OnOk};
+ghost use Rattle.std.specs.Prelude.{◌≡◌, ◌≤◌, ◌<◌, true, false, Ok, length, IfOk, IfErr, OnOk};
 ghost use Rattle.zt_text.specs.Lines.{lines_of};
 ghost use Rattle.zt_text.specs.SessionCalls.{calls_left, row_lines};
 ghost use Rattle.zt_console.specs.LoadedText.{at_line, IsLoadedOf, IsNotLoaded};
@@ -34,7 +34,7 @@ pub fn load_text_told<P: LoadProgress>(
     ensures few { OnOk result (clients ≤ 4) }
 {
     match SessionCalls::new(text) {
-        Some(calls) if clients <= CLIENTS => load_calls(alloc, clients, text, calls, told),
+        Ok(calls) if clients <= CLIENTS => load_calls(alloc, clients, text, calls, told),
         _ => load_tree(alloc, clients, text, told),
     }
 }
@@ -51,11 +51,8 @@ fn load_tree<P: LoadProgress>(
     ensures refused { IfErr result (IsNotLoaded clients text.now) }
     ensures few { OnOk result (clients ≤ 4) }
 {
-    let saved = match read_saved(alloc, text) {
-        Ok(saved) => saved,
-        Err(fault) => return Err(fault),
-    };
-    match Book::load_all_told(alloc, clients, saved, told) {
+    let saved = read_saved(alloc, text)?;
+    match Book::take_saved(alloc, clients, saved, told) {
         Ok(book) => Ok(book),
         Err(fault) => Err(at_line(text, fault)),
     }
@@ -70,44 +67,40 @@ fn load_calls<P: LoadProgress>(
     told: &P,
 ) -> Result<Book, (u64, Refusal)>
     requires few { clients ≤ 4 }
-    requires all { row_lines (lines_of text.now) ≡ Some calls }
+    requires all { row_lines (lines_of text.now) ≡ Ok calls }
     ensures ok { IfOk result (IsLoadedOf clients text.now) }
     ensures clients { IfOk result (λ book. length book.session.clients ≡ clients) }
     ensures refused { IfErr result (IsNotLoaded clients text.now) }
 {
     calls_one_by_one_are_those_of_the_text();
-    let row = match put_calls(alloc, text, calls, told) {
-        Ok(row) => row,
-        Err(fault) => return Err(fault),
+    let Ok(mut row) = CallsInARow::new(alloc) else {
+        return Err((0, Refusal::OutOfMemory));
     };
+    put_calls(alloc, text, &mut row, calls, told)?;
     match row.finish(alloc, clients) {
         Ok(book) => Ok(book),
         Err(refusal) => Err((0, refusal)),
     }
 }
 
-/// Loads each of these calls in turn, and tells so.
-fn put_calls<P: LoadProgress>(
+/// Loads each of these calls in turn behind those that are loaded, and tells so. The number with a refusal is that of the line at
+/// fault, as `load_text` has it.
+pub(crate) fn put_calls<P: LoadProgress>(
     alloc: Global,
     text: &[u8],
+    row: &mut CallsInARow,
     calls: SessionCalls<'_>,
     told: &P,
-) -> Result<CallsInARow, (u64, Refusal)>
-    ensures ok { IfOk result (λ row. calls_left calls.entry ≡ Ok row) }
-    ensures refused { IfErr result (IsNotLoadedRow text.now (calls_left calls.entry)) }
+) -> Result<(), (u64, Refusal)>
+    ensures ok { OnOk result (with_left row.old calls.entry ≡ Ok row.new) }
+    ensures refused { IfErr result (IsNotLoadedRow text.now (with_left row.old calls.entry)) }
 {
-    let Ok(mut row) = CallsInARow::new(alloc) else {
-        return Err((0, Refusal::OutOfMemory));
-    };
     let all = counted(&calls, told);
     let mut left = calls;
-    'calls: loop {
-        match put_next(alloc, text, &mut row, &mut left) {
-            Ok(true) => tell(told, &row, all),
-            Ok(false) => return Ok(row),
-            Err(fault) => return Err(fault),
-        }
+    'calls: while put_next(alloc, text, row, &mut left)? {
+        tell(told, row, all);
     }
+    Ok(())
 }
 
 /// How many calls are to be loaded, where anyone is told.
@@ -127,6 +120,7 @@ fn tell<P: LoadProgress>(told: &P, row: &CallsInARow, all: Option<usize>) {
 }
 
 /// Loads the next call, and tells whether there was one.
+#[inline(always)]
 fn put_next(
     alloc: Global,
     text: &[u8],

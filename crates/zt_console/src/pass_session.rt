@@ -77,16 +77,12 @@ impl<'a, R: Wait, A: Naming + Beginning, B: Naming, C: Naming, D: Naming, G: Gat
         ensures { AsksPass self.old request.now result self.new }
     {
         if is_pin(request) {
-            return match self.shared.pin(self.rt, &mut self.pass) {
-                Ok((answer, copy)) => Ok((answer, Some(copy))),
-                Err(refusal) => Err(refusal),
-            };
+            let (answer, copy) = self.shared.pin(self.rt, &mut self.pass)?;
+            return Ok((answer, Some(copy)));
         }
         let asked = request.copy()?;
-        match self.shared.ask(self.rt, &mut self.pass, asked) {
-            Ok(answer) => Ok((answer, None)),
-            Err(refusal) => Err(refusal),
-        }
+        let answer = self.shared.ask(self.rt, &mut self.pass, asked)?;
+        Ok((answer, None))
     }
 }
 

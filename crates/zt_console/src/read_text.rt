@@ -1,12 +1,12 @@
-ghost use Rattle.std.specs.Prelude.{◌≡◌, ◌<◌, ◌≤◌, ◌++◌, [], true, false, Ok, length, take, IfSome};
+ghost use Rattle.std.specs.Prelude.{◌≡◌, ◌≤◌, ◌++◌, [], true, length, take, IfSome};
 ghost use Rattle.zt_console.specs.LoadedText.{IsLoadedOfRead};
-ghost use Rattle.zt_console.specs.ProofsOnly.LoadedText.{with_left};
 ghost use Rattle.zt_console.specs.ProofsOnly.Run.{IsRead};
 ghost use Rattle.zt_console.specs.ProofsOnly.ReadText.{with_first, AreLoaded, AreTaken, AreWhole, IsReadSoFar, IsRowRead};
 
+use crate::loaded_text::put_calls;
 use std::alloc::Global;
 use std::io::Read;
-use zt_book::{Book, CallsInARow};
+use zt_book::{Book, CallsInARow, Untold};
 use zt_rows::CLIENTS;
 use zt_text::SessionCalls;
 use zt_text::laws::calls_one_by_one_are_those_of_the_text;
@@ -225,30 +225,5 @@ fn whole_line(bytes: &[u8]) -> Option<(&[u8], &[u8])>
 fn put_lines(alloc: Global, row: &mut CallsInARow, lines: &[u8]) -> bool
     ensures { result ≡ true → AreLoaded lines.now row.old row.new }
 {
-    let mut left = SessionCalls::of_lines(lines);
-    'calls: loop {
-        match put_next(alloc, row, &mut left) {
-            Some(true) => {}
-            Some(false) => return true,
-            None => return false,
-        }
-    }
-}
-
-/// Loads the next call, and tells whether there was one. Nothing, where it is not loaded.
-#[inline(always)]
-fn put_next(alloc: Global, row: &mut CallsInARow, left: &mut SessionCalls<'_>) -> Option<bool>
-    ensures whole { IfSome result (λ some. some ≡ true → with_left row.new left.new ≡ with_left row.old left.old) }
-    ensures shorter { IfSome result (λ some. some ≡ true → length left.new.lines < length left.old.lines) }
-    ensures end { IfSome result (λ some. some ≡ false → with_left row.old left.old ≡ Ok row.new) }
-{
-    calls_one_by_one_are_those_of_the_text();
-    match left.next(alloc) {
-        Ok(Some((process, call))) => match row.push(process, call) {
-            Ok(()) => Some(true),
-            Err(_) => None,
-        },
-        Ok(None) => Some(false),
-        Err(_) => None,
-    }
+    put_calls(alloc, lines, row, SessionCalls::of_lines(lines), &Untold).is_ok()
 }

@@ -36,10 +36,7 @@ pub fn tree_text(alloc: Global, book: &Book) -> Result<Vec<u8>, Refusal>
     let mut moments = String::new(alloc);
     moments.push_str("zxtt 2\n")?;
     put_moments(&mut moments, book.history())?;
-    let places = match book.save_places() {
-        Ok(places) => places,
-        Err(refusal) => return Err(refusal),
-    };
+    let places = book.save_places()?;
     let mut text = moments.into_bytes();
     put_places(
         alloc,
@@ -77,10 +74,7 @@ fn path_text(alloc: Global, history: &History, moment: Moment) -> Result<Vec<u8>
     ensures ok { IfOk result (λ text. text.items ≡ session_text (calls_to history.now.tree.made moment)) }
     ensures refused { IfErr result (IsHistoryRefusal (moment_on history.now.tree moment)) }
 {
-    let way = match history.path(moment) {
-        Ok(way) => way,
-        Err(refusal) => return Err(refusal),
-    };
+    let way = history.path(moment)?;
     let calls = calls_on(alloc, history, way.as_slice())?;
     Ok(print_session(alloc, calls.as_slice())?)
 }

@@ -178,10 +178,11 @@ fn read_byte<R: Read>(inner: &mut R) -> io::Result<Option<u8>>
     ensures { MatchResult result (λ byte. Consumes (R.remaining inner.old) (R.remaining inner.new) (cons_option byte [])) (λ _. Keeps (R.remaining inner.old) (R.remaining inner.new)) }
 {
     let mut one = [0u8; 1];
-    match inner.read(&mut one) {
-        Ok(0) => Ok(None),
-        Ok(_) => Ok(Some(one[0])),
-        Err(error) => Err(error),
+    let count = inner.read(&mut one)?;
+    if count == 0 {
+        Ok(None)
+    } else {
+        Ok(Some(one[0]))
     }
 }
 

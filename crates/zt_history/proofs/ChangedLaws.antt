@@ -1,8 +1,14 @@
 -- What a history keeps while a call makes a moment, while a branch is made, and while either is taken back.
 use Rattle.std.proofs.Common.{◌≡◌, ℕ, suc, ◌-◌, ◌≤◌, ◌<◌, true, List, [], ◌∷◌, ◌++◌, length, Some, None, refl, sym, ◌∙◌, ap, subst, arith, length-append}
 use Rattle.std.specs.Option.{option_map}
+use Rattle.std.specs.Prelude.{Bool, Ok, nat_lt, nat_le}
+use Rattle.std.proofs.lemmas.Bool.Decides.{nat_tests}
+use Rattle.std.proofs.lemmas.Option.{same_Some}
+use Rattle.zt_rows.specs.declared.calls.Answer.{Answer}
+use Rattle.zt_rows.specs.declared.calls.Answer.TheVariants as answer
 use Rattle.zt_rows.specs.declared.calls.Call.{Call}
 use Rattle.zt_rows.specs.declared.calls.Reply.{Reply}
+use Rattle.zt_rows.specs.declared.refusals.Refusal.TheVariants as refusal
 use Rattle.zt_rows.specs.Change.{before}
 use Rattle.zt_rows.specs.Consistent.{IsConsistent}
 use Rattle.zt_rows.specs.Handles.{next_koid}
@@ -15,9 +21,10 @@ use Rattle.zt_store.specs.StoreView.{Stored}
 use Rattle.zt_store.proofs.Fitting.{all_fit-kept}
 use Rattle.zt_history.specs.declared.history.Undo.{Undo}
 use Rattle.zt_history.specs.declared.history.Undo.TheVariants as undo
-use Rattle.zt_history.specs.Tree.{Made, Branch, parent_of, parent_at, reply_at, made_by, grown, head_at, headed, branch_named}
-use Rattle.zt_history.specs.HistoryRefusals.{most_moments}
+use Rattle.zt_history.specs.Tree.{Made, Branch, Tree, parent_of, parent_at, reply_at, state_at, made_by, grown, grown_at, head_at, headed, branch_named}
+use Rattle.zt_history.specs.HistoryRefusals.{◌>>=◌, call_under, check, most_moments}
 use Rattle.zt_history.specs.ProofsOnly.Branches.{without_last}
+use Rattle.zt_history.specs.ProofsOnly.FourBytes.{four_byte_numbers}
 use Rattle.zt_history.specs.Timeline.{Timeline, after_call_at, moved_to}
 use Rattle.zt_history.specs.ProofsOnly.Timeline.{after_call, without_moment}
 use Rattle.zt_history.specs.TreeInvariant.{AreMoments, AreBranches, IsMade}
@@ -39,31 +46,31 @@ module _ (store : Stored) (moments : Chronicle) (branches : List Branch) (p : �
   kept-room = subst HasRoom (sym is.history.here) (moment-room moments.made is.moments_stand p is.history.within)
 
   -- a call gives out few koids
-  pub kept-few : (process : ℕ) (call : Call) → length moments.made < 1048576 → runs store.state process ≡ true → IsCall call → next_koid (step store.state process call).0 < 4294967296
+  pub kept-few : (process : ℕ) (call : Call) → length moments.made < most_moments → runs store.state process ≡ true → IsCall call → next_koid (step store.state process call).0 < four_byte_numbers
   kept-few process call few running limits =
-      subst (λ S. next_koid (step S process call).0 < 4294967296) (sym is.history.here)
+      subst (λ S. next_koid (step S process call).0 < four_byte_numbers) (sym is.history.here)
       (few-koids moments.made is.moments_stand p process call is.history.within few (subst (λ S. runs S process ≡ true) is.history.here running) limits)
 
   -- a process that runs has a koid that four bytes hold
-  pub kept-small : (process : ℕ) → length moments.made < 1048576 → runs store.state process ≡ true → process < 4294967296
+  pub kept-small : (process : ℕ) → length moments.made < most_moments → runs store.state process ≡ true → process < four_byte_numbers
   kept-small process few running = few-process moments.made is.moments_stand p process is.history.within few (subst (λ S. runs S process ≡ true) is.history.here running)
 
   -- a call that was refused left the rows and the moments
-  pub kept-refused : (new : Stored) (same : Chronicle) → new.state ≡ store.state → same ≡ moments → Keeps store.places new.places → IsKept new same branches p undo.Nothing
-  kept-refused new same rows kept places =
-      let P : Chronicle → Type 0 = λ m. IsKept new m branches p undo.Nothing in
-      subst P (sym kept) (record {
-        moments_stand = is.moments_stand;
-        branches_stand = is.branches_stand;
-        history = record {
+  pub kept-refused : (new : Stored) (same : Chronicle) → new.state ≡ store.state → same.made ≡ moments.made → same.records ≡ moments.records → Keeps store.places new.places → IsKept new same branches p undo.Nothing
+  kept-refused new same rows made recorded places = record {
+    moments_stand = subst AreMoments (sym made) is.moments_stand;
+    branches_stand = subst (λ (made : List Made). AreBranches (length made) branches) (sym made) is.branches_stand;
+    history =
+        subst (λ (made : List Made). IsHistory made p new same.records) (sym made)
+        (subst (IsHistory moments.made p new) (sym recorded) (record {
           within = is.history.within;
           here = rows ∙ is.history.here;
           many = is.history.many;
           each = is.history.each;
           fit = all_fit-kept store.places new.places places moments.records is.history.fit;
-        };
-        undo = tt;
-      })
+        }));
+    undo = tt;
+  }
 
   -- a branch that was made behind the others
   pub kept-branched : (b : Branch) (more : List Branch) → more ≡ branches ++ b ∷ [] → branch_named branches b.name ≡ None → b.head ≤ length moments.made → IsKept store moments more p undo.Branch
@@ -255,3 +262,20 @@ module _ (h : Timeline) (m process : ℕ) (call : Call) where
     position = ap parent_of (get-last h.tree.made (made_by h.tree.made m process call) (length h.tree.made) refl) i;
     before = None;
   }
+
+-- what the checks of a call give, where all of them pass
+all_pass : (full there running : Bool) (made : Answer × Tree) → full ≡ true → there ≡ true → running ≡ true
+    → (check full refusal.Full >>= λ _. check there refusal.NoMoment >>= λ _. check running refusal.NoProcess >>= λ _. Ok made) ≡ Ok made
+all_pass full there running made f t r = λ i. check (f i) refusal.Full >>= λ _. check (t i) refusal.NoMoment >>= λ _. check (r i) refusal.NoProcess >>= λ _. Ok made
+
+-- a call that was answered at this moment made the last one, which has its reply
+pub call-answered : (h : Timeline) (m process : ℕ) (call : Call) (new : Timeline) (moment : ℕ) (reply : Reply) → length h.tree.made < 1048576 → m ≤ length h.tree.made → runs (state_at h.tree.made m) process ≡ true
+    → new ≡ after_call_at h m process call → moment ≡ length new.tree.made → Some reply ≡ reply_at new.tree.made new.position
+    → call_under h.tree m process call ≡ Ok (answer.Called moment reply, new.tree)
+call-answered h m process call new moment reply few there running grown last replied =
+    let under : nat_lt (length h.tree.made) 1048576 ≡ true = grind (arith, nat_tests) in
+    let within : nat_le m (length h.tree.made) ≡ true = grind (arith, nat_tests) in
+    let same : reply ≡ (made_by h.tree.made m process call).reply = same_Some _ _ (replied ∙ ap (λ (h : Timeline). reply_at h.tree.made h.position) grown ∙ reply-grown h m process call) in
+    let end : moment ≡ suc (length h.tree.made) = last ∙ ap (λ (h : Timeline). length h.tree.made) grown ∙ length-push h.tree.made (made_by h.tree.made m process call) in
+    all_pass (nat_lt (length h.tree.made) 1048576) (nat_le m (length h.tree.made)) (runs (state_at h.tree.made m) process) (answer.Called (suc (length h.tree.made)) (made_by h.tree.made m process call).reply, grown_at h.tree m process call) under within running
+    ∙ (λ i. Ok (answer.Called (sym end i) (sym same i), (sym grown i).tree))

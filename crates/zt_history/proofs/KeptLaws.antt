@@ -25,12 +25,14 @@ pub one_branch : AreBranches 0 opening_tree.branches
 unfolding IsDistinct
 one_branch = record { main = refl; names = (tt, tt); heads = (omega arith, tt) }
 
-pub kept-opening : (store : Stored) (moments : Chronicle) (branches : List Branch) → store.state ≡ opening → moments ≡ record { made = []; records = [] } → branches ≡ opening_tree.branches
+pub kept-opening : (store : Stored) (moments : Chronicle) (branches : List Branch) → store.state ≡ opening → moments.made ≡ [] → moments.records ≡ [] → branches ≡ opening_tree.branches
     → IsKept store moments branches 0 undo.Nothing
-kept-opening store moments branches here none one =
-    let P : Chronicle → List Branch → Type 0 = λ m b. IsKept store m b 0 undo.Nothing in
-    subst (λ m. P m branches) (sym none) (subst (P (record { made = []; records = [] })) (sym one)
-    (record { moments_stand = no_moments; branches_stand = one_branch; history = history-opening store here; undo = tt }))
+kept-opening store moments branches here none empty one = record {
+  moments_stand = subst AreMoments (sym none) no_moments;
+  branches_stand = subst (λ (made : List Made). AreBranches (length made) branches) (sym none) (subst (AreBranches 0) (sym one) one_branch);
+  history = subst (λ (made : List Made). IsHistory made 0 store moments.records) (sym none) (subst (IsHistory [] 0 store) (sym empty) (history-opening store here));
+  undo = tt;
+}
 
 -- the store is where running the calls on the path leads, and the moments' replies are those of the run
 pub kept-run : (store : Stored) (moments : Chronicle) (branches : List Branch) (position : ℕ) (last : Undo) (h : Timeline)

@@ -8,6 +8,7 @@ pub mod GrownLaws
 pub mod BranchLaws
 pub mod TreeLaws
 pub mod NodeLaws
+pub mod SharedLaws
 pub mod SameCallLaws
 pub mod StoredLaws
 pub mod KeptLaws
@@ -15,8 +16,7 @@ pub mod WayLaws
 pub mod ForkLaws
 pub mod ListedLaws
 pub mod NoteListLaws
-pub mod LetGoLaws
-pub mod LostChildLaws
+pub mod LossLaws
 pub mod NotedLaws
 pub mod WholeLaws
 pub mod ChangedLaws

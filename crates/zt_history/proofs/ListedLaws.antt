@@ -1,6 +1,6 @@
 -- Moments with the lists of their shortcuts and of their records: one more and one less.
 use Rattle.std.proofs.Common.{◌≡◌, ℕ, suc, ◌+◌, ◌-◌, ◌≤◌, ◌<◌, List, [], ◌∷◌, ◌++◌, length, set, take, Option, Some, None, inl, inr, refl, sym, ◌∙◌, ap, subst, arith, Bor}
-use Rattle.std.specs.Prelude.{slice_get, IfSome}
+use Rattle.std.specs.Prelude.{Bool, slice_get, IfSome}
 use Rattle.std.specs.Option.{option_copied}
 use Rattle.std.specs.Slice.{IsItemAt}
 use Rattle.std.proofs.lemmas.Bool.{cases_lt}
@@ -132,8 +132,8 @@ shortcut-alone made s m jump first = record {
 }
 
 -- the shortcut of a moment, as it is read from the list of the shortcuts
-pub shortcut-listed : (nodes : List MomentNode) (records : List Rows) (shortcuts xs : List Shortcut) (h : Chronicle) (i m : ℕ) (r : Option (Bor Shortcut)) → IsItemAt xs i r → xs ≡ shortcuts
-    → AreShortcuts (made_in nodes) shortcuts → seen nodes records ≡ h → m ≡ suc i → IfSome r (λ s. IsShortcut h.made s.now m)
+pub shortcut-listed : {room : Bool} (nodes : List MomentNode) (records : List Rows) (shortcuts xs : List Shortcut) (h : Chronicle) (i m : ℕ) (r : Option (Bor Shortcut)) → IsItemAt xs i r → xs ≡ shortcuts
+    → AreShortcuts (made_in nodes) shortcuts → seen nodes records room ≡ h → m ≡ suc i → IfSome r (λ s. IsShortcut h.made s.now m)
 shortcut-listed nodes records shortcuts xs h i m r at all are is place = by r (got xs i r at ∙ ap (λ xs. slice_get xs i) all)
   where
     by : (r : Option (Bor Shortcut)) → option_copied r ≡ slice_get shortcuts i → IfSome r (λ s. IsShortcut h.made s.now m)
@@ -192,17 +192,17 @@ listed-set nodes shortcuts records i R are = record {
 }
 
 -- the record of a moment is there
-pub listed-within : (nodes : List MomentNode) (shortcuts : List Shortcut) (records : List Rows) (h : Chronicle) (i m : ℕ) → seen nodes records ≡ h
+pub listed-within : {room : Bool} (nodes : List MomentNode) (shortcuts : List Shortcut) (records : List Rows) (h : Chronicle) (i m : ℕ) → seen nodes records room ≡ h
     → i ≡ m - 1 → 0 < m → m ≤ length h.made → AreListed nodes shortcuts records → i < length records
 listed-within nodes shortcuts records h i m is place some there are =
     omega (arith, place, some, there, ap (λ (h : Chronicle). length h.made) is, length-made_in nodes, are.recorded)
 
 -- a moment more, with its shortcut and its record, where room was made first
-module _ (nodes middle new : List MomentNode) (n : MomentNode) (shortcuts spare leaps : List Shortcut) (s : Shortcut)
+module _ {room : Bool} (nodes middle new : List MomentNode) (n : MomentNode) (shortcuts spare leaps : List Shortcut) (s : Shortcut)
     (records space rows : List Rows) (R : Rows) (h : Chronicle)
     (pushed : new ≡ middle ++ n ∷ []) (kept : middle ≡ nodes)
     (leapt : leaps ≡ spare ++ s ∷ []) (spared : spare ≡ shortcuts) (wrote : rows ≡ space ++ R ∷ []) (stood : space ≡ records)
-    (is : seen nodes records ≡ h) where
+    (is : seen nodes records room ≡ h) where
   pub listed-pushed : n.parent ≤ length h.made → n.depth ≡ length (path h.made n.parent) + 1 → IsAbove h.made s.jump n.parent → IsRunBeyond h.made s.first n.parent
       → length h.made < most_moments → AreListed nodes shortcuts records → AreListed new leaps rows
   listed-pushed there deep above run few are = record {

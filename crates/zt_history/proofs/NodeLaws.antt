@@ -1,6 +1,6 @@
 -- Moments as they are kept: look-ups, depths, a record that changes, one more and one less.
 use Rattle.std.proofs.Common.{◌≡◌, ℕ, zero, suc, ◌+◌, ◌-◌, ◌≤◌, ◌<◌, true, inl, inr, List, [], ◌∷◌, ◌++◌, length, reverse, set, take, get_or, Option, Some, None, refl, sym, ◌∙◌, ap, subst, arith, Bor}
-use Rattle.std.specs.Prelude.{slice_get, IfSome}
+use Rattle.std.specs.Prelude.{Bool, slice_get, IfSome}
 use Rattle.std.specs.Option.{option_copied, option_map}
 use Rattle.std.specs.Slice.{IsItemAt}
 use Rattle.std.proofs.lemmas.List.{reverse-append, append_assoc, length-append, length-reverse, map-append, take-map}
@@ -28,10 +28,10 @@ pub got : {X : Type 0} (xs : List X) (i : ℕ) (r : Option (Bor X)) → IsItemAt
 got xs i None h = sym (slice_get_past xs i h.3)
 got xs i (Some x) h = ap Some h.1 ∙ sym (slice_get-get_or xs i x.now h.3.0)
 
-abbrev pub seen : List MomentNode → List Rows → Chronicle
-seen nodes records = record { made = made_in nodes; records = records }
+abbrev pub seen : List MomentNode → List Rows → Bool → Chronicle
+seen nodes records room = record { made = made_in nodes; records = records; room = room }
 
-module _ (nodes : List MomentNode) (records : List Rows) (h : Chronicle) (i m : ℕ) (is : seen nodes records ≡ h) (place : m ≡ suc i) where
+module _ {room : Bool} (nodes : List MomentNode) (records : List Rows) (h : Chronicle) (i m : ℕ) (is : seen nodes records room ≡ h) (place : m ≡ suc i) where
   there : made_at (made_in nodes) (suc i) ≡ made_at h.made m
   there = λ j. made_at (is j).made (sym place j)
 
@@ -58,7 +58,7 @@ module _ (nodes : List MomentNode) (records : List Rows) (h : Chronicle) (i m : 
       none-some (at.0.depth) (e ∙ ap (option_map (λ (n : MomentNode). n.depth)) at.1)
 
 -- the record of a moment, as it is read from the list of the records
-pub record-listed : (nodes : List MomentNode) (records xs : List Rows) (h : Chronicle) (i m : ℕ) (r : Option (Bor Rows)) → IsItemAt xs i r → xs ≡ records → seen nodes records ≡ h → m ≡ suc i
+pub record-listed : {room : Bool} (nodes : List MomentNode) (records xs : List Rows) (h : Chronicle) (i m : ℕ) (r : Option (Bor Rows)) → IsItemAt xs i r → xs ≡ records → seen nodes records room ≡ h → m ≡ suc i
     → option_copied r ≡ record_at h.records m
 record-listed nodes records xs h i m r at all is place = got xs i r at ∙ ap (λ xs. slice_get xs i) all ∙ (λ j. record_at (is j).records (sym place j))
 
@@ -71,7 +71,7 @@ parent_in None = refl
 parent_in (Some n) = refl
 
 -- the parent of a moment, as it is read from its node
-pub parent-listed : (nodes : List MomentNode) (records : List Rows) (h : Chronicle) (i m : ℕ) → seen nodes records ≡ h → m ≡ suc i
+pub parent-listed : {room : Bool} (nodes : List MomentNode) (records : List Rows) (h : Chronicle) (i m : ℕ) → seen nodes records room ≡ h → m ≡ suc i
     → or_opening (option_map (λ n. n.parent) (slice_get nodes i)) ≡ parent_at h.made m
 parent-listed nodes records h i m is place =
     parent_in (slice_get nodes i)
@@ -172,8 +172,8 @@ pub record_fits : (p : Places) (records : List Rows) (i : ℕ) (was : Rows) → 
 record_fits p records i was within is fit = ap (fits p) is ∙ all_fit-at p records i was within fit
 
 -- the i-th record exchanged its rows with the store's
-pub turned_at : (nodes : List MomentNode) (records : List Rows) (was kept : Rows) (old new : Chronicle) (before after : Stored) (i j : ℕ) → i < length records → was ≡ get_or records i was
-    → seen nodes records ≡ old → seen nodes (set records i kept) ≡ new → i ≡ j
+pub turned_at : {room later : Bool} (nodes : List MomentNode) (records : List Rows) (was kept : Rows) (old new : Chronicle) (before after : Stored) (i j : ℕ) → i < length records → was ≡ get_or records i was
+    → seen nodes records room ≡ old → seen nodes (set records i kept) later ≡ new → i ≡ j
     → ◌≡◌ {A = State × Rows} (after.state, kept) (exchange before.state was) → after.places ≡ before.places → fits after.places kept ≡ true
     → IsTurned old new before after j
 turned_at nodes records was kept old new before after i j within is stood goes number done places fit = record {
@@ -187,7 +187,7 @@ turned_at nodes records was kept old new before after i j within is stood goes n
   fit = fit;
 }
 
-pub nodes-pushed : (nodes middle new : List MomentNode) (records : List Rows) (n : MomentNode) (h : Chronicle) → new ≡ middle ++ n ∷ [] → middle ≡ nodes → seen nodes records ≡ h
+pub nodes-pushed : {room : Bool} (nodes middle new : List MomentNode) (records : List Rows) (n : MomentNode) (h : Chronicle) → new ≡ middle ++ n ∷ [] → middle ≡ nodes → seen nodes records room ≡ h
     → n.parent ≤ length h.made → n.depth ≡ length (path h.made n.parent) + 1 → length h.made < most_moments → AreNodes nodes → AreNodes new
 nodes-pushed nodes middle new records n h pushed kept is there deep few are =
     let made : made_in nodes ≡ h.made = ap (λ (h : Chronicle). h.made) is in

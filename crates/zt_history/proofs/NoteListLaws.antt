@@ -14,7 +14,7 @@ use Rattle.zt_rows.specs.State.{State}
 use Rattle.zt_store.specs.RecordLook.{held}
 use Rattle.zt_rows.specs.Tests.{among}
 use Rattle.zt_rows.proofs.ChangeLaws.{Rows}
-use Rattle.zt_history.specs.declared.object_notes.ObjectNote.{ObjectNote}
+use Rattle.zt_history.specs.declared.object_notes.note_chains.ObjectNote.{ObjectNote}
 use Rattle.zt_history.specs.declared.object_notes.Sought.{Sought}
 use Rattle.zt_history.specs.Tree.{Made, path}
 use Rattle.zt_history.specs.TreeInvariant.{Falls}
@@ -23,7 +23,7 @@ use Rattle.zt_history.specs.ProofsOnly.ObjectNotes.{AreChained, AreLinked, AreRi
 use Rattle.zt_history.proofs.GrownLaws.{length-push}
 use Rattle.zt_history.proofs.ListLaws.{get-left, get-last, length-mapped, place}
 use Rattle.zt_history.proofs.PathLaws.{among-early, among-self}
-use Rattle.zt_history.proofs.TreeLaws.{last_apart}
+use Rattle.zt_history.proofs.TreeLaws.{last_apart, without_last-push}
 
 -- ---- the last change of an object among the first n
 
@@ -159,6 +159,15 @@ chained-popped list new c last j e apart here linked are =
       subst (AreChained new) (λ i. set last (sym here i) (sym linked i)) (chained-pop new c last all),
     )
 
+-- the changes that are listed then
+
+pub pushed-notes : (list new : List ObjectNote) (c : ObjectNote) (old : List ChangeNote) → notes_in list ≡ old → new ≡ list ++ c ∷ [] → notes_in new ≡ old ++ note_as c ∷ []
+pushed-notes list new c old was pushed = ap notes_in pushed ∙ map-append note_as list (c ∷ []) ∙ ap (λ notes. notes ++ note_as c ∷ []) was
+
+pub popped-notes : (list new : List ObjectNote) (c : ObjectNote) → list ≡ new ++ c ∷ [] → notes_in new ≡ without_last (notes_in list)
+popped-notes list new c apart =
+    sym (ap without_last (ap notes_in apart ∙ map-append note_as new (c ∷ [])) ∙ without_last-push (notes_in new) (note_as c))
+
 -- ---- the last ones of a moment
 
 all-append : {A : Type 0} (P : A → Type 0) (xs ys : List A) → AllByRecursion P (xs ++ ys) → AllByRecursion P xs
@@ -202,9 +211,9 @@ ends-push m notes n =
     let e : length (notes ++ n ∷ []) - 1 ≡ length notes = omega (arith, length-push notes n) in
     ap (λ i. is_at m (slice_get (notes ++ n ∷ []) i)) e ∙ ap (is_at m) (get-last notes n (length notes) refl)
 
-pub ends-some : (m : ℕ) (list : List ObjectNote) → ends_at (notes_in list) m ≡ true → 0 < length list
+pub ends-some : (m : ℕ) (notes : List ChangeNote) → ends_at notes m ≡ true → 0 < length notes
 ends-some m [] e = absurd (true≢false (sym e))
-ends-some m (c ∷ list) e = omega arith
+ends-some m (n ∷ notes) e = omega arith
 
 -- so far these changes went, all of one moment
 pub record AreGone (old now : List ChangeNote) (m : ℕ) : Type 0 where
@@ -215,19 +224,17 @@ pub record AreGone (old now : List ChangeNote) (m : ℕ) : Type 0 where
 pub gone-none : (old : List ChangeNote) (m : ℕ) → AreGone old old m
 gone-none old m = record { gone = []; apart = sym (append-nil old); each = tt }
 
-pub gone-next : (old : List ChangeNote) (list less : List ObjectNote) (m : ℕ) → ends_at (notes_in list) m ≡ true → less ≡ without_last list → AreGone old (notes_in list) m
-    → AreGone old (notes_in less) m
-gone-next old list less m ends fewer is =
-    let apart = last_apart list (ends-some m list ends) in
-    let c : ObjectNote = apart.0 in
-    let whole : notes_in list ≡ notes_in (without_last list) ++ note_as c ∷ [] = ap notes_in apart.1 ∙ map-append note_as (without_last list) (c ∷ []) in
-    let of_m : c.moment ≡ m = eqb-true c.moment m (sym (ends-push m (notes_in (without_last list)) (note_as c)) ∙ sym (ap (λ notes. ends_at notes m) whole) ∙ ends) in
+pub gone-next : (old notes less : List ChangeNote) (m : ℕ) → ends_at notes m ≡ true → less ≡ without_last notes → AreGone old notes m → AreGone old less m
+gone-next old notes less m ends fewer is =
+    let apart = last_apart notes (ends-some m notes ends) in
+    let n : ChangeNote = apart.0 in
+    let of_m : n.moment ≡ m = eqb-true n.moment m (sym (ends-push m (without_last notes) n) ∙ sym (ap (λ notes. ends_at notes m) apart.1) ∙ ends) in
     record {
-      gone = note_as c ∷ is.gone;
+      gone = n ∷ is.gone;
       apart =
-          is.apart ∙ ap (λ notes. notes ++ is.gone) whole
-          ∙ append_assoc (notes_in (without_last list)) (note_as c ∷ []) is.gone
-          ∙ ap (λ front. notes_in front ++ note_as c ∷ is.gone) (sym fewer);
+          is.apart ∙ ap (λ notes. notes ++ is.gone) apart.1
+          ∙ append_assoc (without_last notes) (n ∷ []) is.gone
+          ∙ ap (λ front. front ++ n ∷ is.gone) (sym fewer);
       each = (of_m, is.each);
     }
 
@@ -250,24 +257,24 @@ same-chained list old new same are = record { earlier = are.earlier; ends = λ x
 
 -- ---- further changes behind
 
-pub longer-self : (list : List ObjectNote) → IsLonger list list
+pub longer-self : (list : List ChangeNote) → IsLonger list list
 longer-self list = record { more = []; apart = sym (append-nil list) }
 
-pub longer-push : (list new : List ObjectNote) (c : ObjectNote) → new ≡ list ++ c ∷ [] → IsLonger list new
-longer-push list new c pushed = record { more = c ∷ []; apart = pushed }
+pub longer-push : (list new : List ChangeNote) (n : ChangeNote) → new ≡ list ++ n ∷ [] → IsLonger list new
+longer-push list new n pushed = record { more = n ∷ []; apart = pushed }
 
-pub longer-next : (old now new : List ObjectNote) → IsLonger old now → IsLonger now new → IsLonger old new
+pub longer-next : (old now new : List ChangeNote) → IsLonger old now → IsLonger now new → IsLonger old new
 longer-next old now new first then_is = record {
   more = first.more ++ then_is.more;
   apart = then_is.apart ∙ ap (λ list. list ++ then_is.more) first.apart ∙ append_assoc old first.more then_is.more;
 }
 
 -- the first so many of them are those that were there
-pub longer-first : (old now : List ObjectNote) (n : ℕ) → n ≡ length old → IsLonger old now → take n now ≡ old
+pub longer-first : (old now : List ChangeNote) (n : ℕ) → n ≡ length old → IsLonger old now → take n now ≡ old
 longer-first old now n size longer = (λ j. take (size j) (longer.apart j)) ∙ take-append_seam old longer.more
 
 -- the first so many stay where the last of more goes
-pub first-left : (start list less : List ObjectNote) (n : ℕ) → n < length list → less ≡ without_last list → take n list ≡ take n start → take n less ≡ take n start
+pub first-left : (start list less : List ChangeNote) (n : ℕ) → n < length list → less ≡ without_last list → take n list ≡ take n start → take n less ≡ take n start
 first-left start list less n more fewer same =
     let apart = last_apart list (omega (arith, more)) in
     let size : length list ≡ suc (length (without_last list)) = ap length apart.1 ∙ length-push (without_last list) apart.0 in
@@ -275,7 +282,7 @@ first-left start list less n more fewer same =
     ∙ sym (take-append-le n (without_last list) (apart.0 ∷ []) (omega (arith, more, size)))
     ∙ sym (ap (take n) apart.1) ∙ same
 
-pub first-all : (start list : List ObjectNote) (n : ℕ) → length list ≤ n → take n list ≡ take n start → list ≡ take n start
+pub first-all : (start list : List ChangeNote) (n : ℕ) → length list ≤ n → take n list ≡ take n start → list ≡ take n start
 first-all start list n few same = sym (take_all n list few) ∙ same
 
 -- ---- what a loop over keys notes

@@ -23,17 +23,17 @@ use Rattle.zt_history.specs.declared.object_notes.Sought.{Sought}
 use Rattle.zt_history.specs.declared.object_notes.Sought.TheVariants as sought
 use Rattle.zt_history.specs.declared.row_happenings.RowHappening.{RowHappening}
 use Rattle.zt_history.specs.declared.row_happenings.RowHappening.TheVariants as happening
+use Rattle.zt_rows.specs.Reads.{names}
 use Rattle.zt_history.specs.LetGo.{last_let_go, lets_go}
-use Rattle.zt_history.specs.LostChild.{last_lost_child, loses_child}
+use Rattle.zt_history.specs.LostChild.{is_child_row, last_lost_child, loses_child}
 use Rattle.zt_history.specs.RowHappenings.{is_alone, is_living, is_there, last_shown, shows}
 use Rattle.zt_history.specs.Tree.{Made, parent_of, parent_at, path, state_at}
 use Rattle.zt_history.specs.TreeInvariant.{AreMoments, Falls}
 use Rattle.zt_history.specs.ProofsOnly.Branches.{without_last}
-use Rattle.zt_history.specs.ProofsOnly.ObjectNotes.{AreNoted, AreRising, ChangeNote, IsCut, NotedChanges, TellsLast, gone_note, gone_of, is_found, loss_of, lost_note, next_koids_to, note_before, note_of, note_over, note_under, note_with, noted, notes_at, notes_of, notes_to, shown_by, tells}
+use Rattle.zt_history.specs.ProofsOnly.ObjectNotes.{AreNoted, AreRising, ChangeNote, IsCut, NotedChanges, TellsLast, gone_of, is_found, loss_of, next_koids_to, note_before, note_of, note_over, note_under, note_with, noted, notes_at, notes_of, notes_to, shown_by, tells}
 use Rattle.zt_history.proofs.NoteListLaws.{cut-front}
 use Rattle.zt_history.proofs.GrownLaws.{length-push, made_at-end, state-end}
-use Rattle.zt_history.proofs.LetGoLaws.{IsTyped, at-lets_go, before-there, differ-let_go, gone-in, lets_go-at}
-use Rattle.zt_history.proofs.LostChildLaws.{at-loses_child, before-lost, differ-lost, loses_child-at, loss-in}
+use Rattle.zt_history.proofs.LossLaws.{IsTyped, at-loses, before-lost, before-there, differ-lost, gone-in, loses-at, loss-in}
 use Rattle.zt_history.proofs.ListLaws.{either, get-left, get-last, get-right}
 use Rattle.zt_history.proofs.MoreLaws.{falls-push, parent-early, parent-more, state-more}
 use Rattle.zt_history.proofs.PathLaws.{among-early, among-other, among-self, among-step, by_parents, path-opening, path-step}
@@ -150,9 +150,9 @@ module _ (m : ℕ) (S T : State) where
   of-gone : (k : RowKey) (i : ℕ) (n : ChangeNote) → slice_get (gone_of m (row S k) (row T k) T) i ≡ Some n → IsNoteOf m S T n
   of-gone k i n at =
       let its = gone-in m (row T k) T (row S k) i n at in
-      subst (IsNoteOf m S T) its.is (record { at = refl; true_of = told its.koid (lets_go-at S T its.koid k its.named its.gone) })
+      subst (IsNoteOf m S T) its.is (record { at = refl; true_of = told its.koid (loses-at names S T its.koid k refl its.stood its.left) })
     where
-      told : (x : ℕ) → lets_go x S T ≡ true → (what : Sought) → tells what (gone_note m x) ≡ true → happens what x S T ≡ true
+      told : (x : ℕ) → lets_go x S T ≡ true → (what : Sought) → tells what (note_with m x did.LetGo) ≡ true → happens what x S T ≡ true
       told x gone (sought.Shown what) e = absurd (true≢false (sym e))
       told x gone sought.LetGo e = gone
       told x gone sought.LostChild e = absurd (true≢false (sym e))
@@ -160,9 +160,9 @@ module _ (m : ℕ) (S T : State) where
   of-lost : (y i : ℕ) (n : ChangeNote) → slice_get (loss_of m (row S (key.Object y)) (row T (key.Object y)) T) i ≡ Some n → IsNoteOf m S T n
   of-lost y i n at =
       let its = loss-in m (row T (key.Object y)) T (row S (key.Object y)) i n at in
-      subst (IsNoteOf m S T) its.is (record { at = refl; true_of = told its.koid (loses_child-at S T its.koid (key.Object y) its.child its.lost) })
+      subst (IsNoteOf m S T) its.is (record { at = refl; true_of = told its.koid (loses-at is_child_row S T its.koid (key.Object y) refl its.stood its.left) })
     where
-      told : (x : ℕ) → loses_child x S T ≡ true → (what : Sought) → tells what (lost_note m x) ≡ true → happens what x S T ≡ true
+      told : (x : ℕ) → loses_child x S T ≡ true → (what : Sought) → tells what (note_with m x did.LostChild) ≡ true → happens what x S T ≡ true
       told x lost (sought.Shown what) e = absurd (true≢false (sym e))
       told x lost sought.LetGo e = absurd (true≢false (sym e))
       told x lost sought.LostChild e = lost
@@ -239,15 +239,15 @@ module _ (m : ℕ) (S T : State) where
       let f = under-there (key.Object x) 0 (one m x r s) (differ-shown x what e) here in
       (f.0, one m x r s, f.1, refl, refl, one-tells m x r s what ∙ e)
   notes-there typed x sought.LetGo e =
-      let where_named = at-lets_go S T x e in
+      let where_named = at-loses names S T x e in
       let its = before-there m S T typed x where_named.0 where_named.1 where_named.2 in
-      let f = under-there where_named.0 its.0 (gone_note m x) (differ-let_go S T x where_named.0 where_named.1 where_named.2) its.1 in
-      (f.0, gone_note m x, f.1, refl, refl, refl)
+      let f = under-there where_named.0 its.0 (note_with m x did.LetGo) (differ-lost names S T x where_named.0 where_named.1 where_named.2) its.1 in
+      (f.0, note_with m x did.LetGo, f.1, refl, refl, refl)
   notes-there typed x sought.LostChild e =
-      let where_child = at-loses_child S T x e in
+      let where_child = at-loses is_child_row S T x e in
       let its = before-lost m S T typed x where_child.0 where_child.1 where_child.2 in
-      let f = under-there where_child.0 its.0 (lost_note m x) (differ-lost S T x where_child.0 where_child.1 where_child.2) its.1 in
-      (f.0, lost_note m x, f.1, refl, refl, refl)
+      let f = under-there where_child.0 its.0 (note_with m x did.LostChild) (differ-lost is_child_row S T x where_child.0 where_child.1 where_child.2) its.1 in
+      (f.0, note_with m x did.LostChild, f.1, refl, refl, refl)
 
 -- ---- what is noted of all moments so far
 

@@ -17,7 +17,9 @@ use Rattle.zt_rows.proofs.SoundLaws.{runs-some}
 use Rattle.zt_rows.proofs.SpentLaws.{spent-opening, spent-step, spent-room}
 use Rattle.zt_rows.proofs.CallLaws.{step-consistent}
 use Rattle.zt_history.specs.Tree.{Made, made_at, parent_of, parent_at, call_at, reply_at, path, calls_to, replies_to, state_at}
+use Rattle.zt_history.specs.HistoryRefusals.{most_moments}
 use Rattle.zt_history.specs.TreeInvariant.{Falls, AreMoments}
+use Rattle.zt_history.specs.ProofsOnly.FourBytes.{four_byte_numbers}
 use Rattle.zt_history.proofs.ListLaws.{get-within}
 use Rattle.zt_history.proofs.PathLaws.{path-opening, path-step, by_parents, short-path, length-path}
 
@@ -114,7 +116,7 @@ module _ (made : List Made) (are : AreMoments made) where
           let P : ℕ → Type 0 = λ p. IsConsistent (state_at made p) × HasSpent (length (path made p)) (state_at made p) in
           let before : P e.parent = subst P p (rest (parent-within i h)) in
           let n : ℕ = length (path made e.parent) in
-          let few : n < 1048576 = omega (arith, short-path made are.falls e.parent, p, are.falls i, h, are.few) in
+          let few : n < most_moments = omega (arith, short-path made are.falls e.parent, p, are.falls i, h, are.few) in
           let longer : n + 1 ≡ length (path made (suc i)) = omega (arith, length-path made are.falls i, ap (λ p. length (path made p)) p) in
           let T : State = (step (state_at made e.parent) e.process e.call).0 in
           let Q : State → Type 0 = λ S. IsConsistent S × HasSpent (length (path made (suc i))) S in
@@ -132,17 +134,17 @@ module _ (made : List Made) (are : AreMoments made) where
       spent-room (state_at made m) (length (path made m)) (omega (arith, short-path made are.falls m, h, are.few)) (at-rest m h).1
 
   -- a call more gives out no koid that four bytes cannot hold
-  pub few-koids : (m process : ℕ) (call : Call) → m ≤ length made → length made < 1048576 → runs (state_at made m) process ≡ true → IsCall call
-      → next_koid (step (state_at made m) process call).0 < 4294967296
+  pub few-koids : (m process : ℕ) (call : Call) → m ≤ length made → length made < most_moments → runs (state_at made m) process ≡ true → IsCall call
+      → next_koid (step (state_at made m) process call).0 < four_byte_numbers
   few-koids m process call h few running limits =
       let rest : IsConsistent (state_at made m) × HasSpent (length (path made m)) (state_at made m) = at-rest m h in
-      let less : length (path made m) < 1048576 = omega (arith, short-path made are.falls m, h, few) in
+      let less : length (path made m) < most_moments = omega (arith, short-path made are.falls m, h, few) in
       let given : HasSpent (length (path made m) + 1) (step (state_at made m) process call).0 =
       spent-step (state_at made m) process call (length (path made m)) less rest.0.sound running limits rest.1 in
       omega (arith, given.koids, less)
 
   -- nor has one that runs
-  pub few-process : (m process : ℕ) → m ≤ length made → length made < 1048576 → runs (state_at made m) process ≡ true → process < 4294967296
+  pub few-process : (m process : ℕ) → m ≤ length made → length made < most_moments → runs (state_at made m) process ≡ true → process < four_byte_numbers
   few-process m process h few running =
       let rest : IsConsistent (state_at made m) × HasSpent (length (path made m)) (state_at made m) = at-rest m h in
       let there = runs-some (state_at made m) process running in

@@ -9,8 +9,10 @@ use Rattle.std.proofs.lemmas.Option.{none-some, same_Some, slice_get_within, sli
 use Rattle.zt_rows.specs.declared.calls.Call.{Call}
 use Rattle.zt_rows.specs.declared.calls.Reply.{Reply}
 use Rattle.zt_history.specs.declared.moment_nodes.StoredNode.{StoredNode}
+use Rattle.zt_history.specs.HistoryRefusals.{most_moments}
 use Rattle.zt_history.specs.ProofsOnly.Branches.{without_last}
 use Rattle.zt_history.specs.ProofsOnly.StoredNodes.{MomentNode, node_as, nodes_of, no_call, no_reply, shared_calls, shared_replies, Fills, IsFilled, AreStored, IsPut, IsCut}
+use Rattle.zt_history.specs.ProofsOnly.FourBytes.{four_byte_numbers}
 use Rattle.zt_history.proofs.ListLaws.{get-left}
 use Rattle.zt_history.proofs.NodeLaws.{got}
 use Rattle.zt_history.proofs.TreeLaws.{last_apart, without_last-push}
@@ -196,12 +198,12 @@ pub read-any : {X : Type 0} (none : X) (xs : List X) (i : ℕ) (x : X) → i < l
 read-any none xs i x within is = same_Some (get_or xs i none) x (sym (slice_get-get_or xs i none within) ∙ slice_get-get_or xs i x within ∙ ap Some (sym is))
 
 -- there are few of each
-pub stored-few : (C : List Call) (R : List Reply) (ns : List StoredNode) (ps : List ℕ) (list : List MomentNode) → AreStored C R ns ps → nodes_of C R ns ps ≡ list → length list < 1048576
-    → (length C < 4294967296) × (length R < 4294967296)
+pub stored-few : (C : List Call) (R : List Reply) (ns : List StoredNode) (ps : List ℕ) (list : List MomentNode) → AreStored C R ns ps → nodes_of C R ns ps ≡ list → length list < most_moments
+    → (length C < four_byte_numbers) × (length R < four_byte_numbers)
 stored-few C R ns ps list are is few =
     let size : length ns ≡ length list = sym (length-nodes C R ns ps are.many) ∙ ap length is in (
-      omega (arith, few, size, (fills-up (λ n. n.call) (λ n. n.owns_call) 4 ns (length C) are.calls_stand.fills).1),
-      omega (arith, few, size, (fills-up (λ n. n.reply) (λ n. n.owns_reply) 14 ns (length R) are.replies_stand.fills).1),
+      omega (arith, few, size, (fills-up (λ n. n.call) (λ n. n.owns_call) (length shared_calls) ns (length C) are.calls_stand.fills).1),
+      omega (arith, few, size, (fills-up (λ n. n.reply) (λ n. n.owns_reply) (length shared_replies) ns (length R) are.replies_stand.fills).1),
     )
 
 -- one more

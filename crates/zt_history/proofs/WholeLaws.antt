@@ -26,11 +26,11 @@ use Rattle.zt_history.proofs.TreeLaws.{last_apart}
 pub noted-same : (made same : List Made) (old new : NotedChanges) → same ≡ made → new ≡ old → AreNoted made old → AreNoted same new
 noted-same made same old new m c are = subst (AreNoted same) (sym c) (let P : List Made → Type 0 = λ made. AreNoted made old in subst P (sym m) are)
 
-pub whole-opening : (store : Stored) (moments : Chronicle) (changes : NotedChanges) (branches : List Branch) → store.state ≡ opening → moments ≡ record { made = []; records = [] }
+pub whole-opening : (store : Stored) (moments : Chronicle) (changes : NotedChanges) (branches : List Branch) → store.state ≡ opening → moments.made ≡ [] → moments.records ≡ []
     → changes ≡ record { notes = []; next_koids = next_koid store.state ∷ [] } → branches ≡ opening_tree.branches → IsWhole store moments changes branches 0 undo.Nothing
-whole-opening store moments changes branches here none no_change one = record {
-  kept = kept-opening store moments branches here none one;
-  noted = noted-same [] moments.made changes changes (ap (λ (m : Chronicle). m.made) none) refl (noted-opening store.state changes here no_change);
+whole-opening store moments changes branches here none empty no_change one = record {
+  kept = kept-opening store moments branches here none empty one;
+  noted = noted-same [] moments.made changes changes none refl (noted-opening store.state changes here no_change);
 }
 
 -- one moment more, which a call made

@@ -4,6 +4,7 @@ pub mod HistoryRefusals
 pub mod Timeline
 pub mod TreeInvariant
 pub mod RowHappenings
+pub mod Losses
 pub mod LetGo
 pub mod LostChild
 -- Used by proofs only: no public clause depends on them.

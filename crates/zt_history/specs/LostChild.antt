@@ -1,26 +1,26 @@
 -- Live children of an object that end or go while the object stays, and the last moment of a path at which one does. A live
 -- child is a process or a job that has not ended and whose parent is the object. This project's own.
-use Rattle.std.specs.Prelude.{ℕ, ◌==◌, Bool, false, not, ◌&&◌, ◌||◌, List, filter, Option, None, Some}
-use Rattle.std.specs.List.{last_or, list_any}
+use Rattle.std.specs.Prelude.{ℕ, ◌==◌, Bool, false, ◌&&◌, ◌||◌, List, filter, Option, None, Some}
+use Rattle.std.specs.List.{last_or}
 use Rattle.zt_rows.specs.declared.rows.Row.{Row}
 use Rattle.zt_rows.specs.declared.rows.Row.TheVariants as rows
 use Rattle.zt_rows.specs.Reads.{is_live_job, is_live_process}
-use Rattle.zt_rows.specs.State.{State, row}
-use Rattle.zt_rows.specs.Tests.{exists}
-use Rattle.zt_history.specs.Tree.{Made, parent_at, path, state_at}
+use Rattle.zt_rows.specs.State.{State}
+use Rattle.zt_history.specs.Losses.{loses, loses_at}
+use Rattle.zt_history.specs.Tree.{Made, path}
 
 -- the row is that of a live process or job whose parent is x
 abbrev pub is_child_row : ℕ → Option Row → Bool
 is_child_row x (Some (rows.Object o)) = (is_live_job o || is_live_process o) && (o.link == x)
 is_child_row x _ = false
 
--- the object is there after, and under some key a live child of it stood before and none does after
+-- a row that was a live child's of the object is none any more
 abbrev pub loses_child : ℕ → State → State → Bool
-loses_child x S T = exists T x && list_any (λ e. is_child_row x (Some e.1) && not (is_child_row x (row T e.0))) S.rows
+loses_child x S T = loses is_child_row x S T
 
 -- a moment's call did so
 abbrev pub loses_child_at : ℕ → List Made → ℕ → Bool
-loses_child_at x made m = loses_child x (state_at made (parent_at made m)) (state_at made m)
+loses_child_at x made m = loses_at is_child_row x made m
 
 -- the last moment on the path to m at which one did
 unfoldable pub last_lost_child : ℕ → List Made → ℕ → Option ℕ

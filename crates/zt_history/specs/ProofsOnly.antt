@@ -3,6 +3,7 @@ pub mod Timeline
 pub mod TreeInvariant
 pub mod KeptHistory
 pub mod Branches
+pub mod FourBytes
 pub mod Forks
 pub mod StoredNodes
 pub mod MomentNodes

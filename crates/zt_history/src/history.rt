@@ -5,13 +5,16 @@ ghost use Rattle.zt_rows.specs.Handles.{next_koid};
 ghost use Rattle.zt_rows.specs.Opening.{opening};
 ghost use Rattle.zt_rows.specs.Step.{run};
 ghost use Rattle.zt_history.specs.Tree.{call_at, reply_at, parent_at, path, end_of, state_at, calls_to, replies_to, head_at, name_at, branch_named};
-ghost use Rattle.zt_history.specs.HistoryRefusals.{IsHistoryRefusal, moment_on};
+ghost use Rattle.zt_history.specs.HistoryRefusals.{IsHistoryRefusal, moment_on, most_moments};
 ghost use Rattle.zt_history.specs.ProofsOnly.Forks.{IsAbove};
 ghost use Rattle.zt_history.specs.LetGo.{last_let_go};
 ghost use Rattle.zt_history.specs.LostChild.{last_lost_child};
 ghost use Rattle.zt_history.specs.RowHappenings.{last_shown};
 ghost use Rattle.zt_history.specs.TreeInvariant.{recorded_at, Falls, IsTree};
 ghost use Rattle.zt_history.specs.Timeline.{at_opening, moved_to, unmoved, IsPath};
+
+mod new_moment;
+mod tree_changes;
 
 use crate::branches::{BranchId, Branches};
 use crate::moments::Moments;
@@ -25,7 +28,7 @@ use zt_store::{Record, Store};
 
 /// The last change, if it can be taken back.
 #[derive(Clone, Copy)]
-pub(crate) enum Undo {
+enum Undo {
     Nothing,
     /// A call on this branch, which made the last moment.
     Call(BranchId),
@@ -36,12 +39,12 @@ pub(crate) enum Undo {
 /// The tree of moments, with a store at one of them, the position. Each moment has the record by which the store goes
 /// over the call that made it: back where the moment is on the path to the position, and forth where it is not.
 pub struct History {
-    pub(crate) store: RestingStore,
-    pub(crate) moments: Moments,
-    pub(crate) notes: ObjectNotes,
-    pub(crate) branches: Branches,
-    pub(crate) position: Moment,
-    pub(crate) undo: Undo,
+    store: RestingStore,
+    moments: Moments,
+    notes: ObjectNotes,
+    branches: Branches,
+    position: Moment,
+    undo: Undo,
 }
 
 /// Lets all parts go in one call, so that a function that owns a history is proved without going through them at each of
@@ -124,7 +127,7 @@ impl History {
     /// The last moment. It takes no memory.
     pub fn last(&self) -> Moment
         ensures last { result ≡ length self.now.tree.made }
-        ensures few { result ≤ 1048576 }
+        ensures few { result ≤ most_moments }
     {
         self.moments.last()
     }
@@ -247,10 +250,7 @@ impl History {
         if moment > last {
             return Err(Refusal::NoMoment);
         }
-        match self.moments.path(moment) {
-            Ok(way) => Ok(way),
-            Err(_) => Err(Refusal::OutOfMemory),
-        }
+        Ok(self.moments.path(moment)?)
     }
 
     /// Moves the store along a list that `path` gives, to its last moment: back to the last moment that both paths
@@ -285,7 +285,7 @@ impl History {
     }
 
     /// From here on nothing can be taken back.
-    pub(crate) fn forget(&mut self)
+    fn forget(&mut self)
         ensures { self.new ≡ unmoved self.old }
     {
         self.undo = Undo::Nothing;

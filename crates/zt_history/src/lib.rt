@@ -8,12 +8,10 @@ mod history;
 pub mod laws;
 mod moment_nodes;
 mod moments;
-mod new_moment;
 mod object_notes;
 mod resting_store;
 mod row_happenings;
 mod same_calls;
-mod tree_changes;
 
 pub use branches::BranchId;
 pub use copied_calls::push_call;

@@ -1,7 +1,9 @@
 //! What is kept of each moment: the call that made it, with its process and its reply, the parent and the length of its path.
 ghost use Rattle.std.specs.Prelude.{◌≡◌, ◌<◌, ◌+◌, ◌++◌, ◌∷◌, [], true, Some, IfOk, OnOk, IfSome, length, slice_get, vec_capacity};
 ghost use Rattle.std.specs.Option.{option_copied, option_map};
+ghost use Rattle.zt_history.specs.HistoryRefusals.{most_moments};
 ghost use Rattle.zt_history.specs.ProofsOnly.Branches.{without_last};
+ghost use Rattle.zt_history.specs.ProofsOnly.FourBytes.{four_byte_numbers};
 ghost use Rattle.zt_history.specs.ProofsOnly.StoredNodes.{AreWithin, HasShared, IsCut, IsPut, caller_of, no_call, no_reply, shared_calls, shared_replies};
 
 use crate::same_calls::{is_same_call, is_same_reply, may_come_again};
@@ -11,7 +13,8 @@ use std::mem;
 use zt_bits::Status;
 use zt_rows::{Call, Koid, Moment, Reply};
 
-/// In how many moments ahead of one an equal call or reply is looked for.
+/// How many moments back an equal call or reply is searched for. Drivers and tests loop over a few calls, and each new moment
+/// pays for a comparison with every moment in this range.
 const NEAR: usize = 12;
 
 /// What is kept of one moment beside its parent: `call` and `reply` are places in lists of these, and those that it owns were
@@ -145,8 +148,8 @@ impl MomentNodes {
         reply: &mut Reply,
     )
         requires room { self.old.room ≡ true }
-        requires few { length self.old.list < 1048576 }
-        requires small { process < 4294967296 }
+        requires few { length self.old.list < most_moments }
+        requires small { process < four_byte_numbers }
         ensures { self.new.list ≡ self.old.list ++ record { parent = parent; depth = depth; process = process; call = call.old; reply = reply.old } ∷ [] }
     {
         let call = put_call(&mut self.calls, &self.nodes, call);
@@ -224,25 +227,11 @@ fn shared_call(call: &Call) -> Option<u32>
 }
 
 /// The place of the reply that is this status alone.
+#[tactic(auto, using(crate::proofs::SharedLaws::status_shared))]
 fn shared_status(status: Status) -> u32
     ensures { slice_get shared_replies result ≡ Some (Reply.Status status) }
 {
-    match status {
-        Status::Ok => 0,
-        Status::BadHandle => 1,
-        Status::WrongType => 2,
-        Status::AccessDenied => 3,
-        Status::InvalidArgs => 4,
-        Status::NotSupported => 5,
-        Status::PeerClosed => 6,
-        Status::ShouldWait => 7,
-        Status::BufferTooSmall => 8,
-        Status::TimedOut => 9,
-        Status::BadState => 10,
-        Status::OutOfRange => 11,
-        Status::NotFound => 12,
-        Status::AlreadyBound => 13,
-    }
+    u32::from(status.number())
 }
 
 /// Where the call stands in the list, at whose end it is put unless it stands there already. One is left where it was taken.
@@ -251,7 +240,7 @@ fn put_call(calls: &mut Vec<Call>, nodes: &Vec<StoredNode>, call: &mut Call) -> 
     requires shared { HasShared shared_calls calls.old.items }
     requires within { AreWithin (λ n. n.call) nodes.now.items calls.old.items }
     requires room { length calls.old.items < vec_capacity calls.old }
-    requires few { length calls.old.items < 4294967296 }
+    requires few { length calls.old.items < four_byte_numbers }
     ensures { IsPut no_call calls.old.items calls.new.items call.old result.place result.owned }
 {
     match call_there(calls, nodes, call) {
@@ -300,7 +289,7 @@ fn put_reply(replies: &mut Vec<Reply>, nodes: &Vec<StoredNode>, reply: &mut Repl
     requires shared { HasShared shared_replies replies.old.items }
     requires within { AreWithin (λ n. n.reply) nodes.now.items replies.old.items }
     requires room { length replies.old.items < vec_capacity replies.old }
-    requires few { length replies.old.items < 4294967296 }
+    requires few { length replies.old.items < four_byte_numbers }
     ensures { IsPut no_reply replies.old.items replies.new.items reply.old result.place result.owned }
 {
     match reply_there(replies, nodes, reply) {

@@ -1,27 +1,19 @@
-ghost use Rattle.std.specs.Prelude.{◌≡◌, ◌<◌, ◌≤◌, ◌+◌, ◌-◌, ◌++◌, ◌∷◌, [], ℕ, true, IfOk, OnOk, OnErr, IfSome, length, reverse, slice_get};
+ghost use Rattle.std.specs.Prelude.{◌≡◌, ◌<◌, ◌≤◌, ◌+◌, ◌-◌, ◌++◌, ◌∷◌, [], ℕ, true, IfOk, OnOk, IfSome, length, reverse, slice_get};
 ghost use Rattle.std.specs.Option.{option_copied, option_map};
-ghost use Rattle.zt_rows.specs.Change.{before};
-ghost use Rattle.zt_rows.specs.Consistent.{IsConsistent};
-ghost use Rattle.zt_rows.specs.Handles.{next_koid};
-ghost use Rattle.zt_rows.specs.Reads.{runs};
-ghost use Rattle.zt_rows.specs.Room.{HasRoom};
-ghost use Rattle.zt_rows.specs.Step.{step};
 ghost use Rattle.zt_rows.specs.Tests.{among};
-ghost use Rattle.zt_store.specs.Places.{Keeps, fits};
 ghost use Rattle.zt_store.specs.RecordRows.{all_fit};
+ghost use Rattle.zt_history.specs.HistoryRefusals.{most_moments};
 ghost use Rattle.zt_history.specs.ProofsOnly.Branches.{without_last};
+ghost use Rattle.zt_history.specs.ProofsOnly.FourBytes.{four_byte_numbers};
 ghost use Rattle.zt_history.specs.ProofsOnly.Forks.{IsAbove, IsRunBeyond, IsShortcut};
-ghost use Rattle.zt_history.specs.ProofsOnly.MomentNodes.{IsTurned, record_at, run_at};
-ghost use Rattle.zt_history.specs.ProofsOnly.ObjectNotes.{noted};
+ghost use Rattle.zt_history.specs.ProofsOnly.MomentNodes.{IsTurned, record_at};
 ghost use Rattle.zt_history.specs.TreeInvariant.{Falls};
 ghost use Rattle.zt_history.specs.Tree.{call_at, parent_at, path, reply_at};
 
 use crate::moment_nodes::MomentNodes;
-use crate::object_notes::ObjectNotes;
 use crate::resting_store::RestingStore;
 use std::alloc::{AllocError, Global};
 use std::marker::Model;
-use zt_bits::Status;
 use zt_rows::{Call, Koid, Moment, Reply};
 use zt_store::Record;
 
@@ -44,11 +36,17 @@ pub(crate) struct Moments {
 }
 
 impl Model for Moments {
+    ghost use Rattle.std.specs.Prelude.{◌&&◌, vec_capacity};
     ghost use Rattle.zt_history.specs.ProofsOnly.MomentNodes.{AreListed, Chronicle, made_in};
+    ghost use Rattle.zt_history.specs.ProofsOnly.StoredNodes.{has_room};
 
     ghost Value = { Chronicle };
 
-    ghost view = { λ m. record { made = made_in m.nodes.list; records = m.records.items } };
+    ghost view = { λ m. record {
+      made = made_in m.nodes.list;
+      records = m.records.items;
+      room = m.nodes.room && (has_room m.shortcuts.items (vec_capacity m.shortcuts) && has_room m.records.items (vec_capacity m.records));
+    } };
 
     ghost invariant = { λ m. AreListed m.nodes.list m.shortcuts.items m.records.items };
 }
@@ -56,7 +54,8 @@ impl Model for Moments {
 impl Moments {
     /// No moment but the opening.
     pub(crate) fn new(alloc: Global) -> Result<Moments, AllocError>
-        ensures { IfOk result (λ moments. moments ≡ record { made = []; records = [] }) }
+        ensures made { IfOk result (λ moments. moments.made ≡ []) }
+        ensures records { IfOk result (λ moments. moments.records ≡ []) }
     {
         Ok(Moments {
             nodes: MomentNodes::new(alloc)?,
@@ -68,15 +67,22 @@ impl Moments {
     /// The last moment.
     pub(crate) fn last(&self) -> Moment
         ensures last { result ≡ length self.now.made }
-        ensures few { result ≤ 1048576 }
+        ensures few { result ≤ most_moments }
     {
         Moment(self.nodes.len() as u32)
+    }
+
+    /// The moment that is made next.
+    pub(crate) fn next_moment(&self) -> Moment
+        ensures { result ≡ length self.now.made + 1 }
+    {
+        Moment(self.nodes.len() as u32 + 1)
     }
 
     /// What holds of every list of moments.
     pub(crate) fn limits(&self)
         ensures falls { Falls self.now.made }
-        ensures few { length self.now.made ≤ 1048576 }
+        ensures few { length self.now.made ≤ most_moments }
     {
         let _nodes = &self.nodes;
     }
@@ -278,32 +284,35 @@ impl Moments {
         store.swap(&mut self.records[(moment.0 - 1) as usize]);
     }
 
-    /// Runs a call of a process at a moment, where the store stands, keeps what it made and notes what it did to each
-    /// object. The call is taken from where it stands. Where memory is refused, the store's rows, the moments and the notes are as before.
-    pub(crate) fn run(
+    /// Makes room for one more, so that `push` takes no memory.
+    pub(crate) fn reserve(&mut self) -> Result<(), AllocError>
+        ensures made { self.new.made ≡ self.old.made }
+        ensures records { self.new.records ≡ self.old.records }
+        ensures room { OnOk result (self.new.room ≡ true) }
+    {
+        self.nodes.reserve()?;
+        self.shortcuts.reserve(1)?;
+        self.records.reserve(1)?;
+        Ok(())
+    }
+
+    /// Adds the moment that a call of a process made at another, with what it answered and its record, where room was made first.
+    /// Call and reply are taken from where they stand, in whose place others are left.
+    #[inline(always)]
+    pub(crate) fn push(
         &mut self,
-        store: &mut RestingStore,
-        notes: &mut ObjectNotes,
         at: Moment,
         process: Koid,
         call: &mut Call,
-    ) -> Result<(), AllocError>
-        requires few { length self.old.made < 1048576 }
+        reply: &mut Reply,
+        change: Record,
+    )
+        requires room { self.old.room ≡ true }
+        requires few { length self.old.made < most_moments }
         requires there { at ≤ length self.old.made }
-        requires running { runs store.old.state process ≡ true }
-        requires small { process < 4294967296 }
-        requires room { HasRoom store.old.state }
-        requires consistent { IsConsistent store.old.state }
-        requires few_koids { next_koid (step store.old.state process call.old).0 < 4294967296 }
-        ensures ok { OnOk result (store.new.state ≡ (step store.old.state process call.old).0) }
-        ensures made { OnOk result (self.new.made ≡ self.old.made ++ run_at at store.old.state process call.old ∷ []) }
-        ensures recorded { OnOk result (self.new.records ≡ self.old.records ++ before store.old.state store.new.state ∷ []) }
-        ensures fits { OnOk result (fits store.new.places (before store.old.state store.new.state) ≡ true) }
-        ensures noted { OnOk result (notes.new ≡ noted notes.old (length self.old.made + 1) (before store.old.state store.new.state) store.new.state) }
-        ensures err { OnErr result (store.new.state ≡ store.old.state) }
-        ensures err_moments { OnErr result (self.new ≡ self.old) }
-        ensures err_notes { OnErr result (notes.new ≡ notes.old) }
-        ensures kept { Keeps store.old.places store.new.places }
+        requires small { process < four_byte_numbers }
+        ensures made { self.new.made ≡ self.old.made ++ record { parent = at; process = process; call = call.old; reply = reply.old } ∷ [] }
+        ensures records { self.new.records ≡ self.old.records ++ change ∷ [] }
     {
         self.limits();
         let depth = self.depth(at) + 1;
@@ -311,17 +320,9 @@ impl Moments {
             jump: self.jump_beyond(at),
             first: self.first_beyond(at),
         };
-        let moment = Moment(self.last().0 + 1);
-        self.nodes.reserve()?;
-        self.shortcuts.reserve(1)?;
-        self.records.reserve(1)?;
-        let alloc = *self.records.allocator();
-        let mut reply = Reply::Status(Status::Ok);
-        let change = carried_out(alloc, store, notes, moment, process, call, &mut reply)?;
         self.shortcuts.push_reserved(shortcut);
         self.records.push_reserved(change);
-        self.nodes.push(at, depth, process, call, &mut reply);
-        Ok(())
+        self.nodes.push(at, depth, process, call, reply);
     }
 
     /// Drops the last moment. It takes no memory.
@@ -333,38 +334,5 @@ impl Moments {
         self.nodes.pop();
         self.shortcuts.pop();
         self.records.pop();
-    }
-}
-
-/// Runs a call of a process, notes what it did to each object as that of a moment, and leaves its reply. Where memory is refused,
-/// also for the notes, the store's rows and the notes are as before.
-fn carried_out(
-    alloc: Global,
-    store: &mut RestingStore,
-    notes: &mut ObjectNotes,
-    moment: Moment,
-    process: Koid,
-    call: &Call,
-    reply: &mut Reply,
-) -> Result<Record, AllocError>
-    requires running { runs store.old.state process ≡ true }
-    requires room { HasRoom store.old.state }
-    requires consistent { IsConsistent store.old.state }
-    requires few { next_koid (step store.old.state process call.now).0 < 4294967296 }
-    ensures ok { OnOk result ((store.new.state, reply.new) ≡ step store.old.state process call.now) }
-    ensures recorded { IfOk result (λ change. change ≡ before store.old.state store.new.state) }
-    ensures fits { IfOk result (λ change. fits store.new.places change ≡ true) }
-    ensures noted { OnOk result (notes.new ≡ noted notes.old moment (before store.old.state store.new.state) store.new.state) }
-    ensures err { OnErr result (store.new.state ≡ store.old.state) }
-    ensures err_notes { OnErr result (notes.new ≡ notes.old) }
-    ensures kept { Keeps store.old.places store.new.places }
-{
-    let mut change = store.apply(alloc, process, call, reply)?;
-    match notes.note(moment, &change, store.store()) {
-        Ok(()) => Ok(change),
-        Err(e) => {
-            store.swap(&mut change);
-            Err(e)
-        }
     }
 }

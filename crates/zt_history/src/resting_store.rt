@@ -17,6 +17,7 @@ use zt_store::{Record, Step, Store};
 #[derive(Drop)]
 pub(crate) struct RestingStore {
     step: Step,
+    alloc: Global,
 }
 
 impl Model for RestingStore {
@@ -38,6 +39,7 @@ impl RestingStore {
         let store = Store::opening(alloc)?;
         Ok(RestingStore {
             step: Step::begin(store),
+            alloc,
         })
     }
 
@@ -61,7 +63,6 @@ impl RestingStore {
     /// Runs one call of a process that runs, as `run_on` of the calls does.
     pub(crate) fn apply(
         &mut self,
-        alloc: Global,
         process: Koid,
         call: &Call,
         reply: &mut Reply,
@@ -76,6 +77,6 @@ impl RestingStore {
         ensures consistent { IsConsistent self.new.state }
         ensures kept { Keeps self.old.places self.new.places }
     {
-        run_on(alloc, &mut self.step, process, call, reply)
+        run_on(self.alloc, &mut self.step, process, call, reply)
     }
 }

@@ -1,7 +1,7 @@
 //! What happens to an object, as the rows before a call and behind it show it.
 ghost use Rattle.std.specs.Prelude.{◌≡◌, ◌&&◌, false, not, true};
 ghost use Rattle.std.specs.Option.{option_copied};
-ghost use Rattle.zt_rows.specs.Reads.{as_object, is_live};
+ghost use Rattle.zt_rows.specs.Reads.{is_live};
 ghost use Rattle.zt_rows.specs.Tests.{is_endpoint};
 ghost use Rattle.zt_history.specs.RowHappenings.{is_cut_off, shows};
 
@@ -38,7 +38,7 @@ pub(crate) fn shown_changes(before: Option<&Row>, after: Option<&Row>) -> ShownC
     ensures ended { result.ended ≡ shows RowHappening.Ended (option_copied before.entry) (option_copied after.entry) }
     ensures peer_closed { result.peer_closed ≡ shows RowHappening.PeerClosed (option_copied before.entry) (option_copied after.entry) }
 {
-    match (object_in(before), object_in(after)) {
+    match (Row::as_object(before), Row::as_object(after)) {
         (Some(before), Some(after)) => changes_between(before, after),
         (None, Some(after)) => ShownChanges {
             made: true,
@@ -51,16 +51,6 @@ pub(crate) fn shown_changes(before: Option<&Row>, after: Option<&Row>) -> ShownC
             peer_closed: false,
         },
         (None, None) => NOTHING_SHOWN,
-    }
-}
-
-/// The object of the row, if it is one.
-fn object_in(row: Option<&Row>) -> Option<&ObjectRow>
-    ensures { option_copied result ≡ as_object (option_copied row.entry) }
-{
-    match row {
-        Some(Row::Object(found)) => Some(found),
-        _ => None,
     }
 }
 

@@ -4,23 +4,20 @@ use Rattle.std.specs.Prelude.{ℕ, Bool, true, false, ◌==◌, ◌&&◌, List, 
 use Rattle.std.specs.Cmp.Lexicographic.{pointwise}
 use Rattle.zt_bits.specs.declared.statuses.Status.{Status}
 use Rattle.zt_bits.specs.declared.statuses.Status.TheVariants as status
+use Rattle.zt_bits.specs.Words.{status_number}
 use Rattle.zt_rows.specs.declared.calls.Call.{Call}
 use Rattle.zt_rows.specs.declared.calls.Call.TheVariants as call
 use Rattle.zt_rows.specs.declared.calls.Reply.{Reply}
 use Rattle.zt_rows.specs.declared.calls.Reply.TheVariants as reply
 use Rattle.zt_rows.specs.declared.rows.Packet.{Packet}
 use Rattle.zt_rows.specs.declared.rows.Packet.TheVariants as packet
+use Rattle.zt_rows.specs.Tests.{status_of}
 use Rattle.zt_logs.specs.declared.logged.LoggedCall.{LoggedCall}
 use Rattle.zt_logs.specs.declared.logged.LoggedPacket.{LoggedPacket}
 use Rattle.zt_logs.specs.declared.logged.LoggedPacket.TheVariants as logged
 use Rattle.zt_logs.specs.declared.logged.RecordedReply.{RecordedReply}
 
 -- ---- what a reply has
-
-abbrev pub status_of : Reply → Status
-status_of (reply.Status answered) = answered
-status_of (reply.TooSmall _ _) = status.BufferTooSmall
-status_of _ = status.Ok
 
 -- how many handles the caller got
 abbrev pub handle_count : Reply → ℕ
@@ -36,23 +33,6 @@ logged_packet (packet.User key bytes) = logged.User key bytes
 logged_packet (packet.Signal key trigger observed _ _) = logged.Signal key trigger observed
 
 -- ---- when it is what the log has
-
--- a number for each status
-abbrev pub status_number : Status → ℕ
-status_number status.Ok = 0
-status_number status.BadHandle = 1
-status_number status.WrongType = 2
-status_number status.AccessDenied = 3
-status_number status.InvalidArgs = 4
-status_number status.NotSupported = 5
-status_number status.PeerClosed = 6
-status_number status.ShouldWait = 7
-status_number status.BufferTooSmall = 8
-status_number status.TimedOut = 9
-status_number status.BadState = 10
-status_number status.OutOfRange = 11
-status_number status.NotFound = 12
-status_number status.AlreadyBound = 13
 
 abbrev pub is_status : Option Status → Status → Bool
 is_status None answered = false

@@ -4,13 +4,14 @@ use Rattle.std.specs.Prelude.{◌≡◌, ◌==◌, ℕ, ◌+◌, ◌&&◌, ◌||
 use Rattle.std.specs.List.{list_all}
 use Rattle.zt_logs.specs.declared.logged.LoggedCall.{LoggedCall}
 use Rattle.zt_logs.specs.declared.times.LogTime.{LogTime}
+use Rattle.zt_import.specs.Schedule.{most_lines}
 use Rattle.zt_import.specs.Trails.{below}
 
 -- ---- whether a call may be moved ahead of one that returned before it
 
--- a line is at most 512 lines behind another
+-- a line is near behind another, or ahead of it
 abbrev pub is_near_behind : ℕ → ℕ → Bool
-is_near_behind line other = nat_le line (other + 512)
+is_near_behind line other = nat_le line (other + most_lines)
 
 -- one time is before another
 abbrev pub is_earlier : LogTime → LogTime → Bool

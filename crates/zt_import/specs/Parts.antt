@@ -4,7 +4,8 @@ use Rattle.zt_rows.specs.declared.calls.Reply.{Reply}
 use Rattle.zt_history.specs.Tree.{Made, reply_at}
 use Rattle.zt_logs.specs.declared.line_parts.LinePart.{LinePart}
 use Rattle.zt_import.specs.declared.schedule.AskedCall.{AskedCall}
-use Rattle.zt_import.specs.Comparison.{status_of, status_number}
+use Rattle.zt_bits.specs.Words.{status_number}
+use Rattle.zt_rows.specs.Tests.{status_of}
 
 -- a call is the last of its line
 abbrev pub is_last : LinePart → Bool

@@ -1,6 +1,6 @@
 -- What a schedule can do: a wait for a packet ends with another one, or with none, only where the packet that the log has
 -- stands in the port's queue near by, or where the queue was empty shortly before. This project's own.
-use Rattle.std.specs.Prelude.{ℕ, ◌+◌, ◌-◌, Bool, true, false, not, ◌==◌, ◌&&◌, nat_lt, List, take, drop, Option, Some, None}
+use Rattle.std.specs.Prelude.{ℕ, ◌+◌, ◌-◌, ◌*◌, Bool, true, false, not, ◌==◌, ◌&&◌, nat_lt, List, take, drop, Option, Some, None}
 use Rattle.std.specs.List.{list_any}
 use Rattle.std.specs.Option.{option_map}
 use Rattle.zt_bits.specs.declared.statuses.Status.{Status}
@@ -49,21 +49,21 @@ port_at made moment = port_of (state_at made moment) (call_at made moment)
 
 -- ---- moments near a line
 
--- the most lines between a wait and what is near
+-- the most lines between two calls that are near each other
 abbrev pub most_lines : ℕ
 most_lines = 512
 
 -- the lines are at most so many apart
 abbrev pub is_near : ℕ → ℕ → Bool
-is_near line other = nat_lt other (line + 513) && nat_lt line (other + 513)
+is_near line other = nat_lt other (line + (most_lines + 1)) && nat_lt line (other + (most_lines + 1))
 
 -- the other line stands ahead of this one, and is near
 abbrev pub is_shortly_before : ℕ → ℕ → Bool
-is_shortly_before line other = nat_lt other line && nat_lt line (other + 513)
+is_shortly_before line other = nat_lt other line && nat_lt line (other + (most_lines + 1))
 
--- the calls of the log from 512 before the one of this number on, up to 1025
+-- the calls of the log around the one of this number: that many before it, itself, and as many behind it
 abbrev pub around : ℕ → List AskedCall → List AskedCall
-around number asked = take 1025 (drop (number - 512) asked)
+around number asked = take (2 * most_lines + 1) (drop (number - most_lines) asked)
 
 -- ---- what a wait could have met
 

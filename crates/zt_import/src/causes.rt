@@ -1,6 +1,5 @@
 //! Which calls may be moved, so that a reply agrees with the log: what their statuses and arguments say of it, before it is tried.
 
-use crate::comparison::status_of;
 use zt_bits::Status;
 use zt_logs::{LoggedCall, LoggedPacket};
 use zt_rows::{Call, Parcel, Reply};
@@ -9,7 +8,7 @@ use zt_rows::{Call, Parcel, Reply};
 /// before that.
 pub(crate) fn may_be_by_order(logged: &LoggedCall, reply: Option<&Reply>) -> bool {
     match reply {
-        Some(reply) => may_change_to(logged.recorded.status, Some(status_of(reply))),
+        Some(reply) => may_change_to(logged.recorded.status, Some(reply.status())),
         None => true,
     }
 }

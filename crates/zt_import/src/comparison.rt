@@ -1,21 +1,10 @@
 ghost use Rattle.std.specs.Prelude.{◌≡◌, Some};
 ghost use Rattle.std.specs.Option.{option_copied};
-ghost use Rattle.zt_import.specs.Comparison.{status_of, handle_count, logged_packet, status_number, is_status, same_packet, bytes_agree, packets_agree, agrees, is_wait, waited, may_be_scheduled};
+ghost use Rattle.zt_import.specs.Comparison.{handle_count, logged_packet, is_status, same_packet, bytes_agree, packets_agree, agrees, is_wait, waited, may_be_scheduled};
 
 use zt_bits::Status;
 use zt_logs::{LoggedCall, LoggedPacket, RecordedReply};
 use zt_rows::{Call, Items, Packet, Reply};
-
-/// The status of a reply.
-pub fn status_of(reply: &Reply) -> Status
-    ensures { result ≡ status_of reply.now }
-{
-    match reply {
-        Reply::Status(status) => *status,
-        Reply::TooSmall(_, _) => Status::BufferTooSmall,
-        _ => Status::Ok,
-    }
-}
 
 /// How many handles the caller got.
 pub fn handle_count(reply: &Reply) -> usize
@@ -43,7 +32,7 @@ pub fn agrees(recorded: &RecordedReply, reply: Option<&Reply>) -> bool
 fn reply_agrees(recorded: &RecordedReply, reply: &Reply) -> bool
     ensures { result ≡ agrees recorded.now (Some reply.now) }
 {
-    is_status(recorded.status, status_of(reply))
+    is_status(recorded.status, reply.status())
         && recorded.handles.len() == handle_count(reply)
         && bytes_agree(&recorded.bytes, reply)
         && packets_agree(recorded.packet, reply)
@@ -54,30 +43,8 @@ fn is_status(recorded: Option<Status>, status: Status) -> bool
     ensures { result ≡ is_status recorded status }
 {
     match recorded {
-        Some(recorded) => status_number(recorded) == status_number(status),
+        Some(recorded) => recorded.number() == status.number(),
         None => false,
-    }
-}
-
-/// A number for each status.
-pub(crate) fn status_number(status: Status) -> u8
-    ensures { result ≡ status_number status }
-{
-    match status {
-        Status::Ok => 0,
-        Status::BadHandle => 1,
-        Status::WrongType => 2,
-        Status::AccessDenied => 3,
-        Status::InvalidArgs => 4,
-        Status::NotSupported => 5,
-        Status::PeerClosed => 6,
-        Status::ShouldWait => 7,
-        Status::BufferTooSmall => 8,
-        Status::TimedOut => 9,
-        Status::BadState => 10,
-        Status::OutOfRange => 11,
-        Status::NotFound => 12,
-        Status::AlreadyBound => 13,
     }
 }
 
@@ -163,7 +130,7 @@ pub fn may_be_scheduled(logged: &LoggedCall, reply: Option<&Reply>) -> bool
         Some(reply) => {
             is_wait(&logged.call)
                 && waited(logged.recorded.status)
-                && waited(Some(status_of(reply)))
+                && waited(Some(reply.status()))
                 && logged.recorded.handles.len() == handle_count(reply)
                 && bytes_agree(&logged.recorded.bytes, reply)
         }

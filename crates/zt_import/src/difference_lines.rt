@@ -1,4 +1,4 @@
-use crate::comparison::{handle_count, logged_packet, status_of};
+use crate::comparison::{handle_count, logged_packet};
 use crate::run_log::Imported;
 use crate::trail::Difference;
 use std::alloc::{AllocError, Global};
@@ -59,7 +59,7 @@ fn put_found(text: &mut String, reply: Option<&Reply>) -> Result<(), AllocError>
     let Some(reply) = reply else {
         return text.push_str(", by the semantics no_process handles=0");
     };
-    let status = status_of(reply).word();
+    let status = reply.status().word();
     let handles = handle_count(reply);
     write!(text, ", by the semantics {status} handles={handles}")?;
     match reply {

@@ -284,8 +284,8 @@ impl Numbers {
         ensures bytes { IfOk result (λ named. named.bytes ≡ parcel.now.bytes) }
         ensures handles { IfOk result (λ named. length named.handles ≡ length parcel.now.handles) }
     {
-        let alloc = parcel.bytes().allocator();
-        let bytes = Vec::from_slice(alloc, parcel.bytes().as_slice())?;
+        let bytes = parcel.bytes().copy()?.into_vec();
+        let alloc = *bytes.allocator();
         let handles = self.named(alloc, process, parcel.handles().as_slice())?;
         parcel.limits();
         match Parcel::new(bytes, handles) {

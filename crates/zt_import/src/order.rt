@@ -7,7 +7,7 @@ ghost use Rattle.zt_import.specs.Trails.{below};
 use std::alloc::{AllocError, Global};
 use zt_logs::{LogTime, LoggedCall};
 
-/// The most lines by which a call is moved ahead.
+/// The most lines between two calls that are near each other: a call is moved ahead by no more.
 pub(crate) const MOST_LINES: u64 = 512;
 
 /// A call that is moved from a place to an earlier one.
@@ -110,7 +110,7 @@ fn may_pass(later: &LoggedCall, earlier: &LoggedCall) -> bool
         && is_begun_by(later, earlier)
 }
 
-/// Whether a line is at most 512 lines behind another.
+/// Whether a line is near behind another, or ahead of it.
 fn is_near_behind(line: u64, other: u64) -> bool
     ensures { result ≡ is_near_behind line other }
 {

@@ -2,7 +2,6 @@
 ghost use Rattle.std.specs.Prelude.{◌≡◌};
 ghost use Rattle.zt_import.specs.Parts.{is_last, is_counted, ahead_of, answering, is_ok_at};
 
-use crate::comparison::{status_number, status_of};
 use crate::schedule::AskedCall;
 use crate::taken::Taken;
 use zt_logs::LinePart;
@@ -50,7 +49,7 @@ fn is_ok_at(taken: &Taken, moment: Option<Moment>) -> bool
     ensures { result ≡ is_ok_at taken.now.tree.made moment }
 {
     match taken.reply(&moment) {
-        Some(reply) => status_number(status_of(reply)) == 0,
+        Some(reply) => reply.status().number() == 0,
         None => false,
     }
 }

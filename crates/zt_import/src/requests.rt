@@ -1,14 +1,12 @@
 //! What `channel_call` writes, which others read before it returns.
 
+use crate::order::MOST_LINES;
 use crate::started::Places;
 use std::alloc::{AllocError, Global};
 use std::collections::HashMap;
 use zt_bits::Status;
 use zt_logs::{CallLog, Cause, LineForm, LinePart, LogFault, LoggedCall};
 use zt_rows::Call;
-
-/// How many calls ahead of the return a read of the message is looked for.
-const NEAR: usize = 512;
 
 /// Puts what each `channel_call` of a log writes right before the first call of another process that reads it, where one does before
 /// it returns: it is the last such call that reads no other's.
@@ -50,7 +48,7 @@ fn read_of(calls: &[LoggedCall], taken: &HashMap<usize, ()>, number: usize) -> O
     if !is_request(request) {
         return None;
     }
-    for back in 1..=NEAR.min(number) {
+    for back in 1..=(MOST_LINES as usize).min(number) {
         let place = number.saturating_sub(back);
         if !taken.contains_key(&place) && reads(calls.get(place)?, request) {
             return Some(place);

@@ -5,6 +5,7 @@ ghost use Rattle.zt_import.specs.Schedule.{around, by_schedule, is_met, is_met_b
 ghost use Rattle.zt_import.specs.Trails.{asked_in, not_asked, put_asked, put_call};
 
 use crate::comparison::may_be_scheduled;
+use crate::order::MOST_LINES;
 use crate::taken::Taken;
 use crate::trail::{Origin, TrailStep};
 use std::alloc::{AllocError, Global};
@@ -12,8 +13,8 @@ use zt_bits::Status;
 use zt_logs::{Cause, LoggedCall, LoggedPacket};
 use zt_rows::{Koid, Moment};
 
-/// How many lines away from a call others may stand that are near.
-const NEAR: u64 = 512;
+/// How many calls of the log before a wait are looked at, and how many behind it.
+const CALLS_NEAR: usize = MOST_LINES as usize;
 
 /// A call of the log that was asked, with its line, and its moment, if it made one.
 #[derive(Clone, Copy, Debug)]
@@ -161,13 +162,13 @@ fn sought_for(status: Option<Status>, packet: Option<LoggedPacket>) -> Sought
     }
 }
 
-/// The calls from 512 before the one of this number on, up to 1025.
+/// The calls around the one of this number: that many before it, itself, and as many behind it.
 fn around(asked: &[AskedCall], number: usize) -> &[AskedCall]
     ensures { result.now ≡ around number asked.now }
 {
-    let first = number.saturating_sub(512).min(asked.len());
+    let first = number.saturating_sub(CALLS_NEAR).min(asked.len());
     let behind = &asked[first..];
-    &behind[..behind.len().min(1025)]
+    &behind[..behind.len().min(2 * CALLS_NEAR + 1)]
 }
 
 /// Whether it is met at the moment of one of these calls.
@@ -222,16 +223,16 @@ fn is_met_by(
     }
 }
 
-/// Whether the lines are at most 512 apart.
+/// Whether the lines are near each other.
 fn is_near(line: u64, other: u64) -> bool
     ensures { result ≡ is_near line other }
 {
-    line.abs_diff(other) <= NEAR
+    line.abs_diff(other) <= MOST_LINES
 }
 
-/// Whether the other line stands ahead of this one, at most 512 lines.
+/// Whether the other line stands ahead of this one, and is near.
 fn is_shortly_before(line: u64, other: u64) -> bool
     ensures { result ≡ is_shortly_before line other }
 {
-    other < line && line - other <= NEAR
+    other < line && line - other <= MOST_LINES
 }

@@ -1,7 +1,7 @@
-ghost use Rattle.std.specs.Prelude.{◌≡◌, ◌≤◌, ◌<◌, ◌^◌, ◌+◌, ◌||◌, ℕ, true, false, length, IfOk, OnOk, Option, IfSome, if◌then◌else◌};
+ghost use Rattle.std.specs.Prelude.{◌≡◌, ◌≤◌, ◌<◌, ◌^◌, ◌+◌, ℕ, true, false, length, IfOk, OnOk, IfSome, if◌then◌else◌};
 ghost use Rattle.std.specs.Option.{option_and_then, option_copied, option_map, option_map_or};
 ghost use Rattle.zt_rows.specs.Opening.{hollow};
-ghost use Rattle.zt_rows.specs.Reads.{as_entry, as_object, as_wait, entry, is_live_job, is_live_process, object, wait};
+ghost use Rattle.zt_rows.specs.Reads.{entry, object, wait};
 ghost use Rattle.zt_rows.specs.State.{put};
 ghost use Rattle.zt_cells.specs.CellsView.{CellsView};
 ghost use Rattle.zt_cells.specs.TableSizes.{has_place, no_sizes};
@@ -9,14 +9,14 @@ ghost use Rattle.zt_index.specs.Chains.{IsNext, bucket_at};
 ghost use Rattle.zt_index.specs.ProofsOnly.Chains.{is_in};
 ghost use Rattle.zt_index.specs.Criteria.{is_at, is_below, is_by, is_for, is_on, names, objects_where, waits_where};
 ghost use Rattle.zt_index.specs.IndexInvariant.{HasBuckets, IsIndexed, IsRoomy, bucket_below, bucket_by, bucket_for, bucket_of, bucket_on, handle_bucket, held_bucket, koid_bucket};
-ghost use Rattle.zt_index.specs.ProofsOnly.IndexInvariant.{index_below, row_chains_in, index_with, meets_criterion};
+ghost use Rattle.zt_index.specs.ProofsOnly.IndexInvariant.{index_below, index_with, meets_criterion};
 
 use crate::chains::{BUCKETS, Chains, MOST_ITEMS};
 use std::alloc::{AllocError, Global};
 use std::marker::Model;
 use zt_bits::Kind;
 use zt_cells::Cells;
-use zt_rows::{HandleValue, Held, Koid, Life, ObjectRow, Row, RowKey, Wait};
+use zt_rows::{HandleValue, Held, Koid, ObjectRow, Row, RowKey, Wait};
 
 /// What waits, or live jobs and processes, are looked for by.
 #[derive(Clone, Copy, Debug)]
@@ -50,13 +50,26 @@ impl Criterion {
 
 /// The waits by their handles, by their ports, by the objects that their handles name and by their processes; and the
 /// live jobs and processes by their parents.
-#[derive(Drop)]
 struct RowChains {
     pub handles: Chains,
     pub ports: Chains,
     pub objects: Chains,
     pub processes: Chains,
     pub parents: Chains,
+}
+
+/// Lets all chains go in one call, so that a function that owns an index is proved without going through them at each of its
+/// ways out.
+impl Drop for RowChains {
+    fn drop(self) {
+        let RowChains {
+            handles: _handles,
+            ports: _ports,
+            objects: _objects,
+            processes: _processes,
+            parents: _parents,
+        } = self;
+    }
 }
 
 impl RowChains {
@@ -127,9 +140,11 @@ impl RowChains {
         ensures { IsIndexed (record { state = put cells.now.state key (option_copied row.entry); sizes = cells.now.sizes }) self.new }
     {
         match key {
-            RowKey::Wait(number) => self.set(cells, number, wait_in(row)),
-            RowKey::Entry(process, handle) => self.rename(cells, process, handle, held_in(row)),
-            RowKey::Object(koid) => self.set_below(koid, object_in(row)),
+            RowKey::Wait(number) => self.set(cells, number, Row::as_wait(row)),
+            RowKey::Entry(process, handle) => {
+                self.rename(cells, process, handle, Row::as_entry(row));
+            }
+            RowKey::Object(koid) => self.set_below(koid, Row::as_object(row).copied()),
             _ => {}
         }
     }
@@ -193,79 +208,18 @@ impl RowChains {
     }
 }
 
-/// The chains, which a caller drops by one call: who owns a store drops its fields one after another, but an enum's at once.
-#[derive(Drop)]
-enum OwnedChains {
-    Whole(RowChains),
-}
-
-impl OwnedChains {
-    /// No waits and no objects. It takes no memory.
-    pub fn new(alloc: Global) -> OwnedChains
-        ensures handles { length (row_chains_in result).handles ≡ 0 }
-        ensures ports { length (row_chains_in result).ports ≡ 0 }
-        ensures objects { length (row_chains_in result).objects ≡ 0 }
-        ensures processes { length (row_chains_in result).processes ≡ 0 }
-        ensures parents { length (row_chains_in result).parents ≡ 0 }
-    {
-        OwnedChains::Whole(RowChains::new(alloc))
-    }
-
-    /// Makes room for the wait or the object under the key, if it is one of those.
-    #[inline(always)]
-    pub fn grow_for(&mut self, key: RowKey) -> Result<(), AllocError>
-        ensures same { (s : CellsView) → IsIndexed s (row_chains_in self.old) → IsIndexed s (row_chains_in self.new) }
-        ensures made { OnOk result (HasBuckets key (row_chains_in self.new)) }
-    {
-        match self {
-            OwnedChains::Whole(row_chains) => row_chains.grow_for(key),
-        }
-    }
-
-    /// Follows the exchange of a row with what stands under the key, ahead of it. It takes no memory.
-    #[inline(always)]
-    pub fn follow(&mut self, cells: &Cells, key: RowKey, row: Option<&Row>)
-        requires placed { has_place cells.now.sizes key ≡ true }
-        requires indexed { IsIndexed cells.now (row_chains_in self.old) }
-        ensures { IsIndexed (record { state = put cells.now.state key (option_copied row.entry); sizes = cells.now.sizes }) (row_chains_in self.new) }
-    {
-        match self {
-            OwnedChains::Whole(row_chains) => row_chains.follow(cells, key, row),
-        }
-    }
-
-    /// The chains.
-    pub fn row_chains(&self) -> &RowChains
-        ensures { result.now ≡ row_chains_in self.now }
-    {
-        match self {
-            OwnedChains::Whole(row_chains) => row_chains,
-        }
-    }
-
-    /// An equal index in memory of its own.
-    pub fn copy(&self) -> Result<OwnedChains, AllocError>
-        ensures { IfOk result (λ copied. copied ≡ self.now) }
-    {
-        match self {
-            OwnedChains::Whole(row_chains) => Ok(OwnedChains::Whole(row_chains.copy()?)),
-        }
-    }
-}
-
 /// The buckets of the waits and of the live jobs and processes, by which they are found without memory.
 #[derive(Drop)]
 pub struct Index {
-    chains: OwnedChains,
+    chains: RowChains,
 }
 
 impl Model for Index {
-    ghost use Rattle.zt_index.specs.ProofsOnly.IndexInvariant.{row_chains_in};
     ghost use Rattle.zt_index.specs.declared.index.RowChains.{RowChains};
 
     ghost Value = { RowChains };
 
-    ghost view = { λ i. row_chains_in i.chains };
+    ghost view = { λ i. i.chains };
 }
 
 impl Index {
@@ -274,7 +228,7 @@ impl Index {
         ensures { IsIndexed (record { state = hollow; sizes = no_sizes }) result }
     {
         Index {
-            chains: OwnedChains::new(alloc),
+            chains: RowChains::new(alloc),
         }
     }
 
@@ -309,8 +263,7 @@ impl Index {
         requires { IsIndexed cells.now self.now }
         ensures { IsNext (waits_where cells.now.state (is_on process handle)) low result }
     {
-        let row_chains = self.chains.row_chains();
-        next_on(cells, &row_chains.handles, process, handle, low)
+        next_on(cells, &self.chains.handles, process, handle, low)
     }
 
     /// The least number above the low one, or of all, of a wait for the port. It takes no memory, and looks at waits
@@ -320,8 +273,7 @@ impl Index {
         ensures { IsNext (waits_where cells.now.state (is_for port)) low result }
     {
         let bucket = koid_bucket(port);
-        let row_chains = self.chains.row_chains();
-        next_by_criterion(cells, &row_chains.ports, bucket, Criterion::For(port), low)
+        next_by_criterion(cells, &self.chains.ports, bucket, Criterion::For(port), low)
     }
 
     /// The least number above the low one, or of all, of a wait on a handle that names the object. It takes no memory,
@@ -331,8 +283,13 @@ impl Index {
         ensures { IsNext (waits_where cells.now.state (is_at cells.now.state koid)) low result }
     {
         let bucket = koid_bucket(koid);
-        let row_chains = self.chains.row_chains();
-        next_by_criterion(cells, &row_chains.objects, bucket, Criterion::At(koid), low)
+        next_by_criterion(
+            cells,
+            &self.chains.objects,
+            bucket,
+            Criterion::At(koid),
+            low,
+        )
     }
 
     /// The least number above the low one, or of all, of a wait that the process made. It takes no memory, and looks at
@@ -342,10 +299,9 @@ impl Index {
         ensures { IsNext (waits_where cells.now.state (is_by process)) low result }
     {
         let bucket = koid_bucket(process);
-        let row_chains = self.chains.row_chains();
         next_by_criterion(
             cells,
-            &row_chains.processes,
+            &self.chains.processes,
             bucket,
             Criterion::By(process),
             low,
@@ -359,7 +315,7 @@ impl Index {
         ensures { IsNext (objects_where cells.now.state (is_below parent)) low result }
     {
         let bucket = koid_bucket(parent);
-        let chain = &self.chains.row_chains().parents;
+        let chain = &self.chains.parents;
         let low = low.map(|koid| koid.0);
         let found = next_by_criterion(cells, chain, bucket, Criterion::Below(parent), low)?;
         Some(Koid(found))
@@ -412,36 +368,6 @@ fn next_on(
 {
     let waits = handle_bucket(process, handle);
     next_by_criterion(cells, handles, waits, Criterion::On(process, handle), low)
-}
-
-/// The wait that the row is.
-fn wait_in(row: Option<&Row>) -> Option<Wait>
-    ensures { result ≡ as_wait (option_copied row.entry) }
-{
-    match row {
-        Some(Row::Wait(wait)) => Some(*wait),
-        _ => None,
-    }
-}
-
-/// The object that the row is.
-fn object_in(row: Option<&Row>) -> Option<ObjectRow>
-    ensures { result ≡ as_object (option_copied row.entry) }
-{
-    match row {
-        Some(Row::Object(object)) => Some(*object),
-        _ => None,
-    }
-}
-
-/// The entry that the row is.
-fn held_in(row: Option<&Row>) -> Option<Held>
-    ensures { result ≡ as_entry (option_copied row.entry) }
-{
-    match row {
-        Some(Row::Entry(held)) => Some(*held),
-        _ => None,
-    }
 }
 
 /// How far the buckets of one process's handles lie from those of the next: odd, and near the golden section of the buckets, so
@@ -505,16 +431,9 @@ fn bucket_below(object: &Option<ObjectRow>) -> Option<u64>
     ensures few { IfSome result (λ b. b < 2 ^ 13) }
 {
     match object {
-        Some(object) if is_task(object) => Some(koid_bucket(object.link)),
+        Some(object) if object.is_live_task() => Some(koid_bucket(object.link)),
         _ => None,
     }
-}
-
-/// Whether it is a live job or process.
-fn is_task(object: &ObjectRow) -> bool
-    ensures { result ≡ (is_live_job object.now || is_live_process object.now) }
-{
-    object.life == Life::Live && (object.kind == Kind::Job || object.kind == Kind::Process)
 }
 
 /// The bucket of what the wait's handle names.
@@ -594,7 +513,7 @@ fn is_below(object: &Option<ObjectRow>, parent: Koid) -> bool
     ensures { result ≡ option_map_or (is_below parent) object.now false }
 {
     match object {
-        Some(object) => is_task(object) && object.link == parent,
+        Some(object) => object.is_live_task() && object.link == parent,
         None => false,
     }
 }

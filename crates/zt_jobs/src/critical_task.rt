@@ -15,7 +15,7 @@ pub fn set_critical(step: &mut Step, process: Koid, job: Koid) -> Result<(), All
     ensures err { OnErr result (AsBegun step.old step.new) }
     ensures kept { Keeps step.old.places step.new.places }
 {
-    let Some(object) = step.object(process) else {
+    let Some(object) = step.store().object(process) else {
         return Ok(());
     };
     let bound = ObjectRow {

@@ -61,7 +61,7 @@ fn take_entry(
     ensures ok { OnOk result (step.new.current
         ≡ left_behind (without_tables (only process)) step.old.current (key_variant.Entry process value)) }
 {
-    let Some(held) = step.entry(process, value) else {
+    let Some(held) = step.store().entry(process, value) else {
         return Ok(());
     };
     taken.push(held)?;
@@ -73,6 +73,6 @@ fn take_entry(
 fn next_value(step: &Step, process: Koid, low: u32) -> Option<u32>
     ensures { IsNextRow step.now.current (λ h. key_variant.Entry process h) low result }
 {
-    let value = step.handle_of(process, Some(HandleValue(low)))?;
+    let value = step.store().handle_of(process, Some(HandleValue(low)))?;
     Some(value.0)
 }

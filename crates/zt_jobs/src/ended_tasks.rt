@@ -134,7 +134,7 @@ fn end_task(step: &mut Step, koid: Koid, how: Life) -> Result<(), AllocError>
     ensures ahead { IsAhead step.old step.new }
     ensures ok { OnOk result (step.new.current ≡ left_behind (with_end (only koid) how) step.old.current (key_variant.Object koid)) }
 {
-    let Some(object) = step.object(koid) else {
+    let Some(object) = step.store().object(koid) else {
         return Ok(());
     };
     let ended = ObjectRow {
@@ -151,7 +151,7 @@ fn set_life(step: &mut Step, koid: Koid, how: Life) -> Result<(), AllocError>
     ensures ahead { IsAhead step.old step.new }
     ensures ok { OnOk result (step.new.current ≡ left_behind (with_life koid how) step.old.current (key_variant.Object koid)) }
 {
-    let Some(object) = step.object(koid) else {
+    let Some(object) = step.store().object(koid) else {
         return Ok(());
     };
     let ended = ObjectRow {

@@ -26,9 +26,9 @@ fn drop_waits_by(step: &mut Step, process: Koid) -> Result<(), AllocError>
     ensures ahead { IsAhead step.old step.new }
     ensures ok { OnOk result (step.new.current ≡ change (without_waits (only process)) step.old.current) }
 {
-    let mut next = step.wait_by(process, None);
+    let mut next = step.store().wait_by(process, None);
     'waits: while let Some(number) = next {
-        next = step.wait_by(process, next);
+        next = step.store().wait_by(process, next);
         step.put(RowKey::Wait(number), None)?;
     }
     Ok(())

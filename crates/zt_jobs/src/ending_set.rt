@@ -93,7 +93,7 @@ fn add_below(
         return Ok(());
     }
     let mut low = None;
-    'tasks: while let Some(task) = step.task_below(parent, low) {
+    'tasks: while let Some(task) = step.store().task_below(parent, low) {
         note(task, known, waiting)?;
         low = Some(task);
     }

@@ -49,7 +49,7 @@ fn make(step: &mut Step, object: ObjectRow) -> Result<Koid, AllocError>
     ensures err { OnErr result (AsBegun step.old step.new) }
     ensures kept { Keeps step.old.places step.new.places }
 {
-    let counters = step.counters();
+    let counters = step.store().counters();
     let koid = counters.next_koid;
     let raised = Counters {
         next_koid: Koid(koid.0 + 1),

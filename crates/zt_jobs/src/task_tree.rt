@@ -58,7 +58,7 @@ fn has_above(step: &Step, koid: Koid, job: Koid) -> bool
 pub(crate) fn is_live_task(step: &Step, koid: Koid) -> bool
     ensures { result ≡ is_live_task (object step.now.current koid) }
 {
-    match step.object(koid) {
+    match step.store().object(koid) {
         Some(object) => {
             object.life == Life::Live && (object.kind == Kind::Job || object.kind == Kind::Process)
         }
@@ -70,7 +70,7 @@ pub(crate) fn is_live_task(step: &Step, koid: Koid) -> bool
 pub(crate) fn link_of(step: &Step, koid: Koid) -> Koid
     ensures { result ≡ link_at step.now.current koid }
 {
-    match step.object(koid) {
+    match step.store().object(koid) {
         Some(object) => object.link,
         None => Koid(0),
     }
@@ -80,7 +80,7 @@ pub(crate) fn link_of(step: &Step, koid: Koid) -> Koid
 pub(crate) fn critical_of(step: &Step, koid: Koid) -> Koid
     ensures { result ≡ critical_at step.now.current koid }
 {
-    match step.object(koid) {
+    match step.store().object(koid) {
         Some(object) => object.critical,
         None => Koid(0),
     }

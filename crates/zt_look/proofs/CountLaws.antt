@@ -24,7 +24,9 @@ use Rattle.zt_rows.specs.declared.calls.Call.{Call}
 use Rattle.zt_rows.specs.declared.calls.Reply.{Reply}
 use Rattle.zt_history.specs.Tree.{Made, made_at, call_at, reply_at}
 use Rattle.zt_look.specs.declared.call_counts.CallCount.{CallCount}
-use Rattle.zt_look.specs.CallCounts.{AreCallCounts, AreCountsInOrder, CountsBefore, IsCallCount, answers, is_answered, is_count_of, made_along, status_number, status_of}
+use Rattle.zt_bits.specs.Words.{status_number}
+use Rattle.zt_rows.specs.Tests.{status_of}
+use Rattle.zt_look.specs.CallCounts.{AreCallCounts, AreCountsInOrder, CountsBefore, IsCallCount, answers, is_answered, is_count_of, made_along}
 use Rattle.zt_look.specs.ProofsOnly.CountedCalls.{AreCallsCounted, answer_cmp, answer_of, count_told, counted, has_answer, status_at}
 
 -- ---- the order of answers

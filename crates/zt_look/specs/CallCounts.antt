@@ -2,36 +2,12 @@
 use Rattle.std.specs.Prelude.{◌≡◌, ◌⊎◌, ℕ, ◌<◌, Bool, true, ◌==◌, ◌&&◌, ⊤, List, [], ◌∷◌, count_by}
 use Rattle.std.specs.List.{AllByRecursion, filter_map, list_any}
 use Rattle.zt_bits.specs.declared.statuses.Status.{Status}
-use Rattle.zt_bits.specs.declared.statuses.Status.TheVariants as status
-use Rattle.zt_rows.specs.declared.calls.Reply.{Reply}
-use Rattle.zt_rows.specs.declared.calls.Reply.TheVariants as reply
+use Rattle.zt_bits.specs.Words.{status_number}
+use Rattle.zt_rows.specs.Tests.{status_of}
 use Rattle.zt_history.specs.Tree.{Made, made_at}
 use Rattle.zt_look.specs.declared.call_counts.CallCount.{CallCount}
 
 -- ---- one answer
-
--- the place of a status in their list
-abbrev pub status_number : Status → ℕ
-status_number status.Ok = 0
-status_number status.BadHandle = 1
-status_number status.WrongType = 2
-status_number status.AccessDenied = 3
-status_number status.InvalidArgs = 4
-status_number status.NotSupported = 5
-status_number status.PeerClosed = 6
-status_number status.ShouldWait = 7
-status_number status.BufferTooSmall = 8
-status_number status.TimedOut = 9
-status_number status.BadState = 10
-status_number status.OutOfRange = 11
-status_number status.NotFound = 12
-status_number status.AlreadyBound = 13
-
--- the status that a reply has: what answers with more than a status went well, but where the message was too long
-abbrev pub status_of : Reply → Status
-status_of (reply.Status s) = s
-status_of (reply.TooSmall _ _) = status.BufferTooSmall
-status_of _ = status.Ok
 
 -- a call of the process that was answered with the status
 abbrev pub is_answered : ℕ → Status → Made → Bool

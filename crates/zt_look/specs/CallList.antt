@@ -8,8 +8,7 @@ use Rattle.zt_rows.specs.declared.calls.Reply.TheVariants as reply
 use Rattle.zt_rows.specs.declared.keys.RowKey.{RowKey}
 use Rattle.zt_rows.specs.declared.keys.RowKey.TheVariants as key
 use Rattle.zt_rows.specs.declared.refusals.Refusal.{Refusal}
-use Rattle.zt_rows.specs.declared.rows.Row.{Row}
-use Rattle.zt_rows.specs.declared.rows.Row.TheVariants as rows
+use Rattle.zt_rows.specs.Reads.{names}
 use Rattle.zt_history.specs.HistoryRefusals.{moment_on, ◌>>=◌}
 use Rattle.zt_history.specs.Tree.{Made, Tree, made_at, path}
 use Rattle.zt_look.specs.declared.call_list.CallFilter.{CallFilter}
@@ -35,12 +34,6 @@ is_of x (key.Entry y h) = y == x
 is_of x (key.Msg y n) = y == x
 is_of x (key.Packet y n) = y == x
 is_of x _ = false
-
--- the row of a handle that names the object, or of a message with such a handle
-abbrev pub names : ℕ → Option Row → Bool
-names x (Some (rows.Entry held)) = held.koid == x
-names x (Some (rows.Msg m)) = list_any (λ held. held.koid == x) m.handles
-names x _ = false
 
 -- the row is the object's, or before or after the call that of a handle that names it
 abbrev pub touches : ℕ → Change → Bool

@@ -3,14 +3,15 @@ ghost use Rattle.std.specs.BTreeMap.{get, IsOrdered};
 ghost use Rattle.std.specs.Option.{unwrap_or};
 ghost use Rattle.std.specs.Ordering.{is_eq};
 ghost use Rattle.zt_history.specs.Tree.{Made};
-ghost use Rattle.zt_look.specs.CallCounts.{AreCallCounts, made_along, status_number, status_of};
+ghost use Rattle.zt_bits.specs.Words.{status_number};
+ghost use Rattle.zt_look.specs.CallCounts.{AreCallCounts, made_along};
 ghost use Rattle.zt_look.specs.ProofsOnly.CountedCalls.{AreCallsCounted, answer_cmp, count_told, status_at};
 
 use std::alloc::{AllocError, Global};
 use std::collections::BTreeMap;
 use zt_bits::Status;
 use zt_history::History;
-use zt_rows::{Koid, Moment, Reply};
+use zt_rows::{Koid, Moment};
 
 /// How often the calls of a process were answered with a status.
 #[derive(Clone, Copy)]
@@ -61,7 +62,7 @@ fn count_call(
 {
     match history.call_of(moment) {
         Some(caller) => match history.reply_of(moment) {
-            Some(reply) => count_one(counts, caller.0, status_of(reply)),
+            Some(reply) => count_one(counts, caller.0, reply.status()),
             None => Ok(()),
         },
         None => Ok(()),
@@ -78,7 +79,7 @@ fn count_one(
         ≡ (if is_eq (answer_cmp (process, status_number status) k)
         then Some (unwrap_or (get answer_cmp counts.old (process, status_number status)) 0 + 1) else get answer_cmp counts.old k)) }
 {
-    let key = (process.0, status_number(status));
+    let key = (process.0, status.number());
     let count = match counts.get(&key) {
         Some(count) => *count,
         None => 0,
@@ -104,39 +105,6 @@ fn listed(alloc: Global, counts: BTreeMap<(u64, u8), u64>) -> Result<Vec<CallCou
         })?;
     }
     Ok(list)
-}
-
-/// The status that a reply has.
-fn status_of(reply: &Reply) -> Status
-    ensures { result ≡ status_of reply.now }
-{
-    match reply {
-        Reply::Status(status) => *status,
-        Reply::TooSmall(_, _) => Status::BufferTooSmall,
-        _ => Status::Ok,
-    }
-}
-
-/// The place of a status in their list.
-fn status_number(status: Status) -> u8
-    ensures { result ≡ status_number status }
-{
-    match status {
-        Status::Ok => 0,
-        Status::BadHandle => 1,
-        Status::WrongType => 2,
-        Status::AccessDenied => 3,
-        Status::InvalidArgs => 4,
-        Status::NotSupported => 5,
-        Status::PeerClosed => 6,
-        Status::ShouldWait => 7,
-        Status::BufferTooSmall => 8,
-        Status::TimedOut => 9,
-        Status::BadState => 10,
-        Status::OutOfRange => 11,
-        Status::NotFound => 12,
-        Status::AlreadyBound => 13,
-    }
 }
 
 /// The status of this place; of a later one the last.

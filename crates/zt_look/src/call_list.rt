@@ -1,19 +1,19 @@
-ghost use Rattle.std.specs.Prelude.{◌≡◌, ◌⊎◌, ◌==◌, ◌++◌, ◌∷◌, [], map, if◌then◌else◌, None, Ok, IfOk, IfErr, OnOk, OnErr};
+ghost use Rattle.std.specs.Prelude.{◌≡◌, ◌⊎◌, ◌++◌, ◌∷◌, [], map, if◌then◌else◌, None, Ok, IfOk, IfErr, OnOk, OnErr};
 ghost use Rattle.std.specs.List.{list_any};
 ghost use Rattle.zt_history.specs.HistoryRefusals.{IsHistoryRefusal, moment_on};
 ghost use Rattle.zt_history.specs.Timeline.{moved_to, IsPath};
 ghost use Rattle.zt_history.specs.Tree.{end_of};
-ghost use Rattle.zt_look.specs.CallList.{calls_on, asked_among, is_asked, is_within, is_failed, is_by, is_about, touched, touches, is_of, names, if_object, StandsFor};
+ghost use Rattle.zt_rows.specs.Reads.{names};
+ghost use Rattle.zt_look.specs.CallList.{calls_on, asked_among, is_asked, is_within, is_failed, is_by, is_about, touched, touches, is_of, if_object, StandsFor};
 ghost use Rattle.zt_look.specs.ProofsOnly.RecordSides.{change_under, row_before};
 ghost use Rattle.zt_rows.specs.State.{row};
-ghost use Rattle.std.specs.Option.{option_copied};
 
 use crate::changes::row_before;
 use crate::limits::limits;
 use std::alloc::{AllocError, Global};
 use zt_bits::Status;
 use zt_history::History;
-use zt_rows::{Call, Held, Koid, Moment, Refusal, Reply, Row, RowKey};
+use zt_rows::{Call, Koid, Moment, Refusal, Reply, Row, RowKey};
 use zt_store::{Record, Store};
 
 /// A call that was made: at which moment, by which process, and what it answered.
@@ -302,14 +302,14 @@ fn touches(kept: &Record, store: &Store, key: &RowKey, koid: Koid) -> bool
 fn names_before(kept: &Record, store: &Store, key: &RowKey, koid: Koid) -> bool
     ensures { result ≡ names koid (row_before kept.now key.now (row store.now.state key.now)) }
 {
-    names(koid, row_before(kept, *key, store.row(*key)))
+    Row::names(row_before(kept, *key, store.row(*key)), koid)
 }
 
 /// Whether the row under the key after the call is that of a handle that names the object.
 fn names_after(store: &Store, key: &RowKey, koid: Koid) -> bool
     ensures { result ≡ names koid (row store.now.state key.now) }
 {
-    names(koid, store.row(*key))
+    Row::names(store.row(*key), koid)
 }
 
 /// Whether the key is that of the object or of what it owns.
@@ -323,27 +323,4 @@ fn is_of(koid: Koid, key: &RowKey) -> bool
         RowKey::Packet(owner, _) => *owner == koid,
         _ => false,
     }
-}
-
-/// Whether the row is that of a handle that names the object, or of a message with one.
-fn names(koid: Koid, row: Option<&Row>) -> bool
-    ensures { result ≡ names koid (option_copied row.entry) }
-{
-    match row {
-        Some(Row::Entry(held)) => held.koid == koid,
-        Some(Row::Msg(message)) => any_names(koid, message.handles().as_slice()),
-        _ => false,
-    }
-}
-
-/// Whether one of the handles names the object.
-fn any_names(koid: Koid, handles: &[Held]) -> bool
-    ensures { result ≡ list_any (λ held. held.koid == koid) handles.now }
-{
-    for held in handles {
-        if held.koid == koid {
-            return true;
-        }
-    }
-    false
 }

@@ -1,7 +1,6 @@
 ghost use Rattle.std.specs.Prelude.{◌≡◌, ◌⊎◌, ◌++◌, ◌∷◌, [], ◌||◌, ◌<◌, ◌≤◌, nat_le, nat_lt, position, ℕ, true, length, map, drop, Ok, IfOk, IfErr, IfSome, OnOk, OnErr};
 ghost use Rattle.std.specs.BTreeSet.{contains, IsOrdered};
 ghost use Rattle.std.specs.List.{flat_map, list_any, position_or_len};
-ghost use Rattle.std.specs.Option.{option_copied};
 ghost use Rattle.std.specs.Ordering.{nat_cmp};
 ghost use Rattle.zt_history.specs.HistoryRefusals.{IsHistoryRefusal, moment_on};
 ghost use Rattle.zt_history.specs.Timeline.{moved_to, IsPath};
@@ -10,7 +9,7 @@ ghost use Rattle.zt_look.specs.EventList.{AreEvents, between, is_asked, up_to};
 ghost use Rattle.zt_look.specs.ProofsOnly.EventsSoFar.{AddsMoment, AreLeaked, event_shown, events_shown, is_object, kind_shown, object_over, shows, change_over};
 ghost use Rattle.zt_look.specs.ProofsOnly.UnleakedSet.{IsUnleakedSet};
 ghost use Rattle.zt_history.specs.RowHappenings.{is_cut_off};
-ghost use Rattle.zt_rows.specs.Reads.{as_object, is_live, on_object};
+ghost use Rattle.zt_rows.specs.Reads.{is_live, on_object};
 
 use crate::limits::limits;
 use crate::unleaked_set::{back_over, unleaked_at};
@@ -349,18 +348,8 @@ fn object_over(kept: &Record, store: &Store, koid: Koid) -> Option<ObjectRow>
     ensures { result ≡ object_over kept.now store.now.state koid }
 {
     match kept.held(RowKey::Object(koid)) {
-        Some(held) => as_object(held),
+        Some(held) => Row::as_object(held).copied(),
         None => store.object(koid),
-    }
-}
-
-/// The object of the row, if it is one.
-fn as_object(row: Option<&Row>) -> Option<ObjectRow>
-    ensures { result ≡ as_object (option_copied row.entry) }
-{
-    match row {
-        Some(Row::Object(found)) => Some(*found),
-        _ => None,
     }
 }
 

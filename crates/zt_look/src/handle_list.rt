@@ -11,7 +11,7 @@ use crate::limits::limits;
 use std::alloc::{AllocError, Global};
 use zt_bits::{Kind, Rights};
 use zt_history::History;
-use zt_rows::{HandleValue, Held, Koid, Life, Refusal};
+use zt_rows::{HandleValue, Held, Koid, Refusal};
 use zt_store::Store;
 
 /// A handle of a process: its value, the object that it names, and what it allows with it.
@@ -45,7 +45,7 @@ fn runs(store: &Store, process: Koid) -> bool
     ensures { result ≡ runs store.now.state process }
 {
     match store.object(process) {
-        Some(object) => object.kind == Kind::Process && object.life == Life::Live,
+        Some(object) => object.is_live_process(),
         None => false,
     }
 }

@@ -1,10 +1,10 @@
-ghost use Rattle.std.specs.Prelude.{◌≡◌, ◌⊎◌, ◌++◌, ◌∷◌, [], ℕ, map, reverse, if◌then◌else◌, Some, Ok, IfOk, IfErr, OnOk, OnErr};
+ghost use Rattle.std.specs.Prelude.{◌≡◌, ◌⊎◌, ◌++◌, ℕ, map, reverse, if◌then◌else◌, Some, Ok, IfOk, IfErr, OnOk, OnErr};
 ghost use Rattle.std.specs.BTreeMap.{get};
 ghost use Rattle.std.specs.List.{filter_map};
 ghost use Rattle.std.specs.Option.{option_copied, option_map};
 ghost use Rattle.std.specs.Ordering.{nat_cmp};
 ghost use Rattle.zt_rows.specs.declared.refusals.Refusal.TheVariants as refusal;
-ghost use Rattle.zt_rows.specs.Reads.{as_message, as_entry, entry};
+ghost use Rattle.zt_rows.specs.Reads.{entry};
 ghost use Rattle.zt_rows.specs.State.{row};
 ghost use Rattle.zt_history.specs.HistoryRefusals.{moment_on};
 ghost use Rattle.zt_history.specs.Timeline.{moved_to, IsPath};
@@ -199,24 +199,14 @@ fn coming<'a>(
     let before = row_before(kept, *key, after);
     match key {
         RowKey::Msg(owner, number) => {
-            if *owner != koid || message_in(before).is_some() {
+            if *owner != koid || Row::as_message(before).is_some() {
                 return None;
             }
-            match message_in(after) {
+            match Row::as_message(after) {
                 Some(message) => Some((*number, message)),
                 None => None,
             }
         }
-        _ => None,
-    }
-}
-
-/// The message of the row, if it is one.
-fn message_in(row: Option<&Row>) -> Option<&Message>
-    ensures { option_copied result ≡ as_message (option_copied row.entry) }
-{
-    match row {
-        Some(Row::Msg(message)) => Some(message),
         _ => None,
     }
 }
@@ -265,7 +255,10 @@ fn going(kept: &Record, store: &Store, key: &RowKey, koid: Koid) -> Option<u64>
     let before = row_before(kept, *key, after);
     match key {
         RowKey::Msg(owner, number) => {
-            if *owner == koid && message_in(before).is_some() && message_in(after).is_none() {
+            if *owner == koid
+                && Row::as_message(before).is_some()
+                && Row::as_message(after).is_none()
+            {
                 Some(*number)
             } else {
                 None
@@ -317,7 +310,7 @@ fn reads_at(history: &History, process: Koid, call: &Call, koid: Koid) -> bool
 fn entry_before(history: &History, process: Koid, handle: HandleValue) -> Option<Held>
     ensures { result ≡ entry (state_at history.now.tree.made (parent_at history.now.tree.made history.now.position)) process handle }
 {
-    entry_in(row_before_call(history, &RowKey::Entry(process, handle)))
+    Row::as_entry(row_before_call(history, &RowKey::Entry(process, handle)))
 }
 
 /// The row that stood under the key before the call of the position.
@@ -329,16 +322,6 @@ fn row_before_call<'a>(history: &'a History, key: &RowKey) -> Option<&'a Row>
     match history.record_of(history.position()) {
         Some(kept) => row_before(kept, *key, after),
         None => after,
-    }
-}
-
-/// What the row holds, if it is that of a handle.
-fn entry_in(row: Option<&Row>) -> Option<Held>
-    ensures { result ≡ as_entry (option_copied row.entry) }
-{
-    match row {
-        Some(Row::Entry(held)) => Some(*held),
-        _ => None,
     }
 }
 

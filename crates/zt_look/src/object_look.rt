@@ -87,9 +87,9 @@ fn times_of(alloc: Global, history: &History, koid: Koid) -> Result<ObjectTimes,
     ensures refused { IfErr result (λ refusal. refusal ≡ Refusal.OutOfMemory) }
 {
     let at = history.position();
-    let made = made(alloc, history, at, koid)?;
-    let ended = ended(alloc, history, at, koid)?;
-    let peer_closed = peer_closed(alloc, history, at, koid)?;
+    let made = made(history, at, koid)?;
+    let ended = ended(history, at, koid)?;
+    let peer_closed = peer_closed(history, at, koid)?;
     let leaked = leaked_since(alloc, history, at, koid)?;
     Ok(ObjectTimes {
         made,

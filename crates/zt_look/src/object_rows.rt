@@ -146,46 +146,34 @@ fn waits_behind(store: &Store, koid: Koid, next: NextWaits, number: u64) -> Next
 {
     NextWaits {
         low: Some(number),
-        by_port: by_port_behind(store, koid, next.low, next.by_port, number),
-        by_handle: by_handle_behind(store, koid, next.low, next.by_handle, number),
+        by_port: by_port_behind(store, koid, next, number),
+        by_handle: by_handle_behind(store, koid, next, number),
     }
 }
 
 /// The least wait for a port behind this number, where this was the least behind a lower one.
-fn by_port_behind(
-    store: &Store,
-    koid: Koid,
-    _low: Option<u64>,
-    found: Option<u64>,
-    number: u64,
-) -> Option<u64>
-    requires next { IsNext (waits_where store.now.state (is_for koid)) _low found }
-    requires above { IsBehind (λ a b. a < b) _low number }
-    requires least { IfSome found (λ n. number ≤ n) }
+fn by_port_behind(store: &Store, koid: Koid, next: NextWaits, number: u64) -> Option<u64>
+    requires next { IsNext (waits_where store.now.state (is_for koid)) next.low next.by_port }
+    requires above { IsBehind (λ a b. a < b) next.low number }
+    requires least { IfSome next.by_port (λ n. number ≤ n) }
     ensures { IsNext (waits_where store.now.state (is_for koid)) (Some number) result }
 {
-    match found {
+    match next.by_port {
         Some(wait) if wait == number => store.wait_for(koid, Some(number)),
-        _ => found,
+        found => found,
     }
 }
 
 /// The least wait on a handle that names the object behind this number, where this was the least behind a lower one.
-fn by_handle_behind(
-    store: &Store,
-    koid: Koid,
-    _low: Option<u64>,
-    found: Option<u64>,
-    number: u64,
-) -> Option<u64>
-    requires next { IsNext (waits_where store.now.state (is_at store.now.state koid)) _low found }
-    requires above { IsBehind (λ a b. a < b) _low number }
-    requires least { IfSome found (λ n. number ≤ n) }
+fn by_handle_behind(store: &Store, koid: Koid, next: NextWaits, number: u64) -> Option<u64>
+    requires next { IsNext (waits_where store.now.state (is_at store.now.state koid)) next.low next.by_handle }
+    requires above { IsBehind (λ a b. a < b) next.low number }
+    requires least { IfSome next.by_handle (λ n. number ≤ n) }
     ensures { IsNext (waits_where store.now.state (is_at store.now.state koid)) (Some number) result }
 {
-    match found {
+    match next.by_handle {
         Some(wait) if wait == number => store.wait_at(koid, Some(number)),
-        _ => found,
+        found => found,
     }
 }
 

@@ -1,20 +1,17 @@
 //! The search for what is unleaked: a set of koids grows by what rows name, each koid that comes into it is looked into once.
-ghost use Rattle.std.specs.Prelude.{◌≡◌, ◌≤◌, ◌<◌, ℕ, true, not, ◌&&◌, ◌||◌, Some, OnOk, IfOk, length, [], List};
+ghost use Rattle.std.specs.Prelude.{◌≡◌, ℕ, true, not, ◌&&◌, ◌||◌, OnOk, IfOk, []};
 ghost use Rattle.std.specs.Ordering.{nat_cmp};
 ghost use Rattle.std.specs.BTreeSet.{contains, IsOrdered};
 ghost use Rattle.zt_rows.specs.declared.keys.RowKey.TheVariants as keys;
 ghost use Rattle.zt_rows.specs.Keys.{first_number};
 ghost use Rattle.zt_rows.specs.Consistent.{IsConsistent};
 ghost use Rattle.zt_rows.specs.Reads.{message, object};
-ghost use Rattle.zt_rows.specs.State.{State};
-ghost use Rattle.zt_rows.specs.Tests.{among, is_task, next_at};
-ghost use Rattle.zt_rows.specs.Reads.{is_live_process};
+ghost use Rattle.zt_rows.specs.Tests.{among, next_at};
 ghost use Rattle.zt_look.specs.ProofsOnly.UnleakedSearch.{Adds, AreBetween, AreThere, IsNamedAt, IsNamedBy, IsNamedHere, IsOpen, IsSearched, IsSeeded, WaitInside, begun_by, in_set, is_gone, is_gone_at, is_there_after, itself, koid_of, koids, koids_in, named_by, parents};
 
 use std::alloc::{AllocError, Global};
 use std::collections::BTreeSet;
-use zt_bits::Kind;
-use zt_rows::{Held, Koid, Life, ObjectRow, ROOT_JOB, RowKey};
+use zt_rows::{Held, Koid, ObjectRow, RowKey};
 use zt_store::{Record, Store};
 
 /// The set as far as it is known, those in it that were not looked into, and those that came into it and are there after
@@ -129,7 +126,7 @@ fn add_itself(
 {
     match object {
         Some(object) => {
-            if koid == ROOT_JOB || is_live_process(&object) {
+            if object.keeps_itself(koid) {
                 add(search, kept, koid)
             } else {
                 Ok(())
@@ -175,7 +172,7 @@ fn add_parent(
 {
     match object {
         Some(object) => {
-            if is_task(&object) && object.link != Koid(0) {
+            if object.is_task() && object.link != Koid(0) {
                 add(search, kept, object.link)
             } else {
                 Ok(())
@@ -294,20 +291,6 @@ fn is_there_after(kept: &Record, koid: Koid) -> bool
         Some(None) => false,
         _ => true,
     }
-}
-
-/// Whether it is a process that has not ended.
-fn is_live_process(object: &ObjectRow) -> bool
-    ensures { result ≡ is_live_process object.now }
-{
-    object.kind == Kind::Process && object.life == Life::Live
-}
-
-/// Whether it is a job or a process.
-fn is_task(object: &ObjectRow) -> bool
-    ensures { result ≡ is_task object.now.kind }
-{
-    object.kind == Kind::Job || object.kind == Kind::Process
 }
 
 /// The objects of these keys that are not there and that the set does not have.

@@ -95,7 +95,7 @@ fn is_cancelled(
     ensures { result
         ≡ passes_under (is_cancelled_packet port process handle key) step.now.current (key_variant.Packet port number) }
 {
-    match step.packet(port, number) {
+    match step.store().packet(port, number) {
         Some(packet) => is_of(&packet, process, handle, key),
         None => false,
     }

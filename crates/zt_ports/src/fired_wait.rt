@@ -25,7 +25,7 @@ pub fn fire(step: &mut Step, number: u64, wait: &Wait) -> Result<(), AllocError>
     if !meets(step, wait, observed) {
         return Ok(());
     }
-    let Some(port) = step.object(wait.port) else {
+    let Some(port) = step.store().object(wait.port) else {
         return Ok(());
     };
     let parcel = news(wait, observed);
@@ -40,7 +40,7 @@ pub fn is_met(step: &Step, wait: &Wait) -> bool
     meets(step, wait, observed(step, wait))
 }
 
-/// The same, where these signals are all that stand on what the wait's handle names.
+/// Whether the wait is met, where these signals are all that stand on what its handle names.
 fn meets(step: &Step, wait: &Wait, signals: Signals) -> bool
     requires { signals.0 ≡ observed step.now.current wait.now }
     ensures { result ≡ is_met step.now.beginning step.now.current wait.now }
@@ -70,8 +70,9 @@ fn news(wait: &Wait, observed: Signals) -> Packet
 fn observed(step: &Step, wait: &Wait) -> Signals
     ensures { result.0 ≡ observed step.now.current wait.now }
 {
-    match step.entry(wait.process, wait.handle) {
-        Some(held) => signals_of(step.object(held.koid)),
+    let store = step.store();
+    match store.entry(wait.process, wait.handle) {
+        Some(held) => signals_of(store.object(held.koid)),
         None => Signals(0),
     }
 }
@@ -80,7 +81,7 @@ fn observed(step: &Step, wait: &Wait) -> Signals
 fn observed_then(step: &Step, wait: &Wait) -> Signals
     ensures { result.0 ≡ signals_by step.now.beginning (entry step.now.current wait.now.process wait.now.handle) }
 {
-    match step.entry(wait.process, wait.handle) {
+    match step.store().entry(wait.process, wait.handle) {
         Some(held) => signals_of(step.object_was(held.koid)),
         None => Signals(0),
     }

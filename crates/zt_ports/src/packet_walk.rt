@@ -8,5 +8,5 @@ use zt_store::Step;
 pub(crate) fn packet_after(step: &Step, port: Koid, low: Option<u64>) -> Option<u64>
     ensures { IsNextUnder step.now.current (packet_key port) low result }
 {
-    step.packet_of(port, low)
+    step.store().packet_of(port, low)
 }

@@ -8,5 +8,5 @@ use zt_store::Step;
 pub fn pending(step: &Step, port: Koid) -> u64
     ensures { result ≡ pending step.now.current port }
 {
-    step.user_packets(port)
+    step.store().user_packets(port)
 }

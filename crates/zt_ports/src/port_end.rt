@@ -18,7 +18,7 @@ pub fn queue(step: &mut Step, port: Koid, packet: Packet) -> Result<(), AllocErr
     ensures err { OnErr result (AsBegun step.old step.new) }
     ensures kept { Keeps step.old.places step.new.places }
 {
-    match step.object(port) {
+    match step.store().object(port) {
         Some(row) => push_packet(step, port, &row, packet),
         None => Ok(()),
     }

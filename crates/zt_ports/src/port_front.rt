@@ -14,8 +14,9 @@ use zt_store::Step;
 pub fn front(step: &Step, port: Koid) -> Option<(u64, Packet)>
     ensures { result ≡ first (packets step.now.current port) }
 {
-    let number = step.first_packet(port)?;
-    let packet = step.packet(port, number)?;
+    let store = step.store();
+    let number = store.first_packet(port)?;
+    let packet = store.packet(port, number)?;
     Some((number, packet))
 }
 

@@ -11,7 +11,7 @@ use Rattle.zt_rows.specs.declared.keys.RowKey.TheVariants as key
 use Rattle.zt_rows.specs.declared.rows.Held.{Held}
 use Rattle.zt_rows.specs.Contents.{MessageContent}
 use Rattle.zt_rows.specs.State.{State, row}
-use Rattle.zt_rows.specs.Reads.{entry, message}
+use Rattle.zt_rows.specs.Reads.{entry, message, names}
 use Rattle.zt_rows.specs.Tests.{among, exists}
 use Rattle.zt_rows.specs.Handles.{next_koid}
 use Rattle.zt_rows.specs.Support.{root_job}
@@ -26,7 +26,7 @@ use Rattle.zt_queries.specs.Happenings.{leaked, IsCallStep}
 use Rattle.zt_queries.specs.HappeningTimes.{at_moment, happens, last_on}
 use Rattle.zt_queries.specs.Leaks.{is_leaked}
 use Rattle.zt_queries.specs.Reachability.{reached, HoldsAllNamed}
-use Rattle.zt_history.specs.LetGo.{names, lets_go_at, last_let_go}
+use Rattle.zt_history.specs.LetGo.{lets_go_at, last_let_go}
 use Rattle.zt_history.specs.LostChild.{is_child_row}
 use Rattle.zt_history.specs.RowHappenings.{shows_at, last_shown}
 use Rattle.zt_history.specs.declared.row_happenings.RowHappening.TheVariants as turn

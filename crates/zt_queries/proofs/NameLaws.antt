@@ -15,7 +15,7 @@ use Rattle.zt_rows.specs.declared.rows.Row.{Row}
 use Rattle.zt_rows.specs.declared.rows.Row.TheVariants as rows
 use Rattle.zt_rows.specs.Contents.{MessageContent}
 use Rattle.zt_rows.specs.State.{State, row}
-use Rattle.zt_rows.specs.Reads.{as_entry, as_message, as_object, object, entry, message, is_job, is_process, is_live, is_live_process, is_live_job, on_object, runs}
+use Rattle.zt_rows.specs.Reads.{as_entry, as_message, as_object, entry, is_job, is_live, is_live_job, is_live_process, is_process, message, names, object, on_object, runs}
 use Rattle.zt_rows.specs.Tests.{among, exists, is_endpoint, is_task, link_at, object_link}
 use Rattle.zt_rows.specs.Room.{suits}
 use Rattle.zt_rows.specs.Support.{root_job}
@@ -30,7 +30,7 @@ use Rattle.zt_rows.proofs.AboveLaws.{above-live}
 use Rattle.zt_queries.specs.Happenings.{lives, ended, IsCallStep}
 use Rattle.zt_queries.specs.Leaks.{is_leaked}
 use Rattle.zt_queries.specs.Reachability.{reached}
-use Rattle.zt_history.specs.LetGo.{names, lets_go}
+use Rattle.zt_history.specs.LetGo.{lets_go}
 use Rattle.zt_history.specs.LostChild.{is_child_row}
 use Rattle.zt_queries.specs.ProofsOnly.NameSearch.{is_passive, stands_passive}
 use Rattle.zt_queries.specs.ProofsOnly.FirstLeak.{is_passing_kind}

@@ -17,7 +17,7 @@ use Rattle.zt_rows.specs.declared.rows.Row.{Row}
 use Rattle.zt_rows.specs.declared.rows.Row.TheVariants as rows
 use Rattle.zt_rows.specs.Keys.{rowkey_eq}
 use Rattle.zt_rows.specs.ProofsOnly.KeyOrder.{rowkey_eq-equal, rowkey_eq-laws}
-use Rattle.zt_rows.specs.Reads.{as_object, is_live_job, object}
+use Rattle.zt_rows.specs.Reads.{as_object, is_live_job, names, object}
 use Rattle.zt_rows.specs.State.{State, row, put}
 use Rattle.zt_rows.specs.Support.{support_count}
 use Rattle.zt_rows.specs.Room.{suits}
@@ -37,7 +37,6 @@ use Rattle.zt_history.specs.LostChild.{is_child_row}
 use Rattle.zt_history.specs.TreeInvariant.{AreMoments}
 use Rattle.zt_history.specs.Tree.{Made, parent_of, parent_at}
 use Rattle.zt_history.proofs.RunLaws.{parent-within}
-use Rattle.zt_history.specs.LetGo.{names}
 use Rattle.zt_queries.specs.ProofsOnly.NameSearch.{waits_at, IsGuarded, AreAbove, IsHeldBy, IsNameSearch, Widens, with_end, times_named, is_one, IsNameCount, IsPartSearch, later}
 use Rattle.zt_queries.proofs.SinceLaws.{take_whole}
 

@@ -5,19 +5,13 @@ ghost use Rattle.zt_history.specs.Tree.{state_at};
 ghost use Rattle.zt_queries.specs.HappeningTimes.{is_known, when_on, IsRefusedWhen};
 ghost use Rattle.zt_queries.specs.ProofsOnly.RowHappenings.{happening_of};
 
-use std::alloc::Global;
 use zt_history::{History, RowHappening};
 use zt_rows::{Koid, Moment, ROOT_JOB, Refusal};
 
 /// The moment on the path to `at` at which the object was made; none where it was there at the opening. It takes no memory,
 /// and costs a look at each change that was noted of the object, with as many at parents and jumps for each as the
 /// logarithm of the path's length.
-pub fn made(
-    _alloc: Global,
-    history: &History,
-    at: Moment,
-    koid: Koid,
-) -> Result<Option<Moment>, Refusal>
+pub fn made(history: &History, at: Moment, koid: Koid) -> Result<Option<Moment>, Refusal>
     requires there { at ≤ length history.now.tree.made }
     ensures ok { IfOk result (λ found. when_on happening.Made history.now.tree.made at koid ≡ Ok found) }
     ensures refused { IfErr result (IsRefusedWhen (when_on happening.Made history.now.tree.made at koid)) }
@@ -27,12 +21,7 @@ pub fn made(
 }
 
 /// The moment on the path to `at` at which the object ended, or went without having ended. It costs as much as `made`.
-pub fn ended(
-    _alloc: Global,
-    history: &History,
-    at: Moment,
-    koid: Koid,
-) -> Result<Option<Moment>, Refusal>
+pub fn ended(history: &History, at: Moment, koid: Koid) -> Result<Option<Moment>, Refusal>
     requires there { at ≤ length history.now.tree.made }
     ensures ok { IfOk result (λ found. when_on happening.Ended history.now.tree.made at koid ≡ Ok found) }
     ensures refused { IfErr result (IsRefusedWhen (when_on happening.Ended history.now.tree.made at koid)) }
@@ -43,12 +32,7 @@ pub fn ended(
 
 /// The moment on the path to `at` from which on a signal of the object says that its peer is closed. It costs as much as
 /// `made`.
-pub fn peer_closed(
-    _alloc: Global,
-    history: &History,
-    at: Moment,
-    koid: Koid,
-) -> Result<Option<Moment>, Refusal>
+pub fn peer_closed(history: &History, at: Moment, koid: Koid) -> Result<Option<Moment>, Refusal>
     requires there { at ≤ length history.now.tree.made }
     ensures ok { IfOk result (λ found. when_on happening.PeerClosed history.now.tree.made at koid ≡ Ok found) }
     ensures refused { IfErr result (IsRefusedWhen (when_on happening.PeerClosed history.now.tree.made at koid)) }

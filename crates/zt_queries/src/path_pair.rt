@@ -1,7 +1,6 @@
 //! The paths to a moment that is asked about and to the position, and the rows along them by the records of their moments.
 ghost use Rattle.std.specs.Prelude.{◌≡◌, ◌≤◌, IfOk, IfErr, length, take};
 ghost use Rattle.std.specs.Option.{option_copied};
-ghost use Rattle.zt_rows.specs.Reads.{as_object};
 ghost use Rattle.zt_rows.specs.State.{row};
 ghost use Rattle.zt_history.specs.RowHappenings.{is_there};
 ghost use Rattle.zt_history.specs.TreeInvariant.{recorded_at};
@@ -9,7 +8,7 @@ ghost use Rattle.zt_history.specs.Tree.{path, end_of, state_at};
 ghost use Rattle.zt_queries.specs.ProofsOnly.RowHappenings.{row_over, IsFork, AreWays};
 
 use zt_history::History;
-use zt_rows::{Moment, ObjectRow, Refusal, Row, RowKey};
+use zt_rows::{Moment, Refusal, Row, RowKey};
 
 /// The paths to the moment that is asked about and to the position, and how many moments they share.
 pub(crate) struct PathPair {
@@ -101,19 +100,9 @@ pub(crate) fn row_over<'a>(
     }
 }
 
-/// The object of the row, if it is one.
-pub(crate) fn object_in(row: Option<&Row>) -> Option<ObjectRow>
-    ensures { result ≡ as_object (option_copied row.entry) }
-{
-    match row {
-        Some(Row::Object(found)) => Some(*found),
-        _ => None,
-    }
-}
-
 /// Whether there is an object.
 pub(crate) fn is_there(row: Option<&Row>) -> bool
     ensures { result ≡ is_there (option_copied row.entry) }
 {
-    object_in(row).is_some()
+    Row::as_object(row).is_some()
 }

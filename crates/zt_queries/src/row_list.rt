@@ -67,18 +67,8 @@ pub(crate) fn object_among(rows: &[(RowKey, Row)], koid: Koid) -> Option<ObjectR
 {
     for (key, row) in rows {
         if *key == RowKey::Object(koid) {
-            return as_object(row);
+            return Row::as_object(Some(row)).copied();
         }
     }
     None
-}
-
-/// The object, if the row is one.
-fn as_object(row: &Row) -> Option<ObjectRow>
-    ensures { result ≡ as_object (Some row.now) }
-{
-    match row {
-        Row::Object(object) => Some(*object),
-        _ => None,
-    }
 }

@@ -1,9 +1,9 @@
-ghost use Rattle.std.specs.Prelude.{◌≡◌, ◌==◌, ◌||◌, ◌-◌, ◌++◌, ◌∷◌, [], Some, Ok, IfOk, IfErr, OnOk, length, if◌then◌else◌};
+ghost use Rattle.std.specs.Prelude.{◌≡◌, ◌==◌, ◌-◌, ◌++◌, ◌∷◌, [], Some, Ok, IfOk, IfErr, OnOk, length, if◌then◌else◌};
 ghost use Rattle.std.specs.List.{cons_option, flat_map};
 ghost use Rattle.zt_rows.specs.Change.{keys};
-ghost use Rattle.zt_rows.specs.Reads.{object, is_live_job, is_live_process};
+ghost use Rattle.zt_rows.specs.Reads.{object};
 ghost use Rattle.zt_rows.specs.State.{row};
-ghost use Rattle.zt_rows.specs.Support.{entry_support, child_support, message_supports, places, children, itself, root_job, supports};
+ghost use Rattle.zt_rows.specs.Support.{entry_support, child_support, message_supports, places, children, itself, supports};
 ghost use Rattle.zt_history.specs.HistoryRefusals.{IsHistoryRefusal};
 ghost use Rattle.zt_history.specs.Tree.{state_at};
 ghost use Rattle.zt_queries.specs.FrozenCopy.{holders_on};
@@ -11,11 +11,8 @@ ghost use Rattle.zt_queries.specs.ProofsOnly.Holders.{AddsUpTo, rows_before, sup
 
 use crate::frozen::Frozen;
 use std::alloc::{AllocError, Global};
-use zt_bits::Kind;
 use zt_history::History;
-use zt_rows::{
-    HandleValue, Held, Items, Koid, Life, ObjectRow, ROOT_JOB, Refusal, Row, RowKey, Support,
-};
+use zt_rows::{HandleValue, Held, Items, Koid, ObjectRow, Refusal, Row, RowKey, Support};
 use zt_store::Store;
 
 /// Where supports come from.
@@ -90,7 +87,7 @@ fn add_listed_children(
 ) -> Result<(), AllocError>
     ensures { OnOk result (list.new.items ≡ list.old.items ++ children (Some found.now) koid rows.now) }
 {
-    if is_live_job(found) {
+    if found.is_live_job() {
         add_listed(list, rows, Source::Children, koid)?;
     }
     Ok(())
@@ -124,7 +121,7 @@ fn supports_of(
 {
     let others = store
         .count(koid)
-        .saturating_sub(u64::from(keeps_itself(koid, found)));
+        .saturating_sub(u64::from(found.keeps_itself(koid)));
     let named = without_children(others, store, koid, found);
     let mut list = Vec::new(alloc);
     add_supports(&mut list, store, Source::Entries, koid, named)?;
@@ -138,7 +135,7 @@ fn supports_of(
 fn without_children(others: u64, store: &Store, koid: Koid, found: &ObjectRow) -> u64
     ensures { result ≡ others - length (children (Some found.now) koid store.now.state.rows) }
 {
-    if is_live_job(found) {
+    if found.is_live_job() {
         others
             .saturating_sub(store.child_jobs(koid))
             .saturating_sub(store.child_processes(koid))
@@ -172,7 +169,7 @@ fn add_children(
 ) -> Result<(), AllocError>
     ensures { OnOk result (AddsUpTo list.old.items (children (Some found.now) koid store.now.state.rows) most list.new.items) }
 {
-    if is_live_job(found) {
+    if found.is_live_job() {
         add_supports(list, store, Source::Children, koid, most)?;
     }
     Ok(())
@@ -182,17 +179,10 @@ fn add_children(
 fn add_itself(list: &mut Vec<Support>, koid: Koid, found: &ObjectRow) -> Result<(), AllocError>
     ensures { OnOk result (list.new.items ≡ list.old.items ++ itself (Some found.now) koid) }
 {
-    if keeps_itself(koid, found) {
+    if found.keeps_itself(koid) {
         list.push(Support::Itself)?;
     }
     Ok(())
-}
-
-/// Whether the object keeps itself.
-fn keeps_itself(koid: Koid, found: &ObjectRow) -> bool
-    ensures { result ≡ (is_live_process found.now || (koid == root_job)) }
-{
-    is_live_process(found) || koid == ROOT_JOB
 }
 
 /// Behind which key the rows begin that may give supports of this kind: those of one kind of key stand together, entries behind
@@ -303,7 +293,7 @@ fn child_support(koid: Koid, key: RowKey, found: &Row) -> Option<Support>
     };
     match found {
         Row::Object(task) => {
-            if (is_live_job(task) || is_live_process(task)) && task.link == koid {
+            if task.is_live_task() && task.link == koid {
                 Some(Support::Child(child))
             } else {
                 None
@@ -368,18 +358,4 @@ fn add_place(
         list.push(place)?;
     }
     Ok(())
-}
-
-/// Whether it is a job that has not ended.
-pub(crate) fn is_live_job(found: &ObjectRow) -> bool
-    ensures { result ≡ is_live_job found.now }
-{
-    found.kind == Kind::Job && found.life == Life::Live
-}
-
-/// Whether it is a process that has not ended.
-pub(crate) fn is_live_process(found: &ObjectRow) -> bool
-    ensures { result ≡ is_live_process found.now }
-{
-    found.kind == Kind::Process && found.life == Life::Live
 }

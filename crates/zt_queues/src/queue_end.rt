@@ -18,7 +18,7 @@ pub fn push(step: &mut Step, endpoint: Koid, message: Message) -> Result<(), All
     ensures err { OnErr result (AsBegun step.old step.new) }
     ensures kept { Keeps step.old.places step.new.places }
 {
-    let Some(object) = step.object(endpoint) else {
+    let Some(object) = step.store().object(endpoint) else {
         return Ok(());
     };
     let raised = ObjectRow {

@@ -14,8 +14,9 @@ use zt_store::Step;
 pub fn front(step: &Step, endpoint: Koid) -> Option<(u64, &Message)>
     ensures { option_map (λ f. (f.0, f.1.now)) result ≡ first (queue step.now.current endpoint) }
 {
-    let number = step.first_message(endpoint)?;
-    let message = step.message(endpoint, number)?;
+    let store = step.store();
+    let number = store.first_message(endpoint)?;
+    let message = store.message(endpoint, number)?;
     Some((number, message))
 }
 

@@ -1,7 +1,7 @@
 -- Looks at a state: what stands under a key of each variant, and the lists of what one owner has, by rising
 -- number. A row of another variant than its key's is skipped. This project's own form.
 use Rattle.std.specs.Prelude.{ℕ, Bool, true, false, ◌==◌, ◌&&◌, if◌then◌else◌, List, Option, None, Some}
-use Rattle.std.specs.List.{filter_map}
+use Rattle.std.specs.List.{filter_map, list_any}
 use Rattle.zt_bits.specs.declared.kinds.Kind.{Kind}
 use Rattle.zt_bits.specs.declared.kinds.Kind.TheVariants as kind
 use Rattle.zt_rows.specs.declared.keys.RowKey.{RowKey}
@@ -43,6 +43,12 @@ as_packet _ = None
 abbrev pub as_wait : Option Row → Option Wait
 as_wait (Some (rows.Wait w)) = Some w
 as_wait _ = None
+
+-- the row is an entry that names the object, or a message with a handle that does
+abbrev pub names : ℕ → Option Row → Bool
+names x (Some (rows.Entry held)) = held.koid == x
+names x (Some (rows.Msg m)) = list_any (λ held. held.koid == x) m.handles
+names x _ = false
 
 -- ---- what stands under a key
 

@@ -74,6 +74,10 @@ pub record HasGiven (calls packets : ℕ) (S : State) : Type 0 where
   pub waiting : count_row is_wait S ≤ calls
   pub owners : (x : ℕ) (o : ObjectRow) → object S x ≡ Some o → NextBy calls packets o.kind o.next
 
+-- the most calls that lead to one state: as many as a history has moments
+abbrev pub most_calls : ℕ
+most_calls = 1048576
+
 -- after so many calls, of which each gave a port one packet and fired every wait at most
 abbrev pub HasSpent : ℕ → State → Type 0
-HasSpent calls S = HasGiven calls (2097152 * calls) S
+HasSpent calls S = HasGiven calls (2 * most_calls * calls) S

@@ -5,6 +5,10 @@ use Rattle.std.specs.List.{list_any}
 use Rattle.std.specs.Option.{option_map}
 use Rattle.zt_bits.specs.declared.kinds.Kind.{Kind}
 use Rattle.zt_bits.specs.declared.kinds.Kind.TheVariants as kind
+use Rattle.zt_bits.specs.declared.statuses.Status.{Status}
+use Rattle.zt_bits.specs.declared.statuses.Status.TheVariants as status
+use Rattle.zt_rows.specs.declared.calls.Reply.{Reply}
+use Rattle.zt_rows.specs.declared.calls.Reply.TheVariants as reply
 use Rattle.zt_rows.specs.declared.keys.RowKey.{RowKey}
 use Rattle.zt_rows.specs.declared.rows.ObjectRow.{ObjectRow}
 use Rattle.zt_rows.specs.declared.rows.Row.{Row}
@@ -35,6 +39,14 @@ abbrev pub is_task : Kind → Bool
 is_task kind.Job = true
 is_task kind.Process = true
 is_task _ = false
+
+-- ---- replies
+
+-- the status that a reply has: what answers with more than a status went well, but where the message was too long
+abbrev pub status_of : Reply → Status
+status_of (reply.Status s) = s
+status_of (reply.TooSmall _ _) = status.BufferTooSmall
+status_of _ = status.Ok
 
 -- ---- sets of bits and lists of numbers
 

@@ -1,6 +1,7 @@
 ghost use Rattle.std.specs.Prelude.{◌≡◌, ◌↔◌, IfOk, IsSome, IfSome};
 ghost use Rattle.zt_rows.specs.Contents.{IsWithinMessage};
 ghost use Rattle.zt_rows.specs.Step.{IsCall};
+ghost use Rattle.zt_rows.specs.Tests.{status_of};
 
 use crate::items::Items;
 use crate::keys::RowKey;
@@ -254,6 +255,17 @@ pub enum Reply {
 }
 
 impl Reply {
+    /// The status that it has: what answers with more than a status went well, but where a message is too long.
+    pub fn status(&self) -> Status
+        ensures { result ≡ status_of self.now }
+    {
+        match self {
+            Reply::Status(status) => *status,
+            Reply::TooSmall(_, _) => Status::BufferTooSmall,
+            _ => Status::Ok,
+        }
+    }
+
     /// An equal reply in memory of its own.
     pub fn copy(&self) -> Result<Reply, AllocError>
         ensures { IfOk result (λ copied. copied ≡ self.now) }

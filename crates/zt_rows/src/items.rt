@@ -41,7 +41,7 @@ impl<T> Items<T> {
     }
 
     /// The allocator that gave the list its memory.
-    pub fn allocator(&self) -> Global {
+    pub(crate) fn allocator(&self) -> Global {
         *self.items.allocator()
     }
 

@@ -17,7 +17,7 @@ ghost use Rattle.zt_rows.specs.Consistent.{IsSound, IsConsistent};
 ghost use Rattle.zt_rows.specs.declared.rows.ObjectRow.{ObjectRow};
 ghost use Rattle.zt_rows.specs.End.{IsClosed, ends_with, is_live_task};
 ghost use Rattle.zt_rows.specs.Reads.{object, runs};
-ghost use Rattle.zt_rows.specs.Room.{HasRoom, HasSpent};
+ghost use Rattle.zt_rows.specs.Room.{HasRoom, HasSpent, most_calls};
 ghost use Rattle.zt_rows.specs.Opening.{opening};
 ghost use Rattle.zt_rows.specs.Step.{IsCall, step};
 
@@ -114,9 +114,9 @@ pub fn opening_is_consistent()
 /// than a history can have, there is room for one more call.
 pub fn few_calls_leave_room()
     ensures opening { HasSpent 0 opening }
-    ensures call { (S : State) (p : ℕ) (c : Call) (calls : ℕ) → calls < 1048576 → IsConsistent S
+    ensures call { (S : State) (p : ℕ) (c : Call) (calls : ℕ) → calls < most_calls → IsConsistent S
         → runs S p ≡ true → IsCall c → HasSpent calls S → HasSpent (calls + 1) (step S p c).0 }
-    ensures room { (S : State) (calls : ℕ) → calls ≤ 1048576 → HasSpent calls S → HasRoom S }
+    ensures room { (S : State) (calls : ℕ) → calls ≤ most_calls → HasSpent calls S → HasRoom S }
 {}
 
 /// What ends with a live process or job is the least set that ends together and has it.

@@ -1,8 +1,13 @@
-ghost use Rattle.std.specs.Prelude.{◌≡◌, ◌≤◌, ◌↔◌, IfOk, IsSome, IfSome, length};
+ghost use Rattle.std.specs.Prelude.{◌≡◌, ◌≤◌, ◌==◌, ◌||◌, ◌↔◌, IfOk, IsSome, IfSome, length};
+ghost use Rattle.std.specs.List.{list_any};
+ghost use Rattle.std.specs.Option.{option_copied};
 ghost use Rattle.zt_rows.specs.Contents.{IsWithinMessage};
+ghost use Rattle.zt_rows.specs.Reads.{as_entry, as_message, as_object, as_packet, as_wait, is_live_job, is_live_process, names};
+ghost use Rattle.zt_rows.specs.Support.{root_job};
+ghost use Rattle.zt_rows.specs.Tests.{is_task};
 
 use crate::items::Items;
-use crate::limits::{MESSAGE_BYTES, MESSAGE_HANDLES};
+use crate::limits::{MESSAGE_BYTES, MESSAGE_HANDLES, ROOT_JOB};
 use crate::numbers::{HandleValue, Koid};
 use std::alloc::AllocError;
 use std::marker::Model;
@@ -58,6 +63,46 @@ impl ObjectRow {
             next: 0,
             critical: Koid(0),
         }
+    }
+
+    /// Whether it is a job or a process.
+    #[inline(always)]
+    pub fn is_task(&self) -> bool
+        ensures { result ≡ is_task self.now.kind }
+    {
+        self.kind == Kind::Job || self.kind == Kind::Process
+    }
+
+    /// Whether it is a job that has not ended.
+    #[inline(always)]
+    pub fn is_live_job(&self) -> bool
+        ensures { result ≡ is_live_job self.now }
+    {
+        self.kind == Kind::Job && self.life == Life::Live
+    }
+
+    /// Whether it is a process that has not ended.
+    #[inline(always)]
+    pub fn is_live_process(&self) -> bool
+        ensures { result ≡ is_live_process self.now }
+    {
+        self.kind == Kind::Process && self.life == Life::Live
+    }
+
+    /// Whether it is a job or a process that has not ended.
+    #[inline(always)]
+    pub fn is_live_task(&self) -> bool
+        ensures { result ≡ (is_live_job self.now || is_live_process self.now) }
+    {
+        self.is_task() && self.life == Life::Live
+    }
+
+    /// Whether it stays where no handle names it: the root job, or a process that has not ended.
+    #[inline(always)]
+    pub fn keeps_itself(&self, koid: Koid) -> bool
+        ensures { result ≡ (is_live_process self.now || (koid == root_job)) }
+    {
+        self.is_live_process() || koid == ROOT_JOB
     }
 }
 
@@ -181,6 +226,72 @@ pub enum Row {
 }
 
 impl Row {
+    /// The object, if there is a row and it is one.
+    #[inline(always)]
+    pub fn as_object(row: Option<&Row>) -> Option<&ObjectRow>
+        ensures { option_copied result ≡ as_object (option_copied row.entry) }
+    {
+        match row {
+            Some(Row::Object(object)) => Some(object),
+            _ => None,
+        }
+    }
+
+    /// What an entry holds, if there is a row and it is one.
+    #[inline(always)]
+    pub fn as_entry(row: Option<&Row>) -> Option<Held>
+        ensures { result ≡ as_entry (option_copied row.entry) }
+    {
+        match row {
+            Some(Row::Entry(held)) => Some(*held),
+            _ => None,
+        }
+    }
+
+    /// The message, if there is a row and it is one.
+    #[inline(always)]
+    pub fn as_message(row: Option<&Row>) -> Option<&Message>
+        ensures { option_copied result ≡ as_message (option_copied row.entry) }
+    {
+        match row {
+            Some(Row::Msg(message)) => Some(message),
+            _ => None,
+        }
+    }
+
+    /// The packet, if there is a row and it is one.
+    #[inline(always)]
+    pub fn as_packet(row: Option<&Row>) -> Option<Packet>
+        ensures { result ≡ as_packet (option_copied row.entry) }
+    {
+        match row {
+            Some(Row::Packet(packet)) => Some(*packet),
+            _ => None,
+        }
+    }
+
+    /// The wait, if there is a row and it is one.
+    #[inline(always)]
+    pub fn as_wait(row: Option<&Row>) -> Option<Wait>
+        ensures { result ≡ as_wait (option_copied row.entry) }
+    {
+        match row {
+            Some(Row::Wait(wait)) => Some(*wait),
+            _ => None,
+        }
+    }
+
+    /// Whether there is a row and it names the object: as an entry, or as a message with a handle that does.
+    pub fn names(row: Option<&Row>, koid: Koid) -> bool
+        ensures { result ≡ names koid (option_copied row.entry) }
+    {
+        match row {
+            Some(Row::Entry(held)) => held.koid == koid,
+            Some(Row::Msg(message)) => any_names(koid, message.handles.as_slice()),
+            _ => false,
+        }
+    }
+
     /// An equal row in memory of its own.
     pub fn copy(&self) -> Result<Row, AllocError>
         ensures { IfOk result (λ copied. copied ≡ self.now) }
@@ -194,6 +305,18 @@ impl Row {
             Row::Wait(wait) => Row::Wait(*wait),
         })
     }
+}
+
+/// Whether one of the handles names the object.
+fn any_names(koid: Koid, handles: &[Held]) -> bool
+    ensures { result ≡ list_any (λ held. held.koid == koid) handles.now }
+{
+    for held in handles {
+        if held.koid == koid {
+            return true;
+        }
+    }
+    false
 }
 
 impl PartialEq for Row {

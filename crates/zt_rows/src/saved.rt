@@ -1,6 +1,9 @@
+ghost use Rattle.std.specs.Prelude.{◌≡◌, IfOk};
+
 use crate::calls::Call;
 use crate::items::Items;
 use crate::numbers::{Koid, Moment};
+use std::alloc::AllocError;
 
 /// How a moment of a saved tree was made: at which moment, and by which call of which process.
 #[derive(Debug, Drop)]
@@ -10,11 +13,38 @@ pub struct SavedCall {
     pub call: Call,
 }
 
+impl SavedCall {
+    /// An equal call of a saved tree, in memory of its own.
+    pub fn copy(&self) -> Result<SavedCall, AllocError>
+        ensures { IfOk result (λ copied. copied ≡ self.now) }
+    {
+        let call = self.call.copy()?;
+        Ok(SavedCall {
+            parent: self.parent,
+            process: self.process,
+            call,
+        })
+    }
+}
+
 /// A branch of a saved tree: its name, and the moment that is its head.
 #[derive(Debug, Drop)]
 pub struct SavedBranch {
     pub name: Items<u8>,
     pub head: Moment,
+}
+
+impl SavedBranch {
+    /// An equal branch of a saved tree, in memory of its own.
+    pub fn copy(&self) -> Result<SavedBranch, AllocError>
+        ensures { IfOk result (λ copied. copied ≡ self.now) }
+    {
+        let name = self.name.copy()?;
+        Ok(SavedBranch {
+            name,
+            head: self.head,
+        })
+    }
 }
 
 /// Where a client of a saved tree stands.
@@ -24,6 +54,18 @@ pub enum Cursor {
     Follows(Items<u8>),
     /// At a moment, and on no branch.
     At(Moment),
+}
+
+impl Cursor {
+    /// An equal cursor, in memory of its own.
+    pub fn copy(&self) -> Result<Cursor, AllocError>
+        ensures { IfOk result (λ copied. copied ≡ self.now) }
+    {
+        Ok(match self {
+            Cursor::Follows(name) => Cursor::Follows(name.copy()?),
+            Cursor::At(moment) => Cursor::At(*moment),
+        })
+    }
 }
 
 /// A tree of moments as it is written down and read again. It is what somebody wrote: whether there is such a tree is
@@ -36,4 +78,53 @@ pub struct Saved {
     pub branches: Items<SavedBranch>,
     /// Those of the clients 1, 2 and so on.
     pub cursors: Items<Cursor>,
+}
+
+impl Saved {
+    /// An equal tree, in memory of its own.
+    pub fn copy(&self) -> Result<Saved, AllocError>
+        ensures { IfOk result (λ copied. copied ≡ self.now) }
+    {
+        let moments = copied_moments(&self.moments)?;
+        let branches = copied_branches(&self.branches)?;
+        let cursors = copied_cursors(&self.cursors)?;
+        Ok(Saved {
+            moments,
+            branches,
+            cursors,
+        })
+    }
+}
+
+/// Equal calls of a saved tree, in memory of their own.
+fn copied_moments(moments: &Items<SavedCall>) -> Result<Items<SavedCall>, AllocError>
+    ensures { IfOk result (λ copied. copied ≡ moments.now) }
+{
+    let mut copied = Vec::with_capacity(moments.allocator(), moments.len())?;
+    for saved in moments.as_slice() {
+        copied.push(saved.copy()?)?;
+    }
+    Ok(Items::new(copied))
+}
+
+/// Equal branches of a saved tree, in memory of their own.
+fn copied_branches(branches: &Items<SavedBranch>) -> Result<Items<SavedBranch>, AllocError>
+    ensures { IfOk result (λ copied. copied ≡ branches.now) }
+{
+    let mut copied = Vec::with_capacity(branches.allocator(), branches.len())?;
+    for branch in branches.as_slice() {
+        copied.push(branch.copy()?)?;
+    }
+    Ok(Items::new(copied))
+}
+
+/// Equal cursors, in memory of their own.
+fn copied_cursors(cursors: &Items<Cursor>) -> Result<Items<Cursor>, AllocError>
+    ensures { IfOk result (λ copied. copied ≡ cursors.now) }
+{
+    let mut copied = Vec::with_capacity(cursors.allocator(), cursors.len())?;
+    for cursor in cursors.as_slice() {
+        copied.push(cursor.copy()?)?;
+    }
+    Ok(Items::new(copied))
 }

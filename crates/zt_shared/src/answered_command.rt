@@ -99,19 +99,15 @@ pub(crate) fn turn<N: Naming>(
         drop(asked);
         return Err(Refusal::OutOfMemory);
     };
-    match book.serve(client, &asked) {
-        Ok(said) => {
-            book.rows_are_counted();
-            match enter(alloc, ours, mine, asked, &said) {
-                Ok(()) => Ok(said),
-                Err(_) => {
-                    drop(said);
-                    book.take_back();
-                    Err(Refusal::OutOfMemory)
-                }
-            }
+    let said = book.serve(client, &asked)?;
+    book.rows_are_counted();
+    match enter(alloc, ours, mine, asked, &said) {
+        Ok(()) => Ok(said),
+        Err(_) => {
+            drop(said);
+            book.take_back();
+            Err(Refusal::OutOfMemory)
         }
-        Err(why) => Err(why),
     }
 }
 
@@ -138,19 +134,15 @@ pub(crate) fn pin_turn<N: Naming>(
     let Ok(()) = ours.reserve(mine) else {
         return Err(Refusal::OutOfMemory);
     };
-    match book.pin(client) {
-        Ok((said, frozen)) => {
-            book.rows_are_counted();
-            match enter(alloc, ours, mine, Command::Pin, &said) {
-                Ok(()) => Ok((said, frozen)),
-                Err(_) => {
-                    drop(said);
-                    drop(frozen);
-                    book.take_back();
-                    Err(Refusal::OutOfMemory)
-                }
-            }
+    let (said, frozen) = book.pin(client)?;
+    book.rows_are_counted();
+    match enter(alloc, ours, mine, Command::Pin, &said) {
+        Ok(()) => Ok((said, frozen)),
+        Err(_) => {
+            drop(said);
+            drop(frozen);
+            book.take_back();
+            Err(Refusal::OutOfMemory)
         }
-        Err(refusal) => Err(refusal),
     }
 }

@@ -140,10 +140,8 @@ fn set_out<A: Naming + Beginning, B: Naming, C: Naming, D: Naming>(
     let Ok(passes) = Vec::with_capacity(alloc, CLIENTS as usize) else {
         return Err(Refused);
     };
-    match note_base(alloc, &blanks.base, book) {
-        Ok(told) => Ok((passes, told)),
-        Err(refused) => Err(refused),
-    }
+    let told = note_base(alloc, &blanks.base, book)?;
+    Ok((passes, told))
 }
 
 /// The book with the lock's sides of the accounts under the lock, and a pass for each client. It takes no memory.

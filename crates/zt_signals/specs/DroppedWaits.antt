@@ -1,5 +1,4 @@
--- Waits taken away, and nothing else: those that a process made on a handle, those for a port, and those that are
--- cancelled.
+-- Waits taken away, and nothing else: those that a process made on a handle, and those that are cancelled.
 use Rattle.std.specs.Prelude.{ℕ, Bool, false, ◌==◌, ◌&&◌, if◌then◌else◌, Option, None, Some}
 use Rattle.zt_rows.specs.declared.keys.RowKey.{RowKey}
 use Rattle.zt_rows.specs.declared.keys.RowKey.TheVariants as key
@@ -25,16 +24,6 @@ made_on p h w = (w.process == p) && (w.handle == h)
 -- what is left of a row when those waits go
 abbrev pub without_waits_on : ℕ → ℕ → RowKey → Row → Option Row
 without_waits_on p h = without_waits (made_on p h)
-
--- ---- a port
-
--- its packet will come to the port x
-abbrev pub made_for : ℕ → Wait → Bool
-made_for x w = w.port == x
-
--- what is left of a row when the waits for the port x go
-abbrev pub without_waits_for : ℕ → RowKey → Row → Option Row
-without_waits_for x = without_waits (made_for x)
 
 -- ---- a key
 

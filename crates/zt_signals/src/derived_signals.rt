@@ -6,6 +6,12 @@ use zt_bits::{Kind, Signals};
 use zt_rows::{Koid, Life, ObjectRow};
 use zt_store::Step;
 
+/// The derived signals of a job: `TERMINATED`, `NO_JOBS` and `NO_PROCESSES`.
+const JOB_SIGNALS: Signals = Signals(0x38);
+
+/// The derived signals of a channel's endpoint: `READABLE`, `WRITABLE` and `PEER_CLOSED`.
+const CHANNEL_SIGNALS: Signals = Signals(0x7);
+
 /// All signals of the object, the derived ones anew. It takes no memory.
 pub(crate) fn renewed_signals(step: &Step, koid: Koid, object: &ObjectRow) -> Signals
     ensures { result.0 ≡ renewed step.now.current koid object.now }
@@ -19,9 +25,9 @@ fn derived_mask(kind: Kind) -> Signals
     ensures { result.0 ≡ derived_mask kind }
 {
     match kind {
-        Kind::Job => Signals(0x38),
+        Kind::Job => JOB_SIGNALS,
         Kind::Process => Signals::TERMINATED,
-        Kind::Channel => Signals(0x7),
+        Kind::Channel => CHANNEL_SIGNALS,
         Kind::EventPair => Signals::PEER_CLOSED,
         Kind::Event | Kind::Port => Signals(0),
     }
@@ -47,7 +53,8 @@ fn derived_signals(step: &Step, koid: Koid, object: &ObjectRow) -> Signals
 fn readable(step: &Step, endpoint: Koid) -> Signals
     ensures { result.0 ≡ readable step.now.current endpoint }
 {
-    signal_if(step.first_message(endpoint).is_some(), Signals::READABLE)
+    let first = step.store().first_message(endpoint);
+    signal_if(first.is_some(), Signals::READABLE)
 }
 
 /// Writable while the peer is there.
@@ -82,14 +89,16 @@ fn no_children(step: &Step, job: Koid) -> Signals
 fn no_jobs(step: &Step, job: Koid) -> Signals
     ensures { result.0 ≡ no_jobs step.now.current job }
 {
-    signal_if(step.child_jobs(job) == 0, Signals::NO_JOBS)
+    let children = step.store().child_jobs(job);
+    signal_if(children == 0, Signals::NO_JOBS)
 }
 
 /// No processes while no live process is its child.
 fn no_processes(step: &Step, job: Koid) -> Signals
     ensures { result.0 ≡ no_processes step.now.current job }
 {
-    signal_if(step.child_processes(job) == 0, Signals::NO_PROCESSES)
+    let children = step.store().child_processes(job);
+    signal_if(children == 0, Signals::NO_PROCESSES)
 }
 
 /// The signal, where the test holds.

@@ -8,4 +8,4 @@ mod wait;
 mod wait_group;
 
 pub use object_signals::{refresh, set_bits};
-pub use wait::{add_wait, cancel_waits, drop_waits, drop_waits_of_port};
+pub use wait::{add_wait, cancel_waits, drop_waits};

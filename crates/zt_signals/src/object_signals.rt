@@ -17,7 +17,7 @@ pub fn set_bits(step: &mut Step, koid: Koid, clear: Signals, set: Signals) -> Re
     ensures err { OnErr result (AsBegun step.old step.new) }
     ensures kept { Keeps step.old.places step.new.places }
 {
-    let Some(object) = step.object(koid) else {
+    let Some(object) = step.store().object(koid) else {
         return Ok(());
     };
     let signals = object.signals.difference(clear).union(set);
@@ -32,7 +32,7 @@ pub fn refresh(step: &mut Step, koid: Koid) -> Result<(), AllocError>
     ensures err { OnErr result (AsBegun step.old step.new) }
     ensures kept { Keeps step.old.places step.new.places }
 {
-    let Some(object) = step.object(koid) else {
+    let Some(object) = step.store().object(koid) else {
         return Ok(());
     };
     let signals = renewed_signals(step, koid, &object);

@@ -5,7 +5,7 @@ ghost use Rattle.zt_rows.specs.State.{change};
 ghost use Rattle.zt_rows.specs.Tests.{any_row};
 ghost use Rattle.zt_store.specs.Places.{Keeps};
 ghost use Rattle.zt_store.specs.StepView.{Advanced, AsBegun};
-ghost use Rattle.zt_signals.specs.DroppedWaits.{is_cancelled_wait, without_cancelled_waits, without_waits_for, without_waits_on};
+ghost use Rattle.zt_signals.specs.DroppedWaits.{is_cancelled_wait, without_cancelled_waits, without_waits_on};
 
 use crate::wait_group::{WaitGroup, drop_picked};
 use std::alloc::AllocError;
@@ -20,7 +20,7 @@ pub fn add_wait(step: &mut Step, wait: Wait) -> Result<(), AllocError>
     ensures err { OnErr result (AsBegun step.old step.new) }
     ensures kept { Keeps step.old.places step.new.places }
 {
-    let counters = step.counters();
+    let counters = step.store().counters();
     let raised = Counters {
         next_wait: counters.next_wait + 1,
         ..counters
@@ -37,16 +37,6 @@ pub fn drop_waits(step: &mut Step, process: Koid, handle: HandleValue) -> Result
     ensures kept { Keeps step.old.places step.new.places }
 {
     drop_picked(step, WaitGroup::On(process, handle))?;
-    Ok(())
-}
-
-/// Takes away the waits for the port. They are found by the port, so that other waits are not looked at.
-pub fn drop_waits_of_port(step: &mut Step, port: Koid) -> Result<(), AllocError>
-    ensures ok { OnOk result (Advanced step.old step.new (change (without_waits_for port) step.old.current)) }
-    ensures err { OnErr result (AsBegun step.old step.new) }
-    ensures kept { Keeps step.old.places step.new.places }
-{
-    drop_picked(step, WaitGroup::For(port))?;
     Ok(())
 }
 

@@ -17,8 +17,6 @@ use zt_store::Step;
 pub(crate) enum WaitGroup {
     /// Those that the process made on the handle.
     On(Koid, HandleValue),
-    /// Those for the port.
-    For(Koid),
     /// Those for the port that the process made on the handle under the key.
     Under(Koid, Koid, HandleValue, u64),
 }
@@ -30,7 +28,6 @@ impl WaitGroup {
     {
         match *self {
             WaitGroup::On(process, handle) => wait.process == process && wait.handle == handle,
-            WaitGroup::For(port) => wait.port == port,
             WaitGroup::Under(port, process, handle, key) => {
                 wait.port == port
                     && wait.process == process
@@ -65,22 +62,23 @@ pub(crate) fn drop_picked(step: &mut Step, picked: WaitGroup) -> Result<bool, Al
 fn next_picked(step: &Step, picked: &WaitGroup, low: Option<u64>) -> Option<u64>
     ensures { IsNextPicked (picks picked.now) step.now.current low result }
 {
-    if step.ever_had_waits() {
+    if step.store().ever_had_waits() {
         find_picked(step, picked, low)
     } else {
         None
     }
 }
 
-/// The same, where there may be one.
+/// The number of the next wait after the low one that may be picked, or of the first of all, where there may be a wait. It takes no
+/// memory.
 #[inline(never)]
 fn find_picked(step: &Step, picked: &WaitGroup, low: Option<u64>) -> Option<u64>
     ensures { IsNextPicked (picks picked.now) step.now.current low result }
 {
+    let store = step.store();
     match *picked {
-        WaitGroup::On(process, handle) => step.wait_on(process, handle, low),
-        WaitGroup::For(port) => step.wait_for(port, low),
-        WaitGroup::Under(_, process, handle, _) => step.wait_on(process, handle, low),
+        WaitGroup::On(process, handle) => store.wait_on(process, handle, low),
+        WaitGroup::Under(_, process, handle, _) => store.wait_on(process, handle, low),
     }
 }
 
@@ -104,7 +102,7 @@ fn drop_if(step: &mut Step, number: u64, picked: &WaitGroup) -> Result<bool, All
 fn is_picked(step: &Step, number: u64, picked: &WaitGroup) -> bool
     ensures { result ≡ is_picked (picks picked.now) step.now.current number }
 {
-    match step.wait(number) {
+    match step.store().wait(number) {
         Some(wait) => picked.takes(&wait),
         None => false,
     }

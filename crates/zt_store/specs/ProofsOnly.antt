@@ -9,3 +9,4 @@ pub mod StoreInvariant
 pub mod KeyPlaces
 pub mod StepRows
 pub mod KeyColumns
+pub mod RowExchange

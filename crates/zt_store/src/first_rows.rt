@@ -89,7 +89,7 @@ impl FirstRows {
         self.widen()
     }
 
-    /// The same, where one of the lists is full.
+    /// Makes room for one more where one of the lists is full.
     #[inline(never)]
     fn widen(&mut self) -> Result<(), AllocError>
         ensures same { self.new.rows ≡ self.old.rows }

@@ -68,19 +68,11 @@ impl KeptRows {
     pub fn keys(&self) -> &[RowKey]
         ensures { result.now ≡ keys_in self.now }
     {
-        match self {
-            KeptRows::NoRow => &[],
-            KeptRows::One(block) => &block.keys,
-            KeptRows::Two(block) => &block.keys,
-            KeptRows::Three(block) => &block.keys,
-            KeptRows::Four(block) => &block.keys,
-            KeptRows::Five(block) => &block.keys,
-            KeptRows::Six(block) => &block.keys,
-            KeptRows::Many(lists) => lists.keys.as_slice(),
-        }
+        let (keys, _rows) = self.keys_and_rows();
+        keys
     }
 
-    /// Both at once.
+    /// The keys, and the bare row at the place of each.
     #[inline(always)]
     pub fn keys_and_rows(&self) -> (&[RowKey], &[Row])
         ensures keys { result.0.now ≡ keys_in self.now }
@@ -102,20 +94,13 @@ impl KeptRows {
     pub fn rows(&self) -> &[Row]
         ensures { result.now ≡ rows_in self.now }
     {
-        match self {
-            KeptRows::NoRow => &[],
-            KeptRows::One(block) => &block.rows,
-            KeptRows::Two(block) => &block.rows,
-            KeptRows::Three(block) => &block.rows,
-            KeptRows::Four(block) => &block.rows,
-            KeptRows::Five(block) => &block.rows,
-            KeptRows::Six(block) => &block.rows,
-            KeptRows::Many(lists) => lists.rows.as_slice(),
-        }
+        let (_keys, rows) = self.keys_and_rows();
+        rows
     }
 }
 
-/// The same into two lists.
+/// Takes the rows at these places, in this order and with copies of their keys, into two lists. Where memory is refused nothing
+/// changes.
 fn take_many(
     alloc: Global,
     firsts: &mut FirstRows,

@@ -14,6 +14,15 @@ use zt_bits::Kind;
 use zt_cells::Cells;
 use zt_rows::{Counters, HandleValue, Koid, RowKey};
 
+/// From this number on there is no handle value.
+const VALUES_END: u64 = 1 << 32;
+
+/// The greatest next number of koids, waits, messages or packets that leaves room for one more call.
+const LAST_NUMBER: u64 = 1 << 62;
+
+/// The greatest next number of a process's handles that leaves room for one more call.
+const LAST_HANDLE: u64 = (1 << 30) - 64;
+
 /// The keys that differ in their last number alone. In the order of all keys a column stands in one piece.
 #[derive(Clone, Copy)]
 enum KeyColumn {
@@ -76,14 +85,14 @@ fn values_end(cells: &Cells, process: Koid) -> u64
     ensures few { result ≤ 2 ^ 32 }
 {
     cells.limits();
-    cells.entries_end(process).min(1 << 32)
+    cells.entries_end(process).min(VALUES_END)
 }
 
 /// Whether a row stands under the key.
-fn stands(cells: &Cells, key: RowKey) -> bool
-    ensures { result ≡ is_some (row cells.now.state key) }
+fn stands(cells: &Cells, key: &RowKey) -> bool
+    ensures { result ≡ is_some (row cells.now.state key.now) }
 {
-    cells.row(key).is_some()
+    cells.row(*key).is_some()
 }
 
 /// The least value above the low one, or of all, under which the process has an entry. It takes no memory, and walks over no
@@ -139,8 +148,7 @@ fn first_in(cells: &Cells, column: &KeyColumn, from: u64) -> Option<RowKey>
     let end = column.end(cells);
     for number in from..end {
         let key = column.key(number);
-        let asked = key;
-        if stands(cells, asked) {
+        if stands(cells, &key) {
             return Some(key);
         }
     }
@@ -216,7 +224,7 @@ pub(crate) fn has_room(cells: &Cells) -> bool
     ensures { IsTrue result ↔ HasRoom cells.now.state }
 {
     let counters = cells.counters();
-    counters.next_koid.0 <= 1 << 62 && counters.next_wait <= 1 << 62 && objects_fit(cells)
+    counters.next_koid.0 <= LAST_NUMBER && counters.next_wait <= LAST_NUMBER && objects_fit(cells)
 }
 
 /// Whether what each owner gives out next leaves room for one more call.
@@ -247,8 +255,8 @@ fn next_fits(kind: Kind, next: u64) -> bool
     ensures { IsTrue result ↔ NextFits kind next }
 {
     match kind {
-        Kind::Process => next <= (1 << 30) - 64,
-        Kind::Channel | Kind::Port => next <= 1 << 62,
+        Kind::Process => next <= LAST_HANDLE,
+        Kind::Channel | Kind::Port => next <= LAST_NUMBER,
         _ => true,
     }
 }

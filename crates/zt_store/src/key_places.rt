@@ -88,7 +88,7 @@ impl KeyPlaces {
         self.note_chained(keys, key)
     }
 
-    /// The same, with buckets.
+    /// Notes the key where there are buckets, or where so many keys stand before it that there are to be some.
     #[inline(never)]
     fn note_chained(&mut self, keys: &[RowKey], key: &RowKey) -> Result<(), AllocError>
         requires { AreNoted self.old keys.now }

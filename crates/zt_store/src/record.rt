@@ -65,15 +65,6 @@ impl Record {
             Err(_) => None,
         }
     }
-
-    /// The row, or that there was none, under the key at the place. It takes no memory.
-    pub fn held_at(&self, place: usize) -> Option<&Row>
-        requires { place < length self.now }
-        ensures row { option_map (λ e. e.1) (slice_get self.now place) ≡ Some (option_copied result) }
-        ensures held { (key : RowKey) → option_map (λ e. e.0) (slice_get self.now place) ≡ Some key → held self.now key ≡ Some (option_copied result) }
-    {
-        self.rows().row(place)
-    }
 }
 
 /// The keys and the rows of a record at hand. Who goes over all of them asks once in which form the record keeps them.

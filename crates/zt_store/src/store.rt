@@ -1,4 +1,4 @@
-ghost use Rattle.std.specs.Prelude.{◌≡◌, ◌<◌, ◌+◌, ◌^◌, ◌↔◌, [], ℕ, true, false, IsTrue, IfOk, OnOk, Option, None, if◌then◌else◌};
+ghost use Rattle.std.specs.Prelude.{◌≡◌, ◌<◌, ◌+◌, ◌^◌, ◌↔◌, ℕ, true, false, IsTrue, IfOk, OnOk, Option, None, if◌then◌else◌};
 ghost use Rattle.std.specs.Option.{option_copied};
 ghost use Rattle.zt_rows.specs.declared.keys.RowKey.{RowKey};
 ghost use Rattle.zt_rows.specs.declared.keys.RowKey.TheVariants as key_variant;
@@ -10,7 +10,7 @@ ghost use Rattle.zt_rows.specs.Settle.{is_child_job_of, is_child_process_of};
 ghost use Rattle.zt_rows.specs.State.{row, put};
 ghost use Rattle.zt_rows.specs.Support.{support_count};
 ghost use Rattle.zt_rows.specs.Tests.{count_row};
-ghost use Rattle.zt_cells.specs.BareRows.{row_in, row_under};
+ghost use Rattle.zt_cells.specs.BareRows.{row_under};
 ghost use Rattle.zt_cells.specs.FirstNumber.{IsFirst};
 ghost use Rattle.zt_cells.specs.TableSizes.{has_place};
 ghost use Rattle.zt_index.specs.Chains.{IsNext};
@@ -18,14 +18,12 @@ ghost use Rattle.zt_index.specs.Criteria.{has_entry, has_packet, is_at, is_below
 ghost use Rattle.zt_index.specs.ProofsOnly.KoidCounts.{keeps_itself, keeps_tasks};
 ghost use Rattle.zt_store.specs.Places.{Keeps, fits, fits_row, no_places};
 ghost use Rattle.zt_store.specs.StoreView.{Stored};
-ghost use Rattle.zt_store.specs.ProofsOnly.StoreView.{standing};
+ghost use Rattle.zt_store.specs.ProofsOnly.RowExchange.{Exchanges, IsExchangeable};
 
-use crate::first_rows::FirstRows;
 use crate::key_columns::{handle_of, has_room, key_after, packet_of};
-use crate::record::{Record, RecordLists};
+use crate::record::Record;
 use std::alloc::{AllocError, Global};
 use std::marker::Model;
-use std::mem::{forget, replace};
 use zt_bits::{Kind, Rights, Signals};
 use zt_cells::{Cells, bare, row_under};
 use zt_index::{Index, KoidCounts, PacketCounts, SupportCounts, is_user_packet};
@@ -34,14 +32,20 @@ use zt_rows::{
     ROOT_PROCESS, Row, RowKey, Wait,
 };
 
+/// The first koid that is given out: the one behind the root process.
+const FIRST_KOID: Koid = Koid(1026);
+
+/// All rights to a job, those that `defaults` gives.
+const JOB_RIGHTS: Rights = Rights(0x3d203);
+
 const FIRST_COUNTERS: Counters = Counters {
-    next_koid: Koid(1026),
+    next_koid: FIRST_KOID,
     next_wait: 0,
 };
 
 const FIRST_JOB: ObjectRow = ObjectRow {
     kind: Kind::Job,
-    signals: Signals(0x10),
+    signals: Signals::NO_JOBS,
     link: Koid(0),
     life: Life::Live,
     next: 0,
@@ -59,7 +63,7 @@ const FIRST_PROCESS: ObjectRow = ObjectRow {
 
 const TO_ROOT_JOB: Held = Held {
     koid: ROOT_JOB,
-    rights: Rights(0x3d203),
+    rights: JOB_RIGHTS,
 };
 
 /// The rows of a system, each under its key, how often they name each object, and how many packets of users each port has.
@@ -68,14 +72,7 @@ pub struct Store {
     support_counts: SupportCounts,
     packet_counts: PacketCounts,
     index: Index,
-    /// What a step lists its first rows in, kept from step to step.
-    spare: FirstRows,
-    /// Room for a step's record, kept from step to step.
-    lists: RecordLists,
-    /// A list of koids for a step, kept from step to step.
-    koids: Vec<Koid>,
-    /// A list of numbers for a step, kept from step to step.
-    numbers: Vec<u64>,
+    alloc: Global,
 }
 
 /// Lets all parts go in one call, so that a function that owns a store is proved without going through them at each of its
@@ -87,10 +84,7 @@ impl Drop for Store {
             support_counts: _support_counts,
             packet_counts: _packet_counts,
             index: _index,
-            spare: _spare,
-            lists: _lists,
-            koids: _koids,
-            numbers: _numbers,
+            alloc: _,
         } = self;
     }
 }
@@ -120,10 +114,7 @@ impl Store {
             support_counts: SupportCounts::new(alloc),
             packet_counts: PacketCounts::new(alloc),
             index: Index::new(alloc),
-            spare: FirstRows::new(alloc),
-            lists: RecordLists::new(alloc),
-            koids: Vec::new(alloc),
-            numbers: Vec::new(alloc),
+            alloc,
         }
     }
 
@@ -157,7 +148,8 @@ impl Store {
         self.cells.row(key)
     }
 
-    /// The same, made part of its caller: one who knows the variant of the key looks at one table. It takes no memory.
+    /// The row under the key, for a caller who knows the key's variant: as part of the caller, it looks at one table. It takes no
+    /// memory.
     #[inline(always)]
     pub fn look(&self, key: RowKey) -> Option<&Row>
         ensures { option_copied result ≡ row self.now.state key }
@@ -343,7 +335,7 @@ impl Store {
         let keys = kept.rows.keys();
         let rows = kept.rows.rows();
         for i in 0..keys.len() {
-            if !self.fits_row(keys[i], &rows[i]) {
+            if !self.fits_row(&keys[i], &rows[i]) {
                 return false;
             }
         }
@@ -351,12 +343,11 @@ impl Store {
     }
 
     /// Whether the key, and each koid that the row counts for, has a place in the store. It takes no memory.
-    fn fits_row(&self, key: RowKey, row: &Row) -> bool
-        ensures { result ≡ fits_row self.now.places key (row_under key row.now) }
+    fn fits_row(&self, key: &RowKey, row: &Row) -> bool
+        ensures { result ≡ fits_row self.now.places key.now (row_under key.now row.now) }
     {
-        let (asked, here) = (key, key);
-        let held = row_under(here, row);
-        self.cells.has_place(key) && self.support_counts.covers_if(asked, held)
+        let held = row_under(*key, row);
+        self.cells.has_place(*key) && self.support_counts.covers_if(*key, held)
     }
 
     /// An equal store in memory of its own, with the same places.
@@ -368,75 +359,13 @@ impl Store {
             support_counts: self.support_counts.copy()?,
             packet_counts: self.packet_counts.copy()?,
             index: self.index.copy()?,
-            spare: FirstRows::new(self.alloc()),
-            lists: RecordLists::new(self.alloc()),
-            koids: Vec::new(self.alloc()),
-            numbers: Vec::new(self.alloc()),
+            alloc: self.alloc,
         })
     }
 
+    /// What the store asks for memory.
     pub(crate) fn alloc(&self) -> Global {
-        self.cells.alloc()
-    }
-
-    /// Lists of no rows for a step, in memory that an earlier step left.
-    pub(crate) fn take_spare(&mut self) -> FirstRows
-        ensures same { self.new ≡ self.old }
-        ensures empty { result.rows ≡ [] }
-    {
-        let fresh = FirstRows::new(self.alloc());
-        let mut spare = replace(&mut self.spare, fresh);
-        spare.clear();
-        spare
-    }
-
-    /// Room for a record, which an earlier step left.
-    pub(crate) fn take_lists(&mut self) -> RecordLists
-        ensures { self.new ≡ self.old }
-    {
-        let fresh = RecordLists::new(self.alloc());
-        replace(&mut self.lists, fresh)
-    }
-
-    /// A list of koids, in memory that an earlier step left.
-    pub(crate) fn take_koids(&mut self) -> Vec<Koid>
-        ensures { self.new ≡ self.old }
-    {
-        let fresh = Vec::new(self.alloc());
-        replace(&mut self.koids, fresh)
-    }
-
-    /// A list of numbers, in memory that an earlier step left.
-    pub(crate) fn take_numbers(&mut self) -> Vec<u64>
-        ensures { self.new ≡ self.old }
-    {
-        let fresh = Vec::new(self.alloc());
-        replace(&mut self.numbers, fresh)
-    }
-
-    /// Keeps the memory of a step's lists for later steps, in the place of the empty ones that the step left, which have no
-    /// memory to be given back.
-    pub(crate) fn keep_spare(
-        &mut self,
-        spare: FirstRows,
-        lists: RecordLists,
-        koids: Vec<Koid>,
-        numbers: Vec<u64>,
-    )
-        ensures { self.new ≡ self.old }
-    {
-        forget(replace(&mut self.spare, spare));
-        self.spare.clear();
-        forget(replace(&mut self.lists, lists));
-        forget(replace(&mut self.koids, koids));
-        forget(replace(&mut self.numbers, numbers));
-    }
-
-    /// What holds of the rows: each suits its key.
-    pub(crate) fn limits(&self)
-        ensures { (key : RowKey) → SuitsKey key (row self.now.state key) }
-    {
-        self.cells.limits();
+        self.alloc
     }
 
     /// Makes what the row needs under the key: the place of the key, and the numbers of the koids that it counts
@@ -447,25 +376,24 @@ impl Store {
         ensures kept { Keeps self.old.places self.new.places }
         ensures made { OnOk result (fits_row self.new.places key.now (option_copied row.entry) ≡ true) }
     {
-        self.make_place(*key)?;
+        self.make_place(key)?;
         self.support_counts.grow_if(*key, row)
     }
 
     /// Makes the place of the key, if there is none yet.
     #[inline(always)]
-    fn make_place(&mut self, key: RowKey) -> Result<(), AllocError>
+    fn make_place(&mut self, key: &RowKey) -> Result<(), AllocError>
         ensures state { self.new.state ≡ self.old.state }
         ensures kept { Keeps self.old.places self.new.places }
-        ensures made { OnOk result (has_place self.new.places.sizes key ≡ true) }
+        ensures made { OnOk result (has_place self.new.places.sizes key.now ≡ true) }
     {
-        let asked = key;
-        if self.cells.has_place(asked) {
+        if self.cells.has_place(*key) {
             return Ok(());
         }
-        match key {
+        match *key {
             RowKey::Object(koid) => self.add_object_place(koid),
             RowKey::Entry(process, value) => self.add_entry_place(process, value),
-            key => self.add_other_place(key),
+            _ => self.add_other_place(*key),
         }
     }
 
@@ -476,7 +404,7 @@ impl Store {
         ensures kept { Keeps self.old.places self.new.places }
         ensures made { OnOk result (has_place self.new.places.sizes (key_variant.Object koid) ≡ true) }
     {
-        self.add_place(RowKey::Object(koid))
+        self.add_place(&RowKey::Object(koid))
     }
 
     /// Makes the place of an entry.
@@ -486,7 +414,7 @@ impl Store {
         ensures kept { Keeps self.old.places self.new.places }
         ensures made { OnOk result (has_place self.new.places.sizes (key_variant.Entry process value) ≡ true) }
     {
-        self.add_place(RowKey::Entry(process, value))
+        self.add_place(&RowKey::Entry(process, value))
     }
 
     /// Makes the place of any key.
@@ -496,32 +424,27 @@ impl Store {
         ensures kept { Keeps self.old.places self.new.places }
         ensures made { OnOk result (has_place self.new.places.sizes key ≡ true) }
     {
-        self.add_place(key)
+        self.add_place(&key)
     }
 
-    /// The same, made part of its caller, who knows the variant of the key, so that what it means is asked once. With the place of a
-    /// packet comes the number of its port.
+    /// Makes the place of a key whose variant the caller may know: as part of the caller, it asks once what the key means. With
+    /// the place of a packet comes the number of its port.
     #[inline(always)]
-    fn add_place(&mut self, key: RowKey) -> Result<(), AllocError>
+    fn add_place(&mut self, key: &RowKey) -> Result<(), AllocError>
         ensures state { self.new.state ≡ self.old.state }
         ensures kept { Keeps self.old.places self.new.places }
-        ensures made { OnOk result (has_place self.new.places.sizes key ≡ true) }
+        ensures made { OnOk result (has_place self.new.places.sizes key.now ≡ true) }
     {
-        let (indexed, counted) = (key, key);
-        self.index.grow_for(indexed)?;
-        self.packet_counts.grow_for(counted)?;
-        self.cells.make_place(key)
+        self.index.grow_for(*key)?;
+        self.packet_counts.grow_for(*key)?;
+        self.cells.make_place(*key)
     }
 
     /// Exchanges the bare row, which is one or stands for none, with what stands under the key. It takes no memory.
     #[inline(always)]
     pub(crate) fn exchange(&mut self, key: &RowKey, kept: &mut Row)
-        requires placed { fits_row self.old.places key.now (row_under key.now kept.old) ≡ true }
-        requires suited { SuitsKey key.now (row_under key.now kept.old) }
-        ensures put { self.new ≡ standing self.old (put self.old.state key.now (row_under key.now kept.old)) }
-        ensures was { row_under key.now kept.new ≡ row self.old.state key.now }
-        ensures fit { fits_row self.new.places key.now (row_under key.now kept.new) ≡ true }
-        ensures suited { SuitsKey key.now (row_under key.now kept.new) }
+        requires { IsExchangeable self.old key.now kept.old }
+        ensures { Exchanges self.old self.new key.now kept.old kept.new }
     {
         match *key {
             RowKey::Counters => self.exchange_counters(kept),
@@ -536,103 +459,74 @@ impl Store {
     /// Exchanges the counters.
     #[inline(never)]
     fn exchange_counters(&mut self, kept: &mut Row)
-        requires placed { fits_row self.old.places key_variant.Counters (row_under key_variant.Counters kept.old) ≡ true }
-        requires suited { SuitsKey key_variant.Counters (row_under key_variant.Counters kept.old) }
-        ensures put { self.new ≡ standing self.old (put self.old.state key_variant.Counters (row_under key_variant.Counters kept.old)) }
-        ensures was { row_under key_variant.Counters kept.new ≡ row self.old.state key_variant.Counters }
-        ensures fit { fits_row self.new.places key_variant.Counters (row_under key_variant.Counters kept.new) ≡ true }
-        ensures suited { SuitsKey key_variant.Counters (row_under key_variant.Counters kept.new) }
+        requires { IsExchangeable self.old key_variant.Counters kept.old }
+        ensures { Exchanges self.old self.new key_variant.Counters kept.old kept.new }
     {
-        self.exchange_under(RowKey::Counters, kept);
+        self.exchange_under(&RowKey::Counters, kept);
     }
 
     /// Exchanges the entry, or none, with what the process holds by this value.
     #[inline(never)]
     fn exchange_entry(&mut self, process: Koid, value: HandleValue, kept: &mut Row)
-        requires placed { fits_row self.old.places (key_variant.Entry process value) (row_under (key_variant.Entry process value) kept.old) ≡ true }
-        requires suited { SuitsKey (key_variant.Entry process value) (row_under (key_variant.Entry process value) kept.old) }
-        ensures put { self.new ≡ standing self.old (put self.old.state (key_variant.Entry process value) (row_under (key_variant.Entry process value) kept.old)) }
-        ensures was { row_under (key_variant.Entry process value) kept.new ≡ row self.old.state (key_variant.Entry process value) }
-        ensures fit { fits_row self.new.places (key_variant.Entry process value) (row_under (key_variant.Entry process value) kept.new) ≡ true }
-        ensures suited { SuitsKey (key_variant.Entry process value) (row_under (key_variant.Entry process value) kept.new) }
+        requires { IsExchangeable self.old (key_variant.Entry process value) kept.old }
+        ensures { Exchanges self.old self.new (key_variant.Entry process value) kept.old kept.new }
     {
-        self.exchange_under(RowKey::Entry(process, value), kept);
+        self.exchange_under(&RowKey::Entry(process, value), kept);
     }
 
     /// Exchanges the message, or none, with the one of this number in the queue.
     #[inline(never)]
     fn exchange_message(&mut self, owner: Koid, number: u64, kept: &mut Row)
-        requires placed { fits_row self.old.places (key_variant.Msg owner number) (row_under (key_variant.Msg owner number) kept.old) ≡ true }
-        requires suited { SuitsKey (key_variant.Msg owner number) (row_under (key_variant.Msg owner number) kept.old) }
-        ensures put { self.new ≡ standing self.old (put self.old.state (key_variant.Msg owner number) (row_under (key_variant.Msg owner number) kept.old)) }
-        ensures was { row_under (key_variant.Msg owner number) kept.new ≡ row self.old.state (key_variant.Msg owner number) }
-        ensures fit { fits_row self.new.places (key_variant.Msg owner number) (row_under (key_variant.Msg owner number) kept.new) ≡ true }
-        ensures suited { SuitsKey (key_variant.Msg owner number) (row_under (key_variant.Msg owner number) kept.new) }
+        requires { IsExchangeable self.old (key_variant.Msg owner number) kept.old }
+        ensures { Exchanges self.old self.new (key_variant.Msg owner number) kept.old kept.new }
     {
-        self.exchange_under(RowKey::Msg(owner, number), kept);
+        self.exchange_under(&RowKey::Msg(owner, number), kept);
     }
 
     /// Exchanges the packet, or none, with the one of this number in the port.
     #[inline(never)]
     fn exchange_packet(&mut self, owner: Koid, number: u64, kept: &mut Row)
-        requires placed { fits_row self.old.places (key_variant.Packet owner number) (row_under (key_variant.Packet owner number) kept.old) ≡ true }
-        requires suited { SuitsKey (key_variant.Packet owner number) (row_under (key_variant.Packet owner number) kept.old) }
-        ensures put { self.new ≡ standing self.old (put self.old.state (key_variant.Packet owner number) (row_under (key_variant.Packet owner number) kept.old)) }
-        ensures was { row_under (key_variant.Packet owner number) kept.new ≡ row self.old.state (key_variant.Packet owner number) }
-        ensures fit { fits_row self.new.places (key_variant.Packet owner number) (row_under (key_variant.Packet owner number) kept.new) ≡ true }
-        ensures suited { SuitsKey (key_variant.Packet owner number) (row_under (key_variant.Packet owner number) kept.new) }
+        requires { IsExchangeable self.old (key_variant.Packet owner number) kept.old }
+        ensures { Exchanges self.old self.new (key_variant.Packet owner number) kept.old kept.new }
     {
-        self.exchange_under(RowKey::Packet(owner, number), kept);
+        self.exchange_under(&RowKey::Packet(owner, number), kept);
     }
 
     /// Exchanges the wait, or none, with the one of this number.
     #[inline(never)]
     fn exchange_wait(&mut self, number: u64, kept: &mut Row)
-        requires placed { fits_row self.old.places (key_variant.Wait number) (row_under (key_variant.Wait number) kept.old) ≡ true }
-        requires suited { SuitsKey (key_variant.Wait number) (row_under (key_variant.Wait number) kept.old) }
-        ensures put { self.new ≡ standing self.old (put self.old.state (key_variant.Wait number) (row_under (key_variant.Wait number) kept.old)) }
-        ensures was { row_under (key_variant.Wait number) kept.new ≡ row self.old.state (key_variant.Wait number) }
-        ensures fit { fits_row self.new.places (key_variant.Wait number) (row_under (key_variant.Wait number) kept.new) ≡ true }
-        ensures suited { SuitsKey (key_variant.Wait number) (row_under (key_variant.Wait number) kept.new) }
+        requires { IsExchangeable self.old (key_variant.Wait number) kept.old }
+        ensures { Exchanges self.old self.new (key_variant.Wait number) kept.old kept.new }
     {
-        self.exchange_under(RowKey::Wait(number), kept);
+        self.exchange_under(&RowKey::Wait(number), kept);
     }
 
-    /// The same, made part of its caller, who knows the variant of the key, so that what it means is asked once.
+    /// Exchanges the row under a key whose variant the caller knows: as part of the caller, it asks once what the key means.
     #[inline(always)]
-    fn exchange_under(&mut self, key: RowKey, kept: &mut Row)
-        requires placed { fits_row self.old.places key (row_under key kept.old) ≡ true }
-        requires suited { SuitsKey key (row_under key kept.old) }
-        ensures put { self.new ≡ standing self.old (put self.old.state key (row_under key kept.old)) }
-        ensures was { row_under key kept.new ≡ row self.old.state key }
-        ensures fit { fits_row self.new.places key (row_under key kept.new) ≡ true }
-        ensures suited { SuitsKey key (row_under key kept.new) }
+    fn exchange_under(&mut self, key: &RowKey, kept: &mut Row)
+        requires { IsExchangeable self.old key.now kept.old }
+        ensures { Exchanges self.old self.new key.now kept.old kept.new }
     {
-        let (came, went, indexed, counted, here, back) = (key, key, key, key, key, key);
         self.cells.limits();
-        let inward = row_under(here, kept);
-        self.index.follow(&self.cells, indexed, inward);
-        self.support_counts.raise_if(came, inward);
+        let inward = row_under(*key, kept);
+        self.index.follow(&self.cells, *key, inward);
+        self.support_counts.raise_if(*key, inward);
         let user_came = is_user_packet(inward);
-        self.cells.exchange(key, kept);
-        let outward = row_under(back, kept);
-        self.support_counts.lower_if(went, outward);
+        self.cells.exchange(*key, kept);
+        let outward = row_under(*key, kept);
+        self.support_counts.lower_if(*key, outward);
         self.packet_counts
-            .follow(counted, user_came, is_user_packet(outward));
+            .follow(*key, user_came, is_user_packet(outward));
     }
 
     /// Exchanges the object, or none, with the one of this koid.
     #[inline(never)]
     fn exchange_object(&mut self, koid: Koid, kept: &mut Row)
-        requires placed { fits_row self.old.places (key_variant.Object koid) (row_in kept.old) ≡ true }
-        requires suited { SuitsKey (key_variant.Object koid) (row_in kept.old) }
-        ensures put { self.new ≡ standing self.old (put self.old.state (key_variant.Object koid) (row_in kept.old)) }
-        ensures was { row_in kept.new ≡ row self.old.state (key_variant.Object koid) }
-        ensures fit { fits_row self.new.places (key_variant.Object koid) (row_in kept.new) ≡ true }
-        ensures suited { SuitsKey (key_variant.Object koid) (row_in kept.new) }
+        requires { IsExchangeable self.old (key_variant.Object koid) kept.old }
+        ensures { Exchanges self.old self.new (key_variant.Object koid) kept.old kept.new }
     {
         if !self.exchange_alike(koid, kept) {
-            self.exchange_under(RowKey::Object(koid), kept);
+            self.exchange_under(&RowKey::Object(koid), kept);
         }
     }
 
@@ -641,11 +535,8 @@ impl Store {
     /// the same bucket, so that the rows alone change.
     #[inline(always)]
     fn exchange_alike(&mut self, koid: Koid, kept: &mut Row) -> bool
-        requires { fits_row self.old.places (key_variant.Object koid) (row_in kept.old) ≡ true }
-        ensures put { IsTrue result → self.new ≡ standing self.old (put self.old.state (key_variant.Object koid) (row_in kept.old)) }
-        ensures was { IsTrue result → row_in kept.new ≡ row self.old.state (key_variant.Object koid) }
-        ensures fit { IsTrue result → fits_row self.new.places (key_variant.Object koid) (row_in kept.new) ≡ true }
-        ensures suited { IsTrue result → SuitsKey (key_variant.Object koid) (row_in kept.new) }
+        requires { IsExchangeable self.old (key_variant.Object koid) kept.old }
+        ensures done { IsTrue result → Exchanges self.old self.new (key_variant.Object koid) kept.old kept.new }
         ensures same { result ≡ false → (self.new ≡ self.old) × (kept.new ≡ kept.old) }
     {
         match kept {
@@ -662,19 +553,17 @@ impl Store {
         self.make_room(&key, Some(&row))?;
         let mut kept = bare(Some(row));
         self.exchange(&key, &mut kept);
-        discard(kept);
+        drop(kept);
         Ok(())
     }
 }
-
-fn discard(_row: Row) {}
 
 /// Whether the live tasks below the object are its supports.
 fn keeps_tasks(object: &Option<ObjectRow>) -> bool
     ensures { result ≡ keeps_tasks object.now }
 {
     match object {
-        Some(object) => object.kind == Kind::Job && object.life == Life::Live,
+        Some(object) => object.is_live_job(),
         None => false,
     }
 }
@@ -698,9 +587,7 @@ fn keeps_itself(koid: Koid, object: &Option<ObjectRow>) -> bool
     ensures { result ≡ keeps_itself koid object.now }
 {
     match object {
-        Some(object) => {
-            (object.kind == Kind::Process && object.life == Life::Live) || koid == ROOT_JOB
-        }
+        Some(object) => object.keeps_itself(koid),
         None => false,
     }
 }

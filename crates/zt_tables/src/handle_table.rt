@@ -8,8 +8,11 @@ ghost use Rattle.zt_tables.specs.Entries.{with_rights, without_entry};
 
 use std::alloc::AllocError;
 use zt_bits::{Kind, Rights, Signals};
-use zt_rows::{HandleValue, Held, Koid, Life, ObjectRow, Row, RowKey};
+use zt_rows::{FIRST_HANDLE, HandleValue, Held, Koid, Life, ObjectRow, Row, RowKey};
 use zt_store::{Step, Store};
+
+/// By how much the value of a handle is greater than that of the one which its process received before.
+const VALUE_STEP: u64 = 4;
 
 /// What the process holds by this handle value. It takes no memory.
 pub fn find(store: &Store, process: Koid, value: HandleValue) -> Option<Held>
@@ -83,7 +86,7 @@ pub fn remove(
     ensures err { OnErr result (AsBegun step.old step.new) }
     ensures kept { Keeps step.old.places step.new.places }
 {
-    let held = step.entry(process, value);
+    let held = step.store().entry(process, value);
     step.put(RowKey::Entry(process, value), None)?;
     Ok(held)
 }
@@ -111,7 +114,7 @@ fn value_of(n: u64) -> HandleValue
     requires { n < 2 ^ 30 }
     ensures { result ≡ value_of n }
 {
-    HandleValue((4 * n + 3) as u32)
+    HandleValue((VALUE_STEP * n + u64::from(FIRST_HANDLE.0)) as u32)
 }
 
 /// The row of the process, or that of an ended one that had no handle.
@@ -120,7 +123,7 @@ fn owner_of(step: &Step, process: Koid) -> ObjectRow
     ensures row { result ≡ caller step.now.current process }
     ensures next { result.next ≡ next_at step.now.current process }
 {
-    match step.object(process) {
+    match step.store().object(process) {
         Some(object) => object,
         None => ObjectRow {
             kind: Kind::Process,

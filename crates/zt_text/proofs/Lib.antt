@@ -14,7 +14,6 @@ pub mod ShownLengths
 pub mod ShownCalls
 pub mod ShownLines
 pub mod LineLemmas
-pub mod SessionLemmas
 pub mod SessionTexts
 pub mod SpelledFields
 pub mod SpelledLines
@@ -25,7 +24,6 @@ pub mod SessionCallLemmas
 pub mod SavedTrees
 pub mod FaultColumns
 pub mod RowWords
-pub mod RowLemmas
 pub mod RowLines
 mod WorkedLines
 mod WorkedAnswers

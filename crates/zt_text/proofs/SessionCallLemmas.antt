@@ -1,19 +1,19 @@
 -- The calls of a session text, read one after another.
 use Rattle.std.proofs.Common.{append_assoc, inl, inr, ◌≡◌, ℕ, suc, ◌+◌, ◌<◌, Bool, true, false, cond, List, [], ◌∷◌, ◌++◌, length, Option, Some, None, Result, Ok, Err, refl, sym, ap, subst, ◌∙◌, arith}
-use Rattle.std.specs.Prelude.{is_ok, is_some, codes}
+use Rattle.std.specs.Prelude.{is_ok, is_some, nat_lt, codes}
 use Rattle.std.specs.Str.{bytes_eq}
-use Rattle.std.proofs.lemmas.List.{nil_from_length}
+use Rattle.std.proofs.lemmas.List.{append-nil, nil_from_length}
 use Rattle.std.specs.Cmp.Lexicographic.{bytes_decides}
 use Rattle.zt_rows.specs.declared.refusals.Refusal.{Refusal}
+use Rattle.zt_rows.specs.declared.refusals.Refusal.TheVariants.{BadLine, LineTooLong, OutOfMemory}
 use Rattle.zt_rows.specs.declared.calls.Call.{Call}
 use Rattle.zt_text.specs.Fields.{◌>>=◌}
 use Rattle.zt_text.specs.Lines.{lines_of}
-use Rattle.zt_text.specs.ReadLines.{IsUnread}
-use Rattle.zt_text.specs.Session.{call_in, fault_at, at_line, in_front, calls_in, calls_of_lines, session_of, first_line, comes_first, has_call, IsWantOfMemory, IsFaultOf}
+use Rattle.zt_text.specs.ReadLines.{most_line_bytes, IsUnread}
+use Rattle.zt_text.specs.Session.{call_in, fault_at, at_line, in_front, calls_in, calls_of_lines, session_of, first_line, comes_first, has_call, has_call_behind, session_has_call, IsWantOfMemory, IsFaultOf}
 use Rattle.zt_text.specs.SavedTexts.{tree_lines, saved_of}
 use Rattle.zt_text.specs.SessionCalls.{LinesLeft, row_lines, calls_left, in_front_of, tree_of, or_behind, next_in, next_call, IsNotNext}
 use Rattle.zt_text.specs.ProofsOnly.SavedTexts.{row_of}
-use Rattle.zt_text.proofs.SessionLemmas.{behind}
 use Rattle.zt_text.proofs.SavedLemmas.{of_row}
 
 -- what a line gives to the calls, and to the next one
@@ -134,18 +134,30 @@ lines_ended whole number left so_far none =
 
 -- ---- all that is left
 
+-- calls in front of those that are still to be read
+abbrev pub behind : List (ℕ × Call) → Result (List (ℕ × Call)) (ℕ × Refusal) → Result (List (ℕ × Call)) (ℕ × Refusal)
+behind items (Ok calls) = Ok (items ++ calls)
+behind items (Err fault) = Err fault
+
+pub behind_none : (whole : Result (List (ℕ × Call)) (ℕ × Refusal)) → whole ≡ behind [] whole
+behind_none (Ok calls) = refl
+behind_none (Err fault) = refl
+
+-- the next one stands behind the calls so far
+pub calls_more : (whole : Result (List (ℕ × Call)) (ℕ × Refusal)) (left more : LinesLeft) (made : ℕ × Call) (items : List (ℕ × Call))
+    → whole ≡ behind items (calls_left left) → next_call left ≡ Ok (Some made, more) → whole ≡ behind (items ++ made ∷ []) (calls_left more)
+calls_more whole left more made items so_far is =
+    so_far ∙ ap (behind items) (next_some left.number left.lines made more is).0 ∙ moved (calls_left more)
+  where
+    moved : (r : Result (List (ℕ × Call)) (ℕ × Refusal)) → behind items (in_front_of made r) ≡ behind (items ++ made ∷ []) r
+    moved (Ok calls) = ap Ok (sym (append_assoc items (made ∷ []) calls))
+    moved (Err fault) = refl
+
 -- where all calls so far stand in front of those left, the next one stands behind them
 pub rest_more : (whole : Result (List (ℕ × Call)) (ℕ × Refusal)) (left more : LinesLeft) (made : ℕ × Call)
     → (items : List (ℕ × Call)) × (whole ≡ behind items (calls_left left)) → next_call left ≡ Ok (Some made, more)
     → (items : List (ℕ × Call)) × (whole ≡ behind items (calls_left more))
-rest_more whole left more made (items, so_far) is =
-    let front = next_some left.number left.lines made more is in
-    (items ++ made ∷ [], so_far ∙ ap (behind items) front.0 ∙ moved items (calls_left more))
-  where
-    moved : (items : List (ℕ × Call)) (r : Result (List (ℕ × Call)) (ℕ × Refusal))
-        → behind items (in_front_of made r) ≡ behind (items ++ made ∷ []) r
-    moved items (Ok calls) = ap Ok (sym (append_assoc items (made ∷ []) calls))
-    moved items (Err fault) = refl
+rest_more whole left more made (items, so_far) is = (items ++ made ∷ [], calls_more whole left more made items so_far is)
 
 pub rest_shorter : (left more : LinesLeft) (made : ℕ × Call) → next_call left ≡ Ok (Some made, more) → length more.lines < length left.lines
 rest_shorter left more made is = (next_some left.number left.lines made more is).1
@@ -154,34 +166,30 @@ pub has_next : (some : Bool) (left more : LinesLeft) (made : ℕ × Call) → (h
     → has_call more.lines ≡ true → some ≡ true
 has_next some left more made so_far is _ = so_far (next_some left.number left.lines made more is).2
 
--- ---- whether there is a call
-
-abbrev Passed : LinesLeft → LinesLeft → Bool → Type 0
-Passed left more some = (made : Option (ℕ × Call)) × (next_call left ≡ Ok (made, more)) × (some ≡ is_some made)
-
-pub passed_one : (left more : LinesLeft) → Passed left more true → (made : ℕ × Call) × (next_call left ≡ Ok (Some made, more))
-passed_one left more (Some made, is, same) = (made, is)
-passed_one left more (None, is, same) = absurd (cc)
-
-pub passed_none : (left more : LinesLeft) → Passed left more false → next_call left ≡ Ok (None, more)
-passed_none left more (Some made, is, same) = absurd (cc)
-passed_none left more (None, is, same) = is
-
 -- ---- the end
+
+pub calls_ended : (whole : Result (List (ℕ × Call)) (ℕ × Refusal)) (left end : LinesLeft) (items : List (ℕ × Call)) → whole ≡ behind items (calls_left left)
+    → next_call left ≡ Ok (None, end) → whole ≡ Ok items
+calls_ended whole left end items so_far is =
+    so_far ∙ ap (behind items) (next_none left.number left.lines end is) ∙ ap Ok (append-nil items)
 
 pub rest_read : (whole : Result (List (ℕ × Call)) (ℕ × Refusal)) (left end : LinesLeft) → (items : List (ℕ × Call)) × (whole ≡ behind items (calls_left left))
     → next_call left ≡ Ok (None, end) → is_ok whole ≡ true
-rest_read whole left end (items, so_far) is =
-    ap is_ok (so_far ∙ ap (behind items) (next_none left.number left.lines end is))
+rest_read whole left end (items, so_far) is = ap is_ok (calls_ended whole left end items so_far is)
 
 wanted : (some : Bool) (whole : Result (List (ℕ × Call)) (ℕ × Refusal)) (fault : ℕ × Refusal) → IsWantOfMemory some fault → IsFaultOf some whole fault
 wanted some (Ok calls) fault want = want
 wanted some (Err first) fault want = inr want
 
-pub rest_not_read : (whole : Result (List (ℕ × Call)) (ℕ × Refusal)) (some : Bool) (left : LinesLeft) (fault : ℕ × Refusal)
-    → (items : List (ℕ × Call)) × (whole ≡ behind items (calls_left left)) → (has_call left.lines ≡ true → some ≡ true) → IsNotNext (next_call left) fault
-    → IsFaultOf some whole fault
-rest_not_read whole some left fault (items, so_far) has is = by (next_call left) refl is
+-- memory is refused to a call
+pub call_wanted : (whole : Result (List (ℕ × Call)) (ℕ × Refusal)) (some : Bool) (left more : LinesLeft) (made : ℕ × Call)
+    → (has_call left.lines ≡ true → some ≡ true) → next_call left ≡ Ok (Some made, more) → IsFaultOf some whole (0, OutOfMemory)
+call_wanted whole some left more made has is =
+    wanted some whole (0, OutOfMemory) (has (next_some left.number left.lines made more is).2, refl)
+
+pub text_not_read : (whole : Result (List (ℕ × Call)) (ℕ × Refusal)) (some : Bool) (left : LinesLeft) (items : List (ℕ × Call)) (fault : ℕ × Refusal)
+    → whole ≡ behind items (calls_left left) → (has_call left.lines ≡ true → some ≡ true) → IsNotNext (next_call left) fault → IsFaultOf some whole fault
+text_not_read whole some left items fault so_far has is = by (next_call left) refl is
   where
     by : (found : Result (Option (ℕ × Call) × LinesLeft) (ℕ × Refusal)) → next_call left ≡ found → IsNotNext found fault → IsFaultOf some whole fault
     by (Ok (Some made, more)) found (one, memory) =
@@ -190,30 +198,62 @@ rest_not_read whole some left fault (items, so_far) has is = by (next_call left)
     by (Err first) found same =
         subst (λ w. IsFaultOf some w fault) (sym (so_far ∙ ap (behind items) (next_fault left.number left.lines first found))) (inl same)
 
+pub rest_not_read : (whole : Result (List (ℕ × Call)) (ℕ × Refusal)) (some : Bool) (left : LinesLeft) (fault : ℕ × Refusal)
+    → (items : List (ℕ × Call)) × (whole ≡ behind items (calls_left left)) → (has_call left.lines ≡ true → some ≡ true) → IsNotNext (next_call left) fault
+    → IsFaultOf some whole fault
+rest_not_read whole some left fault (items, so_far) has is = text_not_read whole some left items fault so_far has is
+
 -- ---- the text
 
-row_first : (first : List ℕ) → bytes_eq first (codes "zxtt 1") ≡ true → (bytes_eq first (codes "zxtt 2") ≡ false) × (first_line first ≡ Ok tt)
-row_first first is = let same : first ≡ codes "zxtt 1" = (bytes_decides first (codes "zxtt 1")).0 is in rw same (refl, refl)
-
-behind_row : (first : List ℕ) (lines : List (List ℕ)) (left : LinesLeft) (one : Bool) → bytes_eq first (codes "zxtt 1") ≡ one
-    → (let o : Option LinesLeft = cond one (Some (record { number = 2; lines = lines })) None in o ≡ Some left)
-    → (tree_lines (first ∷ lines) ≡ None) × (calls_of_lines (first ∷ lines) ≡ calls_left left)
-behind_row first lines left true named is =
-    let at = row_first first named in
+-- the first line is that of version 1
+opened : (lines : List (List ℕ)) (left : LinesLeft) (first : Result (Unit {0}) Refusal)
+    → (at_line 1 first >>= λ _. let r : Result LinesLeft (ℕ × Refusal) = Ok (record { number = 2; lines = lines }) in r) ≡ Ok left
+    → (first ≡ Ok tt) × (left ≡ record { number = 2; lines = lines })
+opened lines left (Ok tt) is =
     let here : LinesLeft = record { number = 2; lines = lines } in
-    let same : here ≡ left = cc in
-    (rw at.0 refl, rw at.1 (ap calls_left same))
-behind_row first lines left false named is = absurd (cc)
+    let same : left ≡ here = cc in
+    (refl, same)
+opened lines left (Err fault) is = absurd (cc)
 
-row_text : (lines : List (List ℕ)) (left : LinesLeft) → row_lines lines ≡ Some left → (tree_lines lines ≡ None) × (calls_of_lines lines ≡ calls_left left)
+not_opened : (lines : List (List ℕ)) (fault : ℕ × Refusal) (first : Result (Unit {0}) Refusal) (others : Result (List (ℕ × Call)) (ℕ × Refusal))
+    → (at_line 1 first >>= λ _. let r : Result LinesLeft (ℕ × Refusal) = Ok (record { number = 2; lines = lines }) in r) ≡ Err fault
+    → (at_line 1 first >>= λ _. others) ≡ Err fault
+not_opened lines fault (Ok tt) others is = absurd (cc)
+not_opened lines fault (Err reason) others is = cc
+
+no_tree : (first : List ℕ) (lines : List (List ℕ)) → first_line first ≡ Ok tt → tree_lines (first ∷ lines) ≡ None
+no_tree first lines is = by (nat_lt most_line_bytes (length first)) (bytes_eq first (codes "zxtt 1")) refl is
+  where
+    by : (long one : Bool) → bytes_eq first (codes "zxtt 1") ≡ one
+        → (let r : Result (Unit {0}) Refusal = cond long (Err LineTooLong) (cond one (Ok tt) (Err (BadLine 1))) in r ≡ Ok tt) → tree_lines (first ∷ lines) ≡ None
+    by true one named is = absurd (cc)
+    by false true named is = let same : first ≡ codes "zxtt 1" = (bytes_decides first (codes "zxtt 1")).0 named in rw same refl
+    by false false named is = absurd (cc)
+
+row_text : (lines : List (List ℕ)) (left : LinesLeft) → row_lines lines ≡ Ok left
+    → (tree_lines lines ≡ None) × (calls_of_lines lines ≡ calls_left left) × (has_call left.lines ≡ true → has_call_behind lines ≡ true)
 row_text [] left is = absurd (cc)
-row_text (first ∷ lines) left is = behind_row first lines left (bytes_eq first (codes "zxtt 1")) refl is
+row_text (first ∷ lines) left is =
+    let at = opened lines left (first_line first) is in
+    (no_tree first lines at.0, rw (at.0, at.1) refl, rw (at.0, at.1) (λ h. h))
 
-pub row_session : (text : List ℕ) (left : LinesLeft) → row_lines (lines_of text) ≡ Some left → session_of text ≡ calls_left left
+pub row_session : (text : List ℕ) (left : LinesLeft) → row_lines (lines_of text) ≡ Ok left → session_of text ≡ calls_left left
 unfolding session_of
 row_session text left is = (row_text (lines_of text) left is).1
 
-pub row_saved : (text : List ℕ) (left : LinesLeft) → row_lines (lines_of text) ≡ Some left → saved_of text ≡ tree_of (calls_left left)
+pub row_has : (text : List ℕ) (left : LinesLeft) → row_lines (lines_of text) ≡ Ok left → has_call left.lines ≡ true → session_has_call text ≡ true
+row_has text left is = (row_text (lines_of text) left is).2
+
+no_row : (lines : List (List ℕ)) (fault : ℕ × Refusal) → row_lines lines ≡ Err fault → calls_of_lines lines ≡ Err fault
+no_row [] fault is = cc
+no_row (first ∷ lines) fault is = not_opened lines fault (first_line first) (calls_in 2 lines) is
+
+-- the fault of the first line is that of the text
+pub row_unread : (text : List ℕ) (fault : ℕ × Refusal) → row_lines (lines_of text) ≡ Err fault → IsFaultOf (session_has_call text) (session_of text) fault
+unfolding session_of
+row_unread text fault is = rw (no_row (lines_of text) fault is) (inl refl)
+
+pub row_saved : (text : List ℕ) (left : LinesLeft) → row_lines (lines_of text) ≡ Ok left → saved_of text ≡ tree_of (calls_left left)
 row_saved text left is = of_row text (row_text (lines_of text) left is).0 ∙ ap row_of (row_session text left is) ∙ by (calls_left left)
   where
     by : (r : Result (List (ℕ × Call)) (ℕ × Refusal)) → row_of r ≡ tree_of r

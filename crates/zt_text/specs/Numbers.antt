@@ -5,6 +5,7 @@ use Rattle.std.specs.Option.{option_map, option_and_then}
 use Rattle.std.specs.List.{list_all, starts_with}
 use Rattle.std.specs.Str.Parse.{digits_value}
 use Rattle.zt_bits.specs.declared.signal_bits.Signals.{Signals}
+use Rattle.zt_rows.specs.Room.{most_calls}
 
 -- a zero stands before other digits
 abbrev pub has_leading_zero : List ℕ → Bool
@@ -60,7 +61,7 @@ positive None = None
 positive (Some n) = if n == 0 then None else Some n
 
 abbrev pub count_of : List ℕ → Option ℕ
-count_of field = positive (decimal_of 1048576 field)
+count_of field = positive (decimal_of most_calls field)
 
 -- a number below zero; there is no zero with a sign
 abbrev pub negative : ℕ → Option ℤ

@@ -1,6 +1,5 @@
 -- Used by proofs only: no public clause depends on them.
 pub mod Calls
-pub mod Session
 pub mod Cut
 pub mod Lists
 pub mod SavedTexts

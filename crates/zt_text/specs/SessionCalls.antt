@@ -1,24 +1,25 @@
 -- The calls of a session text of version 1, one after another: what is left to be read, and what comes next.
-use Rattle.std.specs.Prelude.{◌≡◌, ℕ, ◌+◌, not, List, [], ◌∷◌, count_by, codes, Option, Some, None, is_some, Result, Ok, Err, if◌then◌else◌}
-use Rattle.std.specs.Str.{bytes_eq}
+use Rattle.std.specs.Prelude.{◌≡◌, ℕ, ◌+◌, not, List, [], ◌∷◌, count_by, Option, Some, None, is_some, Result, Ok, Err}
 use Rattle.zt_rows.specs.declared.refusals.Refusal.{Refusal}
+use Rattle.zt_rows.specs.declared.refusals.Refusal.TheVariants.{BadLine}
 use Rattle.zt_rows.specs.declared.calls.Call.{Call}
 use Rattle.zt_rows.specs.declared.saved.Saved.{Saved}
 use Rattle.zt_rows.specs.CallsInARow.{in_a_row}
 use Rattle.zt_text.specs.Fields.{◌>>=◌}
 use Rattle.zt_text.specs.ReadLines.{is_skipped}
-use Rattle.zt_text.specs.Session.{at_line, call_in, calls_in, IsWantOfMemory}
+use Rattle.zt_text.specs.Session.{at_line, call_in, calls_in, first_line, IsWantOfMemory}
 
 -- the lines that are left, of which the first has this number
 pub record LinesLeft : Type 0 where
   pub number : ℕ
   pub lines : List (List ℕ)
 
--- the lines behind a first line `zxtt 1`
-abbrev pub row_lines : List (List ℕ) → Option LinesLeft
-row_lines [] = None
-row_lines (first ∷ lines) =
-    if bytes_eq first (codes "zxtt 1") then Some (record { number = 2; lines = lines }) else None
+-- the lines behind the first line `zxtt 1`, or the fault of that; an empty text has a fault in its first line
+abbrev pub row_lines : List (List ℕ) → Result LinesLeft (ℕ × Refusal)
+row_lines [] = Err (1, BadLine 1)
+row_lines (first ∷ lines) = do
+  _ ← at_line 1 (first_line first)
+  Ok (record { number = 2; lines = lines })
 
 -- all calls left, or the first fault
 abbrev pub calls_left : LinesLeft → Result (List (ℕ × Call)) (ℕ × Refusal)

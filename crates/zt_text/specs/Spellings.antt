@@ -2,6 +2,7 @@
 use Rattle.std.specs.Prelude.{◌≡◌, ℕ, ◌^◌, ◌<◌, ◌≤◌, ⊤, Bool, true, false, not, ◌==◌, List, [], ◌∷◌, length, Option, Some, Ok, codes}
 use Rattle.std.specs.List.{All, list_all}
 use Rattle.std.specs.Fmt.{decimal}
+use Rattle.zt_rows.specs.Room.{most_calls}
 use Rattle.zt_rows.specs.declared.calls.Call.{Call}
 use Rattle.zt_rows.specs.declared.calls.Command.{Command}
 use Rattle.zt_rows.specs.declared.calls.Command.TheVariants as commands
@@ -67,7 +68,7 @@ IsNameAsked name = (1 ≤ length name) × (length name ≤ 139993) × All IsVisi
 abbrev pub IsCommandAsked : Command → Type 0
 IsCommandAsked (commands.Call process made) = (process < 2 ^ 64) × IsWithin made
 IsCommandAsked (commands.Goto moment) = moment < 2 ^ 32
-IsCommandAsked (commands.Back count) = (1 ≤ count) × (count ≤ 1048576)
+IsCommandAsked (commands.Back count) = (1 ≤ count) × (count ≤ most_calls)
 IsCommandAsked (commands.Branch name) = IsNameAsked name
 IsCommandAsked (commands.Follow name) = IsNameAsked name
 IsCommandAsked commands.Show = ⊤

@@ -36,9 +36,9 @@ use zt_rows::{Call, Cursor, Koid, Row, RowKey, Saved, SavedBranch, SavedCall};
 /// first fault.
 #[tactic(auto, using(crate::proofs::SessionCallLemmas::row_session, crate::proofs::SessionCallLemmas::row_saved, crate::proofs::SessionCallLemmas::row_more_left, crate::proofs::SessionCallLemmas::rest_shorter, crate::proofs::SessionCallLemmas::row_ended, crate::proofs::SessionCallLemmas::row_fault))]
 pub fn calls_one_by_one_are_those_of_the_text()
-    ensures session { (text : List ℕ) (left : LinesLeft) → row_lines (lines_of text) ≡ Some left
+    ensures session { (text : List ℕ) (left : LinesLeft) → row_lines (lines_of text) ≡ Ok left
         → session_of text ≡ calls_left left }
-    ensures saved { (text : List ℕ) (left : LinesLeft) → row_lines (lines_of text) ≡ Some left
+    ensures saved { (text : List ℕ) (left : LinesLeft) → row_lines (lines_of text) ≡ Ok left
         → saved_of text ≡ tree_of (calls_left left) }
     ensures next { (left behind : LinesLeft) (made : ℕ × Call) → next_call left ≡ Ok (Some made, behind)
         → calls_left left ≡ in_front_of made (calls_left behind) }

@@ -1,51 +1,32 @@
-ghost use Rattle.std.specs.Prelude.{◌≡◌, ◌∷◌, [], codes, IfOk, IfErr, OnOk};
-ghost use Rattle.zt_rows.specs.CallsInARow.{as_moment};
-ghost use Rattle.zt_text.specs.Lines.{lines_of};
-ghost use Rattle.zt_text.specs.Session.{call_in, calls_in, session_of};
+ghost use Rattle.std.specs.Prelude.{◌≡◌, ◌∷◌, [], codes, IfOk, IfErr};
+ghost use Rattle.zt_rows.specs.CallsInARow.{as_moment, in_a_row, moments_from};
+ghost use Rattle.zt_text.specs.Session.{session_of};
 ghost use Rattle.zt_text.specs.SavedTexts.{IsUnreadTree};
-ghost use Rattle.zt_text.specs.ProofsOnly.Session.{IsNotTaken};
-ghost use Rattle.zt_text.specs.ProofsOnly.SavedTexts.{row_of, row_tree, IsRowOf, IsTakenInARow};
+ghost use Rattle.zt_text.specs.ProofsOnly.SavedTexts.{row_of};
 
-use crate::session_text::{call_in, fault_at, first_line, next_line};
+use crate::session_text::read_session;
 use std::alloc::{AllocError, Global};
-use zt_rows::{Items, Moment, Refusal, Saved, SavedBranch, SavedCall};
+use zt_rows::{Call, Items, Koid, Moment, Refusal, Saved, SavedBranch, SavedCall};
 
 /// The tree of a session text of version 1, each call of which is made at the moment of the one before it.
-#[tactic(auto, unfolding(crate::specs::Session::session_of))]
-pub fn read_row(alloc: Global, text: &[u8]) -> Result<Saved, (u64, Refusal)>
+#[tactic(auto, using(crate::proofs::SavedLemmas::row_read, crate::proofs::SavedLemmas::row_faulty, crate::proofs::SavedLemmas::row_wanted))]
+pub(crate) fn read_row(alloc: Global, text: &[u8]) -> Result<Saved, (u64, Refusal)>
     ensures read { IfOk result (λ saved. row_of (session_of text.now) ≡ Ok saved) }
     ensures refused { IfErr result (λ fault. IsUnreadTree (row_of (session_of text.now)) fault) }
 {
-    if text.is_empty() {
-        return Err((1, Refusal::BadLine(1)));
-    }
-    let (first, left) = next_line(text);
-    match first_line(first) {
-        Ok(()) => read_calls(alloc, left),
-        Err(fault) => Err(fault_at(1, fault)),
+    let calls = read_session(alloc, text)?;
+    match tree_of(alloc, calls) {
+        Ok(saved) => Ok(saved),
+        Err(_) => Err((0, Refusal::OutOfMemory)),
     }
 }
 
-/// The tree of the calls of the lines behind the first.
-#[tactic(auto, using(crate::proofs::RowLemmas::row_tree_read))]
-fn read_calls(alloc: Global, text: &[u8]) -> Result<Saved, (u64, Refusal)>
-    ensures read { IfOk result (λ saved. row_of (calls_in 2 (lines_of text.now)) ≡ Ok saved) }
-    ensures refused { IfErr result (λ fault. IsUnreadTree (row_of (calls_in 2 (lines_of text.now))) fault) }
+/// The tree of calls each of which is made at the moment of the one before it.
+fn tree_of(alloc: Global, calls: Vec<(Koid, Call)>) -> Result<Saved, AllocError>
+    ensures { IfOk result (λ saved. saved ≡ in_a_row calls.items) }
 {
-    match moments_in(alloc, text) {
-        Ok(moments) => match tree_of(alloc, moments) {
-            Ok(saved) => Ok(saved),
-            Err(_) => Err((0, Refusal::OutOfMemory)),
-        },
-        Err(fault) => Err(fault),
-    }
-}
-
-/// The tree of moments each of which was made at the one before it.
-fn tree_of(alloc: Global, moments: Vec<SavedCall>) -> Result<Saved, AllocError>
-    ensures { IfOk result (λ saved. saved ≡ row_tree moments.items) }
-{
-    let branches = main_branch(alloc, as_moment(moments.len()))?;
+    let branches = main_branch(alloc, as_moment(calls.len()))?;
+    let moments = moments_of(alloc, calls)?;
     Ok(Saved {
         moments: Items::new(moments),
         branches,
@@ -63,52 +44,20 @@ fn main_branch(alloc: Global, head: Moment) -> Result<Items<SavedBranch>, AllocE
     Ok(Items::new(branches))
 }
 
-/// The moments of the calls of these lines.
-fn moments_in(alloc: Global, text: &[u8]) -> Result<Vec<SavedCall>, (u64, Refusal)>
-    ensures read { IfOk result (λ moments. IsRowOf (calls_in 2 (lines_of text.now)) moments.items) }
-    ensures refused { IfErr result (λ fault. IsUnreadTree (row_of (calls_in 2 (lines_of text.now))) fault) }
+/// The moments of these calls.
+fn moments_of(alloc: Global, calls: Vec<(Koid, Call)>) -> Result<Vec<SavedCall>, AllocError>
+    ensures { IfOk result (λ moments. moments.items ≡ moments_from 0 calls.items) }
 {
-    let mut moments = Vec::new(alloc);
-    let mut left = text;
-    let mut number = 2;
-    while !left.is_empty() {
-        let (line, others) = next_line(left);
-        match take_line(alloc, &mut moments, line, number) {
-            Ok(()) => {}
-            Err(fault) => return Err(fault),
-        }
-        left = others;
-        number += 1;
+    let mut moments = Vec::with_capacity(alloc, calls.len())?;
+    'calls: for (process, call) in calls {
+        let parent = as_moment(moments.len());
+        moments.push(SavedCall {
+            parent,
+            process,
+            call,
+        })?;
     }
     Ok(moments)
-}
-
-/// Puts the moment of the call of the line of this number behind those before it, unless the line is skipped.
-#[inline(always)]
-fn take_line(
-    alloc: Global,
-    moments: &mut Vec<SavedCall>,
-    line: &[u8],
-    number: u64,
-) -> Result<(), (u64, Refusal)>
-    ensures taken { OnOk result (IsTakenInARow moments.old.items (call_in line.now) moments.new.items) }
-    ensures refused { IfErr result (λ fault. IsNotTaken number (call_in line.now) fault) }
-{
-    match call_in(alloc, line) {
-        Ok(None) => Ok(()),
-        Ok(Some((process, call))) => {
-            let parent = as_moment(moments.len());
-            match moments.push(SavedCall {
-                parent,
-                process,
-                call,
-            }) {
-                Ok(()) => Ok(()),
-                Err(_) => Err((0, Refusal::OutOfMemory)),
-            }
-        }
-        Err(fault) => Err(fault_at(number, fault)),
-    }
 }
 
 /// The moment of this number, or that with the largest number that there is.

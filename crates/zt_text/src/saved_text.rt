@@ -43,10 +43,8 @@ fn read_tree(alloc: Global, text: &[u8]) -> Result<Saved, (u64, Refusal)>
     ensures refused { IfErr result (λ fault. IsUnreadTree (with_lines bare 2 (lines_of text.now)) fault) }
 {
     let mut tree = SavedLists::new(alloc);
-    match take_lines(alloc, &mut tree, text) {
-        Ok(()) => Ok(tree.into_saved()),
-        Err(fault) => Err(fault),
-    }
+    take_lines(alloc, &mut tree, text)?;
+    Ok(tree.into_saved())
 }
 
 /// Adds what lines tell, of which the first has the number 2.

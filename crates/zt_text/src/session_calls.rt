@@ -1,11 +1,10 @@
-ghost use Rattle.std.specs.Prelude.{◌≡◌, ℕ, Option, Ok, true, is_ok, is_some, length, IfOk, IfErr, OnOk, OnErr};
-ghost use Rattle.zt_rows.specs.declared.calls.Call.{Call};
+ghost use Rattle.std.specs.Prelude.{◌≡◌, Ok, true, is_ok, length, IfOk, IfErr, OnOk, OnErr};
 ghost use Rattle.zt_text.specs.Lines.{lines_of};
 ghost use Rattle.zt_text.specs.Session.{has_call, IsFaultOf};
 ghost use Rattle.zt_text.specs.SessionCalls.{calls_counted, calls_left, next_call, row_lines, IsNotNext};
 
 use crate::read_lines::is_skipped;
-use crate::session_text::{call_in, fault_at, next_line};
+use crate::session_text::{call_in, fault_at, first_line, next_line};
 use std::alloc::Global;
 use std::marker::Model;
 use zt_rows::{Call, Koid, Refusal};
@@ -29,18 +28,17 @@ impl<'a> Model for SessionCalls<'a> {
 }
 
 impl<'a> SessionCalls<'a> {
-    /// All calls of a session text of version 1; nothing, where the text has another first line.
-    pub fn new(text: &'a [u8]) -> Option<SessionCalls<'a>>
+    /// All calls of a session text of version 1, or the fault of its first line.
+    pub fn new(text: &'a [u8]) -> Result<SessionCalls<'a>, (u64, Refusal)>
         ensures { result ≡ row_lines (lines_of text.now) }
     {
         if text.is_empty() {
-            return None;
+            return Err((1, Refusal::BadLine(1)));
         }
         let (first, left) = next_line(text);
-        if first == b"zxtt 1".as_slice() {
-            Some(SessionCalls { left, number: 2 })
-        } else {
-            None
+        match first_line(first) {
+            Ok(()) => Ok(SessionCalls { left, number: 2 }),
+            Err(fault) => Err(fault_at(1, fault)),
         }
     }
 
@@ -82,24 +80,8 @@ impl<'a> SessionCalls<'a> {
         ensures read { OnOk result (is_ok (calls_left self.old) ≡ true) }
         ensures refused { IfErr result (IsFaultOf (has_call self.old.lines) (calls_left self.old)) }
     {
-        'calls: loop {
-            match self.pass(alloc) {
-                Ok(true) => {}
-                Ok(false) => return Ok(()),
-                Err(fault) => return Err(fault),
-            }
-        }
-    }
-
-    /// Reads the next call and lets it go, and tells whether there was one.
-    fn pass(&mut self, alloc: Global) -> Result<bool, (u64, Refusal)>
-        ensures read { IfOk result (λ some. (made : Option (ℕ × Call)) × (next_call self.old ≡ Ok (made, self.new)) × (some ≡ is_some made)) }
-        ensures refused { IfErr result (IsNotNext (next_call self.old)) }
-    {
-        match self.next(alloc) {
-            Ok(made) => Ok(made.is_some()),
-            Err(fault) => Err(fault),
-        }
+        'calls: while let Some(_made) = self.next(alloc)? {}
+        Ok(())
     }
 
     /// How many calls are left, if each line left reads. It takes no memory.

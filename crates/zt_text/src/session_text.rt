@@ -1,32 +1,32 @@
-ghost use Rattle.std.specs.Prelude.{◌≡◌, ◌∷◌, ◌<◌, true, length, is_some, IfOk, IfErr, OnOk};
+ghost use Rattle.std.specs.Prelude.{◌≡◌, ◌∷◌, ◌<◌, true, length, is_some, IfOk, IfErr};
 ghost use Rattle.zt_text.specs.Lines.{lines_of};
 ghost use Rattle.zt_text.specs.ReadLines.{IsUnread};
 ghost use Rattle.zt_text.specs.ReadCalls.{process_call};
-ghost use Rattle.zt_text.specs.Session.{call_in, fault_at, first_line, calls_in, has_call, session_of, session_has_call, line_of_call, line_of_call_in, IsFaultOf};
-ghost use Rattle.zt_text.specs.ProofsOnly.Session.{IsTaken, IsNotTaken};
+ghost use Rattle.zt_text.specs.Session.{call_in, fault_at, first_line, session_of, session_has_call, line_of_call, line_of_call_in, IsFaultOf};
 
 use crate::fields::Fields;
 use crate::read_calls::call;
 use crate::read_lines::{LINE_BYTES, fields_in, is_skipped};
 use crate::separator::cut;
+use crate::session_calls::SessionCalls;
 use std::alloc::Global;
 use zt_rows::{Call, Koid, Refusal};
 
 /// The calls of a session text in their order: behind its first line `zxtt 1` each line is a call, or empty, or begins
 /// with `#`. The number with a refusal is that of the line at fault, counted from 1, and 0 where memory was refused.
-#[tactic(auto, unfolding(crate::specs::Session::session_of))]
 pub fn read_session(alloc: Global, text: &[u8]) -> Result<Vec<(Koid, Call)>, (u64, Refusal)>
     ensures read { IfOk result (λ calls. session_of text.now ≡ Ok calls.items) }
     ensures refused { IfErr result (λ fault. IsFaultOf (session_has_call text.now) (session_of text.now) fault) }
 {
-    if text.is_empty() {
-        return Err((1, Refusal::BadLine(1)));
+    let mut left = SessionCalls::new(text)?;
+    let mut calls = Vec::new(alloc);
+    'calls: while let Some(made) = left.next(alloc)? {
+        match calls.push(made) {
+            Ok(()) => {}
+            Err(_) => return Err((0, Refusal::OutOfMemory)),
+        }
     }
-    let (first, left) = next_line(text);
-    match first_line(first) {
-        Ok(()) => calls_in(alloc, left),
-        Err(fault) => Err(fault_at(1, fault)),
-    }
+    Ok(calls)
 }
 
 /// The first line of some bytes, and those behind its line feed.
@@ -52,46 +52,6 @@ pub(crate) fn first_line(line: &[u8]) -> Result<(), Refusal>
         Ok(())
     } else {
         Err(Refusal::BadLine(1))
-    }
-}
-
-/// The calls of the lines behind the first.
-fn calls_in(alloc: Global, text: &[u8]) -> Result<Vec<(Koid, Call)>, (u64, Refusal)>
-    ensures read { IfOk result (λ calls. calls_in 2 (lines_of text.now) ≡ Ok calls.items) }
-    ensures refused { IfErr result (λ fault. IsFaultOf (has_call (lines_of text.now)) (calls_in 2 (lines_of text.now)) fault) }
-{
-    let mut calls = Vec::new(alloc);
-    let mut left = text;
-    let mut number = 2;
-    while !left.is_empty() {
-        let (line, others) = next_line(left);
-        match take_line(alloc, &mut calls, line, number) {
-            Ok(()) => {}
-            Err(fault) => return Err(fault),
-        }
-        left = others;
-        number += 1;
-    }
-    Ok(calls)
-}
-
-/// Puts the call of the line of this number behind those before it, unless the line is skipped.
-fn take_line(
-    alloc: Global,
-    calls: &mut Vec<(Koid, Call)>,
-    line: &[u8],
-    number: u64,
-) -> Result<(), (u64, Refusal)>
-    ensures taken { OnOk result (IsTaken calls.old.items (call_in line.now) calls.new.items) }
-    ensures refused { IfErr result (λ fault. IsNotTaken number (call_in line.now) fault) }
-{
-    match call_in(alloc, line) {
-        Ok(None) => Ok(()),
-        Ok(Some(made)) => match calls.push(made) {
-            Ok(()) => Ok(()),
-            Err(_) => Err((0, Refusal::OutOfMemory)),
-        },
-        Err(fault) => Err(fault_at(number, fault)),
     }
 }
 

@@ -1,4 +1,2 @@
 pub mod Loading
 pub mod ClientLaws
-pub mod WordLaws
-pub mod QuestionLaws

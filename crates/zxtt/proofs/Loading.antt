@@ -25,8 +25,6 @@ some_loaded (Err reason) clients text h = tt
 told : (reason : Fault) (clients : ℕ) (text : List ℕ) → IsFaultOfText clients text reason → TellsOfSomeText clients reason
 told (fault.Trace line reason place) clients text h = (text, h)
 told (fault.Words error) clients text h = absurd h
-told (fault.Unread error) clients text h = absurd h
-told (fault.Unasked reason) clients text h = absurd h
 told (fault.Unopened path error) clients text h = absurd h
 told (fault.Unwritten part) clients text h = absurd h
 told (fault.Unlistened port error) clients text h = absurd h

@@ -1,12 +1,12 @@
 //! Who sits beside a person who runs lines: greets, prompts, answers what is asked of it, and explains lines that were refused.
 
 use crate::faults::Fault;
-use crate::heard::{Heading, said_of};
 use crate::place::Place;
 use std::alloc::AllocError;
 use std::cell::Cell;
 use std::io::IsTerminal;
 use zt_console::{Aside, Book, Host, Listener};
+use zt_words::{Heading, said_of};
 
 /// What hears the lines that are answered, and says on standard error what a person is to be told beside the answers. Where
 /// memory is refused it says nothing more.

@@ -3,29 +3,22 @@
 ghost use Rattle.std.specs.Prelude.{◌≡◌, ℕ};
 ghost use Rattle.zt_rows.specs.declared.refusals.Refusal.TheVariants as refusal;
 ghost use Rattle.zxtt.specs.declared.faults.Fault.TheVariants as fault;
-ghost use Rattle.zxtt.specs.Statuses.{fault_status, stopped_status};
+ghost use Rattle.zxtt.specs.Statuses.{fault_status, stopped_status, words_status};
 ghost use Rattle.zxtt.specs.Traces.{TellsOfSomeText};
 
-use crate::no_question::NoQuestion;
-use crate::trace_lines::TraceLine;
 use std::io;
 use thiserror::Error;
 use zt_files::FileFault;
 use zt_rows::Refusal;
 use zt_text::RefusalLine;
+use zt_words::{TraceLine, WordsFault};
 
 /// What ends the program before it is done.
 #[derive(Debug, Drop, Error)]
 pub enum Fault {
-    /// The words were not accepted, or help was asked for.
+    /// The words ask for nothing.
     #[error("{0}")]
-    Words(clap::Error),
-    /// The words are no text.
-    #[error("zxtt: the words cannot be read: {0}")]
-    Unread(io::Error),
-    /// The words ask no question.
-    #[error("{0}")]
-    Unasked(NoQuestion),
+    Words(WordsFault),
     /// A file could not be opened.
     #[error("zxtt: {path}: {error}")]
     Unopened {
@@ -82,7 +75,7 @@ impl Fault {
         ensures { result ≡ fault_status self.now }
     {
         match self {
-            Fault::Words(_) | Fault::Unread(_) | Fault::Unasked(_) => 2,
+            Fault::Words(fault) => words_status(fault),
             Fault::Unopened { .. } | Fault::Unlistened { .. } | Fault::Unconnected(_) => 3,
             Fault::Unwritten { .. } => 5,
             Fault::Refused(refusal) => stopped_status(*refusal),
@@ -91,9 +84,25 @@ impl Fault {
     }
 }
 
+impl From<WordsFault> for Fault {
+    fn from(fault: WordsFault) -> Fault {
+        Fault::Words(fault)
+    }
+}
+
 impl From<Refusal> for Fault {
     fn from(refusal: Refusal) -> Fault {
         Fault::Refused(refusal)
+    }
+}
+
+/// The exit status where the words ask for nothing.
+fn words_status(fault: &WordsFault) -> u8
+    ensures { result ≡ words_status fault.now }
+{
+    match fault {
+        WordsFault::OutOfMemory => 6,
+        _ => 2,
     }
 }
 

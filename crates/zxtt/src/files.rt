@@ -6,12 +6,12 @@ ghost use Rattle.zt_console.specs.LoadedText.{IsLoadedOf};
 ghost use Rattle.zxtt.specs.Traces.{IsFaultOfText, TellsOfSomeText};
 
 use crate::faults::Fault;
-use crate::trace_lines::TraceLine;
 use std::alloc::Global;
 use std::fs::File;
 use std::io::Read;
 use zt_console::{Book, LoadProgress, load_read, load_text_told, main_text, tree_text};
 use zt_files::{FileFault, Progress, is_regular, read_rest, rewind, write_whole};
+use zt_words::TraceLine;
 
 /// Opens a file to be read.
 pub fn open(rt: &HostRuntime, path: &str) -> Result<File, Fault>

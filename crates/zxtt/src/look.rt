@@ -8,8 +8,6 @@ use crate::answer_lines::{AnswerLines, Stopped};
 use crate::faults::Fault;
 use crate::files::load_looked;
 use crate::leave;
-use crate::look_words::Look;
-use crate::question::Question;
 use std::alloc::Global;
 use zt_history::{BranchId, History};
 use zt_look::{
@@ -19,20 +17,17 @@ use zt_look::{
     print_event, print_fate, print_handle, print_object, print_queued_message, print_when, summary,
 };
 use zt_rows::{Call, Happening, Koid, Moment, Refusal};
+use zt_words::{Look, Question};
 
 /// Answers what is asked, on standard output. Where nobody reads on, it ends at once, and all is well.
 pub fn look(rt: &HostRuntime, asked: &Look<'_>) -> Result<(), Fault> {
-    match load_looked(rt, asked.file) {
-        Ok(book) => {
-            let mut history = book.into_history();
-            let done = answer(rt, &mut history, asked);
-            leave(history);
-            match done {
-                Ok(()) | Err(Stopped::Unread) => Ok(()),
-                Err(Stopped::By(refusal)) => Err(Fault::Refused(refusal)),
-            }
-        }
-        Err(fault) => Err(fault),
+    let book = load_looked(rt, asked.file)?;
+    let mut history = book.into_history();
+    let done = answer(rt, &mut history, asked);
+    leave(history);
+    match done {
+        Ok(()) | Err(Stopped::Unread) => Ok(()),
+        Err(Stopped::By(refusal)) => Err(Fault::Refused(refusal)),
     }
 }
 

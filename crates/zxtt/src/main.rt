@@ -10,27 +10,16 @@ ghost use Rattle.zxtt.specs.declared.faults.Fault.TheVariants.{Refused};
 ghost use Rattle.zxtt.specs.Statuses.{end_status};
 ghost use Rattle.zxtt.specs.Traces.{BeginsFrom};
 
-mod advice;
 mod answer_lines;
 mod attendant;
 mod connections;
-mod explanation;
 mod faults;
-mod fields;
 mod files;
-mod heard;
 mod look;
-mod look_words;
-mod no_question;
 mod place;
-mod question;
-mod reason;
 mod service;
 mod terminal;
-mod trace_lines;
 mod typed_reader;
-mod wanted;
-mod words;
 
 use attendant::{Attendant, show_trace_line};
 use faults::Fault;
@@ -42,13 +31,13 @@ use std::mem::forget;
 use std::process::ExitCode;
 use terminal::Attended;
 use typed_reader::TypedLines;
-use words::{Asked, RunWords, ServeWords, Words};
 use zt_console::{Book, Counted, End, run_heard};
+use zt_words::{Asked, RunWords, ServeWords, Words, WordsFault};
 
 fn main(rt: HostRuntime) -> ExitCode {
     let words = match Words::of(&rt) {
         Ok(words) => words,
-        Err(fault) => return ended(&rt, &Err(fault), false),
+        Err(fault) => return ended(&rt, &Err(Fault::Words(fault)), false),
     };
     let done = match words.asked(rt.alloc()) {
         Ok(Asked::Run(asked)) => run_asked(&rt, &asked),
@@ -61,7 +50,7 @@ fn main(rt: HostRuntime) -> ExitCode {
             Err(fault) => Err(fault),
         },
         Ok(Asked::Look(asked)) => look(&rt, &asked),
-        Err(fault) => Err(fault),
+        Err(fault) => Err(Fault::Words(fault)),
     };
     let status = ended(&rt, &done, words.ask_to_explain());
     say_where_traces_stand(&rt, &words, &done);
@@ -85,7 +74,7 @@ fn ended(rt: &HostRuntime, done: &Result<(), Fault>, explains: bool) -> ExitCode
 
 /// Says where a trace stands among the words, if they were not accepted and have a file in the place of a subcommand.
 fn say_where_traces_stand(rt: &HostRuntime, words: &Words, done: &Result<(), Fault>) {
-    if !matches!(done, Err(Fault::Words(_))) {
+    if !matches!(done, Err(Fault::Words(WordsFault::Refused(_)))) {
         return;
     }
     if let Some(file) = words.file_alone(rt) {

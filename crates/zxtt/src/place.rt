@@ -1,9 +1,9 @@
 //! Where a client stands, by what it was answered last.
 
-use crate::fields::field;
 use std::alloc::{AllocError, Global};
 use zt_console::Book;
 use zt_rows::Cursor;
+use zt_words::field;
 
 /// Where a client stands.
 #[derive(Drop)]

@@ -9,7 +9,7 @@ use Rattle.zt_book.specs.declared.client.Client.{Client}
 use Rattle.zt_book.specs.declared.client.Cursor.{Cursor}
 use Rattle.zt_book.specs.declared.client.Cursor.TheVariants.{Follows, At}
 use Rattle.zt_book.specs.declared.log.Recorded.{Recorded}
-use Rattle.zt_book.specs.Session.{Session, first_client, most_rows}
+use Rattle.zt_book.specs.Session.{Session, first_client, most_clients, most_rows}
 use Rattle.zt_book.specs.Log.{BookView, SessionLog, IsCounted, IsWholeLog, Replays}
 
 -- ---- where clients can stand
@@ -55,7 +55,7 @@ clients_view h clients grown = record {
 }
 
 pub record AreClients (h : Timeline) (clients : List Client) (grown : Bool) : Type 0 where
-  pub few : length clients ≤ 4
+  pub few : length clients ≤ most_clients
   pub stand : Stand (record { tree = h.tree; clients = clients })
   pub can_retract : grown ≡ true → IsSome h.before
 

@@ -8,10 +8,14 @@ use Rattle.zt_rows.specs.declared.rows.Row.{Row}
 use Rattle.zt_rows.specs.declared.rows.Row.TheVariants as rows
 use Rattle.zt_rows.specs.State.{State, row}
 use Rattle.zt_rows.specs.Reads.{object}
+use Rattle.zt_rows.specs.Collect.{goes}
 use Rattle.zt_rows.specs.Tests.{among}
 use Rattle.zt_store.specs.StepView.{Stepping, listed}
 use Rattle.zt_cascade.specs.OneByOne.{is_named}
-use Rattle.zt_cascade.specs.ProofsOnly.ToldObjects.{IsListedFree}
+
+-- the object is in the list, if it goes
+abbrev pub IsListedFree : State → ℕ → List ℕ → Type 0
+IsListedFree S x list = goes S x ≡ true → among list x ≡ true
 
 -- two rows of an object by which it is kept alike, and keeps its parent alike
 pub record AreKept (o p : ObjectRow) : Type 0 where

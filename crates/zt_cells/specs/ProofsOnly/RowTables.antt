@@ -11,8 +11,6 @@ use Rattle.zt_rows.specs.State.{State, put, nothing}
 use Rattle.zt_cells.specs.ProofsOnly.TablePlaces.{cell, cell_at, entry, by_owner, lengths, entry_places}
 use Rattle.zt_cells.specs.TableSizes.{TableSizes, place_of, length_at}
 use Rattle.zt_cells.specs.declared.cells.row_tables.RowTables.{RowTables}
-use Rattle.zt_cells.specs.declared.cells.row_tables.OwnedTables.{OwnedTables}
-use Rattle.zt_cells.specs.declared.cells.row_tables.OwnedTables.TheVariants as tables
 
 -- what stands in the place of a key, or none where there is no such place
 unfoldable pub look : RowTables → RowKey → Option Row
@@ -37,9 +35,6 @@ places_in c =
 abbrev pub row_tables_of : Row → RowTables
 row_tables_of counters =
     record { counters = counters; objects = []; entries = [] ∷ [] ∷ [] ∷ [] ∷ []; messages = []; packets = []; waits = [] }
-
-abbrev pub row_tables_in : OwnedTables → RowTables
-row_tables_in (tables.All c) = c
 
 -- ---- the state
 

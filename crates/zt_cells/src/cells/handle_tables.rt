@@ -1,8 +1,9 @@
-ghost use Rattle.std.specs.Prelude.{◌≡◌, ◌≤◌, ◌<◌, ◌↔◌, ◌+◌, ◌-◌, ◌/◌, ◌%◌, ◌*◌, ◌^◌, ℕ, List, [], ◌∷◌, length, IfOk, OnOk, OnErr, None, nat_lt};
+ghost use Rattle.std.specs.Prelude.{◌≡◌, ◌≤◌, ◌<◌, ◌↔◌, ◌+◌, ◌-◌, ◌/◌, ◌%◌, ◌*◌, ◌^◌, ℕ, List, [], ◌∷◌, length, map, IfOk, OnOk, OnErr, None, nat_lt};
 ghost use Rattle.std.specs.Option.{option_copied};
 ghost use Rattle.zt_cells.specs.BareRows.{row_in};
 ghost use Rattle.zt_cells.specs.ProofsOnly.NextValues.{lesser_of, IsNextValue};
-ghost use Rattle.zt_cells.specs.ProofsOnly.TablePlaces.{entry, entry_places, entry_table, set_entry, by_owner, table};
+ghost use Rattle.zt_cells.specs.ProofsOnly.TablePlaces.{entry, entry_places, entry_table, lengths, set_entry, by_owner, table};
+ghost use Rattle.zt_cells.specs.TableSizes.{most_owners, most_places};
 
 use crate::cells::tables_by_owner::TablesByOwner;
 use std::alloc::{AllocError, Global};
@@ -127,7 +128,8 @@ impl Entries {
 
     /// From this koid on no process has entries.
     pub fn owners(&self) -> usize
-        ensures { (x h : ℕ) → result ≤ x → entry self.now x h ≡ None }
+        ensures end { (x h : ℕ) → result ≤ x → entry self.now x h ≡ None }
+        ensures places { result ≡ most_owners (map lengths self.now) }
     {
         let mut most = 0;
         for by_owner in &self.sizes {
@@ -141,6 +143,7 @@ impl Entries {
     pub fn end_of(&self, process: Koid) -> usize
         requires { entry_places self.now ≤ 2 ^ 48 }
         ensures end { (h : ℕ) → result ≤ h → entry self.now process h ≡ None }
+        ensures places { result ≡ 4 * most_places (map lengths self.now) process }
         ensures few { result ≤ 2 ^ 50 }
     {
         let mut most = 0;

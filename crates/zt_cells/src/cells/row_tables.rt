@@ -4,7 +4,7 @@ ghost use Rattle.zt_rows.specs.declared.keys.RowKey.TheVariants as key_variant;
 ghost use Rattle.zt_rows.specs.declared.rows.Row.TheVariants as rows;
 ghost use Rattle.zt_cells.specs.AlikeObjects.{AreAlike};
 ghost use Rattle.zt_cells.specs.BareRows.{row_under};
-ghost use Rattle.zt_cells.specs.ProofsOnly.RowTables.{row_tables_in, row_tables_of, look, places_in, sizes_of, Exchanged, MadeFor, Widened};
+ghost use Rattle.zt_cells.specs.ProofsOnly.RowTables.{row_tables_of, look, places_in, sizes_of, Exchanged, MadeFor, Widened};
 ghost use Rattle.zt_cells.specs.ProofsOnly.TablePlaces.{table};
 ghost use Rattle.zt_cells.specs.TableSizes.{objects_after, packets_after, waits_after, has_place, length_at, place_of};
 
@@ -16,7 +16,6 @@ use std::mem;
 use zt_rows::{Koid, ObjectRow, Row, RowKey};
 
 /// All tables of a store. Each key has one place in one of them.
-#[derive(Drop)]
 pub(crate) struct RowTables {
     pub counters: Row,
     pub objects: Table,
@@ -24,6 +23,21 @@ pub(crate) struct RowTables {
     pub messages: TablesByOwner,
     pub packets: TablesByOwner,
     pub waits: Table,
+}
+
+/// Lets all tables go in one call, so that a function that owns a store is proved without going through them at each of its
+/// ways out.
+impl Drop for RowTables {
+    fn drop(self) {
+        let RowTables {
+            counters: _counters,
+            objects: _objects,
+            entries: _entries,
+            messages: _messages,
+            packets: _packets,
+            waits: _waits,
+        } = self;
+    }
 }
 
 impl RowTables {
@@ -154,6 +168,7 @@ impl RowTables {
         ensures ok { OnOk result (MadeFor key self.old self.new) }
         ensures err { OnErr result (places_in self.new ≡ places_in self.old) }
     {
+        // A copy for the call that takes the key, which is matched on below.
         let asked = key;
         let len = place_of(asked) + 1;
         match key {
@@ -163,102 +178,6 @@ impl RowTables {
             RowKey::Msg(owner, _) => self.messages.grow(owner.0 as usize, len),
             RowKey::Packet(owner, _) => self.packets.grow(owner.0 as usize, len),
             RowKey::Wait(_) => self.waits.grow(len),
-        }
-    }
-}
-
-/// The tables of a store, which a caller drops by one call: who owns a store drops its fields one after another, but an
-/// enum's at once.
-#[derive(Drop)]
-pub(crate) enum OwnedTables {
-    All(RowTables),
-}
-
-impl OwnedTables {
-    /// No row but the counters, and no other place. It takes no memory.
-    pub fn new(alloc: Global, counters: Row) -> OwnedTables
-        ensures { row_tables_in result ≡ row_tables_of counters }
-    {
-        OwnedTables::All(RowTables::new(alloc, counters))
-    }
-
-    /// The tables.
-    pub fn row_tables(&self) -> &RowTables
-        ensures { result.now ≡ row_tables_in self.now }
-    {
-        match self {
-            OwnedTables::All(row_tables) => row_tables,
-        }
-    }
-
-    /// The row in the place of the key. It takes no memory.
-    #[inline(always)]
-    pub fn row(&self, key: RowKey) -> Option<&Row>
-        ensures { option_copied result ≡ look (row_tables_in self.now) key }
-    {
-        match self {
-            OwnedTables::All(row_tables) => row_tables.row(key),
-        }
-    }
-
-    /// How many places the table of the key has.
-    #[inline(always)]
-    pub fn len_at(&self, key: RowKey) -> usize
-        ensures { result ≡ length_at (sizes_of (row_tables_in self.now)) key }
-    {
-        match self {
-            OwnedTables::All(row_tables) => row_tables.len_at(key),
-        }
-    }
-
-    /// Exchanges the row, or none, with what stands in the place of the key. It takes no memory.
-    #[inline(always)]
-    pub fn exchange(&mut self, key: RowKey, kept: &mut Row)
-        requires { place_of key < length_at (sizes_of (row_tables_in self.old)) key }
-        ensures { Exchanged (row_tables_in self.old) (row_tables_in self.new) key (row_under key kept.old) (row_under key kept.new) }
-    {
-        match self {
-            OwnedTables::All(row_tables) => row_tables.exchange(key, kept),
-        }
-    }
-
-    /// Exchanges the object with the one of this koid, if there is one alike, and says whether there is. It takes no memory.
-    #[inline(always)]
-    pub fn exchange_alike(&mut self, koid: Koid, object: &mut ObjectRow) -> bool
-        requires { koid < length (row_tables_in self.old).objects }
-        ensures done { IsTrue result → Exchanged (row_tables_in self.old) (row_tables_in self.new) (key_variant.Object koid) (Some (rows.Object object.old)) (Some (rows.Object object.new)) }
-        ensures alike { IsTrue result → AreAlike object.new object.old }
-        ensures same { result ≡ false → (row_tables_in self.new ≡ row_tables_in self.old) × (object.new ≡ object.old) }
-    {
-        match self {
-            OwnedTables::All(row_tables) => row_tables.exchange_alike(koid, object),
-        }
-    }
-
-    /// Makes the places in the table of the key, up to its own.
-    #[inline(always)]
-    pub fn grow(&mut self, key: RowKey) -> Result<(), AllocError>
-        requires absent { length_at (sizes_of (row_tables_in self.old)) key ≤ place_of key }
-        requires near { place_of key < 2 ^ 62 }
-        ensures widened { Widened (row_tables_in self.old) (row_tables_in self.new) }
-        ensures waits { length (row_tables_in self.new).waits ≤ waits_after key (length (row_tables_in self.old).waits) }
-        ensures objects { length (row_tables_in self.new).objects ≤ objects_after key (length (row_tables_in self.old).objects) }
-        ensures packets { (x : ℕ) → length (table (row_tables_in self.new).packets x)
-            ≤ packets_after key x (length (table (row_tables_in self.old).packets x)) }
-        ensures ok { OnOk result (MadeFor key (row_tables_in self.old) (row_tables_in self.new)) }
-        ensures err { OnErr result (places_in (row_tables_in self.new) ≡ places_in (row_tables_in self.old)) }
-    {
-        match self {
-            OwnedTables::All(row_tables) => row_tables.grow(key),
-        }
-    }
-
-    /// Equal tables in memory of their own.
-    pub fn copy(&self) -> Result<OwnedTables, AllocError>
-        ensures { IfOk result (λ copied. copied ≡ self.now) }
-    {
-        match self {
-            OwnedTables::All(row_tables) => Ok(OwnedTables::All(row_tables.copy()?)),
         }
     }
 }

@@ -11,8 +11,11 @@ use Rattle.zt_console.specs.Conversations.{Manner, Answers, Talk}
 -- ---- lines
 
 -- so many bytes, one more than a line may have, decide how it reads
+abbrev pub decisive_bytes : ℕ
+decisive_bytes = 140001
+
 abbrev pub decisive : List ℕ → List ℕ
-decisive line = take 140001 line
+decisive line = take decisive_bytes line
 
 abbrev pub decisive_lines : List ℕ → List (List ℕ)
 decisive_lines bytes = map decisive (lines_of bytes)
@@ -29,7 +32,7 @@ pub record IsFirstFeed (bytes : List ℕ) (place : ℕ) : Type 0 where
 -- what is kept of a line
 pub record IsPart (kept : List ℕ) : Type 0 where
   pub one : has_no_feed kept ≡ true
-  pub short : length kept ≤ 140001
+  pub short : length kept ≤ decisive_bytes
 
 -- ---- answers
 

@@ -1,6 +1,6 @@
 -- Moments as they are kept, each with its depth, and as they are seen: how each was made, and the records.
 -- Used by proofs only.
-use Rattle.std.specs.Prelude.{◌≡◌, ℕ, zero, suc, ◌≤◌, true, List, map, length, set, Option, Some, None, slice_get}
+use Rattle.std.specs.Prelude.{◌≡◌, ℕ, zero, suc, ◌≤◌, Bool, true, List, map, length, set, Option, Some, None, slice_get}
 use Rattle.zt_rows.specs.declared.keys.RowKey.{RowKey}
 use Rattle.zt_rows.specs.declared.rows.Row.{Row}
 use Rattle.zt_rows.specs.declared.calls.Call.{Call}
@@ -22,9 +22,11 @@ made_as n = record { parent = n.parent; process = n.process; call = n.call; repl
 abbrev pub made_in : List MomentNode → List Made
 made_in nodes = map made_as nodes
 
+-- the moments and their records, and whether one more takes no memory
 pub record Chronicle : Type 0 where
   pub made : List Made
   pub records : List (List (RowKey × Option Row))
+  pub room : Bool
 
 -- the record of a moment; none of the opening, nor beyond the last
 abbrev pub record_at : List (List (RowKey × Option Row)) → ℕ → Option (List (RowKey × Option Row))

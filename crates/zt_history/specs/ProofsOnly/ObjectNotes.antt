@@ -10,19 +10,18 @@ use Rattle.zt_rows.specs.declared.rows.Row.{Row}
 use Rattle.zt_rows.specs.declared.rows.Row.TheVariants as rows
 use Rattle.zt_rows.specs.Change.{before}
 use Rattle.zt_rows.specs.Handles.{next_koid}
-use Rattle.zt_rows.specs.Reads.{is_live_job, is_live_process}
+use Rattle.zt_rows.specs.Reads.{is_live_job, is_live_process, names}
 use Rattle.zt_rows.specs.State.{State, row}
 use Rattle.zt_rows.specs.Tests.{among, exists}
 use Rattle.zt_store.specs.RecordLook.{held}
 use Rattle.zt_history.specs.declared.object_notes.Noted.{Noted}
 use Rattle.zt_history.specs.declared.object_notes.Noted.TheVariants as did
-use Rattle.zt_history.specs.declared.object_notes.ObjectNote.{ObjectNote}
+use Rattle.zt_history.specs.declared.object_notes.note_chains.ObjectNote.{ObjectNote}
 use Rattle.zt_history.specs.declared.object_notes.Sought.{Sought}
 use Rattle.zt_history.specs.declared.object_notes.Sought.TheVariants as sought
 use Rattle.zt_history.specs.declared.row_happenings.RowHappening.{RowHappening}
 use Rattle.zt_history.specs.declared.row_happenings.RowHappening.TheVariants as happening
 use Rattle.zt_history.specs.declared.row_happenings.ShownChanges.{ShownChanges}
-use Rattle.zt_history.specs.LetGo.{names}
 use Rattle.zt_history.specs.LostChild.{is_child_row}
 use Rattle.zt_history.specs.RowHappenings.{shows}
 use Rattle.zt_history.specs.Tree.{Made, parent_at, path, state_at}
@@ -66,6 +65,10 @@ tells what n = is_told what n.what
 abbrev pub note_with : ℕ → ℕ → Noted → ChangeNote
 note_with m x what = record { moment = m; koid = x; what = what }
 
+-- the same where it happened
+abbrev pub note_if : Bool → ℕ → ℕ → Noted → List ChangeNote
+note_if happened m x what = if happened then note_with m x what ∷ [] else []
+
 -- what shows in its row before the call and after it
 abbrev pub shown_by : Option Row → Option Row → ShownChanges
 shown_by r s = record {
@@ -76,21 +79,19 @@ shown_by r s = record {
 
 -- that, and nothing where nothing shows
 abbrev pub note_of : ℕ → ℕ → Option Row → Option Row → List ChangeNote
-note_of m x r s =
-    if shows happening.Made r s || (shows happening.Ended r s || shows happening.PeerClosed r s)
-    then note_with m x (did.Shown (shown_by r s)) ∷ []
-    else []
+note_of m x r s = note_if (shows happening.Made r s || (shows happening.Ended r s || shows happening.PeerClosed r s)) m x (did.Shown (shown_by r s))
 
--- the object is there in T, and the row s where a name of it stood does not name it
+-- the object is there in T, and the row s fails the test, under a key where one passed it before
+abbrev pub is_left : (ℕ → Option Row → Bool) → ℕ → Option Row → State → Bool
+is_left stands x s T = exists T x && not (stands x s)
+
+-- the same of a name of it
 abbrev pub is_let_go : ℕ → Option Row → State → Bool
-is_let_go x s T = exists T x && not (names x s)
-
-abbrev pub gone_note : ℕ → ℕ → ChangeNote
-gone_note m x = note_with m x did.LetGo
+is_let_go x s T = is_left names x s T
 
 -- that a name of an object went, by the row s after it; nothing where it did not
 abbrev pub gone_name : ℕ → Option Row → State → ℕ → List ChangeNote
-gone_name m s T x = if is_let_go x s T then gone_note m x ∷ [] else []
+gone_name m s T x = note_if (is_let_go x s T) m x did.LetGo
 
 -- the same of the handles of a message
 abbrev pub gone_names : ℕ → Option Row → State → List Held → List ChangeNote
@@ -111,16 +112,13 @@ abbrev pub parent_in : Option Row → Option ℕ
 parent_in (Some (rows.Object o)) = parent_of o
 parent_in _ = None
 
--- the object is there in T, and the row s where a live child of it stood is none of one
+-- the same of a live child of it
 abbrev pub is_lost : ℕ → Option Row → State → Bool
-is_lost x s T = exists T x && not (is_child_row x s)
-
-abbrev pub lost_note : ℕ → ℕ → ChangeNote
-lost_note m x = note_with m x did.LostChild
+is_lost x s T = is_left is_child_row x s T
 
 -- that a live child of it is none any more, by the row s after it; nothing where it is
 abbrev pub lost_child : ℕ → Option Row → State → ℕ → List ChangeNote
-lost_child m s T x = if is_lost x s T then lost_note m x ∷ [] else []
+lost_child m s T x = note_if (is_lost x s T) m x did.LostChild
 
 -- the same of a parent, where there is one
 abbrev pub lost_by : ℕ → Option Row → State → Option ℕ → List ChangeNote
@@ -202,8 +200,8 @@ abbrev pub IsSameEnd : List ℕ → List ℕ → Type 0
 IsSameEnd old new = (x : ℕ) → end_at new x ≡ end_at old x
 
 -- there are further changes behind
-pub record IsLonger (old new : List ObjectNote) : Type 0 where
-  pub more : List ObjectNote
+pub record IsLonger (old new : List ChangeNote) : Type 0 where
+  pub more : List ChangeNote
   pub apart : new ≡ old ++ more
 
 -- ---- changes that are dropped

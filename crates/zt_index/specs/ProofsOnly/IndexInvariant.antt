@@ -5,8 +5,6 @@ use Rattle.zt_rows.specs.declared.rows.ObjectRow.{ObjectRow}
 use Rattle.zt_rows.specs.declared.rows.Wait.{Wait}
 use Rattle.zt_rows.specs.State.{State}
 use Rattle.zt_index.specs.declared.index.RowChains.{RowChains}
-use Rattle.zt_index.specs.declared.index.OwnedChains.{OwnedChains}
-use Rattle.zt_index.specs.declared.index.OwnedChains.TheVariants as owned
 use Rattle.zt_index.specs.declared.index.Criterion.{Criterion}
 use Rattle.zt_index.specs.declared.index.Criterion.TheVariants as criterion
 use Rattle.zt_index.specs.Criteria.{is_at, is_below, is_by, is_for, is_on, objects_where, waits_where}
@@ -35,8 +33,3 @@ index_with S index n w = record {
 -- the index with the object of this koid, or none, in its bucket
 abbrev pub index_below : RowChains → ℕ → Option ObjectRow → RowChains
 index_below index x o = record index { parents = slice_set index.parents x (option_and_then bucket_below o) }
-
--- ---- the chains as their owner has them
-
-abbrev pub row_chains_in : OwnedChains → RowChains
-row_chains_in (owned.Whole chains) = chains

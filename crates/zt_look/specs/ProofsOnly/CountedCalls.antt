@@ -7,7 +7,8 @@ use Rattle.zt_bits.specs.declared.statuses.Status.{Status}
 use Rattle.zt_bits.specs.declared.statuses.Status.TheVariants as status
 use Rattle.zt_history.specs.Tree.{Made}
 use Rattle.zt_look.specs.declared.call_counts.CallCount.{CallCount}
-use Rattle.zt_look.specs.CallCounts.{status_number, status_of}
+use Rattle.zt_bits.specs.Words.{status_number}
+use Rattle.zt_rows.specs.Tests.{status_of}
 
 -- by process, then place
 abbrev pub answer_cmp : ℕ × ℕ → ℕ × ℕ → Ordering

@@ -11,7 +11,7 @@ use Rattle.zt_rows.specs.declared.rows.Row.{Row}
 use Rattle.zt_rows.specs.declared.rows.Row.TheVariants as rows
 use Rattle.zt_rows.specs.Keys.{rowkey_eq}
 use Rattle.zt_rows.specs.State.{State, row}
-use Rattle.zt_rows.specs.Reads.{object, on_object, is_job, is_live_process}
+use Rattle.zt_rows.specs.Reads.{is_job, is_live_process, names, object, on_object}
 use Rattle.zt_rows.specs.Settle.{is_child_process_of}
 use Rattle.zt_rows.specs.Tests.{among, count_row}
 use Rattle.zt_history.specs.Tree.{Made, state_at}
@@ -24,7 +24,7 @@ use Rattle.zt_queries.specs.declared.leak_graph.name_search.LeakTime.TheVariants
 use Rattle.zt_queries.specs.declared.leak_graph.name_search.FoundNames.{FoundNames}
 use Rattle.zt_queries.specs.declared.leak_graph.name_search.FoundNames.TheVariants as found_names
 use Rattle.zt_queries.specs.HappeningTimes.{happens, last_on}
-use Rattle.zt_history.specs.LetGo.{names, last_let_go}
+use Rattle.zt_history.specs.LetGo.{last_let_go}
 use Rattle.zt_history.specs.LostChild.{is_child_row, last_lost_child}
 
 -- the object is there, and is neither a job nor a process that runs: nothing keeps it but what names it

@@ -4,7 +4,7 @@
 //! lost an entry, so the notes of what was let go lead to it, and the count of its names tells when all are found. A live job is
 //! kept by its live children too, which are jobs of which the same holds: so it was leaked by the last call by which a name went or
 //! a child ended, its own or that of such an endpoint or job. Of a job that has ended the graph tells.
-ghost use Rattle.std.specs.Prelude.{◌≡◌, ◌≤◌, ◌==◌, ◌∷◌, [], false, true, Some, IfOk, OnOk, length, count_by};
+ghost use Rattle.std.specs.Prelude.{◌≡◌, ◌≤◌, ◌==◌, ◌∷◌, [], false, true, IfOk, OnOk, length, count_by};
 ghost use Rattle.std.specs.Option.{option_copied};
 ghost use Rattle.zt_rows.specs.declared.keys.RowKey.TheVariants as key_variant;
 ghost use Rattle.zt_rows.specs.Reads.{is_live_job, object, on_object};
@@ -18,7 +18,6 @@ ghost use Rattle.zt_index.specs.ProofsOnly.KoidCounts.{total};
 ghost use Rattle.zt_queries.specs.ProofsOnly.NameSearch.{AreFound, AreChildrenIn, IsHeldBy, is_passive, stands_passive, IsGuarded, later, Widens, with_end, IsNameCount, times_named, IsToldBy};
 
 use crate::leak_graph::unleaked_signs::is_entered;
-use crate::support_list::{is_live_job, is_live_process};
 use bitflags::Flags;
 use indexmap::IndexSet;
 use std::alloc::{AllocError, Global};
@@ -95,7 +94,7 @@ pub(crate) fn told_by_names(
         Some(found) => {
             if is_passive(&found) {
                 told_of_passive(alloc, history, koid)
-            } else if is_live_job(&found) && koid != ROOT_JOB {
+            } else if found.is_live_job() && koid != ROOT_JOB {
                 told_of_job(alloc, history, koid)
             } else {
                 Ok(told_by_entries(history, koid, koid))
@@ -109,7 +108,7 @@ pub(crate) fn told_by_names(
 fn is_passive(object: &ObjectRow) -> bool
     ensures { result ≡ is_passive object.now }
 {
-    object.kind != Kind::Job && !is_live_process(object)
+    object.kind != Kind::Job && !object.is_live_process()
 }
 
 /// The same of an object that is neither a job nor a process that runs: of the moment at which it ended, if it is a process, and
@@ -322,7 +321,7 @@ fn names_of(store: &Store, koid: Koid) -> u64
     let count = store.count(koid);
     match store.object(koid) {
         Some(found) => {
-            if is_live_job(&found) {
+            if found.is_live_job() {
                 count
                     .saturating_sub(store.child_jobs(koid))
                     .saturating_sub(store.child_processes(koid))

@@ -11,8 +11,7 @@ ghost use Rattle.zt_queries.specs.Leaks.{is_leaked};
 ghost use Rattle.zt_queries.specs.ProofsOnly.FirstLeak.{state_after, IsLast, is_sure, names_object, names_in, has_none, HoldsRowsOf, ShowsReached};
 ghost use Rattle.zt_queries.specs.ProofsOnly.RowHappenings.{AreWays};
 
-use crate::path_pair::{PathPair, is_there, object_in, row_at_fork, row_over};
-use crate::support_list::is_live_process;
+use crate::path_pair::{PathPair, is_there, row_at_fork, row_over};
 use zt_history::History;
 use zt_rows::{Koid, Moment, ROOT_JOB, Row, RowKey};
 use zt_store::{Record, Store};
@@ -74,8 +73,8 @@ fn last_shared_there(history: &History, ways: &PathPair, koid: Koid) -> PathPlac
 pub(crate) fn is_sure(row: Option<&Row>, koid: Koid) -> bool
     ensures { result ≡ is_sure (option_copied row.entry) koid }
 {
-    match object_in(row) {
-        Some(found) => koid == ROOT_JOB || is_live_process(&found),
+    match Row::as_object(row) {
+        Some(found) => koid == ROOT_JOB || found.is_live_process(),
         None => true,
     }
 }

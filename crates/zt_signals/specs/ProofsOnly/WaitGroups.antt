@@ -6,12 +6,11 @@ use Rattle.zt_rows.specs.State.{State}
 use Rattle.zt_signals.specs.declared.wait_group.WaitGroup.{WaitGroup}
 use Rattle.zt_signals.specs.declared.wait_group.WaitGroup.TheVariants as picked
 use Rattle.zt_signals.specs.ProofsOnly.KeyWalk.{IsNextThat, passes_under}
-use Rattle.zt_signals.specs.DroppedWaits.{is_wait_where, made_on, made_for, made_under}
+use Rattle.zt_signals.specs.DroppedWaits.{is_wait_where, made_on, made_under}
 
 -- the wait is one of those that are picked
 abbrev pub picks : WaitGroup → Wait → Bool
 picks (picked.On p h) = made_on p h
-picks (picked.For x) = made_for x
 picks (picked.Under x p h packet_key) = made_under x p h packet_key
 
 -- the wait of this number passes

@@ -17,22 +17,3 @@ IsBehindFirst lines (Some left) = lines ≡ Some (lines_of left.now)
 -- the tree of calls in a row
 abbrev pub row_of : Result (List (ℕ × Call)) (ℕ × Refusal) → Result Saved (ℕ × Refusal)
 row_of read = read >>= λ calls. Ok (in_a_row calls)
-
--- the moment of the call of a line, if it has one, behind those so far
-abbrev pub IsTakenInARow : List SavedCall → Result (Option (ℕ × Call)) Refusal → List SavedCall → Type 0
-IsTakenInARow moments (Ok None) taken = taken ≡ moments
-IsTakenInARow moments (Ok (Some made)) taken =
-    taken ≡ moments ++ (record { parent = as_moment (length moments); process = made.0; call = made.1 } ∷ [])
-IsTakenInARow moments (Err _) taken = ⊥
-
--- the moments of the calls that are read, in a row
-abbrev pub IsRowOf : Result (List (ℕ × Call)) (ℕ × Refusal) → List SavedCall → Type 0
-IsRowOf read moments = (calls : List (ℕ × Call)) × (read ≡ Ok calls) × (moments ≡ moments_from 0 calls)
-
--- the tree of moments in a row: the branch `main` leads to the last
-abbrev pub row_tree : List SavedCall → Saved
-row_tree moments = record {
-  moments = moments;
-  branches = record { name = codes "main"; head = as_moment (length moments) } ∷ [];
-  cursors = [];
-}

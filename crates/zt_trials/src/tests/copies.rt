@@ -3,7 +3,8 @@ use super::checks::check;
 use std::alloc::{AllocError, Global};
 use zt_bits::Signals;
 use zt_rows::{
-    Call, Event, HandleValue, Items, Koid, Message, Moment, Parcel, ROOT_PROCESS, Reply, Row, Wait,
+    Call, Cursor, Event, HandleValue, Items, Koid, Message, Moment, Parcel, ROOT_PROCESS, Reply,
+    Row, Saved, SavedBranch, SavedCall, Wait,
 };
 
 /// The bytes of what is copied. No clause tells them, so that who asks for them is proved without going over them.
@@ -132,4 +133,70 @@ fn events_are_copied(rt: HostRuntime) {
         },
     };
     check(&rt, is_event_copied(&event) == Ok(true));
+}
+
+/// A tree of one moment, of which a branch of this name is the head, and a client follows it.
+fn saved(alloc: Global) -> Result<Saved, AllocError> {
+    let mut moments = Vec::new(alloc);
+    moments.push(SavedCall {
+        parent: Moment(0),
+        process: ROOT_PROCESS,
+        call: Call::HandleClose {
+            handle: HandleValue(7),
+        },
+    })?;
+    let mut branches = Vec::new(alloc);
+    branches.push(SavedBranch {
+        name: bytes(alloc)?,
+        head: Moment(1),
+    })?;
+    let mut cursors = Vec::new(alloc);
+    cursors.push(Cursor::Follows(bytes(alloc)?))?;
+    cursors.push(Cursor::At(Moment(1)))?;
+    Ok(Saved {
+        moments: Items::new(moments),
+        branches: Items::new(branches),
+        cursors: Items::new(cursors),
+    })
+}
+
+fn has_the_moment(saved: &Saved) -> bool {
+    match saved.moments.as_slice() {
+        [made] => {
+            made.parent == Moment(0)
+                && made.process == ROOT_PROCESS
+                && closed_by(&made.call) == Some(HandleValue(7))
+        }
+        _ => false,
+    }
+}
+
+fn has_the_branch(saved: &Saved) -> bool {
+    match saved.branches.as_slice() {
+        [branch] => branch.name.as_slice() == hi() && branch.head == Moment(1),
+        _ => false,
+    }
+}
+
+fn has_the_cursors(saved: &Saved) -> bool {
+    match saved.cursors.as_slice() {
+        [Cursor::Follows(name), Cursor::At(moment)] => {
+            name.as_slice() == hi() && *moment == Moment(1)
+        }
+        _ => false,
+    }
+}
+
+fn is_tree_copied(saved: &Saved) -> Result<bool, AllocError> {
+    let copied = saved.copy()?;
+    Ok(has_the_moment(&copied) && has_the_branch(&copied) && has_the_cursors(&copied))
+}
+
+#[test]
+fn saved_trees_are_copied(rt: HostRuntime) {
+    let copied = match saved(rt.alloc()) {
+        Ok(saved) => is_tree_copied(&saved),
+        Err(error) => Err(error),
+    };
+    check(&rt, copied == Ok(true));
 }

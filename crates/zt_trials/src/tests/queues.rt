@@ -67,7 +67,7 @@ fn message(alloc: Global, bytes: &[u8], handles: &[Held]) -> Result<Message, All
 fn has_room(step: &Step, endpoint: Koid) -> bool
     ensures { IsTrue result ↔ (next_at step.now.current endpoint + 1 < 2 ^ 64) }
 {
-    next_in(step.object(endpoint)) < u64::MAX
+    next_in(step.store().object(endpoint)) < u64::MAX
 }
 
 fn next_in(object: Option<ObjectRow>) -> u64
@@ -117,10 +117,10 @@ fn is_pushed(rt: &(impl Abort + AllocGlobal), step: &mut Step) -> bool {
 fn check_push(rt: &(impl Abort + AllocGlobal), step: &mut Step) {
     if !is_pushed(rt, step) {
         check(rt, is_first(step, 0, first()));
-        check(rt, step.message(NEAR, 2).is_none());
+        check(rt, step.store().message(NEAR, 2).is_none());
         check(rt, is_pushed(rt, step));
     }
-    check(rt, step.message(NEAR, 2).is_some());
+    check(rt, step.store().message(NEAR, 2).is_some());
 }
 
 #[test]

@@ -195,9 +195,10 @@ fn put_again(rt: &impl Abort, alloc: Global, step: Step, before: &Store) -> Step
 
 /// The numbers of a step over whose rows of all variants others were put, and what comes of it given up.
 fn check_put(rt: &impl Abort, step: Step, before: &Store) {
-    check(rt, step.count(EVENT) == 0);
-    check(rt, step.count(PORT) == 3);
-    check(rt, step.first_message(NEAR_END) == Some(1));
+    let store = step.store();
+    check(rt, store.count(EVENT) == 0);
+    check(rt, store.count(PORT) == 3);
+    check(rt, store.first_message(NEAR_END) == Some(1));
     check(rt, is_same(&step.abandon(), before));
 }
 

@@ -28,7 +28,7 @@ const DUPLICATE: Held = Held {
 fn has_room(step: &Step) -> bool
     ensures { IsTrue result ↔ (next_at step.now.current 1025 < 2 ^ 30) }
 {
-    next_in(step.object(ROOT_PROCESS)) < 1 << 30
+    next_in(step.store().object(ROOT_PROCESS)) < 1 << 30
 }
 
 fn next_in(object: Option<ObjectRow>) -> u64
@@ -56,9 +56,10 @@ fn opened(alloc: Global) -> Result<Step, AllocError> {
 
 /// Whether the first process has its first handle alone, and gives out the second next.
 fn is_as_begun(step: &Step) -> bool {
-    next_in(step.object(ROOT_PROCESS)) == 1
-        && step.entry(ROOT_PROCESS, FIRST_HANDLE).is_some()
-        && step.entry(ROOT_PROCESS, SECOND).is_none()
+    let store = step.store();
+    next_in(store.object(ROOT_PROCESS)) == 1
+        && store.entry(ROOT_PROCESS, FIRST_HANDLE).is_some()
+        && store.entry(ROOT_PROCESS, SECOND).is_none()
 }
 
 /// What the store after the step has at the second handle.
@@ -109,7 +110,7 @@ fn check_remove(rt: &impl Abort, step: &mut Step) {
         taken = remove(step, ROOT_PROCESS, FIRST_HANDLE);
     }
     check(rt, matches!(&taken, Ok(Some(_))));
-    check(rt, step.entry(ROOT_PROCESS, FIRST_HANDLE).is_none());
+    check(rt, step.store().entry(ROOT_PROCESS, FIRST_HANDLE).is_none());
 }
 
 #[test]

@@ -12,6 +12,6 @@ duplicate-requires c =
 pub returns-clause-does : goal.returns-clause-does
 returns-clause-does c =
     replace-does c.args.step.now c.take_out.new.step c.duplicate.new.step c.args.process c.args.handle c.args.rights c.in_ok-value.value c.in_ok-held.held c.in_ok-rights.rights
-    (sym c.entry.ensures ∙ c.in_ok-held.ensures.ok_part)
+    (sym (rw c.store.ensures at c.entry.ensures) ∙ c.in_ok-held.ensures.ok_part)
     (sym c.asked-granted.ensures ∙ ap (option_map (λ (r : Rights). r.0)) c.in_ok-rights.ensures.ok_part)
     c.in_ok-take_out.ensures.ok c.in_ok-value.ensures.installed c.in_ok-value.ensures.value

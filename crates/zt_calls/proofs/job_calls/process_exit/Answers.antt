@@ -6,6 +6,6 @@ use Rattle.zt_calls.proofs.job_calls.process_exit.Goals as goal
 
 pub returns-clause-does : goal.returns-clause-does
 returns-clause-does c =
-    let done = c.in_ok-end_process.ensures.ended (ends_with c.args.step.now.current c.args.process)
+    let done = c.in_ok-released.ensures.ended (ends_with c.args.step.now.current c.args.process)
     (caller-walkable c.args.step.now.current c.requires.sound c.args.process c.requires.running) in
     search rules

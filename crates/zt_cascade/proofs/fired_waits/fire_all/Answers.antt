@@ -35,4 +35,4 @@ returns-clause-ok c =
     (IsNonDecreasingBy-from_sort (λ x. x) c.sort_unstable.new.self.items c.sort_unstable.ensures.sorted)
 
 pub returns-then-not-ever_had_waits-clause-ok : goal.returns-then-not-ever_had_waits-clause-ok
-returns-then-not-ever_had_waits-clause-ok c = sym (fires-nothing c.args.step.now.beginning c.args.step.now.current (c.ever_had_waits.ensures.none c.if-not-ever_had_waits.true))
+returns-then-not-ever_had_waits-clause-ok c = sym (fires-nothing c.args.step.now.beginning c.args.step.now.current (rw c.store.ensures at (c.ever_had_waits.ensures.none c.if-not-ever_had_waits.true)))

@@ -19,7 +19,7 @@ tasks-init c =
 pub tasks-preserved : goal.tasks-preserved
 tasks-preserved c =
     let passes : ℕ → Bool = objects_where c.args.step.now.current (is_below c.args.parent) in
-    let is_next : IsNext passes c.tasks.low (Some c.in-Some.task) = subst (IsNext passes c.tasks.low) c.in-Some.is c.task_below.ensures in
+    let is_next : IsNext passes c.tasks.low (Some c.in-Some.task) = subst (IsNext passes c.tasks.low) c.in-Some.is (rw c.store.ensures at c.task_below.ensures) in
     let is = c.in_ok-note.ensures.known in
     record {
       known = λ x. passed_known passes c.tasks.low c.in-Some.task x (found c.args.known.now x) (found c.tasks.known x) (found c.note.new.known x) is_next (c.tasks.invariant.known x) (is x);

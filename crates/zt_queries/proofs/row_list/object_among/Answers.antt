@@ -14,7 +14,7 @@ loop-key-preserved c =
 pub returns-then-eq : goal.returns-then-eq
 returns-then-eq c =
     let same : rowkey_eq c.loop-key-item.result.0 (key.Object c.args.koid) ≡ true = sym c.eq.ensures ∙ c.if-eq.true in
-    c.as_object.ensures
+    (c.copied.ensures ∙ c.as_object.ensures)
     ∙ ap as_object (stands (key.Object c.args.koid) c.args.rows.now c.loop-key.key-index c.loop-key-item.result _ c.loop-key-test.true c.loop-key-item.is same c.loop-key.invariant)
 
 pub returns : goal.returns

@@ -7,13 +7,11 @@ use Rattle.zt_store.proofs.exchanged_rows.exchange_each.Goals as goal
 pub loop-place-init : goal.loop-place-init
 loop-place-init c = (swapping-start _ _ _ c.requires.distinct c.requires.suited c.requires.placed, refl, c.requires.even)
 
-pub exchange-requires-clause-placed : goal.exchange-requires-clause-placed
-exchange-requires-clause-placed c =
-    pairs-fits _ _ _ _ _ _ _ c.index-rows-place.result c.loop-place.invariant.2 (omega (arith, c.loop-place.invariant.2)) c.index-keys-place.is _ _ c.loop-place.invariant.0 c.loop-place.invariant.1
-
-pub exchange-requires-clause-suited : goal.exchange-requires-clause-suited
-exchange-requires-clause-suited c =
-    pairs-suits _ _ _ _ _ _ _ c.index-rows-place.result c.loop-place.invariant.2 (omega (arith, c.loop-place.invariant.2)) c.index-keys-place.is _ c.loop-place.invariant.0
+pub exchange-requires : goal.exchange-requires
+exchange-requires c = record {
+  placed = pairs-fits _ _ _ _ _ _ _ c.index-rows-place.result c.loop-place.invariant.2 (omega (arith, c.loop-place.invariant.2)) c.index-keys-place.is _ _ c.loop-place.invariant.0 c.loop-place.invariant.1;
+  suited = pairs-suits _ _ _ _ _ _ _ c.index-rows-place.result c.loop-place.invariant.2 (omega (arith, c.loop-place.invariant.2)) c.index-keys-place.is _ c.loop-place.invariant.0;
+}
 
 pub loop-place-preserved : goal.loop-place-preserved
 loop-place-preserved c =

@@ -23,9 +23,9 @@ fn when(
         return Err(Refusal::NoMoment);
     }
     match what {
-        Happening::Made => made(alloc, history, at, koid),
-        Happening::Ended => ended(alloc, history, at, koid),
-        Happening::PeerClosed => peer_closed(alloc, history, at, koid),
+        Happening::Made => made(history, at, koid),
+        Happening::Ended => ended(history, at, koid),
+        Happening::PeerClosed => peer_closed(history, at, koid),
         Happening::Leaked => leaked_since(alloc, history, at, koid),
     }
 }

@@ -14,13 +14,13 @@ use Rattle.zt_book.proofs.calls_in_a_row.CallsInARow.finish.Goals as goal
 pub begin-requires : goal.begin-requires
 begin-requires c =
     let t : Tree = c.self.inside.history.tree in
-    calls-begun c.in-Ok.all_clients.session (calls_of t.made) (head_moved t 0 (last_moment t)) c.args.clients (calls-loaded t c.self.invariant) c.requires
-    (c.in-Ok.ensures ∙ ap (λ (u : Tree). session_over u c.args.clients) c.lead_main_to_last.ensures)
+    calls-begun c.in_ok-all_clients.all_clients.session (calls_of t.made) (head_moved t 0 (last_moment t)) c.args.clients (calls-loaded t c.self.invariant) c.requires
+    (c.in_ok-all_clients.ensures ∙ ap (λ (u : Tree). session_over u c.args.clients) c.lead_main_to_last.ensures)
 
-pub returns-in-Ok-clause-ok : goal.returns-in-Ok-clause-ok
-returns-in-Ok-clause-ok c =
+pub returns-clause-ok : goal.returns-clause-ok
+returns-clause-ok c =
     let t : Tree = c.self.inside.history.tree in
     let same : session_over (head_moved t 0 (last_moment t)) c.args.clients ≡ c.begin.result.session =
-    sym (ap (λ (b : BookView). b.session) c.begin.ensures ∙ c.in-Ok.ensures ∙ ap (λ (u : Tree). session_over u c.args.clients) c.lead_main_to_last.ensures) in
+    sym (ap (λ (b : BookView). b.session) c.begin.ensures ∙ c.in_ok-all_clients.ensures ∙ ap (λ (u : Tree). session_over u c.args.clients) c.lead_main_to_last.ensures) in
     subst (λ calls. loaded_saved c.args.clients (in_a_row calls) ≡ Ok c.begin.result.session) c.self.view_is
     (row-session t c.self.invariant c.args.clients c.requires ∙ ap Ok same)

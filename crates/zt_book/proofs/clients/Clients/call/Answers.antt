@@ -1,6 +1,7 @@
 -- What the history did with the call is what the session does.
 use Rattle.std.proofs.Common.{Ok, sym, ◌∙◌, ap, subst}
 use Rattle.std.specs.Prelude.{is_some, Result}
+use Rattle.std.proofs.lemmas.Result.{err_from_is_err_and}
 use Rattle.zt_rows.specs.declared.calls.Answer.{Answer}
 use Rattle.zt_rows.specs.declared.refusals.Refusal.{Refusal}
 use Rattle.zt_history.specs.HistoryRefusals.{call_on, IsHistoryRefusal}
@@ -13,21 +14,24 @@ pub returns-in_default-clause-refused : goal.returns-in_default-clause-refused
 returns-in_default-clause-refused c =
     call-detached c.args.self.now.session c.args.client c.args.process _ c.args.call.now (sym c.in_default.ensures.cursor)
 
-pub invariant_of-self : goal.invariant_of-self
-invariant_of-self c =
+pub invariant_of-self-2 : goal.invariant_of-self-2
+invariant_of-self-2 c =
     all_clients-called c.self.inside.history c.call.new.self c.self.inside.clients.items c.self.inside.grown c.in-Follows.branch c.args.process c.args.call.now _
-    c.self.invariant c.in-Ok.ensures.ok (ap is_some c.in-Ok.ensures.before)
+    c.self.invariant c.in_ok-made.ensures.ok (ap is_some c.in_ok-made.ensures.before)
 
-pub returns-in-Ok-clause-ok : goal.returns-in-Ok-clause-ok
-returns-in-Ok-clause-ok c =
+pub returns-clause-ok : goal.returns-clause-ok
+returns-clause-ok c =
     call-seen c.args.self.now.session (record { tree = c.call.new.self.tree; clients = c.self.inside.clients.items }) c.args.client c.args.process c.in-Follows.branch c.args.call.now _
     (sym c.in-Follows.ensures.cursor)
     ((λ i. call_on (sym c.self.view_is i).session.tree c.in-Follows.branch c.args.process c.args.call.now)
-    ∙ c.in-Ok.ensures.ok
+    ∙ c.in_ok-made.ensures.ok
     ∙ ap (λ a. let z : Result (Answer × Tree) Refusal = Ok (a, c.call.new.self.tree) in z) (sym c.new_moment.ensures))
     (ap (λ (d : ClientsView). d.session.clients) c.self.view_is)
 
-pub returns-in-Err-clause-refused : goal.returns-in-Err-clause-refused
-returns-in-Err-clause-refused c =
-    call-refused c.args.self.now.session c.args.client c.args.process c.in-Follows.branch c.args.call.now c.in-Err.refusal (sym c.in-Follows.ensures.cursor)
-    (subst (λ (d : ClientsView). IsHistoryRefusal (call_on d.session.tree c.in-Follows.branch c.args.process c.args.call.now) c.in-Err.refusal) c.self.view_is c.in-Err.ensures.refused)
+pub returns-in_err-made-clause-refused : goal.returns-in_err-made-clause-refused
+returns-in_err-made-clause-refused c =
+    let p = err_from_is_err_and c.from_residual.result c.from_residual.ensures.1 in
+    rw (p.1, p.2) (
+    call-refused c.args.self.now.session c.args.client c.args.process c.in-Follows.branch c.args.call.now c.in_err-made.field-0.0 (sym c.in-Follows.ensures.cursor)
+    (subst (λ (d : ClientsView). IsHistoryRefusal (call_on d.session.tree c.in-Follows.branch c.args.process c.args.call.now) c.in_err-made.field-0.0) c.self.view_is c.in_err-made.ensures.refused)
+    )

@@ -1,6 +1,7 @@
 -- The client has room, and what it asked is answered and counted.
 use Rattle.std.proofs.Common.{◌≤◌, ◌<◌, subst}
 use Rattle.std.proofs.lemmas.Bool.{lt-ltb}
+use Rattle.std.proofs.lemmas.Result.{err_from_is_err_and}
 use Rattle.zt_book.specs.declared.client.Client.{Client}
 use Rattle.zt_book.specs.Session.{client_of}
 use Rattle.zt_book.proofs.ClientsLaws.{serve-full}
@@ -14,34 +15,37 @@ returns-then-client-ge-CLIENT_ROWS-clause-refused c =
 
 pub count-requires-clause-known : goal.count-requires-clause-known
 count-requires-clause-known c =
-    still-known c.args.self.now c.answer.new.self c.answer.new.self c.args.client c.args.request.now c.in-Ok.said c.requires.numbered c.requires.known c.in-Ok.ensures.ok
+    still-known c.args.self.now c.answer.new.self c.answer.new.self c.args.client c.args.request.now c.in_ok-said.said c.requires.numbered c.requires.known c.in_ok-said.ensures.ok
 
 pub count-requires-clause-few : goal.count-requires-clause-few
 count-requires-clause-few c =
-    still-room c.args.self.now c.answer.new.self c.answer.new.self c.args.client c.args.request.now c.in-Ok.said c.requires.numbered c.requires.known c.in-Ok.ensures.ok
+    still-room c.args.self.now c.answer.new.self c.answer.new.self c.args.client c.args.request.now c.in_ok-said.said c.requires.numbered c.requires.known c.in_ok-said.ensures.ok
     (subst (λ (k : Client). k.rows < 4096) c.client.ensures.client c.if-client-ge-CLIENT_ROWS.false)
 
-pub returns-in-Ok-clause-ok : goal.returns-in-Ok-clause-ok
-returns-in-Ok-clause-ok c =
-    served c.args.self.now.session c.count.new.self.session c.args.client c.args.request.now c.in-Ok.said c.answer.new.self.session
+pub returns-clause-ok : goal.returns-clause-ok
+returns-clause-ok c =
+    served c.args.self.now.session c.count.new.self.session c.args.client c.args.request.now c.in_ok-said.said c.answer.new.self.session
     (lt-ltb (client_of c.args.self.now.session c.args.client).rows 4096 (subst (λ (k : Client). k.rows < 4096) c.client.ensures.client c.if-client-ge-CLIENT_ROWS.false))
-    c.in-Ok.ensures.ok c.count.ensures.session
+    c.in_ok-said.ensures.ok c.count.ensures.session
 
-pub returns-in-Ok-clause-room : goal.returns-in-Ok-clause-room
-returns-in-Ok-clause-room c = subst (λ (k : Client). k.rows < 4096) c.client.ensures.client c.if-client-ge-CLIENT_ROWS.false
+pub returns-clause-room : goal.returns-clause-room
+returns-clause-room c = subst (λ (k : Client). k.rows < 4096) c.client.ensures.client c.if-client-ge-CLIENT_ROWS.false
 
-pub returns-in-Ok-clause-one_more : goal.returns-in-Ok-clause-one_more
-returns-in-Ok-clause-one_more c =
-    served-more c.args.self.now c.answer.new.self c.count.new.self c.args.client c.args.request.now c.in-Ok.said c.requires.numbered c.requires.known c.in-Ok.ensures.ok
+pub returns-clause-one_more : goal.returns-clause-one_more
+returns-clause-one_more c =
+    served-more c.args.self.now c.answer.new.self c.count.new.self c.args.client c.args.request.now c.in_ok-said.said c.requires.numbered c.requires.known c.in_ok-said.ensures.ok
     c.count.ensures.session
 
-pub returns-in-Ok-clause-back : goal.returns-in-Ok-clause-back
-returns-in-Ok-clause-back c =
-    served-back c.args.self.now c.answer.new.self c.count.new.self c.args.client c.args.request.now c.in-Ok.said c.requires.numbered c.requires.known c.in-Ok.ensures.ok
-    c.count.ensures.session c.count.ensures.earlier c.in-Ok.ensures.earlier
+pub returns-clause-back : goal.returns-clause-back
+returns-clause-back c =
+    served-back c.args.self.now c.answer.new.self c.count.new.self c.args.client c.args.request.now c.in_ok-said.said c.requires.numbered c.requires.known c.in_ok-said.ensures.ok
+    c.count.ensures.session c.count.ensures.earlier c.in_ok-said.ensures.earlier
 
-pub returns-in-Err-clause-refused : goal.returns-in-Err-clause-refused
-returns-in-Err-clause-refused c =
-    serve-refused c.args.self.now.session c.args.client c.args.request.now c.in-Err.refusal
+pub returns-in_err-said-clause-refused : goal.returns-in_err-said-clause-refused
+returns-in_err-said-clause-refused c =
+    let p = err_from_is_err_and c.from_residual.result c.from_residual.ensures.1 in
+    rw (p.1, p.2) (
+    serve-refused c.args.self.now.session c.args.client c.args.request.now c.in_err-said.field-0.0
     (lt-ltb (client_of c.args.self.now.session c.args.client).rows 4096 (subst (λ (k : Client). k.rows < 4096) c.client.ensures.client c.if-client-ge-CLIENT_ROWS.false))
-    c.in-Err.ensures.refused
+    c.in_err-said.ensures.refused
+    )

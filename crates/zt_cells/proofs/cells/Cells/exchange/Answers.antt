@@ -1,5 +1,4 @@
 use Rattle.std.proofs.Common.{◌≡◌, true, subst, sym}
-use Rattle.zt_cells.specs.ProofsOnly.RowTables.{row_tables_in}
 use Rattle.zt_cells.specs.CellsView.{CellsView}
 use Rattle.zt_cells.specs.TableSizes.{has_place}
 use Rattle.zt_cells.proofs.CellsLaws.{place-there, cells-exchanged, seen-exchanged, out-exchanged}
@@ -15,8 +14,8 @@ invariant_of-self c =
 
 pub returns-clause-put : goal.returns-clause-put
 returns-clause-put c =
-    seen-exchanged (row_tables_in c.self.inside.tables) (row_tables_in c.exchange.new.self) c.args.self.now c.args.key _ _ c.self.view_is c.exchange.ensures
+    seen-exchanged c.self.inside.tables c.exchange.new.self c.args.self.now c.args.key _ _ c.self.view_is c.exchange.ensures
 
 pub returns-clause-was : goal.returns-clause-was
 returns-clause-was c =
-    out-exchanged (row_tables_in c.self.inside.tables) (row_tables_in c.exchange.new.self) c.args.self.now c.args.key _ _ c.self.view_is c.exchange.ensures
+    out-exchanged c.self.inside.tables c.exchange.new.self c.args.self.now c.args.key _ _ c.self.view_is c.exchange.ensures

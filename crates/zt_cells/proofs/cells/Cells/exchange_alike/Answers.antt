@@ -1,7 +1,7 @@
 use Rattle.std.proofs.Common.{◌≡◌, true, subst, sym}
 use Rattle.zt_rows.specs.declared.keys.RowKey.TheVariants as key
 use Rattle.zt_cells.specs.CellsView.{CellsView}
-use Rattle.zt_cells.specs.ProofsOnly.RowTables.{row_tables_in, sizes_of}
+use Rattle.zt_cells.specs.ProofsOnly.RowTables.{sizes_of}
 use Rattle.zt_cells.specs.TableSizes.{has_place}
 use Rattle.zt_cells.proofs.AlikeLaws.{cells-either}
 use Rattle.zt_cells.proofs.CellsLaws.{out-exchanged, place-there, seen-exchanged}
@@ -14,12 +14,12 @@ exchange_alike-requires c =
 
 pub invariant_of-self : goal.invariant_of-self
 invariant_of-self c =
-    cells-either (row_tables_in c.self.inside.tables) (row_tables_in c.exchange_alike.new.self) c.args.koid _ _ c.self.inside.places c.exchange_alike.result c.exchange_alike.ensures.done (λ e. (c.exchange_alike.ensures.same e).0) c.self.invariant
+    cells-either c.self.inside.tables c.exchange_alike.new.self c.args.koid _ _ c.self.inside.places c.exchange_alike.result c.exchange_alike.ensures.done (λ e. (c.exchange_alike.ensures.same e).0) c.self.invariant
 
 pub returns-clause-done : goal.returns-clause-done
 returns-clause-done c =
     λ t. record {
-      put = seen-exchanged (row_tables_in c.self.inside.tables) (row_tables_in c.exchange_alike.new.self) c.args.self.now (key.Object c.args.koid) _ _ c.self.view_is (c.exchange_alike.ensures.done t);
-      was = out-exchanged (row_tables_in c.self.inside.tables) (row_tables_in c.exchange_alike.new.self) c.args.self.now (key.Object c.args.koid) _ _ c.self.view_is (c.exchange_alike.ensures.done t);
+      put = seen-exchanged c.self.inside.tables c.exchange_alike.new.self c.args.self.now (key.Object c.args.koid) _ _ c.self.view_is (c.exchange_alike.ensures.done t);
+      was = out-exchanged c.self.inside.tables c.exchange_alike.new.self c.args.self.now (key.Object c.args.koid) _ _ c.self.view_is (c.exchange_alike.ensures.done t);
       alike = c.exchange_alike.ensures.alike t;
     }

@@ -1,6 +1,6 @@
-use Rattle.zt_cells.proofs.CellsLaws.{seen-by, first-message}
+use Rattle.zt_cells.proofs.CellsLaws.{first-message}
 use Rattle.zt_cells.proofs.cells.Cells.first_message.Goals as goal
 
 pub returns : goal.returns
 returns c =
-    first-message c.row_tables-row_tables.result.now c.args.self.now (seen-by c.self.inside.tables _ _ c.row_tables-row_tables.ensures c.self.view_is) _ c.args.endpoint c.endpoint.view_is c.next_from.result c.next_from.ensures
+    first-message c.self.inside.tables c.args.self.now c.self.view_is _ c.args.endpoint c.endpoint.view_is c.next_from.result c.next_from.ensures

@@ -1,6 +1,6 @@
-use Rattle.zt_cells.proofs.CellsLaws.{seen-by, next-entry}
+use Rattle.zt_cells.proofs.CellsLaws.{next-entry}
 use Rattle.zt_cells.proofs.cells.Cells.next_entry.Goals as goal
 
 pub returns : goal.returns
 returns c =
-    next-entry c.row_tables-row_tables.result.now c.args.self.now (seen-by c.self.inside.tables _ _ c.row_tables-row_tables.ensures c.self.view_is) c.args.process c.args.from c.next_from.result c.next_from.ensures
+    next-entry c.self.inside.tables c.args.self.now c.self.view_is c.args.process c.args.from c.next_from.result c.next_from.ensures

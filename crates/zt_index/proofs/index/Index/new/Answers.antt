@@ -1,6 +1,5 @@
-use Rattle.zt_index.specs.ProofsOnly.IndexInvariant.{row_chains_in}
 use Rattle.zt_index.proofs.IndexLaws.{indexed-hollow}
 use Rattle.zt_index.proofs.index.Index.new.Goals as goal
 
 pub returns : goal.returns
-returns c = indexed-hollow (row_chains_in c.new.result) c.new.ensures.handles c.new.ensures.ports c.new.ensures.objects c.new.ensures.processes c.new.ensures.parents
+returns c = indexed-hollow c.new.result c.new.ensures.handles c.new.ensures.ports c.new.ensures.objects c.new.ensures.processes c.new.ensures.parents

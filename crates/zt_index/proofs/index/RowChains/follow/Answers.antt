@@ -36,7 +36,7 @@ returns-in-Wait c =
     let r : Option Row = (option_copied c.args.row) in
     let there : has_place s.sizes (key.Wait n) ≡ true = ap (has_place s.sizes) (sym c.in-Wait.is) ∙ c.requires.placed in
     subst (λ (k : RowKey). IsIndexed (shelved_put s k r) c.set.new.self) (sym c.in-Wait.is)
-    (subst (λ (i : RowChains). IsIndexed (shelved_put s (key.Wait n) r) i) (sym (c.set.ensures ∙ ap (index_with s.state c.args.self.now n) c.wait_in.ensures))
+    (subst (λ (i : RowChains). IsIndexed (shelved_put s (key.Wait n) r) i) (sym (c.set.ensures ∙ ap (index_with s.state c.args.self.now n) c.as_wait.ensures))
     (followed-wait s n r c.args.self.now (room-for s n c.args.self.now there c.requires.indexed) c.requires.indexed))
 
 pub returns-in-Entry : goal.returns-in-Entry
@@ -47,7 +47,7 @@ returns-in-Entry c =
     let r : Option Row = (option_copied c.args.row) in
     subst (λ (k : RowKey). IsIndexed (shelved_put s k r) c.rename.new.self) (sym c.in-Entry.is)
     (followed-entry s p h r c.args.self.now c.rename.new.self c.requires.indexed c.rename.ensures.handles c.rename.ensures.ports c.rename.ensures.processes c.rename.ensures.parents c.rename.ensures.objects
-    (λ m. c.rename.ensures.moved m ∙ ap (λ (o : Option Held). if waits_where s.state (is_on p h) m then option_map held_bucket o else bucket_at c.args.self.now.objects m) c.held_in.ensures))
+    (λ m. c.rename.ensures.moved m ∙ ap (λ (o : Option Held). if waits_where s.state (is_on p h) m then option_map held_bucket o else bucket_at c.args.self.now.objects m) c.as_entry.ensures))
 
 pub returns-in-Object : goal.returns-in-Object
 returns-in-Object c =
@@ -56,5 +56,5 @@ returns-in-Object c =
     let r : Option Row = (option_copied c.args.row) in
     let there : has_place s.sizes (key.Object x) ≡ true = ap (has_place s.sizes) (sym c.in-Object.is) ∙ c.requires.placed in
     subst (λ (k : RowKey). IsIndexed (shelved_put s k r) c.set_below.new.self) (sym c.in-Object.is)
-    (subst (λ (i : RowChains). IsIndexed (shelved_put s (key.Object x) r) i) (sym (c.set_below.ensures ∙ ap (index_below c.args.self.now x) c.object_in.ensures))
+    (subst (λ (i : RowChains). IsIndexed (shelved_put s (key.Object x) r) i) (sym (c.set_below.ensures ∙ ap (index_below c.args.self.now x) (c.copied.ensures ∙ c.as_object.ensures)))
     (followed-object s x r c.args.self.now (room-below s x c.args.self.now there c.requires.indexed) c.requires.indexed))

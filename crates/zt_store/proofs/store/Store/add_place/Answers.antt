@@ -29,6 +29,6 @@ pub invariant_of-self-2 : goal.invariant_of-self-2
 invariant_of-self-2 c = record {
   koid_counts = subst (λ (S : State). AreKoidCounts S c.self.inside.support_counts) (sym c.make_place.ensures.state) c.self.invariant.koid_counts;
   few = subst (λ (S : State). NamesFew S) (sym c.make_place.ensures.state) c.self.invariant.few;
-  packets_counted = counted-made c.args.key c.self.inside.cells c.make_place.new.self c.grow_for-2.new.self (c.grow_for-2.ensures.same c.self.inside.cells c.self.invariant.packets_counted) c.in_ok-grow_for-2.ensures.made c.make_place.ensures.state c.make_place.ensures.packets;
-  indexed = indexed-made c.args.key c.self.inside.cells c.make_place.new.self c.grow_for.new.self (c.grow_for.ensures.same c.self.inside.cells c.self.invariant.indexed) c.in_ok-grow_for.ensures.made c.make_place.ensures.state c.make_place.ensures.waits c.make_place.ensures.objects;
+  packets_counted = counted-made c.args.key.now c.self.inside.cells c.make_place.new.self c.grow_for-2.new.self (c.grow_for-2.ensures.same c.self.inside.cells c.self.invariant.packets_counted) c.in_ok-grow_for-2.ensures.made c.make_place.ensures.state c.make_place.ensures.packets;
+  indexed = indexed-made c.args.key.now c.self.inside.cells c.make_place.new.self c.grow_for.new.self (c.grow_for.ensures.same c.self.inside.cells c.self.invariant.indexed) c.in_ok-grow_for.ensures.made c.make_place.ensures.state c.make_place.ensures.waits c.make_place.ensures.objects;
 }

@@ -3,7 +3,7 @@ use Rattle.std.proofs.Common.{◌≡◌, ℕ, List, true, length}
 use Rattle.zt_rows.specs.declared.calls.Call.{Call}
 use Rattle.zt_text.specs.Session.{has_call}
 use Rattle.zt_text.specs.SessionCalls.{calls_left}
-use Rattle.zt_text.proofs.SessionLemmas.{behind}
+use Rattle.zt_text.proofs.SessionCallLemmas.{behind}
 use Rattle.zt_text.proofs.session_calls.SessionCalls.read_rest.Given as goal
 
 abbrev pub invariant-calls : goal.invariant-calls

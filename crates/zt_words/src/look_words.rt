@@ -1,0 +1,340 @@
+//! The words behind `look`.
+
+ghost use Rattle.std.specs.Prelude.{◌≡◌, IfOk, Some, [], codes, false, is_some, map, unwrap_or};
+ghost use Rattle.std.specs.Option.{option_map};
+ghost use Rattle.clap.specs.Words.{all_of, app_of, first_of, found_of, one_of, rows_of, rule_of};
+ghost use Rattle.clap.specs.declared.builder.command.Command.TheViews.{out-Command as fields_of};
+ghost use Rattle.zt_words.specs.LookWords.{AreOptionsOf, IsLookOf, IsQuestionIn, at_word, koid_word, look_line, moment_word, path_line, question_line, words_word};
+ghost use Rattle.zt_words.specs.Questions.{question_of};
+ghost use Rattle.zt_words.specs.Rules.{IsFlagOf, IsOptionalNumberOf, flag, needed, valued};
+
+use crate::no_question::NoQuestion;
+use crate::question::{Options, Question, question_of};
+use crate::words::told_command;
+use clap::{Arg, ArgAction, ArgMatches, Command, Error, value_parser};
+use std::alloc::Global;
+use zt_rows::{Koid, LAST_MOMENT, Moment};
+
+/// What is to be looked at, and what is asked of it.
+#[derive(Clone, Copy)]
+pub struct Look<'a> {
+    /// The file of the session text, or `-` for standard input.
+    pub file: &'a str,
+    /// The moment to which the path goes.
+    pub at: Option<Moment>,
+    /// The branch to whose head it goes. Where neither is named it goes to that of `main`.
+    pub branch: Option<&'a str>,
+    /// Whether rights and signals are shown by their names.
+    pub names: bool,
+    pub question: Question,
+}
+
+/// What the words behind `look` ask for.
+pub fn look_of<'a>(words: &ArgMatches<'a>) -> Result<Look<'a>, NoQuestion>
+    ensures { IfOk result (IsLookOf (rows_of (found_of words.now))) }
+{
+    match question_in(words) {
+        Ok(question) => Ok(Look {
+            file: text_in(words, "TRACE"),
+            at: moment_in(words),
+            branch: branch_in(words),
+            names: flag_in(words, "names"),
+            question,
+        }),
+        Err(fault) => Err(fault),
+    }
+}
+
+/// The question that the words ask.
+fn question_in(words: &ArgMatches<'_>) -> Result<Question, NoQuestion>
+    ensures { IfOk result (IsQuestionIn (rows_of (found_of words.now))) }
+{
+    let options = options_in(words);
+    let name = text_in(words, "QUESTION");
+    match words.get_strs("WORD") {
+        Some(rest) => question_by(name, rest, &options),
+        None => question_by(name, &[], &options),
+    }
+}
+
+/// The question with this name, of the words behind it and these options.
+fn question_by(name: &str, words: &[&str], options: &Options) -> Result<Question, NoQuestion>
+    ensures { IfOk result (λ asked. question_of name.now (map (λ s. s.now) words.now) options.now ≡ Some asked) }
+{
+    match question_of(name, words, options) {
+        Ok(question) => Ok(question),
+        Err(about) => Err(NoQuestion::of(about, name, words)),
+    }
+}
+
+/// The options that some questions have.
+fn options_in(words: &ArgMatches<'_>) -> Options
+    ensures { AreOptionsOf (rows_of (found_of words.now)) result }
+{
+    Options {
+        placed: is_given(words, "at") || is_given(words, "branch"),
+        failed: flag_in(words, "failed"),
+        process: koid_in(words, "process"),
+        object: koid_in(words, "object"),
+    }
+}
+
+/// Whether the word with this name has a value.
+fn is_given(words: &ArgMatches<'_>, name: &str) -> bool
+    ensures { result ≡ is_some (first_of name.now (rows_of (found_of words.now))) }
+{
+    words.get_str(name).is_some()
+}
+
+/// Whether the flag with this name is there.
+pub fn flag_in(words: &ArgMatches<'_>, name: &str) -> bool
+    ensures { IsFlagOf (one_of name.now (rows_of (found_of words.now))) result }
+{
+    words.get_flag(name)
+}
+
+/// The value of the word with this name, which does not lack.
+fn text_in<'a>(words: &ArgMatches<'a>, name: &str) -> &'a str
+    ensures { result.now ≡ unwrap_or (first_of name.now (rows_of (found_of words.now))) [] }
+{
+    words.get_str(name).unwrap_or("")
+}
+
+/// The branch to whose head the path goes, if it is named.
+fn branch_in<'a>(words: &ArgMatches<'a>) -> Option<&'a str>
+    ensures { option_map (λ s. s.now) result ≡ first_of (codes "branch") (rows_of (found_of words.now)) }
+{
+    words.get_str("branch")
+}
+
+/// The moment to which the path goes, if it is named.
+fn moment_in(words: &ArgMatches<'_>) -> Option<Moment>
+    ensures { IsOptionalNumberOf 32 (one_of (codes "at") (rows_of (found_of words.now))) result }
+{
+    match words.get_one::<u32>("at") {
+        Some(moment) => Some(Moment(moment)),
+        None => None,
+    }
+}
+
+/// The koid behind the word with this name, if it is there.
+fn koid_in(words: &ArgMatches<'_>, name: &str) -> Option<Koid>
+    ensures { IsOptionalNumberOf 64 (one_of name.now (rows_of (found_of words.now))) result }
+{
+    match words.get_one::<u64>(name) {
+        Some(koid) => Some(Koid(koid)),
+        None => None,
+    }
+}
+
+// No clause tells the texts that these functions give, so that who asks for one is proved without going over its bytes.
+
+/// What `look` does.
+pub fn look_about<'a>() -> &'a str {
+    "Answers one question about a session text, and ends"
+}
+
+/// What the questions are.
+fn questions<'a>() -> &'a str {
+    "Questions, each about the path to a moment, or to the head of a branch, `main` where none is named:
+  calls [FROM [TO]]     the calls of the path, with their replies, between two moments;
+                        --failed, --process P and --object K ask for some of them
+  changed MOMENT        the rows that one call changed, before and after it
+  events [HAPPENING]..  what was made, ended, peer_closed and leaked, by which call
+  object KOID           one object: its row, what keeps it, its queue, and when what happened
+  handles PROCESS       the handles of a process
+  messages KOID         the messages that were queued at a channel, and what became of each
+  branches              the branches, and where each leaves which
+  summary               how many calls were answered how, and what became of each object"
+}
+
+fn trace_help() -> &'static str {
+    "The session text that is looked at; `-` is standard input"
+}
+
+fn question_help() -> &'static str {
+    "calls, changed, events, object, handles, messages, branches or summary"
+}
+
+fn words_help() -> &'static str {
+    "The words of the question"
+}
+
+fn at_help() -> &'static str {
+    "Looks at the path to this moment"
+}
+
+fn branch_help() -> &'static str {
+    "Looks at the path to the head of this branch"
+}
+
+fn names_help() -> &'static str {
+    "Shows rights and signals by their names"
+}
+
+fn failed_help() -> &'static str {
+    "Of the calls, those alone that failed"
+}
+
+fn process_help() -> &'static str {
+    "Of the calls, those alone that this process made"
+}
+
+fn object_help() -> &'static str {
+    "Of the calls, those alone that changed this object or a handle of it"
+}
+
+/// The word of the session text.
+fn trace_word<'a>(alloc: Global) -> Arg<'a>
+    ensures rule { rule_of result ≡ needed (codes "TRACE") }
+    ensures global { result.global ≡ false }
+{
+    Arg::new(alloc, "TRACE")
+        .action(ArgAction::Set)
+        .required(true)
+        .help(trace_help())
+}
+
+/// The word of the question.
+fn question_word<'a>(alloc: Global) -> Arg<'a>
+    ensures rule { rule_of result ≡ needed (codes "QUESTION") }
+    ensures global { result.global ≡ false }
+{
+    Arg::new(alloc, "QUESTION")
+        .action(ArgAction::Set)
+        .required(true)
+        .help(question_help())
+}
+
+/// The words of the question.
+fn words_word<'a>(alloc: Global) -> Arg<'a>
+    ensures rule { rule_of result ≡ words_word }
+    ensures global { result.global ≡ false }
+{
+    Arg::new(alloc, "WORD")
+        .action(ArgAction::Append)
+        .num_args(1..)
+        .help(words_help())
+}
+
+/// The word of the moment to which the path goes.
+fn at_word<'a>(alloc: Global) -> Result<Arg<'a>, Error>
+    ensures rule { IfOk result (λ arg. rule_of arg ≡ at_word) }
+    ensures global { IfOk result (λ arg. arg.global ≡ false) }
+{
+    let word = moment_word(alloc).conflicts_with("branch")?;
+    Ok(word)
+}
+
+/// The same, which may stand beside any other.
+fn moment_word<'a>(alloc: Global) -> Arg<'a>
+    ensures rule { rule_of result ≡ moment_word }
+    ensures global { result.global ≡ false }
+    ensures alone { result.conflicts.items ≡ [] }
+{
+    Arg::new(alloc, "at")
+        .long("at")
+        .value_name("MOMENT")
+        .action(ArgAction::Set)
+        .value_parser(value_parser!(u32).range(0..=i64::from(LAST_MOMENT)))
+        .help(at_help())
+}
+
+/// The word of the branch to whose head the path goes.
+fn branch_word<'a>(alloc: Global) -> Arg<'a>
+    ensures rule { rule_of result ≡ valued (codes "branch") }
+    ensures global { result.global ≡ false }
+{
+    Arg::new(alloc, "branch")
+        .long("branch")
+        .value_name("NAME")
+        .action(ArgAction::Set)
+        .help(branch_help())
+}
+
+/// The word of the names of bits.
+fn names_word<'a>(alloc: Global) -> Arg<'a>
+    ensures rule { rule_of result ≡ flag (codes "names") }
+    ensures global { result.global ≡ false }
+{
+    Arg::new(alloc, "names")
+        .long("names")
+        .action(ArgAction::SetTrue)
+        .help(names_help())
+}
+
+/// The word of the calls that failed.
+fn failed_word<'a>(alloc: Global) -> Arg<'a>
+    ensures rule { rule_of result ≡ flag (codes "failed") }
+    ensures global { result.global ≡ false }
+{
+    Arg::new(alloc, "failed")
+        .long("failed")
+        .action(ArgAction::SetTrue)
+        .help(failed_help())
+}
+
+/// The word of the process that makes the calls.
+fn process_word<'a>(alloc: Global) -> Arg<'a>
+    ensures rule { rule_of result ≡ koid_word (codes "process") }
+    ensures global { result.global ≡ false }
+{
+    Arg::new(alloc, "process")
+        .long("process")
+        .value_name("P")
+        .action(ArgAction::Set)
+        .value_parser(value_parser!(u64))
+        .help(process_help())
+}
+
+/// The word of the object that the calls change.
+fn object_word<'a>(alloc: Global) -> Arg<'a>
+    ensures rule { rule_of result ≡ koid_word (codes "object") }
+    ensures global { result.global ≡ false }
+{
+    Arg::new(alloc, "object")
+        .long("object")
+        .value_name("K")
+        .action(ArgAction::Set)
+        .value_parser(value_parser!(u64))
+        .help(object_help())
+}
+
+/// The words behind `look`.
+pub fn look_command<'a>(alloc: Global) -> Result<Command<'a>, Error>
+    ensures line { IfOk result (λ command. app_of command ≡ look_line) }
+    ensures globals { IfOk result (λ command. (fields_of command).has_globals ≡ false) }
+{
+    Ok(
+        path_command(alloc)?
+            .arg(failed_word(alloc))?
+            .arg(process_word(alloc))?
+            .arg(object_word(alloc))?,
+    )
+}
+
+/// The same without any options.
+fn question_command<'a>(alloc: Global) -> Result<Command<'a>, Error>
+    ensures line { IfOk result (λ command. app_of command ≡ question_line) }
+    ensures globals { IfOk result (λ command. (fields_of command).has_globals ≡ false) }
+{
+    Ok(
+        told_command(alloc, "look", look_about(), questions())
+            .arg(trace_word(alloc))?
+            .arg(question_word(alloc))?
+            .arg(words_word(alloc))?,
+    )
+}
+
+/// The same without the options that `calls` alone has.
+fn path_command<'a>(alloc: Global) -> Result<Command<'a>, Error>
+    ensures line { IfOk result (λ command. app_of command ≡ path_line) }
+    ensures globals { IfOk result (λ command. (fields_of command).has_globals ≡ false) }
+{
+    Ok(
+        question_command(alloc)?
+            .arg(at_word(alloc)?)?
+            .arg(branch_word(alloc))?
+            .arg(names_word(alloc))?,
+    )
+}

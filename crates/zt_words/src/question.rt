@@ -1,0 +1,330 @@
+//! The question of `look`, by the words that ask it.
+
+ghost use Rattle.std.specs.Prelude.{◌≡◌, ◌≤◌, IfSome, map};
+ghost use Rattle.std.specs.List.{list_all, list_any};
+ghost use Rattle.std.specs.Option.{option_map};
+ghost use Rattle.std.specs.Result.{result_ok};
+ghost use Rattle.std.specs.Str.{bytes_eq};
+ghost use Rattle.zt_words.specs.Questions.{all_happenings, calls_question, first_of_calls, happenings_of, has_other_option, is_happening, is_named, is_of_path, koid_word, last_of_calls, moment_word, named_happenings, number_up_to, one_koid, one_moment, one_word, other_topic_named, plain_question, question_of, question_on, topic_named, without_words};
+
+use zt_look::{CallFilter, HappeningSet};
+use zt_rows::{Koid, LAST_MOMENT, Moment};
+
+/// What is asked about.
+#[derive(Clone, Copy, Debug, PartialEq, Eq)]
+pub enum Topic {
+    Calls,
+    Changed,
+    Events,
+    Object,
+    Handles,
+    Messages,
+    Branches,
+    Summary,
+}
+
+/// A question.
+#[derive(Clone, Copy)]
+pub enum Question {
+    /// The calls of the path that are asked for.
+    Calls(CallFilter),
+    /// The rows that the call of a moment changed.
+    Changed(Moment),
+    /// What happened to objects on the path, of what is asked for.
+    Events(HappeningSet),
+    /// An object at the end of the path.
+    Object(Koid),
+    /// The handles of a process there.
+    Handles(Koid),
+    /// The messages that were queued at an endpoint.
+    Messages(Koid),
+    /// The branches of the tree.
+    Branches,
+    /// How the calls of the path were answered, and what became of the objects.
+    Summary,
+}
+
+/// Which options are given that some questions have, and others have not.
+#[derive(Clone, Copy)]
+pub struct Options {
+    /// Whether the path is named.
+    pub placed: bool,
+    pub failed: bool,
+    pub process: Option<Koid>,
+    pub object: Option<Koid>,
+}
+
+/// The question with this name, of the words behind it and these options. Where they ask none, it is told what a question
+/// with this name asks about.
+pub fn question_of(name: &str, words: &[&str], options: &Options) -> Result<Question, Option<Topic>>
+    ensures { result_ok result ≡ question_of name.now (map (λ s. s.now) words.now) options.now }
+{
+    match topic_named(name) {
+        Some(about) => match question_on(about, words, options) {
+            Some(question) => Ok(question),
+            None => Err(Some(about)),
+        },
+        None => Err(None),
+    }
+}
+
+/// What a question with this name asks about.
+fn topic_named(name: &str) -> Option<Topic>
+    ensures { result ≡ topic_named name.now }
+{
+    if name == "calls" {
+        Some(Topic::Calls)
+    } else if name == "changed" {
+        Some(Topic::Changed)
+    } else if name == "events" {
+        Some(Topic::Events)
+    } else if name == "object" {
+        Some(Topic::Object)
+    } else {
+        other_topic_named(name)
+    }
+}
+
+/// The same, of the other four.
+fn other_topic_named(name: &str) -> Option<Topic>
+    ensures { result ≡ other_topic_named name.now }
+{
+    if name == "handles" {
+        Some(Topic::Handles)
+    } else if name == "messages" {
+        Some(Topic::Messages)
+    } else if name == "branches" {
+        Some(Topic::Branches)
+    } else if name == "summary" {
+        Some(Topic::Summary)
+    } else {
+        None
+    }
+}
+
+/// The question about this that the words and options ask; none, where one of them is not the question's.
+fn question_on(about: Topic, words: &[&str], options: &Options) -> Option<Question>
+    ensures { result ≡ question_on about (map (λ s. s.now) words.now) options.now }
+{
+    match about {
+        Topic::Calls => calls_question(words, options),
+        _ if has_other_option(about, options) => None,
+        _ => plain_question(about, words),
+    }
+}
+
+/// Whether an option is given that such a question has not.
+fn has_other_option(about: Topic, options: &Options) -> bool
+    ensures { result ≡ has_other_option about options.now }
+{
+    options.failed
+        || options.process.is_some()
+        || options.object.is_some()
+        || (options.placed && !is_of_path(about))
+}
+
+/// Whether it is asked of a path.
+fn is_of_path(about: Topic) -> bool
+    ensures { result ≡ is_of_path about }
+{
+    match about {
+        Topic::Changed | Topic::Branches => false,
+        _ => true,
+    }
+}
+
+/// The question of no option that these words ask.
+fn plain_question(about: Topic, words: &[&str]) -> Option<Question>
+    ensures { result ≡ plain_question about (map (λ s. s.now) words.now) }
+{
+    match about {
+        Topic::Calls => None,
+        Topic::Changed => Some(Question::Changed(one_moment(words)?)),
+        Topic::Events => Some(Question::Events(happenings_of(words)?)),
+        Topic::Object => Some(Question::Object(one_koid(words)?)),
+        Topic::Handles => Some(Question::Handles(one_koid(words)?)),
+        Topic::Messages => Some(Question::Messages(one_koid(words)?)),
+        Topic::Branches => without_words(words, Question::Branches),
+        Topic::Summary => without_words(words, Question::Summary),
+    }
+}
+
+/// The question, where there are no words.
+fn without_words(words: &[&str], asked: Question) -> Option<Question>
+    ensures { result ≡ without_words (map (λ s. s.now) words.now) asked }
+{
+    if words.is_empty() { Some(asked) } else { None }
+}
+
+/// The calls that the words and options ask for.
+fn calls_question(words: &[&str], options: &Options) -> Option<Question>
+    ensures { result ≡ calls_question (map (λ s. s.now) words.now) options.now }
+{
+    let first = first_of_calls(words)?;
+    let last = last_of_calls(words)?;
+    Some(Question::Calls(CallFilter {
+        first,
+        last,
+        failed: options.failed,
+        process: options.process,
+        object: options.object,
+    }))
+}
+
+/// The first moment of the calls.
+fn first_of_calls(words: &[&str]) -> Option<Moment>
+    ensures { result ≡ first_of_calls (map (λ s. s.now) words.now) }
+{
+    match words {
+        [] => Some(Moment(1)),
+        [word, ..] => moment_word(word),
+    }
+}
+
+/// The last.
+fn last_of_calls(words: &[&str]) -> Option<Moment>
+    ensures { result ≡ last_of_calls (map (λ s. s.now) words.now) }
+{
+    match words {
+        [] | [_] => Some(Moment(LAST_MOMENT)),
+        [_, word] => moment_word(word),
+        _ => None,
+    }
+}
+
+/// The happenings that are named, or all.
+fn happenings_of(words: &[&str]) -> Option<HappeningSet>
+    ensures { result ≡ happenings_of (map (λ s. s.now) words.now) }
+{
+    if words.is_empty() {
+        Some(all_happenings())
+    } else if are_happenings(words) {
+        Some(named_happenings(words))
+    } else {
+        None
+    }
+}
+
+/// All of them.
+fn all_happenings() -> HappeningSet
+    ensures { result ≡ all_happenings }
+{
+    HappeningSet {
+        made: true,
+        ended: true,
+        peer_closed: true,
+        leaked: true,
+    }
+}
+
+/// Those that are named.
+fn named_happenings(words: &[&str]) -> HappeningSet
+    ensures { result ≡ named_happenings (map (λ s. s.now) words.now) }
+{
+    HappeningSet {
+        made: is_named(words, "made"),
+        ended: is_named(words, "ended"),
+        peer_closed: is_named(words, "peer_closed"),
+        leaked: is_named(words, "leaked"),
+    }
+}
+
+/// Whether each word is a happening's.
+fn are_happenings(words: &[&str]) -> bool
+    ensures { result ≡ list_all is_happening (map (λ s. s.now) words.now) }
+{
+    are_all_happenings(words)
+}
+
+/// The same, of the words where they stand.
+fn are_all_happenings(words: &[&str]) -> bool
+    ensures { result ≡ list_all (λ s. is_happening s.now) words.now }
+{
+    for word in words {
+        if !is_happening(word) {
+            return false;
+        }
+    }
+    true
+}
+
+/// Whether the word is a happening's.
+fn is_happening(word: &str) -> bool
+    ensures { result ≡ is_happening word.now }
+{
+    word == "made" || word == "ended" || word == "peer_closed" || word == "leaked"
+}
+
+/// Whether the word is among these.
+fn is_named(words: &[&str], name: &str) -> bool
+    ensures { result ≡ is_named (map (λ s. s.now) words.now) name.now }
+{
+    is_among(words, name)
+}
+
+/// The same, of the words where they stand.
+fn is_among(words: &[&str], name: &str) -> bool
+    ensures { result ≡ list_any (λ s. bytes_eq s.now name.now) words.now }
+{
+    for word in words {
+        if *word == name {
+            return true;
+        }
+    }
+    false
+}
+
+/// The moment that is the only word.
+fn one_moment(words: &[&str]) -> Option<Moment>
+    ensures { result ≡ one_moment (map (λ s. s.now) words.now) }
+{
+    moment_word(one_word(words)?)
+}
+
+/// The koid that is the only word.
+fn one_koid(words: &[&str]) -> Option<Koid>
+    ensures { result ≡ one_koid (map (λ s. s.now) words.now) }
+{
+    koid_word(one_word(words)?)
+}
+
+/// The only word.
+fn one_word<'a>(words: &[&'a str]) -> Option<&'a str>
+    ensures { option_map (λ s. s.now) result ≡ one_word (map (λ s. s.now) words.now) }
+{
+    match words {
+        [word] => Some(*word),
+        _ => None,
+    }
+}
+
+/// The moment of a word.
+fn moment_word(word: &str) -> Option<Moment>
+    ensures { result ≡ moment_word word.now }
+{
+    match number_up_to(LAST_MOMENT as u64, word) {
+        Some(number) => Some(Moment(number as u32)),
+        None => None,
+    }
+}
+
+/// The koid of a word.
+fn koid_word(word: &str) -> Option<Koid>
+    ensures { result ≡ koid_word word.now }
+{
+    match number_up_to(u64::MAX, word) {
+        Some(number) => Some(Koid(number)),
+        None => None,
+    }
+}
+
+/// The number of a word, up to this one.
+fn number_up_to(most: u64, word: &str) -> Option<u64>
+    ensures number { result ≡ number_up_to most word.now }
+    ensures within { IfSome result (λ n. n ≤ most) }
+{
+    match word.parse::<u64>() {
+        Ok(number) if number <= most => Some(number),
+        _ => None,
+    }
+}

@@ -1,0 +1,411 @@
+//! The words of the command line.
+
+ghost use Rattle.std.specs.Prelude.{◌≡◌, IfOk, codes, false, map, string_bytes};
+ghost use Rattle.clap.specs.Words.{HasMatchesOf, app_of, found_of, new_app, rows_of, rule_of, subcommand_of, subcommand_rows_of, with_rule};
+ghost use Rattle.clap.specs.declared.builder.command.Command.TheViews.{out-Command as fields_of};
+ghost use Rattle.zt_words.specs.Rules.{flag, valued};
+ghost use Rattle.zt_words.specs.Words.{IsAskedBy, IsAskedWith, IsRunOf, IsStandardInput, IsServeOf, IsLookedFor, clients_word, command_line, file_word, port_word, run_line, serve_line, talk_line};
+
+use crate::look_words::{Look, flag_in, look_command, look_of};
+use crate::words_fault::WordsFault;
+use clap::{Arg, ArgAction, ArgMatches, Command, Error, value_parser};
+use std::alloc::Global;
+use std::{env, fs};
+
+// No clause tells the texts that these functions give, so that who asks for one is proved without going over its bytes.
+
+/// What the program does.
+fn about() -> &'static str {
+    "A time-travel debugger for traces of Zircon's kernel objects.
+
+It executes system calls of processes on handles and kernel objects by a written
+semantics. Each line of its input is a call, which makes the next moment of the
+history, or a command, which looks at the history or moves in it; each is answered
+at once. So one can go back to the call that leaked a handle, closed a peer or
+killed a job."
+}
+
+/// What `run` does.
+fn run_about<'a>() -> &'a str {
+    "Answers the lines of a file; without any words the program does this"
+}
+
+/// What `serve` does.
+fn serve_about<'a>() -> &'a str {
+    "Answers the lines of clients that connect to a port, over one history"
+}
+
+/// What the word `from` does.
+fn from_help() -> &'static str {
+    "Begins with the calls or the whole tree of a session text"
+}
+
+/// What the word `save` does.
+fn save_help() -> &'static str {
+    "Writes the calls on `main` as a session text, once the input has ended"
+}
+
+/// What the word `save-tree` does.
+fn save_tree_help() -> &'static str {
+    "Writes the whole tree as a session text, all branches and where each client stands, at the end"
+}
+
+/// What the word `clients` does.
+fn clients_help() -> &'static str {
+    "How many connections are accepted, 1 to 4; they are the clients 1 to N, in that order"
+}
+
+/// What the word `explain` does.
+fn explain_help() -> &'static str {
+    "Says on standard error why lines were refused: number, line, caret and what is wanted there"
+}
+
+/// What is said behind the words.
+fn examples<'a>() -> &'a str {
+    "Lines, with what they do:
+  1025 event_create               process 1025, which is there from the start, makes an event
+  1025 handle_close 7             it closes its handle 7
+  back 1                          one moment back; `goto 4` goes to moment 4
+  branch fix                      a branch of that name, from where we are
+  follow main                     back to the branch `main`, where all calls begin
+  show                            all rows of the state; `holders 1026` what keeps an object
+  leaks                           the objects that no live process can reach any more
+  when leaked 1026                the call that leaked it; also made, ended, peer_closed
+  pin                             keeps a copy, which `pinned leaks` and the like ask
+
+Exit statuses:
+  0  the input or the question was answered to its end, refused lines included
+  2  the words were not accepted, or help was asked for
+  3  a file could not be opened, or the port not be listened on
+  4  a read failed            5  a write failed
+  6  anything else was refused, as a line of a loaded trace"
+}
+
+/// The words that the program was started with.
+#[derive(Drop)]
+pub struct Words {
+    pub words: Vec<String>,
+}
+
+/// What `run` is asked for.
+#[derive(Clone, Copy)]
+pub struct RunWords<'a> {
+    /// The file of the lines, or `-` for standard input.
+    pub file: &'a str,
+    /// The trace that the history begins with.
+    pub from: Option<&'a str>,
+    /// The file to which the history of `main` is saved.
+    pub save: Option<&'a str>,
+    /// The file to which the whole tree is saved.
+    pub save_tree: Option<&'a str>,
+    /// Whether lines that were refused are explained.
+    pub explain: bool,
+}
+
+/// What `serve` is asked for, on its port, for so many clients.
+#[derive(Clone, Copy)]
+pub struct ServeWords<'a> {
+    pub port: u16,
+    pub clients: u8,
+    /// The trace that the history begins with.
+    pub from: Option<&'a str>,
+    /// The file to which the whole tree is saved.
+    pub save_tree: Option<&'a str>,
+    /// Whether lines that were refused are explained.
+    pub explain: bool,
+}
+
+/// What the words ask for.
+#[derive(Clone, Copy)]
+pub enum Asked<'a> {
+    /// To run the lines of a file.
+    Run(RunWords<'a>),
+    /// To serve the clients of a port.
+    Serve(ServeWords<'a>),
+    /// To answer a question about a session text.
+    Look(Look<'a>),
+}
+
+impl Words {
+    /// The words, the program's own name among them.
+    pub fn of(rt: &HostRuntime) -> Result<Words, WordsFault> {
+        let words = match env::args(rt) {
+            Ok(words) => words,
+            Err(error) => return Err(WordsFault::Unread(error)),
+        };
+        match words.collect(rt.alloc()) {
+            Ok(words) => Ok(Words { words }),
+            Err(_) => Err(WordsFault::OutOfMemory),
+        }
+    }
+
+    /// What they ask for. No words at all ask to run standard input.
+    pub fn asked(&self, alloc: Global) -> Result<Asked<'_>, WordsFault>
+        ensures { IfOk result (IsAskedWith (map string_bytes self.now.words.items)) }
+    {
+        if self.words.len() <= 1 {
+            return Ok(unasked());
+        }
+        self.parsed(alloc)
+    }
+
+    /// Whether `--explain` is among them.
+    pub fn ask_to_explain(&self) -> bool {
+        for word in &self.words {
+            if word.as_str() == "--explain" {
+                return true;
+            }
+        }
+        false
+    }
+
+    /// The first of them, where it stands in the place of a subcommand and names a file, or has the look of a file's name.
+    pub fn file_alone(&self, rt: &HostRuntime) -> Option<&str> {
+        let word = self.words.get(1)?.as_str();
+        let is_other = word.starts_with('-') || matches!(word, "run" | "serve" | "look" | "help");
+        if !is_other && (word.contains('.') || fs::metadata(rt, word).is_ok()) {
+            Some(word)
+        } else {
+            None
+        }
+    }
+
+    /// What they ask for, as the command line is declared.
+    fn parsed(&self, alloc: Global) -> Result<Asked<'_>, WordsFault>
+        ensures { IfOk result (IsAskedBy (subcommand_of command_line (map string_bytes self.now.words.items))) }
+    {
+        match self.met(alloc) {
+            Ok(matches) => asked_of(&matches),
+            Err(error) => Err(WordsFault::Refused(error)),
+        }
+    }
+
+    /// What is met of them.
+    fn met(&self, alloc: Global) -> Result<ArgMatches<'_>, Error>
+        ensures { IfOk result (HasMatchesOf command_line (map string_bytes self.now.words.items)) }
+    {
+        let matches = command(alloc)?.try_get_matches_from(self.words.as_slice())?;
+        Ok(matches)
+    }
+}
+
+/// What is done where nothing else is asked for: standard input is run.
+fn unasked<'a>() -> Asked<'a>
+    ensures { IsStandardInput result }
+{
+    Asked::Run(RunWords {
+        file: "-",
+        from: None,
+        save: None,
+        save_tree: None,
+        explain: false,
+    })
+}
+
+/// What the words that were met ask for.
+fn asked_of<'a>(matches: &ArgMatches<'a>) -> Result<Asked<'a>, WordsFault>
+    ensures { IfOk result (IsAskedBy (subcommand_rows_of matches.now)) }
+{
+    if let Some(run) = matches.subcommand_matches("run") {
+        Ok(run_of(run))
+    } else if let Some(serve) = matches.subcommand_matches("serve") {
+        Ok(serve_of(serve))
+    } else if let Some(look) = matches.subcommand_matches("look") {
+        looked_for(look)
+    } else {
+        Ok(unasked())
+    }
+}
+
+/// What the words behind `look` ask for.
+fn looked_for<'a>(words: &ArgMatches<'a>) -> Result<Asked<'a>, WordsFault>
+    ensures { IfOk result (IsLookedFor (rows_of (found_of words.now))) }
+{
+    match look_of(words) {
+        Ok(look) => Ok(Asked::Look(look)),
+        Err(reason) => Err(WordsFault::Unasked(reason)),
+    }
+}
+
+/// What the words behind `run` ask for.
+fn run_of<'a>(words: &ArgMatches<'a>) -> Asked<'a>
+    ensures { IsRunOf (rows_of (found_of words.now)) result }
+{
+    Asked::Run(RunWords {
+        file: words.get_str("FILE").unwrap_or("-"),
+        from: words.get_str("from"),
+        save: words.get_str("save"),
+        save_tree: words.get_str("save-tree"),
+        explain: flag_in(words, "explain"),
+    })
+}
+
+/// What the words behind `serve` ask for.
+fn serve_of<'a>(words: &ArgMatches<'a>) -> Asked<'a>
+    ensures { IsServeOf (rows_of (found_of words.now)) result }
+{
+    Asked::Serve(ServeWords {
+        port: words.get_one("PORT").unwrap_or(0),
+        clients: words.get_one("clients").unwrap_or(1),
+        from: words.get_str("from"),
+        save_tree: words.get_str("save-tree"),
+        explain: flag_in(words, "explain"),
+    })
+}
+
+/// The command line.
+fn command<'a>(alloc: Global) -> Result<Command<'a>, Error>
+    ensures { IfOk result (λ command. app_of command ≡ command_line) }
+{
+    Ok(talk_command(alloc)?.subcommand(look_command(alloc)?)?)
+}
+
+/// The words that answer line by line.
+fn talk_command<'a>(alloc: Global) -> Result<Command<'a>, Error>
+    ensures line { IfOk result (λ command. app_of command ≡ talk_line) }
+    ensures globals { IfOk result (λ command. (fields_of command).has_globals ≡ false) }
+{
+    Ok(
+        Command::new(alloc, "zxtt")
+            .version("0.1")
+            .about(about())
+            .after_help(examples())
+            .subcommand_required(true)
+            .subcommand(run_command(alloc)?)?
+            .subcommand(serve_command(alloc)?)?,
+    )
+}
+
+/// The word of the session text that a history begins with.
+fn from_word<'a>(alloc: Global) -> Arg<'a>
+    ensures rule { rule_of result ≡ valued (codes "from") }
+    ensures global { result.global ≡ false }
+{
+    Arg::new(alloc, "from")
+        .long("from")
+        .value_name("TRACE")
+        .action(ArgAction::Set)
+        .help(from_help())
+}
+
+/// The word of the session text that a run leaves.
+fn save_word<'a>(alloc: Global) -> Arg<'a>
+    ensures rule { rule_of result ≡ valued (codes "save") }
+    ensures global { result.global ≡ false }
+{
+    Arg::new(alloc, "save")
+        .long("save")
+        .value_name("OUT")
+        .action(ArgAction::Set)
+        .help(save_help())
+}
+
+/// The word of the session text of the whole tree that the program leaves.
+fn save_tree_word<'a>(alloc: Global) -> Arg<'a>
+    ensures rule { rule_of result ≡ valued (codes "save-tree") }
+    ensures global { result.global ≡ false }
+{
+    Arg::new(alloc, "save-tree")
+        .long("save-tree")
+        .value_name("OUT")
+        .action(ArgAction::Set)
+        .help(save_tree_help())
+}
+
+/// The word of what is said of lines that were refused.
+fn explain_word<'a>(alloc: Global) -> Arg<'a>
+    ensures rule { rule_of result ≡ flag (codes "explain") }
+    ensures global { result.global ≡ false }
+{
+    Arg::new(alloc, "explain")
+        .long("explain")
+        .action(ArgAction::SetTrue)
+        .help(explain_help())
+}
+
+/// The word of the lines that are run.
+fn file_word<'a>(alloc: Global) -> Arg<'a>
+    ensures rule { rule_of result ≡ file_word }
+    ensures global { result.global ≡ false }
+{
+    Arg::new(alloc, "FILE")
+        .action(ArgAction::Set)
+        .default_value("-")
+        .help("The lines; `-` is standard input")
+}
+
+/// The word of the port that is listened on.
+fn port_word<'a>(alloc: Global) -> Arg<'a>
+    ensures rule { rule_of result ≡ port_word }
+    ensures global { result.global ≡ false }
+{
+    Arg::new(alloc, "PORT")
+        .action(ArgAction::Set)
+        .required(true)
+        .value_parser(value_parser!(u16).range(1..=65_535))
+        .help("The port of 127.0.0.1 that is listened on")
+}
+
+/// The word of how many clients are served.
+fn clients_word<'a>(alloc: Global) -> Arg<'a>
+    ensures rule { rule_of result ≡ clients_word }
+    ensures global { result.global ≡ false }
+{
+    Arg::new(alloc, "clients")
+        .long("clients")
+        .value_name("N")
+        .action(ArgAction::Set)
+        .value_parser(value_parser!(u8).range(1..=4))
+        .default_value("1")
+        .help(clients_help())
+}
+
+/// A word that tells what is done, with what is said of it and no words behind it.
+pub fn told_command<'a>(
+    alloc: Global,
+    name: &'a str,
+    about: &'a str,
+    examples: &'a str,
+) -> Command<'a>
+    ensures line { app_of result ≡ new_app name.entry.now }
+    ensures globals { (fields_of result).has_globals ≡ false }
+{
+    Command::new(alloc, name).about(about).after_help(examples)
+}
+
+/// A word's command with the words that `run` and `serve` have behind all others.
+fn with_last_words<'a>(alloc: Global, command: Command<'a>) -> Result<Command<'a>, Error>
+    requires { (fields_of command).has_globals ≡ false }
+    ensures line { IfOk result (λ done. app_of done ≡ with_rule (with_rule (app_of command.entry) (valued (codes "save-tree"))) (flag (codes "explain"))) }
+    ensures globals { IfOk result (λ done. (fields_of done).has_globals ≡ false) }
+{
+    Ok(
+        command
+            .arg(save_tree_word(alloc))?
+            .arg(explain_word(alloc))?,
+    )
+}
+
+/// The words behind `run`.
+fn run_command<'a>(alloc: Global) -> Result<Command<'a>, Error>
+    ensures line { IfOk result (λ command. app_of command ≡ run_line) }
+    ensures globals { IfOk result (λ command. (fields_of command).has_globals ≡ false) }
+{
+    let words = told_command(alloc, "run", run_about(), examples())
+        .arg(file_word(alloc))?
+        .arg(from_word(alloc))?
+        .arg(save_word(alloc))?;
+    with_last_words(alloc, words)
+}
+
+/// The words behind `serve`.
+fn serve_command<'a>(alloc: Global) -> Result<Command<'a>, Error>
+    ensures line { IfOk result (λ command. app_of command ≡ serve_line) }
+    ensures globals { IfOk result (λ command. (fields_of command).has_globals ≡ false) }
+{
+    let words = told_command(alloc, "serve", serve_about(), examples())
+        .arg(port_word(alloc))?
+        .arg(clients_word(alloc))?
+        .arg(from_word(alloc))?;
+    with_last_words(alloc, words)
+}

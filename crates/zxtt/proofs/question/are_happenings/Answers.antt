@@ -1,7 +1,0 @@
--- The texts of the words are those behind their references.
-use Rattle.std.proofs.Common.{sym, ◌∙◌}
-use Rattle.zxtt.proofs.QuestionLaws.{all_happening}
-use Rattle.zxtt.proofs.question.are_happenings.Goals as goal
-
-pub returns : goal.returns
-returns c = c.are_all_happenings.ensures ∙ sym (all_happening c.args.words.now)
