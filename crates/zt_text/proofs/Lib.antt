@@ -1,7 +1,6 @@
 pub mod NumberLemmas
 pub mod CutLemmas
 pub mod Places
-pub mod Spelled
 pub mod CallNames
 pub mod ByteLemmas
 pub mod ListLemmas

@@ -43,13 +43,18 @@ impl CallName {
     fn of_object(field: &[u8]) -> Option<CallName>
         ensures { result ≡ name_of_object field.now }
     {
-        match field {
-            b"channel_write" => Some(CallName::ChannelWrite),
-            b"event_create" => Some(CallName::EventCreate),
-            b"eventpair_create" => Some(CallName::EventPairCreate),
-            b"object_signal" => Some(CallName::ObjectSignal),
-            b"object_signal_peer" => Some(CallName::ObjectSignalPeer),
-            _ => None,
+        if field == b"channel_write".as_slice() {
+            Some(CallName::ChannelWrite)
+        } else if field == b"event_create".as_slice() {
+            Some(CallName::EventCreate)
+        } else if field == b"eventpair_create".as_slice() {
+            Some(CallName::EventPairCreate)
+        } else if field == b"object_signal".as_slice() {
+            Some(CallName::ObjectSignal)
+        } else if field == b"object_signal_peer".as_slice() {
+            Some(CallName::ObjectSignalPeer)
+        } else {
+            None
         }
     }
 
@@ -58,13 +63,18 @@ impl CallName {
     fn of_handle(field: &[u8]) -> Option<CallName>
         ensures { result ≡ name_of_handle field.now }
     {
-        match field {
-            b"handle_close" => Some(CallName::HandleClose),
-            b"handle_duplicate" => Some(CallName::HandleDuplicate),
-            b"handle_replace" => Some(CallName::HandleReplace),
-            b"channel_create" => Some(CallName::ChannelCreate),
-            b"channel_read" => Some(CallName::ChannelRead),
-            _ => None,
+        if field == b"handle_close".as_slice() {
+            Some(CallName::HandleClose)
+        } else if field == b"handle_duplicate".as_slice() {
+            Some(CallName::HandleDuplicate)
+        } else if field == b"handle_replace".as_slice() {
+            Some(CallName::HandleReplace)
+        } else if field == b"channel_create".as_slice() {
+            Some(CallName::ChannelCreate)
+        } else if field == b"channel_read".as_slice() {
+            Some(CallName::ChannelRead)
+        } else {
+            None
         }
     }
 
@@ -73,13 +83,18 @@ impl CallName {
     fn of_port(field: &[u8]) -> Option<CallName>
         ensures { result ≡ name_of_port field.now }
     {
-        match field {
-            b"port_create" => Some(CallName::PortCreate),
-            b"object_wait_async" => Some(CallName::ObjectWaitAsync),
-            b"port_queue" => Some(CallName::PortQueue),
-            b"port_wait" => Some(CallName::PortWait),
-            b"port_cancel" => Some(CallName::PortCancel),
-            _ => None,
+        if field == b"port_create".as_slice() {
+            Some(CallName::PortCreate)
+        } else if field == b"object_wait_async".as_slice() {
+            Some(CallName::ObjectWaitAsync)
+        } else if field == b"port_queue".as_slice() {
+            Some(CallName::PortQueue)
+        } else if field == b"port_wait".as_slice() {
+            Some(CallName::PortWait)
+        } else if field == b"port_cancel".as_slice() {
+            Some(CallName::PortCancel)
+        } else {
+            None
         }
     }
 
@@ -88,13 +103,18 @@ impl CallName {
     fn of_task(field: &[u8]) -> Option<CallName>
         ensures { result ≡ name_of_task field.now }
     {
-        match field {
-            b"job_create" => Some(CallName::JobCreate),
-            b"spawn" => Some(CallName::Spawn),
-            b"job_set_critical" => Some(CallName::JobSetCritical),
-            b"task_kill" => Some(CallName::TaskKill),
-            b"process_exit" => Some(CallName::ProcessExit),
-            _ => None,
+        if field == b"job_create".as_slice() {
+            Some(CallName::JobCreate)
+        } else if field == b"spawn".as_slice() {
+            Some(CallName::Spawn)
+        } else if field == b"job_set_critical".as_slice() {
+            Some(CallName::JobSetCritical)
+        } else if field == b"task_kill".as_slice() {
+            Some(CallName::TaskKill)
+        } else if field == b"process_exit".as_slice() {
+            Some(CallName::ProcessExit)
+        } else {
+            None
         }
     }
 }
