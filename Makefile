@@ -8,7 +8,7 @@
 # make uninstall     removes what make install put there
 # make run           builds bin/zxtt and runs it on standard input
 #
-# For work on zxtt itself; CONTRIBUTING.md says more of each:
+# For work on zxtt itself; docs/PROVING.md says more of each:
 #
 # make edits         tries the edits of crates/NAME/edits, each of which the prover has to refuse
 # make try-program   runs the trials on the programs of bin/

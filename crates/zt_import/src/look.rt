@@ -16,7 +16,8 @@ use zt_bits::Status;
 use zt_logs::{Cause, LogFault, LoggedCall};
 use zt_rows::{Call, Moment};
 
-/// How many places before and behind a call are looked at. Beyond them all calls are more than `MOST_LINES` away.
+/// How many places before and behind a call are searched. Where most lines are one or two calls, this covers `MOST_LINES`
+/// lines; beside long `handle_close_many` lines it covers fewer.
 const PLACES: usize = 1_024;
 
 /// What is looked at: the calls of a log, and what they need.

@@ -1,4 +1,4 @@
--- The states that a history can reach, as one fact with named parts: what the rows of objects, entries,
+-- What holds in every state that a history reaches, as one fact with named parts: what the rows of objects, entries,
 -- messages, packets and waits owe each other. Object lifetimes and peers as in Fuchsia's reference of kernel
 -- objects; numbers and limits are this project's own profile.
 use Rattle.std.specs.Prelude.{◌≡◌, ◌≢◌, ◌⊎◌, ℕ, ◌+◌, ◌*◌, ◌<◌, ◌≤◌, Bool, true, false, not, ◌==◌, ◌&&◌, ◌||◌, Some, bit_and, bit_or}
