@@ -1,22 +1,23 @@
-//! Calls of the first process: mixed ones, of which twelve in turn leave an event and two handles to it, and calls of
-//! which four in turn leave an event and a leaked end of a channel.
+//! Calls of the first process, in two rows that repeat. Twelve mixed calls leave an event and one handle to it. Four
+//! leaking calls leave an event and a leaked end of a channel.
+
 use std::alloc::{AllocError, Global};
 use zt_bits::Signals;
 use zt_rows::{Call, HandleValue, Parcel};
 
-/// The port that the first call makes.
+/// The handle of the port that the first call makes.
 const PORT: HandleValue = HandleValue(7);
 
-/// How many handles twelve calls give out.
+/// How many handles twelve mixed calls give.
 const HANDLES: u32 = 5;
 
-/// The n-th handle, counted from 0, that is given out behind the port's in the turn of the number.
+/// The handle that is the `n`-th, from 0, of those that a turn of twelve calls gives.
 fn handle(turn: u32, n: u32) -> HandleValue {
     let given = turn.saturating_mul(HANDLES).saturating_add(n);
     HandleValue(given.saturating_mul(4).saturating_add(11))
 }
 
-/// The call of this number: a port, and then twelve calls in turn.
+/// The mixed call of this number: first a port, and then twelve calls in turn.
 pub fn mixed(alloc: Global, number: u32) -> Result<Call, AllocError> {
     if number == 0 {
         return Ok(Call::PortCreate);
@@ -28,8 +29,8 @@ pub fn mixed(alloc: Global, number: u32) -> Result<Call, AllocError> {
     }
 }
 
-/// The call of this number of those that leak: a channel, whose far end is sent through the near one, which is then
-/// closed, and an event.
+/// The leaking call of this number: four calls in turn. They make a channel, send its far end through the near one, close
+/// that, and make an event.
 pub fn leak(alloc: Global, number: u32) -> Result<Call, AllocError> {
     let near = (number / 4).saturating_mul(12).saturating_add(7);
     let far = HandleValue(near.saturating_add(4));
@@ -41,7 +42,7 @@ pub fn leak(alloc: Global, number: u32) -> Result<Call, AllocError> {
     }
 }
 
-/// A message that sends one handle.
+/// A write that sends one handle.
 fn send(alloc: Global, through: HandleValue, sent: HandleValue) -> Result<Call, AllocError> {
     let bytes = Vec::from_slice(alloc, b"hello")?;
     let handles = Vec::from_slice(alloc, [sent].as_slice())?;
@@ -52,7 +53,7 @@ fn send(alloc: Global, through: HandleValue, sent: HandleValue) -> Result<Call, 
     })
 }
 
-/// A call that sends no message: the one at this step of the turn.
+/// The call at this step of a turn, unless it is the write.
 fn plain(turn: u32, step: u32) -> Call {
     match step {
         0 => Call::EventCreate,
@@ -72,7 +73,7 @@ fn plain(turn: u32, step: u32) -> Call {
     }
 }
 
-/// A wait for the port.
+/// A wait that sends its packet to the port.
 pub fn wait(handle: HandleValue) -> Call {
     Call::ObjectWaitAsync {
         handle,

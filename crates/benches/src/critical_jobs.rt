@@ -1,16 +1,18 @@
-//! A job with many jobs under it, and processes under these, of which the last is critical to the job above all of them.
+//! A job with many jobs under it, and a hundred processes under each of these. The last process is critical to the job
+//! above all of them.
 
 use crate::histories::{does, makes};
 use zt_history::History;
 use zt_rows::{Call, FIRST_HANDLE, HandleValue};
 
-/// Its handle to the job above all others but that.
+/// The first process's handle to the job above all others of the workload.
 const ABOVE: HandleValue = HandleValue(7);
 
-/// How many processes each of the others has under it.
+/// How many processes each job below has.
 const PROCESSES: u32 = 100;
 
-/// How far the handles of one such job are from those of the next: one for the job, and one for each of its processes.
+/// The distance between the handles of one job below and those of the next: four for the job, and four for each of its
+/// processes.
 const APART: u32 = 404;
 
 /// The handle to the job of this number, from 0.
@@ -18,7 +20,7 @@ fn job(number: u32) -> HandleValue {
     HandleValue(number.saturating_mul(APART).saturating_add(11))
 }
 
-/// The handle that was given out last before the job of this number was made.
+/// The handle that was given last before the job of this number was made.
 fn last_before(number: u32) -> HandleValue {
     HandleValue(number.saturating_mul(APART).saturating_add(7))
 }
@@ -40,7 +42,7 @@ fn makes_job(history: &mut History, number: u32) -> bool {
     true
 }
 
-/// Makes the jobs of so many numbers.
+/// Makes `count` jobs with their processes.
 fn makes_jobs(history: &mut History, count: u32) -> bool {
     for number in 0..count {
         if !makes_job(history, number) {
@@ -50,7 +52,7 @@ fn makes_jobs(history: &mut History, count: u32) -> bool {
     true
 }
 
-/// Makes so many processes, a hundred under each job, of which the last is critical to the job above these.
+/// Makes this many processes, a hundred under each job. The last becomes critical to the job above all of them.
 pub(crate) fn makes_critical(history: &mut History, count: u32) -> bool {
     let jobs = count / PROCESSES;
     let critical = Call::JobSetCritical {
@@ -62,7 +64,7 @@ pub(crate) fn makes_critical(history: &mut History, count: u32) -> bool {
         && does(history, critical)
 }
 
-/// Kills the critical one of so many processes.
+/// Kills the critical process of this many.
 pub(crate) fn kills_critical(history: &mut History, count: u32) -> bool {
     let handle = last_before(count / PROCESSES);
     does(history, Call::TaskKill { handle })

@@ -1,4 +1,4 @@
-//! Waits on edges at an event whose signal stands already, and calls that change another event.
+//! Waits on edges at an event whose signal is already set, and calls that change another event.
 
 use crate::calls::signal;
 use crate::histories::makes;
@@ -6,18 +6,18 @@ use zt_bits::Signals;
 use zt_history::History;
 use zt_rows::{Call, HandleValue};
 
-/// The event at which the waits are.
+/// The event that is waited on.
 const WAITED_ON: HandleValue = HandleValue(7);
 
-/// The event that changes.
+/// The event that the calls change.
 const CHANGED: HandleValue = HandleValue(11);
 
 const PORT: HandleValue = HandleValue(15);
 
-/// How many calls change it.
+/// How many calls change that event.
 const CHANGES: u32 = 10_000;
 
-/// Makes both events, of which the first is signalled, and the port.
+/// Makes both events, sets the signal of the first, and makes the port.
 fn makes_events(history: &mut History) -> bool {
     makes(history, &Ok(Call::EventCreate))
         && makes(history, &Ok(Call::EventCreate))
@@ -25,7 +25,7 @@ fn makes_events(history: &mut History) -> bool {
         && makes(history, &Ok(signal(WAITED_ON, 0, 0x8)))
 }
 
-/// Makes so many waits on the edge of the signal that stands, of which none fires.
+/// Makes this many waits on the edge of the signal that is already set. None of them fires.
 pub(crate) fn makes_edge_waits(history: &mut History, count: u32) -> bool {
     if !makes_events(history) {
         return false;
@@ -45,7 +45,7 @@ pub(crate) fn makes_edge_waits(history: &mut History, count: u32) -> bool {
     true
 }
 
-/// Sets and clears the signal of the other event, and tells how many calls that took.
+/// Sets and clears the signal of the other event. Returns how many calls that took.
 pub(crate) fn changes_other(history: &mut History) -> Option<u32> {
     let set = Ok(signal(CHANGED, 0, 0x8));
     let clear = Ok(signal(CHANGED, 0x8, 0));

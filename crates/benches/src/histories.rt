@@ -1,4 +1,5 @@
-//! Histories of many calls on `main`.
+//! Makes histories of many calls on `main`.
+
 ghost use Rattle.std.specs.Prelude.{◌<◌, length, IfSome};
 
 use crate::calls::{leak, mixed};
@@ -15,7 +16,7 @@ fn main_of(history: &History) -> Option<BranchId>
     history.find(b"main")
 }
 
-/// Makes a call of the first process.
+/// Makes a call of the first process on `main`. Returns whether it was answered.
 pub(crate) fn makes(history: &mut History, call: &Result<Call, AllocError>) -> bool {
     let Some(id) = main_of(history) else {
         return false;
@@ -26,7 +27,7 @@ pub(crate) fn makes(history: &mut History, call: &Result<Call, AllocError>) -> b
     }
 }
 
-/// Makes the call, which has to be told ok.
+/// Makes a call, and returns whether it is answered `ok`.
 pub(crate) fn does(history: &mut History, call: Call) -> bool {
     if !makes(history, &Ok(call)) {
         return false;
@@ -37,7 +38,7 @@ pub(crate) fn does(history: &mut History, call: Call) -> bool {
     }
 }
 
-/// Makes so many mixed calls.
+/// Makes this many mixed calls.
 pub(crate) fn makes_mixed(alloc: Global, history: &mut History, count: u32) -> bool {
     for number in 0..count {
         if !makes(history, &mixed(alloc, number)) {
@@ -47,7 +48,7 @@ pub(crate) fn makes_mixed(alloc: Global, history: &mut History, count: u32) -> b
     true
 }
 
-/// Makes so many events, and as many ends of channels that are leaked.
+/// Makes this many events, and as many leaked ends of channels.
 pub(crate) fn makes_leaks(alloc: Global, history: &mut History, count: u32) -> bool {
     for number in 0..count.saturating_mul(4) {
         if !makes(history, &leak(alloc, number)) {

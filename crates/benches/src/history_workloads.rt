@@ -1,13 +1,19 @@
-//! Workloads over a history: `calls` makes COUNT mixed calls, `moves` goes over all of them, back to the opening and
-//! forth again, and `turns` makes 1,000 moves of ten moments at their end. Behind so many calls `made` asks when each of
-//! 250 objects was made, and `ended`, `peer_closed` and `leaked` ask likewise: once untimed and then in turn again, of few enough
-//! objects that what is looked at stays in the caches however long the history is. `leaks` asks what is leaked among COUNT
-//! objects. `edges` changes an event 10,000 times beside another at which COUNT waits on edges are, whose signal stands.
-//! `critical` ends COUNT processes, with the jobs that they are under, by the kill of the one that is critical to the job
-//! above all of them, and goes back over it. `own_job` makes COUNT processes under the caller's own job, each with an
-//! event behind it, and goes back to the opening and forth again. `fired_back` goes back over calls that fired COUNT waits, and
-//! forth again. The time is that of one call, of one moment gone over, of one move, of one question, of one process that
-//! ended and was there again, of one that was made, gone and made again, or of one wait that was there again and fired again.
+//! Workloads over a history. Each returns a time in nanoseconds.
+//!
+//! - `calls` makes COUNT mixed calls: the time of one call.
+//! - `moves` makes COUNT mixed calls, then goes back to the opening and forth again: the time of one moment.
+//! - `turns` makes COUNT mixed calls, then 1,000 moves of ten moments at their end: the time of one move.
+//! - `made`, `ended`, `peer_closed` and `leaked` make COUNT mixed calls, then ask when that happened to each of 250
+//!   objects: the time of one question. The questions are asked once untimed, and then again and again. The objects are so
+//!   few that what is looked at stays in the caches, however long the history is.
+//! - `leaks` asks what is leaked among COUNT objects: the time of one object.
+//! - `edges` changes an event 10,000 times. On another event, whose signal is set, there are COUNT waits on edges: the time
+//!   of one call.
+//! - `critical` kills the process that is critical to the job above all others. COUNT processes end with their jobs. Then
+//!   it goes back over the kill: the time of one process.
+//! - `own_job` makes COUNT processes under the caller's own job, with an event after each. Then it goes back to the opening
+//!   and forth again: the time of one process.
+//! - `fired_back` goes back over calls that fired COUNT waits, and forth again: the time of one wait.
 
 use crate::critical_jobs::{kills_critical, makes_critical};
 use crate::edge_waits::{changes_other, makes_edge_waits};
@@ -22,7 +28,7 @@ use std::time::Instant;
 use zt_history::History;
 use zt_rows::Happening;
 
-/// The nanoseconds of one call, of one moment gone over, of one move, of one question, of one process or of one wait.
+/// The time in nanoseconds of a workload. None if there is no such workload, or if a call or a question is refused.
 pub(crate) fn time_of(rt: &impl Clock, alloc: Global, workload: &str, count: u32) -> Option<u128> {
     match History::new(alloc) {
         Ok(mut history) => time_over(rt, alloc, &mut history, workload, count),
@@ -30,7 +36,7 @@ pub(crate) fn time_of(rt: &impl Clock, alloc: Global, workload: &str, count: u32
     }
 }
 
-/// The same, over a history at the opening.
+/// The time of a workload over this history, which is at the opening.
 fn time_over(
     rt: &impl Clock,
     alloc: Global,
@@ -49,7 +55,7 @@ fn time_over(
     }
 }
 
-/// The nanoseconds of one step, of so many since this time.
+/// The nanoseconds of one of this many steps since `start`.
 fn time_since(rt: &impl Clock, start: Instant, steps: u32) -> Option<u128> {
     match start.elapsed(rt) {
         Ok(time) => Some(time.as_nanos() / u128::from(steps.max(1))),
@@ -57,7 +63,7 @@ fn time_since(rt: &impl Clock, start: Instant, steps: u32) -> Option<u128> {
     }
 }
 
-/// The time of one of so many mixed calls.
+/// The time of one mixed call, of this many.
 fn time_of_calls(
     rt: &impl Clock,
     alloc: Global,
@@ -71,7 +77,7 @@ fn time_of_calls(
     time_since(rt, start, count)
 }
 
-/// The time of one of so many objects, where it is told what is leaked among all of them.
+/// The time for one object of a question about what is leaked among this many.
 fn time_of_leaks(
     rt: &impl Clock,
     alloc: Global,
@@ -88,7 +94,7 @@ fn time_of_leaks(
     time_since(rt, start, count)
 }
 
-/// The time of one call that changes an event beside another at which so many waits are.
+/// The time of one call that changes an event, beside another with this many waits.
 fn time_beside_edges(rt: &impl Clock, history: &mut History, count: u32) -> Option<u128> {
     if !makes_edge_waits(history, count) {
         return None;
@@ -98,7 +104,7 @@ fn time_beside_edges(rt: &impl Clock, history: &mut History, count: u32) -> Opti
     time_since(rt, start, changes)
 }
 
-/// The time in which one of so many processes ends and is there again.
+/// The time in which one of this many processes ends and is there again.
 fn time_of_ending(rt: &impl Clock, history: &mut History, count: u32) -> Option<u128> {
     if !makes_critical(history, count) {
         return None;
@@ -111,7 +117,7 @@ fn time_of_ending(rt: &impl Clock, history: &mut History, count: u32) -> Option<
     time_since(rt, start, count)
 }
 
-/// The time in which one of so many processes under the caller's own job is made, and is gone and there again.
+/// The time in which one of this many processes under the caller's own job is made, gone and there again.
 fn time_of_siblings(rt: &impl Clock, history: &mut History, count: u32) -> Option<u128> {
     let start = Instant::now(rt).ok()?;
     if !makes_siblings(history, count) {
@@ -124,7 +130,7 @@ fn time_of_siblings(rt: &impl Clock, history: &mut History, count: u32) -> Optio
     time_since(rt, start, count)
 }
 
-/// The time in which one of so many waits that fired is there again and fires again, by moves.
+/// The time in which one of this many waits that fired is there again and fires again, by moves.
 fn time_of_fired(rt: &impl Clock, history: &mut History, count: u32) -> Option<u128> {
     if !makes_waits(history, count / 2) {
         return None;
@@ -141,7 +147,7 @@ fn time_of_fired(rt: &impl Clock, history: &mut History, count: u32) -> Option<u
     time_since(rt, start, count)
 }
 
-/// The time of one step of a workload behind so many mixed calls.
+/// The time of one step of a workload that begins with this many mixed calls.
 fn time_behind_calls(
     rt: &impl Clock,
     alloc: Global,
@@ -161,7 +167,7 @@ fn time_behind_calls(
 /// How often each question is asked.
 const ROUNDS: u32 = 64;
 
-/// The time of one question, where each was asked before.
+/// The time of one question that was asked before.
 fn time_of_questions(
     rt: &impl Clock,
     alloc: Global,
@@ -177,7 +183,7 @@ fn time_of_questions(
     time_since(rt, start, asked)
 }
 
-/// The time of one moment gone over, or of one move.
+/// The time of one moment of a move, or of one move.
 fn time_of_moves(
     rt: &impl Clock,
     history: &mut History,
@@ -193,7 +199,7 @@ fn time_of_moves(
     time_since(rt, start, steps)
 }
 
-/// What is asked about, by its word.
+/// The happening that a workload asks about.
 fn happening(word: &str) -> Option<Happening> {
     match word {
         "made" => Some(Happening::Made),

@@ -1,6 +1,9 @@
-//! How long a store and a history take, each alone: `benches store WORKLOAD OBJECTS COUNT` runs a workload of
-//! `store_workloads`, and `benches history WORKLOAD COUNT` one of `history_workloads`. Each prints the workload, its
-//! numbers and the time that the workload tells, in nanoseconds. Without arguments it does nothing.
+//! Measures how long a store and a history take, each alone.
+//!
+//! - `benches store WORKLOAD OBJECTS COUNT` runs a workload of `store_workloads`.
+//! - `benches history WORKLOAD COUNT` runs a workload of `history_workloads`.
+//!
+//! Each prints the workload, its numbers and its time in nanoseconds. Without arguments the program does nothing.
 #![tactic(auto)]
 
 mod calls;
@@ -17,7 +20,7 @@ mod store_workloads;
 use anyhow::{Context, Result, bail};
 use std::env;
 
-/// The first koid that an opening has not given out.
+/// The first koid that the opening has not given to an object.
 const FIRST: u64 = 1026;
 
 fn main(rt: HostRuntime) -> Result<()> {
@@ -41,20 +44,20 @@ fn main(rt: HostRuntime) -> Result<()> {
     }
 }
 
-/// The number that the word is.
+/// The number that an argument is.
 fn number(word: Option<String>) -> Result<u32> {
     let word = word.context("a number is missing")?;
     word.as_str().parse::<u32>().context("a number is wanted")
 }
 
-/// Says how long a workload of a store takes.
+/// Prints how long a workload of a store takes.
 fn over_store(rt: &HostRuntime, workload: &str, objects: u32, count: u32) -> Result<()> {
     let time = store_workloads::time_of(rt, rt.alloc(), workload, objects, count)?;
     println!(rt; "{workload} {objects} {count} {time}")?;
     Ok(())
 }
 
-/// Says how long a workload of a history takes.
+/// Prints how long a workload of a history takes.
 fn over_history(rt: &HostRuntime, workload: &str, count: u32) -> Result<()> {
     let time = history_workloads::time_of(rt, rt.alloc(), workload, count);
     let time = time.context("no such workload, or it was refused")?;

@@ -4,7 +4,7 @@ use crate::histories::makes;
 use zt_history::History;
 use zt_rows::{Call, FIRST_HANDLE, HandleValue};
 
-/// Makes so many processes under the caller's own job, and an event behind each.
+/// Makes this many processes under the caller's own job, with an event after each.
 pub(crate) fn makes_siblings(history: &mut History, count: u32) -> bool {
     let spawn = Ok(Call::Spawn {
         job: FIRST_HANDLE,

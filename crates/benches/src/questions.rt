@@ -1,4 +1,4 @@
-//! Questions to a history, at its last moment.
+//! Asks a history questions at its last moment.
 
 use crate::FIRST;
 use std::alloc::Global;
@@ -6,10 +6,10 @@ use zt_history::History;
 use zt_queries::{ended, leaked_since, leaks_at, made, peer_closed};
 use zt_rows::{Happening, Koid, Moment, Refusal};
 
-/// How many questions there are.
+/// How many questions `questions` asks.
 const QUESTIONS: u32 = 250;
 
-/// When it happened to the object.
+/// The moment at which this happened to the object.
 fn when(
     alloc: Global,
     history: &History,
@@ -25,8 +25,8 @@ fn when(
     }
 }
 
-/// Asks when it happened to objects made all along the history, and tells how often it asked. Twelve mixed calls give
-/// out three koids.
+/// Asks when this happened to objects that were made all along the history. Returns how many questions it asked. Twelve
+/// mixed calls give three koids.
 pub(crate) fn questions(alloc: Global, history: &History, what: Happening) -> Option<u32> {
     let given_out = u64::from(history.last().0 / 4);
     for number in 0..u64::from(QUESTIONS) {
@@ -39,7 +39,7 @@ pub(crate) fn questions(alloc: Global, history: &History, what: Happening) -> Op
     Some(QUESTIONS)
 }
 
-/// Asks what is leaked.
+/// Asks which objects are leaked.
 pub(crate) fn asks_leaks(alloc: Global, history: &History) -> bool {
     leaks_at(alloc, history).is_ok()
 }

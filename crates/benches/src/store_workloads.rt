@@ -1,5 +1,5 @@
-//! Workloads over a store of so many objects: `steps` takes COUNT steps of two puts, one after another over the objects,
-//! and `swaps` exchanges one record of two rows COUNT times. The time is that of one step or exchange.
+//! Workloads over a store of OBJECTS objects. `steps` makes COUNT steps of two puts, one after another over the objects.
+//! `swaps` exchanges one record of two rows COUNT times. Each returns the time of one step or exchange, in nanoseconds.
 
 ghost use Rattle.std.specs.Prelude.{◌≡◌, true, IfOk};
 ghost use Rattle.zt_store.specs.Places.{fits};
@@ -13,7 +13,8 @@ use zt_bits::{Kind, Signals};
 use zt_rows::{Counters, Koid, Life, ObjectRow, Row, RowKey};
 use zt_store::{Record, Step, Store, swap};
 
-/// The nanoseconds of one step or exchange.
+/// The time in nanoseconds of one step or exchange. The error says that there is no such workload, that an allocation
+/// failed, or that the clock could not be read.
 pub(crate) fn time_of(
     rt: &impl Clock,
     alloc: Global,
@@ -29,7 +30,7 @@ pub(crate) fn time_of(
     Ok(time.as_nanos() / u128::from(count.max(1)))
 }
 
-/// The opening with so many events more.
+/// The opening with this many events added.
 fn store_of(alloc: Global, objects: u64) -> Result<Store, AllocError> {
     let mut step = Step::begin(Store::opening(alloc)?);
     for i in 0..objects {
@@ -39,8 +40,8 @@ fn store_of(alloc: Global, objects: u64) -> Result<Store, AllocError> {
     Ok(store)
 }
 
-/// The time of so many steps of two puts each, one after another over the objects. As in a history, each begins in the place of
-/// the one before it.
+/// The time of this many steps of two puts each, one after another over the objects. As in a history, each step begins
+/// where the last ended.
 fn time_of_steps(rt: &impl Clock, alloc: Global, objects: u64, count: u64) -> Result<Duration> {
     let mut step = Step::begin(store_of(alloc, objects)?);
     let start = Instant::now(rt)?;
@@ -51,7 +52,7 @@ fn time_of_steps(rt: &impl Clock, alloc: Global, objects: u64, count: u64) -> Re
     Ok(start.elapsed(rt)?)
 }
 
-/// The time of so many exchanges of one record of two rows.
+/// The time of this many exchanges of one record of two rows.
 fn time_of_swaps(rt: &impl Clock, alloc: Global, objects: u64, count: u64) -> Result<Duration> {
     let (mut store, mut kept) = step_of_two(store_of(alloc, objects)?, FIRST, 1)?;
     let start = Instant::now(rt)?;
@@ -59,7 +60,7 @@ fn time_of_swaps(rt: &impl Clock, alloc: Global, objects: u64, count: u64) -> Re
     Ok(start.elapsed(rt)?)
 }
 
-/// Exchanges the record's rows with the store's so many times.
+/// Exchanges the record's rows with the store's this many times.
 fn swap_often(store: &mut Store, kept: &mut Record, count: u64)
     requires { fits store.old.places kept.old ≡ true }
 {
@@ -68,7 +69,7 @@ fn swap_often(store: &mut Store, kept: &mut Record, count: u64)
     }
 }
 
-/// A step that puts the counters and one object.
+/// Makes a step that puts the counters and one object, and returns its record.
 fn step_of_two(store: Store, koid: u64, number: u64) -> Result<(Store, Record), AllocError>
     ensures { IfOk result (λ done. fits done.0.places done.1 ≡ true) }
 {

@@ -1,4 +1,4 @@
-//! What a trial shows that should not be.
+//! Why a trial fails.
 
 use std::alloc::AllocError;
 use std::io;

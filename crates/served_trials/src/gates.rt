@@ -1,4 +1,4 @@
-//! Gates that hold clients, gates that count, and gates that hear.
+//! Trials with gates that hold clients, gates that count, and gates that hear lines.
 
 use crate::faults::TrialFault;
 use crate::served_clients::serve;
@@ -9,28 +9,28 @@ use std::thread::Threads;
 use std::time::{Clock, Duration};
 use zt_shared::Gate;
 
-/// How often a gate looks for what it waits for, before it gives up.
+/// How often a gate looks for what it waits for before it gives up.
 const TURNS: u32 = 5_000;
 
-/// How many milliseconds it sleeps after each look.
+/// How many milliseconds a gate sleeps after each look.
 const PAUSE: u64 = 1;
 
-/// What a client types: two calls.
+/// The lines of a client: two calls.
 fn calls() -> &'static [u8] {
     b"1025 event_create\n1025 event_create\n"
 }
 
-/// What a client types: four commands, of which the second is refused, and lines that are none.
+/// The lines of a client: four commands, the second of which is refused, and lines that are no commands.
 fn lines() -> &'static [u8] {
     b"1025 event_create\n# a comment\n\nbad\npinned show\ngoto 9\ngoto 0\npin\npinned show\n"
 }
 
-/// What a gate hears of these lines: each with its answer behind it, which a line that is skipped has not.
+/// The text that a gate hears of `lines`: each line with its answer behind it. A skipped line has no answer.
 fn lines_answered() -> &'static [u8] {
     b"1025 event_create\n1 ok 7\n# a comment\n\nbad\nrefused 10 BadLine 1\npinned show\nrefused 4 NoMoment\ngoto 9\nrefused 4 NoMoment\ngoto 0\nat 0\npin\npinned 0\npinned show\nrows 0 4\ncounters 1026 0\nobject 1024 job 0x00000010 0 live 0\nobject 1025 process 0x00000000 1024 live 1\nentry 1025 3 1024 0x0003d203\n"
 }
 
-/// Nothing is called around commands.
+/// A gate that does nothing.
 pub struct NoGate;
 
 impl Gate for NoGate {
@@ -39,7 +39,7 @@ impl Gate for NoGate {
     fn after(&self, _client: u8, _n: u32) {}
 }
 
-/// A flag that a thread raises, and others wait for.
+/// A flag that one thread raises and others wait for.
 #[derive(Drop)]
 pub struct Flag(AtomicBool);
 
@@ -56,7 +56,7 @@ impl Flag {
         self.0.load(Ordering::SeqCst)
     }
 
-    /// Whether the flag stands at one of so many looks.
+    /// Whether the flag stands at one of `TURNS` looks.
     pub fn stands_in_time(&self, clock: &impl Clock) -> bool {
         for _ in 0..TURNS {
             if self.stands() {
@@ -68,7 +68,7 @@ impl Flag {
     }
 }
 
-/// Holds the first command of client 1 until the first one of client 2 is answered.
+/// Holds the first command of client 1 until the first command of client 2 is answered.
 #[derive(Drop)]
 struct SecondFirst<'a, C> {
     clock: &'a C,
@@ -90,14 +90,14 @@ impl<C: Clock> Gate for SecondFirst<'_, C> {
     }
 }
 
-/// Holds the first command of each client until the first ones of all the others have come too. One who has waited in vain
+/// Holds the first command of each client until the first commands of all others have come too. A client that waits in vain
 /// goes on, and lets the others go on.
 #[derive(Drop)]
 struct Meeting<'a, C> {
     clock: &'a C,
     /// How many clients have not come yet.
     missing: AtomicUsize,
-    /// Stands once all have come, or one has waited in vain.
+    /// Stands once all clients have come, or one has waited in vain.
     open: Flag,
     in_vain: Flag,
 }
@@ -119,7 +119,7 @@ impl<C: Clock> Gate for Meeting<'_, C> {
     fn after(&self, _client: u8, _n: u32) {}
 }
 
-/// How often something was called, and the sum of the numbers.
+/// How often a gate was called, and the sum of the commands' numbers.
 #[derive(Drop)]
 struct Tally {
     calls: AtomicU64,
@@ -144,7 +144,7 @@ impl Tally {
     }
 }
 
-/// Counts its calls.
+/// A gate that counts its calls.
 #[derive(Drop)]
 struct Counting {
     before: Tally,
@@ -161,7 +161,7 @@ impl Gate for Counting {
     }
 }
 
-/// Keeps what it hears of client 1: each line and its answer.
+/// A gate that keeps what it hears of client 1: each line and its answer.
 #[derive(Drop)]
 struct Hearing<'a, R> {
     rt: &'a R,
@@ -176,7 +176,7 @@ impl<R: Wait> Gate for Hearing<'_, R> {
     fn heard(&self, client: u8, line: &[u8], text: &[u8]) {
         if client == 1 {
             let mut heard = self.heard.lock(self.rt);
-            // (where memory is refused, what was heard is not what the trial wants)
+            // If an allocation fails, what was heard is not what the trial wants.
             let _ = heard.extend_from_slice(line);
             let _ = heard.push(b'\n');
             let _ = heard.extend_from_slice(text);
@@ -184,7 +184,7 @@ impl<R: Wait> Gate for Hearing<'_, R> {
     }
 }
 
-/// Two clients, of whom the first is held until the second has its first answer.
+/// Serves two clients. The first is held until the second has its first answer. Returns how many rows the log has.
 pub fn second_before_first<R: Threads + Wait + AllocGlobal + Clock + Sync>(
     rt: &R,
 ) -> Result<usize, TrialFault> {
@@ -197,7 +197,7 @@ pub fn second_before_first<R: Threads + Wait + AllocGlobal + Clock + Sync>(
     in_time(rows, &gate.in_vain)
 }
 
-/// So many clients, of whom each is held until all the others have come.
+/// Serves this many clients. Each is held until all others have come. Returns how many rows the log has.
 pub fn each_for_the_others<R: Threads + Wait + AllocGlobal + Clock + Sync>(
     rt: &R,
     clients: usize,
@@ -213,7 +213,7 @@ pub fn each_for_the_others<R: Threads + Wait + AllocGlobal + Clock + Sync>(
     in_time(rows, &gate.in_vain)
 }
 
-/// So many rows, where no client was held in vain.
+/// The number of rows, unless a client was held in vain.
 fn in_time(rows: usize, in_vain: &Flag) -> Result<usize, TrialFault> {
     if in_vain.stands() {
         Err(TrialFault::HeldInVain)
@@ -222,8 +222,8 @@ fn in_time(rows: usize, in_vain: &Flag) -> Result<usize, TrialFault> {
     }
 }
 
-/// One client, whose gate is called around its four commands and no other line. Their numbers are 1, 2, 2 and 3, since a
-/// refused command takes none.
+/// Serves one client. Its gate is called around its four commands, and around no other line. Their numbers are 1, 2, 2 and
+/// 3, since a refused command takes none.
 pub fn around_commands<R: Threads + Wait + AllocGlobal + Sync>(
     rt: &R,
 ) -> Result<usize, TrialFault> {
@@ -239,7 +239,7 @@ pub fn around_commands<R: Threads + Wait + AllocGlobal + Sync>(
     }
 }
 
-/// One client, whose gate hears each of its lines, those that are skipped too, with its answer.
+/// Serves one client. Its gate hears each of its lines with its answer, also the skipped ones.
 pub fn each_line_heard<R: Threads + Wait + AllocGlobal + Sync>(
     rt: &R,
 ) -> Result<usize, TrialFault> {
@@ -256,7 +256,7 @@ pub fn each_line_heard<R: Threads + Wait + AllocGlobal + Sync>(
     }
 }
 
-/// How many rows the log has, where each client types one of the texts.
+/// Serves a client for each text. Returns how many rows the log has.
 fn rows_of_all<R: Threads + Wait + AllocGlobal + Sync, G: Gate + Sync>(
     rt: &R,
     texts: &[&'static [u8]],

@@ -1,4 +1,5 @@
-//! A second client who closes the peer of the first one's channel and is lost, between two lines of the first.
+//! Trials in which a second client closes the peer of the first client's channel and is lost, between two lines of the
+//! first.
 
 use crate::faults::TrialFault;
 use crate::gates::Flag;
@@ -15,19 +16,19 @@ use zt_console::{End, Served};
 use zt_rows::Refusal;
 use zt_shared::Gate;
 
-// No clause tells the texts that these functions give, so that who asks for one is proved without going over its bytes.
+// No clause tells the texts that these functions return. So a proof of their callers does not go over the bytes.
 
-/// What the first client types.
+/// The lines of the first client.
 fn first_lines() -> &'static [u8] {
     b"1025 channel_create\n1025 channel_write 7 - -\nwhen peer_closed 1026\n"
 }
 
-/// What it is told where the second one's command was served.
+/// The answers to the first client if the second client's command was served.
 fn told_of_close() -> &'static [u8] {
     b"1 ok 7 11\n3 peer_closed\n2 1025 handle_close 11\n"
 }
 
-/// What it is told where the second one gave no command.
+/// The answers to the first client if the second client gave no command.
 fn told_of_none() -> &'static [u8] {
     b"1 ok 7 11\n2 ok\nnever\n"
 }
@@ -35,17 +36,17 @@ fn told_of_none() -> &'static [u8] {
 /// How many commands the first client gives.
 const FIRST_ROWS: usize = 3;
 
-/// What the second client types.
+/// The line of the second client.
 fn second_line() -> &'static [u8] {
     b"1025 handle_close 11\n"
 }
 
-/// What it is told.
+/// The answer to the second client.
 fn second_told() -> &'static [u8] {
     b"2 ok\n"
 }
 
-/// An end of a client that says when it has failed.
+/// A reader or a writer of a client that raises a flag when it fails.
 #[derive(Drop)]
 struct Watched<'a, T> {
     end: Turns<T>,
@@ -76,7 +77,7 @@ impl<W: Write> Write for Watched<'_, W> {
     }
 }
 
-/// Lets the second client in once the first one has its channel, and the first one go on once the second is lost.
+/// Lets the second client in once the first has its channel. Lets the first go on once the second is lost.
 #[derive(Drop)]
 struct Between<'a, C> {
     clock: &'a C,
@@ -110,7 +111,7 @@ type Reader<'a> = Watched<'a, &'static [u8]>;
 /// A writer to memory.
 type Writer<'a> = Watched<'a, Vec<u8>>;
 
-/// A client who types these lines, and whose reader and writer fail after so many uses.
+/// The ends of a client with these lines. Its reader and its writer fail after this many uses.
 fn ends<'a>(
     alloc: Global,
     lost: &'a Flag,
@@ -142,7 +143,7 @@ struct BothLeft<'a> {
     second: Left<'a>,
 }
 
-/// Whether this is what is left of the client that was served.
+/// Whether this client is left as expected.
 fn is_served(
     left: &Left<'_>,
     log: &Log,
@@ -157,7 +158,7 @@ fn is_served(
     left.is_left(log, client, end, writer.into_inner().end.inner.as_slice())
 }
 
-/// Whether this is what is left of both clients.
+/// Whether both clients are left as expected, and the log has no other rows.
 fn are_left(log: &Log, served: Vec<Served<Reader<'_>, Writer<'_>>>, left: &BothLeft<'_>) -> bool {
     let mut served = served.into_iter();
     let (Some(first), Some(second)) = (served.next(), served.next()) else {
@@ -168,7 +169,7 @@ fn are_left(log: &Log, served: Vec<Served<Reader<'_>, Writer<'_>>>, left: &BothL
         && log.len() == left.first.rows.saturating_add(left.second.rows)
 }
 
-/// Serves both clients, of whom the second is lost after so many reads or writes. Gives the number of rows of the log.
+/// Serves both clients. The second is lost after this many reads or writes. Returns how many rows the log has.
 fn serve_both<R: Threads + Wait + AllocGlobal + Clock + Sync>(
     rt: &R,
     reads: usize,
@@ -196,7 +197,7 @@ fn serve_both<R: Threads + Wait + AllocGlobal + Clock + Sync>(
     }
 }
 
-/// How the first client is left, by whether the second one's command was served.
+/// How the first client is left: `closed` is whether the second client's command was served.
 fn first_left(closed: bool) -> Left<'static> {
     Left {
         end: End::Finished,
@@ -209,7 +210,7 @@ fn first_left(closed: bool) -> Left<'static> {
     }
 }
 
-/// A second client whose reader fails after so many reads: its command is served where the whole line was read.
+/// A second client whose reader fails after this many reads. Its command is served if the whole line was read.
 fn read_fails<R: Threads + Wait + AllocGlobal + Clock + Sync>(
     rt: &R,
     good: usize,
@@ -227,7 +228,7 @@ fn read_fails<R: Threads + Wait + AllocGlobal + Clock + Sync>(
     serve_both(rt, good, usize::MAX, &left)
 }
 
-/// A second client whose writer fails after so many writes: its row stays in the log.
+/// A second client whose writer fails after this many writes. Its row stays in the log.
 fn write_fails<R: Threads + Wait + AllocGlobal + Clock + Sync>(
     rt: &R,
     good: usize,
@@ -245,7 +246,7 @@ fn write_fails<R: Threads + Wait + AllocGlobal + Clock + Sync>(
     serve_both(rt, usize::MAX, good, &left)
 }
 
-/// Second clients of whom each is lost at another read, up to the one that would find the end.
+/// Second clients, each of which is lost at another read. The last is lost at the read that would find the end.
 pub fn second_reads_fail<R: Threads + Wait + AllocGlobal + Clock + Sync>(
     rt: &R,
 ) -> Result<usize, TrialFault> {
@@ -256,7 +257,7 @@ pub fn second_reads_fail<R: Threads + Wait + AllocGlobal + Clock + Sync>(
     Ok(rows)
 }
 
-/// Second clients of whom each is lost at another write.
+/// Second clients, each of which is lost at another write.
 pub fn second_writes_fail<R: Threads + Wait + AllocGlobal + Clock + Sync>(
     rt: &R,
 ) -> Result<usize, TrialFault> {

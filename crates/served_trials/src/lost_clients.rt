@@ -1,4 +1,4 @@
-//! Clients of whom one is lost, beside one who goes on.
+//! Trials in which one client is lost and another goes on.
 
 use crate::faults::TrialFault;
 use crate::gates::NoGate;
@@ -15,17 +15,17 @@ use zt_book::Log;
 use zt_console::{End, Served};
 use zt_rows::Refusal;
 
-/// What a client types who goes away in the middle of a line.
+/// The lines of a client that goes away in the middle of a line.
 fn cut_lines() -> &'static [u8] {
     b"1025 event_create\nback 1\n1025 object_sig"
 }
 
-/// What that client is told.
+/// The answers to that client.
 fn cut_told() -> &'static [u8] {
     b"1 ok 7\nat 0\nrefused 10 BadLine 6\n"
 }
 
-/// Moves one byte at a use, and fails once, after so many uses that did not.
+/// Moves one byte at each use, and fails once, after `good` uses.
 #[derive(Drop)]
 pub struct Turns<T> {
     pub inner: T,
@@ -70,7 +70,7 @@ type Reader = Turns<&'static [u8]>;
 /// A writer to memory.
 type Writer = Turns<Vec<u8>>;
 
-/// A client who types these lines, and whose reader and writer fail after so many uses.
+/// The ends of a client with these lines. Its reader and its writer fail after this many uses.
 fn ends(alloc: Global, lines: &'static [u8], reads: usize, writes: usize) -> (Reader, Writer) {
     let reader = Turns {
         inner: lines,
@@ -83,7 +83,7 @@ fn ends(alloc: Global, lines: &'static [u8], reads: usize, writes: usize) -> (Re
     (reader, writer)
 }
 
-/// How a client is left: how its session ended, what it was told, and how many rows the log has of it.
+/// How a client is left: how its session ended, what was written to it, and how many rows the log has of it.
 #[derive(Drop)]
 pub struct Left<'a> {
     pub end: End,
@@ -92,12 +92,12 @@ pub struct Left<'a> {
 }
 
 impl<'a> Left<'a> {
-    /// Whether this is what is left of the client, whose session ended so and to whom this was written.
+    /// Whether a client is left so, if its session ended so and this was written to it.
     pub fn is_left(&self, log: &Log, client: u8, end: End, written: &[u8]) -> bool {
         end == self.end && written == self.told && rows_of(log, client) == self.rows
     }
 
-    /// Whether this is what is left of the client that was served.
+    /// Whether a client that was served is left so.
     fn is_served(&self, log: &Log, client: u8, served: Served<Reader, Writer>) -> bool {
         let Served {
             reader: _,
@@ -108,8 +108,8 @@ impl<'a> Left<'a> {
     }
 }
 
-/// Serves a client with these ends, who is to be left so, beside one who goes on to the end of its lines. Gives the number
-/// of rows of the log, which are those of both.
+/// Serves a client with these ends, which must be left so, and another that goes on to the end of its lines. Returns how
+/// many rows the log has, which are those of both.
 fn serve_beside<R: Threads + Wait + AllocGlobal + Sync>(
     rt: &R,
     lost: (Reader, Writer),
@@ -127,7 +127,7 @@ fn serve_beside<R: Threads + Wait + AllocGlobal + Sync>(
     }
 }
 
-/// Whether this is what is left of the first client, and the second one went on to its end.
+/// Whether the first client is left so, and the second went on to its end.
 fn are_left(log: &Log, served: Vec<Served<Reader, Writer>>, left: &Left<'_>) -> bool {
     let other = Left {
         end: End::Finished,
@@ -143,7 +143,7 @@ fn are_left(log: &Log, served: Vec<Served<Reader, Writer>>, left: &Left<'_>) -> 
         && log.len() == left.rows.saturating_add(other.rows)
 }
 
-/// A client whose reader fails after so many reads. The lines that were read whole are answered, and stand in the log.
+/// A client whose reader fails after this many reads. The lines that were read whole are answered, and are in the log.
 fn read_fails<R: Threads + Wait + AllocGlobal + Sync>(
     rt: &R,
     good: usize,
@@ -159,8 +159,8 @@ fn read_fails<R: Threads + Wait + AllocGlobal + Sync>(
     serve_beside(rt, ends(rt.alloc(), typed, good, usize::MAX), &left)
 }
 
-/// A client whose writer fails after so many writes, and who is else told this. The command whose answer could not be
-/// written stands in the log too.
+/// A client whose writer fails after this many writes. `told` is what it would be told. The command whose answer could not
+/// be written is in the log too.
 fn write_fails<R: Threads + Wait + AllocGlobal + Sync>(
     rt: &R,
     told: &[u8],
@@ -175,7 +175,7 @@ fn write_fails<R: Threads + Wait + AllocGlobal + Sync>(
     serve_beside(rt, ends(rt.alloc(), lines(), usize::MAX, good), &left)
 }
 
-/// Clients of whom each is lost at another read, up to the one that would find the end.
+/// Clients, each of which is lost at another read. The last is lost at the read that would find the end.
 pub fn reads_fail<R: Threads + Wait + AllocGlobal + Sync>(rt: &R) -> Result<usize, TrialFault> {
     let mut rows = 0usize;
     for good in 0..=lines().len() {
@@ -184,7 +184,7 @@ pub fn reads_fail<R: Threads + Wait + AllocGlobal + Sync>(rt: &R) -> Result<usiz
     Ok(rows)
 }
 
-/// Clients of whom each is lost at another write.
+/// Clients, each of which is lost at another write.
 pub fn writes_fail<R: Threads + Wait + AllocGlobal + Sync>(rt: &R) -> Result<usize, TrialFault> {
     let told = told(rt.alloc(), ANSWERS.len())?;
     let mut rows = 0usize;
@@ -194,7 +194,7 @@ pub fn writes_fail<R: Threads + Wait + AllocGlobal + Sync>(rt: &R) -> Result<usi
     Ok(rows)
 }
 
-/// A client who goes away in the middle of a line.
+/// A client that goes away in the middle of a line.
 pub fn half_a_line<R: Threads + Wait + AllocGlobal + Sync>(rt: &R) -> Result<usize, TrialFault> {
     let left = Left {
         end: End::Finished,

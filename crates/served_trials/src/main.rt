@@ -1,4 +1,4 @@
-//! Serves clients of shared books, and prints a line for each trial: how many rows the logs have, or what went otherwise.
+//! Serves clients of shared books in trials. Prints a line for each trial: how many rows the logs have, or what went wrong.
 #![tactic(auto)]
 
 mod faults;
@@ -47,7 +47,7 @@ fn main(rt: HostRuntime) -> io::Result<()> {
     )
 }
 
-/// Says how the trials went in which clients are held until others have come.
+/// Prints the outcome of the trials in which clients are held until others have come.
 fn report_held<R: Threads + Wait + AllocGlobal + Clock + Print + Sync>(rt: &R) -> io::Result<()> {
     report(
         rt,
@@ -71,7 +71,7 @@ fn report_held<R: Threads + Wait + AllocGlobal + Clock + Print + Sync>(rt: &R) -
     )
 }
 
-/// Says how the trials went in which a second client is lost between two lines of the first.
+/// Prints the outcome of the trials in which a second client is lost between two lines of the first.
 fn report_second_lost<R: Threads + Wait + AllocGlobal + Clock + Print + Sync>(
     rt: &R,
 ) -> io::Result<()> {
@@ -87,7 +87,7 @@ fn report_second_lost<R: Threads + Wait + AllocGlobal + Clock + Print + Sync>(
     )
 }
 
-/// Says how a trial went.
+/// Prints the outcome of a trial.
 fn report(rt: &impl Print, trial: &str, went: Result<usize, TrialFault>) -> io::Result<()> {
     match went {
         Ok(rows) => println!(rt; "{trial}: {rows} rows"),

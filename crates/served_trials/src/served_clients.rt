@@ -1,4 +1,4 @@
-//! Clients that are served over one shared book.
+//! Serves clients over one shared book.
 
 ghost use Rattle.std.specs.Prelude.{◌≡◌, map, All, IfOk};
 ghost use Rattle.zt_shared.specs.OpenedBook.{IsNamed};
@@ -15,10 +15,10 @@ use zt_rows::Refusal;
 use zt_shared::account::Naming;
 use zt_shared::{Beginning, Blanks, Gate, Pass, open};
 
-/// The log of a book that was shared, and what is left of its clients.
+/// The log of a shared book, and what is left of its clients.
 pub type Done<I, O> = (Log, Vec<Served<I, O>>);
 
-/// Serves a client for each reader with its writer, over a book at the opening.
+/// Serves a client for each reader and writer, over a book at the opening. The error is `TooManyClients` or `OutOfMemory`.
 pub fn serve<
     R: Threads + Wait + AllocGlobal + Sync,
     I: Read + Send + Drop,
@@ -32,7 +32,7 @@ pub fn serve<
     serve_named::<Brand, Brand, Brand, Brand, R, I, O, G>(rt, blanks, ends, gate)
 }
 
-/// The same, where types name what the shared book is made of.
+/// Serves the clients over a shared book that is made of `blanks`, which these types name.
 fn serve_named<
     A: Naming + Beginning + Send + Sync,
     B: Naming + Send + Sync,
@@ -60,7 +60,7 @@ fn serve_named<
     }
 }
 
-/// A client for each pass, in the order of the readers with their writers.
+/// A client for each pass, in the order of the readers and writers.
 fn callers<I: Drop, O: Drop, A: Naming + Beginning, B: Naming, C: Naming, D: Naming>(
     alloc: Global,
     passes: Vec<Pass<A, B, C, D>>,
@@ -84,7 +84,7 @@ fn callers<I: Drop, O: Drop, A: Naming + Beginning, B: Naming, C: Naming, D: Nam
     Ok(callers)
 }
 
-/// How many rows of the log are of the client.
+/// How many rows of the log are of this client.
 pub fn rows_of(log: &Log, client: u8) -> usize {
     log.rows().iter().filter(|row| row.client == client).count()
 }

@@ -1,4 +1,4 @@
-//! Clients that connect over loopback.
+//! Trials with clients that connect over loopback.
 
 use crate::faults::TrialFault;
 use crate::gates::NoGate;
@@ -13,21 +13,21 @@ use std::time::Duration;
 use std::{io, thread};
 use zt_rows::CLIENTS;
 
-/// How many lines each of them types.
+/// How many lines each of the four clients types.
 const TURNS: usize = 300;
 
-/// What each of them types, in turn. Each is answered by one line.
+/// The lines that each of the four clients types, in turn. Each is answered by one line.
 const TYPED: [&str; 3] = ["1025 event_create\n", "goto 0\n", "follow main\n"];
 
 /// How many seconds a client waits for an answer.
 const PATIENCE: u64 = 20;
 
-/// Listens on a port of 127.0.0.1 that is free.
+/// Listens on a free port of 127.0.0.1.
 fn listen<R: Net<Listener = TcpListener, Stream = TcpStream>>(rt: &R) -> io::Result<TcpListener> {
     TcpListener::bind(rt, SocketAddr::from((Ipv4Addr::LOCALHOST, 0)))
 }
 
-/// A connection: the end of the client, and the two directions of the end that serves it.
+/// Makes a connection: the client's end, and the reader and the writer of the end that serves it.
 fn connect<R: Net<Listener = TcpListener, Stream = TcpStream>>(
     rt: &R,
     listener: &TcpListener,
@@ -39,7 +39,7 @@ fn connect<R: Net<Listener = TcpListener, Stream = TcpStream>>(
     Ok((near, (reader, writer)))
 }
 
-/// A connection whose client has typed all its lines.
+/// Makes a connection whose client has typed all its lines.
 fn connect_typed<R: Net<Listener = TcpListener, Stream = TcpStream>>(
     rt: &R,
     listener: &TcpListener,
@@ -51,14 +51,14 @@ fn connect_typed<R: Net<Listener = TcpListener, Stream = TcpStream>>(
     Ok((near, far))
 }
 
-/// Whether the client is told this, up to the end of the connection.
+/// Whether the client reads exactly this, up to the end of the connection.
 fn is_told(alloc: Global, mut near: TcpStream, told: &[u8]) -> io::Result<bool> {
     let mut came = Vec::new(alloc);
     near.read_to_end(&mut came)?;
     Ok(came.as_slice() == told)
 }
 
-/// Two clients who type all their lines and then read what they are told.
+/// Serves two clients that type all their lines and then read the answers. Returns how many rows the log has.
 pub fn two_clients<
     R: Net<Listener = TcpListener, Stream = TcpStream> + Threads + Wait + AllocGlobal + Sync,
 >(rt: &R) -> Result<usize, TrialFault> {
@@ -79,7 +79,7 @@ pub fn two_clients<
     }
 }
 
-/// Types lines, each when the one before is answered, and tells how many were answered.
+/// Types lines, each when the last is answered. Returns how many were answered.
 fn talk(alloc: Global, near: TcpStream) -> io::Result<usize> {
     let mut writer = near.try_clone()?;
     let mut answers = BufReader::new(alloc, near)?.lines(alloc);
@@ -92,7 +92,7 @@ fn talk(alloc: Global, near: TcpStream) -> io::Result<usize> {
     Ok(TURNS)
 }
 
-/// Starts a client who talks, on a thread of its own.
+/// Starts a client that talks on a thread of its own.
 fn start(
     rt: &impl Threads,
     alloc: Global,
@@ -102,7 +102,7 @@ fn start(
     Ok(client)
 }
 
-/// Four clients, each of whom types a line when the one before is answered. The log has as many rows as answers came.
+/// Serves four clients, each of which types a line when the last is answered. The log has as many rows as answers came.
 pub fn four_clients<
     R: Net<Listener = TcpListener, Stream = TcpStream> + Threads + Wait + AllocGlobal + Sync,
 >(rt: &R) -> Result<usize, TrialFault> {
@@ -123,7 +123,7 @@ pub fn four_clients<
     }
 }
 
-/// How many answers the clients got, once they have gone.
+/// How many answers the clients got, once all have ended.
 fn answers_of(rt: &impl Threads, clients: Vec<JoinHandle<usize>>) -> usize {
     let mut answers = 0usize;
     for client in clients {

@@ -1,16 +1,16 @@
-//! What two clients type, and what each is told. The first alone makes calls and branches, and the second looks at the
-//! opening alone: so each is told the same, whatever the other does in the meantime.
+//! The lines of two clients, and the answers to each. Only the first makes calls and branches, and the second looks only at
+//! the opening. So each gets the same answers, whatever the other does meanwhile.
 
 use std::alloc::{AllocError, Global};
 
-// No clause tells the texts that these functions give, so that who asks for one is proved without going over its bytes.
+// No clause tells the texts that these functions return. So a proof of their callers does not go over the bytes.
 
-/// What the first client types: two calls, a way back, the rows there, and a branch from there.
+/// The lines of the first client: two calls, a move back, the rows there, and a branch from there.
 pub fn lines() -> &'static [u8] {
     b"1025 event_create\n1025 object_signal 7 0x00000000 0x00000008\nback 1\nshow\nbranch fix\n"
 }
 
-/// What it is told, command by command.
+/// The answers to the first client, one for each command.
 pub const ANSWERS: [&str; 5] = [
     "1 ok 7\n",
     "2 ok\n",
@@ -19,12 +19,12 @@ pub const ANSWERS: [&str; 5] = [
     "branch fix 1\n",
 ];
 
-/// What the second client types.
+/// The lines of the second client.
 pub fn other_lines() -> &'static [u8] {
     b"goto 0\nshow\nholders 1024\n"
 }
 
-/// What it is told.
+/// The answers to the second client.
 pub fn other_told() -> &'static [u8] {
     b"at 0\nrows 0 4\ncounters 1026 0\nobject 1024 job 0x00000010 0 live 0\nobject 1025 process 0x00000000 1024 live 1\nentry 1025 3 1024 0x0003d203\nholders 1024 3\nentry 1025 3\nchild 1025\nself\n"
 }
@@ -32,7 +32,7 @@ pub fn other_told() -> &'static [u8] {
 /// How many commands the second client gives.
 pub const OTHER_ROWS: usize = 3;
 
-/// What the first client is told of its first commands, so many.
+/// The answers to the first `commands` commands of the first client.
 pub fn told(alloc: Global, commands: usize) -> Result<String, AllocError> {
     let mut text = String::new(alloc);
     for answer in ANSWERS.iter().take(commands) {
@@ -41,7 +41,7 @@ pub fn told(alloc: Global, commands: usize) -> Result<String, AllocError> {
     Ok(text)
 }
 
-/// How many answers to the first client are whole in so many bytes of what it is told.
+/// How many answers to the first client are whole in this many bytes.
 pub fn whole_answers(bytes: usize) -> usize {
     let mut whole = 0usize;
     let mut end = 0usize;
@@ -54,7 +54,7 @@ pub fn whole_answers(bytes: usize) -> usize {
     whole
 }
 
-/// How many lines of the text end.
+/// How many lines of the text have a line feed.
 pub fn line_ends(text: &[u8]) -> usize {
     text.iter().filter(|byte| **byte == b'\n').count()
 }

@@ -1,10 +1,11 @@
-//! Where two texts part.
+//! Finds where two texts differ.
+
 ghost use Rattle.std.specs.Prelude.{◌≡◌, ◌↔◌, IsNone};
 
 use std::fmt;
 use std::fmt::{Display, Formatter, Write};
 
-/// The first line that came otherwise than told, numbered from 1. Where a text has no such line, it has ended.
+/// The first line that differs from what it should be, counted from 1. A text without such a line has ended.
 #[derive(Debug, Drop)]
 pub struct TextDifference<'a> {
     number: usize,
@@ -12,7 +13,7 @@ pub struct TextDifference<'a> {
     came: Option<&'a [u8]>,
 }
 
-/// Where the text that came differs from the one that was told; nothing exactly where they are one text.
+/// Where `came` differs from `told`. None exactly if they are the same text.
 pub fn first_difference<'a>(told: &'a [u8], came: &'a [u8]) -> Option<TextDifference<'a>>
     ensures { IsNone result ↔ (told.now ≡ came.now) }
 {
@@ -39,7 +40,7 @@ impl<'a> Display for TextDifference<'a> {
     }
 }
 
-/// The line in quotes, or the end of the text.
+/// Prints the line in quotes, or that the text has ended.
 fn show<W: Write>(line: Option<&[u8]>, f: &mut Formatter<W>) -> fmt::Result {
     match line {
         Some(bytes) => write!(f, "\"{}\"", bytes.escape_ascii()),

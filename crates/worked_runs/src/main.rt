@@ -1,8 +1,12 @@
-//! Goes through each case of the folder that it is started in, by a run over a book and by a session over a shared book
-//! of one client. The case NAME is the lines of NAME.in, and the text of NAME.out that both have to tell them. It begins
-//! with the session text NAME.from, if there is one, and else at the opening; where that text does not load, its fault is
-//! what is told. If there is a file NAME.save, the calls on `main` are saved so in the end of the run, and if there is a file
-//! NAME.tree, the whole tree is. One line is printed of each case, in the order of their names.
+//! Runs each case of the current folder twice: over a book, and in a session over a shared book of one client.
+//!
+//! - The lines of case NAME are in NAME.in, and the answers in NAME.out.
+//! - A case begins with the session text NAME.from if there is one, and else at the opening. If that text does not load,
+//!   the answer is the fault.
+//! - NAME.save, if there is one, has the calls on `main` as they are saved after the run.
+//! - NAME.tree, if there is one, has the whole tree as it is saved then.
+//!
+//! Prints one line for each case, in the order of their names.
 #![tactic(auto)]
 
 ghost use Rattle.std.specs.Prelude.{◌≡◌, ◌≤◌, length, IfOk};
@@ -27,7 +31,7 @@ fn main(rt: HostRuntime) -> io::Result<()> {
     report_all(&rt, names.as_slice())
 }
 
-/// Says of each of these cases whether it goes as told, or where it does not.
+/// Prints for each of these cases whether it goes as expected, or where it does not.
 fn report_all(rt: &(impl Files + AllocGlobal + Print + Wait), names: &[String]) -> io::Result<()> {
     for name in names {
         report(rt, name.as_str())?;
@@ -35,7 +39,7 @@ fn report_all(rt: &(impl Files + AllocGlobal + Print + Wait), names: &[String]) 
     Ok(())
 }
 
-/// The names of the cases of this folder, in order.
+/// The names of the cases in this folder, in order.
 fn cases<R: Files + AllocGlobal + Clone + Drop>(rt: &R) -> io::Result<Vec<String>> {
     let mut names = Vec::new(rt.alloc());
     match add_names(rt, &mut names) {
@@ -44,7 +48,7 @@ fn cases<R: Files + AllocGlobal + Clone + Drop>(rt: &R) -> io::Result<Vec<String
     }
 }
 
-/// Adds the names of the cases of this folder, and puts all in order.
+/// Adds the names of the cases in this folder, and sorts all names.
 fn add_names<R: Files + AllocGlobal + Clone + Drop>(
     rt: &R,
     names: &mut Vec<String>,
@@ -57,7 +61,7 @@ fn add_names<R: Files + AllocGlobal + Clone + Drop>(
     Ok(())
 }
 
-/// Adds the name of the case whose lines the file has, if it has such.
+/// Adds the name of the case of a file, if the file has the lines of one.
 fn add_name(alloc: Global, names: &mut Vec<String>, file: &str) -> Result<(), AllocError> {
     if let Some(name) = file.strip_suffix(".in") {
         names.push(String::from_str(alloc, name)?)?;
@@ -65,8 +69,8 @@ fn add_name(alloc: Global, names: &mut Vec<String>, file: &str) -> Result<(), Al
     Ok(())
 }
 
-/// The texts of a case: the lines, what they are told, and, if there are such, the session text that it begins with and those
-/// that are saved, of `main` and of the whole tree.
+/// The texts of a case: its lines and their answers. Some cases have more: the session text that they begin with, and the
+/// texts of `main` and of the whole tree that are saved.
 struct Case {
     asked: Vec<u8>,
     told: Vec<u8>,
@@ -75,7 +79,7 @@ struct Case {
     tree: Option<Vec<u8>>,
 }
 
-/// Lets all texts go in one call, so that who has them is proved without going through them at each way out.
+/// Drops all texts in one call. So a proof of a function that has them does not go through them at each return.
 impl Drop for Case {
     fn drop(self) {
         let Case {
@@ -88,12 +92,12 @@ impl Drop for Case {
     }
 }
 
-/// What the file of this name and ending has.
+/// Reads the file of this name and ending.
 fn read(rt: &(impl Files + AllocGlobal), name: &str, ending: &str) -> io::Result<Vec<u8>> {
     fs::read(rt, format!(in rt.alloc(); "{name}.{ending}")?)
 }
 
-/// As `read`, where there may be no such file.
+/// Reads the file of this name and ending; none if it cannot be read.
 fn read_some(
     rt: &(impl Files + AllocGlobal),
     name: &str,
@@ -103,7 +107,7 @@ fn read_some(
     Ok(fs::read(rt, path).ok())
 }
 
-/// The texts of the case of this name.
+/// Reads the texts of the case of this name.
 fn read_case(rt: &(impl Files + AllocGlobal), name: &str) -> io::Result<Case> {
     let mut case = Case {
         asked: read(rt, name, "in")?,
@@ -118,7 +122,7 @@ fn read_case(rt: &(impl Files + AllocGlobal), name: &str) -> io::Result<Case> {
     }
 }
 
-/// Reads the texts of the case beside its lines.
+/// Reads the texts of a case other than its lines.
 fn read_others(rt: &(impl Files + AllocGlobal), name: &str, case: &mut Case) -> io::Result<()> {
     case.told = read(rt, name, "out")?;
     case.from = read_some(rt, name, "from")?;
@@ -127,7 +131,7 @@ fn read_others(rt: &(impl Files + AllocGlobal), name: &str, case: &mut Case) -> 
     Ok(())
 }
 
-/// Says whether the case goes as told, or where it does not.
+/// Prints whether a case goes as expected, or where it does not.
 fn report(rt: &(impl Files + AllocGlobal + Print + Wait), name: &str) -> io::Result<()> {
     match read_case(rt, name) {
         Ok(case) => report_case(rt, name, &case),
@@ -135,7 +139,7 @@ fn report(rt: &(impl Files + AllocGlobal + Print + Wait), name: &str) -> io::Res
     }
 }
 
-/// As `report`, of a case with these texts.
+/// Runs a case with these texts, and prints whether it goes as expected.
 fn report_case(rt: &(impl AllocGlobal + Print + Wait), name: &str, case: &Case) -> io::Result<()> {
     match outcome(rt, &case.from, case.asked.as_slice()) {
         Ok(came) => say(rt, name, &how_it_went(case, &came)),
@@ -151,14 +155,14 @@ fn say_stopped(rt: &impl Print, name: &str, cause: &str) -> io::Result<()> {
     println!(rt; "{name} stopped: {cause}")
 }
 
-/// What a run wrote, and the session texts behind it, of `main` and of the whole tree.
+/// The answers that a run wrote, and the session texts that are saved after it: of `main` and of the whole tree.
 struct Ran {
     answers: Vec<u8>,
     saved: Vec<u8>,
     tree: Vec<u8>,
 }
 
-/// Lets all texts go in one call, as those of a case.
+/// Drops all texts in one call, as `Case` does.
 impl Drop for Ran {
     fn drop(self) {
         let Ran {
@@ -169,15 +173,15 @@ impl Drop for Ran {
     }
 }
 
-/// What a run left, and what a session wrote.
+/// The outcome of a run, and the answers that a session wrote.
 #[derive(Drop)]
 struct Came {
     ran: Ran,
     session: Vec<u8>,
 }
 
-/// What a run over these lines writes and would save, and what a session over them writes, from a session text if there is
-/// one. Where that does not load, the fault is written, and nothing is saved.
+/// Runs these lines twice, from a session text if there is one: what the run writes and saves, and what the session writes.
+/// If the text does not load, both write the fault, and nothing is saved.
 fn outcome(
     rt: &(impl AllocGlobal + Wait),
     from: &Option<Vec<u8>>,
@@ -190,7 +194,7 @@ fn outcome(
     }
 }
 
-/// What a run over these lines writes, or the fault of the session text, and what would be saved.
+/// What a run over these lines writes and saves. If the session text does not load, the run writes the fault.
 fn run_from(alloc: Global, from: &Option<Vec<u8>>, asked: &[u8]) -> Result<Ran, Refusal> {
     match begin(alloc, from) {
         Ok(book) => run_lines(alloc, book, asked),
@@ -198,7 +202,7 @@ fn run_from(alloc: Global, from: &Option<Vec<u8>>, asked: &[u8]) -> Result<Ran, 
     }
 }
 
-/// What was written, and nothing saved.
+/// The run that wrote these answers and saves nothing.
 fn unsaved(alloc: Global, answers: Vec<u8>) -> Ran {
     Ran {
         answers,
@@ -219,8 +223,8 @@ fn session_from(
     }
 }
 
-/// The book of one client in which a case begins; or why there is none, with the number of the session text's line at
-/// fault, or 0.
+/// The book of one client in which a case begins. The error has the line of the session text at fault, or 0, and the
+/// refusal.
 #[tactic(auto, using(crate::proofs::Beginning::loaded_is_fresh, crate::proofs::Beginning::first_clients, crate::proofs::Beginning::first_is_fresh))]
 fn begin(alloc: Global, from: &Option<Vec<u8>>) -> Result<Book, (u64, Refusal)>
     ensures clients { IfOk result (λ book. length book.session.clients ≡ 1) }
@@ -238,13 +242,13 @@ fn begin(alloc: Global, from: &Option<Vec<u8>>) -> Result<Book, (u64, Refusal)>
     }
 }
 
-/// What is written where a session text does not load.
+/// The text that is written if a session text does not load.
 fn fault(alloc: Global, line: u64, refusal: Refusal) -> Result<Vec<u8>, Refusal> {
     let text = format!(in alloc; "line {line}: {}\n", RefusalLine(refusal))?;
     Ok(text.into_bytes())
 }
 
-/// What a run over these lines writes, and would save.
+/// What a run over these lines writes and saves. The error is what stopped the run.
 fn run_lines(alloc: Global, book: Book, asked: &[u8]) -> Result<Ran, Refusal>
     requires { 1 ≤ length book.session.clients }
 {
@@ -257,7 +261,7 @@ fn run_lines(alloc: Global, book: Book, asked: &[u8]) -> Result<Ran, Refusal>
     }
 }
 
-/// These answers, and what is saved of the book.
+/// The run that wrote these answers, with the texts that are saved of the book.
 fn with_saved(alloc: Global, book: &Book, answers: Vec<u8>) -> Result<Ran, Refusal> {
     let mut ran = unsaved(alloc, answers);
     match save(alloc, book, &mut ran) {
@@ -266,7 +270,7 @@ fn with_saved(alloc: Global, book: &Book, answers: Vec<u8>) -> Result<Ran, Refus
     }
 }
 
-/// Keeps what is saved of the book.
+/// Saves the texts of the book.
 fn save(alloc: Global, book: &Book, ran: &mut Ran) -> Result<(), Refusal> {
     ran.saved = main_text(alloc, book)?;
     ran.tree = tree_text(alloc, book)?;
@@ -283,7 +287,7 @@ enum Verdict<'a> {
     Session(TextDifference<'a>),
 }
 
-/// How a case went, by what it had to tell and, where that is told, to save.
+/// How a case went: first by the answers of the run and of the session, then by the texts that are saved.
 fn how_it_went<'a>(case: &'a Case, came: &'a Came) -> Verdict<'a> {
     let told = case.told.as_slice();
     if let Some(difference) = first_difference(told, came.ran.answers.as_slice()) {
@@ -301,7 +305,7 @@ fn how_it_went<'a>(case: &'a Case, came: &'a Came) -> Verdict<'a> {
     }
 }
 
-/// Where a text that was saved differs from the one of the case, if it has such.
+/// Where a saved text differs from that of the case, if the case has one.
 fn saved_otherwise<'a>(told: &'a Option<Vec<u8>>, saved: &'a [u8]) -> Option<TextDifference<'a>> {
     match told {
         Some(told) => first_difference(told.as_slice(), saved),

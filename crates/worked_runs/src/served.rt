@@ -1,4 +1,4 @@
-//! Lines that the one client of a shared book types.
+//! Serves lines to the one client of a shared book.
 
 ghost use Rattle.std.specs.Prelude.{◌≡◌};
 ghost use Rattle.zt_shared.specs.OpenedBook.{IsNamed};
@@ -11,7 +11,7 @@ use zt_rows::Refusal;
 use zt_shared::account::Naming;
 use zt_shared::{Beginning, Blanks, Gate, Pass, Shared, open_book};
 
-/// Nothing is called around commands.
+/// A gate that does nothing.
 struct NoGate;
 
 impl Gate for NoGate {
@@ -20,7 +20,7 @@ impl Gate for NoGate {
     fn after(&self, _client: u8, _n: u32) {}
 }
 
-/// What a session over these lines writes, where the book is shared by one client.
+/// What a session over these lines writes, if one client shares the book. The error is what stopped it.
 pub fn serve_lines<R: Wait + AllocGlobal>(
     rt: &R,
     book: Book,
@@ -32,7 +32,7 @@ pub fn serve_lines<R: Wait + AllocGlobal>(
     serve_named::<Brand, Brand, Brand, Brand, R>(rt, blanks, book, asked)
 }
 
-/// The same, where types name what the shared book is made of.
+/// Runs the session over a shared book that is made of `blanks`, which these types name.
 fn serve_named<A: Naming + Beginning, B: Naming, C: Naming, D: Naming, R: Wait + AllocGlobal>(
     rt: &R,
     blanks: Blanks,
@@ -56,7 +56,7 @@ fn serve_named<A: Naming + Beginning, B: Naming, C: Naming, D: Naming, R: Wait +
     }
 }
 
-/// What a session over these lines writes to the client of the pass.
+/// What a session over these lines writes to the client of this pass.
 fn serve_pass<A: Naming + Beginning, B: Naming, C: Naming, D: Naming, R: Wait + AllocGlobal>(
     rt: &R,
     shared: &Shared<A, B, C, D>,

@@ -1,7 +1,9 @@
+//! The kinds of kernel objects.
+
 ghost use Rattle.std.specs.Prelude.{◌≡◌};
 ghost use Rattle.zt_bits.specs.Words.{kind_word};
 
-/// What an object is.
+/// The kind of a kernel object.
 #[derive(Clone, Copy, Debug, PartialEq, Eq)]
 pub enum Kind {
     Job,
@@ -13,7 +15,7 @@ pub enum Kind {
 }
 
 impl Kind {
-    /// The word that a row of an object shows for its kind.
+    /// The word for the kind, as rows of objects show it.
     pub fn word(self) -> &'static str
         ensures { result.now ≡ kind_word self }
     {

@@ -1,5 +1,5 @@
-//! The sets of bits and the small closed lists of the kernel's interface: rights, signals, statuses and
-//! kinds of objects, with the tables that go with a kind. Nothing here takes memory.
+//! Rights, signals, statuses and kinds of kernel objects, with the default rights and the settable signals of each
+//! kind. Nothing here allocates.
 #![tactic(auto)]
 
 mod kinds;

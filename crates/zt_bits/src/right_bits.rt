@@ -1,3 +1,5 @@
+//! Rights: their bits, what a request for rights gets, and the default rights of each kind.
+
 ghost use Rattle.std.specs.Prelude.{⊤, ◌≡◌, ◌↔◌, IsTrue, [], ◌∷◌, codes};
 ghost use Rattle.std.specs.Option.{option_map};
 ghost use Rattle.zt_bits.specs.Tables.{IsSubset, default_rights, asked_rights};
@@ -5,7 +7,7 @@ ghost use Rattle.zt_bits.specs.Tables.{IsSubset, default_rights, asked_rights};
 use crate::kinds::Kind;
 use bitflags::{Flag, Flags, bitflag_items};
 
-/// What a handle lets its holder do with the object that it names, a bit for each permission.
+/// The rights of a handle: what its holder may do with the object, one bit for each right.
 #[derive(Clone, Copy, Debug, PartialEq, Eq)]
 pub struct Rights(pub u32);
 
@@ -52,13 +54,13 @@ impl Flags for Rights {
 }
 
 impl Rights {
-    /// What the rights of most kinds begin with: to send the handle on, to copy it, to wait on its object and
-    /// to look at it.
+    /// The basic rights, which most kinds have by default: to transfer and duplicate the handle, and to wait on its
+    /// object and inspect it.
     pub const BASIC: Rights = Rights(
         Rights::TRANSFER.0 | Rights::DUPLICATE.0 | Rights::WAIT.0 | Rights::INSPECT.0,
     );
 
-    /// Whether every wanted right is among these.
+    /// Whether each wanted right is among these rights.
     pub fn allows(self, wanted: Rights) -> bool
         ensures { IsTrue result ↔ IsSubset wanted.0 self.0 }
     {
@@ -66,8 +68,8 @@ impl Rights {
     }
 }
 
-/// The rights that a request for `mask` gets from a handle with the rights `old`: the same rights for
-/// `Rights::SAME_RIGHTS` alone, the mask where it adds nothing, and else none.
+/// The rights that a request for `mask` gets from a handle with the rights `old`. `Rights::SAME_RIGHTS` alone gives
+/// `old`. Any other mask gives itself if all its bits are in `old`, and else nothing.
 pub fn asked(mask: u32, old: Rights) -> Option<Rights>
     ensures { option_map (λ r. r.0) result ≡ asked_rights mask old.0 }
 {
@@ -80,7 +82,7 @@ pub fn asked(mask: u32, old: Rights) -> Option<Rights>
     }
 }
 
-/// The rights of the handle that a call makes for a new object of this kind.
+/// The default rights of the kind: those of the handle that a call makes for a new object.
 pub fn defaults(kind: Kind) -> Rights
     ensures { result.0 ≡ default_rights kind }
 {

@@ -1,11 +1,13 @@
+//! Signals: their bits, and which of them a call may set on each kind of object.
+
 ghost use Rattle.std.specs.Prelude.{⊤, ◌≡◌, [], ◌∷◌, codes};
 ghost use Rattle.zt_bits.specs.Tables.{settable_signals};
 
 use crate::kinds::Kind;
 use bitflags::{Flag, Flags, bitflag_items};
 
-/// What an object shows to those who wait on it. One bit has a meaning of its own for each kind: bit 3 is
-/// `SIGNALED` of an event or an event pair and `TERMINATED` of a process or a job.
+/// The signals of an object: what it shows to those who wait on it. Bit 3 depends on the kind: `SIGNALED` on an event
+/// or an event pair, `TERMINATED` on a process or a job.
 #[derive(Clone, Copy, Debug, PartialEq, Eq)]
 pub struct Signals(pub u32);
 

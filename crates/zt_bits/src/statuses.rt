@@ -1,7 +1,9 @@
+//! Statuses of system calls, with their words and numbers.
+
 ghost use Rattle.std.specs.Prelude.{◌≡◌};
 ghost use Rattle.zt_bits.specs.Words.{status_number, status_word};
 
-/// What a system call answers: `Ok`, or why it did not do what was asked.
+/// The status of a system call: `Ok`, or why it did not do what was asked.
 #[derive(Clone, Copy, Debug, PartialEq, Eq)]
 pub enum Status {
     Ok,
@@ -21,7 +23,7 @@ pub enum Status {
 }
 
 impl Status {
-    /// The word that an answer shows for the status.
+    /// The word for the status, as answers show it.
     pub fn word(self) -> &'static str
         ensures { result.now ≡ status_word self }
     {
@@ -42,7 +44,7 @@ impl Status {
             Status::AlreadyBound => "already_bound",
         }
     }
-    /// The place of the status in their list, from 0.
+    /// The place of the status in the list of variants, from 0.
     pub fn number(self) -> u8
         ensures { result ≡ status_number self }
     {

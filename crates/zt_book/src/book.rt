@@ -1,3 +1,5 @@
+//! A book: it answers the commands of its clients, logs them, and saves and loads the session.
+
 ghost use Rattle.std.specs.Prelude.{◌≡◌, ◌≢◌, ◌≤◌, ◌<◌, ◌↔◌, ◌++◌, ◌∷◌, [], None, Some, Ok, IfOk, IfErr, OnOk, OnErr, IsErrOf, IsSome, is_some, length, nat_lt};
 ghost use Rattle.zt_rows.specs.declared.calls.Command.TheVariants as command;
 ghost use Rattle.zt_history.specs.Timeline.{Timeline};
@@ -19,23 +21,21 @@ use zt_history::History;
 use zt_queries::Frozen;
 use zt_rows::{Answer, CLIENT_ROWS, CLIENTS, Call, Command, Koid, Refusal, Saved};
 
-/// The client to which the last command was answered, and what was known of it before.
+/// The client whose command was answered last, and what the book knew of it before that command.
 #[derive(Clone, Copy)]
 struct LastServed {
     client: u8,
     was: Client,
 }
 
-/// The tree of moments with the clients that stand in it, and the log of what they were answered. The clients are
-/// numbered from 1.
+/// The tree of moments with the clients that stand in it, and the log of their answered commands. Clients are numbered from 1.
 pub struct Book {
     all_clients: Clients,
     log: Log,
     last: Option<LastServed>,
 }
 
-/// Lets all parts go in one call, so that a function that owns a book is proved without going through them at each of its
-/// ways out.
+/// Drops all parts in one call. So the proof of a function that owns a book need not go through the parts at each return.
 impl Drop for Book {
     fn drop(self) {
         let Book {
@@ -58,7 +58,8 @@ impl Model for Book {
 }
 
 impl Book {
-    /// The book of so many clients at the opening, each following `main`.
+    /// Makes a book at the opening with this many clients, each following `main`. Fails with `TooManyClients` above four clients,
+    /// and with `OutOfMemory` if an allocation fails.
     pub fn new(alloc: Global, clients: u8) -> Result<Book, Refusal>
         ensures ok { IfOk result (λ book. book ≡ first_book clients) }
         ensures few { OnOk result (clients ≤ most_clients) }
@@ -73,8 +74,8 @@ impl Book {
         Ok(begin(alloc, all_clients))
     }
 
-    /// The book of so many clients over the moments of these calls on `main`, in turn. Refused, the number is that of
-    /// the call, from 0, or 0 for too many clients and for want of memory.
+    /// Makes a book with this many clients over a tree of these calls, run one after another on `main`. Fails with the first
+    /// refused call's number, counted from 0, and its refusal. The number is 0 for `TooManyClients` and for `OutOfMemory`.
     pub fn load(alloc: Global, clients: u8, calls: &[(Koid, Call)]) -> Result<Book, (u64, Refusal)>
         ensures ok { IfOk result (λ book. (tree : Tree) × (loaded calls.now ≡ Ok tree) × (book ≡ book_over tree clients)) }
         ensures few { OnOk result (clients ≤ most_clients) }
@@ -90,10 +91,12 @@ impl Book {
         }
     }
 
-    /// The book of so many clients over a saved tree: one client at each cursor, and where there are no more, others at
-    /// `main`; cursors beyond the clients are looked at, and left. Refused, the number is that of the item, from 0, where
-    /// moments, branches and cursors are counted in one row, or 0 for too many clients and for want of memory. Where
-    /// there is no branch it is the number that the first would have.
+    /// Makes a book with this many clients over a saved tree. One client stands at each cursor. If there are fewer cursors than
+    /// clients, the other clients follow `main`. Cursors beyond the number of clients are checked, and then ignored.
+    ///
+    /// Fails with the first refused item's number, counted from 0, and its refusal. Moments, branches and cursors are counted
+    /// together, in this order. If the saved tree has no branch, the refusal is `NoBranch`, with the number that the first branch
+    /// would have. The number is 0 for `TooManyClients` and for `OutOfMemory`.
     pub fn load_saved(alloc: Global, clients: u8, saved: &Saved) -> Result<Book, (u64, Refusal)>
         ensures ok { IfOk result (λ book. loaded_saved clients saved.now ≡ Ok book.session) }
         ensures first { IfOk result (λ book. book ≡ book_at book.session) }
@@ -110,8 +113,8 @@ impl Book {
         }
     }
 
-    /// As `load_saved`, of a tree that is not needed any more, which tells after each moment that is loaded how many are, of all of
-    /// them. The moments are let go one by one as they are loaded, so that the tree and the book are never there both as a whole.
+    /// Loads like `load_saved`, but consumes the tree. After each moment it tells `told` how many of all moments are loaded.
+    /// Moments are dropped one by one as they are loaded, so the whole tree and the whole book never exist at once.
     pub fn take_saved<P: LoadProgress>(
         alloc: Global,
         clients: u8,
@@ -138,7 +141,8 @@ impl Book {
         Ok(begin(alloc, all_clients))
     }
 
-    /// Answers a command of a client, and writes both in the log. Refused, session and log are as before.
+    /// Answers a command of a client, and appends the command with its answer to the log. If the command is refused, session and
+    /// log are unchanged.
     pub fn serve(&mut self, client: u8, request: &Command) -> Result<Answer, Refusal>
         requires numbered { 1 ≤ client }
         requires known { client ≤ length self.old.session.clients }
@@ -167,7 +171,8 @@ impl Book {
         }
     }
 
-    /// As `serve` of `Pin`, with a copy of the history at the client's position.
+    /// Serves `Command::Pin`, and returns its answer with a copy of the history at the client's position. Fails as `serve` does;
+    /// then session and log are unchanged.
     pub fn pin(&mut self, client: u8) -> Result<(Answer, Frozen), Refusal>
         requires numbered { 1 ≤ client }
         requires known { client ≤ length self.old.session.clients }
@@ -185,8 +190,8 @@ impl Book {
         Ok((said, frozen))
     }
 
-    /// The session as it is written down: the tree, and where each client stands. What a client pinned is left out, and
-    /// so is the log.
+    /// Returns the session as a saved tree: all moments, all branches, and where each client stands. Pinned moments and the log
+    /// are left out. Fails with `OutOfMemory` if an allocation fails.
     pub fn save(&self) -> Result<Saved, Refusal>
         ensures ok { IfOk result (λ saved. saved ≡ saved_of_session self.now.session) }
         ensures refused { IfErr result (λ refusal. refusal ≡ Refusal.OutOfMemory) }
@@ -194,7 +199,8 @@ impl Book {
         Ok(self.all_clients.saved()?)
     }
 
-    /// As `save`, without the moments: the branches, and where each client stands.
+    /// Returns a saved tree without moments: the branches, and where each client stands. Fails with `OutOfMemory` if an
+    /// allocation fails.
     pub fn save_places(&self) -> Result<Saved, Refusal>
         ensures ok { IfOk result (λ saved. saved ≡ without_moments (saved_of_session self.now.session)) }
         ensures refused { IfErr result (λ refusal. refusal ≡ Refusal.OutOfMemory) }
@@ -202,21 +208,21 @@ impl Book {
         Ok(self.all_clients.saved_places()?)
     }
 
-    /// The tree, with a store at one of its moments. It takes no memory.
+    /// Returns the tree, with a store at one of its moments. Never allocates.
     pub fn history(&self) -> &History
         ensures { result.now.tree ≡ self.now.session.tree }
     {
         self.all_clients.history()
     }
 
-    /// What was answered. It takes no memory.
+    /// Returns the log of answered commands. Never allocates.
     pub fn log(&self) -> &Log
         ensures { result.now ≡ self.now.log }
     {
         &self.log
     }
 
-    /// What was answered, without the rest of the book. It takes no memory.
+    /// Returns the log, and drops the rest of the book. Never allocates.
     pub fn into_log(self) -> Log
         ensures { result ≡ self.log }
     {
@@ -228,7 +234,7 @@ impl Book {
         log
     }
 
-    /// The tree, without the rest of the book: who has it can go to its moments. It takes no memory.
+    /// Returns the tree, and drops the rest of the book. The owner of the tree can go to any of its moments. Never allocates.
     pub fn into_history(self) -> History
         ensures { result.tree ≡ self.session.tree }
     {
@@ -240,7 +246,7 @@ impl Book {
         all_clients.into_history()
     }
 
-    /// What the looking one finds in the tree, over which it may move the store. Session and log are as before, and
+    /// Returns what `asked` finds in the tree; it may move the store over the tree. Session and log are unchanged. Afterwards
     /// nothing can be taken back.
     pub fn look<L: TreeLook>(&mut self, asked: &L) -> L::Found
         ensures standing { standing_of self.new ≡ standing_of self.old }
@@ -251,8 +257,8 @@ impl Book {
         self.all_clients.look(asked)
     }
 
-    /// Forgets what was answered: the log is empty, and no client has pinned anything or was answered a command. The
-    /// tree and where each client stands are as before. It takes no memory.
+    /// Forgets all answers: the log is empty, no client has pinned a moment, and each client's count of answered commands is 0.
+    /// The tree and the clients' cursors are unchanged. Never allocates.
     pub fn renew(&mut self)
         ensures session { self.new.session ≡ unanswered self.old.session }
         ensures fresh { self.new ≡ book_at self.new.session }
@@ -262,7 +268,7 @@ impl Book {
         self.all_clients.renew();
     }
 
-    /// Whether the client can be answered one more command. It takes no memory.
+    /// Whether the client can be answered one more command. Never allocates.
     pub fn has_room(&self, client: u8) -> bool
         requires numbered { 1 ≤ client }
         requires known { client ≤ length self.now.session.clients }
@@ -271,7 +277,7 @@ impl Book {
         self.all_clients.client(client).rows < CLIENT_ROWS
     }
 
-    /// How many clients there are. It takes no memory.
+    /// Returns the number of clients. Never allocates.
     pub fn clients(&self) -> u8
         ensures clients { result ≡ length self.now.session.clients }
         ensures few { result ≤ most_clients }
@@ -280,15 +286,14 @@ impl Book {
         self.all_clients.clients()
     }
 
-    /// Whether the last call by `&mut` was `serve` or `pin` and was answered, so that `take_back` can take it back. It
-    /// takes no memory.
+    /// Whether the last call by `&mut` was `serve` or `pin` and was answered, so that `take_back` can undo it. Never allocates.
     pub fn can_take_back(&self) -> bool
         ensures { result ≡ is_some self.now.before }
     {
         self.last.is_some()
     }
 
-    /// Session and log as before the last command. It takes no memory.
+    /// Restores session and log as they were before the last command. Never allocates.
     pub fn take_back(&mut self)
         requires { IsSome self.old.before }
         ensures back { self.old.before ≡ Some (standing_of self.new) }
@@ -304,23 +309,23 @@ impl Book {
         }
     }
 
-    /// What was answered to each client is counted, and nothing else is in the log. It takes no memory.
+    /// A law: each client's count of answered commands is its number of rows in the log, and the log has no other rows. Never
+    /// allocates.
     pub fn rows_are_counted(&self)
         ensures { IsCounted self.now.session self.now.log }
     {
         let _ = &self.log;
     }
 
-    /// What was answered replays: from a session that loading a saved tree gives, the log ends in the book's session. It
-    /// takes no memory.
+    /// A law: the log replays from a session that loading a saved tree gives, and ends in the book's session. Never allocates.
     pub fn log_replays(&self)
         ensures { IsWholeLog self.now.session self.now.log }
     {
         let _ = &self.log;
     }
 
-    /// A copy of the history at a client's position, where one more command can be answered to it. Session and log are
-    /// as before.
+    /// Copies the history at a client's position. Session and log are unchanged, but nothing can be taken back. Fails with
+    /// `ClientFull` if the client can be answered no more commands, and with `OutOfMemory` if an allocation fails.
     fn frozen(&mut self, client: u8) -> Result<Frozen, Refusal>
         requires numbered { 1 ≤ client }
         requires known { client ≤ length self.old.session.clients }
@@ -337,7 +342,7 @@ impl Book {
     }
 }
 
-/// The book of clients to whom nothing was answered yet: its log begins in their session.
+/// Makes a book of clients that were answered nothing yet. Its log begins in their session.
 pub(crate) fn begin(alloc: Global, all_clients: Clients) -> Book
     requires { IsBegun all_clients.session }
     ensures { result ≡ book_at all_clients.session }

@@ -1,3 +1,5 @@
+//! Loads the calls of a path one by one, as they are read.
+
 ghost use Rattle.std.specs.Prelude.{◌≡◌, ◌≤◌, ◌<◌, ◌++◌, ◌∷◌, [], ℕ, List, false, Ok, IfOk, IfErr, OnOk, OnErr, length};
 ghost use Rattle.zt_rows.specs.CallsInARow.{in_a_row};
 ghost use Rattle.zt_rows.specs.declared.calls.Call.{Call};
@@ -15,12 +17,12 @@ use std::marker::Model;
 use zt_history::History;
 use zt_rows::{Call, Koid, Moment, Refusal};
 
-/// Calls that are loaded one by one, as those of a saved tree in a row: each is made at the moment of the one before it.
+/// Calls that are loaded one by one. Each is made at the moment of the one before it.
 pub struct CallsInARow {
     history: History,
 }
 
-/// Lets the history go in one call.
+/// Drops the history in one call.
 impl Drop for CallsInARow {
     fn drop(self) {
         let CallsInARow { history: _history } = self;
@@ -40,7 +42,7 @@ impl Model for CallsInARow {
 }
 
 impl CallsInARow {
-    /// No call is loaded yet.
+    /// A row without calls.
     pub fn new(alloc: Global) -> Result<CallsInARow, AllocError>
         ensures { IfOk result (λ row. row ≡ []) }
     {
@@ -48,15 +50,16 @@ impl CallsInARow {
         Ok(CallsInARow { history })
     }
 
-    /// How many calls are loaded. It takes no memory.
+    /// Returns how many calls are loaded. Never allocates.
     pub fn len(&self) -> usize
         ensures { result ≡ length self.now }
     {
         self.history.last().0 as usize
     }
 
-    /// Loads one call more. Refused, the number is that of the call, from 0, or 0 for want of memory: whatever calls stand behind
-    /// it, that is why a tree of them all is not loaded.
+    /// Loads one more call. If it is refused, the row is unchanged. Fails with the call's number, counted from 0, and the
+    /// refusal; the number is 0 for `OutOfMemory`. Loading a tree of all calls can fail in the same way, whatever calls follow
+    /// this one.
     #[inline(always)]
     pub fn push(&mut self, process: Koid, call: Call) -> Result<(), (u64, Refusal)>
         ensures ok { OnOk result (self.new ≡ self.old ++ (process, call) ∷ []) }
@@ -71,7 +74,8 @@ impl CallsInARow {
         Ok(())
     }
 
-    /// The book of so many clients over the tree of these calls: its branch `main` leads to the last one, and all clients follow it.
+    /// Makes a book with this many clients over the tree of these calls. `main` leads to the last call, and all clients follow
+    /// it. Fails with `OutOfMemory` if an allocation fails.
     pub fn finish(self, alloc: Global, clients: u8) -> Result<Book, Refusal>
         requires { clients ≤ most_clients }
         ensures ok { IfOk result (λ book. loaded_saved clients (in_a_row self) ≡ Ok book.session) }
@@ -86,7 +90,7 @@ impl CallsInARow {
     }
 }
 
-/// Makes the moment of a call at another one, and keeps the call.
+/// Runs a call at the moment `parent`, and keeps the call.
 #[inline(always)]
 pub(crate) fn make_at(
     history: &mut History,
@@ -102,7 +106,7 @@ pub(crate) fn make_at(
     Ok(())
 }
 
-/// Gives `main` the last moment as its head.
+/// Moves the head of `main` to the last moment.
 fn lead_main_to_last(history: &mut History)
     ensures { history.new.tree ≡ head_moved history.old.tree 0 (last_moment history.old.tree) }
 {

@@ -1,12 +1,14 @@
+//! What a book knows of each client: its cursor, its pinned moment, and its count of answered commands.
+
 use zt_history::BranchId;
 use zt_rows::Moment;
 
 /// Where a client stands.
 #[derive(Clone, Copy, Debug)]
 pub enum Cursor {
-    /// At the head of a branch, wherever it moves.
+    /// At the head of a branch, also when the head moves.
     Follows(BranchId),
-    /// At a moment, where no call is taken.
+    /// At a moment, where calls are refused.
     At(Moment),
 }
 
@@ -14,8 +16,8 @@ pub enum Cursor {
 #[derive(Clone, Copy, Debug)]
 pub struct Client {
     pub cursor: Cursor,
-    /// The moment that it pinned last.
+    /// The moment that the client pinned last.
     pub pinned: Option<Moment>,
-    /// How many commands were answered to it.
+    /// The number of commands that were answered to the client.
     pub rows: u32,
 }

@@ -1,3 +1,5 @@
+//! The clients of a session, and the history in which they stand.
+
 ghost use Rattle.std.specs.Prelude.{◌≡◌, ◌≤◌, ◌<◌, ◌-◌, All, IfOk, IfErr, OnOk, length, map};
 ghost use Rattle.zt_history.specs.Timeline.{Timeline};
 ghost use Rattle.zt_history.specs.TreeInvariant.{IsTree};
@@ -17,7 +19,7 @@ use zt_history::{BranchId, History};
 use zt_queries::Frozen;
 use zt_rows::{Moment, Refusal};
 
-/// The history, with the clients that stand in it.
+/// The history with the clients that stand in it.
 #[derive(Drop)]
 pub(crate) struct Clients {
     history: History,
@@ -37,7 +39,7 @@ impl Model for Clients {
 }
 
 impl Clients {
-    /// So many clients over a history, each following `main`.
+    /// Puts this many clients over a history, each following `main`.
     #[tactic(auto, using(crate::proofs::ClientsLaws::first_all_clients))]
     pub(crate) fn new(alloc: Global, history: History, clients: u8) -> Result<Clients, AllocError>
         requires { clients ≤ most_clients }
@@ -58,7 +60,7 @@ impl Clients {
         })
     }
 
-    /// These clients over a history.
+    /// Puts these clients over a history.
     pub(crate) fn over(history: History, clients: Vec<Client>) -> Clients
         requires few { length clients.items ≤ most_clients }
         requires stand { All (IsClient history.tree) clients.items }
@@ -72,7 +74,7 @@ impl Clients {
         }
     }
 
-    /// What holds of all clients and of their history.
+    /// A law: what holds of all clients and of their history.
     pub(crate) fn limits(&self)
         ensures few { length self.now.session.clients ≤ most_clients }
         ensures stand { Stand self.now.session }
@@ -89,7 +91,7 @@ impl Clients {
         &self.history
     }
 
-    /// The history, without the clients.
+    /// Returns the history, and drops the clients.
     pub(crate) fn into_history(self) -> History
         ensures { result.tree ≡ self.session.tree }
     {
@@ -108,7 +110,7 @@ impl Clients {
         self.clients.len() as u8
     }
 
-    /// What is known of a client.
+    /// Returns what is known of a client.
     pub(crate) fn client(&self, client: u8) -> Client
         requires numbered { 1 ≤ client }
         requires known { client ≤ length self.now.session.clients }
@@ -129,7 +131,7 @@ impl Clients {
         known.cursor
     }
 
-    /// The moment at which a client stands.
+    /// Returns the moment at which a client stands.
     pub(crate) fn position(&self, client: u8) -> Moment
         requires numbered { 1 ≤ client }
         requires known { client ≤ length self.now.session.clients }
@@ -142,7 +144,8 @@ impl Clients {
         }
     }
 
-    /// Moves the store to the moment at which a client stands, and tells it.
+    /// Moves the store to the moment at which a client stands, and returns that moment. Fails with `OutOfMemory` if an allocation
+    /// fails.
     pub(crate) fn go(&mut self, client: u8) -> Result<Moment, Refusal>
         requires numbered { 1 ≤ client }
         requires known { client ≤ length self.old.session.clients }
@@ -163,7 +166,7 @@ impl Clients {
         }
     }
 
-    /// A copy of the history at the moment at which a client stands.
+    /// Copies the history at the moment at which a client stands. Fails with `OutOfMemory` if an allocation fails.
     pub(crate) fn frozen(&mut self, client: u8) -> Result<Frozen, Refusal>
         requires numbered { 1 ≤ client }
         requires known { client ≤ length self.old.session.clients }
@@ -175,7 +178,7 @@ impl Clients {
         Frozen::copy(*self.clients.allocator(), &self.history)
     }
 
-    /// Puts another for what is known of a client.
+    /// Replaces what is known of a client.
     pub(crate) fn put(&mut self, client: u8, to: Client)
         requires numbered { 1 ≤ client }
         requires known { client ≤ length self.old.session.clients }
@@ -186,7 +189,7 @@ impl Clients {
         self.clients[client as usize - 1] = to;
     }
 
-    /// One answered command more of a client.
+    /// Counts one more answered command of a client.
     pub(crate) fn count(&mut self, client: u8)
         requires numbered { 1 ≤ client }
         requires known { client ≤ length self.old.session.clients }
@@ -199,7 +202,7 @@ impl Clients {
         self.put(client, known);
     }
 
-    /// Takes the last command back, of a client that was so before. It takes no memory.
+    /// Takes back the last command. `was` is what was known of its client before. Never allocates.
     pub(crate) fn retract(&mut self, client: u8, was: Client)
         requires numbered { 1 ≤ client }
         requires known { client ≤ length self.old.session.clients }
@@ -213,14 +216,14 @@ impl Clients {
         self.clients[client as usize - 1] = was;
     }
 
-    /// Each client has pinned nothing then, and was answered nothing; it stands where it stood. It takes no memory.
+    /// Clears each client's pinned moment, and sets its count of answered commands to 0. Cursors are unchanged. Never allocates.
     pub(crate) fn renew(&mut self)
         ensures { self.new.session ≡ unanswered self.old.session }
     {
         forget_answers(&mut self.clients);
     }
 
-    /// What the looking one finds in the history.
+    /// Returns what `asked` finds in the history. The session is unchanged.
     pub(crate) fn look<L: TreeLook>(&mut self, asked: &L) -> L::Found
         ensures session { self.new.session ≡ self.old.session }
         ensures found { (from : Timeline) × (to : Timeline) × (from.tree ≡ self.old.session.tree) × (to.tree ≡ from.tree) × L.looks asked.now from result to }
@@ -230,7 +233,7 @@ impl Clients {
     }
 }
 
-/// Each of the clients has pinned nothing then, and was answered nothing.
+/// Clears each client's pinned moment, and sets its count of answered commands to 0.
 fn forget_answers(clients: &mut Vec<Client>)
     ensures { clients.new.items ≡ map (λ client. client_at client.cursor) clients.old.items }
 {

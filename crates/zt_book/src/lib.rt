@@ -1,4 +1,4 @@
-//! The book of a session: the tree of moments with the clients that stand in it, and the log of what they were answered.
+//! A book is a session: a tree of moments, the clients that stand in it, and a log of all answered commands.
 #![tactic(auto)]
 
 mod book;

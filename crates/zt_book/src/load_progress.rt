@@ -1,15 +1,17 @@
-/// Who is told how far the moments of a saved tree are loaded.
+//! Reports the progress of loading a saved tree.
+
+/// Receives the progress of loading the moments of a saved tree.
 pub trait LoadProgress {
-    /// So many moments, of as many in all, are loaded.
+    /// This many moments, of `of` in all, are loaded.
     fn loaded(&self, moments: usize, of: usize);
 
-    /// Whether anyone is told. Where no one is, what is loaded as it is read need not be counted ahead.
+    /// Whether anyone sees the progress. If no one does, items that are loaded as they are read need not be counted first.
     fn is_told(&self) -> bool {
         true
     }
 }
 
-/// Tells no one.
+/// Ignores the progress.
 #[derive(Clone, Copy)]
 pub struct Untold;
 

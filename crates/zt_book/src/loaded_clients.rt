@@ -1,3 +1,5 @@
+//! Loads a whole saved tree: its moments, its branches, and a client at each cursor.
+
 ghost use Rattle.std.specs.Prelude.{◌≡◌, ◌+◌, ◌≤◌, ◌<◌, ◌^◌, false, [], All, Ok, Err, IfOk, IfErr, length, slice_index_or};
 ghost use Rattle.zt_book.specs.Session.{first_client, most_clients};
 ghost use Rattle.zt_book.specs.SavedSessions.{clients_at, in_turn, loaded_saved, place_on, seated, with_cursor};
@@ -13,8 +15,8 @@ use std::alloc::{AllocError, Global};
 use zt_history::History;
 use zt_rows::{Cursor as SavedCursor, Refusal, SavedBranch, SavedCall};
 
-/// So many clients over the tree of these moments and branches, where these cursors tell. The memory of the moments is given back
-/// as they are made.
+/// Loads moments and branches into a tree, and puts this many clients at the cursors. A moment's memory is freed as soon as the
+/// moment is made. Errors are those of `Book::load_saved`, except `TooManyClients`.
 pub(crate) fn session_of<P: LoadProgress>(
     alloc: Global,
     clients: u8,
@@ -32,7 +34,8 @@ pub(crate) fn session_of<P: LoadProgress>(
     seat(alloc, clients, number, history, cursors)
 }
 
-/// So many clients over a history, where these cursors tell. The first of them has this number.
+/// Puts this many clients over a history, at these cursors. `number` is the item number of the first cursor; an error has the
+/// number of its cursor.
 fn seat(
     alloc: Global,
     clients: u8,
@@ -53,7 +56,8 @@ fn seat(
     }
 }
 
-/// These cursors in a history, in turn. The first of them has this number.
+/// Looks up these cursors in a history, in order. `number` is the item number of the first cursor; an error has the number of its
+/// cursor.
 fn cursors_in(
     alloc: Global,
     number: u64,
@@ -78,7 +82,7 @@ fn cursors_in(
     Ok(found)
 }
 
-/// Where the cursor stands in a history.
+/// Finds where a cursor stands in a history. Fails with `NoBranch` or `NoMoment` if the history has no such place.
 fn place_in(history: &History, saved: &SavedCursor) -> Result<Cursor, Refusal>
     ensures ok { IfOk result (λ cursor. place_on history.now.tree saved.now ≡ Ok cursor) }
     ensures stands { IfOk result (IsCursor history.now.tree) }
@@ -98,7 +102,7 @@ fn place_in(history: &History, saved: &SavedCursor) -> Result<Cursor, Refusal>
     }
 }
 
-/// So many clients: one at each cursor, and where there are no more, others at `main`.
+/// Makes this many clients: one at each cursor. If there are fewer cursors than clients, the other clients follow `main`.
 fn clients_at(alloc: Global, clients: u8, cursors: &[Cursor]) -> Result<Vec<Client>, AllocError>
     ensures { IfOk result (λ standing. standing.items ≡ clients_at clients cursors.now) }
 {
@@ -113,7 +117,7 @@ fn clients_at(alloc: Global, clients: u8, cursors: &[Cursor]) -> Result<Vec<Clie
     Ok(standing)
 }
 
-/// The cursor of this place, from 0, and where there is none, that of who follows `main`.
+/// Returns the cursor at this place, counted from 0. Beyond the last cursor it returns one that follows `main`.
 fn cursor_at(cursors: &[Cursor], place: usize) -> Cursor
     ensures { result ≡ slice_index_or cursors.now place first_client.cursor }
 {

@@ -1,3 +1,5 @@
+//! Loads the moments and branches of a saved tree into a history.
+
 ghost use Rattle.std.specs.Prelude.{◌≡◌, ◌+◌, ◌<◌, ◌^◌, [], false, Ok, IfOk, IfErr, OnOk, length};
 ghost use Rattle.zt_history.specs.HistoryRefusals.{IsHistoryRefusal};
 ghost use Rattle.zt_book.specs.SavedSessions.{in_turn, loaded_tree, with_moment, with_main, with_branch, with_branches};
@@ -11,7 +13,7 @@ use std::alloc::Global;
 use zt_history::History;
 use zt_rows::{Refusal, SavedBranch, SavedCall};
 
-/// The history of these moments and branches. As a moment is made, it is let go, and of its list what is no more used.
+/// Makes a history of these moments and branches. A moment is dropped once it is made, and unused list memory is freed.
 pub(crate) fn tree_of<P: LoadProgress>(
     alloc: Global,
     moments: Vec<SavedCall>,
@@ -30,7 +32,7 @@ pub(crate) fn tree_of<P: LoadProgress>(
     Ok(history)
 }
 
-/// Makes each of these moments in turn, lets it go, and tells so.
+/// Makes these moments in order, drops each once it is made, and reports the progress.
 fn put_moments<P: LoadProgress>(
     history: &mut History,
     moments: Vec<SavedCall>,
@@ -41,7 +43,7 @@ fn put_moments<P: LoadProgress>(
 {
     let count = moments.len();
     let mut left = moments;
-    // The next one is the last, so that it is taken out alone.
+    // Reversed, so that `pop` takes the moments in their order.
     left.as_mut_slice().reverse();
     for place in 0..count {
         let Some(saved) = left.pop() else {
@@ -56,7 +58,7 @@ fn put_moments<P: LoadProgress>(
     Ok(())
 }
 
-/// Gives back the memory of a list of which no more than half is used.
+/// Frees the unused memory of a list once at most half of it is used.
 fn give_back(list: &mut Vec<SavedCall>)
     ensures { list.new.items ≡ list.old.items }
 {
@@ -65,7 +67,8 @@ fn give_back(list: &mut Vec<SavedCall>)
     }
 }
 
-/// Moves `main`, and makes the other branches in turn. The first of them has this number.
+/// Moves `main` to the first branch's head, and makes the other branches in order. `number` is the first branch's item number.
+/// Fails with `NoBranch` if there is no branch.
 fn put_branches(
     history: &mut History,
     number: u64,
@@ -84,7 +87,7 @@ fn put_branches(
     }
 }
 
-/// Moves `main`, where the branch has this name.
+/// Moves the head of `main`. Fails with `NoBranch` if the saved branch has another name.
 fn put_main(history: &mut History, saved: &SavedBranch) -> Result<(), Refusal>
     ensures ok { OnOk result (with_main history.old.tree saved.now ≡ Ok history.new.tree) }
     ensures refused { IfErr result (IsHistoryRefusal (with_main history.old.tree saved.now)) }
@@ -96,7 +99,7 @@ fn put_main(history: &mut History, saved: &SavedBranch) -> Result<(), Refusal>
     history.move_head(MAIN, saved.head)
 }
 
-/// Makes each of these branches in turn. The first of them has this number.
+/// Makes these branches in order. `number` is the first one's item number; an error has the number of its branch.
 fn put_others(
     history: &mut History,
     number: u64,
@@ -115,7 +118,7 @@ fn put_others(
     Ok(())
 }
 
-/// Makes one branch more.
+/// Makes one more branch. Fails with `BadName` or `NameTaken` for its name.
 fn put_branch(history: &mut History, saved: &SavedBranch) -> Result<(), Refusal>
     ensures ok { OnOk result (with_branch history.old.tree saved.now ≡ Ok history.new.tree) }
     ensures refused { IfErr result (IsHistoryRefusal (with_branch history.old.tree saved.now)) }

@@ -1,3 +1,5 @@
+//! The log of a book: each answered command with its client and its answer, in order.
+
 ghost use Rattle.std.specs.Prelude.{◌≡◌, ◌<◌, ◌++◌, ◌∷◌, [], OnOk, OnErr, length, slice_get};
 ghost use Rattle.std.specs.Option.{option_copied};
 ghost use Rattle.zt_history.specs.ProofsOnly.Branches.{without_last};
@@ -6,7 +8,7 @@ use std::alloc::{AllocError, Global};
 use std::marker::Model;
 use zt_rows::{Answer, Command};
 
-/// A command that was answered to a client, numbered from 1.
+/// A row of the log: a command, its answer, and the number of the client that asked, counted from 1.
 #[derive(Debug, Drop)]
 pub struct Recorded {
     pub client: u8,
@@ -14,7 +16,7 @@ pub struct Recorded {
     pub answered: Answer,
 }
 
-/// What was answered, in its order.
+/// The answered commands, in the order in which they were answered.
 #[derive(Drop)]
 pub struct Log {
     rows: Vec<Recorded>,
@@ -30,7 +32,7 @@ impl Model for Log {
 }
 
 impl Log {
-    /// The log with no rows.
+    /// A log without rows.
     pub(crate) fn new(alloc: Global) -> Log
         ensures { result ≡ [] }
     {
@@ -39,28 +41,28 @@ impl Log {
         }
     }
 
-    /// How many rows there are. It takes no memory.
+    /// Returns the number of rows. Never allocates.
     pub fn len(&self) -> usize
         ensures { result ≡ length self.now }
     {
         self.rows.len()
     }
 
-    /// The row of this number, from 0; nothing beyond the last. It takes no memory.
+    /// Returns the row of this number, counted from 0, or `None` beyond the last row. Never allocates.
     pub fn row(&self, number: usize) -> Option<&Recorded>
         ensures { option_copied result ≡ slice_get self.now number }
     {
         self.rows.get(number)
     }
 
-    /// The rows. It takes no memory.
+    /// Returns all rows, oldest first. Never allocates.
     pub fn rows(&self) -> &[Recorded]
         ensures { result.now ≡ self.now }
     {
         self.rows.as_slice()
     }
 
-    /// Writes an equal command and an equal answer behind the others. Where memory is refused nothing changes.
+    /// Appends a row with copies of the command and the answer. If an allocation fails, the log is unchanged.
     pub(crate) fn add(
         &mut self,
         client: u8,
@@ -83,7 +85,7 @@ impl Log {
         Ok(())
     }
 
-    /// Strikes the last row. It takes no memory.
+    /// Removes the last row. Never allocates.
     pub(crate) fn remove_last(&mut self)
         requires { 0 < length self.old }
         ensures { self.new ≡ without_last self.old }
@@ -91,7 +93,7 @@ impl Log {
         drop(self.rows.pop());
     }
 
-    /// Strikes all rows. It takes no memory.
+    /// Removes all rows. Never allocates.
     pub(crate) fn clear(&mut self)
         ensures { self.new ≡ [] }
     {

@@ -1,14 +1,16 @@
+//! A look at the tree of a book that leaves the tree as it is.
+
 use zt_history::History;
 
-/// What looks at a tree of moments: it may move the store over the tree, which stays as it is.
+/// Looks at a tree of moments. It may move the store over the tree, but cannot change the tree.
 pub trait TreeLook {
     ghost use Rattle.std.specs.Prelude.{◌≡◌};
     ghost use Rattle.zt_history.specs.Timeline.{Timeline};
 
-    /// What it finds.
+    /// The result of the look.
     type Found;
 
-    /// What it may find in a history, and how the history is seen then.
+    /// Which results a look at a history may give, and the timeline of the history after the look.
     ghost looks: { Self → Timeline → Self.Found → Timeline → Type 0 };
 
     /// Looks at the history.

@@ -1,3 +1,5 @@
+//! Runs one system call on a store, with everything that follows it.
+
 ghost use Rattle.std.specs.Prelude.{◌≡◌, ◌↔◌, ◌⊎◌, true, false, IfOk, IfErr, OnOk, OnErr, IsErrOf};
 ghost use Rattle.zt_rows.specs.declared.calls.Reply.{Reply};
 ghost use Rattle.zt_rows.specs.Reads.{runs};
@@ -23,7 +25,7 @@ use zt_cascade::{release, settle};
 use zt_rows::{Call, Held, Koid, Refusal, Reply};
 use zt_store::{Record, Step, Store};
 
-/// Whether the koid is that of a live process: only such a process may call.
+/// Whether the koid is that of a live process. Only a live process may call.
 pub fn runs(store: &Store, process: Koid) -> bool
     ensures { result ≡ runs store.now.state process }
 {
@@ -33,9 +35,11 @@ pub fn runs(store: &Store, process: Koid) -> bool
     }
 }
 
-/// Runs one call of a process: the store's rows after it, its reply, and the record by which it is undone,
-/// which fits the store. Refused, the store's rows are as before: `NoProcess` where the caller is not a live process, and
-/// `OutOfMemory` where memory was refused on the way.
+/// Runs one call of a process, so that the store has the rows after it. Returns the reply, and the record by which the
+/// call is undone. The record fits the store.
+///
+/// Errors: `NoProcess` if the caller is not a live process, `OutOfMemory` if an allocation fails. The store's rows are
+/// then as before.
 pub fn apply(
     alloc: Global,
     store: &mut Store,
@@ -66,10 +70,12 @@ pub fn apply(
     }
 }
 
-/// Runs one call of a process that is known to run, as `apply` does, on the store of a step that has put nothing yet; so has the step
-/// that it leaves. What the call changes is followed by the removal of what nothing supports, the derived signals and the firing of
-/// waits. The reply is left where the caller says, since a reply is large and goes through memory at each return. It is refused for
-/// want of memory alone.
+/// Runs one call of a process that is known to run, as `apply` does, on the store of a step at rest. The step is at
+/// rest again afterwards. After the call's own change come the removal of what nothing supports, the derived signals
+/// and the firing of waits.
+///
+/// The reply is written to `reply`: a reply is large, and would go through memory at each return. Fails only if an
+/// allocation fails, and leaves the rows as they were.
 #[tactic(auto, unfolding(zt_rows::specs::Step::step))]
 pub fn run_on(
     alloc: Global,
@@ -99,14 +105,14 @@ pub fn run_on(
     Ok(resting.take_record())
 }
 
-/// Puts the store in the place of a hollow one, which has no memory to be given back.
+/// Puts the store in the place of a hollow one. The hollow one has no memory to be given back.
 fn put_in_place(place: &mut Store, store: Store)
     ensures { place.new ≡ store }
 {
     mem::forget(mem::replace(place, store));
 }
 
-/// Leaves what the function of a call answered in the place, or tells that memory was refused to it.
+/// Writes what the function of a call answered to `place`. Fails if an allocation failed in that function.
 #[inline(always)]
 fn leave(done: Result<Reply, Failure>, place: &mut Reply) -> Result<(), AllocError>
     ensures ok { OnOk result ((d : State × Reply) (old new : Stepping) → Does d old new done → Advanced old new d.0 × (place.new ≡ d.1)) }
@@ -120,8 +126,8 @@ fn leave(done: Result<Reply, Failure>, place: &mut Reply) -> Result<(), AllocErr
     Ok(())
 }
 
-/// The function of the call, with the call's arguments: its checks in order, and then its change of rows. The handles of what it ends
-/// are left in the list.
+/// Runs the function of the call with the call's arguments: its checks in order, and then its change of rows. Leaves
+/// the handles of what it ends in `released`.
 #[inline(always)]
 #[tactic(auto, unfolding(zt_rows::specs::Step::direct))]
 fn direct(

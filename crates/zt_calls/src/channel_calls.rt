@@ -1,3 +1,5 @@
+//! The system calls on channels.
+
 ghost use Rattle.std.specs.Prelude.{◌≡◌, true};
 ghost use Rattle.zt_rows.specs.Reads.{runs};
 ghost use Rattle.zt_rows.specs.Room.{HasRoom};
@@ -30,7 +32,9 @@ pub fn channel_create(step: &mut Step, process: Koid) -> Result<Reply, Failure>
 }
 
 /// Sends a message with the parcel's bytes and handles to the peer of the channel that the handle names. The listed
-/// handles leave the caller's table also where the write fails: they are closed then.
+/// handles leave the caller's table in any case: if the write fails, they are closed.
+///
+/// A write fails with the status of `message_for`. If an allocation fails, the step is reset.
 pub fn channel_write(
     alloc: Global,
     step: &mut Step,
@@ -61,9 +65,12 @@ pub fn channel_write(
     }
 }
 
-/// Takes the first message of the channel's endpoint that the handle names, where it has no more bytes and handles
-/// than the caller has room for. Where it is larger, the caller is told how large it is, and where it is then to be
-/// discarded, it goes with its handles.
+/// Takes the first message from the queue of the channel's endpoint that the handle names. The message must have at
+/// most this many bytes and handles.
+///
+/// If it has more, the answer `TooSmall` tells its numbers of bytes and handles. With `discard`, a message that is too
+/// large is dropped with its handles; otherwise it stays. An empty queue is answered `PeerClosed` if the peer is gone,
+/// and `ShouldWait` if not.
 pub fn channel_read(
     alloc: Global,
     step: &mut Step,

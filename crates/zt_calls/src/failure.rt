@@ -1,3 +1,5 @@
+//! The ways in which the function of a call ends early: with a status, or with an allocation failure.
+
 use std::alloc::AllocError;
 use zt_bits::Status;
 
@@ -6,7 +8,7 @@ use zt_bits::Status;
 pub enum Failure {
     /// The call answers with this status.
     Status(Status),
-    /// Memory was refused.
+    /// An allocation failed.
     OutOfMemory,
 }
 

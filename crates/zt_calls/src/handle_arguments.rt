@@ -1,3 +1,5 @@
+//! Checks the handles and signals that calls take as arguments.
+
 ghost use Rattle.std.specs.Prelude.{◌≡◌};
 ghost use Rattle.zt_rows.specs.ObjectCalls.{may_set};
 ghost use Rattle.zt_calls.specs.ProofsOnly.WantedKinds.{takes, wrong_kind, handle_to};
@@ -7,7 +9,7 @@ use zt_bits::{Kind, Rights, Signals, Status, settable};
 use zt_rows::{HandleValue, Held, Koid, ObjectRow};
 use zt_store::Step;
 
-/// What kind of object a call takes by a handle.
+/// The kind of object that a call takes by a handle.
 #[derive(Clone, Copy, Debug)]
 pub enum WantedKind {
     Any,
@@ -37,7 +39,8 @@ impl WantedKind {
         }
     }
 
-    /// The status of a handle to an object of another kind.
+    /// The status for a handle to an object of another kind: `NotSupported` if an endpoint is wanted, otherwise
+    /// `WrongType`.
     pub fn wrong_kind(self) -> Status
         ensures { result ≡ wrong_kind self }
     {
@@ -48,8 +51,13 @@ impl WantedKind {
     }
 }
 
-/// A handle that a call takes as an argument, and the object that it names: the handle is valid, then its
-/// object is of a wanted kind, then it has the right.
+/// A handle that a call takes as an argument, and the row of the object that it names.
+///
+/// Errors, in the order of the checks:
+///
+/// - `BadHandle`, if the handle is not valid;
+/// - `WrongType`, if its object is not of a wanted kind; `NotSupported` instead, if an endpoint is wanted;
+/// - `AccessDenied`, if it lacks the right.
 pub fn handle_to(
     step: &Step,
     process: Koid,

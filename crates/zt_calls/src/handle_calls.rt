@@ -1,3 +1,5 @@
+//! The system calls on handles: close, duplicate, replace.
+
 ghost use Rattle.std.specs.Prelude.{◌≡◌, true};
 ghost use Rattle.zt_rows.specs.Reads.{runs};
 ghost use Rattle.zt_rows.specs.Room.{HasRoom};
@@ -13,7 +15,7 @@ use zt_rows::{HandleValue, Koid, Reply};
 use zt_store::Step;
 use zt_tables::duplicate;
 
-/// Closes a handle. To close 0 is ok and changes nothing.
+/// Closes a handle. Closing 0 is ok and changes nothing. Answers `BadHandle` if the caller does not have the handle.
 pub fn handle_close(step: &mut Step, process: Koid, handle: HandleValue) -> Result<Reply, Failure>
     ensures does { Does (handle_close step.old.current process handle) step.old step.new result }
     ensures kept { Keeps step.old.places step.new.places }
@@ -27,7 +29,8 @@ pub fn handle_close(step: &mut Step, process: Koid, handle: HandleValue) -> Resu
     Ok(Reply::Status(Status::Ok))
 }
 
-/// Gives the caller a second handle, with the rights asked for.
+/// Gives the caller a second handle, with the rights asked for. Answers with the status of `handle_to`, or with
+/// `InvalidArgs` if the mask asks for a right that the first handle lacks.
 pub fn handle_duplicate(
     step: &mut Step,
     process: Koid,
@@ -45,8 +48,8 @@ pub fn handle_duplicate(
     Ok(Reply::Handle(value))
 }
 
-/// Gives the caller a handle with the rights asked for in the place of the old one, which is closed also where
-/// they are refused.
+/// Replaces a handle by one with the rights asked for. Answers `BadHandle` if the caller does not have the handle.
+/// Answers `InvalidArgs` if the mask asks for a right that the handle lacks. The handle is closed in that case too.
 pub fn handle_replace(
     step: &mut Step,
     process: Koid,

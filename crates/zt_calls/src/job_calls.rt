@@ -1,3 +1,5 @@
+//! The system calls on jobs and processes.
+
 ghost use Rattle.std.specs.Prelude.{◌≡◌, ◌<◌, ◌+◌, ◌^◌, true, IfSome, IsSome, OnOk, OnErr};
 ghost use Rattle.zt_rows.specs.Consistent.{IsSound};
 ghost use Rattle.zt_rows.specs.Handles.{next_koid};
@@ -21,12 +23,15 @@ use zt_rows::{HandleValue, Held, Koid, Life, Reply};
 use zt_store::Step;
 use zt_tables::install;
 
-/// The most jobs above a job; the root job has none.
+/// The most jobs above a job. The root job has none.
 const MOST_DEPTH: u64 = 32;
 
 // ---- making jobs and processes
 
 /// Makes a live job under the job that the handle names, and answers with the caller's handle to it.
+///
+/// Statuses, in the order of the checks: those of `handle_to`, `BadState` if the parent has ended, and `OutOfRange` if
+/// too many jobs are above it.
 pub fn job_create(step: &mut Step, process: Koid, job: HandleValue) -> Result<Reply, Failure>
     requires room { HasRoom step.old.current }
     requires sound { IsSound step.old.current }
@@ -58,8 +63,12 @@ fn add_job(step: &mut Step, process: Koid, parent: Koid) -> Result<Reply, Failur
     Ok(Reply::Handle(handle))
 }
 
-/// Makes a live process under the job that the handle names, with what the value names as its first handle, or none
-/// for 0, and answers with the caller's handle to it and with its koid. The caller gives up what it hands over.
+/// Makes a live process under the job that the handle names. Answers with the caller's handle to the process, and with
+/// its koid. The caller gives up the handle `value`, which becomes the process's first one. With 0 it hands over
+/// nothing.
+///
+/// Statuses, in the order of the checks: those of `handle_to` for the job and then for `value`, and `BadState` if the
+/// job has ended.
 pub fn spawn(
     step: &mut Step,
     process: Koid,
@@ -81,7 +90,7 @@ pub fn spawn(
     add_process(step, process, held.koid, given)
 }
 
-/// What the value hands over to a new process: nothing for 0.
+/// The held object that the value hands over to a new process, or none for 0. Fails with the status of `handle_to`.
 fn argument(step: &Step, process: Koid, value: HandleValue) -> Result<Option<Held>, Status>
     ensures { result ≡ argument step.now.current process value }
 {
@@ -110,8 +119,8 @@ fn give_up(
     }
 }
 
-/// Makes a live process under the job with what is handed over, and answers with the caller's handle to it and with
-/// its koid.
+/// Makes a live process under the job, and hands it what the caller gave up. Answers with the caller's handle to the
+/// process, and with its koid.
 fn add_process(
     step: &mut Step,
     process: Koid,
@@ -133,6 +142,12 @@ fn add_process(
 // ---- ending them
 
 /// Makes the process critical to the job, which is above it. A process is critical to one job at most.
+///
+/// Statuses, in the order of the checks:
+///
+/// - those of `handle_to` for the job, and then for the process;
+/// - `AlreadyBound`, if the process is critical to a job already;
+/// - `InvalidArgs`, if the process is not under the job.
 pub fn job_set_critical(
     step: &mut Step,
     process: Koid,
@@ -154,8 +169,8 @@ pub fn job_set_critical(
     Ok(Reply::Status(Status::Ok))
 }
 
-/// Kills the process or the job that the handle names, and what ends with it, whose handles are left in the list, to be released.
-/// To kill what has ended is ok and changes nothing.
+/// Kills the process or the job that the handle names, and what ends with it. Leaves the handles of all these in
+/// `released`, to be released. Killing what has ended is ok and changes nothing. Fails with the status of `handle_to`.
 pub fn task_kill(
     alloc: Global,
     step: &mut Step,
@@ -174,7 +189,8 @@ pub fn task_kill(
     Ok(Reply::Status(Status::Ok))
 }
 
-/// Ends the caller with the code, and kills what else ends with it. The handles of all these are left in the list, to be released.
+/// Ends the caller with the code, and kills what else ends with it. Leaves the handles of all these in `released`, to
+/// be released.
 pub fn process_exit(
     alloc: Global,
     step: &mut Step,

@@ -1,4 +1,4 @@
-//! The system calls: each checks its arguments in order, changes rows in a step of the store, and answers.
+//! The system calls. Each checks its arguments in order, changes rows in a step of the store, and answers.
 #![tactic(auto)]
 
 mod applied_call;

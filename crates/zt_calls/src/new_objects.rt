@@ -1,3 +1,5 @@
+//! Makes objects, with the handles that a call gives for them.
+
 ghost use Rattle.std.specs.Prelude.{◌≡◌, ◌<◌, ◌+◌, ◌^◌, IfOk, OnErr};
 ghost use Rattle.zt_rows.specs.Reads.{counters};
 ghost use Rattle.zt_rows.specs.Handles.{fresh, make, make_pair, next_koid, whole};
@@ -9,7 +11,7 @@ use zt_bits::{Kind, defaults};
 use zt_rows::{Counters, Held, Koid, ObjectRow, Row, RowKey};
 use zt_store::Step;
 
-/// A handle to the object with the rights that its kind begins with.
+/// A handle to the object, with the rights that its kind begins with.
 pub fn whole(koid: Koid, kind: Kind) -> Held
     ensures { result ≡ whole koid kind }
 {
@@ -19,7 +21,8 @@ pub fn whole(koid: Koid, kind: Kind) -> Held
     }
 }
 
-/// A new live object of the kind, at the next koid.
+/// Makes a live object of the kind, and returns its koid, the next one of the system. If an allocation fails, the step
+/// is reset.
 #[tactic(auto, using(crate::proofs::PutOrder::object_last))]
 pub fn new_object(step: &mut Step, kind: Kind, link: Koid) -> Result<Koid, AllocError>
     requires { next_koid step.old.current < 2 ^ 63 }
@@ -43,7 +46,8 @@ pub fn new_object(step: &mut Step, kind: Kind, link: Koid) -> Result<Koid, Alloc
     Ok(koid)
 }
 
-/// Two new live objects of the kind, at the next two koids, each the other's peer.
+/// Makes two live objects of the kind, each the other's peer. Returns their koids, the next two of the system, in
+/// order. If an allocation fails, the step is reset.
 #[tactic(auto, using(crate::proofs::PutOrder::objects_last))]
 pub fn new_pair(step: &mut Step, kind: Kind) -> Result<(Koid, Koid), AllocError>
     requires { next_koid step.old.current < 2 ^ 63 }

@@ -1,3 +1,5 @@
+//! The system calls that make events and event pairs, and those that set signals.
+
 ghost use Rattle.std.specs.Prelude.{◌≡◌, true};
 ghost use Rattle.zt_rows.specs.Reads.{runs};
 ghost use Rattle.zt_rows.specs.Room.{HasRoom};
@@ -29,7 +31,7 @@ pub(crate) fn create(step: &mut Step, process: Koid, kind: Kind) -> Result<Reply
     Ok(Reply::Handle(handle))
 }
 
-/// Makes two objects of the kind, each the other's peer, and answers with the caller's handles to them.
+/// Makes two objects of the kind, each the other's peer, and answers with the caller's handles to them, in order.
 pub fn create_pair(step: &mut Step, process: Koid, kind: Kind) -> Result<Reply, Failure>
     requires endpoint { is_endpoint kind ≡ true }
     requires room { HasRoom step.old.current }
@@ -65,7 +67,8 @@ pub fn eventpair_create(step: &mut Step, process: Koid) -> Result<Reply, Failure
     create_pair(step, process, Kind::EventPair)
 }
 
-/// Clears and then sets signals of the object that the handle names.
+/// Clears and then sets signals of the object that the handle names. Answers with the status of `handle_to`, or with
+/// `InvalidArgs` if a call may not set or clear these signals on its kind.
 pub fn object_signal(
     step: &mut Step,
     process: Koid,
@@ -85,6 +88,9 @@ pub fn object_signal(
 }
 
 /// Clears and then sets signals of the peer of the endpoint that the handle names.
+///
+/// Statuses, in the order of the checks: those of `handle_to`, `InvalidArgs` if a call may not set or clear these
+/// signals on the kind, and `PeerClosed` if the peer is gone.
 pub fn object_signal_peer(
     step: &mut Step,
     process: Koid,

@@ -1,3 +1,5 @@
+//! The system calls on ports, and the waits that send packets to them.
+
 ghost use Rattle.std.specs.Prelude.{◌≡◌, true};
 ghost use Rattle.zt_rows.specs.Reads.{runs};
 ghost use Rattle.zt_rows.specs.Room.{HasRoom};
@@ -29,8 +31,8 @@ pub fn port_create(step: &mut Step, process: Koid) -> Result<Reply, Failure>
     create(step, process, Kind::Port)
 }
 
-/// Waits once for any of the signals on what the handle names, or for an edge of one: its packet will come to the port
-/// under the key.
+/// Waits once for any of the signals on the object that the handle names, or for an edge of one. The packet will come
+/// to the port under the key. Fails with the status of `handle_to` for the handle, and then for the port.
 pub fn object_wait_async(
     step: &mut Step,
     process: Koid,
@@ -58,7 +60,8 @@ pub fn object_wait_async(
     Ok(Reply::Status(Status::Ok))
 }
 
-/// Puts a packet of the caller's own at the end of the port.
+/// Appends a packet of the caller's own to the port. Answers with the status of `handle_to`, or with `ShouldWait` if
+/// the port holds the most packets of users.
 pub fn port_queue(
     step: &mut Step,
     process: Koid,
@@ -79,7 +82,8 @@ pub fn port_queue(
     Ok(Reply::Status(Status::Ok))
 }
 
-/// Takes the first packet from the port.
+/// Takes the first packet from the port. Answers with the status of `handle_to`, or with `TimedOut` if there is no
+/// packet.
 pub fn port_wait(step: &mut Step, process: Koid, port: HandleValue) -> Result<Reply, Failure>
     ensures does { Does (port_wait step.old.current process port) step.old step.new result }
     ensures kept { Keeps step.old.places step.new.places }
@@ -90,6 +94,9 @@ pub fn port_wait(step: &mut Step, process: Koid, port: HandleValue) -> Result<Re
 }
 
 /// Takes the caller's waits on the handle under the key, and their packets, out of the port.
+///
+/// Statuses, in the order of the checks: those of `handle_to` for the port and then for the handle, and `NotFound` if
+/// there is no such wait or packet.
 pub fn port_cancel(
     step: &mut Step,
     process: Koid,

@@ -1,3 +1,5 @@
+//! Takes a message from a queue and gives its handles to the reader.
+
 ghost use Rattle.std.specs.Prelude.{◌≡◌, ◌≤◌, ◌+◌, ◌-◌, ◌^◌, true, length, IfOk, OnErr};
 ghost use Rattle.zt_rows.specs.Reads.{queue, runs};
 ghost use Rattle.zt_rows.specs.Tests.{first, next_at};
@@ -17,14 +19,15 @@ use zt_rows::{HandleValue, Held, Items, Koid, Message, Reply};
 use zt_store::Step;
 use zt_tables::install;
 
-/// Whether the message has no more bytes and handles than these.
+/// Whether the message has at most this many bytes and handles.
 pub fn has_room_for(bytes: u32, handles: u32, message: &Message) -> bool
     ensures { result ≡ has_room_for bytes handles message.now }
 {
     message.bytes().len() <= bytes as usize && message.handles().len() <= handles as usize
 }
 
-/// Takes the first message of the endpoint's queue; its handles become the process's, in their order.
+/// Takes the first message of the endpoint's queue. Its handles become the process's, in their order. Fails with
+/// `ShouldWait` if the queue is empty.
 pub fn take_message(
     alloc: Global,
     step: &mut Step,
@@ -43,7 +46,8 @@ pub fn take_message(
     Ok(Reply::Message(bytes, Items::new(values)))
 }
 
-/// Gives the process handles to all that is held, in order, and answers their values.
+/// Gives the process a handle for each of these, in order, and returns the handle values. If an allocation fails, the
+/// step is reset.
 fn install_all(
     alloc: Global,
     step: &mut Step,

@@ -1,3 +1,5 @@
+//! Composes the message that a write sends.
+
 ghost use Rattle.std.specs.Prelude.{◌≡◌, []};
 ghost use Rattle.zt_rows.specs.ChannelCalls.{sent};
 ghost use Rattle.zt_calls.specs.ProofsOnly.SentMessage.{Finds, message_for, sendable};
@@ -9,8 +11,11 @@ use zt_bits::{Rights, Status};
 use zt_rows::{HandleValue, Held, Items, Koid, Message, Parcel};
 use zt_store::Step;
 
-/// What a write sends, and the endpoint that it is for: the peer of the channel that the handle names. The
-/// channel's handle is judged first, then the list from its left, then whether the peer is there. The entries stay.
+/// The message that a write sends, and the endpoint that it is for: the peer of the channel that the handle names. The
+/// entries stay in the caller's table.
+///
+/// The checks in order: the channel's handle as in `handle_to`, then the list from its left, then `PeerClosed` if the
+/// peer is gone.
 pub fn message_for(
     alloc: Global,
     step: &Step,
@@ -29,7 +34,7 @@ pub fn message_for(
     Ok((object.link, message))
 }
 
-/// What the listed values hold, in order, where each of them can be sent.
+/// The held objects of the listed values, in order. Fails with the fault of the first value that cannot be sent.
 fn sent(
     alloc: Global,
     step: &Step,
@@ -49,8 +54,13 @@ fn sent(
     Ok(Items::new(handles))
 }
 
-/// What the value holds, where it can be sent: it is valid and does not stand among the earlier ones, it is not the
-/// channel's own, and it may be transferred.
+/// The held object of the value, if it can be sent.
+///
+/// Errors, in the order of the checks:
+///
+/// - `BadHandle`, if the value is not valid or stands among the earlier ones;
+/// - `NotSupported`, if it is the channel's own;
+/// - `AccessDenied`, if it may not be transferred.
 fn sendable(
     step: &Step,
     process: Koid,

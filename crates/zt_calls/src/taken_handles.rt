@@ -1,3 +1,5 @@
+//! Takes entries out of the caller's handle table, with the waits made on them.
+
 ghost use Rattle.std.specs.Prelude.{IsSome, OnOk, OnErr};
 ghost use Rattle.zt_rows.specs.Reads.{entry};
 ghost use Rattle.zt_rows.specs.Tests.{among};
@@ -12,7 +14,7 @@ use zt_signals::drop_waits;
 use zt_store::Step;
 use zt_tables::remove;
 
-/// Takes an entry of the process out, with the waits made on it.
+/// Takes an entry of the process out, with the waits made on it. If an allocation fails, the step is reset.
 #[inline(always)]
 pub fn take_out(step: &mut Step, process: Koid, handle: HandleValue) -> Result<(), AllocError>
     requires there { IsSome (entry step.old.current process handle) }
@@ -24,7 +26,8 @@ pub fn take_out(step: &mut Step, process: Koid, handle: HandleValue) -> Result<(
     drop_waits(step, process, handle)
 }
 
-/// Takes the entries of the process with the listed values out, with the waits made on them.
+/// Takes the entries of the process with the listed values out, with the waits made on them. Skips values without an
+/// entry. If an allocation fails, the step is reset.
 pub fn take_out_all(
     step: &mut Step,
     process: Koid,

@@ -1,3 +1,5 @@
+//! Fires all waits that are met after a call.
+
 ghost use Rattle.std.specs.Prelude.{◌≡◌, OnOk};
 ghost use Rattle.std.specs.List.{fold};
 ghost use Rattle.zt_rows.specs.Consistent.{IsConsistent};
@@ -12,9 +14,10 @@ use std::alloc::AllocError;
 use zt_ports::fire;
 use zt_store::Step;
 
-/// Fires the waits that are met, by rising number. The step began consistent, so that only those can be met that this
-/// step may have woken: no other wait is looked at, and nothing at all where there never was one. Refused, the step stands in the
-/// middle of it.
+/// Fires the waits that are met, by rising number.
+///
+/// The step began consistent, so only waits that this step may have woken can be met. No other wait is looked at. If
+/// there never was a wait, nothing is looked at. If an allocation fails, the step is left half done.
 pub(crate) fn fire_all(step: &mut Step) -> Result<(), AllocError>
     requires began { IsConsistent step.old.beginning }
     requires room { let S = step.old.current in FiresWithin step.old.beginning S (fold (fire step.old.beginning) S (waits S)) }
@@ -34,8 +37,8 @@ pub(crate) fn fire_all(step: &mut Step) -> Result<(), AllocError>
     Ok(())
 }
 
-/// Where there is a wait of this number and it is met, takes it away and puts the news at the end of its port. No other
-/// wait needs room there.
+/// If there is a wait of this number and it is met, takes it away and appends its packet to its port. Only then does
+/// the port need a free number for a packet.
 fn fire_number(step: &mut Step, number: u64) -> Result<(), AllocError>
     requires { HasRoomFor step.old.beginning step.old.current number }
     ensures ahead { IsAhead step.old step.new }

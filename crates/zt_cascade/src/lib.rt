@@ -1,5 +1,5 @@
-//! What follows a call's direct change: by a worklist what goes when handles are released, each object taken out
-//! once, and then the derived signals anew and the firing of waits.
+//! The consequences of a call's direct change. First, a worklist removes the objects that lost their last support, each
+//! once. Then the derived signals are renewed and waits are fired.
 #![tactic(auto)]
 
 mod fired_waits;

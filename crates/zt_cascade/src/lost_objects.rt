@@ -1,3 +1,5 @@
+//! Lists the objects that may go after a call, since they are new or may have lost a support.
+
 ghost use Rattle.std.specs.Prelude.{◌≡◌, ◌++◌, true, OnOk};
 ghost use Rattle.std.specs.Option.{option_copied};
 ghost use Rattle.zt_rows.specs.State.{row};
@@ -13,7 +15,8 @@ use std::alloc::AllocError;
 use zt_rows::{Held, Koid, ObjectRow, Row, RowKey};
 use zt_store::Step;
 
-/// Lists all that may go: what is new or may have lost a support in the step, and what the released handles name.
+/// Adds to the list all objects that may go: those that are new or may have lost a support in the step, and those that
+/// the released handles name.
 pub(crate) fn list_told(
     step: &Step,
     list: &mut Vec<Koid>,
@@ -26,8 +29,8 @@ pub(crate) fn list_told(
     add_koids(list, released)
 }
 
-/// Adds to the list what is new or may have lost a support in the step, which differs from its beginning under the keys that it put
-/// alone.
+/// Adds to the list the objects that are new or may have lost a support in the step. The step differs from its
+/// beginning only under the keys that it put.
 fn list_lost(step: &Step, list: &mut Vec<Koid>) -> Result<(), AllocError>
     ensures differs { OnOk result (DiffersAtTouched step.now) }
     ensures lost { OnOk result (HasAllLost step.now list.new.items) }
@@ -39,8 +42,8 @@ fn list_lost(step: &Step, list: &mut Vec<Koid>) -> Result<(), AllocError>
     Ok(())
 }
 
-/// Adds to the list what may have lost a support since the row under the key was the first one: an object and its parent,
-/// if they go, and what an entry or a message named.
+/// Adds to the list what may have lost a support by a change of the row under the key, which was `first` at the
+/// beginning. These are the object and its parent, if nothing supports them, or what the entry or message named.
 fn add_lost(
     step: &Step,
     key: RowKey,
@@ -71,7 +74,8 @@ fn add_named(row: Option<&Row>, list: &mut Vec<Koid>) -> Result<(), AllocError>
     }
 }
 
-/// Adds to the list the object and the parent that it had, if they go, unless its rows support alike.
+/// Adds to the list the object and the one that its link named at the beginning, if nothing supports them. Adds neither
+/// if the rows of then and now support alike.
 fn add_lost_object(
     step: &Step,
     koid: Koid,
@@ -91,7 +95,7 @@ fn add_lost_object(
     add_free(step, first.link, list)
 }
 
-/// Whether the object is still there, and its rows keep it and its parent alike.
+/// Whether the object is still there, with equal kind, life and link. Then it and its parent are supported as before.
 fn supports_alike(first: &ObjectRow, now: Option<ObjectRow>) -> bool
     ensures { result ≡ true → SupportsAlike first.now now }
 {
@@ -101,7 +105,7 @@ fn supports_alike(first: &ObjectRow, now: Option<ObjectRow>) -> bool
     }
 }
 
-/// Adds the object to the list, if it goes.
+/// Adds the object to the list, if nothing supports it.
 fn add_free(step: &Step, koid: Koid, list: &mut Vec<Koid>) -> Result<(), AllocError>
     ensures listed { OnOk result (IsListedFree step.now.current koid list.new.items) }
     ensures longer { OnOk result (IsLonger list.old.items list.new.items) }

@@ -1,3 +1,5 @@
+//! Lists the waits that a step may have woken.
+
 ghost use Rattle.std.specs.Prelude.{◌≡◌, IfOk, OnOk};
 ghost use Rattle.std.specs.Option.{option_copied};
 ghost use Rattle.zt_rows.specs.Consistent.{IsConsistent};
@@ -12,8 +14,8 @@ use zt_ports::is_met;
 use zt_rows::{HandleValue, Koid, ObjectRow, Row, RowKey};
 use zt_store::Step;
 
-/// The numbers of waits among which are all that are met, added to the list: of those that can have come to be met in this
-/// step. The step began consistent, so that none was met then.
+/// Adds to the list the numbers of the waits that can have come to be met in this step. All waits that are met are
+/// among them, since the step began consistent and none was met then.
 pub(crate) fn woken(step: &Step, mut list: Vec<u64>) -> Result<Vec<u64>, AllocError>
     requires { IsConsistent step.now.beginning }
     ensures { IfOk result (λ list. HasMet step.now.beginning step.now.current list.items) }
@@ -25,8 +27,11 @@ pub(crate) fn woken(step: &Step, mut list: Vec<u64>) -> Result<Vec<u64>, AllocEr
     Ok(list)
 }
 
-/// Adds to the list the waits that can have come to be met since the row under the key was put: the wait itself, if it is
-/// met, those on an entry that was there, and those at an object that was there and on which a signal rose.
+/// Adds to the list the waits that can have come to be met by a put under the key:
+///
+/// - the wait itself, if it is met;
+/// - the waits on an entry that was there;
+/// - the waits at an object that was there, if a signal rose on it.
 fn add_woken(
     step: &Step,
     key: RowKey,
@@ -50,7 +55,7 @@ fn add_woken(
     Ok(())
 }
 
-/// Adds to the list the wait of this number, if it is met.
+/// Adds the wait of this number to the list, if it is met.
 fn add_if_met(step: &Step, number: u64, list: &mut Vec<u64>) -> Result<(), AllocError>
     ensures listed { OnOk result (ListsMet step.now.beginning step.now.current number list.new.items) }
     ensures longer { OnOk result (IsLonger list.old.items list.new.items) }
@@ -82,8 +87,7 @@ fn add_waits_on(
     Ok(())
 }
 
-/// Adds to the list the waits at the object, if it was there when the step began and a signal stands on it that did not
-/// stand then.
+/// Adds to the list the waits at the object, if it was there when the step began and a signal has risen on it since.
 fn add_waits_near(
     step: &Step,
     koid: Koid,
@@ -124,7 +128,7 @@ fn add_waits_at(step: &Step, koid: Koid, list: &mut Vec<u64>) -> Result<(), Allo
     Ok(())
 }
 
-/// The signals on the object.
+/// The signals on the object, or none if there is no object.
 fn signals_now(step: &Step, koid: Koid) -> u32
     ensures { result ≡ signals_at step.now.current koid }
 {

@@ -1,3 +1,5 @@
+//! Removes one object with the rows that it owns.
+
 ghost use Rattle.std.specs.Prelude.{◌≡◌, ◌≤◌, ◌<◌, ◌+◌, ◌++◌, ◌==◌, ◌&&◌, ℕ, true, OnOk, Option, length};
 ghost use Rattle.zt_rows.specs.declared.keys.RowKey.{RowKey};
 ghost use Rattle.zt_rows.specs.declared.keys.RowKey.TheVariants as key;
@@ -17,7 +19,7 @@ use zt_bits::Kind;
 use zt_rows::{Held, Koid, ObjectRow, Row, RowKey};
 use zt_store::Step;
 
-/// Takes the object out with what it owns, and adds to the list what it may let go.
+/// Removes the object with what it owns, and adds to the list the objects that it may let go.
 pub(crate) fn take_out(
     step: &mut Step,
     koid: Koid,
@@ -40,7 +42,7 @@ pub(crate) fn take_out(
     Ok(())
 }
 
-/// Takes the row of the object away, and cuts the link of its peer.
+/// Takes away the row of the object, and cuts the link of its peer.
 fn take_row(step: &mut Step, koid: Koid, found: &ObjectRow) -> Result<(), AllocError>
     requires there { object step.old.current koid ≡ Option.Some found.now }
     requires joined { IsJoined step.old.current }
@@ -64,7 +66,7 @@ fn change(step: &mut Step, key: RowKey, row: Option<Row>) -> Result<(), AllocErr
     step.put(key, row)
 }
 
-/// Cuts the link of the object of this koid, if it is an endpoint and its peer is the one that went.
+/// Cuts the link of the object of this koid, if it is an endpoint and its peer is the object that went.
 #[inline(always)]
 fn cut_link(step: &mut Step, went: Koid, koid: Koid) -> Result<(), AllocError>
     requires { object step.old.current went ≡ Option.None }
@@ -84,7 +86,7 @@ fn cut_link(step: &mut Step, went: Koid, koid: Koid) -> Result<(), AllocError>
     change(step, RowKey::Object(koid), Some(Row::Object(object)))
 }
 
-/// Whether it is an endpoint and this is its peer.
+/// Whether the object is an endpoint that has this peer.
 fn has_peer(object: &ObjectRow, peer: Koid) -> bool
     ensures { result ≡ (is_endpoint object.now.kind && (object.now.link == peer)) }
 {
@@ -92,7 +94,7 @@ fn has_peer(object: &ObjectRow, peer: Koid) -> bool
     is_endpoint && object.link == peer
 }
 
-/// Takes the queue of the endpoint away, and adds to the list what its messages name.
+/// Takes away the queue of the endpoint, and adds to the list the objects that its messages name.
 fn take_messages(step: &mut Step, endpoint: Koid, list: &mut Vec<Koid>) -> Result<(), AllocError>
     ensures ahead { IsAhead step.old step.new }
     ensures partly { OnOk result (IsPartly endpoint step.old.current step.new.current) }
@@ -107,7 +109,7 @@ fn take_messages(step: &mut Step, endpoint: Koid, list: &mut Vec<Koid>) -> Resul
     Ok(())
 }
 
-/// Adds to the list what the handles of the message name.
+/// Adds to the list the objects that the handles of the message name.
 fn note_handles(
     step: &Step,
     endpoint: Koid,
@@ -122,7 +124,7 @@ fn note_handles(
     }
 }
 
-/// Adds to the list what the handles name.
+/// Adds to the list the objects that the handles name.
 pub(crate) fn add_koids(list: &mut Vec<Koid>, handles: &[Held]) -> Result<(), AllocError>
     ensures { OnOk result (list.new.items ≡ list.old.items ++ koids handles.now) }
 {
@@ -132,7 +134,7 @@ pub(crate) fn add_koids(list: &mut Vec<Koid>, handles: &[Held]) -> Result<(), Al
     Ok(())
 }
 
-/// Takes the packets of the port away.
+/// Takes away the packets of the port.
 fn take_packets(step: &mut Step, port: Koid) -> Result<(), AllocError>
     requires suited { (k : RowKey) → SuitsKey k (row step.old.current k) }
     ensures ahead { IsAhead step.old step.new }
@@ -145,8 +147,8 @@ fn take_packets(step: &mut Step, port: Koid) -> Result<(), AllocError>
     Ok(())
 }
 
-/// Takes away the waits for the object, of whatever kind it is. They are found by it, so that other waits are not looked
-/// at.
+/// Takes away the waits for the object, of whatever kind it is. Finds them by the object, so that other waits are not
+/// looked at.
 fn take_waits(step: &mut Step, koid: Koid) -> Result<(), AllocError>
     ensures ahead { IsAhead step.old step.new }
     ensures partly { OnOk result (IsPartly koid step.old.current step.new.current) }

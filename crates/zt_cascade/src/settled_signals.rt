@@ -1,3 +1,5 @@
+//! Settles a state after a call: renews the derived signals and fires the waits that are met.
+
 ghost use Rattle.std.specs.Prelude.{◌≡◌, ◌<◌, ◌^◌, true, OnErr, OnOk, Option};
 ghost use Rattle.std.specs.Option.{option_copied};
 ghost use Rattle.zt_rows.specs.Consistent.{IsConsistent};
@@ -18,11 +20,12 @@ use zt_bits::Kind;
 use zt_rows::{Koid, ObjectRow, Row, RowKey};
 use zt_store::Step;
 
-/// Writes the derived signals anew, and then fires the waits that are met, by rising number; a wait on an edge by what
-/// did not stand when the step began. The step began
-/// consistent, so that only what is near a key that it put can have other signals than before. The work grows with
-/// these keys and with the waits on what changed, and not with the rows that there are. Refused for memory,
-/// the step is as it was begun.
+/// Renews the derived signals, and then fires the waits that are met, by rising number. A wait on an edge fires for a
+/// signal that did not stand when the step began.
+///
+/// The step began consistent, so only objects near a key that it put can have other signals than before. The work grows
+/// with these keys and with the waits on what changed. It does not grow with the rows of the store. If an allocation
+/// fails, the step is reset.
 pub fn settle(step: &mut Step) -> Result<(), AllocError>
     requires began { IsConsistent step.old.beginning }
     requires room { HasRoomToFire step.old.beginning step.old.current }
@@ -37,7 +40,7 @@ pub fn settle(step: &mut Step) -> Result<(), AllocError>
     done
 }
 
-/// Writes the derived signals anew and fires waits. Refused, the step stands in the middle of it.
+/// Renews the derived signals and fires waits. If an allocation fails, the step is left half done.
 fn settle_all(step: &mut Step) -> Result<(), AllocError>
     requires began { IsConsistent step.old.beginning }
     requires room { HasRoomToFire step.old.beginning step.old.current }
@@ -48,7 +51,7 @@ fn settle_all(step: &mut Step) -> Result<(), AllocError>
     fire_all(step)
 }
 
-/// Writes the derived signals anew of all that is near a key that was put in this step.
+/// Renews the derived signals of all objects near a key that was put in this step.
 fn renew_near(step: &mut Step) -> Result<(), AllocError>
     requires { IsConsistent step.old.beginning }
     ensures ahead { IsAhead step.old step.new }
@@ -64,8 +67,8 @@ fn renew_near(step: &mut Step) -> Result<(), AllocError>
     Ok(())
 }
 
-/// Adds to the list the objects near the keys that were put in this step. It differs from its beginning under these keys
-/// alone.
+/// Adds to the list the objects near the keys that were put in this step. The step differs from its beginning only
+/// under these keys.
 fn list_near(step: &Step, list: &mut Vec<Koid>) -> Result<(), AllocError>
     ensures near { OnOk result (HasAllNear step.now list.new.items) }
     ensures differs { OnOk result (DiffersAtTouched step.now) }
@@ -77,7 +80,7 @@ fn list_near(step: &Step, list: &mut Vec<Koid>) -> Result<(), AllocError>
     Ok(())
 }
 
-/// Adds to the list the objects whose derived signals can follow from the row under the key, which was the first one at
+/// Adds to the list the objects whose derived signals can follow from the row under the key. That row was `first` at
 /// the beginning of the step.
 fn add_near(
     step: &Step,
@@ -105,7 +108,8 @@ fn add_koid(koid: Koid, list: &mut Vec<Koid>) -> Result<(), AllocError>
     Ok(())
 }
 
-/// Adds to the list the object and its parent, at the beginning and now, unless no derived signals tell its rows apart.
+/// Adds to the list the object, and its parents at the beginning and now. Adds nothing if no derived signal tells the
+/// rows of then and now apart. If the object is gone, adds the parent that it had.
 fn add_near_object(
     step: &Step,
     koid: Koid,
@@ -121,8 +125,8 @@ fn add_near_object(
     }
 }
 
-/// Adds to the list the object, whose row is now this one, and its parent, at the beginning and now, unless no derived
-/// signals tell its rows apart.
+/// Adds to the list the object, whose row is now this one, and its parents at the beginning and now. Adds nothing if no
+/// derived signal tells the rows of then and now apart.
 fn add_changed(
     koid: Koid,
     first: Option<&ObjectRow>,
@@ -140,7 +144,7 @@ fn add_changed(
     add_parent(Some(now), list)
 }
 
-/// Whether the object was there, and no derived signals tell its rows apart.
+/// Whether the object was there, and no derived signal tells its rows of then and now apart.
 fn is_alike(first: Option<&ObjectRow>, now: &ObjectRow) -> bool
     ensures { result ≡ true → StaysAlike (option_copied first.entry) now.now }
 {
@@ -155,7 +159,7 @@ fn is_alike(first: Option<&ObjectRow>, now: &ObjectRow) -> bool
     }
 }
 
-/// Adds the object to the list, if signals of its kind follow from rows.
+/// Adds the object to the list, if its kind has derived signals.
 fn add_itself(koid: Koid, now: &ObjectRow, list: &mut Vec<Koid>) -> Result<(), AllocError>
     ensures listed { OnOk result (HasItself koid now.now list.new.items) }
     ensures longer { OnOk result (IsLonger list.old.items list.new.items) }
@@ -167,12 +171,12 @@ fn add_itself(koid: Koid, now: &ObjectRow, list: &mut Vec<Koid>) -> Result<(), A
     }
 }
 
-/// What holds of signals: there are 32.
+/// States the limit of a mask of signals: it has 32 bits.
 fn limits(_signals: u32)
     ensures { _signals < 2 ^ 32 }
 {}
 
-/// Adds the parent of a job or process to the list.
+/// If this is a job or a process, adds its parent to the list.
 fn add_parent(task: Option<&ObjectRow>, list: &mut Vec<Koid>) -> Result<(), AllocError>
     ensures listed { OnOk result (HasParent (option_copied task.entry) list.new.items) }
     ensures longer { OnOk result (IsLonger list.old.items list.new.items) }

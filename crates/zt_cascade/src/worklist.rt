@@ -1,3 +1,5 @@
+//! Removes by a worklist the objects that nothing supports.
+
 ghost use Rattle.std.specs.Prelude.{◌≡◌, ◌≤◌, ◌+◌, ◌∷◌, OnErr, OnOk, Option, if◌then◌else◌, length, not};
 ghost use Rattle.zt_rows.specs.Collect.{collect, goes, without};
 ghost use Rattle.zt_rows.specs.Reads.{object};
@@ -16,11 +18,15 @@ use std::alloc::AllocError;
 use zt_rows::{Held, Koid, ObjectRow};
 use zt_store::Step;
 
-/// Takes out all objects that nothing supports, with what they own, and what goes after them: "releasing is
-/// collecting". The released handles are out of the rows already. An object that goes has to be told of: a released handle
-/// names it, or it is new, or it had a support when the step began. So a step that began with every object supported tells of all
-/// (`laws::what_a_step_loses_is_told`). The work grows with what goes, with the handles and with the keys that the step put, and not
-/// with the rows that there are. Refused for memory, the step is as it was begun.
+/// Removes all objects that nothing supports, with what they own, and everything that goes after them. Releasing is
+/// collecting: the state is then what `collect` gives.
+///
+/// The released handles are out of the rows already. The handles and the step have to tell of each object that goes: a
+/// released handle names it, it is new, or it had a support when the step began. A step that began with every object
+/// supported tells of all (`laws::what_a_step_loses_is_told`).
+///
+/// The work grows with what goes, with the handles and with the keys that the step put. It does not grow with the rows
+/// of the store. If an allocation fails, the step is reset.
 pub fn release(step: &mut Step, released: &[Held]) -> Result<(), AllocError>
     requires joined { IsJoined step.old.current }
     requires covered { IsCovered step.old released.now }
@@ -35,7 +41,7 @@ pub fn release(step: &mut Step, released: &[Held]) -> Result<(), AllocError>
     done
 }
 
-/// Takes out what goes. Refused, the step stands in the middle of it.
+/// Removes everything that goes. If an allocation fails, the step is left half done.
 fn release_all(step: &mut Step, released: &[Held]) -> Result<(), AllocError>
     requires joined { IsJoined step.old.current }
     requires covered { IsCovered step.old released.now }
@@ -49,7 +55,7 @@ fn release_all(step: &mut Step, released: &[Held]) -> Result<(), AllocError>
     Ok(())
 }
 
-/// Takes out the objects of the list that nothing supports, and what goes after them, until nothing goes.
+/// Removes the objects of the list that nothing supports, and what goes after them, until nothing goes.
 fn follow(step: &mut Step, list: &mut Vec<Koid>) -> Result<(), AllocError>
     requires joined { IsJoined step.old.current }
     requires covered { Covers list.old.items step.old.current }
@@ -62,7 +68,7 @@ fn follow(step: &mut Step, list: &mut Vec<Koid>) -> Result<(), AllocError>
     Ok(())
 }
 
-/// Takes the object out if nothing supports it, and adds to the list what it may let go.
+/// Removes the object if nothing supports it, and adds to the list the objects that it may let go.
 fn look_at(step: &mut Step, koid: Koid, list: &mut Vec<Koid>) -> Result<(), AllocError>
     requires joined { IsJoined step.old.current }
     ensures ahead { IsAhead step.old step.new }

@@ -1,3 +1,5 @@
+//! Bare rows: a row or none, kept in the bytes of a row.
+
 ghost use Rattle.std.specs.Prelude.{◌≡◌};
 ghost use Rattle.std.specs.Option.{option_copied};
 ghost use Rattle.zt_rows.specs.declared.keys.RowKey.{RowKey};
@@ -6,13 +8,13 @@ ghost use Rattle.zt_cells.specs.BareRows.{row_in, row_under};
 
 use zt_rows::{Counters, Koid, Row, RowKey};
 
-/// What stands for none, under any key but that of the counters.
+/// The bare row that stands for none, under any key but that of the counters.
 pub const NO_ROW: Row = Row::Counters(Counters {
     next_koid: Koid(0),
     next_wait: 0,
 });
 
-/// The row in the bytes of a row: none is a row of counters, which stands for none under any other key than theirs.
+/// Keeps a row, or none, in the bytes of a row. None becomes a row of counters, which stands for none under any key but theirs.
 #[inline(always)]
 pub fn bare(row: Option<Row>) -> Row
     ensures { (key : RowKey) → SuitsKey key row → row_under key result ≡ row }
@@ -23,7 +25,7 @@ pub fn bare(row: Option<Row>) -> Row
     }
 }
 
-/// What a bare row stands for under the key: itself, or none.
+/// The row that a bare row stands for under the key: itself, or none.
 #[inline(always)]
 #[tactic(auto, using(crate::proofs::PlaceLaws::row_in_other))]
 pub fn row_under(key: RowKey, row: &Row) -> Option<&Row>
@@ -35,7 +37,7 @@ pub fn row_under(key: RowKey, row: &Row) -> Option<&Row>
     }
 }
 
-/// The same under another key than that of the counters.
+/// The row that a bare row stands for under any key but that of the counters: a row of counters stands for none.
 #[inline(always)]
 #[tactic(auto, using(crate::proofs::PlaceLaws::row_in_other))]
 pub(crate) fn row_in(row: &Row) -> Option<&Row>

@@ -1,3 +1,5 @@
+//! The rows of a state in tables, each in the place of its key.
+
 ghost use Rattle.std.specs.Prelude.{◌≡◌, ◌≤◌, ◌+◌, ◌-◌, ◌*◌, ◌^◌, ℕ, true, false, length, slice_index_or, IfOk, IsTrue, OnOk, None};
 ghost use Rattle.std.specs.Option.{option_copied};
 ghost use Rattle.zt_rows.specs.declared.keys.RowKey.{RowKey};
@@ -33,7 +35,7 @@ use zt_rows::{Counters, HandleValue, Held, Koid, Message, ObjectRow, Packet, Row
 #[derive(Drop)]
 pub struct Cells {
     tables: RowTables,
-    /// How many places there are, but for that of the counters.
+    /// The number of places in all tables, without that of the counters.
     places: usize,
 }
 
@@ -52,7 +54,7 @@ impl Model for Cells {
 }
 
 impl Cells {
-    /// Cells with counters that stand at 0 and no other row. It takes no memory.
+    /// Cells with the counters at 0 and no other row. Never allocates.
     #[tactic(auto, unfolding(crate::specs::ProofsOnly::RowTables::state_in, crate::specs::ProofsOnly::RowTables::sizes_of, zt_rows::specs::Opening::hollow))]
     pub fn hollow(alloc: Global) -> Cells
         ensures { result ≡ record { state = hollow; sizes = no_sizes } }
@@ -69,14 +71,14 @@ impl Cells {
         }
     }
 
-    /// The row under the key. It takes no memory.
+    /// The row under the key. Never allocates.
     pub fn row(&self, key: RowKey) -> Option<&Row>
         ensures { option_copied result ≡ row self.now.state key }
     {
         self.look(key)
     }
 
-    /// The same, made part of its caller: one who knows the variant of the key looks at one table. It takes no memory.
+    /// The row under the key. It is inlined, so a caller that knows the key's variant looks at one table. Never allocates.
     #[inline(always)]
     pub fn look(&self, key: RowKey) -> Option<&Row>
         ensures { option_copied result ≡ row self.now.state key }
@@ -84,7 +86,7 @@ impl Cells {
         self.tables.row(key)
     }
 
-    /// The next numbers that the system gives out. It takes no memory.
+    /// The next numbers that the system gives out. Never allocates.
     pub fn counters(&self) -> Counters
         ensures { result ≡ counters self.now.state }
     {
@@ -97,43 +99,43 @@ impl Cells {
         }
     }
 
-    /// The object of this koid. It takes no memory.
+    /// The object of this koid. Never allocates.
     pub fn object(&self, koid: Koid) -> Option<ObjectRow>
         ensures { result ≡ object self.now.state koid }
     {
         Row::as_object(self.look(RowKey::Object(koid))).copied()
     }
 
-    /// What the process holds by this handle value. It takes no memory.
+    /// What the process holds by this handle value. Never allocates.
     pub fn entry(&self, process: Koid, handle: HandleValue) -> Option<Held>
         ensures { result ≡ entry self.now.state process handle }
     {
         Row::as_entry(self.look(RowKey::Entry(process, handle)))
     }
 
-    /// The message of this number in the endpoint's queue. It takes no memory.
+    /// The message of this number in the endpoint's queue. Never allocates.
     pub fn message(&self, endpoint: Koid, number: u64) -> Option<&Message>
         ensures { option_copied result ≡ message self.now.state endpoint number }
     {
         Row::as_message(self.look(RowKey::Msg(endpoint, number)))
     }
 
-    /// The packet of this number in the port. It takes no memory.
+    /// The packet of this number in the port. Never allocates.
     pub fn packet(&self, port: Koid, number: u64) -> Option<Packet>
         ensures { result ≡ packet self.now.state port number }
     {
         Row::as_packet(self.look(RowKey::Packet(port, number)))
     }
 
-    /// The wait of this number. It takes no memory.
+    /// The wait of this number. Never allocates.
     pub fn wait(&self, number: u64) -> Option<Wait>
         ensures { result ≡ wait self.now.state number }
     {
         Row::as_wait(self.look(RowKey::Wait(number)))
     }
 
-    /// What holds of the rows: each suits its key, there are not too many, and no entry stands under a number that
-    /// is no handle value, and no object under a koid from 2^32 - 2 on.
+    /// States what holds of the rows: each suits its key, and there are at most 2^48 + 1 of them. No entry stands under
+    /// a number that is no handle value, and no object under a koid from 2^32 - 2 on.
     pub fn limits(&self)
         ensures suited { (key : RowKey) → SuitsKey key (row self.now.state key) }
         ensures few { length self.now.state.rows ≤ 2 ^ 48 + 1 }
@@ -144,7 +146,7 @@ impl Cells {
         self.tables.objects.limits();
     }
 
-    /// Whether the key has its place. It takes no memory.
+    /// Whether the key has its place. Never allocates.
     #[inline(always)]
     pub fn has_place(&self, key: RowKey) -> bool
         ensures { result ≡ has_place self.now.sizes key }
@@ -152,8 +154,9 @@ impl Cells {
         self.tables.has_place(key)
     }
 
-    /// Makes the place of the key, and those below it in its table. Each table that grows asks once for all that it
-    /// needs; beyond 2^48 places, beyond 2^32 - 2 places of one table, and for owners from 2^48 on, it is refused.
+    /// Makes the place of the key, and those below it in its table. A table that grows requests all its new places at
+    /// once. Fails if an allocation fails, and for owners from 2^48 on. Fails also beyond 2^48 places in all, or
+    /// 2^32 - 2 in one table. Rows and places that are there stay, even if it fails.
     #[inline(always)]
     pub fn make_place(&mut self, key: RowKey) -> Result<(), AllocError>
         ensures state { self.new.state ≡ self.old.state }
@@ -163,7 +166,7 @@ impl Cells {
         ensures objects { self.new.sizes.objects ≤ objects_after key self.old.sizes.objects }
         ensures packets { (x : ℕ) → slice_index_or self.new.sizes.packets x 0 ≤ packets_after key x (slice_index_or self.old.sizes.packets x 0) }
     {
-        // A copy for each call that takes the key: the prover covers no second use of an enum that was passed by value.
+        // Each call that takes the key gets a copy: the prover does not cover a second use of an enum that was passed by value.
         let (asked, counted) = (key, key);
         let place = place_of(asked);
         let len = self.tables.len_at(counted);
@@ -178,7 +181,7 @@ impl Cells {
         Ok(())
     }
 
-    /// Exchanges the bare row, which is one or stands for none, with what stands in the place of the key. It takes no memory.
+    /// Exchanges the bare row with the one in the place of the key. Either may stand for none. Never allocates.
     #[inline(always)]
     pub fn exchange(&mut self, key: RowKey, kept: &mut Row)
         requires placed { has_place self.old.sizes key ≡ true }
@@ -189,8 +192,8 @@ impl Cells {
         self.tables.exchange(key, kept);
     }
 
-    /// Exchanges the object with the one of this koid, if there is one of the same kind, life and link, and says whether there
-    /// is; else nothing changes. It takes no memory.
+    /// If the object of this koid has the same kind, life and link, exchanges the two and returns `true`. Else nothing
+    /// changes. Never allocates.
     #[inline(always)]
     pub fn exchange_alike(&mut self, koid: Koid, object: &mut ObjectRow) -> bool
         requires { has_place self.old.sizes (key_variant.Object koid) ≡ true }
@@ -200,7 +203,7 @@ impl Cells {
         self.tables.exchange_alike(koid, object)
     }
 
-    /// Equal cells in memory of their own, with the same places.
+    /// Copies the cells, with the same places, into memory of their own.
     pub fn copy(&self) -> Result<Cells, AllocError>
         ensures { IfOk result (λ copied. copied ≡ self.now) }
     {
@@ -210,29 +213,29 @@ impl Cells {
         })
     }
 
-    /// The least number of a message in the endpoint's queue. It takes no memory, and walks over no message that went.
+    /// The least number of a message in the endpoint's queue. Never allocates, and walks over no message that went.
     pub fn first_message(&self, endpoint: Koid) -> Option<u64>
         ensures { IsFirst self.now.state (λ n. key_variant.Msg endpoint n) result }
     {
         self.tables.messages.next_from(endpoint.0 as usize, 0)
     }
 
-    /// The least number of a packet in the port. It takes no memory, and walks over no packet that went.
+    /// The least number of a packet in the port. Never allocates, and walks over no packet that went.
     pub fn first_packet(&self, port: Koid) -> Option<u64>
         ensures { IsFirst self.now.state (λ n. key_variant.Packet port n) result }
     {
         self.tables.packets.next_from(port.0 as usize, 0)
     }
 
-    /// The least number from this one on of a packet in the port. It takes no memory, and walks over no packet that went.
+    /// The least number, from this one on, of a packet in the port. Never allocates, and walks over no packet that went.
     pub fn next_packet(&self, port: Koid, from: u64) -> Option<u64>
         ensures { IsNextFrom self.now.state (λ n. key_variant.Packet port n) from result }
     {
         self.tables.packets.next_from(port.0 as usize, from)
     }
 
-    /// The least value from this one on under which the process has an entry. It takes no memory, and walks over no handle
-    /// that was closed.
+    /// The least handle value, from this one on, under which the process has an entry. Never allocates, and walks over
+    /// no handle that was closed.
     pub fn next_entry(&self, process: Koid, from: u64) -> Option<HandleValue>
         ensures { IsNextFrom self.now.state (λ h. key_variant.Entry process h) from result }
     {

@@ -1,4 +1,4 @@
-//! The cells of a state's rows: looks at the rows, an exchange of one, and the places that they have.
+//! The cells of a store: looks at the rows of a state, the exchange of one row, and the places for rows.
 #![tactic(auto)]
 
 mod bare_rows;

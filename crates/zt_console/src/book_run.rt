@@ -1,3 +1,5 @@
+//! A run: the lines of one reader, answered by a book.
+
 ghost use Rattle.std.specs.Prelude.{◌≡◌, ◌<◌, ◌≤◌, ◌-◌, ◌^◌, length, is_ok, OnOk};
 ghost use Rattle.std.specs.Io.KnownBytes.{IsAtEnd};
 ghost use Rattle.zt_console.specs.BookRun.{is_pin, AsksBook};
@@ -14,7 +16,7 @@ use zt_book::Book;
 use zt_queries::Frozen;
 use zt_rows::{Answer, Command, Refusal};
 
-/// The client of a book that a run is for.
+/// A run asks as this client of the book.
 pub(crate) const CLIENT: u8 = 1;
 
 impl Responder for Book {
@@ -35,7 +37,7 @@ impl Responder for Book {
     }
 }
 
-/// A book of whose lines, those of client 1, somebody hears.
+/// A book with a listener that hears the lines of client 1.
 struct HeardBook<'a, L> {
     book: Book,
     listener: &'a L,
@@ -66,15 +68,16 @@ impl<L: Listener> Responder for HeardBook<'_, L> {
     }
 }
 
-/// Whether the command is a pin, with which a copy of the history is made.
+/// Whether the command is a pin, whose answer comes with a copy of the history.
 pub(crate) fn is_pin(request: &Command) -> bool
     ensures { result ≡ is_pin request.now }
 {
     matches!(request, Command::Pin)
 }
 
-/// Answers the lines of the reader, as client 1 of the book, until its end or the first failure. Where it is
-/// stopped, a command that was served before stands, whether or not its answer could be written.
+/// Answers the reader's lines, as client 1 of the book, until the input ends or something fails. The returned `End` is `Stopped`
+/// with `ReadFault`, `WriteFault` or `OutOfMemory` after a failure. A command that was answered before stands, even if its answer
+/// was not written.
 #[tactic(auto, using(crate::proofs::KeepLaws::talked_clients))]
 pub fn run<R: Read, W: Write>(
     alloc: Global,
@@ -97,7 +100,7 @@ pub fn run<R: Read, W: Write>(
     }
 }
 
-/// As `run`, where the listener hears each line with its answer.
+/// Runs like `run`. The listener hears each line with its answer.
 #[tactic(auto, using(crate::proofs::KeepLaws::talked_clients))]
 pub fn run_heard<R: Read, W: Write, L: Listener>(
     alloc: Global,

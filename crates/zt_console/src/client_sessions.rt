@@ -1,3 +1,5 @@
+//! The sessions of all clients of a shared book.
+
 ghost use Rattle.std.specs.Prelude.{◌≡◌, ◌<◌, ◌≤◌, ◌+◌, [], ◌∷◌, ◌++◌, length, map, All, IfOk, IfErr, IsPermutation, vec_len, vec_capacity};
 ghost use Rattle.std.specs.List.{AllZip, cons_option, filter_map};
 ghost use Rattle.zt_book.specs.Log.{Replays};
@@ -16,10 +18,10 @@ use zt_book::Book;
 use zt_shared::account::Naming;
 use zt_shared::{Beginning, Gate, OpenedBook, Pass, close_book};
 
-/// What a client brings: where its lines come from, where their text goes, and its pass.
+/// A client's reader, writer and pass.
 pub type Caller<I, O, A, B, C, D> = (Counted<I>, Counted<O>, Pass<A, B, C, D>);
 
-/// What is left of a client that was served: its reader and writer, and how its session ended.
+/// The reader and writer of a client that was served, and how its session ended.
 #[derive(Drop)]
 pub struct Served<I, O> {
     pub reader: Counted<I>,
@@ -27,7 +29,7 @@ pub struct Served<I, O> {
     pub end: End,
 }
 
-/// A client whose session is to come, or was.
+/// A client before or after its session.
 #[derive(Drop)]
 pub(crate) struct ClientSession<I, O, A: Naming + Beginning, B: Naming, C: Naming, D: Naming> {
     pub(crate) reader: Counted<I>,
@@ -36,7 +38,7 @@ pub(crate) struct ClientSession<I, O, A: Naming + Beginning, B: Naming, C: Namin
     pub(crate) end: End,
 }
 
-/// The lists that serving clients takes.
+/// The lists that are needed to serve clients.
 #[derive(Drop)]
 struct SessionLists<I: Read, O: Write, A: Naming + Beginning, B: Naming, C: Naming, D: Naming> {
     waiting: Vec<ClientSession<I, O, A, B, C, D>>,
@@ -46,11 +48,12 @@ struct SessionLists<I: Read, O: Write, A: Naming + Beginning, B: Naming, C: Nami
     passes: Vec<Pass<A, B, C, D>>,
 }
 
-/// Serves all clients of a shared book, who come in any order, each by a session on a thread of its own, and gives the book
-/// back when all have ended.
-/// All that serving takes of memory but each session's own is asked for first; where it is refused, the book and the
-/// clients come back. A client for whom no thread can be started is not served: it has no rows, and its session ends as
-/// one that found no memory. The gate is told of each session that has ended, also of such a one, at once.
+/// Serves all clients of a shared book, each by a session on its own thread, and returns the book when all have ended. The
+/// clients come in any order.
+///
+/// All memory but each session's own is allocated first. If an allocation fails, the book and the clients are returned. If no
+/// thread can be started for a client, it is not served: it has no rows, and its session ends with `OutOfMemory`. The gate is
+/// told at once when a session has ended, and also when a client could not be served.
 pub fn sessions<
     R: Threads + Wait + Sync,
     I: Read + Send + Drop,
@@ -93,7 +96,7 @@ pub fn sessions<
     Ok((book, served))
 }
 
-/// Empty lists with room for so many clients.
+/// Makes empty lists with room for this many clients.
 fn room_for<
     I: Read + Drop,
     O: Write + Drop,
@@ -119,7 +122,7 @@ fn room_for<
     })
 }
 
-/// Puts each client into a place of its own.
+/// Makes a session for each client, in order.
 fn take_places<I: Drop, O: Drop, A: Naming + Beginning, B: Naming, C: Naming, D: Naming>(
     places: &mut Vec<ClientSession<I, O, A, B, C, D>>,
     callers: Vec<Caller<I, O, A, B, C, D>>,
@@ -139,7 +142,7 @@ fn take_places<I: Drop, O: Drop, A: Naming + Beginning, B: Naming, C: Naming, D:
     }
 }
 
-/// Parts what is left of each client from its pass.
+/// Separates the clients' passes from the rest of their sessions.
 fn leave_places<I: Drop, O: Drop, A: Naming + Beginning, B: Naming, C: Naming, D: Naming>(
     places: Vec<ClientSession<I, O, A, B, C, D>>,
     served: &mut Vec<Served<I, O>>,
@@ -155,7 +158,7 @@ fn leave_places<I: Drop, O: Drop, A: Naming + Beginning, B: Naming, C: Naming, D
     }
 }
 
-/// Parts what is left of a client from its pass.
+/// Separates a client's pass from the rest of its session.
 fn leave_place<I: Drop, O: Drop, A: Naming + Beginning, B: Naming, C: Naming, D: Naming>(
     place: ClientSession<I, O, A, B, C, D>,
     served: &mut Vec<Served<I, O>>,

@@ -1,4 +1,4 @@
-//! The threads of the clients of a shared book: one for each, all started before the first is joined.
+//! The threads of a shared book's clients: one for each client, all started before the first is joined.
 ghost use Rattle.std.specs.Prelude.{◌≡◌, ◌≤◌, [], length, vec_capacity};
 ghost use Rattle.std.specs.List.{AllZip};
 ghost use Rattle.zt_console.specs.ProofsOnly.ClientSessions.{CanBeServed, HasServed, IsGivenBack, IsStartedFor, IsJoinedTo};
@@ -17,10 +17,10 @@ use zt_rows::Refusal;
 use zt_shared::account::Naming;
 use zt_shared::{Beginning, Gate, Shared};
 
-/// The number of no client.
+/// A number that no client has.
 const NOBODY: usize = 0;
 
-/// What a client's thread promises of the place that it gives back, by the place that it was given.
+/// What a client's thread promises of the session that it returns, in terms of the session that it was given.
 #[derive(Drop)]
 pub(crate) struct ServedFrom<I, O, A: Naming + Beginning, B: Naming, C: Naming, D: Naming> {
     place: Snapshot<ClientSession<I, O, A, B, C, D>>,
@@ -34,7 +34,7 @@ impl<I: Read, O: Write, A: Naming + Beginning, B: Naming, C: Naming, D: Naming> 
     ghost kept_by = { λ promise place. IsGivenBack I.remaining O.contents promise.place.value place };
 }
 
-/// A client's thread, or its place where no thread could be started.
+/// A client's thread, or its session if no thread could be started.
 #[derive(Drop)]
 pub(crate) enum ClientThread<
     I: Read,
@@ -48,7 +48,7 @@ pub(crate) enum ClientThread<
     Unserved(ClientSession<I, O, A, B, C, D>),
 }
 
-/// Serves all clients, each on a thread of its own, and gives back the place of each when all have ended.
+/// Serves all clients, each on its own thread, and returns their sessions when all have ended.
 pub(crate) fn serve_all<
     R: Threads + Wait + Sync,
     I: Read + Send + Drop,
@@ -118,7 +118,7 @@ fn start_all<
     threads
 }
 
-/// Starts a thread for a client. Where none can be started, the client is turned away: its place says that no memory was found.
+/// Starts a thread for a client. If no thread can be started, the client is not served: its session ends with `OutOfMemory`.
 fn start<
     's,
     E: 's,
@@ -163,7 +163,7 @@ fn start<
     }
 }
 
-/// The number of a place's client, or of no client where its pass is gone.
+/// Returns the number of a session's client, or `NOBODY` if its pass is gone.
 fn client_of<I, O, A: Naming + Beginning, B: Naming, C: Naming, D: Naming>(
     place: &ClientSession<I, O, A, B, C, D>,
 ) -> usize {
@@ -173,7 +173,7 @@ fn client_of<I, O, A: Naming + Beginning, B: Naming, C: Naming, D: Naming>(
     }
 }
 
-/// Serves a client at its place, or turns it away, and tells the gate when its session has ended.
+/// Serves a client or turns it away, and tells the gate that its session has ended.
 fn serve_client<
     R: Wait,
     I: Read,
@@ -198,7 +198,7 @@ fn serve_client<
     place
 }
 
-/// Serves a client at its place, or says there that it was turned away.
+/// Serves a client, or ends its session with `OutOfMemory` if it is turned away.
 fn serve_place<
     R: Wait,
     I: Read,
@@ -226,7 +226,7 @@ fn serve_place<
     place
 }
 
-/// Tells the gate that the session of a place's client has ended.
+/// Tells the gate that a client's session has ended.
 fn tell_end<I, O, A: Naming + Beginning, B: Naming, C: Naming, D: Naming, G: Gate>(
     gate: &G,
     place: &ClientSession<I, O, A, B, C, D>,
@@ -236,7 +236,7 @@ fn tell_end<I, O, A: Naming + Beginning, B: Naming, C: Naming, D: Naming, G: Gat
     }
 }
 
-/// Serves one client, where its pass is there and its failures can be counted.
+/// Serves one client, if its pass is there and its failures can be counted.
 fn serve<
     R: Wait,
     I: Read,
@@ -273,7 +273,7 @@ fn serve<
     }
 }
 
-/// Waits for each client's thread, and takes the places back.
+/// Waits for each client's thread, and collects the sessions.
 fn join_all<
     R: Threads,
     I: Read + Drop,
@@ -297,7 +297,7 @@ fn join_all<
     places
 }
 
-/// Waits for a client's thread, where there is one, and takes its place back.
+/// Waits for a client's thread, if there is one, and returns its session.
 fn join<
     R: Threads,
     I: Read + Drop,

@@ -1,3 +1,5 @@
+//! Answers one line with one text.
+
 ghost use Rattle.std.specs.Prelude.{◌≡◌, List, ℕ, Ok, Some, IfOk, MatchResult};
 ghost use Rattle.zt_text.specs.ReadLines.{read_as};
 ghost use Rattle.zt_console.specs.Conversations.{Answers, IsRespondedTo, IsToldOfCopy, rows_in, holders_in, leaks_in, of_copy, newest, shown};
@@ -8,13 +10,13 @@ use zt_queries::{Frozen, holders, leaks, rows};
 use zt_rows::{Answer, Command, Koid, Refusal};
 use zt_text::{Line, print_answer, print_refusal, read_line};
 
-/// A client: what answers its commands, and the copy that its `pinned` lines ask, once it has pinned a moment.
+/// A client: its responder, and the copy that `pinned` lines ask. There is a copy once the client has pinned a moment.
 pub(crate) struct Conversation<D> {
     pub(crate) responder: D,
     pub(crate) pinned: Option<Frozen>,
 }
 
-/// The text that a line gets.
+/// Returns the text that answers a line.
 pub(crate) fn text_for<D: Responder>(
     alloc: Global,
     client: &mut Conversation<D>,
@@ -31,7 +33,7 @@ pub(crate) fn text_for<D: Responder>(
     }
 }
 
-/// The text that a line gets which is read as this, if it is not skipped.
+/// Returns the text that answers a parsed line; it is empty if the line is skipped.
 fn text_read<D: Responder>(
     alloc: Global,
     client: &mut Conversation<D>,
@@ -48,7 +50,7 @@ fn text_read<D: Responder>(
     }
 }
 
-/// The text that a line gets which wants this.
+/// Returns the text that answers a line that is not skipped.
 fn text_wanted<D: Responder>(
     alloc: Global,
     client: &mut Conversation<D>,
@@ -69,7 +71,7 @@ fn text_wanted<D: Responder>(
     }
 }
 
-/// The text that a command gets.
+/// Returns the text that answers a command.
 fn text_asked<D: Responder>(
     alloc: Global,
     client: &mut Conversation<D>,
@@ -90,7 +92,7 @@ fn text_asked<D: Responder>(
     }
 }
 
-/// Keeps the copy that was made last.
+/// Keeps the newest copy.
 fn keep(pinned: &mut Option<Frozen>, copy: Option<Frozen>)
     ensures { pinned.new ≡ newest pinned.old copy }
 {
@@ -99,7 +101,7 @@ fn keep(pinned: &mut Option<Frozen>, copy: Option<Frozen>)
     }
 }
 
-/// The rows of the pinned copy.
+/// Returns the rows of the pinned copy. Fails with `NoMoment` if nothing is pinned.
 fn pinned_rows(alloc: Global, pinned: &Option<Frozen>) -> Result<Answer, Refusal>
     ensures { IsToldOfCopy (of_copy pinned.now rows_in) result }
 {
@@ -110,7 +112,7 @@ fn pinned_rows(alloc: Global, pinned: &Option<Frozen>) -> Result<Answer, Refusal
     Ok(Answer::Rows(copy.moment(), found))
 }
 
-/// What keeps the object in the pinned copy.
+/// Returns what keeps the object in the pinned copy. Fails with `NoMoment` if nothing is pinned.
 fn pinned_holders(alloc: Global, pinned: &Option<Frozen>, koid: Koid) -> Result<Answer, Refusal>
     ensures { IsToldOfCopy (of_copy pinned.now (holders_in koid)) result }
 {
@@ -121,7 +123,7 @@ fn pinned_holders(alloc: Global, pinned: &Option<Frozen>, koid: Koid) -> Result<
     Ok(Answer::Holders(koid, found))
 }
 
-/// The leaked objects of the pinned copy.
+/// Returns the leaked objects of the pinned copy. Fails with `NoMoment` if nothing is pinned.
 fn pinned_leaks(alloc: Global, pinned: &Option<Frozen>) -> Result<Answer, Refusal>
     ensures { IsToldOfCopy (of_copy pinned.now leaks_in) result }
 {
@@ -132,14 +134,14 @@ fn pinned_leaks(alloc: Global, pinned: &Option<Frozen>) -> Result<Answer, Refusa
     Ok(Answer::Leaks(copy.moment(), found))
 }
 
-/// The text of an answer or of a refusal, which is given up.
+/// Prints an answer or a refusal, and drops it.
 fn printed(alloc: Global, said: Result<Answer, Refusal>) -> Result<Vec<u8>, AllocError>
     ensures { IfOk result (λ text. text.items ≡ shown said) }
 {
     print(alloc, &said)
 }
 
-/// The text of an answer or of a refusal.
+/// Prints an answer or a refusal.
 fn print(alloc: Global, said: &Result<Answer, Refusal>) -> Result<Vec<u8>, AllocError>
     ensures { IfOk result (λ text. text.items ≡ shown said.now) }
 {

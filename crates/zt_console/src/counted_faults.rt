@@ -1,3 +1,5 @@
+//! Readers and writers that count their failures.
+
 ghost use Rattle.std.specs.Prelude.{◌≡◌, length, is_err};
 ghost use Rattle.std.specs.Io.{ReadsAtMost, WritesAtMost};
 ghost use Rattle.std.specs.Io.KnownBytes.{Keeps, ReadConsumes, WriteAppends};
@@ -7,8 +9,8 @@ use std::io;
 use std::io::{Read, Write};
 use std::marker::Model;
 
-/// A reader or a writer that counts its reads and writes that failed. A write that takes no byte of those that
-/// there are is a failure; a read that gives none is the end of the input. The count stays at `u64::MAX`.
+/// A reader or writer that counts its failed reads and writes. The count stays at `u64::MAX` once it is there. A write that takes
+/// none of its bytes is a failure, unless it was given none. A read of no bytes is the end of the input.
 #[derive(Drop)]
 pub struct Counted<T> {
     inner: T,
@@ -24,14 +26,14 @@ impl<T> Model for Counted<T> {
 }
 
 impl<T> Counted<T> {
-    /// The reader or writer, with no failure so far.
+    /// Wraps a reader or writer, with no failure so far.
     pub fn new(inner: T) -> Counted<T>
         ensures { result ≡ (inner, 0) }
     {
         Counted { inner, faults: 0 }
     }
 
-    /// The reader or writer itself.
+    /// Returns the reader or writer itself.
     pub fn into_inner(self) -> T
         ensures { result ≡ self.0 }
     {
@@ -39,7 +41,7 @@ impl<T> Counted<T> {
         inner
     }
 
-    /// How many reads and writes failed so far.
+    /// Returns how many reads and writes failed so far.
     pub fn faults(&self) -> u64
         ensures { result ≡ self.now.1 }
     {

@@ -1,3 +1,5 @@
+//! A run that never meets a client's limit of commands.
+
 ghost use Rattle.std.specs.Prelude.{◌≡◌, ◌<◌, ◌≤◌, ◌-◌, ◌^◌, length, is_ok, OnOk};
 ghost use Rattle.std.specs.Io.KnownBytes.{IsAtEnd};
 ghost use Rattle.zt_console.specs.Explored.{explored, AsksExplored};
@@ -14,7 +16,7 @@ use zt_book::Book;
 use zt_queries::Frozen;
 use zt_rows::{Answer, Command, Refusal};
 
-/// A book that a person explores: it is renewed where client 1 can be answered no command more.
+/// A book that a person explores. It is renewed when client 1 can be answered no more commands.
 struct Explorer {
     book: Book,
 }
@@ -41,7 +43,7 @@ impl Responder for Explorer {
     }
 }
 
-/// Renews the book where client 1 can be answered no command more.
+/// Renews the book if client 1 can be answered no more commands.
 fn make_room(book: &mut Book)
     requires { 1 ≤ length book.old.session.clients }
     ensures { book.new ≡ explored book.old }
@@ -51,8 +53,8 @@ fn make_room(book: &mut Book)
     }
 }
 
-/// As `run`, for a person who explores and never meets a client's limit of commands: where as many commands were answered
-/// to client 1 as can be, the book is renewed before the next is served.
+/// Runs like `run`, but never refuses a command with `ClientFull`. If client 1 can be answered no more commands, the book is
+/// renewed before the next command is served.
 #[tactic(auto, using(crate::proofs::KeepLaws::explored_clients))]
 pub fn explore<R: Read, W: Write>(
     alloc: Global,

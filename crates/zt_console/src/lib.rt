@@ -1,4 +1,4 @@
-//! Lines in, lines out: what a client types is read as commands, and what the debugger answers is printed.
+//! Reads a client's lines as commands, and writes the answers as text.
 #![tactic(auto)]
 
 mod book_run;

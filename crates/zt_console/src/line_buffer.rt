@@ -1,3 +1,5 @@
+//! The part of a line that was read so far.
+
 ghost use Rattle.std.specs.Prelude.{◌≡◌, ◌++◌, ◌≤◌, [], true, length, OnOk, OnErr};
 ghost use Rattle.zt_console.specs.ProofsOnly.LineFeed.{decisive, decisive_bytes, has_no_feed};
 
@@ -5,10 +7,10 @@ use std::alloc::{AllocError, Global};
 use std::marker::Model;
 use zt_text::LINE_BYTES;
 
-/// How many bytes decide how a line reads: one more than a line may have.
+/// How many bytes decide how a line reads: one more than the longest line.
 const DECISIVE: usize = LINE_BYTES + 1;
 
-/// What was read of a line so far, but no more of it than decides how the line reads.
+/// The bytes of a line that were read so far, up to the number that decides how the line reads.
 #[derive(Drop)]
 pub(crate) struct LineBuffer {
     bytes: Vec<u8>,
@@ -26,7 +28,7 @@ impl Model for LineBuffer {
 }
 
 impl LineBuffer {
-    /// Nothing of a line.
+    /// A buffer without bytes.
     pub(crate) fn new(alloc: Global) -> LineBuffer
         ensures { result ≡ [] }
     {
@@ -35,7 +37,7 @@ impl LineBuffer {
         }
     }
 
-    /// Goes on with more bytes of the line.
+    /// Appends more bytes of the line; bytes that decide nothing are dropped. If the allocation fails, the buffer is unchanged.
     pub(crate) fn add(&mut self, bytes: &[u8]) -> Result<(), AllocError>
         requires { has_no_feed bytes.now ≡ true }
         ensures ok { OnOk result (self.new ≡ decisive (self.old ++ bytes.now)) }
@@ -48,7 +50,7 @@ impl LineBuffer {
         Ok(())
     }
 
-    /// What is kept of the line.
+    /// Returns the bytes that are kept of the line.
     pub(crate) fn bytes(&self) -> &[u8]
         ensures value { result.now ≡ self.now }
         ensures one { has_no_feed self.now ≡ true }
@@ -57,7 +59,7 @@ impl LineBuffer {
         self.bytes.as_slice()
     }
 
-    /// Begins with another line.
+    /// Removes all bytes, to begin the next line.
     pub(crate) fn clear(&mut self)
         ensures { self.new ≡ [] }
     {

@@ -1,3 +1,5 @@
+//! Cuts what was read at line feeds, answers each line, and writes the answers.
+
 ghost use Rattle.std.specs.Prelude.{◌≡◌, ◌<◌, ◌-◌, ◌^◌, ◌∷◌, [], ◌++◌, true, false, is_ok, Err, OnOk, IfSome, IfNone};
 ghost use Rattle.zt_console.specs.ProofsOnly.LineFeed.{decisive_lines, has_no_feed, IsFirstFeed, Passed, Put, Fed};
 ghost use Rattle.zt_console.specs.ProofsOnly.Run.{IsWritten, IsSent, IsFailureCounted};
@@ -10,10 +12,10 @@ use std::alloc::{AllocError, Global};
 use std::io::Write;
 use zt_rows::Refusal;
 
-/// Where so many bytes of answers wait, they are written before the next line is answered.
+/// When this many bytes of answers wait, they are written before the next line is answered.
 const ENOUGH: usize = 65_536;
 
-/// Takes bytes that were read, and writes what they are answered.
+/// Answers the lines that end in these bytes, and writes the answers. Fails with `OutOfMemory` or `WriteFault`.
 pub(crate) fn answer_chunk<D: Responder, W: Write>(
     alloc: Global,
     client: &mut Conversation<D>,
@@ -35,7 +37,8 @@ pub(crate) fn answer_chunk<D: Responder, W: Write>(
     }
 }
 
-/// Answers what stands behind the last line feed, if anything does, and writes what waits.
+/// Answers the text after the last line feed, if there is any, and writes the waiting answers. Fails with `OutOfMemory` or
+/// `WriteFault`.
 pub(crate) fn answer_rest<D: Responder, W: Write>(
     alloc: Global,
     client: &mut Conversation<D>,
@@ -59,7 +62,7 @@ pub(crate) fn answer_rest<D: Responder, W: Write>(
     }
 }
 
-/// Takes bytes: each line feed ends a line, which is answered.
+/// Takes bytes that were read. Each line feed ends a line, which is answered.
 fn feed<D: Responder, W: Write>(
     alloc: Global,
     client: &mut Conversation<D>,
@@ -89,7 +92,7 @@ fn feed<D: Responder, W: Write>(
     }
 }
 
-/// Where the first line feed stands.
+/// Returns the place of the first line feed.
 fn first_feed(bytes: &[u8]) -> Option<usize>
     ensures found { IfSome result (IsFirstFeed bytes.now) }
     ensures none { IfNone result (has_no_feed bytes.now ≡ true) }
@@ -102,7 +105,7 @@ fn first_feed(bytes: &[u8]) -> Option<usize>
     None
 }
 
-/// Takes the last bytes of a line, behind which a line feed ends it, and answers it.
+/// Takes the last bytes of a line, before its line feed, and answers the line.
 fn end_line<D: Responder, W: Write>(
     alloc: Global,
     client: &mut Conversation<D>,
@@ -129,7 +132,7 @@ fn end_line<D: Responder, W: Write>(
     }
 }
 
-/// Answers a line: its text waits behind the others, and the responder hears of both.
+/// Answers a line: appends its text to the waiting answers, and lets the responder hear both.
 fn answer_line<D: Responder>(
     alloc: Global,
     client: &mut Conversation<D>,
@@ -145,7 +148,7 @@ fn answer_line<D: Responder>(
     waiting.extend_from_slice(text.as_slice())
 }
 
-/// Memory was refused: writes the answers that wait, unless a write fails.
+/// After a failed allocation: writes the waiting answers. Returns `OutOfMemory`, or `WriteFault` if a write fails.
 fn out_of_memory<W: Write>(waiting: &mut Vec<u8>, writer: &mut Counted<W>) -> Refusal
     requires { writer.old.1 < 2 ^ 64 - 1 }
     ensures written { IsWritten waiting.old.items (W.contents writer.old.0) (W.contents writer.new.0) false }
@@ -157,7 +160,7 @@ fn out_of_memory<W: Write>(waiting: &mut Vec<u8>, writer: &mut Counted<W>) -> Re
     }
 }
 
-/// Writes the answers that wait, where there are many.
+/// Writes the waiting answers if there are many of them.
 fn send_enough<W: Write>(waiting: &mut Vec<u8>, writer: &mut Counted<W>) -> Result<(), Refusal>
     requires { writer.old.1 < 2 ^ 64 - 1 }
     ensures sent { IsSent waiting.old.items waiting.new.items (W.contents writer.old.0) (W.contents writer.new.0) (is_ok result) }
@@ -170,7 +173,7 @@ fn send_enough<W: Write>(waiting: &mut Vec<u8>, writer: &mut Counted<W>) -> Resu
     }
 }
 
-/// Writes the answers that wait.
+/// Writes the waiting answers.
 fn send<W: Write>(waiting: &mut Vec<u8>, writer: &mut Counted<W>) -> Result<(), Refusal>
     requires { writer.old.1 < 2 ^ 64 - 1 }
     ensures written { IsWritten waiting.old.items (W.contents writer.old.0) (W.contents writer.new.0) (is_ok result) }
@@ -182,7 +185,7 @@ fn send<W: Write>(waiting: &mut Vec<u8>, writer: &mut Counted<W>) -> Result<(), 
     Ok(())
 }
 
-/// Writes the whole text, unless a write fails.
+/// Writes the whole text, in as many writes as it takes. Fails with `WriteFault` if a write fails or takes no byte.
 fn write_text<W: Write>(text: &[u8], writer: &mut Counted<W>) -> Result<(), Refusal>
     requires { writer.old.1 < 2 ^ 64 - 1 }
     ensures written { IsWritten text.now (W.contents writer.old.0) (W.contents writer.new.0) (is_ok result) }

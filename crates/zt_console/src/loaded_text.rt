@@ -1,3 +1,5 @@
+//! Loads a session text into a book.
+
 ghost use Rattle.std.specs.Prelude.{◌≡◌, ◌≤◌, ◌<◌, true, false, Ok, length, IfOk, IfErr, OnOk};
 ghost use Rattle.zt_text.specs.Lines.{lines_of};
 ghost use Rattle.zt_text.specs.SessionCalls.{calls_left, row_lines};
@@ -10,8 +12,8 @@ use zt_rows::{CLIENTS, Refusal};
 use zt_text::laws::calls_one_by_one_are_those_of_the_text;
 use zt_text::{SessionCalls, line_of_call, read_saved};
 
-/// The book of so many clients over the tree of a session text, of either version. The number with a refusal is that of
-/// the line at fault, counted from 1, skipped lines too, or 0 where no line is at fault.
+/// Loads a session text of either version into a book with this many clients. Fails with a refusal and the number of its line,
+/// counted from 1, skipped lines included. The number is 0 if no line is at fault, as for `OutOfMemory` and `TooManyClients`.
 pub fn load_text(alloc: Global, clients: u8, text: &[u8]) -> Result<Book, (u64, Refusal)>
     ensures ok { IfOk result (IsLoadedOf clients text.now) }
     ensures clients { IfOk result (λ book. length book.session.clients ≡ clients) }
@@ -21,7 +23,7 @@ pub fn load_text(alloc: Global, clients: u8, text: &[u8]) -> Result<Book, (u64, 
     load_text_told(alloc, clients, text, &Untold)
 }
 
-/// As `load_text`, which tells after each moment that is loaded how many are, of all of them.
+/// Loads like `load_text`. After each moment it tells `told` how many of all moments are loaded.
 pub fn load_text_told<P: LoadProgress>(
     alloc: Global,
     clients: u8,
@@ -39,7 +41,7 @@ pub fn load_text_told<P: LoadProgress>(
     }
 }
 
-/// The same of a text that is read as a whole before any of it is loaded.
+/// Loads a text that is parsed as a whole before any of it is loaded. Errors are those of `load_text`.
 fn load_tree<P: LoadProgress>(
     alloc: Global,
     clients: u8,
@@ -58,7 +60,7 @@ fn load_tree<P: LoadProgress>(
     }
 }
 
-/// The same of a text of version 1, each call of which is loaded as its line is read.
+/// Loads a text of version 1. Each call is loaded as its line is read. Errors are those of `load_text`.
 fn load_calls<P: LoadProgress>(
     alloc: Global,
     clients: u8,
@@ -83,8 +85,7 @@ fn load_calls<P: LoadProgress>(
     }
 }
 
-/// Loads each of these calls in turn behind those that are loaded, and tells so. The number with a refusal is that of the line at
-/// fault, as `load_text` has it.
+/// Loads these calls in order after those that are loaded, and reports the progress. Errors are those of `load_text`.
 pub(crate) fn put_calls<P: LoadProgress>(
     alloc: Global,
     text: &[u8],
@@ -103,7 +104,7 @@ pub(crate) fn put_calls<P: LoadProgress>(
     Ok(())
 }
 
-/// How many calls are to be loaded, where anyone is told.
+/// Counts the calls to be loaded, if anyone sees the progress.
 fn counted<P: LoadProgress>(calls: &SessionCalls<'_>, told: &P) -> Option<usize> {
     if told.is_told() {
         Some(calls.count())
@@ -112,14 +113,14 @@ fn counted<P: LoadProgress>(calls: &SessionCalls<'_>, told: &P) -> Option<usize>
     }
 }
 
-/// Tells how many calls are loaded, of so many where that is counted.
+/// Tells how many calls are loaded, if the number of all calls is known.
 fn tell<P: LoadProgress>(told: &P, row: &CallsInARow, all: Option<usize>) {
     if let Some(all) = all {
         told.loaded(row.len(), all);
     }
 }
 
-/// Loads the next call, and tells whether there was one.
+/// Loads the next call, and returns whether there was one.
 #[inline(always)]
 fn put_next(
     alloc: Global,
@@ -143,7 +144,7 @@ fn put_next(
     }
 }
 
-/// The fault of a text of which a call is refused, before these others: a line of theirs that does not read comes first.
+/// Returns the first fault of a text with a refused call. A parse error in the lines `others` comes before the refusal.
 fn first_fault(
     alloc: Global,
     text: &[u8],
@@ -158,8 +159,8 @@ fn first_fault(
     }
 }
 
-/// The fault at the number of a moment, a branch or a cursor, counted in one row from 0, at the number of its line. Want of
-/// memory is no line's fault, nor are too many clients.
+/// Converts the number of an item to the number of its line. Moments, branches and cursors are counted together from 0.
+/// `OutOfMemory` and `TooManyClients` are at no line, and get 0.
 fn at_line(text: &[u8], fault: (u64, Refusal)) -> (u64, Refusal)
     ensures { result ≡ at_line text.now fault }
 {

@@ -1,3 +1,5 @@
+//! A session: the lines of one client of a shared book, answered over its pass.
+
 ghost use Rattle.std.specs.Prelude.{◌≡◌, ◌<◌, ◌-◌, ◌^◌, is_ok, OnOk};
 ghost use Rattle.std.specs.Io.KnownBytes.{IsAtEnd};
 ghost use Rattle.zt_console.specs.Run.{HasTalked, IsCause, outcome};
@@ -16,7 +18,7 @@ use zt_rows::{Answer, Command, Refusal};
 use zt_shared::account::Naming;
 use zt_shared::{Beginning, Gate, Pass, Shared};
 
-/// A client of a shared book: its pass, and what is called around its commands.
+/// Answers the commands of one client of a shared book: its pass, with the shared book and the gate.
 pub(crate) struct PassResponder<
     'a,
     R: Wait,
@@ -86,7 +88,7 @@ impl<'a, R: Wait, A: Naming + Beginning, B: Naming, C: Naming, D: Naming, G: Gat
     }
 }
 
-/// The number of the command behind so many rows.
+/// Returns one more than this number of rows.
 fn next_number(rows: usize) -> u32 {
     match u32::try_from(rows) {
         Ok(count) => count.saturating_add(1),
@@ -94,10 +96,13 @@ fn next_number(rows: usize) -> u32 {
     }
 }
 
-/// Answers the lines of the reader, as the pass's client of the shared book, until its end or the first failure. Where it
-/// is stopped, a command that was answered before stands, whether or not its answer could be written. It waits for the
-/// book's lock and for the gate, which is called ahead of each command and when it is answered or refused, outside the
-/// lock. It hears each line with its answer, commands or not.
+/// Answers the reader's lines, as the pass's client of the shared book, until the input ends or something fails.
+///
+/// It waits for the book's lock and for the gate. The gate is called outside the lock: before each command, and after it is
+/// answered or refused. The gate also hears each line with its answer, whether or not the line is a command.
+///
+/// The returned `End` is `Stopped` with `ReadFault`, `WriteFault` or `OutOfMemory` after a failure. A command that was answered
+/// before stands, even if its answer was not written.
 pub fn session<
     R: Wait,
     I: Read,

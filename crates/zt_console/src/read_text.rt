@@ -1,3 +1,5 @@
+//! Loads a session text of version 1 as it is read, without the whole text in memory.
+
 ghost use Rattle.std.specs.Prelude.{◌≡◌, ◌≤◌, ◌++◌, [], true, length, take, IfSome};
 ghost use Rattle.zt_console.specs.LoadedText.{IsLoadedOfRead};
 ghost use Rattle.zt_console.specs.ProofsOnly.Run.{IsRead};
@@ -14,16 +16,17 @@ use zt_text::laws::calls_one_by_one_are_those_of_the_text;
 /// The first line of a text of version 1.
 const FIRST: &[u8; 7] = b"zxtt 1\n";
 
-/// The most bytes of one read.
+/// A read takes at most this many bytes.
 const CHUNK: usize = 65_536;
 
-/// The most reads of one text.
+/// A text is read in at most this many reads: 2^40.
 const READS: u64 = 1_099_511_627_776;
 
-/// The book of so many clients over a session text of version 1 that the reader gives to its end. Each call is loaded as its
-/// line is read, and the text is never in memory as a whole. There is no book where anything stands in the way: a text of
-/// another version, a line that does not read, a call that is refused, a read that fails, too many clients or want of memory.
-/// What the reader gave is gone then: who wants to know the fault reads the text again, and gives it to `load_text`.
+/// Reads a session text of version 1 to its end, and loads it into a book with this many clients. Each call is loaded as its line
+/// is read, and the text is never in memory as a whole.
+///
+/// Returns `None` after any failure: another version, a parse error, a refused call, a failed read, too many clients, or a failed
+/// allocation. The bytes that were read are lost then. To find the fault, read the text again, and give it to `load_text`.
 pub fn load_read<R: Read>(alloc: Global, clients: u8, reader: &mut R) -> Option<Book>
     ensures loaded { IfSome result (IsLoadedOfRead clients (R.remaining reader.old) (R.remaining reader.new)) }
     ensures clients { IfSome result (λ book. length book.session.clients ≡ clients) }
@@ -41,7 +44,7 @@ pub fn load_read<R: Read>(alloc: Global, clients: u8, reader: &mut R) -> Option<
     }
 }
 
-/// All calls of the text that the reader gives, loaded.
+/// Loads all calls of the text that the reader gives.
 fn read_row<R: Read>(alloc: Global, reader: &mut R) -> Option<CallsInARow>
     ensures { IfSome result (IsRowRead (R.remaining reader.old) (R.remaining reader.new)) }
 {
@@ -69,7 +72,7 @@ fn read_row<R: Read>(alloc: Global, reader: &mut R) -> Option<CallsInARow>
     None
 }
 
-/// What is read into, at most so much at once.
+/// Allocates the buffer for reads.
 fn buffer(alloc: Global) -> Option<Vec<u8>>
     ensures { IfSome result (λ chunk. length chunk.items ≡ 65536) }
 {
@@ -79,7 +82,8 @@ fn buffer(alloc: Global) -> Option<Vec<u8>>
     }
 }
 
-/// Reads into the front of the buffer, and tells how many bytes; none at the end alone. Nothing, where the read fails.
+/// Reads into the front of the buffer, and returns how many bytes were read. It is 0 only at the end of the input. Returns `None`
+/// if the read fails.
 fn read_some<R: Read>(reader: &mut R, chunk: &mut Vec<u8>) -> Option<usize>
     requires { length chunk.old.items ≡ 65536 }
     ensures room { length chunk.new.items ≡ 65536 }
@@ -91,7 +95,7 @@ fn read_some<R: Read>(reader: &mut R, chunk: &mut Vec<u8>) -> Option<usize>
     }
 }
 
-/// Reads the first bytes of a text of version 1, and takes what stands behind its first line.
+/// Reads the first bytes of a text of version 1, and takes those after its first line.
 fn read_first<R: Read>(
     alloc: Global,
     reader: &mut R,
@@ -115,7 +119,7 @@ fn read_first<R: Read>(
     take_bytes(alloc, row, part, left)
 }
 
-/// What stands behind the first line of a text of version 1, where that is read whole.
+/// Returns the bytes after the first line of a text of version 1, or `None` if the bytes begin with another line.
 fn behind_first(bytes: &[u8]) -> Option<&[u8]>
     ensures { IfSome result (λ left. bytes.now ≡ with_first left.now) }
 {
@@ -130,7 +134,7 @@ fn behind_first(bytes: &[u8]) -> Option<&[u8]>
     }
 }
 
-/// The calls, where those of the last line are loaded, too, which no line feed ends.
+/// Loads the last line, which has no line feed, and returns all calls.
 fn ended(alloc: Global, row: CallsInARow, part: &Vec<u8>) -> Option<CallsInARow>
     ensures { IfSome result (AreLoaded part.now.items row) }
 {
@@ -142,7 +146,7 @@ fn ended(alloc: Global, row: CallsInARow, part: &Vec<u8>) -> Option<CallsInARow>
     }
 }
 
-/// Takes so many bytes that were read.
+/// Takes this many bytes of the buffer.
 fn take_read(
     alloc: Global,
     row: &mut CallsInARow,
@@ -157,7 +161,8 @@ fn take_read(
     take_bytes(alloc, row, part, bytes)
 }
 
-/// Takes more bytes of the text, of whose last line this part is read. The calls of each line that ends there are loaded.
+/// Takes more bytes of the text; `part` has the earlier bytes of the same line. Loads the calls of each line that ends in these
+/// bytes.
 fn take_bytes(alloc: Global, row: &mut CallsInARow, part: &mut Vec<u8>, bytes: &[u8]) -> bool
     ensures { result ≡ true → AreTaken (part.old.items ++ bytes.now) row.old row.new part.new.items }
 {
@@ -171,7 +176,7 @@ fn take_bytes(alloc: Global, row: &mut CallsInARow, part: &mut Vec<u8>, bytes: &
     go_on(part, rest)
 }
 
-/// Keeps more bytes of a line.
+/// Appends bytes to a part of a line.
 fn go_on(part: &mut Vec<u8>, bytes: &[u8]) -> bool
     ensures { result ≡ true → part.new.items ≡ part.old.items ++ bytes.now }
 {
@@ -181,7 +186,7 @@ fn go_on(part: &mut Vec<u8>, bytes: &[u8]) -> bool
     }
 }
 
-/// Takes lines that end here, of the first of which this part is read already.
+/// Loads lines that end here; `part` has the earlier bytes of the first of them.
 fn take_lines(alloc: Global, row: &mut CallsInARow, part: &mut Vec<u8>, lines: &[u8]) -> bool
     ensures { result ≡ true → AreLoaded (part.old.items ++ lines.now) row.old row.new }
 {
@@ -197,7 +202,7 @@ fn take_lines(alloc: Global, row: &mut CallsInARow, part: &mut Vec<u8>, lines: &
     put_lines(alloc, row, others)
 }
 
-/// The bytes up to the last line feed, and those behind it.
+/// Splits the bytes after the last line feed.
 fn whole_lines(bytes: &[u8]) -> Option<(&[u8], &[u8])>
     ensures { IfSome result (λ parts. AreWhole bytes.now parts.0.now parts.1.now) }
 {
@@ -209,7 +214,7 @@ fn whole_lines(bytes: &[u8]) -> Option<(&[u8], &[u8])>
     None
 }
 
-/// The bytes up to the first line feed, and those behind it.
+/// Splits the bytes after the first line feed.
 fn whole_line(bytes: &[u8]) -> Option<(&[u8], &[u8])>
     ensures { IfSome result (λ parts. AreWhole bytes.now parts.0.now parts.1.now) }
 {
@@ -221,7 +226,7 @@ fn whole_line(bytes: &[u8]) -> Option<(&[u8], &[u8])>
     None
 }
 
-/// Loads the calls of these lines, and tells whether each was.
+/// Loads the calls of these lines, and returns whether all were loaded.
 fn put_lines(alloc: Global, row: &mut CallsInARow, lines: &[u8]) -> bool
     ensures { result ≡ true → AreLoaded lines.now row.old row.new }
 {

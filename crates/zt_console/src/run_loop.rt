@@ -1,3 +1,5 @@
+//! The loop of a run: reads bytes, answers their lines, and writes the answers.
+
 ghost use Rattle.std.specs.Prelude.{◌≡◌, ◌<◌, ◌-◌, ◌^◌, length, is_ok, None, IfOk, OnOk, OnErr};
 ghost use Rattle.std.specs.Io.KnownBytes.{IsAtEnd};
 ghost use Rattle.zt_console.specs.Run.{HasTalked, IsCause};
@@ -12,22 +14,23 @@ use std::alloc::{AllocError, Global};
 use std::io::{Read, Write};
 use zt_rows::Refusal;
 
-/// The most reads of one run.
+/// A run reads at most this many times: 2^40.
 const READS: u64 = 1_099_511_627_776;
 
-/// The most bytes of one read.
+/// A read takes at most this many bytes.
 const CHUNK: usize = 65_536;
 
 /// How a run ended.
 #[derive(Clone, Copy, Debug, PartialEq, Eq)]
 pub enum End {
-    /// The input was read to its end, and each line was answered.
+    /// The whole input was read, and each line was answered.
     Finished,
-    /// A read or a write failed, or memory for a line was refused.
+    /// A read, a write, or an allocation for a line failed.
     Stopped(Refusal),
 }
 
-/// Answers the lines of the reader at the responder, until its end or the first failure. Nothing is pinned at first.
+/// Answers the reader's lines by the responder until the input ends or something fails. Nothing is pinned at first. Fails with
+/// `ReadFault`, `WriteFault` or `OutOfMemory`.
 pub(crate) fn answer_all<D: Responder, R: Read, W: Write>(
     alloc: Global,
     responder: D,
@@ -54,7 +57,7 @@ pub(crate) fn answer_all<D: Responder, R: Read, W: Write>(
     (responder, outcome)
 }
 
-/// Answers the lines of the reader until its end or the first failure.
+/// Answers the reader's lines until the input ends or something fails.
 fn answer_chunks<D: Responder, R: Read, W: Write>(
     alloc: Global,
     client: &mut Conversation<D>,
@@ -91,14 +94,14 @@ fn answer_chunks<D: Responder, R: Read, W: Write>(
     Err(Refusal::ReadFault)
 }
 
-/// So many bytes to be read into.
+/// Allocates a buffer of this many bytes, all 0.
 fn buffer(alloc: Global, size: usize) -> Result<Vec<u8>, AllocError>
     ensures { IfOk result (λ bytes. length bytes.items ≡ size) }
 {
     vec![in alloc; 0u8; size]
 }
 
-/// Reads into the front of the buffer, and tells how many bytes; none at the end of the input alone.
+/// Reads into the front of the buffer, and returns how many bytes were read. It is 0 only at the end of the input.
 fn read_some<R: Read>(reader: &mut Counted<R>, bytes: &mut Vec<u8>) -> Result<usize, Refusal>
     requires { reader.old.1 < 2 ^ 64 - 1 }
     ensures room { length bytes.new.items ≡ length bytes.old.items }

@@ -1,3 +1,5 @@
+//! The session texts of a book.
+
 ghost use Rattle.std.specs.Prelude.{◌≡◌, ◌++◌, [], ◌∷◌, IfOk, IfErr, OnOk, map, string_bytes};
 ghost use Rattle.zt_history.specs.Tree.{head_at};
 ghost use Rattle.std.specs.List.{filter_map, flat_map};
@@ -14,7 +16,8 @@ use zt_history::{BranchId, History, push_call};
 use zt_rows::{Call, Koid, Moment, Refusal};
 use zt_text::{print_session, put_moment, put_places};
 
-/// The session text of the path to the head of `main`, the first branch. It loads as that path again.
+/// Returns the session text, of version 1, of the path to the head of `main`. It loads as that path again. Its only error is
+/// `OutOfMemory`.
 #[tactic(auto, using(crate::proofs::SaveLaws::main_there, crate::proofs::SaveLaws::memory_alone))]
 pub fn main_text(alloc: Global, book: &Book) -> Result<Vec<u8>, Refusal>
     ensures ok { IfOk result (λ text. text.items ≡ session_text (calls_to book.now.session.tree.made (head_at book.now.session.tree.branches 0))) }
@@ -26,8 +29,8 @@ pub fn main_text(alloc: Global, book: &Book) -> Result<Vec<u8>, Refusal>
     path_text(alloc, history, head)
 }
 
-/// The session text of the whole tree, of version 2, with its branches and where each client stands. It loads as that tree
-/// again, with the clients where they stand; what they pinned and were answered is no part of it.
+/// Returns the session text, of version 2, of the whole tree with its branches and the clients' positions. It loads as that tree
+/// again, with the clients where they stand. It leaves out what they pinned and were answered. Its only error is `OutOfMemory`.
 #[tactic(auto, unfolding(zt_text::specs::SavedTexts::saved_text))]
 pub fn tree_text(alloc: Global, book: &Book) -> Result<Vec<u8>, Refusal>
     ensures ok { IfOk result (λ text. text.items ≡ saved_text (saved_of_session book.now.session)) }
@@ -47,7 +50,7 @@ pub fn tree_text(alloc: Global, book: &Book) -> Result<Vec<u8>, Refusal>
     Ok(text)
 }
 
-/// A line for each moment after the opening.
+/// Appends a line for each moment after the opening.
 fn put_moments(text: &mut String, history: &History) -> Result<(), AllocError>
     ensures { OnOk result (string_bytes text.new ≡ string_bytes text.old ++ flat_map saved_call_line (map saved_call history.now.tree.made)) }
 {
@@ -58,7 +61,7 @@ fn put_moments(text: &mut String, history: &History) -> Result<(), AllocError>
     Ok(())
 }
 
-/// The line of a moment: nothing for the opening, nor beyond the last moment.
+/// Appends the line of a moment. Appends nothing for the opening and beyond the last moment.
 fn put_line(text: &mut String, history: &History, moment: Moment) -> Result<(), AllocError>
     ensures { OnOk result (string_bytes text.new ≡ string_bytes text.old ++ flat_map saved_call_line (filter_map (saved_at history.now.tree.made) (moment ∷ []))) }
 {
@@ -69,7 +72,7 @@ fn put_line(text: &mut String, history: &History, moment: Moment) -> Result<(), 
     }
 }
 
-/// The session text of the path to a moment, which loads as that path again.
+/// Returns the session text of the path to a moment. It loads as that path again.
 fn path_text(alloc: Global, history: &History, moment: Moment) -> Result<Vec<u8>, Refusal>
     ensures ok { IfOk result (λ text. text.items ≡ session_text (calls_to history.now.tree.made moment)) }
     ensures refused { IfErr result (IsHistoryRefusal (moment_on history.now.tree moment)) }
@@ -79,7 +82,7 @@ fn path_text(alloc: Global, history: &History, moment: Moment) -> Result<Vec<u8>
     Ok(print_session(alloc, calls.as_slice())?)
 }
 
-/// Equal calls of these moments, each with its process.
+/// Copies the calls of these moments, each with its process.
 fn calls_on(
     alloc: Global,
     history: &History,

@@ -1,4 +1,4 @@
-//! A reader of what a person types, of which some lines ask the reader itself.
+//! A reader of typed lines that answers some of them itself.
 
 ghost use Rattle.std.specs.Prelude.{◌≡◌, ◌<◌, ◌≤◌, ◌∷◌, [], true, false, not, length, take, Ok, None, IfOk, MatchResult};
 ghost use Rattle.std.specs.List.{cons_option};
@@ -10,38 +10,38 @@ use std::io;
 use std::io::Read;
 use std::marker::Model;
 
-/// What a person may ask of who reads the lines, each by a line of its own.
+/// What a person can ask of the reader itself, each by a line of its own.
 #[derive(Clone, Copy)]
 pub enum Aside {
-    /// What may be typed.
+    /// What can be typed.
     Help,
     /// Where the client stands.
     Where,
-    /// That nothing more is read.
+    /// To end the input.
     Quit,
 }
 
-/// Who sits beside a person who types.
+/// Sits beside a person who types, and answers what is asked of the reader.
 pub trait Host {
-    /// A line is to be typed, or the rest of one.
+    /// A line, or the rest of one, is about to be typed.
     fn before_read(&self, is_within: bool);
 
-    /// This is asked, and answered here.
+    /// Answers an aside.
     fn answer(&self, asked: Aside);
 
-    /// Nothing more is typed.
+    /// Nothing more will be typed.
     fn end(&self);
 }
 
-/// A reader that gives each line as it was typed, but for those that ask the reader itself: at `quit` its input ends, and for
-/// `help` and `where`, which its host answers, it gives an empty line.
+/// A reader that passes each line on as it was typed, except for asides. At `quit` its input ends. Its host answers `help` and
+/// `where`, and the reader passes on an empty line in their place.
 #[derive(Drop)]
 pub struct Typed<'a, R, H> {
     inner: R,
     host: &'a H,
-    /// Whether what was read last ends within a line.
+    /// Whether the last read ended within a line.
     is_within: bool,
-    /// Whether nothing is read any more.
+    /// Whether the input has ended.
     has_ended: bool,
 }
 
@@ -53,7 +53,7 @@ impl<'a, R, H> Model for Typed<'a, R, H> {
     ghost view = { λ t. (t.inner, t.is_within, t.has_ended) };
 }
 
-/// A part of a line that was read, up to its line feed where it has one, into the front of a buffer.
+/// A part of a line that was read into the front of a buffer. It ends at the line feed if it has one.
 #[derive(Clone, Copy)]
 struct Piece {
     count: usize,
@@ -62,7 +62,7 @@ struct Piece {
 }
 
 impl<'a, R, H> Typed<'a, R, H> {
-    /// The reader, at the beginning of a line.
+    /// Wraps a reader that stands at the beginning of a line.
     pub fn new(inner: R, host: &'a H) -> Typed<'a, R, H>
         ensures { result ≡ (inner, false, false) }
     {
@@ -76,7 +76,7 @@ impl<'a, R, H> Typed<'a, R, H> {
 }
 
 impl<'a, R: Read, H: Host> Typed<'a, R, H> {
-    /// What is given of a piece that was read into the front of the buffer, in its place.
+    /// Replaces the piece in the front of the buffer by what is passed on for it, and returns the number of bytes.
     #[tactic(auto, using(crate::proofs::TypedLaws::given_plain))]
     fn give(&mut self, piece: Piece, buf: &mut [u8]) -> usize
         requires { piece.count ≤ length buf.old }
@@ -129,7 +129,8 @@ impl<R: Read, H: Host> Read for Typed<'_, R, H> {
     }
 }
 
-/// Reads a line up to its line feed, or as much of it as there is room for, or as is typed before the input ends or cannot be read on.
+/// Reads a line up to its line feed. It stops earlier if the buffer is full, the input ends, or a later byte cannot be read.
+/// Fails if the first byte cannot be read.
 fn read_piece<R: Read>(inner: &mut R, buf: &mut [u8]) -> io::Result<Piece>
     ensures same { length buf.new ≡ length buf.old }
     ensures room { IfOk result (λ piece. piece.count ≤ length buf.new) }
@@ -151,7 +152,7 @@ fn read_piece<R: Read>(inner: &mut R, buf: &mut [u8]) -> io::Result<Piece>
     Ok(cut(buf.len(), false))
 }
 
-/// A piece of so many bytes that ends in a line feed.
+/// A piece of this many bytes that ends in a line feed.
 fn whole(count: usize) -> Piece
     ensures { (result.count ≡ count) × (result.ends_line ≡ true) }
 {
@@ -162,7 +163,7 @@ fn whole(count: usize) -> Piece
     }
 }
 
-/// A piece of so many bytes that has none.
+/// A piece of this many bytes without a line feed.
 fn cut(count: usize, is_last: bool) -> Piece
     ensures { (result.count ≡ count) × (result.ends_line ≡ false) }
 {
@@ -173,7 +174,7 @@ fn cut(count: usize, is_last: bool) -> Piece
     }
 }
 
-/// Reads the next byte, if there is one.
+/// Reads the next byte; `None` at the end of the input.
 fn read_byte<R: Read>(inner: &mut R) -> io::Result<Option<u8>>
     ensures { MatchResult result (λ byte. Consumes (R.remaining inner.old) (R.remaining inner.new) (cons_option byte [])) (λ _. Keeps (R.remaining inner.old) (R.remaining inner.new)) }
 {
@@ -186,14 +187,14 @@ fn read_byte<R: Read>(inner: &mut R) -> io::Result<Option<u8>>
     }
 }
 
-/// What this piece asks of the reader itself, which a part of a line does not.
+/// Returns what this piece asks of the reader itself; a piece that begins within a line asks nothing.
 fn asked_within(is_within: bool, piece: &[u8]) -> Option<Aside>
     ensures { IsAskedWithin is_within piece.now result }
 {
     if is_within { None } else { asked_by(piece) }
 }
 
-/// What this line asks of the reader itself, if it does.
+/// Returns what this line asks of the reader itself, if it is an aside.
 fn asked_by(line: &[u8]) -> Option<Aside>
     ensures { IsAskedBy line.now result }
 {
@@ -208,7 +209,7 @@ fn asked_by(line: &[u8]) -> Option<Aside>
     }
 }
 
-/// An empty line in the front of the buffer, with its length.
+/// Puts an empty line into the front of the buffer, and returns its length.
 fn put_empty_line(buf: &mut [u8]) -> usize
     requires { 0 < length buf.old }
     ensures line { take result buf.new ≡ 10 ∷ [] }

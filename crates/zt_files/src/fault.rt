@@ -1,19 +1,21 @@
+//! Why a file was not read or written.
+
 use std::alloc::Global;
 use std::io;
 use zt_rows::Refusal;
 
-/// Why a file is not read or written.
+/// Why a file was not read or written.
 #[derive(Debug, Drop)]
 pub enum FileFault {
     /// The file could not be opened.
     Unopened { path: String, error: io::Error },
-    /// A write failed in the midst of a file. The whole text lies in the file `part`.
+    /// Overwriting the file failed. The whole text is in the file `part`.
     Unwritten { part: String },
-    /// A read or a write failed, or memory was refused.
+    /// A read, a write or an allocation failed.
     Refused(Refusal),
 }
 
-/// The file of this path could not be opened.
+/// Makes the error for a file that could not be opened. If an allocation fails, it is `Refused` with `OutOfMemory`.
 pub(crate) fn unopened(alloc: Global, path: &str, error: io::Error) -> FileFault {
     match String::from_str(alloc, path) {
         Ok(path) => FileFault::Unopened { path, error },

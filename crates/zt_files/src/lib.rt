@@ -1,5 +1,4 @@
-//! Files of the programs: read whole or in turn, and written whole or left as they were, or told ahead as what cannot be written; and
-//! how far the loading of one is.
+//! Reads and writes the files of the three programs, and shows the progress of loading one.
 #![tactic(auto)]
 
 mod fault;

@@ -1,30 +1,30 @@
-//! How far the loading of a long session text is, told to a person at a terminal.
+//! Shows a person at a terminal how much of a long session text is loaded.
 
 use std::cell::Cell;
 use std::io::IsTerminal;
 use zt_book::LoadProgress;
 
-/// Of a session text with fewer calls nothing is said.
+/// Progress is shown only for a session text with at least this many calls.
 const LONG: usize = 65_536;
 
-/// How many calls are loaded from one time that it is said to the next.
+/// How many calls are loaded between two updates.
 const STEP: usize = 16_384;
 
-/// Says on standard error how many calls of a long session text are loaded, where that is a terminal: on one line, over what it
-/// said before, and wiped in the end.
+/// Shows on standard error how many calls of a long session text are loaded, if standard error is a terminal. It uses one line,
+/// overwrites it, and erases it at the end.
 #[derive(Drop)]
 pub struct Progress<'a> {
     rt: &'a HostRuntime,
-    /// The program that says it.
+    /// The name of the program, at the beginning of the line.
     program: &'a str,
     /// Whether standard error is a terminal.
     is_shown: bool,
-    /// Whether the line has anything to be wiped.
+    /// Whether the line has text to erase.
     is_said: Cell<bool>,
 }
 
 impl<'a> Progress<'a> {
-    /// Nothing is loaded yet.
+    /// Progress before anything is loaded.
     pub fn new(rt: &'a HostRuntime, program: &'a str) -> Progress<'a> {
         Progress {
             rt,
@@ -34,7 +34,7 @@ impl<'a> Progress<'a> {
         }
     }
 
-    /// Wipes what stands on the line.
+    /// Erases the line.
     pub fn wipe(&self) {
         if self.is_said.get() {
             self.is_said.set(false);
@@ -56,7 +56,7 @@ impl LoadProgress for Progress<'_> {
     }
 }
 
-/// A line as long as the longest that is said, of spaces, and back to its beginning.
+/// Spaces over the longest text that is shown, between two carriage returns.
 fn blank() -> &'static str {
     "\r                                   \r"
 }

@@ -1,3 +1,5 @@
+//! Reads files.
+
 use crate::fault::{FileFault, unopened};
 use std::alloc::Global;
 use std::fs::File;
@@ -5,7 +7,7 @@ use std::io::{Read, Seek};
 use std::{fs, io};
 use zt_rows::Refusal;
 
-/// Opens a file to be read.
+/// Opens a file for reading. Fails with `Unopened`, or with `Refused` and `OutOfMemory`.
 pub fn open(rt: &HostRuntime, path: &str) -> Result<File, FileFault> {
     match fs::open(rt, path) {
         Ok(file) => Ok(file),
@@ -13,7 +15,7 @@ pub fn open(rt: &HostRuntime, path: &str) -> Result<File, FileFault> {
     }
 }
 
-/// Whether this is a file that can be read again from its beginning, and no pipe, device or directory.
+/// Whether this is a regular file, which can be read again from its beginning, and not a pipe, device or directory.
 pub fn is_regular(file: &File) -> bool {
     match file.metadata() {
         Ok(metadata) => metadata.is_file(),
@@ -21,7 +23,7 @@ pub fn is_regular(file: &File) -> bool {
     }
 }
 
-/// Goes back to the beginning of a file, to read it again.
+/// Goes back to the beginning of a file. Fails with `Refused` and `ReadFault`.
 pub fn rewind(file: &mut File) -> Result<(), FileFault> {
     match file.rewind() {
         Ok(()) => Ok(()),
@@ -29,13 +31,13 @@ pub fn rewind(file: &mut File) -> Result<(), FileFault> {
     }
 }
 
-/// All bytes of a file.
+/// Reads all bytes of a file. Errors are those of `open` and `read_rest`.
 pub fn read_whole(rt: &HostRuntime, path: &str) -> Result<Vec<u8>, FileFault> {
     let mut file = open(rt, path)?;
     read_rest(rt.alloc(), &mut file)
 }
 
-/// All bytes of a file, or of standard input, that are not read yet.
+/// Reads all bytes that are left of a file or of standard input. Fails with `Refused` and `ReadFault` or `OutOfMemory`.
 pub fn read_rest<R: Read>(alloc: Global, reader: &mut R) -> Result<Vec<u8>, FileFault> {
     let mut bytes = Vec::new(alloc);
     match reader.read_to_end(&mut bytes) {

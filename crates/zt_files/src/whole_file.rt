@@ -1,4 +1,4 @@
-//! A file that is written whole, or stays as it was.
+//! Writes a file as a whole: replaces it at once where the system allows that, and overwrites it otherwise.
 
 use crate::fault::{FileFault, unopened};
 use std::alloc::{AllocError, Global};
@@ -7,24 +7,25 @@ use std::io::Write;
 use std::{fs, io, process};
 use zt_rows::Refusal;
 
-/// What stands behind a file's name in the name of its part, ahead of the process's number and the part's own.
+/// The part's name is the file's name, this, the process id, and the part's number.
 const PART: &str = ".zxtt-part";
 
-/// The parts of one process for one file that are looked past before the file itself is written through.
+/// How many names of parts are tried before the file itself is overwritten.
 const MOST_PARTS: u32 = 1000;
 
 /// Writes the text to a file.
 ///
-/// A file, or what is none yet, is first written to a part: a new file beside it that nobody else has. The part is synced and then
-/// renamed to the path, with the permissions of the file that stood there; until then that file stands as it was. Where no part can be
-/// made, as in a folder that may not be written, or it cannot be renamed, as over a mount point, the file itself is emptied and
-/// written through. So is what is no file, as a pipe or a device.
+/// If the path is a regular file or does not exist, the text is first written to a part: a new file beside it. Nobody else has
+/// this file. The part gets the old file's permissions, is synced, and is renamed to the path. Until then the old file is
+/// unchanged. If no part can be made, as in a read-only folder, the file itself is truncated and overwritten. It is also
+/// overwritten if the part cannot be renamed, as over a mount point. Anything that is not a regular file, such as a pipe or a
+/// device, is written to directly.
 ///
 /// # Errors
 ///
-/// `Unopened` where the file could not be opened to be written, and `Refused` with `WriteFault` or `OutOfMemory`: what stood there
-/// stands there, unless it had to be written through. `Unwritten` where writing through failed behind a part that is whole, which then
-/// stays.
+/// `Unopened` if the file cannot be opened for writing. `Refused` with `WriteFault` or `OutOfMemory` if a write or an allocation
+/// fails. After both, the old file is unchanged unless it had to be overwritten. `Unwritten` if overwriting failed after a part
+/// could not be renamed. The part has the whole text, and stays.
 pub fn write_whole(rt: &HostRuntime, path: &str, text: &[u8]) -> Result<(), FileFault> {
     match place_of(rt, path)? {
         Some(place) => replace(rt, path, place.as_str(), text),
@@ -32,7 +33,8 @@ pub fn write_whole(rt: &HostRuntime, path: &str, text: &[u8]) -> Result<(), File
     }
 }
 
-/// The path of the file behind all links, or this path where nothing stands there; nothing for what is no file, or for no name.
+/// Returns the path of a regular file behind all links, or this path if nothing is there. Returns `None` for anything else and
+/// for an empty path.
 fn place_of(rt: &HostRuntime, path: &str) -> Result<Option<String>, FileFault> {
     match fs::canonicalize(rt, path) {
         Ok(place) => {
@@ -69,7 +71,7 @@ fn owned(alloc: Global, path: &str) -> Result<Option<String>, FileFault> {
     }
 }
 
-/// Writes the text to a part of the file of this place, and puts that there.
+/// Writes the text to a part beside the file, and renames the part to the file.
 fn replace(rt: &HostRuntime, path: &str, place: &str, text: &[u8]) -> Result<(), FileFault> {
     let old = match old_permissions(rt, place) {
         Ok(old) => old,
@@ -89,7 +91,7 @@ fn replace(rt: &HostRuntime, path: &str, place: &str, text: &[u8]) -> Result<(),
     Ok(())
 }
 
-/// The permissions of the file that stands there, which may be written; nothing, where none stands there.
+/// Returns the permissions of the old file, or `None` if there is none. Fails if the old file cannot be opened for writing.
 fn old_permissions(rt: &HostRuntime, place: &str) -> io::Result<Option<Permissions>> {
     match File::options().write(true).open(rt, place) {
         Ok(file) => Ok(Some(file.metadata()?.permissions())),
@@ -98,7 +100,7 @@ fn old_permissions(rt: &HostRuntime, place: &str) -> io::Result<Option<Permissio
     }
 }
 
-/// A new file beside that of this place, with its path: the first of this process's names that nothing has. Nothing, where none can
+/// Makes a new file beside this one, and returns its path. It takes this process's first free name. Returns `None` if no part can
 /// be made.
 fn new_part(rt: &HostRuntime, place: &str) -> Result<Option<(String, File)>, FileFault> {
     let process = process::id(rt.process());
@@ -115,12 +117,12 @@ fn new_part(rt: &HostRuntime, place: &str) -> Result<Option<(String, File)>, Fil
     Ok(None)
 }
 
-/// The path of a part.
+/// Returns the path of a part.
 fn part_of(alloc: Global, place: &str, process: u32, number: u32) -> Result<String, AllocError> {
     format!(in alloc; "{place}{PART}-{process}-{number}")
 }
 
-/// Writes the text to a new file, and waits until it is kept.
+/// Writes the text to a new file, and syncs it.
 fn fill(file: File, permissions: Option<Permissions>, text: &[u8]) -> io::Result<()> {
     let mut file = file;
     if let Some(permissions) = permissions {
@@ -130,7 +132,7 @@ fn fill(file: File, permissions: Option<Permissions>, text: &[u8]) -> io::Result
     file.sync_all()
 }
 
-/// Writes the text to what stands there, behind a part that has it whole and could not be renamed. The part goes once that is done.
+/// Overwrites the file after its part could not be renamed. If that succeeds, the part is removed.
 fn write_behind(rt: &HostRuntime, path: &str, part: String, text: &[u8]) -> Result<(), FileFault> {
     if write_through(rt, path, text).is_err() {
         return Err(FileFault::Unwritten { part });
@@ -139,14 +141,15 @@ fn write_behind(rt: &HostRuntime, path: &str, part: String, text: &[u8]) -> Resu
     Ok(())
 }
 
-/// Waits until the folder of a file keeps its name. A folder that cannot be read or synced is left: the file is in its place.
+/// Syncs the folder of a file, so that the new name lasts. A folder that cannot be read or synced is ignored: the file is in
+/// place.
 fn sync_folder(rt: &HostRuntime, place: &str) {
     if let Ok(folder) = File::open(rt, folder_of(place)) {
         let _ = folder.sync_all();
     }
 }
 
-/// The folder in which the file of this path stands.
+/// Returns the folder of the file at this path.
 pub(crate) fn folder_of(path: &str) -> &str {
     match path.rsplit_once('/') {
         Some(("", _)) => "/",
@@ -155,7 +158,7 @@ pub(crate) fn folder_of(path: &str) -> &str {
     }
 }
 
-/// Writes the text to what stands there, and waits until it is kept where that is a file.
+/// Overwrites the file, and syncs it if it is a regular file.
 fn write_through(rt: &HostRuntime, path: &str, text: &[u8]) -> Result<(), FileFault> {
     let file = match fs::create(rt, path) {
         Ok(file) => file,
@@ -167,7 +170,7 @@ fn write_through(rt: &HostRuntime, path: &str, text: &[u8]) -> Result<(), FileFa
     }
 }
 
-/// Writes the text to a file that is open, and waits until it is kept; what is no file keeps nothing.
+/// Writes the text to an open file, and syncs it if it is a regular file.
 fn flow(file: File, text: &[u8]) -> io::Result<()> {
     let mut file = file;
     file.write_all(text)?;

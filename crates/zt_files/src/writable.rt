@@ -1,4 +1,4 @@
-//! Whether a file could be written, told before there is anything to write.
+//! Checks whether a file could be written, before there is anything to write.
 
 use crate::fault::{FileFault, unopened};
 use crate::whole_file::folder_of;
@@ -6,18 +6,18 @@ use std::fs::{File, Metadata};
 use std::os::unix::fs::MetadataExt;
 use std::{fs, io};
 
-/// What the system says where a file may not be made.
+/// The system's error `EACCES`: permission denied.
 const DENIED: i32 = 13;
 
-/// Tells ahead that `write_whole` could not open this file, as far as that shows without trying.
+/// Reports that `write_whole` could not open this file, as far as that shows without trying.
 ///
-/// Nothing is made, emptied or waited for. A file that is there is opened to be written, and closed. Where none is there, its folder is
-/// looked at: whether it is there, and whether it is closed to this user by its owner and permissions. What is no file, as a pipe or a
-/// device, is not tried, and neither is a link that leads nowhere.
+/// It makes and truncates nothing, and never waits. A file that exists is opened for writing, and closed. If the file does not
+/// exist, its folder is checked: whether it exists, and whether this user may make a file there. Anything that is not a file or
+/// directory, such as a pipe or a device, is not tried. Neither is a dangling link.
 ///
 /// # Errors
 ///
-/// `Unopened`, as `write_whole` would tell it.
+/// `Unopened`, as `write_whole` would report it, or `Refused` with `OutOfMemory`.
 pub fn look_ahead(rt: &HostRuntime, path: &str) -> Result<(), FileFault> {
     match obstacle(rt, path) {
         Some(error) => Err(unopened(rt.alloc(), path, error)),
@@ -25,7 +25,7 @@ pub fn look_ahead(rt: &HostRuntime, path: &str) -> Result<(), FileFault> {
     }
 }
 
-/// Why the file cannot be opened to be written, if it shows.
+/// Returns why the file cannot be opened for writing, if that shows.
 fn obstacle(rt: &HostRuntime, path: &str) -> Option<io::Error> {
     match fs::metadata(rt, path) {
         Ok(there) if there.is_file() || there.is_dir() => {
@@ -37,7 +37,7 @@ fn obstacle(rt: &HostRuntime, path: &str) -> Option<io::Error> {
     }
 }
 
-/// Why a file that is not there cannot be made, if it shows.
+/// Returns why a missing file cannot be made, if that shows.
 fn missing(rt: &HostRuntime, path: &str, error: io::Error) -> Option<io::Error> {
     if path.is_empty() {
         return Some(error);
@@ -52,8 +52,8 @@ fn missing(rt: &HostRuntime, path: &str, error: io::Error) -> Option<io::Error> 
     }
 }
 
-/// Whether no file can be made in a folder. It tells by the owner and the permissions alone: where the folder's group may write there,
-/// it does not look who is in that.
+/// Whether this user cannot make a file in a folder, by the folder's owner and permissions alone. If the folder's group can write
+/// there, the answer is no: it does not check who is in the group.
 fn is_closed(rt: &HostRuntime, folder: &Metadata) -> bool {
     match fs::metadata(rt, "/proc/self") {
         Ok(process) if process.uid() == 0 => false,

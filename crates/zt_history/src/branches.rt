@@ -1,3 +1,5 @@
+//! The branches of a history: their names and their heads.
+
 ghost use Rattle.std.specs.Prelude.{◌≡◌, ◌<◌, ◌+◌, ◌++◌, ◌∷◌, [], None, IfOk, OnOk, OnErr, IfSome, length};
 ghost use Rattle.zt_history.specs.ProofsOnly.Branches.{without_last};
 ghost use Rattle.zt_history.specs.Tree.{Branch, branch_named, head_at, headed, name_at, opening_tree};
@@ -7,7 +9,7 @@ use std::alloc::{AllocError, Global};
 use std::marker::Model;
 use zt_rows::Moment;
 
-/// The number of a branch, in the order in which branches are made; `main` is 0.
+/// The number of a branch, in the order in which branches are made. `main` is 0.
 #[derive(Clone, Copy, Debug, PartialEq, Eq)]
 pub struct BranchId(pub usize);
 
@@ -38,7 +40,7 @@ impl Model for Branches {
 }
 
 impl Branches {
-    /// The branch `main` at the opening.
+    /// The branch `main`, with its head at the opening.
     pub(crate) fn new(alloc: Global) -> Result<Branches, AllocError>
         ensures { IfOk result (λ branches. branches ≡ opening_tree.branches) }
     {
@@ -48,14 +50,14 @@ impl Branches {
         Ok(Branches { heads })
     }
 
-    /// How many there are.
+    /// How many branches there are.
     pub(crate) fn len(&self) -> usize
         ensures { result ≡ length self.now }
     {
         self.heads.len()
     }
 
-    /// The branch of the name. It takes no memory.
+    /// The branch of the name, or `None`. Never allocates.
     pub(crate) fn find(&self, name: &[u8]) -> Option<BranchId>
         ensures found { result ≡ branch_named self.now name.now }
         ensures within { IfSome result (λ id. id < length self.now) }
@@ -66,7 +68,7 @@ impl Branches {
         }
     }
 
-    /// The head of a branch. It takes no memory.
+    /// The head of a branch. Never allocates.
     pub(crate) fn head(&self, id: BranchId) -> Moment
         requires { id < length self.now }
         ensures { result ≡ head_at self.now id }
@@ -74,7 +76,7 @@ impl Branches {
         self.heads[id.0]
     }
 
-    /// The name of a branch. It takes no memory.
+    /// The name of a branch. Never allocates.
     pub(crate) fn name(&self, id: BranchId) -> &[u8]
         requires { id < length self.now }
         ensures { result.now ≡ name_at self.now id }
@@ -85,7 +87,7 @@ impl Branches {
         }
     }
 
-    /// Moves the head of a branch. It takes no memory.
+    /// Moves the head of a branch. Never allocates.
     pub(crate) fn set_head(&mut self, id: BranchId, head: Moment)
         requires { id < length self.old }
         ensures { self.new ≡ headed self.old id head }
@@ -93,7 +95,7 @@ impl Branches {
         self.heads[id.0] = head;
     }
 
-    /// One more branch, of a name that none has. Where memory is refused nothing changes.
+    /// Adds a branch of a name that none has. If an allocation fails, nothing changes.
     pub(crate) fn add(&mut self, name: &[u8], head: Moment) -> Result<(), AllocError>
         requires { branch_named self.old name.now ≡ None }
         ensures ok { OnOk result (self.new ≡ self.old ++ record { name = name.now; head = head } ∷ []) }
@@ -104,7 +106,7 @@ impl Branches {
         Ok(())
     }
 
-    /// Takes the branch away that was made last. It takes no memory.
+    /// Removes the branch that was made last. Never allocates.
     pub(crate) fn remove_last(&mut self)
         requires { 0 < length self.old }
         ensures { self.new ≡ without_last self.old }

@@ -1,3 +1,5 @@
+//! Copies calls out of a history.
+
 ghost use Rattle.std.specs.Prelude.{◌≡◌, ◌++◌, [], ◌∷◌, OnOk};
 ghost use Rattle.std.specs.List.{filter_map};
 ghost use Rattle.zt_history.specs.Tree.{call_at};
@@ -6,7 +8,7 @@ use crate::history::History;
 use std::alloc::AllocError;
 use zt_rows::{Call, Koid, Moment};
 
-/// Puts an equal call of the moment, if it has one, with its process behind the others.
+/// Appends a copy of the moment's call with its process, if the moment has a call. Fails if an allocation fails.
 pub fn push_call(
     calls: &mut Vec<(Koid, Call)>,
     history: &History,
@@ -20,7 +22,7 @@ pub fn push_call(
     }
 }
 
-/// Puts an equal call of the process behind the others.
+/// Appends a copy of the call with its process.
 fn push_copy(calls: &mut Vec<(Koid, Call)>, process: Koid, call: &Call) -> Result<(), AllocError>
     ensures { OnOk result (calls.new.items ≡ calls.old.items ++ (process, call.now) ∷ []) }
 {

@@ -1,3 +1,5 @@
+//! The history: a tree of moments, with one store that moves from moment to moment.
+
 ghost use Rattle.std.specs.Prelude.{◌≡◌, ◌<◌, ◌≤◌, ◌-◌, ◌++◌, ◌↔◌, Option, Some, None, Ok, IsTrue, IfOk, IfErr, IfSome, OnOk, OnErr, length, reverse, take, slice_get, is_some};
 ghost use Rattle.std.specs.Option.{option_copied, option_map};
 ghost use Rattle.zt_rows.specs.declared.calls.Reply.{Reply};
@@ -32,12 +34,14 @@ enum Undo {
     Nothing,
     /// A call on this branch, which made the last moment.
     Call(BranchId),
-    /// A branch, which is the last.
+    /// A new branch, which is the last one.
     Branch,
 }
 
-/// The tree of moments, with a store at one of them, the position. Each moment has the record by which the store goes
-/// over the call that made it: back where the moment is on the path to the position, and forth where it is not.
+/// The tree of moments, with a store at one of them, the position.
+///
+/// Each moment has the record by which the store goes over the call that made it. The record leads back if the moment
+/// is on the path to the position, and forth if it is not.
 pub struct History {
     store: RestingStore,
     moments: Moments,
@@ -47,8 +51,8 @@ pub struct History {
     undo: Undo,
 }
 
-/// Lets all parts go in one call, so that a function that owns a history is proved without going through them at each of
-/// its ways out.
+/// Drops all parts in one call. So the proof of a function that owns a history does not go through the parts at each
+/// exit.
 impl Drop for History {
     fn drop(self) {
         let History {
@@ -92,7 +96,7 @@ impl History {
         })
     }
 
-    /// The branch of the name. It takes no memory.
+    /// The branch of the name, or `None`. Never allocates.
     pub fn find(&self, name: &[u8]) -> Option<BranchId>
         ensures found { result ≡ branch_named self.now.tree.branches name.now }
         ensures within { IfSome result (λ id. id < length self.now.tree.branches) }
@@ -100,7 +104,7 @@ impl History {
         self.branches.find(name)
     }
 
-    /// The head of a branch. It takes no memory.
+    /// The head of a branch. Never allocates.
     pub fn head(&self, id: BranchId) -> Moment
         requires { id < length self.now.tree.branches }
         ensures head { result ≡ head_at self.now.tree.branches id }
@@ -109,7 +113,7 @@ impl History {
         self.branches.head(id)
     }
 
-    /// The name of a branch. It takes no memory.
+    /// The name of a branch. Never allocates.
     pub fn name(&self, id: BranchId) -> &[u8]
         requires { id < length self.now.tree.branches }
         ensures { result.now ≡ name_at self.now.tree.branches id }
@@ -117,14 +121,14 @@ impl History {
         self.branches.name(id)
     }
 
-    /// How many branches there are. It takes no memory.
+    /// How many branches there are. Never allocates.
     pub fn branches(&self) -> usize
         ensures { result ≡ length self.now.tree.branches }
     {
         self.branches.len()
     }
 
-    /// The last moment. It takes no memory.
+    /// The last moment. Never allocates.
     pub fn last(&self) -> Moment
         ensures last { result ≡ length self.now.tree.made }
         ensures few { result ≤ most_moments }
@@ -132,7 +136,7 @@ impl History {
         self.moments.last()
     }
 
-    /// The moment at which the store stands. It takes no memory.
+    /// The moment at which the store stands. Never allocates.
     pub fn position(&self) -> Moment
         ensures position { result ≡ self.now.position }
         ensures within { result ≤ length self.now.tree.made }
@@ -141,8 +145,8 @@ impl History {
         self.position
     }
 
-    /// The store, which is at the position: its rows are those to which the calls on the path there lead from the
-    /// opening, with the replies of the moments on that path. It takes no memory.
+    /// The store, which is at the position. Running the calls on the path there from the opening gives its rows, and
+    /// the replies of the moments on that path. Never allocates.
     pub fn store(&self) -> &Store
         ensures state { result.now.state ≡ state_at self.now.tree.made self.now.position }
         ensures run { (result.now.state, replies_to self.now.tree.made self.now.position) ≡ run opening (calls_to self.now.tree.made self.now.position) }
@@ -150,39 +154,39 @@ impl History {
         self.store.store()
     }
 
-    /// What a moment's call answered; nothing for the opening, nor beyond the last moment. It takes no memory.
+    /// The reply of a moment's call. There is none for the opening, nor beyond the last moment. Never allocates.
     pub fn reply_of(&self, moment: Moment) -> Option<&Reply>
         ensures { option_copied result ≡ reply_at self.now.tree.made moment }
     {
         self.moments.reply(moment)
     }
 
-    /// The call that made a moment, with its process; nothing for the opening, nor beyond the last moment. It takes
-    /// no memory.
+    /// The call that made a moment, with its process. There is none for the opening, nor beyond the last moment. Never
+    /// allocates.
     pub fn call_of(&self, moment: Moment) -> Option<(Koid, &Call)>
         ensures { option_map (λ p. (p.0, p.1.now)) result ≡ call_at self.now.tree.made moment }
     {
         self.moments.call(moment)
     }
 
-    /// The moment at which a moment's call was made; the opening for itself, and beyond the last moment. It takes no
-    /// memory.
+    /// The moment at which a moment's call was made. For the opening, and beyond the last moment, it is the opening.
+    /// Never allocates.
     pub fn parent_of(&self, moment: Moment) -> Moment
         ensures { result ≡ parent_at self.now.tree.made moment }
     {
         self.moments.parent(moment)
     }
 
-    /// The record of a moment: the rows before its call where it is on the path to the position, else the rows after
-    /// it; nothing for the opening, nor beyond the last moment. It takes no memory.
+    /// The record of a moment. It has the rows before the moment's call if the moment is on the path to the position,
+    /// and the rows after it if not. There is none for the opening, nor beyond the last moment. Never allocates.
     pub fn record_of(&self, moment: Moment) -> Option<&Record>
         ensures { option_copied result ≡ recorded_at self.now.tree.made self.now.position moment }
     {
         self.moments.change(moment)
     }
 
-    /// Whether the last call by `&mut` was `call` or `branch` and was answered, so that `retract` can take it back. It
-    /// takes no memory.
+    /// Whether the last method called with `&mut self` was `call` or `branch` and was not refused, so that `retract`
+    /// can take it back. Never allocates.
     pub fn can_retract(&self) -> bool
         ensures { result ≡ is_some self.now.before }
     {
@@ -193,7 +197,7 @@ impl History {
         }
     }
 
-    /// How many moments there are on the path to a moment. It takes no memory.
+    /// How many moments there are on the path to a moment. Never allocates.
     pub fn depth_of(&self, moment: Moment) -> u32
         requires { moment ≤ length self.now.tree.made }
         ensures { result ≡ length (path self.now.tree.made moment) }
@@ -201,7 +205,7 @@ impl History {
         self.moments.depth(moment)
     }
 
-    /// The next koid at a moment: each koid below it, from the root job's on, was given out by then. It takes no memory.
+    /// The next koid at a moment: each koid below it, from the root job's on, was given out by then. Never allocates.
     pub fn next_koid_at(&self, moment: Moment) -> Koid
         requires { moment ≤ length self.now.tree.made }
         ensures { result ≡ next_koid (state_at self.now.tree.made moment) }
@@ -209,8 +213,10 @@ impl History {
         self.notes.next_koid(moment)
     }
 
-    /// The last moment on the path to one at which it happened to the object. It takes no memory, and a look at each note of
-    /// the object, with as many at parents and jumps for each that is of this kind as the logarithm of the path's length.
+    /// The last moment on the path to `at` at which this happened to the object. Never allocates.
+    ///
+    /// Looks at each note of the object until one tells. For each note of this kind it follows as many parents and
+    /// jumps as the logarithm of the path's length.
     pub fn last_shown(&self, what: RowHappening, koid: Koid, at: Moment) -> Option<Moment>
         requires { at ≤ length self.now.tree.made }
         ensures { result ≡ last_shown what koid self.now.tree.made at }
@@ -219,8 +225,8 @@ impl History {
             .find(&self.moments, Sought::Shown(what), koid, at)
     }
 
-    /// The last moment on the path to one at which a name of the object went, an entry's or a message's, while the object
-    /// stayed. It takes no memory, and costs as much as `last_shown`.
+    /// The last moment on the path to `at` at which an entry or a message lost a name of the object while the object
+    /// stayed. Never allocates, and costs as much as `last_shown`.
     pub fn last_let_go(&self, koid: Koid, at: Moment) -> Option<Moment>
         requires { at ≤ length self.now.tree.made }
         ensures { result ≡ last_let_go koid self.now.tree.made at }
@@ -228,8 +234,8 @@ impl History {
         self.notes.find(&self.moments, Sought::LetGo, koid, at)
     }
 
-    /// The last moment on the path to one at which a live process or job whose parent is the object ended or went, while the
-    /// object stayed. It takes no memory, and costs as much as `last_shown`.
+    /// The last moment on the path to `at` at which the object lost a live child while the object stayed. A live
+    /// process or job whose parent it was has then ended or gone. Never allocates, and costs as much as `last_shown`.
     pub fn last_lost_child(&self, koid: Koid, at: Moment) -> Option<Moment>
         requires { at ≤ length self.now.tree.made }
         ensures { result ≡ last_lost_child koid self.now.tree.made at }
@@ -237,8 +243,10 @@ impl History {
         self.notes.find(&self.moments, Sought::LostChild, koid, at)
     }
 
-    /// The moments after the opening up to a moment: what `along` is to be given to go there. It takes memory for the
-    /// list alone, in one request.
+    /// The moments after the opening up to a moment, in the order of the path. Pass the list to `along` to go there.
+    /// Allocates only the list, in one request.
+    ///
+    /// Errors: `NoMoment` beyond the last moment, `OutOfMemory` if the allocation fails.
     pub fn path(&self, moment: Moment) -> Result<Vec<Moment>, Refusal>
         ensures ok { IfOk result (λ way. way.items ≡ path self.now.tree.made moment) }
         ensures end { IfOk result (λ way. end_of way.items ≡ moment) }
@@ -253,8 +261,8 @@ impl History {
         Ok(self.moments.path(moment)?)
     }
 
-    /// Moves the store along a list that `path` gives, to its last moment: back to the last moment that both paths
-    /// share, and forth from there. It takes no memory and cannot fail.
+    /// Moves the store to the last moment of a list that `path` gave. It goes back to the last moment that both paths
+    /// share, and forth from there. Never allocates, and cannot fail.
     pub fn along(&mut self, way: &[Moment])
         requires { IsPath self.old.tree.made way.now }
         ensures { self.new ≡ moved_to self.old (end_of way.now) }
@@ -265,8 +273,11 @@ impl History {
         }
     }
 
-    /// Moves the store to a moment, at the cost of the records on the way and of a list of the moments beyond the fork of
-    /// both paths. Refused, it stays where it is.
+    /// Moves the store to a moment. This costs the records on the way, and a list of the moments beyond the fork of
+    /// both paths.
+    ///
+    /// Errors: `NoMoment` beyond the last moment, `OutOfMemory` if the list cannot be allocated. The store then stays
+    /// where it is.
     pub fn goto(&mut self, moment: Moment) -> Result<(), Refusal>
         ensures ok { OnOk result (self.new ≡ moved_to self.old moment) }
         ensures within { OnOk result (moment_on self.old.tree moment ≡ Ok moment) }
@@ -284,14 +295,14 @@ impl History {
         Ok(())
     }
 
-    /// From here on nothing can be taken back.
+    /// Makes the last change permanent: nothing can be taken back any more.
     fn forget(&mut self)
         ensures { self.new ≡ unmoved self.old }
     {
         self.undo = Undo::Nothing;
     }
 
-    /// Moves the store back to the last moment that its path shares with this one, and tells how many they share.
+    /// Moves the store back to the last moment that its path shares with this one. Returns how many moments they share.
     fn back_to(&mut self, way: &[Moment]) -> usize
         requires { IsPath self.old.tree.made way.now }
         ensures moved { self.new ≡ moved_to self.old self.new.position }
@@ -319,7 +330,7 @@ impl History {
         }
     }
 
-    /// Moves the store forth over the moments of a list, the last of it first.
+    /// Moves the store forth over the moments of a list, from the last element to the first.
     fn advance(&mut self, mut beyond: Vec<Moment>)
         requires { IsPath self.old.tree.made (path self.old.tree.made self.old.position ++ reverse beyond.items) }
         ensures { self.new ≡ moved_to self.old (end_of (path self.old.tree.made self.old.position ++ reverse beyond.items)) }

@@ -1,5 +1,5 @@
-//! The tree of moments: every call that was answered, on branches of futures, with a store that goes to any of them by
-//! exchanging rows.
+//! The tree of moments: every call that was answered, on branches, with a store that moves to any moment by exchanging
+//! rows.
 #![tactic(auto)]
 
 mod branches;

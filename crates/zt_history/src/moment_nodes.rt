@@ -1,4 +1,5 @@
-//! What is kept of each moment: the call that made it, with its process and its reply, the parent and the length of its path.
+//! Stores how each moment was made: the parent, the process, the call, its reply, and the length of the path.
+
 ghost use Rattle.std.specs.Prelude.{◌≡◌, ◌<◌, ◌+◌, ◌++◌, ◌∷◌, [], true, Some, IfOk, OnOk, IfSome, length, slice_get, vec_capacity};
 ghost use Rattle.std.specs.Option.{option_copied, option_map};
 ghost use Rattle.zt_history.specs.HistoryRefusals.{most_moments};
@@ -13,12 +14,12 @@ use std::mem;
 use zt_bits::Status;
 use zt_rows::{Call, Koid, Moment, Reply};
 
-/// How many moments back an equal call or reply is searched for. Drivers and tests loop over a few calls, and each new moment
-/// pays for a comparison with every moment in this range.
+/// How many moments back an equal call or reply is searched for. Drivers and tests loop over a few calls, and each new
+/// moment pays for up to this many comparisons.
 const NEAR: usize = 12;
 
-/// What is kept of one moment beside its parent: `call` and `reply` are places in lists of these, and those that it owns were
-/// put there for it.
+/// The stored part of one moment, besides its parent. `call` and `reply` are places in the lists of calls and of
+/// replies. An owned call or reply was put into its list for this moment.
 #[derive(Clone, Copy)]
 pub(crate) struct StoredNode {
     depth: u32,
@@ -36,9 +37,11 @@ struct KeptAt {
     owned: bool,
 }
 
-/// The moments after the opening in the order in which they were made. Parents stand in a list of their own, so that a path
-/// is read from few bytes. Calls and replies stand in theirs, the shared ones first, then the others as the moments come; one
-/// that is as that of a moment shortly before, as it comes in a loop, stands once.
+/// The moments after the opening, in the order in which they were made.
+///
+/// Parents stand in a list of their own, so that a path is read from few bytes. So do calls and replies: the shared
+/// ones first, then the others in the order of the moments. A call or reply that equals that of a moment shortly
+/// before, as in a loop, is stored once.
 #[derive(Drop)]
 pub(crate) struct MomentNodes {
     nodes: Vec<StoredNode>,
@@ -74,7 +77,7 @@ impl MomentNodes {
         })
     }
 
-    /// How many there are.
+    /// How many moments there are.
     pub(crate) fn len(&self) -> usize
         ensures { result ≡ length self.now.list }
     {
@@ -114,7 +117,7 @@ impl MomentNodes {
         }
     }
 
-    /// What the call answered that made the moment in this place.
+    /// The reply of the call that made the moment in this place.
     pub(crate) fn reply(&self, place: usize) -> Option<&Reply>
         ensures { option_copied result ≡ option_map (λ n. n.reply) (slice_get self.now.list place) }
     {
@@ -124,7 +127,7 @@ impl MomentNodes {
         }
     }
 
-    /// Makes room for one more.
+    /// Makes room for one more moment.
     pub(crate) fn reserve(&mut self) -> Result<(), AllocError>
         ensures list { self.new.list ≡ self.old.list }
         ensures room { OnOk result (self.new.room ≡ true) }
@@ -136,8 +139,8 @@ impl MomentNodes {
         Ok(())
     }
 
-    /// One more at the end. Call and reply are taken from where they stand, in whose place others are left: they are large, and handed
-    /// from function to function they would go through memory at each.
+    /// Appends a moment. Moves call and reply out of their places, and leaves others there. Call and reply are large:
+    /// passed by value from function to function, they would go through memory at each.
     #[inline(always)]
     pub(crate) fn push(
         &mut self,
@@ -165,7 +168,7 @@ impl MomentNodes {
         });
     }
 
-    /// Drops the last one, if there is any.
+    /// Drops the last moment, if there is any.
     pub(crate) fn pop(&mut self)
         ensures { self.new.list ≡ without_last self.old.list }
     {
@@ -213,7 +216,7 @@ fn shared_replies(alloc: Global) -> Result<Vec<Reply>, AllocError>
     Ok(Vec::from_array(alloc, replies)?)
 }
 
-/// The place of a call that all moments share.
+/// The place of the call, if it is one that all moments share.
 fn shared_call(call: &Call) -> Option<u32>
     ensures { IfSome result (λ place. slice_get shared_calls place ≡ Some call.now) }
 {
@@ -234,7 +237,8 @@ fn shared_status(status: Status) -> u32
     u32::from(status.number())
 }
 
-/// Where the call stands in the list, at whose end it is put unless it stands there already. One is left where it was taken.
+/// Finds the place of the call in the list, or moves the call to the list's end. In the second case another call is
+/// left where it was taken.
 #[inline(always)]
 fn put_call(calls: &mut Vec<Call>, nodes: &Vec<StoredNode>, call: &mut Call) -> KeptAt
     requires shared { HasShared shared_calls calls.old.items }
@@ -256,7 +260,7 @@ fn put_call(calls: &mut Vec<Call>, nodes: &Vec<StoredNode>, call: &mut Call) -> 
     }
 }
 
-/// The place at which the call stands already, as one that all moments share or as that of a moment shortly before.
+/// The place at which the call stands already: as one that all moments share, or as that of a moment shortly before.
 fn call_there(calls: &Vec<Call>, nodes: &Vec<StoredNode>, call: &Call) -> Option<u32>
     requires shared { HasShared shared_calls calls.now.items }
     requires within { AreWithin (λ n. n.call) nodes.now.items calls.now.items }
@@ -283,7 +287,8 @@ fn near_call(calls: &Vec<Call>, nodes: &Vec<StoredNode>, call: &Call) -> Option<
     None
 }
 
-/// Where the reply stands in the list, at whose end it is put unless it stands there already. One is left where it was taken.
+/// Finds the place of the reply in the list, or moves the reply to the list's end. In the second case another reply is
+/// left where it was taken.
 #[inline(always)]
 fn put_reply(replies: &mut Vec<Reply>, nodes: &Vec<StoredNode>, reply: &mut Reply) -> KeptAt
     requires shared { HasShared shared_replies replies.old.items }
@@ -305,7 +310,7 @@ fn put_reply(replies: &mut Vec<Reply>, nodes: &Vec<StoredNode>, reply: &mut Repl
     }
 }
 
-/// The place at which the reply stands already, as one that all moments share or as that of a moment shortly before.
+/// The place at which the reply stands already: as one that all moments share, or as that of a moment shortly before.
 fn reply_there(replies: &Vec<Reply>, nodes: &Vec<StoredNode>, reply: &Reply) -> Option<u32>
     requires shared { HasShared shared_replies replies.now.items }
     requires within { AreWithin (λ n. n.reply) nodes.now.items replies.now.items }
@@ -334,7 +339,7 @@ fn near_reply(replies: &Vec<Reply>, nodes: &Vec<StoredNode>, reply: &Reply) -> O
     None
 }
 
-/// Drops the last element where it was put for the moment that goes.
+/// Drops the last element, if it was put there for the moment that goes.
 fn cut<T: Drop>(list: &mut Vec<T>, owned: bool)
     ensures { IsCut owned list.old.items list.new.items }
 {

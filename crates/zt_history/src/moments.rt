@@ -1,3 +1,5 @@
+//! The list of moments: how each was made, its record, and shortcuts up its path.
+
 ghost use Rattle.std.specs.Prelude.{◌≡◌, ◌<◌, ◌≤◌, ◌+◌, ◌-◌, ◌++◌, ◌∷◌, [], ℕ, true, IfOk, OnOk, IfSome, length, reverse, slice_get};
 ghost use Rattle.std.specs.Option.{option_copied, option_map};
 ghost use Rattle.zt_rows.specs.Tests.{among};
@@ -17,17 +19,19 @@ use std::marker::Model;
 use zt_rows::{Call, Koid, Moment, Reply};
 use zt_store::Record;
 
-/// Two ways up a moment's path: a jump to a moment further up, and the first moment of its run, the moments in a row of
-/// which each but the first was made at the one just before it.
+/// Two ways up a moment's path: a jump to a moment further up, and the first moment of its run. In a run, each moment
+/// but the first was made at the one just before it.
 #[derive(Clone, Copy)]
 pub(crate) struct Shortcut {
     pub(crate) jump: Moment,
     pub(crate) first: Moment,
 }
 
-/// The moments after the opening in the order in which they were made. The records stand in a list of their own, so that a
-/// store that goes over many moments reads nothing else of them. The jumps lie so that any moment of a path is come to by as
-/// many jumps and parents as the logarithm of the path's length.
+/// The moments after the opening, in the order in which they were made.
+///
+/// The records stand in a list of their own. So a store that goes over many moments reads nothing else of them. The
+/// jumps are placed so that any moment of a path is reached by few jumps and parents: as many as the logarithm of the
+/// path's length.
 #[derive(Drop)]
 pub(crate) struct Moments {
     nodes: MomentNodes,
@@ -52,7 +56,7 @@ impl Model for Moments {
 }
 
 impl Moments {
-    /// No moment but the opening.
+    /// The opening alone.
     pub(crate) fn new(alloc: Global) -> Result<Moments, AllocError>
         ensures made { IfOk result (λ moments. moments.made ≡ []) }
         ensures records { IfOk result (λ moments. moments.records ≡ []) }
@@ -79,7 +83,7 @@ impl Moments {
         Moment(self.nodes.len() as u32 + 1)
     }
 
-    /// What holds of every list of moments.
+    /// States what holds of every list of moments.
     pub(crate) fn limits(&self)
         ensures falls { Falls self.now.made }
         ensures few { length self.now.made ≤ most_moments }
@@ -87,7 +91,7 @@ impl Moments {
         let _nodes = &self.nodes;
     }
 
-    /// The call that made a moment, with its process; nothing for the opening, nor beyond the last.
+    /// The call that made a moment, with its process. There is none for the opening, nor beyond the last moment.
     pub(crate) fn call(&self, moment: Moment) -> Option<(Koid, &Call)>
         ensures { option_map (λ p. (p.0, p.1.now)) result ≡ call_at self.now.made moment }
     {
@@ -97,7 +101,7 @@ impl Moments {
         self.nodes.call((moment.0 - 1) as usize)
     }
 
-    /// What a moment's call answered; nothing for the opening, nor beyond the last.
+    /// The reply of a moment's call. There is none for the opening, nor beyond the last moment.
     pub(crate) fn reply(&self, moment: Moment) -> Option<&Reply>
         ensures { option_copied result ≡ reply_at self.now.made moment }
     {
@@ -107,7 +111,7 @@ impl Moments {
         self.nodes.reply((moment.0 - 1) as usize)
     }
 
-    /// The record by which a store goes over a moment; none of the opening, nor beyond the last.
+    /// The record by which a store goes over a moment. There is none for the opening, nor beyond the last moment.
     pub(crate) fn change(&self, moment: Moment) -> Option<&Record>
         ensures { option_copied result ≡ record_at self.now.records moment }
     {
@@ -117,7 +121,7 @@ impl Moments {
         self.records.get((moment.0 - 1) as usize)
     }
 
-    /// The parent of a moment; the opening's is itself.
+    /// The parent of a moment. The opening is its own parent.
     pub(crate) fn parent(&self, moment: Moment) -> Moment
         ensures { result ≡ parent_at self.now.made moment }
     {
@@ -130,7 +134,7 @@ impl Moments {
         }
     }
 
-    /// The ways up from a moment; those of the opening lead to itself.
+    /// The ways up from a moment. Those of the opening lead to itself.
     fn shortcut(&self, moment: Moment) -> Shortcut
         ensures { IsShortcut self.now.made result moment }
     {
@@ -147,8 +151,8 @@ impl Moments {
         }
     }
 
-    /// The jump of a moment that is made at this one: over the next two jumps where they go up equally far, else to this
-    /// one.
+    /// The jump for a moment that is made at this one. It spans the next two jumps if both go up equally far. Otherwise
+    /// it leads to this moment.
     fn jump_beyond(&self, parent: Moment) -> Moment
         requires { parent ≤ length self.now.made }
         ensures { IsAbove self.now.made result parent }
@@ -164,8 +168,8 @@ impl Moments {
         }
     }
 
-    /// The first moment of the run of a moment that is made at this one: that of this one's run where it is the last
-    /// moment, else the new one.
+    /// The first moment of the run, for a moment that is made at this one. If this is the last moment, that is the
+    /// first of this moment's run. Otherwise it is the new moment.
     fn first_beyond(&self, parent: Moment) -> Moment
         requires { parent ≤ length self.now.made }
         ensures { IsRunBeyond self.now.made result parent }
@@ -201,8 +205,8 @@ impl Moments {
         Ok(way)
     }
 
-    /// The moments beyond one on the path to another, the last first. It takes memory for the list alone, in one
-    /// request, and none for an empty one.
+    /// The moments beyond one on the path to another, the last first. Allocates only the list, in one request, and
+    /// nothing if the list is empty.
     pub(crate) fn beyond(&self, from: Moment, moment: Moment) -> Result<Vec<Moment>, AllocError>
         requires there { moment ≤ length self.now.made }
         requires above { IsAbove self.now.made from moment }
@@ -219,8 +223,8 @@ impl Moments {
         Ok(way)
     }
 
-    /// Where the paths to two moments part: the last moment that both have, or else the opening. It takes a look at
-    /// each run of either that the other has not.
+    /// The fork of the paths to two moments: the last moment that both have, or else the opening. Looks once at each
+    /// run that one path has and the other has not.
     pub(crate) fn fork(&self, one: Moment, other: Moment) -> Moment
         ensures one { IsAbove self.now.made result one }
         ensures other { IsAbove self.now.made result other }
@@ -238,7 +242,8 @@ impl Moments {
         near
     }
 
-    /// An earlier moment on the path to one: the limit where that is in its run, else the parent of the run's first moment.
+    /// An earlier moment on the path to `from`: the limit if it is in the run of `from`, otherwise the parent of the
+    /// run's first moment.
     fn beyond_run(&self, from: Moment, limit: Moment) -> Moment
         requires { limit < from }
         ensures above { IsAbove self.now.made result from }
@@ -253,8 +258,9 @@ impl Moments {
         }
     }
 
-    /// The last moment on the path to one that is no later than a limit, or else the opening. It takes one look where the
-    /// limit is in the moment's run, and else as many jumps and parents as the logarithm of the path's length.
+    /// The last moment on the path to `from` that is no later than a limit, or else the opening. Takes one look if the
+    /// limit is in the run of `from`. Otherwise it follows as many jumps and parents as the logarithm of the path's
+    /// length.
     pub(crate) fn no_later(&self, from: Moment, limit: Moment) -> Moment
         ensures early { result ≤ limit }
         ensures same { (m : ℕ) → m ≤ limit → among (path self.now.made result) m ≡ among (path self.now.made from) m }
@@ -274,7 +280,7 @@ impl Moments {
         at
     }
 
-    /// Exchanges the rows of a moment's record with the store's. It takes no memory.
+    /// Exchanges the rows of a moment's record with the store's. Never allocates.
     pub(crate) fn turn(&mut self, store: &mut RestingStore, moment: Moment)
         requires some { 0 < moment }
         requires there { moment ≤ length self.old.made }
@@ -284,7 +290,7 @@ impl Moments {
         store.swap(&mut self.records[(moment.0 - 1) as usize]);
     }
 
-    /// Makes room for one more, so that `push` takes no memory.
+    /// Makes room for one more moment, so that `push` never allocates.
     pub(crate) fn reserve(&mut self) -> Result<(), AllocError>
         ensures made { self.new.made ≡ self.old.made }
         ensures records { self.new.records ≡ self.old.records }
@@ -296,8 +302,8 @@ impl Moments {
         Ok(())
     }
 
-    /// Adds the moment that a call of a process made at another, with what it answered and its record, where room was made first.
-    /// Call and reply are taken from where they stand, in whose place others are left.
+    /// Adds the moment that a call of a process made at another, with its reply and its record. `reserve` must have
+    /// made the room. Moves call and reply out of their places, and leaves others there.
     #[inline(always)]
     pub(crate) fn push(
         &mut self,
@@ -325,7 +331,7 @@ impl Moments {
         self.nodes.push(at, depth, process, call, reply);
     }
 
-    /// Drops the last moment. It takes no memory.
+    /// Drops the last moment. Never allocates.
     pub(crate) fn drop_last(&mut self)
         requires { 0 < length self.old.made }
         ensures made { self.new.made ≡ without_last self.old.made }

@@ -1,5 +1,6 @@
-//! What the calls did to each object, as its row shows it, and which names and which live children it lost by them while it
-//! stayed: kept beside the moments, so that the moment of it is found by the notes of that object alone.
+//! Notes beside the moments: what each call did to each object, by its row, by its names and by its live children. So
+//! the moment of a happening is found by the notes of that object alone.
+
 ghost use Rattle.std.specs.Prelude.{◌≡◌, ◌<◌, ◌∷◌, [], Some, IfOk, OnOk, OnErr, length, slice_get};
 ghost use Rattle.zt_rows.specs.Handles.{next_koid};
 ghost use Rattle.zt_history.specs.ProofsOnly.Branches.{without_last};
@@ -17,25 +18,25 @@ use std::marker::Model;
 use zt_rows::{Koid, Moment};
 use zt_store::{Record, Store};
 
-/// What a moment's call did to an object.
+/// A change of an object by a moment's call.
 #[derive(Clone, Copy)]
 pub(crate) enum Noted {
     /// This shows in its row.
     Shown(ShownChanges),
-    /// A name of it went while it stayed.
+    /// It lost a name while it stayed.
     LetGo,
-    /// A live child of it is none any more, while it stayed.
+    /// It lost a live child while it stayed.
     LostChild,
 }
 
-/// What is looked for among the notes of an object.
+/// A change that is searched for among the notes of an object.
 #[derive(Clone, Copy)]
 pub(crate) enum Sought {
-    /// That this shows in its row.
+    /// This shows in its row.
     Shown(RowHappening),
-    /// That a name of it went while it stayed.
+    /// It lost a name while it stayed.
     LetGo,
-    /// That a live child of it is none any more, while it stayed.
+    /// It lost a live child while it stayed.
     LostChild,
 }
 
@@ -55,7 +56,7 @@ impl Model for ObjectNotes {
 }
 
 impl ObjectNotes {
-    /// No notes, at the opening.
+    /// No notes, and the next koid at the opening.
     pub(crate) fn new(alloc: Global, store: &Store) -> Result<ObjectNotes, AllocError>
         requires few { next_koid store.now.state < four_byte_numbers }
         ensures { IfOk result (λ notes. notes ≡ record { notes = []; next_koids = next_koid store.now.state ∷ [] }) }
@@ -76,7 +77,8 @@ impl ObjectNotes {
         Koid(u64::from(self.next_koids[moment.0 as usize]))
     }
 
-    /// Notes what a moment's call did, by its record and the store behind it. On an allocation failure nothing changes.
+    /// Notes what a moment's call did, by the call's record and the store after it. On an allocation failure nothing
+    /// changes.
     pub(crate) fn note(
         &mut self,
         moment: Moment,
@@ -102,7 +104,7 @@ impl ObjectNotes {
         }
     }
 
-    /// Drops what was noted of the last moment. It takes no memory.
+    /// Drops what was noted of the last moment. Never allocates.
     pub(crate) fn drop_last(&mut self, moment: Moment)
         ensures notes { IsCut self.old.notes self.new.notes moment }
         ensures next_koids { self.new.next_koids ≡ without_last self.old.next_koids }
@@ -111,7 +113,7 @@ impl ObjectNotes {
         self.chains.cut(moment);
     }
 
-    /// The last moment on the path to `at` at which it happened to the object.
+    /// The last moment on the path to `at` at which this happened to the object.
     pub(crate) fn find(
         &self,
         moments: &Moments,

@@ -1,3 +1,5 @@
+//! Keeps a history's store in a step at rest, so that calls run on it where it stands.
+
 ghost use Rattle.std.specs.Prelude.{◌≡◌, true, IfOk, OnOk, OnErr};
 ghost use Rattle.zt_rows.specs.Change.{before, exchange};
 ghost use Rattle.zt_rows.specs.Consistent.{IsConsistent};
@@ -13,7 +15,7 @@ use zt_calls::run_on;
 use zt_rows::{Call, Koid, Reply};
 use zt_store::{Record, Step, Store};
 
-/// A store that calls are run on where it stands: it is that of a step which has put nothing yet, each time that a call is over.
+/// A store on which calls run where it stands. Between calls it is the store of a step that has put nothing yet.
 #[derive(Drop)]
 pub(crate) struct RestingStore {
     step: Step,
@@ -50,7 +52,7 @@ impl RestingStore {
         self.step.store()
     }
 
-    /// Exchanges the record's rows with the store's, as `swap` of the store does.
+    /// Exchanges the record's rows with the store's, as `swap` of `zt_store` does.
     pub(crate) fn swap(&mut self, kept: &mut Record)
         requires { fits self.old.places kept.old ≡ true }
         ensures exchanged { (self.new.state, kept.new) ≡ exchange self.old.state kept.old }
@@ -60,7 +62,7 @@ impl RestingStore {
         self.step.swap(kept);
     }
 
-    /// Runs one call of a process that runs, as `run_on` of the calls does.
+    /// Runs one call of a live process, as `run_on` of `zt_calls` does.
     pub(crate) fn apply(
         &mut self,
         process: Koid,

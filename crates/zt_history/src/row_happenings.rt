@@ -1,4 +1,5 @@
-//! What happens to an object, as the rows before a call and behind it show it.
+//! Tells from an object's rows before and after a call whether it was made, ended or lost its peer.
+
 ghost use Rattle.std.specs.Prelude.{◌≡◌, ◌&&◌, false, not, true};
 ghost use Rattle.std.specs.Option.{option_copied};
 ghost use Rattle.zt_rows.specs.Reads.{is_live};
@@ -9,7 +10,7 @@ use bitflags::Flags;
 use zt_bits::{Kind, Signals};
 use zt_rows::{Life, ObjectRow, Row};
 
-/// What happens to an object and shows in its row.
+/// Something that happens to an object and shows in its row.
 #[derive(Clone, Copy)]
 pub enum RowHappening {
     Made,
@@ -17,7 +18,7 @@ pub enum RowHappening {
     PeerClosed,
 }
 
-/// What happened to an object by a call, as the rows before it and behind it show it.
+/// The changes of an object by a call, as the rows before and after it show them.
 #[derive(Clone, Copy)]
 pub(crate) struct ShownChanges {
     pub(crate) made: bool,
@@ -25,14 +26,14 @@ pub(crate) struct ShownChanges {
     pub(crate) peer_closed: bool,
 }
 
-/// That nothing happened.
+/// Nothing happened.
 const NOTHING_SHOWN: ShownChanges = ShownChanges {
     made: false,
     ended: false,
     peer_closed: false,
 };
 
-/// What shows in the row before and the row after.
+/// The changes that the row before and the row after show.
 pub(crate) fn shown_changes(before: Option<&Row>, after: Option<&Row>) -> ShownChanges
     ensures made { result.made ≡ shows RowHappening.Made (option_copied before.entry) (option_copied after.entry) }
     ensures ended { result.ended ≡ shows RowHappening.Ended (option_copied before.entry) (option_copied after.entry) }
@@ -54,7 +55,8 @@ pub(crate) fn shown_changes(before: Option<&Row>, after: Option<&Row>) -> ShownC
     }
 }
 
-/// What shows of an object that was there before and is there after. Most are alike in all that can show.
+/// The changes that the rows show of an object that was there before and is there after. Most pairs of rows are alike
+/// in all that can show.
 fn changes_between(before: &ObjectRow, after: &ObjectRow) -> ShownChanges
     ensures made { result.made ≡ false }
     ensures ended { result.ended ≡ (is_live before.now.life && not (is_live after.now.life)) }
@@ -78,14 +80,14 @@ fn is_alike(before: &ObjectRow, after: &ObjectRow) -> bool
     before.kind == after.kind && before.signals == after.signals && before.life == after.life
 }
 
-/// Whether it is an endpoint with the signal that its peer is closed.
+/// Whether the object is an endpoint on which the signal stands that its peer is closed.
 fn is_cut_off(object: &ObjectRow) -> bool
     ensures { result ≡ is_cut_off object.now }
 {
     object.signals.contains(Signals::PEER_CLOSED) && is_endpoint(object.kind)
 }
 
-/// Whether it is an end of a channel or of an event pair.
+/// Whether objects of this kind are ends of a channel or of an event pair.
 fn is_endpoint(kind: Kind) -> bool
     ensures { result ≡ is_endpoint kind }
 {

@@ -1,9 +1,10 @@
-//! Whether two calls, or two replies, are one: of those that often come again, as in a loop of a driver or of a test.
+//! Compares calls and replies that often come again, as in a loop of a driver or of a test.
+
 ghost use Rattle.std.specs.Prelude.{◌≡◌, IsTrue};
 
 use zt_rows::{Call, Parcel, Reply};
 
-/// Whether the call is of those that often come again. Those that close a handle or end something seldom do.
+/// Whether the call is of a kind that often comes again. Calls that close a handle or end something seldom do.
 pub(crate) fn may_come_again(call: &Call) -> bool {
     matches!(
         call,
@@ -19,7 +20,7 @@ pub(crate) fn may_come_again(call: &Call) -> bool {
     )
 }
 
-/// Whether the calls surely are equal. Others than those that often come again are not compared.
+/// Whether the calls surely are equal. Compares only kinds of calls that often come again.
 pub(crate) fn is_same_call(a: &Call, b: &Call) -> bool
     ensures { IsTrue result → a.now ≡ b.now }
 {
@@ -34,7 +35,7 @@ pub(crate) fn is_same_call(a: &Call, b: &Call) -> bool
     }
 }
 
-/// Whether both read as much from one channel.
+/// Whether both calls are `channel_read` with equal arguments.
 fn is_same_read(a: &Call, b: &Call) -> bool
     ensures { IsTrue result → a.now ≡ b.now }
 {
@@ -62,7 +63,7 @@ fn is_same_read(a: &Call, b: &Call) -> bool
     }
 }
 
-/// Whether both write one parcel to one channel.
+/// Whether both calls are `channel_write` with equal arguments.
 fn is_same_write(a: &Call, b: &Call) -> bool
     ensures { IsTrue result → a.now ≡ b.now }
 {
@@ -85,7 +86,7 @@ fn is_same_parcel(a: &Parcel, b: &Parcel) -> bool
     a.bytes() == b.bytes() && a.handles() == b.handles()
 }
 
-/// Whether both change the signals of one object alike.
+/// Whether both calls are `object_signal`, or both `object_signal_peer`, with equal arguments.
 fn is_same_signal(a: &Call, b: &Call) -> bool
     ensures { IsTrue result → a.now ≡ b.now }
 {
@@ -110,7 +111,7 @@ fn is_same_signal(a: &Call, b: &Call) -> bool
     }
 }
 
-/// Whether both wait for one port on one handle, alike.
+/// Whether both calls are `object_wait_async` with equal arguments.
 fn is_same_wait(a: &Call, b: &Call) -> bool
     ensures { IsTrue result → a.now ≡ b.now }
 {
@@ -141,7 +142,7 @@ fn is_same_wait(a: &Call, b: &Call) -> bool
     }
 }
 
-/// Whether both queue one packet at one port, or take one from it.
+/// Whether both calls are `port_wait`, or both `port_queue`, with equal arguments.
 fn is_same_port_call(a: &Call, b: &Call) -> bool
     ensures { IsTrue result → a.now ≡ b.now }
 {
@@ -159,7 +160,7 @@ fn is_same_port_call(a: &Call, b: &Call) -> bool
     }
 }
 
-/// Whether both make a handle of one handle, or a process under one job.
+/// Whether both calls are `handle_duplicate`, or both `spawn`, with equal arguments.
 fn is_same_making(a: &Call, b: &Call) -> bool
     ensures { IsTrue result → a.now ≡ b.now }
 {
@@ -182,7 +183,8 @@ fn is_same_making(a: &Call, b: &Call) -> bool
     }
 }
 
-/// Whether the replies surely are equal. Those with a handle that is given out are not compared: each is given out once.
+/// Whether the replies surely are equal. Replies with a new handle are not compared, since a process is given each
+/// handle value once.
 pub(crate) fn is_same_reply(a: &Reply, b: &Reply) -> bool
     ensures { IsTrue result → a.now ≡ b.now }
 {

@@ -61,7 +61,7 @@ is_near line other = nat_lt other (line + (most_lines + 1)) && nat_lt line (othe
 abbrev pub is_shortly_before : ℕ → ℕ → Bool
 is_shortly_before line other = nat_lt other line && nat_lt line (other + (most_lines + 1))
 
--- the calls of the log around the one of this number: that many before it, itself, and as many behind it
+-- 1,025 calls of the log, from 512 before the one of this number on, or from the first call of the log
 abbrev pub around : ℕ → List AskedCall → List AskedCall
 around number asked = take (2 * most_lines + 1) (drop (number - most_lines) asked)
 

@@ -1,3 +1,5 @@
+//! Makes the processes and objects that a log uses and never got, and gives each process its handles to them.
+
 ghost use Rattle.std.specs.Prelude.{◌≡◌, true, OnOk};
 ghost use Rattle.zt_import.specs.ProofsOnly.TakenCalls.{IsAdopting, IsAside, is_beside};
 
@@ -11,20 +13,20 @@ use zt_bits::Kind;
 use zt_logs::{Cause, LoggedCall};
 use zt_rows::{Call, FIRST_HANDLE, HandleValue, MESSAGE_HANDLES, Parcel, ROOT_PROCESS, Reply};
 
-/// Makes what a log uses and never got, and knows which handles of the root process are left of it.
+/// Makes what a log uses and never got, and keeps the root process's handles that are left of it.
 #[derive(Drop)]
 pub(crate) struct Adoption {
     alloc: Global,
-    /// The ends that are made with their peers and not yet sent, by their objects.
+    /// The handles of ends that were made together with their peers, by the ends' objects.
     ends: HashMap<usize, HandleValue>,
-    /// The other ends of ends whose peers the log does not have, by the objects of those.
+    /// The root process's ends of channels and pairs of which the log has only the other end, by that end's object.
     others: HashMap<usize, HandleValue>,
-    /// Duplicates that are not yet sent, by their objects.
+    /// The duplicates that are not yet sent, by their objects.
     duplicates: HashMap<usize, VecDeque<HandleValue>>,
     kinds: MadeKinds,
 }
 
-/// How many objects of each kind were made whose handles can be duplicated.
+/// How many objects were made of each kind whose handles can be duplicated.
 #[derive(Clone, Copy)]
 struct MadeKinds {
     events: u64,
@@ -45,7 +47,7 @@ impl MadeKinds {
         }
     }
 
-    /// One more of this kind: how many there were before. Of an end of a channel there is one handle.
+    /// Counts an object of this kind. Returns how many there were before; 0 for an end of a channel, which has one handle.
     fn add(&mut self, kind: Kind) -> u64 {
         match kind {
             Kind::Event => counted(&mut self.events),
@@ -58,7 +60,7 @@ impl MadeKinds {
     }
 }
 
-/// One more: how many there were before.
+/// Adds one to a count, and returns what it was before.
 fn counted(count: &mut u64) -> u64 {
     let before = *count;
     *count = before.saturating_add(1);
@@ -76,7 +78,7 @@ impl Adoption {
         }
     }
 
-    /// Makes each process that comes from nowhere, and gives it its handles that do.
+    /// Makes each adopted process, and gives it its adopted handles.
     pub(crate) fn adopt_all(
         &mut self,
         taken: &mut Taken,
@@ -91,7 +93,7 @@ impl Adoption {
         Ok(())
     }
 
-    /// Makes a process with one end of a channel, and sends it its handles over the other.
+    /// Makes a process that has one end of a channel, and sends it its handles over the other end.
     fn adopt(
         &mut self,
         taken: &mut Taken,
@@ -114,7 +116,7 @@ impl Adoption {
         Ok(())
     }
 
-    /// Makes objects, sends them to a process and lets it read them.
+    /// Makes objects, sends their handles to a process, and lets the process read them.
     fn give(
         &mut self,
         taken: &mut Taken,
@@ -141,7 +143,7 @@ impl Adoption {
         Ok(())
     }
 
-    /// Makes objects. Gives the root process's handles to them.
+    /// Makes objects, and returns the root process's handles to them.
     fn made(
         &mut self,
         taken: &mut Taken,
@@ -158,7 +160,7 @@ impl Adoption {
         Ok(handles)
     }
 
-    /// Makes an object, unless it was made before and has a duplicate that is left. Gives the root process's handle to it.
+    /// Returns a handle of the root process to an object: a duplicate that is left, or else the handle of a new object.
     fn handle_to(
         &mut self,
         taken: &mut Taken,
@@ -175,12 +177,12 @@ impl Adoption {
         Ok(handle)
     }
 
-    /// A duplicate of an object that is left.
+    /// Takes a duplicate that is left of an object's handle.
     fn take_duplicate(&mut self, object: usize) -> Option<HandleValue> {
         self.duplicates.get_mut(&object)?.pop_front()
     }
 
-    /// Makes a duplicate for each handle more that the log has of an object. Of an end of a channel there are none.
+    /// Makes a duplicate for each further handle that the log has of an object. An end of a channel has none.
     fn duplicate(
         &mut self,
         taken: &mut Taken,
@@ -218,7 +220,7 @@ impl Adoption {
         Ok(())
     }
 
-    /// Makes an object. Gives the root process's handle to it.
+    /// Makes an object, and returns the root process's handle to it.
     fn make(&mut self, taken: &mut Taken, plan: &Plan, object: usize) -> Result<HandleValue, Cause>
         ensures { OnOk result (IsAside taken.old taken.new) }
     {
@@ -246,7 +248,7 @@ impl Adoption {
         }
     }
 
-    /// Makes an end of a channel or an event pair by this call, unless it was made with its peer.
+    /// Returns an end of a channel or an event pair, which this call makes unless it was made with its peer.
     fn make_end(
         &mut self,
         taken: &mut Taken,
@@ -279,7 +281,7 @@ impl Adoption {
         Ok(())
     }
 
-    /// Writes the message that this call of the log is the first to come upon, where it comes from outside.
+    /// Writes the message from outside that this call of the log is the first to find, if it finds one.
     pub(crate) fn write_outside(
         &mut self,
         taken: &mut Taken,
@@ -303,7 +305,7 @@ impl Adoption {
     }
 }
 
-/// The bytes of a message from outside. What no call reads are zeros.
+/// The bytes of a message from outside. Bytes that no call reads are zeros.
 fn bytes_of(
     alloc: Global,
     calls: &[LoggedCall],
@@ -318,7 +320,7 @@ fn bytes_of(
     }
 }
 
-/// The bytes that a call read, as far as the log has them.
+/// The bytes that a call read; none if the log does not tell them.
 fn recorded_bytes(alloc: Global, logged: &LoggedCall) -> Result<Vec<u8>, AllocError> {
     match &logged.recorded.bytes {
         Some(bytes) => Ok(bytes.copy()?.into_vec()),
@@ -326,7 +328,7 @@ fn recorded_bytes(alloc: Global, logged: &LoggedCall) -> Result<Vec<u8>, AllocEr
     }
 }
 
-/// Asks the call that makes the process which stands for one of the log.
+/// Makes the process that stands for this one of the log.
 fn adopt_process(
     taken: &mut Taken,
     numbers: &mut Numbers,
@@ -340,7 +342,7 @@ fn adopt_process(
     Ok(())
 }
 
-/// How a call that makes an object is told of.
+/// The origin of the call that makes an object.
 fn origin_of(plan: &Plan, object: usize, kind: Kind, is_told: bool, others: u64) -> Origin
     ensures { is_beside result ≡ true }
 {
@@ -357,10 +359,10 @@ fn origin_of(plan: &Plan, object: usize, kind: Kind, is_told: bool, others: u64)
     }
 }
 
-/// All rights that a handle has.
+/// The mask that asks for all rights of the old handle.
 const SAME_RIGHTS: u32 = 0x8000_0000;
 
-/// How the call that makes a duplicate is told of.
+/// The origin of the call that makes a duplicate.
 fn duplicate_origin(plan: &Plan, object: usize, again: (u64, HandleValue)) -> Origin
     ensures { is_beside result ≡ true }
 {
@@ -381,7 +383,7 @@ fn push_duplicate(made: &mut VecDeque<HandleValue>, handle: HandleValue) -> Resu
     Ok(())
 }
 
-/// The other end of a channel that is made with this one, if it is one of the log.
+/// The object that is made as the peer of this one, if the log has that peer.
 fn joined_peer(plan: &Plan, object: usize) -> Option<usize> {
     if plan.joined.contains_key(&object) {
         plan.objects.peer(object)
@@ -390,7 +392,7 @@ fn joined_peer(plan: &Plan, object: usize) -> Option<usize> {
     }
 }
 
-/// Lets the root process write a message.
+/// Lets the root process write a message. Nothing is written if the message is too large.
 fn write(
     taken: &mut Taken,
     origin: Origin,
@@ -410,7 +412,7 @@ fn write(
     }
 }
 
-/// The handles that were read stand for these.
+/// Maps the log's handles to those that the process read.
 fn name_read(
     numbers: &mut Numbers,
     adopted: &[AdoptedHandle],
@@ -424,7 +426,7 @@ fn name_read(
     }
 }
 
-/// These handles stand for these of the log.
+/// Maps each handle of the log to the value at its place.
 fn name_all(
     numbers: &mut Numbers,
     adopted: &[AdoptedHandle],
@@ -439,7 +441,7 @@ fn name_all(
     Ok(())
 }
 
-/// Asks a call of the root process that gives one handle.
+/// Makes a call of the root process that gives one handle, and returns that handle.
 fn ask_one(taken: &mut Taken, origin: Origin, call: &Call) -> Result<HandleValue, Cause>
     requires { is_beside origin ≡ true }
     ensures { OnOk result (IsAside taken.old taken.new) }
@@ -452,7 +454,7 @@ fn ask_one(taken: &mut Taken, origin: Origin, call: &Call) -> Result<HandleValue
     }
 }
 
-/// Asks a call of the root process that gives two handles.
+/// Makes a call of the root process that gives two handles, and returns them.
 fn ask_two(
     taken: &mut Taken,
     origin: Origin,

@@ -1,4 +1,4 @@
-//! The calls of a log in an order that is looked for, call by call.
+//! The order in which a log's calls run, while it is looked for call by call.
 
 use crate::order::{Move, may_precede, move_ahead};
 use std::alloc::{AllocError, Global};
@@ -7,21 +7,21 @@ use zt_bits::Status;
 use zt_logs::LoggedCall;
 use zt_rows::Call;
 
-/// The most spawns that are moved ahead of one call: that of its process, of that one's parent, and so on.
+/// How many spawns are moved ahead of one call at most: that of its process, that of its parent, and so on.
 const ANCESTORS: usize = 64;
 
-/// The calls of a log in the order to which moves led so far.
+/// The calls of a log in the order to which the moves led so far.
 #[derive(Drop)]
 pub(crate) struct Arranged {
     numbers: Vec<usize>,
-    /// The place of each call.
+    /// The place of each call, by the call's number.
     places: Vec<usize>,
     moves: Vec<Move>,
 }
 
 impl Arranged {
-    /// The order of the log, but for each `spawn` that stands behind a call of the process that it makes: it is moved ahead of the
-    /// first of them.
+    /// The order of the log, except that a `spawn` behind calls of the process it makes is moved ahead of the first of
+    /// them.
     pub(crate) fn of(alloc: Global, calls: &[LoggedCall]) -> Result<Arranged, AllocError> {
         let mut order = Arranged {
             numbers: Vec::new(alloc),
@@ -41,12 +41,12 @@ impl Arranged {
         Ok(())
     }
 
-    /// The call of a place.
+    /// The number of the call at a place.
     pub(crate) fn at(&self, place: usize) -> Option<usize> {
         self.numbers.get(place).copied()
     }
 
-    /// The place of a call.
+    /// The place of the call with this number.
     pub(crate) fn place_of(&self, number: usize) -> usize {
         match self.places.get(number) {
             Some(place) => *place,
@@ -58,17 +58,17 @@ impl Arranged {
         self.numbers.as_slice()
     }
 
-    /// The moves that led to it.
+    /// The moves that led to this order.
     pub(crate) fn moves(&self) -> &[Move] {
         self.moves.as_slice()
     }
 
-    /// Whether a call may be moved from one place to an earlier one.
+    /// Whether the call at `from` may be moved to the earlier place `to`.
     pub(crate) fn can_move(&self, calls: &[LoggedCall], from: usize, to: usize) -> bool {
         to <= from && self.can_pass(calls, from, to, from)
     }
 
-    /// Moves a call ahead, where it may be moved so far, and tells whether it was.
+    /// Moves a call ahead if it may be moved that far. Returns whether it was moved.
     pub(crate) fn move_ahead(
         &mut self,
         calls: &[LoggedCall],
@@ -85,7 +85,8 @@ impl Arranged {
         Ok(true)
     }
 
-    /// Moves a call ahead, with those ahead of it that are of its line, where all may be moved so far. Tells whether they were.
+    /// Moves a call ahead, with the calls of its line that stand ahead of it, if all may be moved that far. Returns whether
+    /// they were.
     pub(crate) fn move_line(
         &mut self,
         calls: &[LoggedCall],
@@ -103,7 +104,7 @@ impl Arranged {
         Ok(true)
     }
 
-    /// Whether a call may be moved ahead with those ahead of it that are of its line.
+    /// Whether a call may be moved ahead, with the calls of its line that stand ahead of it.
     pub(crate) fn can_move_line(&self, calls: &[LoggedCall], from: usize, to: usize) -> bool {
         let first = self.line_begin(calls, from);
         first > to
@@ -111,7 +112,7 @@ impl Arranged {
             && (first..from.saturating_add(1)).all(|place| self.can_pass(calls, place, to, first))
     }
 
-    /// The place of the first call of the line of that of a place.
+    /// The place of the first call of the line to which the call at `place` belongs.
     fn line_begin(&self, calls: &[LoggedCall], place: usize) -> usize {
         match self.at(place) {
             Some(number) => match calls.get(number) {
@@ -122,7 +123,7 @@ impl Arranged {
         }
     }
 
-    /// Whether the calls of these places are of one line.
+    /// Whether the calls at these places are all of one line.
     fn are_of_line(&self, calls: &[LoggedCall], first: usize, last: usize) -> bool {
         let line = self.line_at(calls, last);
         (first..last).all(|place| self.line_at(calls, place) == line)
@@ -136,7 +137,7 @@ impl Arranged {
         }
     }
 
-    /// Whether the call of a place may be moved ahead of all that stand between two places.
+    /// Whether the call at `from` may be moved ahead of all calls from `begin` up to `end`, without the one at `end`.
     pub(crate) fn can_pass(
         &self,
         calls: &[LoggedCall],
@@ -156,7 +157,7 @@ impl Arranged {
         true
     }
 
-    /// The calls of these places have them.
+    /// Sets the places of the calls from `to` up to `from` again.
     fn place_again(&mut self, from: usize, to: usize) {
         for place in to..from.saturating_add(1) {
             if let Some(number) = self.numbers.get(place).copied() {
@@ -167,12 +168,12 @@ impl Arranged {
         }
     }
 
-    /// Whether the first of two calls stands ahead of the other.
+    /// Whether the call `one` stands ahead of the call `other`.
     pub(crate) fn precedes(&self, one: usize, other: usize) -> bool {
         self.place_of(one) < self.place_of(other)
     }
 
-    /// Moves each `spawn` ahead of the calls of its process.
+    /// Moves each `spawn` ahead of the calls of the process that it makes.
     fn move_spawns(&mut self, alloc: Global, calls: &[LoggedCall]) -> Result<(), AllocError> {
         let spawns = spawns_in(alloc, calls)?;
         if spawns.is_empty() {
@@ -188,7 +189,8 @@ impl Arranged {
         Ok(())
     }
 
-    /// Moves the `spawn` of the process that makes the call of a place there, and so that of its parent.
+    /// Moves the `spawn` of the process that makes the call at `place` there. Goes on with the process that makes that
+    /// `spawn`.
     fn move_spawns_to(
         &mut self,
         calls: &[LoggedCall],
@@ -213,8 +215,8 @@ impl Arranged {
 }
 
 impl Arranged {
-    /// Moves a call ahead, and the calls of its process that stand between, each in its order, where all may be moved so far. Tells whether
-    /// they were.
+    /// Moves a call ahead, with the calls of its process in between, which keep their order. Nothing is moved unless all
+    /// may be moved that far. Returns whether they were moved.
     fn move_with_others(
         &mut self,
         calls: &[LoggedCall],
@@ -235,7 +237,7 @@ impl Arranged {
         Ok(true)
     }
 
-    /// Whether a call may be moved ahead with those of its process that stand between.
+    /// Whether a call may be moved ahead, with the calls of its process in between.
     fn can_move_with_others(&self, calls: &[LoggedCall], from: usize, to: usize) -> bool {
         let process = self.process_at(calls, from);
         for place in to..from.saturating_add(1) {
@@ -246,7 +248,7 @@ impl Arranged {
         true
     }
 
-    /// Whether a call may be moved ahead of those of other processes that stand between.
+    /// Whether a call may be moved ahead of the calls of other processes in between.
     fn can_pass_others(&self, calls: &[LoggedCall], from: usize, to: usize) -> bool {
         let process = self.process_at(calls, from);
         let Some(number) = self.at(from) else {
@@ -265,7 +267,7 @@ impl Arranged {
         true
     }
 
-    /// The process that makes the call of a place.
+    /// The process that makes the call at a place.
     fn process_at(&self, calls: &[LoggedCall], place: usize) -> Option<u64> {
         let number = self.at(place)?;
         match calls.get(number) {
@@ -282,7 +284,7 @@ fn know(known: &mut HashMap<u64, ()>, process: u64) -> Result<(), AllocError> {
     }
 }
 
-/// Which call makes each process.
+/// The call that makes each process, by the process's number.
 fn spawns_in(alloc: Global, calls: &[LoggedCall]) -> Result<HashMap<u64, usize>, AllocError> {
     let mut spawns = HashMap::new(alloc);
     for number in 0..calls.len() {

@@ -1,11 +1,10 @@
-//! Which calls may be moved, so that a reply agrees with the log: what their statuses and arguments say of it, before it is tried.
+//! Which calls may be moved so that a reply agrees with the log. Their statuses and arguments tell, before a move is tried.
 
 use zt_bits::Status;
 use zt_logs::{LoggedCall, LoggedPacket};
 use zt_rows::{Call, Parcel, Reply};
 
-/// Whether another order can make a reply agree that does not. A call that was not made, since its process had ended, may have been made
-/// before that.
+/// Whether a reply that differs may agree in another order. A call whose process had ended may have been made before that.
 pub(crate) fn may_be_by_order(logged: &LoggedCall, reply: Option<&Reply>) -> bool {
     match reply {
         Some(reply) => may_change_to(logged.recorded.status, Some(reply.status())),
@@ -13,12 +12,12 @@ pub(crate) fn may_be_by_order(logged: &LoggedCall, reply: Option<&Reply>) -> boo
     }
 }
 
-/// Whether what other processes do can bring about the one status in place of the other.
+/// Whether calls of other processes can change the answer from one of these statuses to the other.
 fn may_change_to(recorded: Option<Status>, answered: Option<Status>) -> bool {
     recorded != answered && is_by_others(recorded) && is_by_others(answered)
 }
 
-/// Whether what other processes do can bring about this status.
+/// Whether calls of other processes can bring about this status.
 fn is_by_others(status: Option<Status>) -> bool {
     matches!(
         status,
@@ -34,7 +33,7 @@ fn is_by_others(status: Option<Status>) -> bool {
     )
 }
 
-/// Whether a call that is made before another may be what brings about the other's status in the log.
+/// Whether `logged` may get the status that the log has if `cause` is made before it.
 pub(crate) fn may_cause(cause: &LoggedCall, logged: &LoggedCall) -> bool {
     match logged.recorded.status {
         Some(Status::Ok) => brings_about(cause, logged),
@@ -45,7 +44,7 @@ pub(crate) fn may_cause(cause: &LoggedCall, logged: &LoggedCall) -> bool {
     }
 }
 
-/// Whether a call may write the message, or queue the packet, that another got.
+/// Whether `cause` may write the message or queue the packet that `logged` got, or make room for the packet that it queued.
 fn brings_about(cause: &LoggedCall, logged: &LoggedCall) -> bool {
     if cause.recorded.status != Some(Status::Ok) {
         return false;
@@ -86,12 +85,12 @@ fn is_packet(key: u64, bytes: &[u8; 32], waited: &LoggedCall) -> bool {
     }
 }
 
-/// Whether the log says that a call got a packet of a user.
+/// Whether the log says that a call got a user packet.
 fn gives_packets_of_users(waited: &LoggedCall) -> bool {
     matches!(waited.recorded.packet, Some(LoggedPacket::User { .. }))
 }
 
-/// Whether a call may end an object or close a handle, or take a packet.
+/// Whether a call may end an object, let go of a handle, or take a message, a packet or a wait.
 fn ends_something(cause: &LoggedCall) -> bool {
     matches!(
         cause.call,

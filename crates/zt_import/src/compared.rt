@@ -1,3 +1,5 @@
+//! The replies that differ from what a log has: the first of them, and how many there are.
+
 ghost use Rattle.std.specs.Prelude.{◌≡◌, ◌+◌, ◌-◌, ◌^◌, ◌<◌, [], ◌∷◌, ◌++◌, cond, nat_lt, if◌then◌else◌, length, OnOk};
 ghost use Rattle.zt_import.specs.ProofsOnly.TakenCalls.{ComparesMore, nothing_compared};
 
@@ -6,7 +8,7 @@ use std::alloc::{AllocError, Global};
 use std::marker::Model;
 use zt_rows::Moment;
 
-/// The most differences that are told.
+/// How many differences are kept; the others are only counted.
 pub const TOLD: usize = 100;
 
 /// The calls of a log whose replies differ from what the log has.
@@ -26,7 +28,7 @@ impl Model for Compared {
 }
 
 impl Compared {
-    /// None.
+    /// No differences.
     pub(crate) fn new(alloc: Global) -> Compared
         ensures { result ≡ nothing_compared }
     {
@@ -37,28 +39,28 @@ impl Compared {
         }
     }
 
-    /// The first hundred.
+    /// The first hundred differences, in the order in which they were added.
     pub(crate) fn told(&self) -> &[Difference]
         ensures { result.now ≡ self.now.told }
     {
         self.told.as_slice()
     }
 
-    /// How many there are.
+    /// How many differences there are.
     pub(crate) fn count(&self) -> u64
         ensures { result ≡ self.now.count }
     {
         self.count
     }
 
-    /// How many of them may be by the schedule.
+    /// How many of the differences are by the schedule.
     pub(crate) fn by_schedule(&self) -> u64
         ensures { result ≡ self.now.by_schedule }
     {
         self.by_schedule
     }
 
-    /// One difference more.
+    /// Adds a difference. The error is an allocation failure.
     pub(crate) fn tell(
         &mut self,
         call: usize,
@@ -76,7 +78,7 @@ impl Compared {
     }
 }
 
-/// Tells a difference, where fewer than a hundred are told.
+/// Keeps a difference, if fewer than a hundred are kept.
 fn push_told(
     told: &mut Vec<Difference>,
     call: usize,
@@ -93,7 +95,7 @@ fn push_told(
     }
 }
 
-/// One difference more is told.
+/// Appends a difference to those that are kept.
 fn push_difference(
     told: &mut Vec<Difference>,
     call: usize,
@@ -112,7 +114,7 @@ fn push_difference(
     }
 }
 
-/// One more, if it counts.
+/// The count, with one more if `one` is set.
 fn counted(count: u64, one: bool) -> u64
     ensures { count < 2 ^ 64 - 1 → result ≡ count + cond one 1 0 }
 {

@@ -1,3 +1,5 @@
+//! Whether the reply of a call agrees with what the log has.
+
 ghost use Rattle.std.specs.Prelude.{◌≡◌, Some};
 ghost use Rattle.std.specs.Option.{option_copied};
 ghost use Rattle.zt_import.specs.Comparison.{handle_count, logged_packet, is_status, same_packet, bytes_agree, packets_agree, agrees, is_wait, waited, may_be_scheduled};
@@ -18,7 +20,7 @@ pub fn handle_count(reply: &Reply) -> usize
     }
 }
 
-/// Whether a reply is what the log has, in all that the log tells of it. A call that was not made has no reply.
+/// Whether a reply agrees with all that the log tells of it. A call that was not made has no reply, and does not agree.
 pub fn agrees(recorded: &RecordedReply, reply: Option<&Reply>) -> bool
     ensures { result ≡ agrees recorded.now (option_copied reply.entry) }
 {
@@ -28,7 +30,7 @@ pub fn agrees(recorded: &RecordedReply, reply: Option<&Reply>) -> bool
     }
 }
 
-/// Whether a reply is what the log has.
+/// Whether a reply agrees with all that the log tells of it.
 fn reply_agrees(recorded: &RecordedReply, reply: &Reply) -> bool
     ensures { result ≡ agrees recorded.now (Some reply.now) }
 {
@@ -48,7 +50,7 @@ fn is_status(recorded: Option<Status>, status: Status) -> bool
     }
 }
 
-/// Whether the bytes of a message are those that the log has, if it has some.
+/// Whether a reply has the bytes that the log has. It does if the log tells none.
 fn bytes_agree(recorded: &Option<Items<u8>>, reply: &Reply) -> bool
     ensures { result ≡ bytes_agree recorded.now reply.now }
 {
@@ -61,7 +63,7 @@ fn bytes_agree(recorded: &Option<Items<u8>>, reply: &Reply) -> bool
     }
 }
 
-/// Whether a packet is the one that the log has, if it has one.
+/// Whether a reply has the packet that the log has. It does if the log tells none.
 fn packets_agree(recorded: Option<LoggedPacket>, reply: &Reply) -> bool
     ensures { result ≡ packets_agree recorded reply.now }
 {
@@ -74,7 +76,7 @@ fn packets_agree(recorded: Option<LoggedPacket>, reply: &Reply) -> bool
     }
 }
 
-/// Whether these are one packet.
+/// Whether these are the same packet.
 pub fn same_packet(packet: LoggedPacket, other: LoggedPacket) -> bool
     ensures { result ≡ same_packet packet other }
 {
@@ -102,7 +104,7 @@ pub fn same_packet(packet: LoggedPacket, other: LoggedPacket) -> bool
     }
 }
 
-/// A packet as logs have it.
+/// A packet in the form in which a log has it.
 pub fn logged_packet(packet: Packet) -> LoggedPacket
     ensures { result ≡ logged_packet packet }
 {
@@ -121,8 +123,8 @@ pub fn logged_packet(packet: Packet) -> LoggedPacket
     }
 }
 
-/// Whether a call and its replies are such that they may differ by the schedule: a wait for a packet that got one or timed
-/// out, on both sides, and differs in nothing else.
+/// Whether the replies may differ by the schedule. They may for a `port_wait` that is ok or timed out on both sides, and
+/// differs only in its status or packet.
 pub fn may_be_scheduled(logged: &LoggedCall, reply: Option<&Reply>) -> bool
     ensures { result ≡ may_be_scheduled logged.now (option_copied reply.entry) }
 {
@@ -144,7 +146,7 @@ fn is_wait(call: &Call) -> bool
     matches!(call, Call::PortWait { .. })
 }
 
-/// Whether a wait for a packet with this status got one or timed out.
+/// Whether this is the status of a `port_wait` that got a packet or timed out.
 fn waited(status: Option<Status>) -> bool
     ensures { result ≡ waited status }
 {

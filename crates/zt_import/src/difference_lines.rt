@@ -1,3 +1,5 @@
+//! Prints a reply that differs as a line.
+
 use crate::comparison::{handle_count, logged_packet};
 use crate::run_log::Imported;
 use crate::trail::Difference;
@@ -6,10 +8,10 @@ use zt_logs::{LoggedCall, LoggedPacket, RecordedReply};
 use zt_rows::{Items, Reply};
 use zt_text::{put_bytes, put_mask};
 
-/// The most bytes of a message that are shown.
+/// How many bytes of a message are shown at most.
 const SHOWN_BYTES: usize = 32;
 
-/// The line of a difference, without a line feed.
+/// The line of a difference, without a line feed. The error is an allocation failure.
 pub fn print_difference(
     alloc: Global,
     calls: &[LoggedCall],
@@ -37,7 +39,7 @@ pub fn print_difference(
     Ok(text)
 }
 
-/// What the log has.
+/// Appends what the log has.
 fn put_recorded(text: &mut String, recorded: &RecordedReply) -> Result<(), AllocError> {
     let status = match recorded.status {
         Some(status) => status.word(),
@@ -54,7 +56,7 @@ fn put_recorded(text: &mut String, recorded: &RecordedReply) -> Result<(), Alloc
     }
 }
 
-/// What the semantics answers.
+/// Appends what the semantics answers.
 fn put_found(text: &mut String, reply: Option<&Reply>) -> Result<(), AllocError> {
     let Some(reply) = reply else {
         return text.push_str(", by the semantics no_process handles=0");
@@ -69,7 +71,7 @@ fn put_found(text: &mut String, reply: Option<&Reply>) -> Result<(), AllocError>
     }
 }
 
-/// The bytes of a message, or the first of them.
+/// Appends the bytes of a message. Of a longer one the first 32, and `..`.
 fn put_message(text: &mut String, bytes: &Items<u8>) -> Result<(), AllocError> {
     text.push_str(" bytes=")?;
     let shown = shown_part(bytes.as_slice());
@@ -81,7 +83,7 @@ fn put_message(text: &mut String, bytes: &Items<u8>) -> Result<(), AllocError> {
     }
 }
 
-/// So many of the bytes as are shown.
+/// The bytes that are shown.
 fn shown_part(bytes: &[u8]) -> &[u8] {
     match bytes.get(..SHOWN_BYTES) {
         Some(first) => first,

@@ -1,4 +1,5 @@
-//! Which replies of a log differ from what the semantics answers.
+//! Compares the replies of a log with what the semantics answers.
+
 ghost use Rattle.std.specs.Prelude.{◌≡◌, OnOk};
 ghost use Rattle.std.specs.Option.{option_to_list};
 ghost use Rattle.zt_import.specs.Trails.{asked_in, difference_at, difference_of, differences_of};
@@ -14,7 +15,7 @@ use std::alloc::Global;
 use zt_logs::{Cause, LogFault, LoggedCall};
 use zt_rows::Moment;
 
-/// Compares the replies of all calls of a log with what the log has.
+/// Compares the replies of all calls of a log. The error is an allocation failure, at line 0.
 pub(crate) fn compare_all(
     alloc: Global,
     taken: &mut Taken,
@@ -60,7 +61,8 @@ fn compare_step(
     }
 }
 
-/// Compares the reply of the last call of a line with what the log has; of several calls, that of the first that was not ok.
+/// Compares the reply of a line with what the log has. It is that of the line's first call that was not ok, or else of its
+/// last. A call ahead of the last of its line is not compared.
 fn compare(
     taken: &mut Taken,
     compared: &mut Compared,

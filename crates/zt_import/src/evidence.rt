@@ -1,4 +1,4 @@
-//! Which handles that come from nowhere are of one object, by what was done through one and seen through the other.
+//! Tells which adopted handles are of one object, by what was done through one handle and seen through the other.
 
 use crate::plan::Plan;
 use std::alloc::{AllocError, Global};
@@ -7,29 +7,29 @@ use zt_bits::{Kind, Status};
 use zt_logs::{LoggedCall, LoggedPacket};
 use zt_rows::Call;
 
-/// The objects to which one thing was done: one, or several.
+/// The objects to which a thing was done: one, or several.
 #[derive(Clone, Copy)]
 enum Doer {
     One(usize),
     Several,
 }
 
-/// What was seen of an object that comes from nowhere.
+/// Something that was seen at an adopted object.
 #[derive(Drop)]
 enum Seen {
     Packet { port: usize, key: (u64, Vec<u8>) },
     Signals { event: usize, trigger: u32 },
 }
 
-/// What was done to objects that come from nowhere, and what was seen of them.
+/// The evidence that a log has: what was done to adopted objects, and what was seen at them.
 #[derive(Drop)]
 pub(crate) struct Evidence {
-    /// At which port each packet of a user was queued.
+    /// The port at which each user packet was queued.
     queued: HashMap<(u64, Vec<u8>), Doer>,
-    /// The signals that were set of each object.
+    /// The signals that were set on each object.
     set: HashMap<usize, u32>,
     seen: Vec<Seen>,
-    /// Which object is waited on at a port with a key.
+    /// The object that was last waited on at a port with a key.
     waits: HashMap<(usize, u64), usize>,
 }
 
@@ -43,7 +43,7 @@ impl Evidence {
         }
     }
 
-    /// A packet was queued at a port.
+    /// Keeps that a packet was queued at a port.
     fn add_queued(&mut self, port: usize, key: u64, bytes: &[u8; 32]) -> Result<(), AllocError> {
         let alloc = *self.seen.allocator();
         let packet = (key, Vec::from_slice(alloc, bytes.as_slice())?);
@@ -56,7 +56,7 @@ impl Evidence {
         Ok(())
     }
 
-    /// Signals of an object were set.
+    /// Keeps that signals were set on an object.
     fn add_set(&mut self, object: usize, bits: u32) -> Result<(), AllocError> {
         let before = self.set_of(object);
         self.set.insert(object, before | bits)?;
@@ -91,7 +91,7 @@ impl Evidence {
         self.waits.get(&(port, key)).copied()
     }
 
-    /// The port at which alone a packet was queued that was got at another.
+    /// The only port at which a packet was queued, if it is another than the one where it was got.
     fn other_port(&self, port: usize, key: &(u64, Vec<u8>)) -> Option<usize> {
         match self.queued.get(key).copied() {
             Some(Doer::One(other)) if other != port => Some(other),
@@ -99,7 +99,8 @@ impl Evidence {
         }
     }
 
-    /// The event of which alone signals were set that were seen of another, and never set of that.
+    /// The only other event on which one of the signals of `trigger` was set. None if one of them was set on `event`
+    /// itself.
     fn other_event(&self, plan: &Plan, event: usize, trigger: u32) -> Option<usize> {
         if self.set_of(event) & trigger != 0 {
             return None;
@@ -118,7 +119,7 @@ impl Evidence {
 }
 
 impl Plan {
-    /// Keeps what a call that was ok did to an object that comes from nowhere, or saw of it.
+    /// Keeps what an ok call did to an adopted object, or saw at it.
     pub(crate) fn see_evidence(&mut self, logged: &LoggedCall) -> Result<(), AllocError> {
         if logged.recorded.status != Some(Status::Ok) {
             return Ok(());
@@ -156,7 +157,7 @@ impl Plan {
         }
     }
 
-    /// A packet was got at a port.
+    /// Keeps that a packet was got at a port.
     fn see_packet(&mut self, port: usize, packet: LoggedPacket) -> Result<(), AllocError> {
         match packet {
             LoggedPacket::User { key, bytes } => {
@@ -172,7 +173,8 @@ impl Plan {
         }
     }
 
-    /// Pairs of objects that are one: each packet, and each signal of an event, that was seen of one was done to the other alone.
+    /// Pairs of objects that are one. A packet or a signal of an event was seen at the first of a pair, and queued or set
+    /// at the second alone.
     pub(crate) fn same_objects(&self, alloc: Global) -> Result<Vec<(usize, usize)>, AllocError> {
         let mut same = Vec::new(alloc);
         for seen in self.evidence.seen.as_slice() {
@@ -183,7 +185,7 @@ impl Plan {
         Ok(same)
     }
 
-    /// The two objects that are one by what was seen.
+    /// The two objects that are one by this evidence.
     fn same_by(&self, seen: &Seen) -> Option<(usize, usize)> {
         match seen {
             Seen::Packet { port, key } => {

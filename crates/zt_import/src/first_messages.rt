@@ -1,16 +1,18 @@
+//! Finds the ends at which a message was the first to be written.
+
 use crate::seen_objects::SeenObjects;
 use std::alloc::{AllocError, Global};
 use std::collections::HashMap;
 
-/// The ends that come from nowhere and at which one message was written first, in the order in which it was.
+/// The adopted ends at which one message was written first, in the order of those writes.
 #[derive(Drop)]
 struct Writers {
     ends: Vec<usize>,
-    /// How many of them were taken, or left out.
+    /// How many of the ends were taken or passed over, from the first on.
     taken: usize,
 }
 
-/// The ends that come from nowhere, by the bytes and the number of handles of what was first written at them.
+/// The adopted ends, by the bytes and the number of handles of the first message that was written at them.
 #[derive(Drop)]
 pub(crate) struct FirstMessages {
     alloc: Global,
@@ -25,7 +27,7 @@ impl FirstMessages {
         }
     }
 
-    /// One more end, at which this was written first.
+    /// Adds an end at which this message was written first. The error is an allocation failure.
     pub(crate) fn add(
         &mut self,
         bytes: &[u8],
@@ -43,7 +45,7 @@ impl FirstMessages {
         Ok(())
     }
 
-    /// The ends at which this was written first.
+    /// The ends at which this message was written first.
     pub(crate) fn ends(&self, bytes: &[u8], handles: usize) -> Result<&[usize], AllocError> {
         let key = (Vec::from_slice(self.alloc, bytes)?, handles);
         match self.writers.get(&key) {
@@ -52,8 +54,8 @@ impl FirstMessages {
         }
     }
 
-    /// Takes the first end at which this was written first, whose peer may still be found, but for one. What stood before it
-    /// is left out from here on.
+    /// Takes the first end at which this message was written first and whose peer may still be found, other than `but`. The
+    /// ends before it are passed over from then on.
     pub(crate) fn take(
         &mut self,
         bytes: &[u8],

@@ -1,4 +1,4 @@
-//! Which ends of channels that come from nowhere are the two of one channel, by all that was read and written at them.
+//! Tells which adopted ends are the two ends of one channel, by all that was read and written at them.
 
 use crate::arranged::Arranged;
 use crate::plan::Plan;
@@ -10,16 +10,16 @@ use zt_bits::Kind;
 use zt_logs::LoggedCall;
 use zt_rows::{Call, HandleValue};
 
-/// An end by the first handle that the log has of it, with its process.
+/// An end by the first handle that the log has of it: the process, and the handle value.
 pub(crate) type EndName = (u64, u32);
 
-/// Which ends are joined while a log is gone over.
+/// Which ends are joined while a plan goes over a log.
 #[derive(Drop)]
 pub(crate) enum Joins {
-    /// Those of which the first message that is read at one was the first to be written at the other, in turn. This is what most
-    /// logs come to.
+    /// An end is joined when a message is read at it first, with the end at which that message was written first. Most logs
+    /// come to these joins.
     Guessed,
-    /// These, each with its other one.
+    /// These ends, each with its other end.
     Found(HashMap<EndName, EndName>),
 }
 
@@ -28,7 +28,7 @@ impl Joins {
         matches!(self, Joins::Guessed)
     }
 
-    /// The end that is joined with this one.
+    /// The end that is joined with this one, if the joins are found.
     pub(crate) fn other(&self, end: EndName) -> Option<EndName> {
         match self {
             Joins::Guessed => None,
@@ -37,7 +37,7 @@ impl Joins {
     }
 }
 
-/// What is known of the other end of each object, while ends are compared.
+/// Which ends would do as the other end of an end.
 #[derive(Clone, Copy)]
 enum Partner {
     Nobody,
@@ -46,7 +46,7 @@ enum Partner {
 }
 
 impl Partner {
-    /// One more that would do.
+    /// Adds an end that would do.
     fn and(self, other: usize) -> Partner {
         match self {
             Partner::Nobody => Partner::One(other),
@@ -56,7 +56,7 @@ impl Partner {
     }
 }
 
-/// The other end of each object, where all that was read and written at both leaves no third.
+/// For each object, which ends would do as its other end, by all that was read and written at both.
 #[derive(Drop)]
 pub(crate) struct Partners {
     partners: Vec<Partner>,
@@ -69,7 +69,7 @@ impl Partners {
         })
     }
 
-    /// These two would do.
+    /// Adds that each of these two ends would do for the other.
     fn add(&mut self, one: usize, other: usize) {
         if let Some(partner) = self.partners.get_mut(one) {
             *partner = partner.and(other);
@@ -79,7 +79,7 @@ impl Partners {
         }
     }
 
-    /// Of an end this one is the other, or none.
+    /// Sets what is known of the other end of this one.
     fn set(&mut self, end: usize, partner: Partner) {
         if let Some(known) = self.partners.get_mut(end) {
             *known = partner;
@@ -93,7 +93,7 @@ impl Partners {
         }
     }
 
-    /// The end that alone would do for this one, and for which this one alone would do.
+    /// The only end that would do for this one, if this one is also the only end that would do for that.
     pub(crate) fn of(&self, end: usize) -> Option<usize> {
         let Partner::One(other) = self.at(end) else {
             return None;
@@ -106,7 +106,7 @@ impl Partners {
 }
 
 impl Plan {
-    /// Compares all ends with those that may be their others.
+    /// Compares all ends with those that may be their other ends.
     pub(crate) fn partners(
         &self,
         alloc: Global,
@@ -121,7 +121,7 @@ impl Plan {
         Ok(partners)
     }
 
-    /// Where the log tells the peer of an end by its koid, that alone is it.
+    /// If the log tells the koid of an end's peer, only the end with that koid would do.
     fn set_told(&self, partners: &mut Partners) {
         for end in 0..self.objects.count() {
             match self.koids.joined(end) {
@@ -132,8 +132,8 @@ impl Plan {
         }
     }
 
-    /// Compares an end with those at which the first message was written that is the first to be read here. Behind the second
-    /// that would do none is compared, and each is taken to do.
+    /// Compares an end with the ends at which the message that it read first was written first. Once two would do, the
+    /// others are taken to do without a comparison.
     fn add_partners(
         &self,
         partners: &mut Partners,
@@ -155,7 +155,7 @@ impl Plan {
         Ok(())
     }
 
-    /// The call that reads the first message at an end that may have its other one in the log.
+    /// The call that read the first message at an end, if the other end may be in the log.
     fn first_read<'a>(&self, calls: &'a [LoggedCall], end: usize) -> Option<&'a LoggedCall> {
         if !self.may_be_joined(calls, end) {
             return None;
@@ -166,7 +166,7 @@ impl Plan {
         }
     }
 
-    /// Whether an end comes from nowhere, and the log tells what the first message was that came there, if one did.
+    /// Whether an end is adopted, and the log tells what its first message was. An end without a message may be joined too.
     fn may_be_joined(&self, calls: &[LoggedCall], end: usize) -> bool {
         self.is_named(end)
             && match self.objects.read(end).first() {
@@ -184,7 +184,7 @@ impl Plan {
             && follows(&self.objects, calls, order, other, one)
     }
 
-    /// Whether the ends that are joined are just those that have no third.
+    /// Whether the ends that are joined are exactly those for which one other end alone would do.
     pub(crate) fn is_joined_by(&self, partners: &Partners) -> bool {
         for end in 0..self.objects.count() {
             if self.objects.adopted(end).is_some() && self.objects.peer(end) != partners.of(end) {
@@ -194,7 +194,7 @@ impl Plan {
         true
     }
 
-    /// Moves the writes at the ends of channels whose others are known ahead of the reads of what they wrote. Tells whether one was
+    /// Moves writes ahead of the reads of their messages, at all channels with both ends known. Returns whether one was
     /// moved.
     pub(crate) fn move_writes(
         &self,
@@ -211,7 +211,7 @@ impl Plan {
         Ok(order.moves().len() > before)
     }
 
-    /// The end of the same channel, where the log made that, or it is joined.
+    /// The other end of an end: its peer in the log if the log made it, or the end that it is joined with.
     fn other_end(&self, partners: &Partners, end: usize) -> Option<usize> {
         match self.objects.adopted(end) {
             Some(_) => partners.of(end),
@@ -219,7 +219,8 @@ impl Plan {
         }
     }
 
-    /// The same of the reads at one end. Each is of the next message that was written and is the same.
+    /// Moves the writes at one end ahead of the reads of their messages at the other. Each read takes the next write of its
+    /// message.
     fn move_writes_at(
         &self,
         calls: &[LoggedCall],
@@ -240,7 +241,7 @@ impl Plan {
         Ok(())
     }
 
-    /// What each end is joined by that is one of a channel, as its other end is.
+    /// The joins of all ends with their peers. Both ends of a pair are of channels, or both of event pairs.
     pub(crate) fn joined_ends(
         &self,
         alloc: Global,
@@ -255,7 +256,7 @@ impl Plan {
         Ok(joined)
     }
 
-    /// What an end is joined by with another.
+    /// The join of an end with its peer, if both are adopted ends of one kind.
     fn joined_by(&self, calls: &[LoggedCall], end: usize) -> Option<JoinedEnd> {
         let other = self.objects.peer(end)?;
         let (process, handle) = self.objects.adopted(other)?;
@@ -289,7 +290,7 @@ impl Plan {
         one == two && matches!(one, Kind::Channel | Kind::EventPair)
     }
 
-    /// Which call wrote the message that was the first to be read at one of two ends, and which read it.
+    /// The calls that wrote and read the first message that was read at either of two ends: the write, then the read.
     fn first_message(&self, one: usize, other: usize) -> Option<(usize, usize)> {
         let here = self.first_message_at(one, other);
         let there = self.first_message_at(other, one);
@@ -300,7 +301,7 @@ impl Plan {
         }
     }
 
-    /// Which call wrote the first message that was read at an end, at the other one, and which read it.
+    /// The calls that wrote and read the first message at an end: the write at the other end, then the read.
     fn first_message_at(&self, reader: usize, writer: usize) -> Option<(usize, usize)> {
         let written = self.objects.written(writer).first().copied()?;
         match self.objects.read(reader).first() {
@@ -309,7 +310,7 @@ impl Plan {
         }
     }
 
-    /// These ends by their names.
+    /// The ends that are joined, each with its other end, by their names.
     pub(crate) fn joins_of(
         &self,
         alloc: Global,
@@ -338,14 +339,14 @@ fn insert_joined(
     Ok(())
 }
 
-/// How many messages were read, and not discarded.
+/// How many messages were read and not discarded.
 fn messages_in(read: &[Reading]) -> usize {
     read.iter()
         .filter(|reading| matches!(reading, Reading::Message(_)))
         .count()
 }
 
-/// The line of a call; 0, where there is none of this number.
+/// The line of the call with this number; 0 if there is none.
 pub(crate) fn line_of(calls: &[LoggedCall], call: usize) -> u64 {
     match calls.get(call) {
         Some(logged) => logged.line,
@@ -364,7 +365,7 @@ fn insert_join(
     Ok(())
 }
 
-/// Whether each message that was read at an end, or discarded there, was written at the other before, in order.
+/// Whether each message that was read or discarded at an end was written at the other before, in order.
 fn follows(
     objects: &SeenObjects,
     calls: &[LoggedCall],
@@ -382,7 +383,8 @@ fn follows(
     true
 }
 
-/// Whether what a call wrote is what was read, or can have been discarded.
+/// Whether a call wrote the message that was read, or one that may have been discarded, and stands ahead or may be moved
+/// ahead.
 fn is_message(calls: &[LoggedCall], order: &Arranged, write: usize, reading: Reading) -> bool {
     match reading {
         Reading::Discarded(read) => is_ahead(calls, order, write, read),
@@ -392,10 +394,10 @@ fn is_message(calls: &[LoggedCall], order: &Arranged, write: usize, reading: Rea
     }
 }
 
-/// How many messages are looked at for the one that a call read.
+/// How many writes are searched for the message of a read.
 const WRITES: usize = 8;
 
-/// The next write of the message that a call read, or discarded, with its place.
+/// The next write of a message that was read or discarded, with its place among the writes.
 fn next_same(
     calls: &[LoggedCall],
     written: &[usize],
@@ -415,13 +417,13 @@ fn next_same(
     None
 }
 
-/// Whether a call stands ahead of another in an order, or may be moved there.
+/// Whether a call stands ahead of another, or may be moved there.
 fn is_ahead(calls: &[LoggedCall], order: &Arranged, one: usize, other: usize) -> bool {
     order.precedes(one, other)
         || order.can_move_line(calls, order.place_of(one), order.place_of(other))
 }
 
-/// Whether a read has the bytes of what was written, as far as the log tells them, and as many handles.
+/// Whether a read has the bytes of a write, as far as the log tells them, and as many handles.
 fn is_same(written: Option<&LoggedCall>, read: Option<&LoggedCall>) -> bool {
     let (Some(written), Some(read)) = (written, read) else {
         return false;

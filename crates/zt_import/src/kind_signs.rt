@@ -1,6 +1,8 @@
+//! Tells the kind of an object by the uses of its handles.
+
 use zt_bits::Kind;
 
-/// What a use of a handle tells of the kind of its object.
+/// The sign that a use of a handle gives of its object's kind.
 #[derive(Clone, Copy, Debug, PartialEq, Eq)]
 pub(crate) enum Sign {
     Nothing,
@@ -10,11 +12,11 @@ pub(crate) enum Sign {
     Process,
     /// A job or a process.
     Task,
-    /// A kind that has a peer.
+    /// A channel or an event pair, which have peers.
     Peer,
 }
 
-/// How many uses have each sign, up to the most that a number holds.
+/// How many uses have each sign. A count stays at the highest number that fits.
 #[derive(Clone, Copy)]
 struct Signs {
     channel: u32,
@@ -49,8 +51,9 @@ impl Signs {
         }
     }
 
-    /// The kind that most of them tell; the first of those of which as many do. What is a sign of two kinds counts for the
-    /// first of the two, too, where something else shows that: one of these, or what is known besides.
+    /// The kind that most signs tell; in a tie, the first of channel, port, job, process and event pair. A sign of a peer
+    /// counts for a channel too, if a sign of a channel is there or `is_channel` is set. A sign of a task counts for a job
+    /// too, if a sign of a job is there.
     fn kind(self, is_channel: bool) -> Option<Kind> {
         let channel = if is_channel || self.channel > 0 {
             self.channel.saturating_add(self.peer)
@@ -73,7 +76,7 @@ impl Signs {
     }
 }
 
-/// The first kind with the highest number, unless all are 0.
+/// The first kind with the highest count, unless all counts are 0.
 fn most_told(kinds: &[(Kind, u32)]) -> Option<Kind> {
     let mut most = 0;
     let mut found = None;
@@ -86,7 +89,7 @@ fn most_told(kinds: &[(Kind, u32)]) -> Option<Kind> {
     found
 }
 
-/// What the uses of an object tell of its kind: what calls do with it, and what is waited for at it.
+/// The signs of an object's kind, by its calls and by the waits on it.
 #[derive(Clone, Copy)]
 pub(crate) struct KindSigns {
     by_calls: Signs,
@@ -109,7 +112,7 @@ impl KindSigns {
         self.by_waits.add(sign)
     }
 
-    /// The kind, and whether a use tells it. Waits are asked where no call does. Where none does it is an event.
+    /// The kind, and whether a use tells it. Waits count only if no call tells a kind. If no use tells one, it is an event.
     pub(crate) fn kind(self) -> (Kind, bool) {
         if let Some(kind) = self.by_calls.kind(self.by_waits.channel > 0) {
             return (kind, true);

@@ -1,5 +1,5 @@
-//! A log of calls of a real system, as a trace: its calls are run one by one over a history, behind what makes that which
-//! the log uses and never got, and what the real system answered is compared with the semantics.
+//! Imports a log of a real system's calls as a trace. The calls run one by one over a history, behind calls that make what
+//! the log uses and never got. The replies of the real system are compared with those of the semantics.
 #![tactic(auto)]
 
 mod adoption;

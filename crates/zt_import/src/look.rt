@@ -1,4 +1,4 @@
-//! Looks for an order of a log in which replies agree that do not in that of the log.
+//! Looks for an order of a log's calls in which more replies agree with the log.
 
 use crate::adoption::Adoption;
 use crate::arranged::Arranged;
@@ -16,24 +16,24 @@ use zt_bits::Status;
 use zt_logs::{Cause, LogFault, LoggedCall};
 use zt_rows::{Call, Moment};
 
-/// How many places before and behind a call are searched. Where most lines are one or two calls, this covers `MOST_LINES`
-/// lines; beside long `handle_close_many` lines it covers fewer.
+/// The search stays closer than this many places to a call, ahead of it and behind it. A line can be several calls. So next
+/// to a long `handle_close_many` the search can cover fewer than `MOST_LINES` lines.
 const PLACES: usize = 1_024;
 
-/// What is looked at: the calls of a log, and what they need.
+/// The calls of a log, and the plan of what they need.
 #[derive(Clone, Copy)]
 struct Log<'a> {
     calls: &'a [LoggedCall],
     plan: &'a Plan,
 }
 
-/// The call of a place of an order.
+/// The call at a place of an order.
 fn called_at<'a>(log: Log<'a>, order: &Arranged, place: usize) -> Option<&'a LoggedCall> {
     log.calls.get(order.at(place)?)
 }
 
-/// Runs the calls in an order, and moves those that have to be made earlier, so that their own reply agrees with the log, or that
-/// of a call ahead of which they are moved.
+/// Runs the calls in an order, and moves calls ahead so that replies agree with the log: their own, or that of the call
+/// behind. The error is `Full` or `OutOfMemory`, at line 0.
 pub(crate) fn look(
     alloc: Global,
     calls: &[LoggedCall],
@@ -78,7 +78,7 @@ fn look_at_all(
     Ok(())
 }
 
-/// Runs a call of the log where it answers what the log has, or where no other order can make it so. Tells whether it did.
+/// Runs a call of the log if its reply agrees with the log, or if no other order can make it agree. Returns whether it ran.
 fn run_agreeing(
     taken: &mut Taken,
     numbers: &mut Numbers,
@@ -112,8 +112,9 @@ fn run_anyway(
     Ok(())
 }
 
-/// Moves another call ahead of that of a place, or this one to an earlier place, where its reply agrees with the log then. Gives the call that
-/// is run next, if one is: a call that is moved ahead of others which were run is run only where it may have changed something.
+/// Changes the order so that the reply of the call at `place` agrees with the log, if that can be done. The cause is moved
+/// ahead of it, or the call itself to an earlier place. Returns the call to run next, if there is one. A call that is moved
+/// ahead of calls that ran is run only if it may have changed something.
 fn arrange(
     alloc: Global,
     scratch: &mut Scratch,
@@ -138,7 +139,7 @@ fn arrange(
     Ok(next)
 }
 
-/// Whether the log says that a call did something.
+/// Whether the log says that a call was ok.
 fn may_change(calls: &[LoggedCall], index: usize) -> bool {
     match calls.get(index) {
         Some(logged) => logged.recorded.status == Some(Status::Ok),
@@ -153,8 +154,8 @@ struct Parts {
     count: usize,
 }
 
-/// The calls behind this one, the first of their process, ahead of which this one's reply does not agree with the log, and behind which
-/// it does. They are one, or the first of a line.
+/// The calls behind this one that make its reply agree with the log if they run first. They are the next of their process:
+/// one call, or several of a line from there on.
 fn cause_of(
     alloc: Global,
     scratch: &mut Scratch,
@@ -186,7 +187,7 @@ fn cause_of(
     Ok(None)
 }
 
-/// One process more. Tells whether it is another than those before.
+/// Adds a process. Returns whether it was new.
 fn see(seen: &mut HashMap<u64, ()>, process: u64) -> Result<bool, Cause> {
     match seen.insert(process, ()) {
         Ok(before) => Ok(before.is_none()),
@@ -194,8 +195,8 @@ fn see(seen: &mut HashMap<u64, ()>, process: u64) -> Result<bool, Cause> {
     }
 }
 
-/// The calls of a line from the one of a place on, up to that which may be what makes the reply of another call agree, where all may be
-/// moved ahead of that.
+/// The calls of a line from the one at `from` up to the first that may be the cause of the reply at `to`. None if one of
+/// them may not be moved ahead of `to`.
 fn causing(log: Log<'_>, order: &Arranged, from: usize, to: usize) -> Option<Parts> {
     let logged = called_at(log, order, to)?;
     let first = called_at(log, order, from)?;
@@ -215,7 +216,7 @@ fn causing(log: Log<'_>, order: &Arranged, from: usize, to: usize) -> Option<Par
     None
 }
 
-/// Whether calls answer what the log has, and behind them another one does.
+/// Whether these calls agree with the log if they run now, and `logged` agrees behind them.
 fn makes_agree(
     scratch: &mut Scratch,
     numbers: &mut Numbers,
@@ -242,7 +243,7 @@ fn makes_agree(
     Ok(agrees)
 }
 
-/// Tries a call of the log at a moment: that which it makes, if it answers what the log has.
+/// Tries a call of the log at a moment. Returns the moment that it makes, if its reply agrees with the log.
 fn tried(
     scratch: &mut Scratch,
     numbers: &Numbers,
@@ -253,11 +254,11 @@ fn tried(
     scratch.tried(at, numbers.process(logged.process), &call, &logged.recorded)
 }
 
-/// How many calls behind one are gone over for the next on the same object.
+/// The search for the next call that takes from the same handle stays closer than this many places.
 const NEXT: usize = 8_192;
 
-/// Whether a call that got nothing, by the log, may have left what the trace has for it: so where the next call of its process that
-/// got something there got just that, by the log, or where there is none.
+/// Whether a call that got nothing in the log may have left what the trace has for it. It may if the next call of its
+/// process that took something there got exactly that, or if there is no such call.
 fn leaves_it(
     scratch: &mut Scratch,
     numbers: &Numbers,
@@ -291,7 +292,7 @@ fn takes(logged: &LoggedCall) -> bool {
     )
 }
 
-/// The next call of the same process that took something from the same object, by the log.
+/// The next call of the same process that took something by the same handle value, in the log.
 fn next_that_took<'a>(log: Log<'a>, order: &Arranged, place: usize) -> Option<&'a LoggedCall> {
     let first = called_at(log, order, place)?;
     for behind in 1..NEXT {
@@ -306,7 +307,7 @@ fn next_that_took<'a>(log: Log<'a>, order: &Arranged, place: usize) -> Option<&'
     None
 }
 
-/// Whether both take from what one handle names.
+/// Whether both calls take a message, or both a packet, by the same handle value.
 fn takes_from_same(first: &Call, next: &Call) -> bool {
     match (first, next) {
         (Call::ChannelRead { handle, .. }, Call::ChannelRead { handle: other, .. }) => {
@@ -317,7 +318,7 @@ fn takes_from_same(first: &Call, next: &Call) -> bool {
     }
 }
 
-/// The nearest earlier place at which the call of a place answers what the log has.
+/// The nearest earlier place at which the reply of this call agrees with the log, if it may be moved there.
 fn earlier_place(
     scratch: &mut Scratch,
     numbers: &Numbers,

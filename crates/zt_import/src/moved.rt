@@ -1,4 +1,5 @@
-//! Which calls of a trail are moved ahead of others that stand before them in the log.
+//! Tells which calls of a trail are moved ahead of calls that the log has before them.
+
 ghost use Rattle.std.specs.Prelude.{◌≡◌};
 ghost use Rattle.zt_import.specs.Counts.{moved_in};
 ghost use Rattle.zt_import.specs.Trails.{numbers_in};
@@ -7,7 +8,7 @@ ghost use Rattle.zt_import.specs.ProofsOnly.Least.{is_below, lesser};
 use crate::trail::{Origin, TrailStep};
 use std::alloc::{AllocError, Global};
 
-/// How many calls stand ahead of one that is before them in the log.
+/// How many calls stand ahead of a call that the log has before them.
 pub fn moved_in(trail: &[TrailStep]) -> usize
     ensures { result ≡ moved_in (numbers_in trail.now) }
 {
@@ -26,7 +27,7 @@ pub fn moved_in(trail: &[TrailStep]) -> usize
     count
 }
 
-/// Whether a number is below this one.
+/// Whether `least` is below `number`.
 fn is_below(least: Option<usize>, number: usize) -> bool
     ensures { result ≡ is_below least number }
 {
@@ -36,7 +37,7 @@ fn is_below(least: Option<usize>, number: usize) -> bool
     }
 }
 
-/// The lesser of two numbers.
+/// The lesser of the two numbers.
 fn lesser(least: Option<usize>, number: usize) -> Option<usize>
     ensures { result ≡ lesser least number }
 {
@@ -46,7 +47,7 @@ fn lesser(least: Option<usize>, number: usize) -> Option<usize>
     }
 }
 
-/// Of each step the first call of the log that is not run ahead of it, where it is moved ahead of that.
+/// For each step, the first call of the log that it is moved ahead of; none if it is not moved.
 pub(crate) fn passed_by(
     alloc: Global,
     trail: &[TrailStep],
@@ -62,16 +63,16 @@ pub(crate) fn passed_by(
     Ok(passed)
 }
 
-/// Which calls of a log were run.
+/// The calls of a log that were run so far.
 #[derive(Drop)]
 struct RunCalls {
     are_run: Vec<bool>,
-    /// The first that was not.
+    /// The first call that was not run.
     next: usize,
 }
 
 impl RunCalls {
-    /// One step more: the first call that is not run yet, if this is a call behind it.
+    /// Adds a step. Returns the first call that has not run yet, if the log has it before the call of this step.
     fn step(&mut self, origin: Origin) -> Option<usize> {
         let Origin::Logged(number) = origin else {
             return None;
@@ -87,7 +88,7 @@ impl RunCalls {
         }
     }
 
-    /// Passes by the calls that were run.
+    /// Moves `next` past the calls that were run.
     fn advance(&mut self) {
         for number in self.next..self.are_run.len() {
             if self.are_run.get(number).copied() != Some(true) {

@@ -1,3 +1,5 @@
+//! Maps the processes and handles of a log to those of the trace.
+
 ghost use Rattle.std.specs.Prelude.{◌≡◌, ℕ, suc, Some, IfOk, OnOk, length, vec_len};
 ghost use Rattle.std.specs.Option.{option_copied};
 ghost use Rattle.zt_import.specs.Trails.{bare, pair_of, spawned_in};
@@ -12,13 +14,13 @@ use zt_rows::{Call, HandleValue, Koid, Parcel, Reply};
 /// A handle value that no handle has.
 pub(crate) const NO_HANDLE: HandleValue = HandleValue(4_294_967_292);
 
-/// What the numbers of the log are in the trace: processes, and the handles of each.
+/// The processes of the log in the trace, and the handles of each.
 #[derive(Drop)]
 pub(crate) struct Numbers {
     alloc: Global,
     pub(crate) processes: HashMap<u64, Koid>,
     handles: HashMap<(u64, u32), HandleValue>,
-    /// Those that the calls of a line gave for the message that the last of them writes, by their places in it.
+    /// The handles that calls of a line gave for the message that the line writes, by their places in it.
     copies: HashMap<usize, HandleValue>,
 }
 
@@ -34,7 +36,7 @@ impl Numbers {
         }
     }
 
-    /// The process of this number; 0, which is none, where it is not known.
+    /// The trace's process for this number of the log; 0, which is no process, if it is not known.
     pub(crate) fn process(&self, process: u64) -> Koid
         ensures { result ≡ process_in self.now.processes process }
     {
@@ -44,7 +46,7 @@ impl Numbers {
         }
     }
 
-    /// From here on the process of the log is this one.
+    /// Maps a process of the log to this process of the trace.
     fn set_process(&mut self, process: u64, koid: Koid) -> Result<(), AllocError>
         ensures { OnOk result (Learns self.old.processes self.new.processes (Some (process, koid))) }
     {
@@ -54,7 +56,7 @@ impl Numbers {
         }
     }
 
-    /// From here on the child of the log, if it has one, is the process that a call made by its reply, if it made one.
+    /// Maps the child that the log tells, if it tells one, to the process that the reply made, if it made one.
     pub(crate) fn learn_process(
         &mut self,
         child: Option<u64>,
@@ -71,7 +73,7 @@ impl Numbers {
         }
     }
 
-    /// From here on the handle of the process is this one. 0 stays 0.
+    /// Maps a handle of a process in the log to its value in the trace. A handle of 0 is left as it is.
     pub(crate) fn set_handle(
         &mut self,
         process: u64,
@@ -89,7 +91,7 @@ impl Numbers {
         }
     }
 
-    /// The same of several handles, each with the one at its place.
+    /// Maps several handles, each to the value at its place.
     pub(crate) fn set_handles(
         &mut self,
         process: u64,
@@ -104,8 +106,8 @@ impl Numbers {
         Ok(())
     }
 
-    /// From here on the handle that a call of a line gave stands at its place in the message of the line; one that none has,
-    /// where it gave none. Behind the last call of the line there is none.
+    /// Keeps the handle that a call gave for the message of its line; `NO_HANDLE` if it gave none. The last call of a line
+    /// of several drops them all, if it gives none itself.
     pub(crate) fn learn_copy(
         &mut self,
         part: LinePart,
@@ -124,14 +126,14 @@ impl Numbers {
         }
     }
 
-    /// No call of a line gave a handle for its message from here on.
+    /// Drops the handles that calls of a line gave for its message.
     pub(crate) fn forget_copies(&mut self)
         ensures { self.new.processes ≡ self.old.processes }
     {
         self.copies = HashMap::new(self.alloc);
     }
 
-    /// Whether a call of a line gave a handle for its message that is not yet written.
+    /// Whether a handle is kept for a message that is not yet written.
     pub(crate) fn has_copies(&self) -> bool {
         !self.copies.is_empty()
     }
@@ -145,7 +147,7 @@ impl Numbers {
         }
     }
 
-    /// The handle at this place of a message that the process writes.
+    /// The handle at this place of a message, in the trace.
     fn sent(&self, process: u64, place: usize, handle: HandleValue) -> HandleValue {
         match self.copies.get(&place) {
             Some(value) => *value,
@@ -153,7 +155,7 @@ impl Numbers {
         }
     }
 
-    /// The handle of the process; one that none has, where it is not known.
+    /// The handle of the process in the trace; `NO_HANDLE` if it is not known.
     fn handle(&self, process: u64, handle: HandleValue) -> HandleValue {
         if handle.0 == 0 {
             return handle;
@@ -164,7 +166,7 @@ impl Numbers {
         }
     }
 
-    /// The call of a process of the log, with the handles that it names in the trace.
+    /// The call of a process of the log, with the handles of the trace.
     pub(crate) fn call(&self, process: u64, call: &Call) -> Result<Call, AllocError>
         ensures { IfOk result (λ named. bare named ≡ bare call.now) }
     {
@@ -194,7 +196,7 @@ impl Numbers {
         }
     }
 
-    /// The same of a call that names a channel, or of one that the functions below take.
+    /// Maps the handles of a call on channels. Passes other calls on to `call_on_ports`.
     fn call_on_channels(&self, process: u64, call: &Call) -> Result<Call, AllocError>
         ensures { IfOk result (λ named. bare named ≡ bare call.now) }
     {
@@ -221,7 +223,7 @@ impl Numbers {
         }
     }
 
-    /// The same of a call that names a port, or of one that the function below takes.
+    /// Maps the handles of a call on ports. Passes other calls on to `call_on_tasks`.
     fn call_on_ports(&self, process: u64, call: &Call) -> Result<Call, AllocError>
         ensures { IfOk result (λ named. bare named ≡ bare call.now) }
     {
@@ -256,7 +258,7 @@ impl Numbers {
         }
     }
 
-    /// The same of a call that names a job or a process, or no handle.
+    /// Maps the handles of a call on jobs and processes. Copies a call without handles.
     fn call_on_tasks(&self, process: u64, call: &Call) -> Result<Call, AllocError>
         ensures { IfOk result (λ named. bare named ≡ bare call.now) }
     {
@@ -279,7 +281,7 @@ impl Numbers {
         }
     }
 
-    /// A parcel of a process of the log, with the handles that it names in the trace.
+    /// The message of a process of the log, with the handles of the trace.
     fn parcel(&self, process: u64, parcel: &Parcel) -> Result<Parcel, AllocError>
         ensures bytes { IfOk result (λ named. named.bytes ≡ parcel.now.bytes) }
         ensures handles { IfOk result (λ named. length named.handles ≡ length parcel.now.handles) }
@@ -294,7 +296,7 @@ impl Numbers {
         }
     }
 
-    /// What handles of the process are in the trace.
+    /// The handles of a message, in the trace.
     fn named(
         &self,
         alloc: Global,
@@ -311,7 +313,7 @@ impl Numbers {
     }
 }
 
-/// The handle that a reply gives; one that none has, where it gives none.
+/// The handle that a reply gives; `NO_HANDLE` if it gives none.
 fn given(reply: Option<&Reply>) -> HandleValue {
     match reply {
         Some(Reply::Handle(value)) => *value,
@@ -319,7 +321,7 @@ fn given(reply: Option<&Reply>) -> HandleValue {
     }
 }
 
-/// One handle more.
+/// Appends a handle.
 fn push_handle(handles: &mut Vec<HandleValue>, handle: HandleValue) -> Result<(), AllocError>
     ensures { OnOk result (vec_len handles.new ≡ suc (vec_len handles.old)) }
 {

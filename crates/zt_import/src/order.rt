@@ -1,4 +1,5 @@
-//! The order in which the calls of a log are run: that of the log, but for calls that are moved ahead of others.
+//! The order in which the calls of a log run: the order of the log, except for calls that are moved ahead.
+
 ghost use Rattle.std.specs.Prelude.{◌≡◌, ◌∷◌, ◌++◌, [], IfOk, OnOk};
 ghost use Rattle.std.specs.Option.{option_copied};
 ghost use Rattle.zt_import.specs.Orders.{IsOrder, is_earlier, is_near_behind, is_begun_by, may_pass, may_pass_any, may_precede};
@@ -7,17 +8,18 @@ ghost use Rattle.zt_import.specs.Trails.{below};
 use std::alloc::{AllocError, Global};
 use zt_logs::{LogTime, LoggedCall};
 
-/// The most lines between two calls that are near each other: a call is moved ahead by no more.
+/// The distance in lines within which two calls are near each other. No call is moved ahead of a line that is farther.
 pub(crate) const MOST_LINES: u64 = 512;
 
-/// A call that is moved from a place to an earlier one.
+/// A move of a call to an earlier place.
 #[derive(Clone, Copy, Debug)]
 pub(crate) struct Move {
     pub(crate) from: usize,
     pub(crate) to: usize,
 }
 
-/// The calls in the order that moves lead to, one behind the other. A call stops where it may go no further.
+/// The numbers of the calls in the order to which these moves lead, one after another. A call stops where it may pass no
+/// further.
 pub(crate) fn ordered(
     alloc: Global,
     calls: &[LoggedCall],
@@ -32,7 +34,7 @@ pub(crate) fn ordered(
     Ok(numbers)
 }
 
-/// The numbers below this one, in their order.
+/// The numbers below `count`, in order.
 fn numbers_below(alloc: Global, count: usize) -> Result<Vec<usize>, AllocError>
     ensures { IfOk result (λ numbers. numbers.items ≡ below count) }
 {
@@ -43,7 +45,7 @@ fn numbers_below(alloc: Global, count: usize) -> Result<Vec<usize>, AllocError>
     Ok(numbers)
 }
 
-/// One number more.
+/// Appends a number.
 fn push_number(numbers: &mut Vec<usize>, number: usize) -> Result<(), AllocError>
     ensures { OnOk result (numbers.new.items ≡ numbers.old.items ++ number ∷ []) }
 {
@@ -53,7 +55,7 @@ fn push_number(numbers: &mut Vec<usize>, number: usize) -> Result<(), AllocError
     }
 }
 
-/// Moves a call ahead as far as it may go, and tells whether it came to its place.
+/// Moves a call ahead as far as it may go. Returns whether it reached its place.
 pub(crate) fn move_ahead(calls: &[LoggedCall], numbers: &mut Vec<usize>, made: Move) -> bool
     ensures { IsOrder calls.now numbers.old.items → IsOrder calls.now numbers.new.items }
 {
@@ -67,7 +69,7 @@ pub(crate) fn move_ahead(calls: &[LoggedCall], numbers: &mut Vec<usize>, made: M
     true
 }
 
-/// Lets the call behind the one of this place go ahead of it, where it may.
+/// Swaps the calls at `place` and behind it, if the one behind may stand ahead. Returns whether it did.
 fn pass(calls: &[LoggedCall], numbers: &mut Vec<usize>, place: usize) -> bool
     ensures { IsOrder calls.now numbers.old.items → IsOrder calls.now numbers.new.items }
 {
@@ -81,14 +83,14 @@ fn pass(calls: &[LoggedCall], numbers: &mut Vec<usize>, place: usize) -> bool
     true
 }
 
-/// Whether one call may stand ahead of another: it does in the log, or it may pass that.
+/// Whether call `one` may stand ahead of call `other`: it does in the log, or it may pass that call.
 pub(crate) fn may_precede(calls: &[LoggedCall], one: usize, other: usize) -> bool
     ensures { result ≡ may_precede calls.now one other }
 {
     one < other || may_pass_any(calls.get(one), calls.get(other))
 }
 
-/// The same of calls that may not be there.
+/// Whether the later of two calls may pass the earlier. No if one of them is missing.
 fn may_pass_any(later: Option<&LoggedCall>, earlier: Option<&LoggedCall>) -> bool
     ensures { result ≡ may_pass_any (option_copied later.entry) (option_copied earlier.entry) }
 {
@@ -110,14 +112,14 @@ fn may_pass(later: &LoggedCall, earlier: &LoggedCall) -> bool
         && is_begun_by(later, earlier)
 }
 
-/// Whether a line is near behind another, or ahead of it.
+/// Whether `line` is at most `MOST_LINES` lines behind `other`, or is not behind it.
 fn is_near_behind(line: u64, other: u64) -> bool
     ensures { result ≡ is_near_behind line other }
 {
     line <= other || line - other <= MOST_LINES
 }
 
-/// Whether a call had begun when another returned, as far as is known.
+/// Whether a call had begun when another returned. Yes if the log does not tell.
 fn is_begun_by(later: &LoggedCall, earlier: &LoggedCall) -> bool
     ensures { result ≡ is_begun_by later.now earlier.now }
 {

@@ -1,3 +1,5 @@
+//! Prints the comment of a call in a trace: where the call comes from.
+
 use crate::trail::{JoinedEnd, Origin};
 use crate::used_handles::handles_in;
 use itoa::Buffer;
@@ -7,10 +9,11 @@ use zt_logs::{CallLog, LineForm, LinePart, LoggedCall};
 use zt_rows::HandleValue;
 use zt_text::put_mask;
 
-/// The room that most lines need, so that one is written without asking for more.
+/// The capacity that most lines need, so that printing one allocates once.
 const USUAL_BYTES: usize = 120;
 
-/// Where a call comes from, in the numbers of the log, and ahead of which call it is moved, as it stands behind the `#` of a line that is skipped.
+/// The comment of a call without its `#`, in the numbers of the log: its origin, and ahead of which call it is moved. The
+/// error is an allocation failure.
 pub(crate) fn origin_line(
     alloc: Global,
     log: &CallLog,
@@ -23,7 +26,7 @@ pub(crate) fn origin_line(
     Ok(text)
 }
 
-/// That a call is moved ahead of another one, where it is.
+/// Appends that a call is moved ahead of this one, if it is.
 fn put_ahead(text: &mut String, log: &CallLog, ahead: Option<usize>) -> Result<(), AllocError> {
     match ahead {
         Some(index) => match log.calls.get(index) {
@@ -90,12 +93,12 @@ fn put_origin(text: &mut String, log: &CallLog, origin: Origin) -> Result<(), Al
     }
 }
 
-/// A decimal.
+/// Appends a number in decimal.
 fn put_number(text: &mut String, number: u64) -> Result<(), AllocError> {
     text.push_str(Buffer::new().format(number))
 }
 
-/// A process as the log has it, by its number or its name.
+/// Appends a process, by the number or the name that the log has.
 fn put_process(text: &mut String, log: &CallLog, process: u64) -> Result<(), AllocError> {
     text.push_str("process ")?;
     match log.names.shown(process) {
@@ -104,7 +107,7 @@ fn put_process(text: &mut String, log: &CallLog, process: u64) -> Result<(), All
     }
 }
 
-/// A kind, and that no use of the handle tells it, where that is so.
+/// Appends a kind, and a remark if no use of the handle tells it.
 fn put_kind(text: &mut String, kind: Kind, is_told: bool) -> Result<(), AllocError> {
     text.push_str(", ")?;
     text.push_str(kind.word())?;
@@ -115,7 +118,7 @@ fn put_kind(text: &mut String, kind: Kind, is_told: bool) -> Result<(), AllocErr
     }
 }
 
-/// That an object is taken for another than those of its kind before it, where there are some.
+/// Appends that an object is taken for another one than those of its kind before it, if there are any.
 fn put_others(text: &mut String, others: u64) -> Result<(), AllocError> {
     match others {
         0 => Ok(()),
@@ -127,7 +130,7 @@ fn put_others(text: &mut String, others: u64) -> Result<(), AllocError> {
     }
 }
 
-/// The other end of a channel, where it is one of the log, and by what it is that.
+/// Appends the end with which this one is joined, and by what.
 fn put_joined(
     text: &mut String,
     log: &CallLog,
@@ -149,12 +152,12 @@ fn put_joined(
     write!(text, "read by line {}", end.read)
 }
 
-/// The word behind so many messages.
+/// The word behind this many messages.
 fn message_word<'a>(count: usize) -> &'a str {
     if count == 1 { "message" } else { "messages" }
 }
 
-/// The line of the log, with the process and the handles by their numbers there.
+/// Appends the line of a call with its process and handles, by their numbers in the log.
 fn put_logged(text: &mut String, log: &CallLog, logged: &LoggedCall) -> Result<(), AllocError> {
     text.push_str(" line ")?;
     put_number(text, logged.line)?;
@@ -166,8 +169,8 @@ fn put_logged(text: &mut String, log: &CallLog, logged: &LoggedCall) -> Result<(
     put_part(text, logged.part)
 }
 
-/// The name of the call that the line has, where that is none of the semantics, and which of its calls this is of several; or for
-/// what it stands in.
+/// Appends what an object stands in for. Or appends the name of the line's call, if that is none of the semantics, and
+/// which of several calls this is.
 fn put_part(text: &mut String, part: LinePart) -> Result<(), AllocError> {
     if let LineForm::StandIn(kind) = part.form {
         text.push_str("; stands in for ")?;
@@ -185,12 +188,12 @@ fn put_part(text: &mut String, part: LinePart) -> Result<(), AllocError> {
     write!(text, "{}", part.count)
 }
 
-/// The word ahead of so many handles.
+/// The word ahead of this many handles.
 fn handle_word<'a>(count: usize) -> &'a str {
     if count == 1 { ", handle" } else { ", handles" }
 }
 
-/// Handles behind a word; nothing, where there are none.
+/// Appends handles behind a word; nothing if there are none.
 fn put_handles(text: &mut String, word: &str, handles: &[HandleValue]) -> Result<(), AllocError> {
     if handles.is_empty() {
         return Ok(());

@@ -1,3 +1,5 @@
+//! Plans what a trace has to make that a log uses and never got.
+
 use crate::arranged::Arranged;
 use crate::evidence::Evidence;
 use crate::first_messages::FirstMessages;
@@ -13,14 +15,14 @@ use zt_bits::{Kind, Status};
 use zt_logs::{Cause, LineForm, LogFault, LoggedCall};
 use zt_rows::{Call, HandleValue, Parcel};
 
-/// A process that makes calls and that nothing in the log made, with its handles that come from nowhere.
+/// A process that makes calls and that nothing in the log made, with its adopted handles.
 #[derive(Drop)]
 pub(crate) struct AdoptedProcess {
     pub(crate) number: u64,
     pub(crate) handles: Vec<AdoptedHandle>,
 }
 
-/// A handle of a process that comes from nowhere.
+/// An adopted handle of a process.
 #[derive(Clone, Copy)]
 pub(crate) struct AdoptedHandle {
     pub(crate) object: usize,
@@ -28,10 +30,10 @@ pub(crate) struct AdoptedHandle {
     pub(crate) handle: HandleValue,
 }
 
-/// A message that calls come upon and that nothing in the log wrote.
+/// A message that calls find and that no call of the log wrote.
 #[derive(Drop)]
 pub(crate) struct OutsideMessage {
-    /// At which end.
+    /// The end at which it is found.
     pub(crate) end: usize,
     pub(crate) content: OutsideContent,
     pub(crate) handles: Vec<AdoptedHandle>,
@@ -40,63 +42,67 @@ pub(crate) struct OutsideMessage {
 /// The bytes of a message from outside.
 #[derive(Clone, Copy)]
 pub(crate) enum OutsideContent {
-    /// Those that the call of this number reads.
+    /// The bytes that the call of this number reads.
     Read(usize),
-    /// So many, since no call reads them.
+    /// This many zeros, since no call reads the bytes.
     Unread(usize),
 }
 
 /// How a process comes into the log.
 #[derive(Clone, Copy)]
 enum Coming {
-    /// From nowhere, as the one of this place among those that do.
+    /// It is adopted, and has this place among the adopted processes.
     Adopted(usize),
-    /// By a call, which gave it a handle to this object, as long as no handle of it is known to be that.
+    /// A call spawned it and gave it a handle to this object. None if nothing was given, or once it is known which handle
+    /// that is.
     Spawned(Option<usize>),
 }
 
-/// What a trace has to make that a log uses and never got, found in one pass over the log.
+/// The plan of what a trace has to make, since a log uses it and never got it.
 #[derive(Drop)]
 pub(crate) struct Plan {
     pub(crate) processes: Vec<AdoptedProcess>,
     pub(crate) objects: SeenObjects,
-    /// By the first call that comes upon it, which has to find it there.
+    /// The messages from outside, by the first call that finds each, which has to find it there.
     pub(crate) outside: HashMap<usize, OutsideMessage>,
-    /// By which handle a process has what it was given when it was spawned.
+    /// The handle by which a spawned process has its argument.
     pub(crate) arguments: HashMap<u64, HandleValue>,
     comings: HashMap<u64, Coming>,
-    /// What each handle of each process names.
+    /// The object of each handle of each process.
     known: HashMap<(u64, u32), usize>,
     first_messages: FirstMessages,
     joins: Joins,
-    /// The calls on what stands in for another object.
+    /// The calls on stand-ins.
     pub(crate) uses: StandInUses,
-    /// What each end is joined by that is.
+    /// The join of each end that is joined.
     pub(crate) joined: HashMap<usize, JoinedEnd>,
-    /// Each object that comes from nowhere, by the first handle that the log has of it.
+    /// Each adopted object, by the first handle that the log has of it.
     named: HashMap<EndName, usize>,
-    /// What the log tells of the objects of handles.
+    /// The koids that the log tells of its objects.
     pub(crate) koids: ToldKoids,
     pub(crate) evidence: Evidence,
-    /// The objects that are those of other handles, by the names of both.
+    /// The handles that are of one object with an earlier handle, each with that handle.
     merged: HashMap<EndName, EndName>,
 }
 
-/// Which ends are joined, and which objects are those of other handles.
+/// The ends that are joined, and the handles that are of one object with an earlier handle.
 #[derive(Drop)]
 struct Found {
     joins: HashMap<EndName, EndName>,
     merged: HashMap<EndName, EndName>,
 }
 
-/// How often the ends that are joined are found anew, since what is known of handles in messages follows from them.
+/// How often the joined ends are found anew. They follow from what is known of handles in messages, which follows from
+/// them.
 const ROUNDS: usize = 8;
 
-/// How often more, since calls are moved by what is found.
+/// How often more they are found anew, since calls are moved by what is found.
 const MOVING_ROUNDS: usize = 16;
 
 impl Plan {
-    /// What a log needs, with those ends joined that have no third.
+    /// The plan of a log in which ends are joined only if no third end would do. Moves writes ahead of their reads in
+    /// `order`. If that does not settle, no ends are joined by messages, and no objects are one by what was seen. The error
+    /// is `SpawnedTwice` at a line, or `OutOfMemory`.
     pub(crate) fn of(
         alloc: Global,
         calls: &[LoggedCall],
@@ -118,7 +124,8 @@ impl Plan {
         Plan::with(alloc, calls, order, Joins::Found(HashMap::new(alloc)), none)
     }
 
-    /// Which ends are joined and which objects are one, unless it is taken so. Where calls were moved, objects are compared anew.
+    /// The ends that are joined and the handles that are of one object, as this plan shows them. None if this plan already
+    /// has them. If calls were moved, objects are compared anew.
     fn found_again(
         &self,
         alloc: Global,
@@ -147,7 +154,7 @@ impl Plan {
         }
     }
 
-    /// The objects that are those of other handles, with more of them, if there are more.
+    /// The handles that are of one object with an earlier handle, if this plan shows more of them than it has.
     fn merged_again(&self, alloc: Global) -> Result<Option<HashMap<EndName, EndName>>, AllocError> {
         let mut merged = self.merged_names(alloc)?;
         let before = merged.len();
@@ -162,7 +169,7 @@ impl Plan {
         }
     }
 
-    /// A later object is that of an earlier one.
+    /// Records that the handle of the object `later` is of the object `earlier`, unless that handle is recorded already.
     fn merge(
         &self,
         merged: &mut HashMap<EndName, EndName>,
@@ -188,7 +195,8 @@ impl Plan {
         Ok(merged)
     }
 
-    /// Which ends are joined, unless just those are. Of each of them the writes are moved ahead of their reads.
+    /// The ends that are joined, after their writes are moved ahead of their reads. None if nothing was moved and this plan
+    /// already has them.
     fn joins_again(
         &self,
         alloc: Global,
@@ -203,7 +211,7 @@ impl Plan {
         Ok(Some(self.joins_of(alloc, &partners)?))
     }
 
-    /// The same, with what each joined end is joined by.
+    /// This plan, with the join of each end that is joined.
     fn with_joined(mut self, alloc: Global, calls: &[LoggedCall]) -> Result<Plan, LogFault> {
         match self.joined_ends(alloc, calls) {
             Ok(joined) => {
@@ -214,7 +222,7 @@ impl Plan {
         }
     }
 
-    /// What a log needs where these ends are joined.
+    /// The plan of a log in which these ends are joined and these handles are of one object, from one pass over the log.
     fn with(
         alloc: Global,
         calls: &[LoggedCall],
@@ -258,7 +266,7 @@ impl Plan {
         }
     }
 
-    /// Goes over a call of the log, with the koids that its line tells.
+    /// Goes over a call of the log, with the koids and the evidence that it has.
     fn see(&mut self, index: usize, logged: &LoggedCall) -> Result<(), Cause> {
         self.koids.begin_line(logged)?;
         self.see_call(index, logged)?;
@@ -267,7 +275,7 @@ impl Plan {
         Ok(())
     }
 
-    /// What the line tells of objects that are known now.
+    /// Learns the koids that the line tells of objects that are known by now.
     fn see_koids(&mut self, logged: &LoggedCall) -> Result<(), AllocError> {
         for told in logged.koids.as_slice() {
             if let Some(object) = self.object_of(logged.process, told.handle) {
@@ -279,7 +287,7 @@ impl Plan {
         Ok(())
     }
 
-    /// The kind of an object, and whether a use tells it, of it or of that with which it is joined by their koids.
+    /// The kind of an object, and whether a use tells it. If none does, the uses of the end that koids join with it count.
     pub(crate) fn kind(&self, object: usize) -> (Kind, bool) {
         let (kind, is_told) = self.objects.kind(object);
         if is_told {
@@ -291,7 +299,7 @@ impl Plan {
         }
     }
 
-    /// Two ends are those of one pair, as far as neither is known as one of another.
+    /// Pairs two ends by their koids, if the peers of both may still be found.
     fn pair_by_koids(&mut self, one: usize, other: usize) -> Result<(), AllocError> {
         if one != other && self.objects.is_open(one) && self.objects.is_open(other) {
             self.objects.pair(one, other);
@@ -300,7 +308,7 @@ impl Plan {
         Ok(())
     }
 
-    /// Goes over a call of the log.
+    /// Goes over a call of the log, without its evidence.
     fn see_call(&mut self, index: usize, logged: &LoggedCall) -> Result<(), Cause> {
         self.see_process(logged.process)?;
         self.see_uses(logged)?;
@@ -335,7 +343,7 @@ impl Plan {
         }
     }
 
-    /// Objects were made, which may stand in for others.
+    /// Adds the objects that a call made, which may be stand-ins.
     fn see_made(&mut self, logged: &LoggedCall) -> Result<(), AllocError> {
         let LineForm::StandIn(kind) = logged.part.form else {
             return self.see_new(logged);
@@ -348,7 +356,7 @@ impl Plan {
         Ok(())
     }
 
-    /// Goes over a call on what stands in for another object, if it is one.
+    /// Goes over a call, if it is on a stand-in.
     fn see_stand_in_uses(&mut self, index: usize, logged: &LoggedCall) -> Result<(), AllocError> {
         let process = logged.process;
         match &logged.call {
@@ -370,7 +378,7 @@ impl Plan {
         }
     }
 
-    /// The same of waits, and of what they give.
+    /// Goes over a wait, a cancel or a `port_wait`, if it has to do with a stand-in.
     fn see_stand_in_waits(&mut self, index: usize, logged: &LoggedCall) -> Result<(), AllocError> {
         let process = logged.process;
         match &logged.call {
@@ -405,7 +413,7 @@ impl Plan {
         }
     }
 
-    /// A wait on what stands in for another object is in no trace, and its packet is none there.
+    /// Leaves a wait on a stand-in out of the trace, and counts the packet that it may bring.
     fn see_stand_in_wait(
         &mut self,
         index: usize,
@@ -425,12 +433,12 @@ impl Plan {
         }
     }
 
-    /// The rights of what stands in for another object, if a handle of a process names that.
+    /// The rights of a stand-in, if a handle of a process names one.
     fn stand_in(&self, process: u64, handle: HandleValue) -> Option<u32> {
         self.objects.stand_in(self.object_of(process, handle)?)
     }
 
-    /// A process that nothing made before its first call comes from nowhere.
+    /// Adopts a process that nothing made before its first call.
     fn see_process(&mut self, process: u64) -> Result<(), AllocError> {
         if self.comings.contains_key(&process) {
             return Ok(());
@@ -472,7 +480,7 @@ impl Plan {
         }
     }
 
-    /// The same of calls on ports, jobs and processes.
+    /// Goes over the handles that a call on ports, jobs or processes uses.
     fn see_other_uses(&mut self, logged: &LoggedCall, first: bool) -> Result<(), AllocError> {
         let process = logged.process;
         let status = logged.recorded.status;
@@ -499,7 +507,7 @@ impl Plan {
         }
     }
 
-    /// The same of calls on jobs and processes.
+    /// Goes over the handles that a call on jobs or processes uses.
     fn see_task_uses(&mut self, logged: &LoggedCall, first: bool) -> Result<(), AllocError> {
         let process = logged.process;
         let status = logged.recorded.status;
@@ -527,7 +535,8 @@ impl Plan {
         }
     }
 
-    /// A call uses a handle; whether its status shows that it is there, and what the use tells of the kind.
+    /// Goes over a use of a handle. `is_there` is whether the status shows that the handle was there. `sign` is what the
+    /// use tells of the kind.
     fn see_use(
         &mut self,
         process: u64,
@@ -541,7 +550,7 @@ impl Plan {
         Ok(())
     }
 
-    /// The same of a wait for signals on what a handle names.
+    /// Goes over a use of a handle by a wait for these signals.
     fn see_wait(
         &mut self,
         process: u64,
@@ -555,7 +564,7 @@ impl Plan {
         Ok(())
     }
 
-    /// The object of a handle that a call uses, where that is there.
+    /// The object of a handle that a call uses, if the handle was there.
     fn used(
         &mut self,
         process: u64,
@@ -571,7 +580,7 @@ impl Plan {
         }
     }
 
-    /// A message has these handles.
+    /// Goes over the handles of a message that a call writes.
     fn see_sent(
         &mut self,
         process: u64,
@@ -584,7 +593,7 @@ impl Plan {
         Ok(())
     }
 
-    /// The object of a handle, where it comes from nowhere.
+    /// The object of a handle, if it is adopted.
     pub(crate) fn adopted_of(&self, process: u64, handle: HandleValue) -> Option<usize> {
         let object = self.object_of(process, handle)?;
         match self.objects.adopted(object) {
@@ -593,7 +602,7 @@ impl Plan {
         }
     }
 
-    /// What a handle of a process names, where it is known.
+    /// The object of a handle of a process, if it is known.
     pub(crate) fn object_of(&self, process: u64, handle: HandleValue) -> Option<usize> {
         self.known.get(&(process, handle.0)).copied()
     }
@@ -603,7 +612,8 @@ impl Plan {
         Ok(())
     }
 
-    /// The object of a handle that a process never got, where the trace can give it one.
+    /// The object of a handle that its process never got. An adopted process had it before. In a spawned one, the first
+    /// such handle is its argument. None otherwise.
     fn from_nowhere(
         &mut self,
         process: u64,
@@ -632,7 +642,7 @@ impl Plan {
         }
     }
 
-    /// The object of a handle that comes from nowhere: the one of its koid, where that came before, or another.
+    /// The object of an adopted handle: one that came before, by its koid or by what was done and seen, or else a new one.
     fn adopted_object(&mut self, process: u64, handle: HandleValue) -> Result<usize, AllocError> {
         let found = match self.koids.object(handle) {
             Some(object) => Some(object),
@@ -647,13 +657,13 @@ impl Plan {
         }
     }
 
-    /// The object of another handle that is the one of this, by what was done and seen.
+    /// The earlier object that this handle is of, by what was done and seen.
     fn merged_object(&self, process: u64, handle: HandleValue) -> Option<usize> {
         let name = self.merged.get(&(process, handle.0)).copied()?;
         self.named.get(&name).copied()
     }
 
-    /// An object that comes from nowhere, by the first handle that the log has of it.
+    /// Adds an adopted object, under the first handle that the log has of it.
     fn add_adopted(&mut self, process: u64, handle: HandleValue) -> Result<usize, AllocError> {
         let object = self.objects.add(Some((process, handle)))?;
         if !self.named.contains_key(&(process, handle.0)) {
@@ -662,7 +672,7 @@ impl Plan {
         Ok(object)
     }
 
-    /// Whether an object comes from nowhere, and the first handle that the log has of it names no other that does.
+    /// Whether an object is adopted, and its first handle names no earlier adopted object.
     pub(crate) fn is_named(&self, object: usize) -> bool {
         match self.objects.adopted(object) {
             Some((process, handle)) => {
@@ -672,7 +682,7 @@ impl Plan {
         }
     }
 
-    /// A message was written.
+    /// Goes over a write.
     fn see_write(
         &mut self,
         call: usize,
@@ -702,7 +712,7 @@ impl Plan {
         Ok(objects)
     }
 
-    /// A message was read: what its handles name was in the message that was written, where the log has that.
+    /// Goes over a read. Its handles name the objects of the message that was written, if the log has that write.
     fn see_read(
         &mut self,
         index: usize,
@@ -726,7 +736,7 @@ impl Plan {
         }
     }
 
-    /// A message was larger than there was room for. Where that was asked for it was discarded.
+    /// Goes over a read that had too little room. If it asked for that, the message is discarded.
     fn see_too_large(&mut self, index: usize, logged: &LoggedCall) -> Result<(), AllocError> {
         if logged.recorded.status != Some(Status::BufferTooSmall) {
             return Ok(());
@@ -752,7 +762,7 @@ impl Plan {
         self.see_unread(end, found, *discard)
     }
 
-    /// The first message at this end is not read by a call that came upon it.
+    /// Keeps that a call found the first message at an end and did not read it.
     fn see_unread(
         &mut self,
         end: usize,
@@ -774,7 +784,7 @@ impl Plan {
         Ok(())
     }
 
-    /// What calls came upon and none reads comes from outside, where no peer was found.
+    /// Treats each message that calls found and none read as one from outside, at the ends without a peer.
     fn leave_unread(&mut self) -> Result<(), AllocError> {
         for end in 0..self.objects.count() {
             self.write_unread(end)?;
@@ -782,7 +792,7 @@ impl Plan {
         Ok(())
     }
 
-    /// A message from outside is the first at this end, for which calls had too little room, if they had.
+    /// Treats the first message at an end as one from outside, if calls had too little room for it.
     fn write_unread(&mut self, end: usize) -> Result<(), AllocError> {
         let Some(unread) = self.objects.take_unread(end) else {
             return Ok(());
@@ -818,7 +828,7 @@ impl Plan {
         Ok(())
     }
 
-    /// Finds the peer of an end at which a message is read, where that may be yet.
+    /// Finds the peer of an end at which a message is read, if it may still be found.
     fn find_peer(&mut self, logged: &LoggedCall, end: usize) -> Result<(), AllocError> {
         if !self.objects.is_open(end) {
             return Ok(());
@@ -834,7 +844,7 @@ impl Plan {
         Ok(())
     }
 
-    /// The end at which the message that is read here was written as the first.
+    /// An end at which the message that is read here was written first.
     fn guessed_peer(
         &mut self,
         logged: &LoggedCall,
@@ -860,7 +870,7 @@ impl Plan {
         }
     }
 
-    /// The ends at which the message that a call reads was written first.
+    /// The adopted ends at which the message that a call reads was written first. The error is an allocation failure.
     pub(crate) fn writers_of(&self, read: &LoggedCall) -> Result<&[usize], AllocError> {
         match &read.recorded.bytes {
             Some(bytes) => self
@@ -870,7 +880,7 @@ impl Plan {
         }
     }
 
-    /// The handles of a message that was read name these objects.
+    /// Names the handles of a message that was read by these objects.
     fn see_received(
         &mut self,
         logged: &LoggedCall,
@@ -886,7 +896,7 @@ impl Plan {
         Ok(())
     }
 
-    /// A message was read that comes from outside.
+    /// Goes over a read of a message from outside.
     fn see_outside(
         &mut self,
         index: usize,
@@ -913,7 +923,7 @@ impl Plan {
         self.write_outside(call, end, OutsideContent::Read(index), handles)
     }
 
-    /// A process was made, and has the argument.
+    /// Goes over a spawn. The error is `SpawnedTwice` if the process was there before, or `OutOfMemory`.
     fn see_spawn(&mut self, logged: &LoggedCall, argument: HandleValue) -> Result<(), Cause> {
         self.see_new(logged)?;
         let Some(process) = logged.recorded.process else {
@@ -932,7 +942,7 @@ impl Plan {
         Ok(())
     }
 
-    /// Both ends of a channel were made.
+    /// Adds both ends of a channel that a call made.
     fn see_channel(&mut self, logged: &LoggedCall) -> Result<(), AllocError> {
         match logged.recorded.handles.as_slice() {
             [first, second] => {
@@ -946,7 +956,7 @@ impl Plan {
         }
     }
 
-    /// A second handle to the object of this one was got.
+    /// Names a handle that a call got by the object of `handle`.
     fn see_second(&mut self, logged: &LoggedCall, handle: HandleValue) -> Result<(), AllocError> {
         match (
             self.object_of(logged.process, handle),
@@ -957,7 +967,7 @@ impl Plan {
         }
     }
 
-    /// The handles that a call got name new objects.
+    /// Adds an object for each handle that a call got.
     fn see_new(&mut self, logged: &LoggedCall) -> Result<(), AllocError> {
         for handle in logged.recorded.handles.as_slice() {
             self.see_new_one(logged.process, *handle)?;
@@ -971,7 +981,7 @@ impl Plan {
     }
 }
 
-/// What a use tells of the kind, where its status does not say that it is another.
+/// The sign of a use. It tells nothing if the status says that the object is of another kind.
 fn told(status: Option<Status>, sign: Sign) -> Sign {
     match status {
         Some(Status::WrongType) => Sign::Nothing,
@@ -980,7 +990,7 @@ fn told(status: Option<Status>, sign: Sign) -> Sign {
     }
 }
 
-/// What a wait for these signals tells of the kind of its object.
+/// The sign of a wait for these signals.
 fn waited_for(signals: u32) -> Sign {
     if signals & 0x3 != 0 {
         Sign::Channel

@@ -1,4 +1,5 @@
-//! What stands in the queue of a port.
+//! Looks for packets in the queue of a port.
+
 ghost use Rattle.std.specs.Prelude.{◌≡◌, Some};
 ghost use Rattle.zt_import.specs.Schedule.{holds, is_recorded, port_of};
 ghost use Rattle.zt_import.specs.ProofsOnly.PortQueue.{is_queued_under};
@@ -8,7 +9,7 @@ use zt_logs::LoggedPacket;
 use zt_rows::{Call, Koid, Packet};
 use zt_store::Store;
 
-/// Whether this packet stands in the port's queue, or any, where none is told.
+/// Whether the packet that the log has is in the port's queue. Any packet will do if the log tells none.
 pub(crate) fn holds(store: &Store, port: Koid, recorded: Option<LoggedPacket>) -> bool
     ensures { result ≡ holds store.now.state port recorded }
 {
@@ -22,7 +23,7 @@ pub(crate) fn holds(store: &Store, port: Koid, recorded: Option<LoggedPacket>) -
     false
 }
 
-/// Whether the packet of this number is such a one.
+/// Whether the packet of this number is the one that the log has.
 fn is_queued_under(store: &Store, port: Koid, recorded: Option<LoggedPacket>, number: u64) -> bool
     ensures { result ≡ is_queued_under store.now.state port recorded number }
 {
@@ -32,7 +33,7 @@ fn is_queued_under(store: &Store, port: Koid, recorded: Option<LoggedPacket>, nu
     }
 }
 
-/// Whether the packet is the one that the log has; any is, where it tells none.
+/// Whether a packet is the one that the log has. Any packet is, if the log tells none.
 fn is_recorded(recorded: Option<LoggedPacket>, packet: Packet) -> bool
     ensures { result ≡ is_recorded recorded packet }
 {
@@ -42,7 +43,7 @@ fn is_recorded(recorded: Option<LoggedPacket>, packet: Packet) -> bool
     }
 }
 
-/// The port on which a call of a process waits, by its handles.
+/// The port of a `port_wait` of a process, by its handles. None for another call, or if the handle names nothing.
 pub(crate) fn port_of(store: &Store, process: Koid, call: &Call) -> Option<Koid>
     ensures { result ≡ port_of store.now.state (Some (process, call.now)) }
 {

@@ -1,4 +1,5 @@
-//! What `channel_call` writes, which others read before it returns.
+//! Moves the write of a `channel_call` ahead of the read of its message, which another process makes before the call
+//! returns.
 
 use crate::order::MOST_LINES;
 use crate::started::Places;
@@ -8,8 +9,9 @@ use zt_bits::Status;
 use zt_logs::{CallLog, Cause, LineForm, LinePart, LogFault, LoggedCall};
 use zt_rows::Call;
 
-/// Puts what each `channel_call` of a log writes right before the first call of another process that reads it, where one does before
-/// it returns: it is the last such call that reads no other's.
+/// Moves the write of each `channel_call` right before a read of its message by another process. That is the last matching
+/// read, at most `MOST_LINES` calls before the line, that no earlier `channel_call` took. If there is none, the write stays
+/// at its line. The error is an allocation failure, at line 0.
 pub fn place_requests(alloc: Global, log: &mut CallLog) -> Result<(), LogFault> {
     match placed(alloc, log) {
         Ok(()) => Ok(()),
@@ -29,7 +31,7 @@ fn placed(alloc: Global, log: &mut CallLog) -> Result<(), AllocError> {
     places.apply(alloc, log)
 }
 
-/// Whether a call is what a `channel_call` writes.
+/// Whether a call is the write of a `channel_call` that is not `bad_handle`, `access_denied` or `invalid_args`.
 fn is_request(logged: &LoggedCall) -> bool {
     matches!(
         logged.part.form,
@@ -41,8 +43,7 @@ fn is_request(logged: &LoggedCall) -> bool {
         )
 }
 
-/// The last call ahead of this one that reads its message, and that reads no other's, where this one is what a `channel_call`
-/// writes.
+/// The last read ahead of this call that reads its message and is not taken, if this call is the write of a `channel_call`.
 fn read_of(calls: &[LoggedCall], taken: &HashMap<usize, ()>, number: usize) -> Option<usize> {
     let request = calls.get(number)?;
     if !is_request(request) {
@@ -57,7 +58,7 @@ fn read_of(calls: &[LoggedCall], taken: &HashMap<usize, ()>, number: usize) -> O
     None
 }
 
-/// Whether a call reads what another writes, by what it has.
+/// Whether a call reads the message of `request`, by its bytes and the number of its handles.
 fn reads(logged: &LoggedCall, request: &LoggedCall) -> bool {
     let Call::ChannelWrite { parcel, .. } = &request.call else {
         return false;
@@ -74,7 +75,7 @@ fn reads(logged: &LoggedCall, request: &LoggedCall) -> bool {
     }
 }
 
-/// Puts what a `channel_call` writes, with what makes the handles that it sends, ahead of the call that reads it. It was ok.
+/// Moves the write of a `channel_call` ahead of its read, with the calls that make the handles it sends. They count as ok.
 fn put_all(
     calls: &mut [LoggedCall],
     places: &mut Places,
@@ -100,7 +101,7 @@ fn put_all(
     Ok(())
 }
 
-/// The call of this number is the only one of its line.
+/// Makes the call of this number the only one of its line.
 fn stand_alone(calls: &mut [LoggedCall], number: usize) {
     if let Some(logged) = calls.get_mut(number) {
         logged.part.ahead = 0;

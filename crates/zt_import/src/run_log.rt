@@ -1,3 +1,5 @@
+//! Runs the calls of a log over a history, and compares their replies.
+
 ghost use Rattle.std.specs.Prelude.{◌≡◌, ◌<◌, ℕ, List, [], ◌∷◌, ◌++◌, IfOk, OnOk, length};
 ghost use Rattle.zt_history.specs.Tree.{opening_tree};
 ghost use Rattle.zt_import.specs.Imports.{Loads, IsImportOf, CountsBySchedule, AreTheLogsCalls, differs};
@@ -27,7 +29,7 @@ use zt_history::History;
 use zt_logs::{Cause, LogFault, LoggedCall};
 use zt_rows::{Call, FIRST_HANDLE, Moment, Reply};
 
-/// What became of a log: the history of its calls, and the calls whose replies differ.
+/// The import of a log: the history of its calls, and the calls whose replies differ.
 pub struct Imported {
     taken: Taken,
     compared: Compared,
@@ -60,35 +62,35 @@ impl Imported {
         self.taken.history()
     }
 
-    /// The calls that were asked of the history, in their order.
+    /// The calls that were asked of the history, in the order in which they were asked.
     pub fn trail(&self) -> &[TrailStep]
         ensures { result.now ≡ self.now.trail }
     {
         self.taken.trail()
     }
 
-    /// The calls whose replies differ, the first hundred.
+    /// The first hundred calls whose replies differ, in the order of the trace.
     pub fn differences(&self) -> &[Difference]
         ensures { result.now ≡ self.now.told }
     {
         self.compared.told()
     }
 
-    /// How many differ.
+    /// How many replies differ.
     pub fn count(&self) -> u64
         ensures { result ≡ self.now.count }
     {
         self.compared.count()
     }
 
-    /// How many of them may be by the schedule.
+    /// How many of the differences are by the schedule.
     pub fn by_schedule(&self) -> u64
         ensures { result ≡ self.now.by_schedule }
     {
         self.compared.by_schedule()
     }
 
-    /// Whether one differs that is not by the schedule.
+    /// Whether a reply differs that is not by the schedule.
     pub fn differs(&self) -> bool
         ensures { result ≡ differs self.now }
     {
@@ -96,11 +98,13 @@ impl Imported {
     }
 }
 
-/// How often an order is looked for, each time behind what was moved before.
+/// How often an order is looked for. Each time starts from the moves of the last.
 const ROUNDS: usize = 8;
 
-/// Runs the calls of a log over a history, behind what makes that which they use and never got, and compares their replies. They are run in
-/// the order of the log, but for those that are moved ahead of calls of other processes.
+/// Runs the calls of a log over a history, behind calls that make what the log uses and never got. Compares the replies.
+/// The calls run in the order of the log, except for those that are moved ahead of calls of other processes.
+///
+/// The error is `SpawnedTwice` at a line, `Full` if the history takes no more calls, or `OutOfMemory`.
 pub fn import(alloc: Global, calls: &[LoggedCall]) -> Result<Imported, LogFault>
     ensures loads { IfOk result Loads }
     ensures differences { IfOk result (IsImportOf calls.now) }
@@ -114,7 +118,8 @@ pub fn import(alloc: Global, calls: &[LoggedCall]) -> Result<Imported, LogFault>
     Ok(Imported { taken, compared })
 }
 
-/// The calls, run in the order of the log, or in another one in which fewer replies differ.
+/// The calls, run in the order of the log with its spawns and writes moved, or in another order in which fewer replies
+/// differ.
 fn best_run(alloc: Global, calls: &[LoggedCall]) -> Result<Taken, LogFault>
     ensures { IfOk result (IsRunOf calls.now) }
 {
@@ -150,7 +155,7 @@ fn other_run(alloc: Global, calls: &[LoggedCall], order: &mut Arranged) -> Resul
     run_in(alloc, calls, order)
 }
 
-/// The calls, run in an order.
+/// The calls, run in this order.
 fn run_in(alloc: Global, calls: &[LoggedCall], order: &mut Arranged) -> Result<Taken, LogFault>
     ensures { IfOk result (IsRunOf calls.now) }
 {
@@ -165,7 +170,7 @@ fn run_in(alloc: Global, calls: &[LoggedCall], order: &mut Arranged) -> Result<T
     Ok(taken)
 }
 
-/// How many replies differ, and of how many of them another order may make it so that they do not.
+/// How many replies differ, and how many of these may agree in another order.
 #[derive(Clone, Copy)]
 struct Differing {
     count: usize,
@@ -191,7 +196,7 @@ fn differing_in(calls: &[LoggedCall], taken: &Taken) -> usize {
     count_differing(calls, taken).count
 }
 
-/// One call more.
+/// Counts a call if its reply differs. A call ahead of the last of its line counts only if another order may make it agree.
 fn add_differing(found: &mut Differing, logged: &LoggedCall, reply: Option<&Reply>) {
     if agrees(&logged.recorded, reply) || !is_last(logged.part) && !may_be_by_order(logged, reply) {
         return;
@@ -202,7 +207,7 @@ fn add_differing(found: &mut Differing, logged: &LoggedCall, reply: Option<&Repl
     }
 }
 
-/// Makes what is adopted, and then runs the calls of these numbers in turn.
+/// Makes what is adopted, and then runs the calls of these numbers one after another.
 fn run_all(
     alloc: Global,
     taken: &mut Taken,
@@ -250,7 +255,7 @@ fn run_one(
     Ok(())
 }
 
-/// Runs a call of the log under the numbers of the trace.
+/// Runs a call of the log with the processes and handles of the trace.
 pub(crate) fn run_call(
     taken: &mut Taken,
     numbers: &Numbers,
@@ -268,7 +273,7 @@ pub(crate) fn run_call(
     )
 }
 
-/// From here on what the log got is what the trace got.
+/// Maps what the log's call got to what the trace's call got.
 pub(crate) fn learn(
     numbers: &mut Numbers,
     plan: &Plan,
@@ -289,7 +294,7 @@ pub(crate) fn learn(
     }
 }
 
-/// The handles that a call got.
+/// Maps the handles that a call got.
 fn learn_handles(
     numbers: &mut Numbers,
     logged: &LoggedCall,
@@ -310,7 +315,7 @@ fn learn_handles(
     }
 }
 
-/// A process that was spawned with an argument has it as its first handle.
+/// Maps the argument of a spawned process to its first handle.
 fn learn_argument(numbers: &mut Numbers, plan: &Plan, logged: &LoggedCall) -> Result<(), AllocError>
     ensures { OnOk result (numbers.new.processes ≡ numbers.old.processes) }
 {

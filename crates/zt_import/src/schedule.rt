@@ -1,4 +1,5 @@
-//! What a schedule can do: which of the replies that differ may be otherwise only since threads ran in another order.
+//! Tells which replies differ by the schedule: they may differ only because threads ran in another order.
+
 ghost use Rattle.std.specs.Prelude.{◌≡◌, ◌++◌, ◌∷◌, [], IfOk, OnOk, map, slice_set};
 ghost use Rattle.std.specs.Option.{option_copied};
 ghost use Rattle.zt_import.specs.Schedule.{around, by_schedule, is_met, is_met_by, is_met_on, is_near, is_shortly_before, sought_for};
@@ -13,26 +14,27 @@ use zt_bits::Status;
 use zt_logs::{Cause, LoggedCall, LoggedPacket};
 use zt_rows::{Koid, Moment};
 
-/// How many calls of the log before a wait are looked at, and how many behind it.
+/// How many calls of the log ahead of a wait are searched, and how many behind it.
 const CALLS_NEAR: usize = MOST_LINES as usize;
 
-/// A call of the log that was asked, with its line, and its moment, if it made one.
+/// A call of the log with its line, and with its moment if it made one.
 #[derive(Clone, Copy, Debug)]
 pub(crate) struct AskedCall {
     pub(crate) line: u64,
     pub(crate) moment: Option<Moment>,
 }
 
-/// What has to be met near a wait for a packet, so that a schedule can have made it differ.
+/// The state of a port's queue that must be found near a `port_wait`, so that it differs by the schedule.
 #[derive(Clone, Copy)]
 pub(crate) enum Sought {
-    /// The packet that the log has, or any, where it tells none, in the port's queue before or behind.
+    /// The queue has the packet that the log has, before the wait or after it. Any packet will do if the log tells none.
     Queued(Option<LoggedPacket>),
-    /// No packet in the port's queue before.
+    /// The queue is empty before the wait.
     Empty,
 }
 
-/// The calls of the log, each at its own place, as the steps of a trail asked them.
+/// The calls of the log, each at its own place, with the moments that the steps of a trail made. The error is an allocation
+/// failure.
 pub(crate) fn asked_in(
     alloc: Global,
     calls: &[LoggedCall],
@@ -47,7 +49,7 @@ pub(crate) fn asked_in(
     Ok(asked)
 }
 
-/// The calls of the log, none of which has a moment.
+/// The calls of the log, without moments.
 fn not_asked(alloc: Global, calls: &[LoggedCall]) -> Result<Vec<AskedCall>, AllocError>
     ensures { IfOk result (λ asked. asked.items ≡ map not_asked calls.now) }
 {
@@ -58,7 +60,7 @@ fn not_asked(alloc: Global, calls: &[LoggedCall]) -> Result<Vec<AskedCall>, Allo
     Ok(asked)
 }
 
-/// The call of the log that a step is, if it is one, has its moment.
+/// Sets the moment of the call that a step is, if it is one of the log.
 fn put_asked(asked: &mut Vec<AskedCall>, calls: &[LoggedCall], step: TrailStep)
     ensures { asked.new.items ≡ put_asked calls.now asked.old.items step }
 {
@@ -68,7 +70,7 @@ fn put_asked(asked: &mut Vec<AskedCall>, calls: &[LoggedCall], step: TrailStep)
     }
 }
 
-/// The call of this number, if there is one, has this moment.
+/// Sets the moment of the call of this number, if there is one.
 fn put_call(
     asked: &mut Vec<AskedCall>,
     number: usize,
@@ -86,7 +88,7 @@ fn put_call(
     }
 }
 
-/// Sets the one of a place, if there is one.
+/// Sets the call at a place, if the place is there.
 #[tactic(auto, using(crate::proofs::AskedLaws::set_past))]
 fn set_asked(asked: &mut Vec<AskedCall>, place: usize, call: AskedCall)
     ensures { asked.new.items ≡ slice_set asked.old.items place call }
@@ -96,7 +98,7 @@ fn set_asked(asked: &mut Vec<AskedCall>, place: usize, call: AskedCall)
     }
 }
 
-/// One call more.
+/// Appends a call.
 fn push_call(
     asked: &mut Vec<AskedCall>,
     line: u64,
@@ -110,8 +112,8 @@ fn push_call(
     }
 }
 
-/// Whether what the call of this number differs in is what a schedule can do. It looks at the states of the moments of 1,025
-/// calls of the log at most, and there at the port's queue alone.
+/// Whether the reply of this call differs by the schedule. It looks at the states of at most 1,025 calls of the log, and
+/// there only at the port's queue.
 pub(crate) fn is_by_schedule(
     taken: &mut Taken,
     asked: &[AskedCall],
@@ -132,7 +134,7 @@ pub(crate) fn is_by_schedule(
     is_met_on(taken, around(asked, number), logged, port, made)
 }
 
-/// Whether what a wait on the port looks for is met near it.
+/// Whether the state that must be found near a wait on this port is found there.
 fn is_met_on(
     taken: &mut Taken,
     asked: &[AskedCall],
@@ -152,7 +154,7 @@ fn is_met_on(
     }
 }
 
-/// What a wait with this status in the log looks for.
+/// The state that must be found near a wait with this status and packet in the log.
 fn sought_for(status: Option<Status>, packet: Option<LoggedPacket>) -> Sought
     ensures { result ≡ sought_for status packet }
 {
@@ -162,7 +164,8 @@ fn sought_for(status: Option<Status>, packet: Option<LoggedPacket>) -> Sought
     }
 }
 
-/// The calls around the one of this number: that many before it, itself, and as many behind it.
+/// The calls around this one: 512 ahead of it, itself, and 512 behind it. Fewer calls ahead of it mean as many more behind
+/// it.
 fn around(asked: &[AskedCall], number: usize) -> &[AskedCall]
     ensures { result.now ≡ around number asked.now }
 {
@@ -171,7 +174,7 @@ fn around(asked: &[AskedCall], number: usize) -> &[AskedCall]
     &behind[..behind.len().min(2 * CALLS_NEAR + 1)]
 }
 
-/// Whether it is met at the moment of one of these calls.
+/// Whether it is found at the moment of one of these calls.
 fn is_met(
     taken: &mut Taken,
     asked: &[AskedCall],
@@ -191,7 +194,7 @@ fn is_met(
     Ok(false)
 }
 
-/// Whether it is met at the moment of this call.
+/// Whether it is found at the moment of this call.
 fn is_met_by(
     taken: &mut Taken,
     asked: AskedCall,
@@ -223,14 +226,14 @@ fn is_met_by(
     }
 }
 
-/// Whether the lines are near each other.
+/// Whether the lines are at most `MOST_LINES` apart.
 fn is_near(line: u64, other: u64) -> bool
     ensures { result ≡ is_near line other }
 {
     line.abs_diff(other) <= MOST_LINES
 }
 
-/// Whether the other line stands ahead of this one, and is near.
+/// Whether `other` is 1 to `MOST_LINES` lines before `line`.
 fn is_shortly_before(line: u64, other: u64) -> bool
     ensures { result ≡ is_shortly_before line other }
 {

@@ -1,4 +1,4 @@
-//! A second history, of the calls of the first, in which calls are tried before they are moved.
+//! A second history with the calls of the first, in which a call is tried before it is moved.
 
 use crate::comparison::agrees;
 use std::alloc::{AllocError, Global};
@@ -6,15 +6,15 @@ use zt_history::History;
 use zt_logs::{Cause, RecordedReply};
 use zt_rows::{Call, Koid, Moment, Refusal, Reply};
 
-/// A history in which calls are tried at any moment. What is tried stays in it, and no call that follows the first history stands
+/// A history in which calls are tried at any moment. A tried call stays in it, and no call of the first history is made
 /// behind it.
 pub(crate) struct Scratch {
     history: History,
-    /// Its moments for those of the first history, from the opening on.
+    /// The moments that stand for those of the first history, from the opening on.
     moments: Vec<Moment>,
     /// How many moments the first history had ahead of each place of the order.
     heads: Vec<usize>,
-    /// It has as many moments as there can be, so that nothing is tried any more.
+    /// Whether no more calls can be tried, since the history takes no more.
     is_full: bool,
 }
 
@@ -42,13 +42,13 @@ impl Scratch {
         })
     }
 
-    /// The first history is about to run the call of the next place.
+    /// Records that the first history is about to run the call of the next place.
     pub(crate) fn reach(&mut self, first: &History) -> Result<(), Cause> {
         push_head(&mut self.heads, first.last().0 as usize)?;
         Ok(())
     }
 
-    /// The call of the last place is moved to this one.
+    /// Records that the call of the last place is moved to this one.
     pub(crate) fn move_head(&mut self, to: usize) -> Result<(), Cause> {
         let Some(head) = self.heads.get(to).copied() else {
             return Ok(());
@@ -58,7 +58,7 @@ impl Scratch {
         Ok(())
     }
 
-    /// Makes the calls that the first history made since.
+    /// Makes the calls that the first history made since the last time.
     pub(crate) fn follow(&mut self, first: &History) -> Result<(), Cause> {
         let begin = self.moments.len();
         for number in begin..(first.last().0 as usize).saturating_add(1) {
@@ -80,7 +80,7 @@ impl Scratch {
         Ok(())
     }
 
-    /// Its moment for the last of the first history.
+    /// The moment that stands for the last of the first history.
     pub(crate) fn head(&self) -> Moment {
         match self.moments.last() {
             Some(moment) => *moment,
@@ -88,7 +88,7 @@ impl Scratch {
         }
     }
 
-    /// Its moment ahead of the call of a place.
+    /// The moment ahead of the call at a place.
     pub(crate) fn before(&self, place: usize) -> Moment {
         match self.heads.get(place) {
             Some(head) => match self.moments.get(*head) {
@@ -99,12 +99,13 @@ impl Scratch {
         }
     }
 
-    /// What the call of a moment answered.
+    /// The reply of the call of a moment.
     pub(crate) fn reply(&self, moment: Moment) -> Option<&Reply> {
         self.history.reply_of(moment)
     }
 
-    /// Makes a call at a moment: that which it makes, or none, where its process is not alive there or nothing can be tried.
+    /// Makes a call at a moment, and returns the moment that it makes. None if its process is not alive there, or if no
+    /// more calls can be tried. The error is an allocation failure.
     fn made_at(&mut self, at: Moment, process: Koid, call: &Call) -> Result<Option<Moment>, Cause> {
         if self.is_full {
             return Ok(None);
@@ -125,7 +126,7 @@ impl Scratch {
         }
     }
 
-    /// Tries a call at a moment: that which it makes, if it answers what the log has.
+    /// Tries a call at a moment. Returns the moment that it makes, if its reply agrees with the log.
     pub(crate) fn tried(
         &mut self,
         at: Moment,
@@ -154,7 +155,7 @@ fn push_head(heads: &mut Vec<usize>, head: usize) -> Result<(), AllocError> {
     Ok(())
 }
 
-/// One more at a place; at the end, where there are fewer.
+/// Inserts a number at a place, or at the end if there are fewer.
 fn insert_head(heads: &mut Vec<usize>, place: usize, head: usize) -> Result<(), AllocError> {
     heads.insert(place.min(heads.len()), head)?;
     Ok(())

@@ -1,17 +1,19 @@
+//! The objects of a log, and what its calls tell of them.
+
 use crate::kind_signs::{KindSigns, Sign};
 use std::alloc::{AllocError, Global};
 use std::collections::VecDeque;
 use zt_bits::Kind;
 use zt_rows::{HandleValue, MESSAGE_BYTES, MESSAGE_HANDLES};
 
-/// A message that the log has as written: the objects of its handles; nothing for one that is not known.
+/// A message that the log has as written: the objects of its handles, and none for a handle that is not known.
 #[derive(Drop)]
 pub(crate) struct Sent {
     pub(crate) objects: Vec<Option<usize>>,
 }
 
-/// A message that calls came upon and had too little room for: the first of these calls with its process, and for how many
-/// bytes and handles one of them had room.
+/// A message for which calls had too little room: the first of these calls and its process. `bytes` is the most room for
+/// bytes that one of them had, and `handles` the most room for handles.
 #[derive(Clone, Copy)]
 pub(crate) struct Unread {
     pub(crate) call: usize,
@@ -21,12 +23,13 @@ pub(crate) struct Unread {
 }
 
 impl Unread {
-    /// How many bytes it has, which is one more than there was room for, or the most that a message has.
+    /// How many bytes it is made with: one more than there was room for, but not more than a message takes.
     pub(crate) fn size(&self) -> usize {
         self.bytes.saturating_add(1).min(MESSAGE_BYTES)
     }
 
-    /// How many handles: none, unless there was room for the bytes of every message.
+    /// How many handles it is made with. None, unless there was room for the bytes of any message: then one more than there
+    /// was room for.
     pub(crate) fn handle_count(&self) -> usize {
         if self.bytes < MESSAGE_BYTES {
             0
@@ -41,12 +44,12 @@ impl Unread {
 pub(crate) enum Reading {
     /// The call of this number read it.
     Message(usize),
-    /// The call of this number had too little room for it, and it is gone.
+    /// The call of this number had too little room for it and discarded it.
     Discarded(usize),
 }
 
 impl Reading {
-    /// The call to which it came.
+    /// The call that read or discarded it.
     pub(crate) fn call(self) -> usize {
         match self {
             Reading::Message(call) | Reading::Discarded(call) => call,
@@ -58,25 +61,25 @@ impl Reading {
 #[derive(Drop)]
 pub(crate) struct SeenObject {
     pub(crate) signs: KindSigns,
-    /// By which handle of which process the log has it first, where it comes from nowhere.
+    /// The first handle that the log has of it, and the process, if it is adopted.
     pub(crate) adopted: Option<(u64, HandleValue)>,
-    /// By which handles of which processes it comes from nowhere too.
+    /// The further handles of it that are adopted, each with its process.
     pub(crate) again: Vec<(u64, HandleValue)>,
-    /// The rights that it has, where it stands in for an object that the semantics has not.
+    /// The rights of its handles, if it is a stand-in.
     pub(crate) stand_in: Option<u32>,
-    /// The other end of a channel, where it is known.
+    /// The other end of its channel or pair, if that is known.
     pub(crate) peer: Option<usize>,
-    /// A message came to it that the log does not have as written.
+    /// Whether a message from outside came to this end.
     pub(crate) is_outside: bool,
     /// The messages that wait at this end.
     pub(crate) queue: VecDeque<Sent>,
-    /// The messages written at this end, while its peer is not known.
+    /// The messages that were written at this end while its peer is not known.
     pub(crate) sent: VecDeque<Sent>,
-    /// The message that is the first at this end, while its peer is not known.
+    /// The first message at this end, if calls had too little room for it and its peer is not known.
     pub(crate) unread: Option<Unread>,
-    /// The calls that wrote at this end, by their numbers.
+    /// The numbers of the calls that wrote at this end.
     pub(crate) written: Vec<usize>,
-    /// The messages that were read at this end.
+    /// The messages that were read or discarded at this end.
     pub(crate) read: Vec<Reading>,
 }
 
@@ -93,7 +96,7 @@ impl SeenObjects {
         }
     }
 
-    /// One more object, which comes from nowhere where this says by which handle.
+    /// Adds an object, which is adopted if a handle is given. Returns its number.
     pub(crate) fn add(&mut self, adopted: Option<(u64, HandleValue)>) -> Result<usize, AllocError> {
         let alloc = *self.objects.allocator();
         let number = self.objects.len();
@@ -113,7 +116,7 @@ impl SeenObjects {
         Ok(number)
     }
 
-    /// By which handle of which process the log has an object first that comes from nowhere.
+    /// The first handle that the log has of an adopted object, with its process.
     pub(crate) fn adopted(&self, number: usize) -> Option<(u64, HandleValue)> {
         match self.objects.get(number) {
             Some(object) => object.adopted,
@@ -121,7 +124,7 @@ impl SeenObjects {
         }
     }
 
-    /// The log has an object that comes from nowhere by one more handle.
+    /// Adds a further handle to an adopted object.
     pub(crate) fn add_again(
         &mut self,
         number: usize,
@@ -134,7 +137,7 @@ impl SeenObjects {
         Ok(())
     }
 
-    /// By which handles the log has an object that comes from nowhere, behind the first.
+    /// The handles of an adopted object, without the first.
     pub(crate) fn again(&self, number: usize) -> &[(u64, HandleValue)] {
         match self.objects.get(number) {
             Some(object) => object.again.as_slice(),
@@ -142,14 +145,14 @@ impl SeenObjects {
         }
     }
 
-    /// This object stands in for one that the semantics has not, and has these rights.
+    /// Makes an object a stand-in with these rights.
     pub(crate) fn set_stand_in(&mut self, number: usize, rights: u32) {
         if let Some(object) = self.objects.get_mut(number) {
             object.stand_in = Some(rights);
         }
     }
 
-    /// The rights of an object that stands in for one that the semantics has not.
+    /// The rights of an object, if it is a stand-in.
     pub(crate) fn stand_in(&self, number: usize) -> Option<u32> {
         match self.objects.get(number) {
             Some(object) => object.stand_in,
@@ -157,19 +160,19 @@ impl SeenObjects {
         }
     }
 
-    /// How many there are.
+    /// How many objects there are.
     pub(crate) fn count(&self) -> usize {
         self.objects.len()
     }
 
-    /// A use by a call tells this of the object's kind.
+    /// Adds what a call tells of the object's kind.
     pub(crate) fn add_call(&mut self, number: usize, sign: Sign) {
         if let Some(object) = self.objects.get_mut(number) {
             object.signs.add_call(sign);
         }
     }
 
-    /// What is waited for at it tells this of the object's kind.
+    /// Adds what a wait tells of the object's kind.
     pub(crate) fn add_wait(&mut self, number: usize, sign: Sign) {
         if let Some(object) = self.objects.get_mut(number) {
             object.signs.add_wait(sign);
@@ -184,7 +187,7 @@ impl SeenObjects {
         }
     }
 
-    /// The peer of an object, where it is known.
+    /// The peer of an object, if it is known.
     pub(crate) fn peer(&self, number: usize) -> Option<usize> {
         match self.objects.get(number) {
             Some(object) => object.peer,
@@ -192,7 +195,7 @@ impl SeenObjects {
         }
     }
 
-    /// Both are ends of one channel; what the one has written waits at the other.
+    /// Makes two ends peers. What was written at one waits at the other.
     pub(crate) fn pair(&mut self, first: usize, second: usize) {
         let written = self.link(first, second);
         let answered = self.link(second, first);
@@ -200,7 +203,7 @@ impl SeenObjects {
         self.put_queue(first, answered);
     }
 
-    /// This end has this peer from here on. Gives what it has written.
+    /// Sets the peer of an end. Returns the messages that were written at it.
     fn link(&mut self, number: usize, peer: usize) -> Option<VecDeque<Sent>> {
         let alloc = *self.objects.allocator();
         match self.objects.get_mut(number) {
@@ -221,7 +224,7 @@ impl SeenObjects {
         }
     }
 
-    /// Whether the peer of an object that comes from nowhere may yet be found.
+    /// Whether the object is adopted and its peer may still be found.
     pub(crate) fn is_open(&self, number: usize) -> bool {
         match self.objects.get(number) {
             Some(object) => {
@@ -231,7 +234,7 @@ impl SeenObjects {
         }
     }
 
-    /// A message was written at this end.
+    /// Adds a message that was written at an end.
     pub(crate) fn send(&mut self, number: usize, message: Sent) -> Result<(), AllocError> {
         let is_open = self.is_open(number);
         match self.peer(number) {
@@ -241,7 +244,7 @@ impl SeenObjects {
         }
     }
 
-    /// A message waits at this end.
+    /// Appends a message to those that wait at an end.
     fn queue(&mut self, number: usize, message: Sent) -> Result<(), AllocError> {
         match self.objects.get_mut(number) {
             Some(object) => {
@@ -252,7 +255,7 @@ impl SeenObjects {
         }
     }
 
-    /// A message will wait at the peer of this end, once that is known.
+    /// Keeps a message until the peer of its end is known.
     fn keep_sent(&mut self, number: usize, message: Sent) -> Result<(), AllocError> {
         match self.objects.get_mut(number) {
             Some(object) => {
@@ -263,7 +266,7 @@ impl SeenObjects {
         }
     }
 
-    /// The call of this number wrote at an end. Tells whether it is the first at one that comes from nowhere.
+    /// Adds a call that wrote at an end. Returns whether it is the first, and the end is adopted.
     pub(crate) fn add_written(&mut self, number: usize, call: usize) -> Result<bool, AllocError> {
         match self.objects.get_mut(number) {
             Some(object) => {
@@ -274,7 +277,7 @@ impl SeenObjects {
         }
     }
 
-    /// A message came to an end.
+    /// Adds a message that was read or discarded at an end.
     pub(crate) fn add_read(&mut self, number: usize, reading: Reading) -> Result<(), AllocError> {
         match self.objects.get_mut(number) {
             Some(object) => {
@@ -293,7 +296,7 @@ impl SeenObjects {
         }
     }
 
-    /// The messages that came to an end.
+    /// The messages that were read or discarded at an end.
     pub(crate) fn read(&self, number: usize) -> &[Reading] {
         match self.objects.get(number) {
             Some(object) => object.read.as_slice(),
@@ -301,7 +304,7 @@ impl SeenObjects {
         }
     }
 
-    /// Takes the first message that waits at this end.
+    /// Takes the first message that waits at an end.
     pub(crate) fn receive(&mut self, number: usize) -> Option<Sent> {
         match self.objects.get_mut(number) {
             Some(object) => object.queue.pop_front(),
@@ -309,7 +312,7 @@ impl SeenObjects {
         }
     }
 
-    /// Whether no message can come to an end but from outside, as far as is known.
+    /// Whether messages can come to an end only from outside, as far as is known.
     pub(crate) fn is_alone(&self, number: usize) -> bool {
         match self.objects.get(number) {
             Some(object) => object.adopted.is_some() && object.peer.is_none(),
@@ -317,14 +320,14 @@ impl SeenObjects {
         }
     }
 
-    /// The peer of this end is none of the log's, where it could yet be found.
+    /// Records that messages come to this end from outside, so that its peer is not looked for any more.
     pub(crate) fn set_outside(&mut self, number: usize) {
         if let Some(object) = self.objects.get_mut(number) {
             object.is_outside = true;
         }
     }
 
-    /// A call came upon the first message at this end and had too little room for it, as calls before it may have had.
+    /// Records that a call had too little room for the first message at an end, as earlier calls may have had.
     pub(crate) fn add_unread(&mut self, number: usize, found: Unread) {
         if let Some(object) = self.objects.get_mut(number) {
             object.unread = Some(match object.unread {
@@ -339,7 +342,7 @@ impl SeenObjects {
         }
     }
 
-    /// Takes the message that is the first at this end, if calls had too little room for it.
+    /// Takes the first message at an end, if calls had too little room for it.
     pub(crate) fn take_unread(&mut self, number: usize) -> Option<Unread> {
         match self.objects.get_mut(number) {
             Some(object) => std::mem::replace(&mut object.unread, None),

@@ -1,3 +1,5 @@
+//! Writes an import as a session text.
+
 ghost use Rattle.std.specs.Prelude.{◌≡◌, [], ◌∷◌, Ok, IfOk, OnOk, string_bytes};
 ghost use Rattle.std.specs.List.{list_all};
 ghost use Rattle.std.specs.Option.{option_to_list};
@@ -17,7 +19,8 @@ use zt_rows::{Call, Koid, Moment};
 use zt_text::laws::every_call_is_within;
 use zt_text::{LINE_BYTES, put_call};
 
-/// The session text of an import: ahead of each call a line that is skipped, which tells where it comes from.
+/// The session text of an import. A comment ahead of each call tells where the call comes from. The error is an allocation
+/// failure.
 pub fn trace_text(alloc: Global, log: &CallLog, imported: &Imported) -> Result<Vec<u8>, AllocError>
     ensures { IfOk result (λ text. session_of text.items ≡ Ok (calls_of imported.now.tree.made)) }
 {
@@ -26,7 +29,7 @@ pub fn trace_text(alloc: Global, log: &CallLog, imported: &Imported) -> Result<V
     Ok(text.into_bytes())
 }
 
-/// The first line, and the lines of all steps.
+/// Appends the first line, and the lines of all steps.
 fn put_steps(text: &mut String, log: &CallLog, imported: &Imported) -> Result<(), AllocError>
     requires { string_bytes text.old ≡ [] }
     ensures { OnOk result (session_of (string_bytes text.new) ≡ Ok (calls_of imported.now.tree.made)) }
@@ -43,7 +46,7 @@ fn put_steps(text: &mut String, log: &CallLog, imported: &Imported) -> Result<()
     Ok(())
 }
 
-/// The lines of steps.
+/// Appends the lines of these steps.
 fn put_trail(
     text: &mut String,
     log: &CallLog,
@@ -60,7 +63,7 @@ fn put_trail(
     Ok(())
 }
 
-/// The call ahead of which that of a place is moved, if it is.
+/// The call ahead of which the call at a place is moved, if it is.
 fn ahead_at(passed: &[Option<usize>], place: usize) -> Option<usize> {
     match passed.get(place) {
         Some(ahead) => *ahead,
@@ -68,7 +71,7 @@ fn ahead_at(passed: &[Option<usize>], place: usize) -> Option<usize> {
     }
 }
 
-/// The lines of a step; none, where it made no moment.
+/// Appends the lines of a step; none if it made no moment.
 fn put_step(
     text: &mut String,
     log: &CallLog,
@@ -88,7 +91,7 @@ fn put_step(
     }
 }
 
-/// The line that tells where a call comes from.
+/// Appends the comment of a call.
 fn put_origin(
     text: &mut String,
     log: &CallLog,
@@ -101,7 +104,7 @@ fn put_origin(
     put_comment(text, line.as_str())
 }
 
-/// A line that is skipped, if this makes one.
+/// Appends a comment, if it fits on one line.
 fn put_comment(text: &mut String, comment: &str) -> Result<(), AllocError>
     ensures { OnOk result (Writes (string_bytes text.old) (string_bytes text.new) []) }
 {
@@ -114,7 +117,7 @@ fn put_comment(text: &mut String, comment: &str) -> Result<(), AllocError>
     Ok(())
 }
 
-/// Whether this stands in one line behind a `#`.
+/// Whether a comment fits on one line behind a `#`.
 fn fits(comment: &str) -> bool
     ensures { result ≡ fits comment.now }
 {
@@ -128,7 +131,7 @@ fn has_no_feed(bytes: &[u8]) -> bool
     bytes.iter().all(|byte| *byte != b'\n')
 }
 
-/// The line of a moment's call.
+/// Appends the line of a moment's call.
 fn put_moment(text: &mut String, history: &History, moment: Moment) -> Result<(), AllocError>
     ensures { OnOk result (Writes (string_bytes text.old) (string_bytes text.new) (option_to_list (call_at history.now.tree.made moment))) }
 {
@@ -138,7 +141,7 @@ fn put_moment(text: &mut String, history: &History, moment: Moment) -> Result<()
     }
 }
 
-/// The line of a call.
+/// Appends the line of a call.
 fn put_line(text: &mut String, process: Koid, call: &Call) -> Result<(), AllocError>
     ensures { OnOk result (Writes (string_bytes text.old) (string_bytes text.new) ((process, call.now) ∷ [])) }
 {

@@ -1,4 +1,4 @@
-//! Which calls of a log are in no trace, since the semantics does not know them.
+//! Prints the calls of a log that are not in the trace, since the semantics does not know them.
 
 use crate::used_handles::handles_in;
 use std::alloc::{AllocError, Global};
@@ -7,28 +7,28 @@ use zt_bits::Status;
 use zt_logs::{LoggedCall, SkippedCall};
 use zt_rows::HandleValue;
 
-/// The most bytes of a name that are shown.
+/// How many bytes of a name are shown at most.
 const SHOWN_BYTES: usize = 64;
 
 /// A call that the semantics does not know.
 #[derive(Clone, Copy, Debug)]
 pub(crate) struct SkippedName {
-    /// The first line that has it, counted from 0 among those that were skipped.
+    /// The first line that has it, counted from 0 among the skipped lines.
     first: usize,
-    /// How many lines have it.
+    /// How many skipped lines have it.
     count: u64,
-    /// Whether one of them names a handle that its process has in the log.
+    /// Whether one of these lines names a handle that its process has in the log.
     has_handles: bool,
 }
 
-/// The handles that each process of a log has in it: those that it got, and those that a call found.
+/// The handles that each process has in the log: those that it got, and those that a call found.
 #[derive(Drop)]
 struct KnownHandles {
     handles: HashSet<(u64, u32)>,
 }
 
 impl KnownHandles {
-    /// Those of a log; none, where no line that was skipped names a handle.
+    /// The handles of a log. None are collected if no skipped line names a handle.
     fn of(
         alloc: Global,
         calls: &[LoggedCall],
@@ -57,7 +57,7 @@ impl KnownHandles {
         Ok(())
     }
 
-    /// Whether a call names a handle that its process has.
+    /// Whether a skipped line names a handle that its process has.
     fn has_one_of(&self, call: &SkippedCall) -> bool {
         let Some(process) = call.process else {
             return false;
@@ -71,7 +71,8 @@ impl KnownHandles {
     }
 }
 
-/// Whether a line that was skipped names a handle that its process has in the log, so that the trace lacks what became of it.
+/// Whether a skipped line names a handle that its process has in the log. Then the trace lacks what the call did to the
+/// object. The error is an allocation failure.
 pub fn skips_handles(
     alloc: Global,
     calls: &[LoggedCall],
@@ -86,8 +87,8 @@ pub fn skips_handles(
     Ok(false)
 }
 
-/// The line of the calls of a log that were skipped, each once with how many lines have it, those of most lines first and of as
-/// many the one that the log has first; without a line feed.
+/// The line of the skipped calls, without a line feed: each call once, with how many lines have it. Calls of more lines
+/// come first; in a tie, the one that the log has first. The error is an allocation failure.
 pub fn print_skipped(
     alloc: Global,
     calls: &[LoggedCall],
@@ -105,7 +106,7 @@ pub fn print_skipped(
     Ok(text)
 }
 
-/// The calls of a log that were skipped, each once.
+/// The skipped calls, each once, in the order in which they are printed.
 fn skipped_names(
     alloc: Global,
     calls: &[LoggedCall],
@@ -126,7 +127,7 @@ fn skipped_names(
     Ok(names)
 }
 
-/// One line more of this name.
+/// Adds a line of this name.
 fn add_line(
     names: &mut Vec<SkippedName>,
     places: &mut HashMap<Vec<u8>, usize>,
@@ -143,7 +144,7 @@ fn add_line(
     Ok(())
 }
 
-/// The name at this place has one line more.
+/// Counts a line more of the name at this place.
 fn count_line(names: &mut Vec<SkippedName>, place: usize, line: SkippedName) {
     if let Some(name) = names.get_mut(place) {
         name.count = name.count.saturating_add(line.count);
@@ -151,7 +152,7 @@ fn count_line(names: &mut Vec<SkippedName>, place: usize, line: SkippedName) {
     }
 }
 
-/// A name with how many lines have it.
+/// Appends a name with how many lines have it.
 fn put_skipped(
     text: &mut String,
     skipped: &[SkippedCall],
@@ -168,7 +169,7 @@ fn put_skipped(
     Ok(())
 }
 
-/// A name as it stands, or in quotes where it is none of letters, digits and `_`.
+/// Appends a name. It is quoted, and cut after 64 bytes, unless it has 1 to 64 bytes that are all letters, digits or `_`.
 fn put_name(text: &mut String, name: &str) -> Result<(), AllocError> {
     if is_plain(name) {
         return text.push_str(name);
@@ -184,7 +185,7 @@ fn put_name(text: &mut String, name: &str) -> Result<(), AllocError> {
     })
 }
 
-/// Whether a name is one that a call may have.
+/// Whether a name has 1 to 64 bytes that are all letters, digits or `_`.
 fn is_plain(name: &str) -> bool {
     !name.is_empty()
         && name.len() <= SHOWN_BYTES
@@ -193,7 +194,7 @@ fn is_plain(name: &str) -> bool {
             .all(|byte| byte.is_ascii_alphanumeric() || byte == b'_')
 }
 
-/// A byte as it is shown in quotes.
+/// A byte as it is shown in quotes; `.` if it is a quote or not printable.
 fn shown(byte: u8) -> char {
     if byte.is_ascii_graphic() && byte != b'"' || byte == b' ' {
         char::from(byte)

@@ -1,5 +1,4 @@
-//! Objects that the semantics has not, for which events stand in: which calls on them are in no trace, since no event answers as
-//! they do.
+//! Leaves out those calls on stand-ins that no event answers as the real object does.
 
 use crate::arranged::Arranged;
 use crate::plan::Plan;
@@ -9,16 +8,16 @@ use zt_bits::Status;
 use zt_logs::{CallLog, Cause, LineForm, LogFault, LoggedCall, LoggedPacket, OtherKind};
 use zt_rows::Call;
 
-/// The rights that an event has.
+/// The rights of an event.
 const EVENT_RIGHTS: u32 = 0xd003;
 
-/// The rights that an end of a pair of events has.
+/// The rights of an end of an event pair.
 const END_RIGHTS: u32 = 0xf003;
 
-/// The bit by which as many rights are asked for as there are.
+/// The mask that asks for all rights of the old handle.
 const SAME_RIGHTS: u32 = 0x8000_0000;
 
-/// The rights of what stands in for an object of this kind.
+/// The rights of a stand-in for an object of this kind.
 pub(crate) fn rights_of(kind: OtherKind) -> u32 {
     if kind.has_ends() {
         END_RIGHTS
@@ -27,14 +26,14 @@ pub(crate) fn rights_of(kind: OtherKind) -> u32 {
     }
 }
 
-/// The calls of a log on what stands in.
+/// The calls of a log on stand-ins.
 #[derive(Drop)]
 pub(crate) struct StandInUses {
-    /// The rights that a call asks for, where it asks for more than a stand-in has, by its number.
+    /// The rights for which a call asks instead, by its number, if it asks for more than a stand-in has.
     cut: HashMap<usize, u32>,
-    /// The numbers of those that are in no trace.
+    /// The numbers of the calls that are left out.
     left: HashSet<usize>,
-    /// How many packets of them a port may yet have, by its object and their key.
+    /// How many packets of waits on stand-ins a port may still get, by the port's object and the key.
     waits: HashMap<(usize, u64), u64>,
 }
 
@@ -47,7 +46,7 @@ impl StandInUses {
         }
     }
 
-    /// The call of this number asks for these rights of a handle to what has others.
+    /// Cuts the rights for which a call asks to those that the stand-in has. `SAME_RIGHTS` stays.
     pub(crate) fn cut(&mut self, call: usize, rights: u32, has: u32) -> Result<(), AllocError> {
         if rights & SAME_RIGHTS == 0 && rights & has != rights {
             self.cut.insert(call, rights & has)?;
@@ -55,26 +54,26 @@ impl StandInUses {
         Ok(())
     }
 
-    /// The call of this number is in no trace.
+    /// Leaves the call of this number out of the trace.
     pub(crate) fn leave(&mut self, call: usize) -> Result<(), AllocError> {
         self.left.insert(call)?;
         Ok(())
     }
 
-    /// The port with this object will get a packet of this key that is in no trace.
+    /// Adds a packet of this key that the port may get and that the trace does not have.
     pub(crate) fn add_wait(&mut self, port: usize, key: u64) -> Result<(), AllocError> {
         let count = self.waits.get(&(port, key)).copied().unwrap_or(0);
         self.waits.insert((port, key), count.saturating_add(1))?;
         Ok(())
     }
 
-    /// It gets none of this key any more.
+    /// Drops the packets of this key that the port may still get.
     pub(crate) fn end_waits(&mut self, port: usize, key: u64) -> Result<(), AllocError> {
         self.waits.insert((port, key), 0)?;
         Ok(())
     }
 
-    /// Whether it may get one; from here on one fewer.
+    /// Whether the port may still get such a packet. If so, takes it from the count.
     pub(crate) fn take_wait(&mut self, port: usize, key: u64) -> Result<bool, AllocError> {
         let count = self.waits.get(&(port, key)).copied().unwrap_or(0);
         if count == 0 {
@@ -85,7 +84,7 @@ impl StandInUses {
     }
 }
 
-/// The key of the packet of a signal that a call got.
+/// The key of a signal packet that a call got.
 pub(crate) fn signal_key(logged: &LoggedCall) -> Option<u64> {
     match logged.recorded.packet {
         Some(LoggedPacket::Signal { key, .. }) => Some(key),
@@ -93,13 +92,13 @@ pub(crate) fn signal_key(logged: &LoggedCall) -> Option<u64> {
     }
 }
 
-/// How many calls of a log are in no trace, since they are on what stands in for another object.
+/// How many calls on stand-ins are left out, by name.
 #[derive(Drop)]
 pub struct LeftCalls {
     counts: Vec<LeftName>,
 }
 
-/// How many of one name.
+/// How many calls of one name are left out.
 #[derive(Clone, Copy)]
 struct LeftName {
     name: &'static str,
@@ -107,7 +106,7 @@ struct LeftName {
 }
 
 impl LeftCalls {
-    /// Whether there are none.
+    /// Whether no call is left out.
     pub fn is_empty(&self) -> bool {
         self.counts.is_empty()
     }
@@ -124,8 +123,8 @@ impl LeftCalls {
     }
 }
 
-/// The line of the calls of a log that are in no trace since they are on what stands in for another object, each name with how
-/// many there are, in the order in which the log has them first; without a line feed.
+/// The line of the calls that are left out, without a line feed: each name with its count, in the order of the log. The
+/// error is an allocation failure.
 pub fn print_left(alloc: Global, left: &LeftCalls) -> Result<String, AllocError> {
     let mut text = String::new(alloc);
     text.push_str("on stand-ins: ")?;
@@ -140,9 +139,9 @@ pub fn print_left(alloc: Global, left: &LeftCalls) -> Result<String, AllocError>
     Ok(text)
 }
 
-/// Takes the calls out of a log that are on what stands in for an object that the semantics has not, and that no event answers as
-/// that does: waits and signals, packets of such waits, and what kills a thread. What asks for more rights than a stand-in has
-/// asks for those alone that it has.
+/// Removes those calls on stand-ins from a log that no event answers as the real object does. They are waits, cancels,
+/// signals and `task_kill`, unless they are `bad_handle`, and each `port_wait` that got the packet of such a wait. Cuts the
+/// rights that other calls ask for to those of a stand-in. The error is `SpawnedTwice` at a line, or `OutOfMemory`.
 pub fn leave_out(alloc: Global, log: &mut CallLog) -> Result<LeftCalls, LogFault> {
     let mut left = LeftCalls {
         counts: Vec::new(alloc),
@@ -170,7 +169,7 @@ fn is_stand_in(logged: &LoggedCall) -> bool {
     matches!(logged.part.form, LineForm::StandIn(_))
 }
 
-/// Keeps the calls that are in the trace.
+/// Keeps the calls that are not left out.
 fn keep(
     uses: &StandInUses,
     calls: Vec<LoggedCall>,
@@ -189,7 +188,7 @@ fn keep(
     Ok(())
 }
 
-/// The call with those rights alone that a stand-in has.
+/// The call, with its rights cut to those of a stand-in.
 fn cut_of(uses: &StandInUses, number: usize, mut logged: LoggedCall) -> LoggedCall {
     let Some(rights) = uses.cut.get(&number).copied() else {
         return logged;
@@ -201,7 +200,7 @@ fn cut_of(uses: &StandInUses, number: usize, mut logged: LoggedCall) -> LoggedCa
     logged
 }
 
-/// A call that asks for rights, as one that asks for these.
+/// A call that asks for these rights instead of its own. None if it asks for no rights.
 fn with_rights(call: &Call, rights: u32) -> Option<Call> {
     match call {
         Call::HandleDuplicate { handle, .. } => Some(Call::HandleDuplicate {

@@ -1,4 +1,4 @@
-//! Processes that are made by one line of a log and started by another: each is one spawn here.
+//! Joins processes that one line of a log makes and another starts. Each is one spawn here.
 
 use crate::used_handles::handles_in;
 use std::alloc::{AllocError, Global};
@@ -9,12 +9,12 @@ use zt_logs::{
 };
 use zt_rows::{Call, HandleValue};
 
-/// A process that was made, and not yet started.
+/// A process that was made and is not yet started.
 #[derive(Clone, Copy)]
 struct Pending {
     /// The number of the call that made it.
     made: usize,
-    /// That of the first call behind it that uses its handle.
+    /// The number of the first call behind that one that uses its handle.
     used: Option<usize>,
 }
 
@@ -26,12 +26,12 @@ struct Started {
     started: usize,
 }
 
-/// Where calls of a log stand in the trace, where that is not their own place.
+/// The calls of a log that stand at another place in the trace, or are not in it.
 #[derive(Drop)]
 pub(crate) struct Places {
-    /// The number of the call ahead of which one stands.
+    /// The call ahead of which a call stands, by its number.
     ahead_of: HashMap<usize, usize>,
-    /// The numbers of those that are none of the trace.
+    /// The numbers of the calls that are not in the trace.
     gone: HashMap<usize, ()>,
 }
 
@@ -43,13 +43,13 @@ impl Places {
         }
     }
 
-    /// This call stands ahead of that one.
+    /// Puts a call ahead of another.
     pub(crate) fn put(&mut self, call: usize, other: usize) -> Result<(), AllocError> {
         self.ahead_of.insert(call, other)?;
         Ok(())
     }
 
-    /// This call is none of the trace.
+    /// Leaves a call out of the trace.
     fn leave(&mut self, call: usize) -> Result<(), AllocError> {
         self.gone.insert(call, ())?;
         Ok(())
@@ -59,7 +59,7 @@ impl Places {
         self.ahead_of.is_empty() && self.gone.is_empty()
     }
 
-    /// Where a call stands: each has an odd number, so that one can stand ahead of it.
+    /// The place of a call, as a number to sort by. Calls that stay have odd numbers, so that others fit between them.
     fn key(&self, call: usize) -> usize {
         match self.ahead_of.get(&call).copied() {
             Some(other) => other.saturating_mul(2),
@@ -67,7 +67,7 @@ impl Places {
         }
     }
 
-    /// Puts the calls where they stand.
+    /// Puts the calls of the log at their places.
     pub(crate) fn apply(&self, alloc: Global, log: &mut CallLog) -> Result<(), AllocError> {
         if self.is_empty() {
             return Ok(());
@@ -93,15 +93,15 @@ impl Places {
     }
 }
 
-/// A call with where it stands.
+/// A call with its place.
 #[derive(Drop)]
 struct Placed {
     key: usize,
     logged: LoggedCall,
 }
 
-/// Makes one spawn of each `process_create` and the `process_start` of its process, at the place of the start, or right before the
-/// first call in between that uses the process's handle.
+/// Makes one spawn of each `process_create` and the `process_start` of its process. It stands at the start, or right before
+/// the first call in between that uses the process's handle. The error is an allocation failure, at line 0.
 pub fn join_starts(alloc: Global, log: &mut CallLog) -> Result<(), LogFault> {
     if !log.calls.as_slice().iter().any(|logged| is_start(logged)) {
         return Ok(());
@@ -125,7 +125,7 @@ fn joined(alloc: Global, log: &mut CallLog) -> Result<(), AllocError> {
     places.apply(alloc, log)
 }
 
-/// The processes of a log that are made and started in it. A start of another is left out, and told.
+/// The processes that the log makes and starts. A start of any other process is left out, with a note.
 fn started_in(
     alloc: Global,
     log: &mut CallLog,
@@ -150,13 +150,13 @@ fn started_in(
     Ok(started)
 }
 
-/// The processes that a log makes by one line and starts by another.
+/// The processes that one line of a log makes and another starts.
 #[derive(Drop)]
 struct MadeProcesses {
-    /// Those that were made, by their handles.
+    /// The processes that were made, by the maker and its handle.
     pending: HashMap<(u64, u32), Pending>,
     started: Vec<Started>,
-    /// The lines that start others.
+    /// The lines that start other processes.
     unknown: Vec<u64>,
 }
 
@@ -180,7 +180,7 @@ impl MadeProcesses {
         }
     }
 
-    /// A process is started, unless that failed.
+    /// Adds a process that is started, unless the start failed.
     fn see_start(&mut self, logged: &LoggedCall, number: usize) -> Result<(), AllocError> {
         match started_by(&self.pending, logged) {
             Some(pending) => {
@@ -199,7 +199,7 @@ impl MadeProcesses {
         }
     }
 
-    /// A process was made by the call of this number.
+    /// Adds a process that the call of this number made.
     fn see_made(
         &mut self,
         process: u64,
@@ -215,7 +215,7 @@ impl MadeProcesses {
     }
 }
 
-/// The process that a call starts, if it was made in the log.
+/// The process that a call starts, if the log made it.
 fn started_by(all: &HashMap<(u64, u32), Pending>, logged: &LoggedCall) -> Option<Pending> {
     let Call::Spawn { job, .. } = &logged.call else {
         return None;
@@ -223,7 +223,7 @@ fn started_by(all: &HashMap<(u64, u32), Pending>, logged: &LoggedCall) -> Option
     all.get(&(logged.process, job.0)).copied()
 }
 
-/// The handle to a process that a call makes, which another line may start.
+/// The handle to a process that a call made and that another line may start.
 fn made_by(logged: &LoggedCall) -> Option<HandleValue> {
     if logged.part.form != LineForm::Create {
         return None;
@@ -234,7 +234,7 @@ fn made_by(logged: &LoggedCall) -> Option<HandleValue> {
     }
 }
 
-/// A call uses handles, which may be those of processes that were made.
+/// Notes the first use of each process that was made, if this call names its handle.
 fn use_all(
     alloc: Global,
     all: &mut HashMap<(u64, u32), Pending>,
@@ -253,7 +253,7 @@ fn use_all(
     Ok(())
 }
 
-/// Makes a spawn of two calls.
+/// Makes one spawn of the call that made a process and the call that started it.
 fn join(
     alloc: Global,
     log: &mut CallLog,
@@ -282,19 +282,19 @@ fn join(
     places.put(pending.made, place)
 }
 
-/// What a line says that starts a process.
+/// The start of a process, as its line has it.
 #[derive(Clone, Copy)]
 struct Start {
     line: u64,
     caller: u64,
-    /// What is given to the process.
+    /// The handle that the process is given.
     argument: HandleValue,
-    /// The number of the process, if the line has it.
+    /// The number of the process, if the line tells it.
     process: Option<u64>,
     times: CallTimes,
 }
 
-/// Nothing tells when a call began and returned.
+/// The times of a call of which no line tells when it began or returned.
 const NO_TIMES: CallTimes = CallTimes {
     began: None,
     ended: None,
@@ -314,7 +314,7 @@ fn start_in(calls: &[LoggedCall], number: usize) -> Option<Start> {
     }
 }
 
-/// The call that made a process, as one that spawns it with what its start says.
+/// The call that made a process, with the argument of its start.
 fn spawned(calls: &[LoggedCall], made: usize, argument: HandleValue) -> Option<Call> {
     let logged = calls.get(made)?;
     match &logged.call {
@@ -333,8 +333,8 @@ fn set_call(calls: &mut [LoggedCall], number: usize, call: Call) {
     logged.call = call;
 }
 
-/// A spawn is that of the line of its start, unless a call in between uses the process: then it stands where neither line tells
-/// when it was made.
+/// Gives a spawn the line and the times of its start. If a call in between uses the process, it keeps its own line. It then
+/// has no times, since neither line tells when it ran.
 fn set_line(calls: &mut [LoggedCall], pending: Pending, start: &Start) {
     let Some(logged) = calls.get_mut(pending.made) else {
         return;
@@ -347,7 +347,7 @@ fn set_line(calls: &mut [LoggedCall], pending: Pending, start: &Start) {
     }
 }
 
-/// The process has the number that its start has, if it has one.
+/// Gives the process the number that its start tells, if it tells one.
 fn set_process(calls: &mut [LoggedCall], number: usize, process: Option<u64>) {
     let Some(logged) = calls.get_mut(number) else {
         return;
@@ -357,12 +357,12 @@ fn set_process(calls: &mut [LoggedCall], number: usize, process: Option<u64>) {
     }
 }
 
-/// What is given to a process: nothing, where it comes too late.
+/// The handle that the process is given; 0 if it comes too late.
 fn given(argument: HandleValue, is_late: bool) -> HandleValue {
     if is_late { HandleValue(0) } else { argument }
 }
 
-/// Whether the argument of a start comes too late: a call from the first that uses the process on uses or gets it.
+/// Whether the argument of a start comes too late: the caller used or got it after the first use of the process, or in it.
 fn comes_late(
     alloc: Global,
     calls: &[LoggedCall],
@@ -376,7 +376,7 @@ fn comes_late(
     }
 }
 
-/// Whether a call between these, by the process that starts another, uses or gets the handle that it gives.
+/// Whether a call of the caller, from `first` up to the start, uses or gives the argument.
 fn is_used(
     alloc: Global,
     calls: &[LoggedCall],
@@ -405,7 +405,7 @@ fn names(alloc: Global, logged: &LoggedCall, handle: HandleValue) -> Result<bool
     Ok(used.as_slice().contains(&handle) || logged.recorded.handles.as_slice().contains(&handle))
 }
 
-/// The call of this number is the only one of its line, and so is what stands in for the address space of its process.
+/// Makes a call the only one of its line. The event for the address space of its process becomes one too.
 fn stand_alone(calls: &mut [LoggedCall], number: usize) {
     let Some(logged) = calls.get_mut(number) else {
         return;

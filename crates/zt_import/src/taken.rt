@@ -1,3 +1,5 @@
+//! The history to which a log is taken, and the calls that were asked of it.
+
 ghost use Rattle.std.specs.Prelude.{◌≡◌, ◌<◌, [], ◌∷◌, ◌++◌, true, IfOk, OnOk, OnErr, length, vec_len, vec_capacity};
 ghost use Rattle.std.specs.Option.{option_copied};
 ghost use Rattle.zt_history.specs.Tree.{opening_tree};
@@ -45,7 +47,7 @@ impl Model for Taken {
 }
 
 impl Taken {
-    /// None.
+    /// A new history, of which no call was asked.
     pub(crate) fn new(alloc: Global) -> Result<Taken, AllocError>
         ensures { IfOk result (λ taken. taken ≡ record { tree = opening_tree; trail = [] }) }
     {
@@ -56,7 +58,7 @@ impl Taken {
         })
     }
 
-    /// The history in which they were made.
+    /// The history of the calls.
     pub(crate) fn history(&self) -> &History
         ensures tree { result.now.tree ≡ self.now.tree }
         ensures taken { IsTakenTrail self.now.tree self.now.trail }
@@ -71,7 +73,8 @@ impl Taken {
         self.trail.as_slice()
     }
 
-    /// Asks a call of a process. Gives its moment; none, where the process is not alive. Refused, nothing is taken.
+    /// Asks a call of a process, and returns the moment that it makes. None if the process is not alive. The error is
+    /// `Full` or `OutOfMemory`; then the call is not asked.
     pub(crate) fn ask(
         &mut self,
         origin: Origin,
@@ -94,8 +97,8 @@ impl Taken {
         }
     }
 
-    /// Asks a call of the log where it answers what the log has, or where no other order can make it so, and tells whether. Else
-    /// nothing is taken.
+    /// Asks a call of the log, and keeps it if its reply agrees with the log, or if no other order can make it agree.
+    /// Returns whether it is kept. The error is `Full` or `OutOfMemory`.
     pub(crate) fn ask_agreeing(
         &mut self,
         origin: Origin,
@@ -113,7 +116,7 @@ impl Taken {
         }
     }
 
-    /// What the last call answered; nothing, where it was not made.
+    /// The reply of the last call; none if it was not made.
     pub(crate) fn last_reply(&self) -> Option<&Reply> {
         match self.trail.last() {
             Some(step) => match step.moment {
@@ -124,7 +127,7 @@ impl Taken {
         }
     }
 
-    /// The same of a call that the log does not have, and which makes no process for it.
+    /// Asks a call that the log does not have, and that makes no process for it. Returns and fails as `ask` does.
     pub(crate) fn ask_aside(
         &mut self,
         origin: Origin,
@@ -137,8 +140,8 @@ impl Taken {
         self.ask(origin, process, call)
     }
 
-    /// Whether this packet stands in the port's queue at a moment, or any, where none is told. The history goes there, at the cost
-    /// of the calls on the way.
+    /// Whether the packet that the log has is in the port's queue at a moment; any packet, if the log tells none. The
+    /// history moves there, which costs time for each call on the way.
     pub(crate) fn holds(
         &mut self,
         moment: Moment,
@@ -152,7 +155,7 @@ impl Taken {
         Ok(holds(self.history.store(), port, recorded))
     }
 
-    /// The port on which the call of a moment waits. The history goes there.
+    /// The port of the `port_wait` that made a moment. The history moves there.
     pub(crate) fn port_at(&mut self, moment: Moment) -> Result<Option<Koid>, Cause>
         ensures found { IfOk result (λ found. found ≡ port_at self.old.tree.made moment) }
         ensures same { self.new ≡ self.old }
@@ -164,7 +167,7 @@ impl Taken {
         }
     }
 
-    /// What the call of a moment answered.
+    /// The reply of the call of a moment; none if there is no moment.
     pub(crate) fn reply(&self, moment: &Option<Moment>) -> Option<&Reply>
         ensures { option_copied result ≡ answer_at self.now.tree.made moment.now }
     {
@@ -175,15 +178,15 @@ impl Taken {
     }
 }
 
-/// What became of a call that was to be made only where its reply is kept.
+/// The outcome of a call that is kept only if its reply is.
 enum Tried {
-    /// It made this moment; none, where its process is not alive.
+    /// The call made this moment; none if its process is not alive.
     Made(Option<Moment>),
-    /// It was taken back.
+    /// The call was taken back.
     Undone,
 }
 
-/// Makes a call at the head of `main`, and takes it back where its reply is not what the log has and another order may make it so.
+/// Makes a call at the head of `main`. Takes it back if its reply is not what the log has and may agree in another order.
 fn called_agreeing(
     history: &mut History,
     process: Koid,
@@ -217,12 +220,12 @@ fn called_agreeing(
     }
 }
 
-/// Whether a reply is what the log has, or no other order can make it so.
+/// Whether a reply agrees with the log, or no other order can make it agree.
 fn is_kept(logged: &LoggedCall, reply: Option<&Reply>) -> bool {
     agrees(&logged.recorded, reply) || !may_be_by_order(logged, reply)
 }
 
-/// Makes a call at the head of `main`, where its process is alive.
+/// Makes a call at the head of `main`. None if its process is not alive.
 fn called(history: &mut History, process: Koid, call: &Call) -> Result<Option<Moment>, Cause>
     requires { 0 < length history.old.tree.branches }
     ensures ok { IfOk result (IsCallAt history.old.tree history.new.tree process call.now) }
@@ -240,7 +243,7 @@ fn called(history: &mut History, process: Koid, call: &Call) -> Result<Option<Mo
     }
 }
 
-/// One step more, for which there is room.
+/// Appends a step, for which there is room.
 fn push_kept(trail: &mut Vec<TrailStep>, origin: Origin, moment: Option<Moment>)
     requires { vec_len trail.old < vec_capacity trail.old }
     ensures { trail.new.items ≡ trail.old.items ++ record { origin = origin; moment = moment } ∷ [] }

@@ -1,21 +1,21 @@
-//! The objects of handles by their koids in the real system, where a log has them.
+//! Tells which handles are of one object, by the koids of the real system that a log has.
 
 use std::alloc::{AllocError, Global};
 use std::collections::HashMap;
 use zt_logs::{HandleKoid, LoggedCall};
 use zt_rows::HandleValue;
 
-/// What a log tells of the objects of its handles.
+/// The koids that a log tells, and the objects that have them.
 #[derive(Drop)]
 pub(crate) struct ToldKoids {
-    /// The koids of the handles of the line that is gone over.
+    /// The koid of each handle of the line that is gone over.
     line: HashMap<u32, u64>,
     objects: HashMap<u64, usize>,
-    /// The object that has the one of each koid as its peer.
+    /// The object whose peer has a koid, by that koid.
     peers: HashMap<u64, usize>,
-    /// The other end of each that is joined with one by their koids.
+    /// The other end of each end that is joined by koids.
     joined: HashMap<usize, usize>,
-    /// The objects of which a line tells the peer.
+    /// The objects whose peer's koid a line tells.
     has_peer: HashMap<usize, ()>,
 }
 
@@ -30,7 +30,7 @@ impl ToldKoids {
         }
     }
 
-    /// The line of a call is gone over next.
+    /// Begins to go over the line of a call.
     pub(crate) fn begin_line(&mut self, logged: &LoggedCall) -> Result<(), AllocError> {
         if !self.line.is_empty() {
             self.line.clear();
@@ -43,13 +43,13 @@ impl ToldKoids {
         Ok(())
     }
 
-    /// The object of a handle of the line, where its koid came before.
+    /// The object of a handle of the line, if its koid came before.
     pub(crate) fn object(&self, handle: HandleValue) -> Option<usize> {
         let koid = self.line.get(&handle.0).copied()?;
         self.objects.get(&koid).copied()
     }
 
-    /// An object has this koid, or its peer has. Gives its peer, where that is known by its koid.
+    /// Records the koid of an object, or of its peer. Returns the peer, if its koid is known.
     pub(crate) fn tell(
         &mut self,
         object: usize,
@@ -64,18 +64,18 @@ impl ToldKoids {
         Ok(self.peers.get(&told.koid).copied())
     }
 
-    /// These two are joined.
+    /// Joins two ends.
     pub(crate) fn join(&mut self, one: usize, other: usize) -> Result<(), AllocError> {
         put_end(&mut self.joined, one, other)?;
         put_end(&mut self.joined, other, one)
     }
 
-    /// The end that is joined with this one.
+    /// The end that is joined with this one by koids.
     pub(crate) fn joined(&self, end: usize) -> Option<usize> {
         self.joined.get(&end).copied()
     }
 
-    /// Whether the log tells the peer of an object.
+    /// Whether a line tells the koid of an object's peer.
     pub(crate) fn tells_peer(&self, end: usize) -> bool {
         self.has_peer.contains_key(&end)
     }

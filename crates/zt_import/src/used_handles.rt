@@ -1,7 +1,9 @@
+//! The handles that a call uses.
+
 use std::alloc::{AllocError, Global};
 use zt_rows::{Call, HandleValue};
 
-/// The handles in a call's arguments, in their order, but for 0.
+/// The handles in a call's arguments, in order, without 0. The error is an allocation failure.
 pub(crate) fn handles_in(alloc: Global, call: &Call) -> Result<Vec<HandleValue>, AllocError> {
     let mut handles = Vec::new(alloc);
     match call {
@@ -27,7 +29,7 @@ fn push_used(handles: &mut Vec<HandleValue>, handle: HandleValue) -> Result<(), 
     Ok(())
 }
 
-/// The first and the second handle in a call's arguments; 0, where there is none.
+/// The first and the second handle in a call's arguments; 0 if there is none.
 fn single_handles(call: &Call) -> (HandleValue, HandleValue) {
     let none = HandleValue(0);
     match call {

@@ -1,3 +1,5 @@
+//! Hash buckets of numbered items: each is a list that is linked by rising number.
+
 ghost use Rattle.std.specs.Prelude.{◌≡◌, ◌≤◌, ◌<◌, ◌^◌, ◌↔◌, ℕ, List, true, false, length, slice_index_or, slice_set, vec_len, IfOk, OnOk, IfSome, IsTrue, Option, Some, None, if◌then◌else◌};
 ghost use Rattle.zt_index.specs.Chains.{IsBehind, IsNext, IsShortOf, bucket_at};
 ghost use Rattle.zt_index.specs.ProofsOnly.Chains.{IsAtOrBelow, IsBesides, IsChained, IsItemOf, IsPrevious, before_of, buckets, is_in, is_slot, next_of, no_ends, no_link};
@@ -7,14 +9,14 @@ use crate::optional_number::OptionalNumber;
 use std::alloc::{AllocError, Global};
 use std::marker::Model;
 
-/// How many buckets there are. A history has at most 2^20 moments, so that few items share a bucket by chance.
+/// The number of buckets. A history has at most 2^20 moments, so few items share a bucket by chance.
 pub(crate) const BUCKETS: usize = 1 << 13;
 
-/// How many items there are at most, so that the greatest of them is a number that a link can hold.
+/// The most items, so that the greatest of them is a number that a link can hold.
 pub(crate) const MOST_ITEMS: u64 = u32::MAX as u64;
 
-/// Where an item stands: its bucket, and the items of this bucket beside it. Where it is in no bucket, those beside which it
-/// stood: a hint of where it goes when it is put back, of which nothing is promised.
+/// The link of an item: its bucket, and the items before and behind it there. If it is in no bucket, these are the
+/// items beside which it stood. They are a hint of where it goes when it is put back, and nothing is promised of them.
 #[derive(Clone, Copy, Debug)]
 pub(crate) struct BucketLink {
     pub bucket: OptionalNumber,
@@ -43,7 +45,7 @@ impl BucketLink {
 }
 
 impl BucketEnds {
-    /// The ends of a bucket with no item.
+    /// The ends of a bucket without items.
     fn bare() -> BucketEnds
         ensures { result ≡ no_ends }
     {
@@ -54,8 +56,8 @@ impl BucketEnds {
     }
 }
 
-/// The items from 0 on, each in one bucket or in none. The items of a bucket are linked by rising number, so that an
-/// item is put into a bucket, and taken out, without memory.
+/// The items from 0 on, each in one bucket or in none. The items of a bucket are linked by rising number. So putting an
+/// item into a bucket or taking it out never allocates.
 #[derive(Drop)]
 pub(crate) struct Chains {
     links: Vec<BucketLink>,
@@ -74,7 +76,7 @@ impl Model for Chains {
 }
 
 impl Chains {
-    /// No items. It takes no memory.
+    /// No items. Never allocates.
     pub fn new(alloc: Global) -> Chains
         ensures { length result ≡ 0 }
     {
@@ -91,7 +93,7 @@ impl Chains {
         self.links.len()
     }
 
-    /// Makes items that are in no bucket, until there are so many.
+    /// Adds items that are in no bucket, until there are so many. All others stay in their buckets.
     #[inline(always)]
     pub fn grow(&mut self, len: usize) -> Result<(), AllocError>
         requires few { len < 2 ^ 32 }
@@ -106,8 +108,9 @@ impl Chains {
         make_links(&mut self.links, len)
     }
 
-    /// Puts the item into the bucket, or into none. It takes no memory. An item that is there already stays where it is; one
-    /// that is put back behind the item that it stood behind, or as the greatest of the bucket, is put there at once.
+    /// Puts the item into the bucket, or into none. Never allocates. An item that is there already stays where it is.
+    /// Putting an item back behind the one that it stood behind costs a few looks, and so does putting it in as the
+    /// greatest. Any other item costs a look at each greater one of the bucket.
     #[inline(always)]
     pub fn set(&mut self, item: u64, bucket: Option<u64>)
         requires item { item < length self.old }
@@ -117,7 +120,7 @@ impl Chains {
         place(&mut self.links, &mut self.ends, item, bucket);
     }
 
-    /// Whether no item is in the bucket. It is one look.
+    /// Whether no item is in the bucket. It costs one look.
     #[inline(always)]
     pub fn is_bare(&self, bucket: u64) -> bool
         ensures { IsTrue result → (n : ℕ) → is_in self.now bucket n ≡ false }
@@ -125,15 +128,15 @@ impl Chains {
         is_bare(&self.links, &self.ends, bucket)
     }
 
-    /// The least item of the bucket above the low one, or the least of all. It takes no memory. Where the low one is in
-    /// the bucket, or has just left it, this is one look.
+    /// The least item of the bucket above `low`, or the least of all if `low` is `None`. Never allocates. It costs one
+    /// look if `low` is in the bucket, or has just left it.
     pub fn after(&self, bucket: u64, low: Option<u64>) -> Option<u64>
         ensures { IsNext (is_in self.now bucket) low result }
     {
         after(&self.links, &self.ends, bucket, low)
     }
 
-    /// Equal items in memory of their own.
+    /// Copies the items into memory of their own.
     pub fn copy(&self) -> Result<Chains, AllocError>
         ensures { IfOk result (λ copied. copied ≡ self.now) }
     {
@@ -143,7 +146,7 @@ impl Chains {
     }
 }
 
-/// Makes the ends of all buckets, where there are none.
+/// Makes the ends of all buckets, unless they are there.
 #[inline(always)]
 fn make_ends(ends: &mut Vec<BucketEnds>) -> Result<(), AllocError>
     ensures same { (k : ℕ) → slice_index_or ends.new.items k no_ends ≡ slice_index_or ends.old.items k no_ends }
@@ -167,7 +170,7 @@ fn add_ends(ends: &mut Vec<BucketEnds>) -> Result<(), AllocError>
     ends.resize(BUCKETS, BucketEnds::bare())
 }
 
-/// Makes items that are in no bucket, until there are so many.
+/// Adds items that are in no bucket, until there are so many.
 #[inline(always)]
 fn make_links(links: &mut Vec<BucketLink>, len: usize) -> Result<(), AllocError>
     requires { vec_len links.old ≤ len }
@@ -185,7 +188,7 @@ fn make_links(links: &mut Vec<BucketLink>, len: usize) -> Result<(), AllocError>
     Ok(())
 }
 
-/// Puts the item into the bucket, or into none; it stays where it is, if that is there.
+/// Puts the item into the bucket, or into none. An item that is there already stays where it is.
 #[inline(always)]
 fn place(links: &mut [BucketLink], ends: &mut [BucketEnds], item: u64, bucket: Option<u64>)
     requires item { item < length links.old }
@@ -203,7 +206,7 @@ fn place(links: &mut [BucketLink], ends: &mut [BucketEnds], item: u64, bucket: O
     move_to(links, ends, item, bucket);
 }
 
-/// Takes the item out of its bucket, if it is in one, and puts it into the bucket, or into none.
+/// Takes the item out of its bucket, if it is in one. Then puts it into the given bucket, or into none.
 #[inline(always)]
 fn move_to(links: &mut [BucketLink], ends: &mut [BucketEnds], item: u64, bucket: Option<u64>)
     requires item { item < length links.old }
@@ -230,7 +233,7 @@ fn is_bare(links: &[BucketLink], ends: &[BucketEnds], bucket: u64) -> bool
     next_of(links, ends, bucket, None).is_none()
 }
 
-/// The least item of the bucket above the low one, or the least of all.
+/// The least item of the bucket above `low`, or the least of all if `low` is `None`.
 fn after(links: &[BucketLink], ends: &[BucketEnds], bucket: u64, low: Option<u64>) -> Option<u64>
     requires { IsChained links.now ends.now }
     ensures { IsNext (is_in (buckets links.now) bucket) low result }
@@ -245,7 +248,7 @@ fn after(links: &[BucketLink], ends: &[BucketEnds], bucket: u64, low: Option<u64
     None
 }
 
-/// Where a search for the least item above the low one begins.
+/// The item at which a search for the least item above `low` begins.
 fn beside(links: &[BucketLink], ends: &[BucketEnds], bucket: u64, low: Option<u64>) -> Option<u64>
     requires { IsChained links.now ends.now }
     ensures { IsBesides (is_in (buckets links.now) bucket) low result }
@@ -253,8 +256,8 @@ fn beside(links: &[BucketLink], ends: &[BucketEnds], bucket: u64, low: Option<u6
     next_of(links, ends, bucket, at_or_below(links, bucket, low))
 }
 
-/// The low one, where it is in the bucket; or else the one that it stood behind when it left its bucket, where that is in this
-/// one. So what stood behind an item is found by one look after the item has gone, too.
+/// `low` itself, if it is in the bucket. Else the item that it stood behind when it left its bucket, if that is in this
+/// bucket. So the item behind one that has left is found by one look, too.
 fn at_or_below(links: &[BucketLink], bucket: u64, low: Option<u64>) -> Option<u64>
     ensures { IsAtOrBelow (is_in (buckets links.now) bucket) low result }
 {
@@ -270,7 +273,7 @@ fn at_or_below(links: &[BucketLink], bucket: u64, low: Option<u64>) -> Option<u6
     }
 }
 
-/// Whether the item is above the low one, if there is a low one.
+/// Whether the item is above `low`; `true` if `low` is `None`.
 fn is_behind(low: Option<u64>, item: u64) -> bool
     ensures { IsTrue result ↔ IsBehind (λ a b. a < b) low item }
 {
@@ -280,7 +283,7 @@ fn is_behind(low: Option<u64>, item: u64) -> bool
     }
 }
 
-/// Whether the item is below the found one, if one was found.
+/// Whether the item is below the found one; `true` if none was found.
 fn is_short_of(found: Option<u64>, item: u64) -> bool
     ensures { IsTrue result ↔ IsShortOf (λ a b. a < b) found item }
 {
@@ -290,7 +293,7 @@ fn is_short_of(found: Option<u64>, item: u64) -> bool
     }
 }
 
-/// Whether the item is in the bucket, if there is an item.
+/// Whether the item is in the bucket; `true` if there is no item.
 fn is_item_of(links: &[BucketLink], bucket: u64, item: Option<u64>) -> bool
     ensures { IsTrue result ↔ IsItemOf (is_in (buckets links.now) bucket) item }
 {
@@ -310,7 +313,7 @@ fn is_in(links: &[BucketLink], bucket: u64, item: u64) -> bool
     }
 }
 
-/// The item behind this one, or the first of the bucket.
+/// The item behind `low`, or the first of the bucket if `low` is `None`.
 fn next_of(links: &[BucketLink], ends: &[BucketEnds], bucket: u64, low: Option<u64>) -> Option<u64>
     ensures { result ≡ next_of links.now ends.now bucket low }
 {
@@ -320,7 +323,7 @@ fn next_of(links: &[BucketLink], ends: &[BucketEnds], bucket: u64, low: Option<u
     }
 }
 
-/// The item before this one, or the last of the bucket.
+/// The item before `high`, or the last of the bucket if `high` is `None`.
 fn before_of(
     links: &[BucketLink],
     ends: &[BucketEnds],
@@ -335,7 +338,7 @@ fn before_of(
     }
 }
 
-/// Links the item as the next behind the low one, or as the first of the bucket.
+/// Links the item as the next behind `low`, or as the first of the bucket if `low` is `None`.
 fn set_next(
     links: &mut [BucketLink],
     ends: &mut [BucketEnds],
@@ -364,7 +367,7 @@ fn set_next(
     }
 }
 
-/// Links the item as the one before the high one, or as the last of the bucket.
+/// Links the item as the one before `high`, or as the last of the bucket if `high` is `None`.
 fn set_before(
     links: &mut [BucketLink],
     ends: &mut [BucketEnds],
@@ -393,7 +396,7 @@ fn set_before(
     }
 }
 
-/// Takes the item out of its bucket. It keeps in its link beside which items it stood.
+/// Takes the item out of its bucket. Its link keeps the items beside which it stood.
 fn remove(links: &mut [BucketLink], ends: &mut [BucketEnds], item: u64)
     requires item { item < length links.old }
     requires chained { IsChained links.old ends.old }
@@ -414,8 +417,8 @@ fn remove(links: &mut [BucketLink], ends: &mut [BucketEnds], item: u64)
     };
 }
 
-/// Lets the item that stood behind this one, if it is in no bucket, have stood behind this one last: where several go out of
-/// a bucket one behind the other, and come back by rising number, each is put back behind the one before it.
+/// If the item that stood behind this one is in no bucket, notes in its link that it stood behind this one last. So
+/// when several neighbours leave a bucket and come back by rising number, each is put back behind the one before it.
 fn remind(links: &mut [BucketLink], item: u64)
     requires item { item < length links.old }
     requires few { length links.old < 2 ^ 32 }
@@ -472,8 +475,8 @@ fn around(
     }
 }
 
-/// The same, where this item goes behind the one that it stood behind: that one is in the bucket, or there was none, and
-/// what is linked as the next behind it is above this item. These are a few looks.
+/// The greatest item of the bucket below this one and the least above it, if this item goes behind the one that it stood behind.
+/// That one is then in the bucket, or there was none, and the next one there is above this item. It costs a few looks.
 fn hinted(
     links: &[BucketLink],
     ends: &[BucketEnds],
@@ -496,7 +499,7 @@ fn hinted(
     }
 }
 
-/// The same, by a walk from the greatest item of the bucket downwards.
+/// The greatest item of the bucket below this one and the least above it, by a walk from the greatest item downwards.
 fn searched(
     links: &[BucketLink],
     ends: &[BucketEnds],

@@ -1,3 +1,5 @@
+//! The index: hash buckets by which waits and live jobs and processes are found.
+
 ghost use Rattle.std.specs.Prelude.{◌≡◌, ◌≤◌, ◌<◌, ◌^◌, ◌+◌, ℕ, true, false, length, IfOk, OnOk, IfSome, if◌then◌else◌};
 ghost use Rattle.std.specs.Option.{option_and_then, option_copied, option_map, option_map_or};
 ghost use Rattle.zt_rows.specs.Opening.{hollow};
@@ -18,7 +20,7 @@ use zt_bits::Kind;
 use zt_cells::Cells;
 use zt_rows::{HandleValue, Held, Koid, ObjectRow, Row, RowKey, Wait};
 
-/// What waits, or live jobs and processes, are looked for by.
+/// The criterion by which waits, or live jobs and processes, are looked up.
 #[derive(Clone, Copy, Debug)]
 enum Criterion {
     /// The process that made them, and its handle.
@@ -34,7 +36,7 @@ enum Criterion {
 }
 
 impl Criterion {
-    /// Whether what stands under this number is one of them.
+    /// Whether the wait of this number, or the object of this koid, meets the criterion.
     fn takes(&self, cells: &Cells, number: u64) -> bool
         ensures { result ≡ meets_criterion cells.now.state self.now number }
     {
@@ -48,8 +50,8 @@ impl Criterion {
     }
 }
 
-/// The waits by their handles, by their ports, by the objects that their handles name and by their processes; and the
-/// live jobs and processes by their parents.
+/// The buckets of the waits by handle, by port, by the object that the handle names, and by process. Also those of the
+/// live jobs and processes by parent.
 struct RowChains {
     pub handles: Chains,
     pub ports: Chains,
@@ -58,8 +60,7 @@ struct RowChains {
     pub parents: Chains,
 }
 
-/// Lets all chains go in one call, so that a function that owns an index is proved without going through them at each of its
-/// ways out.
+/// Drops all chains in one call. So the proof of a function that owns an index does not go through them at each exit.
 impl Drop for RowChains {
     fn drop(self) {
         let RowChains {
@@ -73,7 +74,7 @@ impl Drop for RowChains {
 }
 
 impl RowChains {
-    /// No waits and no objects. It takes no memory.
+    /// The buckets without waits and objects. Never allocates.
     pub fn new(alloc: Global) -> RowChains
         ensures handles { length result.handles ≡ 0 }
         ensures ports { length result.ports ≡ 0 }
@@ -90,8 +91,8 @@ impl RowChains {
         }
     }
 
-    /// Makes room for the wait or the object under the key, if it is one of those. Numbers and koids from 2^32 - 1
-    /// on are refused.
+    /// Makes room for the wait or the object under the key; other keys need none. Fails if an allocation fails, and for
+    /// numbers and koids from 2^32 - 1 on.
     #[inline(always)]
     pub fn grow_for(&mut self, key: RowKey) -> Result<(), AllocError>
         ensures same { (s : CellsView) → IsIndexed s self.old → IsIndexed s self.new }
@@ -104,7 +105,7 @@ impl RowChains {
         }
     }
 
-    /// Makes room for the wait of this number.
+    /// Makes room for the wait of this number. Fails if an allocation fails, and for numbers from 2^32 - 1 on.
     fn grow_to(&mut self, number: u64) -> Result<(), AllocError>
         ensures same { (s : CellsView) → IsIndexed s self.old → IsIndexed s self.new }
         ensures made { OnOk result (IsRoomy (number + 1) self.new) }
@@ -119,7 +120,7 @@ impl RowChains {
         self.processes.grow(len)
     }
 
-    /// Makes room for the object of this koid.
+    /// Makes room for the object of this koid. Fails if an allocation fails, and for koids from 2^32 - 1 on.
     #[inline(always)]
     fn grow_below(&mut self, koid: Koid) -> Result<(), AllocError>
         ensures same { (s : CellsView) → IsIndexed s self.old → IsIndexed s self.new }
@@ -131,8 +132,8 @@ impl RowChains {
         self.parents.grow(koid.0 as usize + 1)
     }
 
-    /// Follows the exchange of a row with what stands under the key, ahead of it. It takes no memory. Where an entry
-    /// changes, the waits on its handle are looked at.
+    /// Updates the buckets ahead of an exchange of the row under the key. `row` is the row that comes, or none. Never
+    /// allocates. If an entry changes, it looks at the waits on its handle.
     #[inline(always)]
     pub fn follow(&mut self, cells: &Cells, key: RowKey, row: Option<&Row>)
         requires placed { has_place cells.now.sizes key ≡ true }
@@ -149,8 +150,7 @@ impl RowChains {
         }
     }
 
-    /// Puts the wait of this number into the buckets of its handle, of its port, of its object and of its process, or
-    /// into none.
+    /// Puts the wait of this number into the buckets of its handle, its port, its object and its process, or into none.
     fn set(&mut self, cells: &Cells, number: u64, wait: Option<Wait>)
         requires { IsRoomy (number + 1) self.old }
         ensures { self.new ≡ index_with cells.now.state self.old number wait }
@@ -170,7 +170,7 @@ impl RowChains {
         self.parents.set(koid.0, bucket_below(&object));
     }
 
-    /// Puts the waits on the handle into the bucket of the object that it will name, or into none.
+    /// Moves the waits on the handle to the bucket of the object that it will name, or to none.
     #[inline(always)]
     fn rename(&mut self, cells: &Cells, process: Koid, handle: HandleValue, held: Option<Held>)
         requires { IsIndexed cells.now self.old }
@@ -182,7 +182,7 @@ impl RowChains {
             ≡ (if waits_where cells.now.state (is_on process handle) n then option_map held_bucket held else bucket_at self.old.objects n) }
         ensures objects { length self.new.objects ≡ length self.old.objects }
     {
-        // From here on there is no wait, so that each wait has its place among the objects'.
+        // From `_end` on there is no wait, so each wait has its place in `objects`.
         let _end = cells.waits_end();
         move_all(
             cells,
@@ -194,7 +194,7 @@ impl RowChains {
         );
     }
 
-    /// An equal index in memory of its own.
+    /// Copies the buckets into memory of their own.
     pub fn copy(&self) -> Result<RowChains, AllocError>
         ensures { IfOk result (λ copied. copied ≡ self.now) }
     {
@@ -208,7 +208,7 @@ impl RowChains {
     }
 }
 
-/// The buckets of the waits and of the live jobs and processes, by which they are found without memory.
+/// The hash buckets of the waits, and of the live jobs and processes. A search in them never allocates.
 #[derive(Drop)]
 pub struct Index {
     chains: RowChains,
@@ -223,7 +223,7 @@ impl Model for Index {
 }
 
 impl Index {
-    /// No waits and no objects. It takes no memory.
+    /// An index without waits and objects. Never allocates.
     pub fn new(alloc: Global) -> Index
         ensures { IsIndexed (record { state = hollow; sizes = no_sizes }) result }
     {
@@ -232,7 +232,8 @@ impl Index {
         }
     }
 
-    /// Makes room for the wait or the object under the key, if it is one of those.
+    /// Makes room for the wait or the object under the key; other keys need none. Fails if an allocation fails, and for
+    /// numbers and koids from 2^32 - 1 on.
     #[inline(always)]
     pub fn grow_for(&mut self, key: RowKey) -> Result<(), AllocError>
         ensures same { (s : CellsView) → IsIndexed s self.old → IsIndexed s self.new }
@@ -241,7 +242,7 @@ impl Index {
         self.chains.grow_for(key)
     }
 
-    /// Follows the exchange of a row with what stands under the key, ahead of it. It takes no memory.
+    /// Updates the buckets ahead of an exchange of the row under the key. `row` is the row that comes, or none. Never allocates.
     #[inline(always)]
     pub fn follow(&mut self, cells: &Cells, key: RowKey, row: Option<&Row>)
         requires placed { has_place cells.now.sizes key ≡ true }
@@ -251,8 +252,8 @@ impl Index {
         self.chains.follow(cells, key, row);
     }
 
-    /// The least number above the low one, or of all, of a wait that the process made on the handle. It takes no
-    /// memory, and looks at waits that share a bucket with the handle alone.
+    /// The least number above `low` of a wait that the process made on the handle; the least of all if `low` is `None`.
+    /// Never allocates, and looks only at waits in the bucket of the handle.
     pub fn wait_on(
         &self,
         cells: &Cells,
@@ -266,8 +267,8 @@ impl Index {
         next_on(cells, &self.chains.handles, process, handle, low)
     }
 
-    /// The least number above the low one, or of all, of a wait for the port. It takes no memory, and looks at waits
-    /// that share a bucket with the port alone.
+    /// The least number above `low` of a wait for the port; the least of all if `low` is `None`. Never allocates, and
+    /// looks only at waits in the bucket of the port.
     pub fn wait_for(&self, cells: &Cells, port: Koid, low: Option<u64>) -> Option<u64>
         requires { IsIndexed cells.now self.now }
         ensures { IsNext (waits_where cells.now.state (is_for port)) low result }
@@ -276,8 +277,8 @@ impl Index {
         next_by_criterion(cells, &self.chains.ports, bucket, Criterion::For(port), low)
     }
 
-    /// The least number above the low one, or of all, of a wait on a handle that names the object. It takes no memory,
-    /// and looks at waits that share a bucket with the object alone.
+    /// The least number above `low` of a wait on a handle that names the object; the least of all if `low` is `None`.
+    /// Never allocates, and looks only at waits in the bucket of the object.
     pub fn wait_at(&self, cells: &Cells, koid: Koid, low: Option<u64>) -> Option<u64>
         requires { IsIndexed cells.now self.now }
         ensures { IsNext (waits_where cells.now.state (is_at cells.now.state koid)) low result }
@@ -292,8 +293,8 @@ impl Index {
         )
     }
 
-    /// The least number above the low one, or of all, of a wait that the process made. It takes no memory, and looks at
-    /// waits that share a bucket with the process alone.
+    /// The least number above `low` of a wait that the process made; the least of all if `low` is `None`. Never
+    /// allocates, and looks only at waits in the bucket of the process.
     pub fn wait_by(&self, cells: &Cells, process: Koid, low: Option<u64>) -> Option<u64>
         requires { IsIndexed cells.now self.now }
         ensures { IsNext (waits_where cells.now.state (is_by process)) low result }
@@ -308,8 +309,8 @@ impl Index {
         )
     }
 
-    /// The least koid above the low one, or of all, of a live job or process whose parent is the koid. It takes no
-    /// memory, and looks at live jobs and processes whose parents share a bucket with the koid alone.
+    /// The least koid above `low` of a live job or process with this parent; the least of all if `low` is `None`. Never
+    /// allocates, and looks only at live jobs and processes in the bucket of the parent.
     pub fn task_below(&self, cells: &Cells, parent: Koid, low: Option<Koid>) -> Option<Koid>
         requires { IsIndexed cells.now self.now }
         ensures { IsNext (objects_where cells.now.state (is_below parent)) low result }
@@ -321,7 +322,7 @@ impl Index {
         Some(Koid(found))
     }
 
-    /// An equal index in memory of its own.
+    /// Copies the index into memory of its own.
     pub fn copy(&self) -> Result<Index, AllocError>
         ensures { IfOk result (λ copied. copied ≡ self.now) }
     {
@@ -331,7 +332,7 @@ impl Index {
     }
 }
 
-/// Puts the waits on the handle into the bucket, or into none.
+/// Moves the waits on the handle to the bucket, or to none.
 #[inline(always)]
 fn move_all(
     cells: &Cells,
@@ -355,7 +356,7 @@ fn move_all(
     }
 }
 
-/// The least number above the low one of a wait on the handle.
+/// The least number above `low` of a wait on the handle; the least of all if `low` is `None`.
 fn next_on(
     cells: &Cells,
     handles: &Chains,
@@ -370,8 +371,8 @@ fn next_on(
     next_by_criterion(cells, handles, waits, Criterion::On(process, handle), low)
 }
 
-/// How far the buckets of one process's handles lie from those of the next: odd, and near the golden section of the buckets, so
-/// that few handles of processes beside each other meet.
+/// The distance between the buckets of one process's handles and those of the next process. It is odd, and near the
+/// golden section of the number of buckets. So few handles of processes with consecutive koids share a bucket.
 const PROCESS_STEP: u64 = 5063;
 
 /// The bucket of waits on the handle.
@@ -383,8 +384,7 @@ fn handle_bucket(process: Koid, handle: HandleValue) -> u64
     (process.0 % buckets * PROCESS_STEP + u64::from(handle.0 / 4)) % buckets
 }
 
-/// The bucket of waits for the port, of those at the object, of those of the process, and of the live jobs and processes
-/// below the job.
+/// The bucket of the waits for a port, at an object or of a process, and of the live jobs and processes below a job.
 fn koid_bucket(koid: Koid) -> u64
     ensures bucket { result ≡ koid_bucket koid }
     ensures few { result < 8192 }
@@ -436,7 +436,7 @@ fn bucket_below(object: &Option<ObjectRow>) -> Option<u64>
     }
 }
 
-/// The bucket of what the wait's handle names.
+/// The bucket of the object that the wait's handle names.
 fn bucket_of(cells: &Cells, wait: &Option<Wait>) -> Option<u64>
     ensures bucket { result ≡ option_and_then (bucket_of cells.now.state) wait.now }
     ensures few { IfSome result (λ b. b < 2 ^ 13) }
@@ -447,7 +447,7 @@ fn bucket_of(cells: &Cells, wait: &Option<Wait>) -> Option<u64>
     }
 }
 
-/// The bucket of what the entry names.
+/// The bucket of the object that the entry names.
 fn bucket_held(held: &Option<Held>) -> Option<u64>
     ensures bucket { result ≡ option_map held_bucket held.now }
     ensures few { IfSome result (λ b. b < 2 ^ 13) }
@@ -508,7 +508,7 @@ fn is_by(wait: &Option<Wait>, process: Koid) -> bool
     }
 }
 
-/// Whether there is an object, and it is a live job or process whose parent is the koid.
+/// Whether there is an object, and it is a live job or process with this parent.
 fn is_below(object: &Option<ObjectRow>, parent: Koid) -> bool
     ensures { result ≡ option_map_or (is_below parent) object.now false }
 {
@@ -518,8 +518,8 @@ fn is_below(object: &Option<ObjectRow>, parent: Koid) -> bool
     }
 }
 
-/// The least number above the low one under which there is what is looked for. All such numbers are in the bucket. Most
-/// buckets are bare, which is one look.
+/// The least number above `low` that meets the criterion; the least of all if `low` is `None`. All such numbers are in
+/// the bucket. Most buckets are empty, and cost one look.
 #[inline(always)]
 fn next_by_criterion(
     cells: &Cells,
@@ -538,7 +538,7 @@ fn next_by_criterion(
     }
 }
 
-/// The same, along the bucket.
+/// The least number above `low` that meets the criterion; the least of all if `low` is `None`. It walks along the bucket.
 #[inline(never)]
 fn next_in_bucket(
     cells: &Cells,

@@ -1,5 +1,5 @@
-//! What is kept beside the rows of a state, and follows them: how often rows name each koid, how many packets
-//! of users each port has, and the buckets by which waits and live jobs and processes are found.
+//! Counts and hash buckets that are kept beside the rows of a state and follow them. They tell how often rows name each
+//! koid, and how many user packets each port has. Waits, and live jobs and processes, are found by the buckets.
 #![tactic(auto)]
 
 mod chains;

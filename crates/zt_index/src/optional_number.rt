@@ -1,3 +1,5 @@
+//! An optional number in four bytes.
+
 ghost use Rattle.std.specs.Prelude.{◌≡◌, ◌<◌, ◌^◌, ◌-◌, Option, Some, None, IfSome};
 
 use std::marker::Model;
@@ -8,7 +10,7 @@ pub(crate) struct OptionalNumber {
     code: u32,
 }
 
-/// What stands for none.
+/// The code that stands for none.
 const NONE_CODE: u32 = u32::MAX;
 
 impl Model for OptionalNumber {
@@ -26,7 +28,7 @@ impl Model for OptionalNumber {
 }
 
 impl OptionalNumber {
-    /// None.
+    /// No number.
     #[inline(always)]
     pub fn none() -> OptionalNumber
         ensures { result ≡ None }

@@ -1,3 +1,5 @@
+//! Counts the user packets of each port.
+
 ghost use Rattle.std.specs.Prelude.{◌≡◌, ◌≤◌, ◌<◌, ◌+◌, ◌^◌, ℕ, length, IfOk, OnOk, slice_index_or};
 ghost use Rattle.std.specs.Option.{option_copied};
 ghost use Rattle.zt_rows.specs.Opening.{hollow};
@@ -10,7 +12,7 @@ use std::marker::Model;
 use zt_cells::MOST_PLACES;
 use zt_rows::{Koid, Packet, Row, RowKey};
 
-/// How many packets of users are in each port, by koid from 0 on, as far as ports have places for packets.
+/// How many user packets are in each port, by koid from 0 on, as far as ports have places for packets.
 #[derive(Drop)]
 pub struct PacketCounts {
     numbers: Vec<u64>,
@@ -25,7 +27,7 @@ impl Model for PacketCounts {
 }
 
 impl PacketCounts {
-    /// No numbers. It takes no memory.
+    /// No counts. Never allocates.
     pub fn new(alloc: Global) -> PacketCounts
         ensures { ArePending (record { state = hollow; sizes = no_sizes }) result }
     {
@@ -34,7 +36,7 @@ impl PacketCounts {
         }
     }
 
-    /// How many packets of users are in the port. It takes no memory.
+    /// How many user packets are in the port. Never allocates.
     pub fn at(&self, port: Koid) -> u64
         ensures { result ≡ slice_index_or self.now port 0 }
     {
@@ -44,7 +46,7 @@ impl PacketCounts {
         }
     }
 
-    /// Makes a number for the port of the packet under the key, if it is a packet's. Koids from 2^48 on are refused.
+    /// Makes a count for the port, if the key is that of a packet. Fails if an allocation fails, and for koids from 2^48 on.
     #[inline(always)]
     pub fn grow_for(&mut self, key: RowKey) -> Result<(), AllocError>
         ensures same { (s : CellsView) → ArePending s self.old → ArePending s self.new }
@@ -56,7 +58,7 @@ impl PacketCounts {
         }
     }
 
-    /// Makes a number for the port.
+    /// Makes a count for the port. Fails if an allocation fails, and for koids from 2^48 on.
     fn grow_to(&mut self, port: Koid) -> Result<(), AllocError>
         ensures same { (x : ℕ) → slice_index_or self.new x 0 ≡ slice_index_or self.old x 0 }
         ensures kept { length self.old ≤ length self.new }
@@ -71,8 +73,8 @@ impl PacketCounts {
         self.numbers.resize(port.0 as usize + 1, 0)
     }
 
-    /// Follows the exchange of a row under the key, where it is told whether the one that came and the one that went are packets
-    /// of users. It takes no memory.
+    /// Updates the count for an exchange of the row under the key. `came` and `went` tell whether the row that came and
+    /// the one that went are user packets. Never allocates.
     #[inline(always)]
     pub fn follow(&mut self, key: RowKey, came: bool, went: bool)
         requires within { HasNumber key self.old }
@@ -87,7 +89,7 @@ impl PacketCounts {
         }
     }
 
-    /// Equal counts in memory of their own.
+    /// Copies the counts into memory of their own.
     pub fn copy(&self) -> Result<PacketCounts, AllocError>
         ensures { IfOk result (λ copied. copied ≡ self.now) }
     {
@@ -96,7 +98,7 @@ impl PacketCounts {
     }
 }
 
-/// Whether the row is there and a packet of a user.
+/// Whether there is a row and it is a user packet.
 #[inline(always)]
 pub fn is_user_packet(row: Option<&Row>) -> bool
     ensures { result ≡ is_user_packet (option_copied row.entry) }

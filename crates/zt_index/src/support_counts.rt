@@ -1,3 +1,5 @@
+//! Counts how often rows name each koid.
+
 ghost use Rattle.std.specs.Prelude.{◌≡◌, ◌≤◌, ◌<◌, ◌+◌, ◌-◌, ◌^◌, ◌==◌, ℕ, true, nat_lt, length, vec_len, IfOk, OnOk, if◌then◌else◌};
 ghost use Rattle.std.specs.List.{list_all};
 ghost use Rattle.std.specs.Option.{option_copied};
@@ -11,36 +13,36 @@ use zt_bits::Kind;
 use zt_cells::MOST_PLACES;
 use zt_rows::{Held, Koid, Life, ObjectRow, Row, RowKey};
 
-/// What no row gives.
+/// The counts of a koid that no row counts for.
 const NO_NUMBERS: KoidCounts = KoidCounts {
     named: 0,
     jobs: 0,
     processes: 0,
 };
 
-/// What an entry or a handle in a message gives the object that it names.
+/// The counts that an entry or a handle in a message gives the object that it names.
 const ONE_NAME: KoidCounts = KoidCounts {
     named: 1,
     jobs: 0,
     processes: 0,
 };
 
-/// What a live job gives its parent.
+/// The counts that a live job gives its parent.
 const ONE_JOB: KoidCounts = KoidCounts {
     named: 0,
     jobs: 1,
     processes: 0,
 };
 
-/// What a live process gives its parent.
+/// The counts that a live process gives its parent.
 const ONE_PROCESS: KoidCounts = KoidCounts {
     named: 0,
     jobs: 0,
     processes: 1,
 };
 
-/// How often rows name one koid: entries and message handles, live jobs and live processes that have it as
-/// their link.
+/// How often rows name one koid: entries and message handles that name it, and live jobs and live processes that have
+/// it as their parent.
 #[derive(Clone, Copy, Debug)]
 pub struct KoidCounts {
     pub named: u64,
@@ -49,7 +51,7 @@ pub struct KoidCounts {
 }
 
 impl KoidCounts {
-    /// Both together.
+    /// The sum of both.
     fn plus(self, more: KoidCounts) -> KoidCounts
         requires named { self.named + more.named < 2 ^ 64 }
         requires jobs { self.jobs + more.jobs < 2 ^ 32 }
@@ -63,7 +65,7 @@ impl KoidCounts {
         }
     }
 
-    /// What is left of these without those.
+    /// These counts without those of `less`.
     fn minus(self, less: KoidCounts) -> KoidCounts
         requires named { less.named ≤ self.named }
         requires jobs { less.jobs ≤ self.jobs }
@@ -78,16 +80,16 @@ impl KoidCounts {
     }
 }
 
-/// What a row counts for.
+/// The koids that a row counts for.
 enum CountedRow<'a> {
     Nothing,
-    /// One koid, which gets these numbers.
+    /// One koid, which gets these counts.
     One(Koid, KoidCounts),
     /// The koid of each of a message's handles, which gets one name.
     Handles(&'a [Held]),
 }
 
-/// The numbers of all koids from 0 on, as far as rows name them.
+/// The counts of all koids from 0 on, as far as rows name them.
 #[derive(Drop)]
 pub struct SupportCounts {
     numbers: Vec<KoidCounts>,
@@ -103,7 +105,7 @@ impl Model for SupportCounts {
 }
 
 impl SupportCounts {
-    /// No numbers. It takes no memory.
+    /// No counts. Never allocates.
     pub fn new(alloc: Global) -> SupportCounts
         ensures { length result ≡ 0 }
     {
@@ -112,7 +114,7 @@ impl SupportCounts {
         }
     }
 
-    /// The numbers of the koid. It takes no memory.
+    /// The counts of the koid, 0 if it has none. Never allocates.
     pub fn at(&self, koid: Koid) -> KoidCounts
         ensures { result ≡ numbers_at self.now koid }
     {
@@ -122,7 +124,7 @@ impl SupportCounts {
         }
     }
 
-    /// Whether there are numbers for each koid that the row counts for. It takes no memory.
+    /// Whether there are counts for each koid that the row counts for. Never allocates.
     fn covers(&self, key: RowKey, row: &Row) -> bool
         ensures { result ≡ counts_within (length self.now) key row.now }
     {
@@ -133,7 +135,7 @@ impl SupportCounts {
         }
     }
 
-    /// Whether there are numbers for each koid that the row, if there is one, counts for. It takes no memory.
+    /// Whether there are counts for each koid that the row, if there is one, counts for. Never allocates.
     pub fn covers_if(&self, key: RowKey, row: Option<&Row>) -> bool
         ensures { result ≡ counts_within_if (length self.now) key (option_copied row.entry) }
     {
@@ -143,21 +145,21 @@ impl SupportCounts {
         }
     }
 
-    /// Whether the koid has numbers.
+    /// Whether the koid has counts.
     fn has(&self, koid: Koid) -> bool
         ensures { result ≡ nat_lt koid (length self.now) }
     {
         koid.0 < self.numbers.len() as u64
     }
 
-    /// Whether the koid of each handle has numbers.
+    /// Whether the koid of each handle has counts.
     fn has_all(&self, handles: &[Held]) -> bool
         ensures { result ≡ list_all (λ held. nat_lt held.koid (length self.now)) handles.now }
     {
         handles.iter().all(|held| self.has(held.koid))
     }
 
-    /// Makes numbers for each koid that the row counts for. Koids from 2^48 on are refused.
+    /// Makes counts for each koid that the row counts for. Fails if an allocation fails, and for koids from 2^48 on.
     #[inline(always)]
     fn grow_for(&mut self, key: RowKey, row: &Row) -> Result<(), AllocError>
         ensures same { (x : ℕ) → numbers_at self.new x ≡ numbers_at self.old x }
@@ -171,7 +173,8 @@ impl SupportCounts {
         }
     }
 
-    /// Makes numbers for each koid that the row, if there is one, counts for. Koids from 2^48 on are refused.
+    /// Makes counts for each koid that the row, if there is one, counts for. Fails if an allocation fails, and for
+    /// koids from 2^48 on.
     #[inline(always)]
     pub fn grow_if(&mut self, key: RowKey, row: Option<&Row>) -> Result<(), AllocError>
         ensures same { (x : ℕ) → numbers_at self.new x ≡ numbers_at self.old x }
@@ -184,7 +187,7 @@ impl SupportCounts {
         }
     }
 
-    /// Makes numbers for the koid of each handle.
+    /// Makes counts for the koid of each handle. Fails if an allocation fails, and for koids from 2^48 on.
     fn grow_to_all(&mut self, handles: &[Held]) -> Result<(), AllocError>
         ensures same { (x : ℕ) → numbers_at self.new x ≡ numbers_at self.old x }
         ensures kept { length self.old ≤ length self.new }
@@ -196,7 +199,7 @@ impl SupportCounts {
         Ok(())
     }
 
-    /// Makes numbers for the koid.
+    /// Makes counts for the koid. Fails if an allocation fails, and for koids from 2^48 on.
     #[inline(always)]
     fn grow_to(&mut self, koid: Koid) -> Result<(), AllocError>
         ensures same { (x : ℕ) → numbers_at self.new x ≡ numbers_at self.old x }
@@ -210,7 +213,7 @@ impl SupportCounts {
         }
     }
 
-    /// Makes numbers for the koid, which has none.
+    /// Makes counts for the koid, which has none. Fails if an allocation fails, and for koids from 2^48 on.
     #[inline(always)]
     fn add_to(&mut self, koid: Koid) -> Result<(), AllocError>
         requires { length self.old ≤ koid }
@@ -224,7 +227,7 @@ impl SupportCounts {
         make_numbers(&mut self.numbers, koid.0 as usize + 1)
     }
 
-    /// Adds what the row gives.
+    /// Adds the counts that the row gives.
     #[inline(always)]
     fn raise(&mut self, key: RowKey, row: &Row)
         requires within { counts_within (length self.old) key row.now ≡ true }
@@ -242,7 +245,7 @@ impl SupportCounts {
         }
     }
 
-    /// Takes off what the row gives.
+    /// Takes off the counts that the row gives.
     #[inline(always)]
     fn lower(&mut self, key: RowKey, row: &Row)
         requires within { counts_within (length self.old) key row.now ≡ true }
@@ -259,7 +262,7 @@ impl SupportCounts {
         }
     }
 
-    /// Adds what the row, if there is one, gives.
+    /// Adds the counts that the row, if there is one, gives.
     #[inline(always)]
     pub fn raise_if(&mut self, key: RowKey, row: Option<&Row>)
         requires within { counts_within_if (length self.old) key (option_copied row) ≡ true }
@@ -275,7 +278,7 @@ impl SupportCounts {
         }
     }
 
-    /// Takes off what the row, if there is one, gives.
+    /// Takes off the counts that the row, if there is one, gives.
     #[inline(always)]
     pub fn lower_if(&mut self, key: RowKey, row: Option<&Row>)
         requires within { counts_within_if (length self.old) key (option_copied row) ≡ true }
@@ -290,7 +293,7 @@ impl SupportCounts {
         }
     }
 
-    /// Equal counts in memory of its own.
+    /// Copies the counts into memory of their own.
     pub fn copy(&self) -> Result<SupportCounts, AllocError>
         ensures { IfOk result (λ copied. copied ≡ self.now) }
     {
@@ -299,7 +302,7 @@ impl SupportCounts {
     }
 }
 
-/// Makes numbers that are 0, until there are so many.
+/// Adds counts of 0 until there are so many.
 #[inline(always)]
 fn make_numbers(numbers: &mut Vec<KoidCounts>, len: usize) -> Result<(), AllocError>
     requires { vec_len numbers.old ≤ len }
@@ -316,7 +319,7 @@ fn make_numbers(numbers: &mut Vec<KoidCounts>, len: usize) -> Result<(), AllocEr
     Ok(())
 }
 
-/// What the row under the key counts for.
+/// The koids that the row under the key counts for.
 #[inline(always)]
 fn counted_by(key: RowKey, row: &Row) -> CountedRow<'_>
     ensures given { (x : ℕ) → given x key row.now ≡ counted_for x result }
@@ -334,7 +337,7 @@ fn counted_by(key: RowKey, row: &Row) -> CountedRow<'_>
     }
 }
 
-/// What a live job or process gives its parent.
+/// The counts that a live job or process gives its parent; `None` for any other object.
 fn task_of(object: &ObjectRow) -> Option<KoidCounts>
     ensures { result ≡ task_given object.now }
 {
@@ -345,7 +348,7 @@ fn task_of(object: &ObjectRow) -> Option<KoidCounts>
     }
 }
 
-/// Adds to the numbers of the koid.
+/// Adds to the counts of the koid.
 fn add(numbers: &mut [KoidCounts], koid: Koid, more: KoidCounts)
     requires within { koid < length numbers.old }
     requires named { (numbers_at numbers.old koid).named + more.named < 2 ^ 64 }
@@ -359,7 +362,7 @@ fn add(numbers: &mut [KoidCounts], koid: Koid, more: KoidCounts)
     numbers[i] = numbers[i].plus(more);
 }
 
-/// Takes off the numbers of the koid.
+/// Takes off the counts of the koid.
 fn take(numbers: &mut [KoidCounts], koid: Koid, less: KoidCounts)
     requires within { koid < length numbers.old }
     requires named { less.named ≤ (numbers_at numbers.old koid).named }

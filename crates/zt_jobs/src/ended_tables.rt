@@ -1,3 +1,5 @@
+//! Takes away the handle tables of processes that end.
+
 ghost use Rattle.std.specs.Prelude.{◌≡◌, ◌++◌, IfOk, OnOk, option_to_list};
 ghost use Rattle.zt_rows.specs.Reads.{entry};
 ghost use Rattle.zt_rows.specs.declared.keys.RowKey.TheVariants as key_variant;
@@ -14,7 +16,7 @@ use std::alloc::{AllocError, Global};
 use zt_rows::{HandleValue, Held, Koid, RowKey};
 use zt_store::Step;
 
-/// Takes away all entries of the members, and answers what they held, by rising process and value.
+/// Takes away all entries of the members. Returns what they held, by rising process and handle value.
 pub(crate) fn take_tables(
     alloc: Global,
     step: &mut Step,
@@ -32,8 +34,8 @@ pub(crate) fn take_tables(
     Ok(taken)
 }
 
-/// Takes away all entries of the process, and adds to the list what they held, by rising value. It looks at the
-/// places of this process alone.
+/// Takes away all entries of the process, and appends what they held to the list, by rising handle value. Looks at the
+/// table of this process alone.
 fn take_table(step: &mut Step, process: Koid, taken: &mut Vec<Held>) -> Result<(), AllocError>
     ensures ahead { IsAhead step.old step.new }
     ensures handles { OnOk result (taken.new.items ≡ taken.old.items ++ handles_of step.old.current (only process)) }
@@ -49,7 +51,7 @@ fn take_table(step: &mut Step, process: Koid, taken: &mut Vec<Held>) -> Result<(
     }
 }
 
-/// Takes away the entry of the process, if there is one, and adds to the list what it held.
+/// Takes away the entry of the process, if there is one, and appends what it held to the list.
 fn take_entry(
     step: &mut Step,
     process: Koid,
@@ -69,7 +71,7 @@ fn take_entry(
     Ok(())
 }
 
-/// The value of the next entry of the process above this number.
+/// The least handle value above this number under which the process has an entry.
 fn next_value(step: &Step, process: Koid, low: u32) -> Option<u32>
     ensures { IsNextRow step.now.current (λ h. key_variant.Entry process h) low result }
 {

@@ -1,3 +1,5 @@
+//! Ends a process, or a job with its subtree, and everything else that ends with it.
+
 ghost use Rattle.std.specs.Prelude.{◌≡◌, ◌==◌, ℕ, Bool, true, IfOk, OnOk, OnErr};
 ghost use Rattle.zt_rows.specs.declared.keys.RowKey.TheVariants as key_variant;
 ghost use Rattle.zt_rows.specs.declared.rows.Life.TheVariants as life_variant;
@@ -20,10 +22,12 @@ use std::alloc::{AllocError, Global};
 use zt_rows::{Held, Koid, Life, ObjectRow, Row, RowKey};
 use zt_store::Step;
 
-/// Ends the process so, and kills what else the walk from it finds, which in a sound state is what ends with it: each of
-/// them has no parent any more, their entries go, and so do the waits that they made. Answers what the entries held, by
-/// rising process and value. The work grows with what ends, with the places that its entries had and with its waits: no
-/// other row is looked at.
+/// Ends the process as `how` says, and kills everything else that the walk from it finds. In a sound state, this is
+/// what ends with the process.
+///
+/// All of these lose their parents, their entries and the waits that they made. Returns what the entries held, by
+/// rising process and handle value. The work grows with what ends, with its entries and with its waits. No other row is
+/// looked at. If an allocation fails, the step is reset.
 pub fn end_process(
     alloc: Global,
     step: &mut Step,
@@ -50,10 +54,12 @@ pub fn end_process(
     done
 }
 
-/// Ends the job so and all that the walk from it finds, which in a sound state is what ends with it: each of them has no
-/// parent any more, their entries go, and so do the waits that they made. Answers what the entries held, by rising process
-/// and value. The work grows with what ends, with the places that their entries had and with their waits: no other row is
-/// looked at.
+/// Ends, as `how` says, the job and everything else that the walk from it finds. In a sound state, this is what ends
+/// with the job.
+///
+/// All of these lose their parents, their entries and the waits that they made. Returns what the entries held, by
+/// rising process and handle value. The work grows with what ends, with its entries and with its waits. No other row is
+/// looked at. If an allocation fails, the step is reset.
 pub fn end_subtree(
     alloc: Global,
     step: &mut Step,
@@ -79,8 +85,8 @@ pub fn end_subtree(
     done
 }
 
-/// Kills the members, but for the process, which is one of them and ends so. Answers what their entries held. Refused, the
-/// step stands in the middle of it.
+/// Ends the process, which is one of the members, as `how` says, and kills the other members. Returns what the entries
+/// of all members held. If an allocation fails, the step is left half done.
 fn exit_all(
     alloc: Global,
     step: &mut Step,
@@ -100,7 +106,7 @@ fn exit_all(
     Ok(taken)
 }
 
-/// Ends the members, and answers what their entries held. Refused, the step stands in the middle of it.
+/// Ends the members, and returns what their entries held. If an allocation fails, the step is left half done.
 fn end_all(
     alloc: Global,
     step: &mut Step,
@@ -118,7 +124,7 @@ fn end_all(
     Ok(taken)
 }
 
-/// Writes into the rows of the members that they ended so.
+/// Writes into the rows of the members that they ended as `how` says.
 fn end_tasks(step: &mut Step, members: &[Koid], how: Life) -> Result<(), AllocError>
     ensures ahead { IsAhead step.old step.new }
     ensures ok { OnOk result (step.new.current ≡ change (with_end (among members.now) how) step.old.current) }
@@ -129,7 +135,8 @@ fn end_tasks(step: &mut Step, members: &[Koid], how: Life) -> Result<(), AllocEr
     Ok(())
 }
 
-/// Writes into the row of the object that it ended so.
+/// Writes into the row of the object that it ended as `how` says, and clears its parent and the job that it is critical
+/// to.
 fn end_task(step: &mut Step, koid: Koid, how: Life) -> Result<(), AllocError>
     ensures ahead { IsAhead step.old step.new }
     ensures ok { OnOk result (step.new.current ≡ left_behind (with_end (only koid) how) step.old.current (key_variant.Object koid)) }
@@ -146,7 +153,7 @@ fn end_task(step: &mut Step, koid: Koid, how: Life) -> Result<(), AllocError>
     step.put(RowKey::Object(koid), Some(Row::Object(ended)))
 }
 
-/// Writes into the row of the object that it ended so, and leaves the rest of it.
+/// Writes into the row of the object that it ended as `how` says, and leaves the rest of the row.
 fn set_life(step: &mut Step, koid: Koid, how: Life) -> Result<(), AllocError>
     ensures ahead { IsAhead step.old step.new }
     ensures ok { OnOk result (step.new.current ≡ left_behind (with_life koid how) step.old.current (key_variant.Object koid)) }

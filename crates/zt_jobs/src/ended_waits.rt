@@ -1,3 +1,5 @@
+//! Takes away the waits of processes that end.
+
 ghost use Rattle.std.specs.Prelude.{◌≡◌, OnOk};
 ghost use Rattle.zt_rows.specs.State.{change};
 ghost use Rattle.zt_rows.specs.Tests.{among};
@@ -9,7 +11,7 @@ use std::alloc::AllocError;
 use zt_rows::{Koid, RowKey};
 use zt_store::Step;
 
-/// Takes away all waits that the members made. They are found by their process, so that other waits are not looked at.
+/// Takes away all waits that the members made. Finds them by their process, so that other waits are not looked at.
 pub(crate) fn drop_waits(step: &mut Step, members: &[Koid]) -> Result<(), AllocError>
     ensures ahead { IsAhead step.old step.new }
     ensures ok { OnOk result (step.new.current ≡ change (without_waits (among members.now)) step.old.current) }
@@ -20,7 +22,7 @@ pub(crate) fn drop_waits(step: &mut Step, members: &[Koid]) -> Result<(), AllocE
     Ok(())
 }
 
-/// Takes away all waits that the process made. The next one is looked for while the one before it still stands in its
+/// Takes away all waits that the process made. Looks for the next wait while the one before it still stands in its
 /// place, so that no wait is passed twice.
 fn drop_waits_by(step: &mut Step, process: Koid) -> Result<(), AllocError>
     ensures ahead { IsAhead step.old step.new }

@@ -1,3 +1,5 @@
+//! Finds what ends with a process or job, by a walk from task to task.
+
 ghost use Rattle.std.specs.Prelude.{◌≡◌, ◌==◌, ◌||◌, ℕ, IfOk, OnOk};
 ghost use Rattle.zt_rows.specs.Tests.{among};
 ghost use Rattle.zt_store.specs.KoidSets.{only};
@@ -12,7 +14,7 @@ use std::alloc::{AllocError, Global};
 use zt_rows::Koid;
 use zt_store::Step;
 
-/// What the walk over what ends with the process or job finds, by rising koids.
+/// The koids that the walk over what ends with the process or job finds, in rising order.
 pub(crate) fn members_ending(
     alloc: Global,
     step: &Step,
@@ -26,8 +28,10 @@ pub(crate) fn members_ending(
     Ok(members)
 }
 
-/// What the walk over what ends with the process or job finds. What ends next to one that is known is found by its parent
-/// and by what it is critical to, so that no other object is looked at, and each waits for this once.
+/// The koids that the walk over what ends with the process or job finds.
+///
+/// The walk finds what ends next to a known task by the parent and by the critical job. So it looks at no other object.
+/// Each task waits for this once.
 fn known_ending(alloc: Global, step: &Step, task: Koid) -> Result<FoundKoids, AllocError>
     ensures { IfOk result (λ known. IsWalkable step.now.current task (found known)) }
 {
@@ -43,7 +47,7 @@ fn known_ending(alloc: Global, step: &Step, task: Koid) -> Result<FoundKoids, Al
     Err(AllocError)
 }
 
-/// Adds what ends next to this one to what is known. What was not known waits.
+/// Adds what ends next to this task to the known koids. A koid that was not known is put on the waiting list.
 fn add_next(
     step: &Step,
     task: Koid,
@@ -59,7 +63,8 @@ fn add_next(
     Ok(())
 }
 
-/// Adds the job that this one is critical to, if there is one. If it was not known, it waits.
+/// Adds the job that this task is critical to, if there is one. If the job was not known, it is put on the waiting
+/// list.
 fn add_critical(
     step: &Step,
     task: Koid,
@@ -78,7 +83,8 @@ fn add_critical(
     Ok(())
 }
 
-/// Adds the live processes and jobs whose parent is this one to what is known. Those that were not known wait.
+/// Adds the live processes and jobs whose parent is this one to the known koids. Those that were not known are put on
+/// the waiting list.
 fn add_below(
     step: &Step,
     parent: Koid,
@@ -100,7 +106,7 @@ fn add_below(
     Ok(())
 }
 
-/// Adds the koid to what is known. If it was not known, it waits.
+/// Adds the koid to the known ones. If it was not known, it is put on the waiting list.
 fn note(koid: Koid, known: &mut FoundKoids, waiting: &mut Vec<Koid>) -> Result<(), AllocError>
     ensures known { OnOk result ((x : ℕ) → found known.new x ≡ (found known.old x || (koid == x))) }
     ensures noted { OnOk result (IsNoted (found known.old) waiting.old.items (found known.new) waiting.new.items) }

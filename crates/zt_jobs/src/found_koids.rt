@@ -1,3 +1,5 @@
+//! Adds koids to those that a walk found, looks them up, and lists them in rising order.
+
 ghost use Rattle.std.specs.Prelude.{◌≡◌, ◌==◌, ◌<◌, ◌||◌, ℕ, false, true, not, length, slice_index_or, IfOk, OnOk};
 ghost use Rattle.std.specs.BTreeSet.{contains};
 ghost use Rattle.std.specs.Ordering.{nat_cmp};
@@ -11,7 +13,7 @@ use std::collections::BTreeSet;
 use zt_rows::Koid;
 
 impl FoundKoids {
-    /// None. It takes no memory.
+    /// No koids. Never allocates.
     pub(crate) fn new(alloc: Global) -> FoundKoids
         ensures { (x : ℕ) → found result x ≡ false }
     {
@@ -21,14 +23,14 @@ impl FoundKoids {
         }
     }
 
-    /// Whether the koid was found. It takes no memory.
+    /// Whether the koid was found. Never allocates.
     fn has(&self, koid: Koid) -> bool
         ensures { result ≡ found self.now koid }
     {
         is_among(self.rising.as_slice(), koid.0) || self.others.contains(&koid.0)
     }
 
-    /// Adds the koid, and answers whether it was not found before.
+    /// Adds the koid. Returns whether it is new.
     pub(crate) fn insert(&mut self, koid: Koid) -> Result<bool, AllocError>
         ensures known { OnOk result ((x : ℕ) → found self.new x ≡ (found self.old x || (koid == x))) }
         ensures new { IfOk result (λ new. new ≡ not (found self.old koid)) }
@@ -44,7 +46,7 @@ impl FoundKoids {
         Ok(true)
     }
 
-    /// The koids by rising number.
+    /// The koids in rising order.
     pub(crate) fn by_koid(self, alloc: Global) -> Result<Vec<Koid>, AllocError>
         ensures members { IfOk result (λ list. among list.items ≡ found self) }
         ensures rising { IfOk result (λ list. IsRising list.items) }
@@ -80,7 +82,7 @@ fn is_among(rising: &[u64], number: u64) -> bool
     rising.binary_search(&number).is_ok()
 }
 
-/// The numbers as koids.
+/// The numbers as koids, in their order.
 fn koids_of(alloc: Global, numbers: &[u64]) -> Result<Vec<Koid>, AllocError>
     ensures { IfOk result (λ koids. koids.items ≡ numbers.now) }
 {
@@ -101,7 +103,7 @@ fn with_all(mut set: BTreeSet<u64>, numbers: &[u64]) -> Result<BTreeSet<u64>, Al
     Ok(set)
 }
 
-/// The numbers of the set as koids, by rising number.
+/// The numbers of the set as koids, in rising order.
 fn by_koid(alloc: Global, set: BTreeSet<u64>) -> Result<Vec<Koid>, AllocError>
     ensures members { IfOk result (λ list. among list.items ≡ contains nat_cmp set) }
     ensures rising { IfOk result (λ list. IsRising list.items) }

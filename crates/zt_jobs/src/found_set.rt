@@ -1,8 +1,11 @@
+//! The koids that a walk over what ends has found.
+
 ghost use Rattle.zt_jobs.specs.ProofsOnly.TaskTree.{IsRising};
 
 use std::collections::BTreeSet;
 
-/// Koids that were found. Those that came by rising number, as nearly all do, stand in a list, and the others in a set.
+/// Koids that were found. Those that came in rising order, as nearly all do, stand in a list. The others stand in a
+/// set.
 #[derive(Drop)]
 pub(crate) struct FoundKoids {
     pub rising: Vec<u64>,

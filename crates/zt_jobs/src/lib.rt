@@ -1,4 +1,5 @@
-//! Jobs and processes, over a step of the store: where they stand, how they are made, and how they end.
+//! Jobs and processes, over a step of the store: where they stand in the tree of jobs, how they are made, and how they
+//! end.
 #![tactic(auto)]
 
 mod critical_task;

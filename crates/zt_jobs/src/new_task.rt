@@ -1,3 +1,5 @@
+//! Makes jobs and processes.
+
 ghost use Rattle.std.specs.Prelude.{◌≡◌, ◌+◌, ◌<◌, ◌^◌, IfOk, OnErr, if◌then◌else◌};
 ghost use Rattle.zt_bits.specs.declared.kinds.Kind.TheVariants as kind_variant;
 ghost use Rattle.zt_rows.specs.Handles.{fresh, make, next_koid};
@@ -11,7 +13,8 @@ use zt_bits::Kind;
 use zt_rows::{Counters, FIRST_HANDLE, Held, Koid, ObjectRow, Row, RowKey};
 use zt_store::Step;
 
-/// A new live job under the parent, at the next koid.
+/// Makes a live job under the parent, and returns its koid, the next one of the system. If an allocation fails, the
+/// step is reset.
 pub fn make_job(step: &mut Step, parent: Koid) -> Result<Koid, AllocError>
     requires { next_koid step.old.current + 1 < 2 ^ 64 }
     ensures koid { IfOk result (λ koid. koid ≡ next_koid step.old.current) }
@@ -23,7 +26,8 @@ pub fn make_job(step: &mut Step, parent: Koid) -> Result<Koid, AllocError>
     make(step, ObjectRow::new(Kind::Job, parent))
 }
 
-/// A new live process under the job, at the next koid. What is handed over is its first handle.
+/// Makes a live process under the job, and returns its koid, the next one of the system. If something is given, it
+/// becomes the process's first handle. If an allocation fails, the step is reset.
 pub fn make_process(step: &mut Step, job: Koid, given: Option<Held>) -> Result<Koid, AllocError>
     requires { next_koid step.old.current + 1 < 2 ^ 64 }
     ensures koid { IfOk result (λ koid. koid ≡ next_koid step.old.current) }
@@ -39,7 +43,7 @@ pub fn make_process(step: &mut Step, job: Koid, given: Option<Held>) -> Result<K
     Ok(process)
 }
 
-/// The object at the next koid.
+/// Puts the object under the next koid of the system, and returns that koid.
 #[tactic(auto, using(crate::proofs::PutOrder::object_last))]
 fn make(step: &mut Step, object: ObjectRow) -> Result<Koid, AllocError>
     requires { next_koid step.old.current + 1 < 2 ^ 64 }
@@ -60,7 +64,7 @@ fn make(step: &mut Step, object: ObjectRow) -> Result<Koid, AllocError>
     Ok(koid)
 }
 
-/// A new live process under the job, which has received a handle or none.
+/// The row of a new live process under the job, which has received a handle or none.
 fn child(has_handle: bool, job: Koid) -> ObjectRow
     ensures { result ≡ record (fresh kind_variant.Process job) { next = if has_handle then 1 else 0 } }
 {

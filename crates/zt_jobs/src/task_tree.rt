@@ -1,3 +1,5 @@
+//! Looks at where a process or job stands in the tree of jobs.
+
 ghost use Rattle.std.specs.Prelude.{◌≡◌, ◌<◌, ◌^◌};
 ghost use Rattle.zt_rows.specs.End.{chain, depth, is_live_task, is_under};
 ghost use Rattle.zt_rows.specs.Reads.{object};
@@ -8,8 +10,7 @@ use zt_bits::Kind;
 use zt_rows::{Koid, Life};
 use zt_store::Step;
 
-/// How many jobs are above the process or job. It takes no memory, and follows no more links than the koid has
-/// koids below it.
+/// How many jobs are above the process or job. Never allocates. Follows at most `koid.0 + 1` links.
 pub fn depth(step: &Step, koid: Koid) -> u64
     requires { depth step.now.current koid < 2 ^ 64 }
     ensures { result ≡ depth step.now.current koid }
@@ -26,14 +27,14 @@ pub fn depth(step: &Step, koid: Koid) -> u64
     above
 }
 
-/// Whether it is the job itself, or a live process or job that has it above. It takes no memory.
+/// Whether the koid is that of the job itself, or of a live process or job that has the job above it. Never allocates.
 pub fn is_under(step: &Step, job: Koid, koid: Koid) -> bool
     ensures { result ≡ is_under step.now.current job koid }
 {
     koid == job || is_live_task(step, koid) && has_above(step, koid, job)
 }
 
-/// Whether one comes to the job from the koid by links, at most as many as there are smaller koids, and one more.
+/// Whether parent links lead from the koid to the job. Follows at most `koid.0 + 1` links.
 fn has_above(step: &Step, koid: Koid, job: Koid) -> bool
     ensures { result ≡ among (chain step.now.current koid) job }
 {
@@ -54,7 +55,7 @@ fn has_above(step: &Step, koid: Koid, job: Koid) -> bool
     }
 }
 
-/// Whether the koid is that of a live process or job. It takes no memory.
+/// Whether the koid is that of a live process or job. Never allocates.
 pub(crate) fn is_live_task(step: &Step, koid: Koid) -> bool
     ensures { result ≡ is_live_task (object step.now.current koid) }
 {
@@ -66,7 +67,7 @@ pub(crate) fn is_live_task(step: &Step, koid: Koid) -> bool
     }
 }
 
-/// The link of the object, 0 for none. It takes no memory.
+/// The link of the object, or 0 if it has none. Never allocates.
 pub(crate) fn link_of(step: &Step, koid: Koid) -> Koid
     ensures { result ≡ link_at step.now.current koid }
 {
@@ -76,7 +77,7 @@ pub(crate) fn link_of(step: &Step, koid: Koid) -> Koid
     }
 }
 
-/// The job that the object is critical to, 0 for none. It takes no memory.
+/// The job that the object is critical to, or 0 if there is none. Never allocates.
 pub(crate) fn critical_of(step: &Step, koid: Koid) -> Koid
     ensures { result ≡ critical_at step.now.current koid }
 {

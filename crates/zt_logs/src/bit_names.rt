@@ -1,4 +1,4 @@
-//! The names of rights and signals, as the system's reference has them.
+//! Reads masks of rights and signals, also by the names that the system's reference has for the bits.
 
 ghost use Rattle.std.specs.Prelude.{IfSome};
 ghost use Rattle.json.specs.Value.{value_view};
@@ -7,14 +7,14 @@ ghost use Rattle.zt_logs.specs.Numbers.{IsMask};
 use crate::numbers::{narrow, narrow_in};
 use json::Value;
 
-/// Of what bits names are read.
+/// The set of names in which a bit is looked up.
 #[derive(Clone, Copy)]
 pub(crate) enum BitNames {
     Rights,
     Signals,
 }
 
-/// The bits that a value says: a number, or a text of names with `|` between them.
+/// The mask that a value is: a number of 32 bits, or a text of names with `|` between them. None if a name is not known.
 pub(crate) fn bits_in(names: BitNames, value: &Value<'_>) -> Option<u32>
     ensures { IfSome result (IsMask (value_view value.now)) }
 {
@@ -24,7 +24,7 @@ pub(crate) fn bits_in(names: BitNames, value: &Value<'_>) -> Option<u32>
     }
 }
 
-/// The bits of names with `|` between them.
+/// The mask of names with `|` between them. None if a name is not known.
 fn named_bits(names: BitNames, text: &str) -> Option<u32> {
     let mut bits = 0;
     for part in text.split('|') {
@@ -33,7 +33,7 @@ fn named_bits(names: BitNames, text: &str) -> Option<u32> {
     Some(bits)
 }
 
-/// The bits of a name, or those of a number.
+/// The bits of a name, or of a text that is a number of 32 bits.
 fn bits_of(names: BitNames, name: &str) -> Option<u32> {
     let found = match names {
         BitNames::Rights => right_named(name),
@@ -45,7 +45,8 @@ fn bits_of(names: BitNames, name: &str) -> Option<u32> {
     }
 }
 
-/// The bits of a name of rights.
+/// The bits of a right, or of several that have one name, with `ZX_RIGHT_` or `ZX_RIGHTS_` ahead. `ZX_RIGHT_` may be left
+/// out.
 fn right_named(name: &str) -> Option<u32> {
     if let Some(set) = name.strip_prefix("ZX_RIGHTS_") {
         return rights_set(set);
@@ -60,7 +61,7 @@ fn right_named(name: &str) -> Option<u32> {
     }
 }
 
-/// The bits of several rights that have one name.
+/// The rights that share this name behind `ZX_RIGHTS_`.
 fn rights_set(name: &str) -> Option<u32> {
     Some(match name {
         "BASIC" => 0xc003,
@@ -71,7 +72,7 @@ fn rights_set(name: &str) -> Option<u32> {
     })
 }
 
-/// The right of a name, of those that most kinds of objects have.
+/// The right of this name, if it is one that the semantics has.
 fn basic_right(word: &str) -> Option<u32> {
     Some(match word {
         "NONE" => 0,
@@ -91,7 +92,7 @@ fn basic_right(word: &str) -> Option<u32> {
     })
 }
 
-/// The right of another name.
+/// The right of this name, if it is one that the semantics does not have.
 fn other_right(word: &str) -> Option<u32> {
     Some(match word {
         "EXECUTE" => 1 << 4,
@@ -112,7 +113,7 @@ fn other_right(word: &str) -> Option<u32> {
     })
 }
 
-/// The bits of a name of signals.
+/// The signals of a name. It may have `ZX_` ahead, and the kind of the object before the signal.
 fn signal_named(name: &str) -> Option<u32> {
     let bare = match name.strip_prefix("ZX_") {
         Some(bare) => bare,
@@ -124,7 +125,7 @@ fn signal_named(name: &str) -> Option<u32> {
     }
 }
 
-/// The signals that programs give their own meaning.
+/// A signal that programs give their own meaning, by its number, or all eight of them.
 fn user_signal(number: &str) -> Option<u32> {
     Some(match number {
         "0" => 1 << 24,
@@ -140,7 +141,7 @@ fn user_signal(number: &str) -> Option<u32> {
     })
 }
 
-/// The name of a signal without the kind of its object.
+/// The name of a signal without the kind of its object, if it has one.
 fn without_kind(name: &str) -> &str {
     match name.split_once('_') {
         Some(
@@ -160,7 +161,7 @@ fn without_kind(name: &str) -> &str {
     }
 }
 
-/// The signal of a word.
+/// The signal of a name that has neither `ZX_` nor a kind ahead.
 fn signal_word(word: &str) -> Option<u32> {
     Some(match word {
         "NONE" => 0,

@@ -1,10 +1,12 @@
+//! The calls that are read from a log, by their names.
+
 ghost use Rattle.std.specs.Prelude.{◌≡◌};
 ghost use Rattle.std.specs.Str.{bytes_eq};
 ghost use Rattle.zt_logs.specs.CallNames.{bare, name_of, name_of_handle, name_of_channel, name_of_port, name_of_task, name_of_form, name_of_made, call_named};
 
 use crate::other_kinds::OtherKind;
 
-/// The calls that the semantics has, and those that are several of them.
+/// The calls that are read from a log: those of the semantics, and those that become one or more calls of it.
 #[derive(Clone, Copy, Debug, PartialEq, Eq)]
 pub enum CallName {
     EventCreate,
@@ -34,18 +36,18 @@ pub enum CallName {
     ChannelCallEtc,
     ProcessCreate,
     ProcessStart,
-    /// It makes or gives an object that the semantics has not.
+    /// A call that makes, or gives a handle to, an object of a kind that the semantics does not have.
     Made(OtherKind),
 }
 
-/// Whether a name is this one.
+/// Whether `name` is `word`.
 pub(crate) fn is(name: &[u8], word: &[u8]) -> bool
     ensures { result ≡ bytes_eq name.now word.now }
 {
     name == word
 }
 
-/// A name without the `zx_` ahead, if it has it.
+/// A name without `zx_` ahead.
 fn bare_name(name: &[u8]) -> &[u8]
     ensures { result.now ≡ bare name.now }
 {
@@ -56,7 +58,7 @@ fn bare_name(name: &[u8]) -> &[u8]
 }
 
 impl CallName {
-    /// The call of this name, which may have `zx_` ahead.
+    /// The call of this name, which may have `zx_` ahead. None for all other names.
     pub(crate) fn of(name: &str) -> Option<CallName>
         ensures { result ≡ call_named name.now }
     {
@@ -115,7 +117,7 @@ impl CallName {
         }
     }
 
-    /// The calls that make objects which the semantics has not.
+    /// The calls that make, or give a handle to, objects of kinds that the semantics does not have.
     fn of_made(name: &[u8]) -> Option<CallName>
         ensures { result ≡ name_of_made name.now }
     {
@@ -125,7 +127,7 @@ impl CallName {
         }
     }
 
-    /// The calls that are others of these here, one or several.
+    /// The calls that become one or more calls of the semantics.
     #[tactic(auto, unfolding(crate::specs::CallNames::name_of_form))]
     fn of_form(name: &[u8]) -> Option<CallName>
         ensures { result ≡ name_of_form name.now }
@@ -190,7 +192,8 @@ impl CallName {
     }
 }
 
-/// Whether a call that the semantics has not, of this name, changes nothing that it has. It may have `zx_` ahead.
+/// Whether a call of this name, which the semantics does not have, changes nothing that a trace has. The name may have
+/// `zx_` ahead.
 pub(crate) fn changes_nothing(name: &str) -> bool {
     let bare = match name.strip_prefix("zx_") {
         Some(bare) => bare,

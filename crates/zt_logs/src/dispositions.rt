@@ -1,4 +1,4 @@
-//! The handles of `channel_write_etc`, each with what becomes of it.
+//! Reads the handles that `channel_write_etc` and `channel_call_etc` send, each with what becomes of it.
 
 ghost use Rattle.std.specs.Prelude.{◌≡◌, ◌++◌, ◌∷◌, [], Some, IfOk, OnOk, map};
 ghost use Rattle.std.specs.Option.{option_to_list};
@@ -15,20 +15,20 @@ use json::Value;
 use std::alloc::Global;
 use zt_rows::{Call, HandleValue};
 
-/// The rights that a handle keeps which is sent or duplicated with as many as it has.
+/// The rights of a disposition that keeps all rights of its handle: `ZX_RIGHT_SAME_RIGHTS`.
 pub(crate) const SAME_RIGHTS: u32 = 0x8000_0000;
 
-/// A handle that is written into a message.
+/// A handle that is sent in a message.
 #[derive(Clone, Copy, Debug)]
 pub(crate) struct Disposition {
-    /// Whether a duplicate of it is written, and it stays.
+    /// Whether a duplicate is sent, so that the process keeps the handle.
     pub(crate) is_duplicate: bool,
     pub(crate) handle: HandleValue,
-    /// Those that the message has it with.
+    /// The rights that the handle has in the message.
     pub(crate) rights: u32,
 }
 
-/// Those of a list; none, where it is left out.
+/// The dispositions of a list; none if the list is left out. The error is `Missing`, `Member` or `OutOfMemory`.
 #[tactic(auto, using(crate::proofs::ListedLaws::sent_at, crate::proofs::ListedLaws::no_sent_at))]
 pub(crate) fn dispositions(
     alloc: Global,
@@ -43,7 +43,7 @@ pub(crate) fn dispositions(
     }
 }
 
-/// Those that the values of a list are.
+/// The dispositions that the values of a list are.
 fn dispositions_in<'a, 'text>(
     alloc: Global,
     args: &Members<'a, 'text>,
@@ -60,7 +60,7 @@ fn dispositions_in<'a, 'text>(
     Ok(dispositions)
 }
 
-/// The one that this item of a list is. Without rights it keeps those that it has.
+/// The disposition that an item of a list is. Without `rights` the handle keeps all its rights.
 fn disposition_in<'a, 'text>(
     args: &Members<'a, 'text>,
     name: Member,
@@ -84,7 +84,7 @@ fn disposition_in<'a, 'text>(
     })
 }
 
-/// One more.
+/// Appends a disposition.
 fn push_disposition(
     dispositions: &mut Vec<Disposition>,
     disposition: Disposition,
@@ -97,7 +97,7 @@ fn push_disposition(
     }
 }
 
-/// The calls that make of these handles those that are sent.
+/// The calls that make the handles that are sent out of these, in their order.
 pub(crate) fn copies_of(alloc: Global, dispositions: &[Disposition]) -> Result<Vec<PartCall>, Cause>
     ensures { IfOk result (λ parts. parts.items ≡ copies_of dispositions.now) }
 {
@@ -108,7 +108,7 @@ pub(crate) fn copies_of(alloc: Global, dispositions: &[Disposition]) -> Result<V
     Ok(parts)
 }
 
-/// The call that makes of the handle at this place the one that is sent, if it is another.
+/// Appends the call that makes the handle that is sent. A handle that is sent as it is needs none.
 fn push_copy(parts: &mut Vec<PartCall>, place: usize, disposition: Disposition) -> Result<(), Cause>
     ensures { OnOk result (parts.new.items ≡ parts.old.items ++ option_to_list (copy_of place disposition)) }
 {
@@ -126,7 +126,7 @@ fn push_copy(parts: &mut Vec<PartCall>, place: usize, disposition: Disposition) 
     }
 }
 
-/// The handles as the process has them.
+/// The handles by the values that the process names.
 pub(crate) fn sources_of(
     alloc: Global,
     dispositions: &[Disposition],

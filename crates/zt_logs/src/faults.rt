@@ -1,59 +1,61 @@
+//! Why a log is not read, or not imported, and how the error is printed.
+
 use crate::places::Place;
 use std::alloc::AllocError;
 use std::fmt;
 use zt_rows::Refusal;
 
-/// Why a log is not taken: the number of the line at fault, or 0 where none is, with the cause.
+/// Why a log is refused: the cause, and the number of the line, counted from 1. The number is 0 if no line is at fault.
 #[derive(Clone, Copy, Debug)]
 pub struct LogFault {
     pub line: u64,
     pub cause: Cause,
 }
 
-/// What is wrong.
+/// The cause of an error in a log.
 #[derive(Clone, Copy, Debug)]
 pub enum Cause {
-    /// Memory was refused.
+    /// An allocation failed.
     OutOfMemory,
-    /// The trace has as many calls as there can be.
+    /// The trace would have more calls than a history has moments for.
     Full,
-    /// The line is longer than lines can be.
+    /// The line is longer than `LINE_BYTES`.
     TooLong,
-    /// The line is no JSON object.
+    /// The line is not a JSON object.
     NoObject,
-    /// A member of the object, or of one within it, is left out.
+    /// A member that a line needs is left out.
     Missing(Place),
-    /// A member of the object, or of one within it, has not the form wanted.
+    /// A member is not of the form that is wanted.
     Member { place: Place, wanted: WantedValue },
-    /// The process of this number is spawned, and was there before.
+    /// A line spawns the process of this number, which was there before that line.
     SpawnedTwice(u64),
 }
 
-/// What is wanted of a member.
+/// The form that is wanted of a member.
 #[derive(Clone, Copy, Debug)]
 pub enum WantedValue {
-    /// A number up to this one.
+    /// A number from 0 up to this one.
     Number(u64),
     SignedNumber,
-    /// The number of a process, or its name.
+    /// A process, by its number or its name.
     Process,
-    /// Bits by their number or by their names.
+    /// A mask, as a number or as names.
     Mask,
-    /// Options by their number or by their names.
+    /// Options, as a number or as names.
     Options,
     Text,
     Object,
     List,
     Flag,
-    /// Bytes as pairs of digits.
+    /// Bytes, as two hexadecimal digits each.
     Digits,
-    /// The 32 bytes of a packet as digits.
+    /// The 32 bytes of a user packet, as 64 hexadecimal digits.
     PacketDigits,
     PacketType,
     UserPacket,
-    /// What becomes of a handle that is sent.
+    /// Whether a handle is moved or duplicated: `ZX_HANDLE_OP_MOVE` or `ZX_HANDLE_OP_DUPLICATE`.
     Operation,
-    /// So many bytes or items.
+    /// At most this many bytes or items.
     AtMost(usize),
 }
 
@@ -73,7 +75,7 @@ impl From<Refusal> for Cause {
 }
 
 impl Cause {
-    /// The fault of this cause at a line; want of memory is no line's fault.
+    /// This cause at a line. An allocation failure is at no line: its number is 0.
     pub fn at(self, line: u64) -> LogFault {
         match self {
             Cause::OutOfMemory => LogFault {
@@ -110,7 +112,7 @@ impl fmt::Display for Cause {
     }
 }
 
-/// What is missing, with the names that it may have.
+/// Prints the place of the missing member, with the second name that it may have.
 fn print_missing<W: fmt::Write>(place: &Place, f: &mut fmt::Formatter<W>) -> fmt::Result {
     match place.member.second_name() {
         Some(second) => write!(f, "{place} or {second}: missing"),

@@ -1,3 +1,5 @@
+//! Reads the lines of a log, each a JSON object that is a call.
+
 ghost use Rattle.std.specs.Prelude.{◌≡◌, ◌<◌, ◌==◌, ◌++◌, [], ◌∷◌, length, None, IfOk, OnOk};
 ghost use Rattle.std.specs.List.{list_all, position};
 ghost use Rattle.json.specs.Value.{value_view};
@@ -25,12 +27,14 @@ use json::{Error, Scratch, Value};
 use memchr::memchr;
 use std::alloc::{AllocError, Global};
 
-/// The most bytes of a line.
+/// The most bytes of a line, without its line feed.
 pub const LINE_BYTES: usize = 1_048_576;
 
-/// The calls of a log, a JSON object in each line. Lines that are empty are passed by, and so are lines of calls that change
-/// nothing; lines of other calls than those of the semantics are kept as skipped. A last line that is cut off is left
-/// out, with a note.
+/// Reads the calls of a log, with a JSON object on each line. Empty lines, and calls that change nothing, are left out.
+/// Calls that the semantics does not know are kept in `skipped`. A last line that is cut off is left out, with a note.
+///
+/// The error names the first line at fault. It is `TooLong` above `LINE_BYTES`, `NoObject` if the line is not a JSON
+/// object, `Missing` or `Member` for one of its members, or `OutOfMemory`.
 pub fn read_log(alloc: Global, text: &[u8]) -> Result<CallLog, LogFault>
     ensures lines { IfOk result (λ log. log.lines ≡ length (lines_of (without_mark text.now))) }
     ensures calls { IfOk result (λ log. AreLogged (entries_of text.now) log.calls.items) }
@@ -58,7 +62,7 @@ pub fn read_log(alloc: Global, text: &[u8]) -> Result<CallLog, LogFault>
     Ok(log)
 }
 
-/// The text behind a byte order mark, if it begins with one.
+/// The text behind a byte order mark of UTF-8, or all of it if it has none.
 fn without_mark(text: &[u8]) -> &[u8]
     ensures { result.now ≡ without_mark text.now }
 {
@@ -68,7 +72,7 @@ fn without_mark(text: &[u8]) -> &[u8]
     }
 }
 
-/// Takes the calls of all lines.
+/// Reads all lines and appends their calls.
 fn take_lines(
     alloc: Global,
     log: &mut CallLog,
@@ -98,11 +102,11 @@ fn take_lines(
 #[derive(Clone, Copy)]
 struct Line<'a> {
     bytes: &'a [u8],
-    /// Whether a line feed ends it.
+    /// Whether a line feed ends it, which only the last line may lack.
     is_ended: bool,
 }
 
-/// The first line of some bytes, and those behind its line feed.
+/// The first line of `bytes` without its line feed, and the bytes behind that.
 fn next_line(bytes: &[u8]) -> (Line<'_>, &[u8])
     requires { 0 < length bytes.now }
     ensures shorter { length result.1.now < length bytes.now }
@@ -126,7 +130,7 @@ fn next_line(bytes: &[u8]) -> (Line<'_>, &[u8])
     }
 }
 
-/// Where the first line feed stands.
+/// The place of the first line feed.
 #[tactic(auto, using(crate::proofs::LineLaws::first_feed))]
 fn feed_place(bytes: &[u8]) -> Option<usize>
     ensures { result ≡ position (λ byte. byte == 10) bytes.now }
@@ -134,7 +138,7 @@ fn feed_place(bytes: &[u8]) -> Option<usize>
     memchr(b'\n', bytes)
 }
 
-/// Puts the call of the last line that was counted behind those before it, unless it is passed by or skipped.
+/// Appends the calls of a line, whose number is `log.lines`. A blank line has none. A line that is cut off gets a note.
 fn take_line(
     alloc: Global,
     log: &mut CallLog,
@@ -160,7 +164,7 @@ fn take_line(
     }
 }
 
-/// Notes that the line of this number is cut off.
+/// Notes that the last line, of this number, is cut off.
 fn note_cut_off(notes: &mut LogNotes, line: u64) -> Result<(), Cause> {
     match notes.add(LogNote::CutOff { line }) {
         Ok(()) => Ok(()),
@@ -168,7 +172,7 @@ fn note_cut_off(notes: &mut LogNotes, line: u64) -> Result<(), Cause> {
     }
 }
 
-/// Whether there is nothing but spaces.
+/// Whether the line has nothing but spaces, tabs and carriage returns.
 fn is_blank(line: &[u8]) -> bool
     ensures { result ≡ list_all is_space line.now }
 {
@@ -181,12 +185,13 @@ fn is_space(byte: u8) -> bool
     matches!(byte, b' ' | b'\t' | b'\r')
 }
 
-/// Whether an object begins with the first byte that is no space.
+/// Whether the first byte that is not blank opens an object.
 fn is_begun(line: &[u8]) -> bool {
     line.iter().find(|byte| !is_space(**byte)) == Some(&b'{')
 }
 
-/// Puts the calls that the value of a line tells behind those before it, unless it is skipped.
+/// Appends the calls of a line with this value. A call that the semantics does not know is kept as skipped, unless it
+/// changes nothing.
 #[tactic(auto, using(crate::proofs::LineCallLaws::line_added, crate::proofs::LineCallLaws::no_line_added))]
 fn take_value(
     alloc: Global,
@@ -210,11 +215,11 @@ fn take_value(
     }
 }
 
-/// What a line is as JSON.
+/// How a line reads as JSON.
 #[derive(Drop)]
 enum Parsed<'a> {
     Whole(Value<'a>),
-    /// The front of a text that could be read.
+    /// It ends in the middle of a JSON text.
     CutOff,
     Broken,
 }
@@ -225,12 +230,12 @@ fn json_in<'a>(alloc: Global, line: &'a [u8], scratch: &'a mut Scratch) -> Resul
     match Value::from_slice(alloc, line, scratch) {
         Ok(value) => Ok(Parsed::Whole(value)),
         Err(Error::Invalid) => refused(alloc, line),
-        // The others come of a tape or a strict read.
+        // `TooLong` and `DuplicateKey` come only from a tape or a strict read.
         Err(Error::OutOfMemory | Error::TooLong | Error::DuplicateKey) => Err(Cause::OutOfMemory),
     }
 }
 
-/// What a line is that is no JSON. `json` does not tell whether it ends where more was to come, and `serde_json` does.
+/// Tells whether a line that is not JSON is cut off or broken. `json` does not tell the two apart, and `serde_json` does.
 fn refused<'a>(alloc: Global, line: &[u8]) -> Result<Parsed<'a>, Cause>
     requires { json_of line.now ≡ None }
     ensures { IfOk result (IsParsed line.now) }
@@ -249,7 +254,7 @@ fn refused<'a>(alloc: Global, line: &[u8]) -> Result<Parsed<'a>, Cause>
     }
 }
 
-/// Puts the calls of the last line, which has this name, behind those before it.
+/// Appends the calls of a line with this name.
 #[tactic(auto, using(crate::proofs::LineCallLaws::calls_added))]
 fn take_call(
     alloc: Global,
@@ -281,7 +286,7 @@ fn take_call(
     push_parts(alloc, &mut log.calls, head, parts, recorded, koids)
 }
 
-/// The number of the process that makes the calls of a line, of which there are so many from this place on.
+/// The number of the caller of a line that has `count` calls, the first of them at `place` in the log's calls.
 fn name_parts(
     naming: &mut Naming,
     caller: ProcessWord<'_>,

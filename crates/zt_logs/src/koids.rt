@@ -1,4 +1,4 @@
-//! The objects of handles, as a tracer that has the koids of a real system tells them.
+//! Reads the koids that a tracer tells of the objects of handles.
 
 use crate::members::Members;
 use crate::numbers::{narrow, number_in, number_of};
@@ -7,7 +7,7 @@ use json::Value;
 use std::alloc::{AllocError, Global};
 use zt_rows::HandleValue;
 
-/// The koid of the object of a handle of a line, or of that object's peer.
+/// The koid that a line tells of a handle's object, or of the peer of that object.
 #[derive(Clone, Copy, Debug, PartialEq, Eq)]
 pub struct HandleKoid {
     pub handle: HandleValue,
@@ -15,7 +15,7 @@ pub struct HandleKoid {
     pub is_peer: bool,
 }
 
-/// The koids that a line tells. What is none is passed by.
+/// The koids that a line tells in `koids` and `related_koids`. A member of another form is ignored.
 pub(crate) fn koids_of(
     alloc: Global,
     line: &Members<'_, '_>,
@@ -26,7 +26,7 @@ pub(crate) fn koids_of(
     Ok(koids)
 }
 
-/// Those of an object, whose members are named by handles.
+/// Appends the koids of an object that has a member for each handle.
 fn push_koids(
     koids: &mut Vec<HandleKoid>,
     object: Option<&Value<'_>>,
@@ -43,7 +43,7 @@ fn push_koids(
     Ok(())
 }
 
-/// The koid of a handle. 0 is none, and neither is a handle.
+/// The koid that a member tells of a handle. None if the handle or the koid is 0, or not a number.
 fn koid_in(name: &str, value: &Value<'_>, is_peer: bool) -> Option<HandleKoid> {
     let handle = HandleValue(narrow(number_of(name)?)?);
     let koid = number_in(value)?;

@@ -1,5 +1,4 @@
-//! A log of calls of a real system, as its lines tell it: each line is a JSON object, a call that returned with what was
-//! answered.
+//! Reads a log of calls of a real system. Each line is a JSON object: a call that returned, with its reply.
 #![tactic(auto)]
 
 mod bit_names;

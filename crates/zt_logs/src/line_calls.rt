@@ -1,4 +1,4 @@
-//! Which calls a line is.
+//! Which calls of the semantics a line of a log is: none, one or several.
 
 ghost use Rattle.std.specs.Prelude.{◌≡◌, ◌++◌, ◌∷◌, [], Some, None, IfOk, OnOk};
 ghost use Rattle.zt_logs.specs.Members.{field, data_at};
@@ -22,17 +22,18 @@ use std::alloc::Global;
 use zt_bits::Status;
 use zt_rows::{Call, HandleValue, Parcel};
 
-/// One of the calls of a line.
+/// One of the calls that a line is.
 #[derive(Debug, Drop)]
 pub struct PartCall {
-    /// Which handle of the message that the last of them writes is the one that this call gives.
+    /// The place, in the message that the line writes, of the handle that this call gives. None if the message has no
+    /// handle of it.
     pub gives: Option<usize>,
-    /// The handle of the log that it gives, where it is not the last of its line.
+    /// The handle of the log that this call gives, if it stands ahead of the last call of its line and gives one.
     pub given: Option<HandleValue>,
     pub call: Call,
 }
 
-/// The form of the lines that have this name.
+/// The form of lines with a call of this name.
 pub(crate) fn form_of(name: CallName) -> LineForm {
     match name {
         CallName::HandleCloseMany => LineForm::CloseMany,
@@ -47,7 +48,8 @@ pub(crate) fn form_of(name: CallName) -> LineForm {
     }
 }
 
-/// The calls of a line of this name with these arguments and options, in their order.
+/// The calls that a line of this name is, in the order in which they run. The error is `Missing`, `Member` or
+/// `OutOfMemory`.
 pub(crate) fn calls_of(
     alloc: Global,
     name: CallName,
@@ -69,7 +71,7 @@ pub(crate) fn calls_of(
     }
 }
 
-/// A call that is the only one of its line.
+/// The list of a line that is one call.
 fn one_call(alloc: Global, call: Call) -> Result<Vec<PartCall>, Cause>
     ensures { IfOk result (λ parts. parts.items ≡ record { gives = None; given = None; call = call } ∷ []) }
 {
@@ -78,7 +80,7 @@ fn one_call(alloc: Global, call: Call) -> Result<Vec<PartCall>, Cause>
     Ok(parts)
 }
 
-/// What stands in for an object that the semantics has not; nothing, where the line gives no handle to it.
+/// The event or event pair that stands in for an object of this kind. No call if the line failed or gives no handle.
 fn made(alloc: Global, kind: OtherKind, line: &Members<'_, '_>) -> Result<Vec<PartCall>, Cause>
     ensures { IfOk result (λ parts. AreMade kind (data_at line.now.value) parts.items) }
 {
@@ -94,7 +96,7 @@ fn made(alloc: Global, kind: OtherKind, line: &Members<'_, '_>) -> Result<Vec<Pa
     }
 }
 
-/// Whether the handles of an object of this kind are given.
+/// Whether a line gives the handles of an object of this kind.
 fn gives(kind: OtherKind, out: &Members<'_, '_>) -> bool
     ensures { result ≡ gives kind (data_at out.now.value) }
 {
@@ -106,7 +108,7 @@ fn gives(kind: OtherKind, out: &Members<'_, '_>) -> bool
         }
 }
 
-/// A close of each handle; one of none, where there are no handles.
+/// A close of each handle of a list; a close of 0 if the list has none.
 fn close_many(alloc: Global, args: &Members<'_, '_>) -> Result<Vec<PartCall>, Cause>
     ensures { IfOk result (λ parts. AreCloses (data_at args.now.value) parts.items) }
 {
@@ -133,14 +135,15 @@ fn closes_of(alloc: Global, handles: &[HandleValue]) -> Result<Vec<PartCall>, Ca
     Ok(parts)
 }
 
-/// What makes the handles that are sent, and a write of those that the line names.
+/// The calls of `channel_write_etc`: those that make the handles that are sent, and a write of what they give.
 fn write_etc(alloc: Global, args: &Members<'_, '_>) -> Result<Vec<PartCall>, Cause>
     ensures { IfOk result (λ parts. AreWrites (data_at args.now.value) parts.items) }
 {
     written(alloc, args, Member::Bytes, Member::Handles)
 }
 
-/// The same of bytes and handles by other names.
+/// The calls that make the handles that are sent, and the write. `bytes` and `handles` name the members that have the
+/// message.
 fn written(
     alloc: Global,
     args: &Members<'_, '_>,
@@ -163,7 +166,7 @@ fn written(
     }
 }
 
-/// A write of handles as they are, and a read, where an answer came or could have.
+/// The calls of `channel_call`: a write of the handles as they are, and a read if the status says that the line reads.
 fn channel_call(
     alloc: Global,
     line: &Members<'_, '_>,
@@ -177,7 +180,7 @@ fn channel_call(
     Ok(parts)
 }
 
-/// The same with what makes the handles that are sent.
+/// The calls of `channel_call_etc`: those that make the handles that are sent, the write, and a read if the status says so.
 fn channel_call_etc(
     alloc: Global,
     line: &Members<'_, '_>,
@@ -191,7 +194,7 @@ fn channel_call_etc(
     Ok(parts)
 }
 
-/// A read of the answer more, where one came or could have.
+/// Appends the read of the answer, if the status says that the line reads.
 fn push_answer(
     parts: &mut Vec<PartCall>,
     line: &Members<'_, '_>,
@@ -218,7 +221,7 @@ fn push_answer(
     )
 }
 
-/// Whether a call with this status read: an answer came, or its peer was closed meanwhile.
+/// Whether a line with this status reads: an answer came, or its peer was closed.
 fn has_read(status: Option<Status>) -> bool
     ensures { result ≡ has_read status }
 {
@@ -228,7 +231,7 @@ fn has_read(status: Option<Status>) -> bool
     )
 }
 
-/// A write of handles as they are.
+/// The write of a `channel_call`, which sends the handles as they are.
 fn request(alloc: Global, args: &Members<'_, '_>) -> Result<Vec<PartCall>, Cause>
     ensures { IfOk result (λ parts. AreRequests (data_at args.now.value) parts.items) }
 {
@@ -241,7 +244,7 @@ fn request(alloc: Global, args: &Members<'_, '_>) -> Result<Vec<PartCall>, Cause
     }
 }
 
-/// What stands in for the address space of a process, and a spawn.
+/// The calls of `process_create`: an event for the address space if the line gives a handle to it, and a spawn.
 fn process_create(
     alloc: Global,
     line: &Members<'_, '_>,
@@ -257,7 +260,7 @@ fn process_create(
     Ok(parts)
 }
 
-/// What stands in for an address space, where the line gives a handle to it.
+/// The event that stands in for an address space, if the line is ok and gives a handle to it.
 fn spaces(alloc: Global, line: &Members<'_, '_>) -> Result<Vec<PartCall>, Cause>
     ensures { IfOk result (λ parts. AreSpaces (status_in (data_at line.now.value)) (field member.VmarHandle (field member.Out (data_at line.now.value))) parts.items) }
 {
@@ -286,7 +289,7 @@ fn space_of(alloc: Global, handle: HandleValue) -> Result<Vec<PartCall>, Cause>
     Ok(parts)
 }
 
-/// One call more, which gives no handle of the log.
+/// Appends a call that gives no handle of the log ahead of the last call.
 pub(crate) fn push_part(
     parts: &mut Vec<PartCall>,
     gives: Option<usize>,
@@ -297,7 +300,7 @@ pub(crate) fn push_part(
     push_given(parts, gives, None, call)
 }
 
-/// One call more.
+/// Appends a call.
 fn push_given(
     parts: &mut Vec<PartCall>,
     gives: Option<usize>,

@@ -1,32 +1,33 @@
-//! Lines that are several calls here.
+//! Lines that are several calls of the semantics, or a call of another name.
 
 use crate::other_kinds::OtherKind;
 
-/// The form in which a line has its call, or its calls.
+/// How a line is written as calls of the semantics.
 #[derive(Clone, Copy, Debug, PartialEq, Eq)]
 pub enum LineForm {
-    /// It is one call of the semantics, by its own name.
+    /// One call of the semantics, under its own name.
     Plain,
     /// `handle_close_many`: a close of each handle.
     CloseMany,
-    /// `channel_write_etc`: what makes the handles that are sent of those that it names, and a write.
+    /// `channel_write_etc`: the calls that make the handles that are sent, and a write.
     WriteEtc,
     /// `channel_read_etc`: a read.
     ReadEtc,
-    /// `channel_call`: a write, and a read where an answer came.
+    /// `channel_call`: a write, and a read for some statuses.
     ChannelCall,
-    /// `channel_call_etc`: what makes the handles that are sent, a write, and a read where an answer came.
+    /// `channel_call_etc`: the calls that make the handles that are sent, a write, and a read for some statuses.
     ChannelCallEtc,
-    /// `process_create`: a spawn, and what stands in for its address space.
+    /// `process_create`: an event for the address space, if the line gives a handle to it, and a spawn.
     Create,
-    /// `process_start`: the spawn of the process that `job` names, which another line made.
+    /// `process_start`: the spawn of a process that another line made. `job` has the handle of that process.
     Start,
-    /// It made or gave an object that the semantics has not, for which an event or a pair of events stands in.
+    /// A call that makes or gives an object of a kind that the semantics does not have. An event or an event pair stands in
+    /// for it.
     StandIn(OtherKind),
 }
 
 impl LineForm {
-    /// The name of the call that the line has; nothing, where it is that of the semantics.
+    /// The name of the line's call, if it is none of the semantics. None for a stand-in too.
     pub fn word(self) -> Option<&'static str> {
         match self {
             LineForm::Plain | LineForm::StandIn(_) => None,
@@ -45,12 +46,12 @@ impl LineForm {
 #[derive(Clone, Copy, Debug, PartialEq, Eq)]
 pub struct LinePart {
     pub form: LineForm,
-    /// How many of them stand ahead of it.
+    /// How many calls of the line stand ahead of it.
     pub ahead: usize,
-    /// How many there are.
+    /// How many calls the line has.
     pub count: usize,
-    /// Which handle of the message that the last of them writes is the one that this call gives, counted from 0.
+    /// The place, from 0, of the handle that this call gives in the message that the line writes.
     pub gives: Option<usize>,
-    /// It stands apart from the others of its line, and another of them counts for that.
+    /// Whether the call stands apart from the rest of its line. Then another call of the line counts as the line.
     pub is_apart: bool,
 }

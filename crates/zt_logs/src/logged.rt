@@ -1,3 +1,5 @@
+//! The calls of a log, as they are read.
+
 use crate::koids::HandleKoid;
 use crate::line_parts::LinePart;
 use crate::notes::LogNotes;
@@ -7,36 +9,36 @@ use crate::times::CallTimes;
 use zt_bits::{Signals, Status};
 use zt_rows::{Call, HandleValue, Items};
 
-/// A line of a log, or one of the calls that it is: a call that returned, with what the real system answered.
+/// One call of a line, with what the real system answered. A line can be several calls.
 #[derive(Debug, Drop)]
 pub struct LoggedCall {
-    /// The number of the line, counted from 1.
+    /// The line, counted from 1.
     pub line: u64,
-    /// The process that made the call, by its number in the log, or by that which stands for its name.
+    /// The process that made the call: its number in the log, or the number that stands for its name.
     pub process: u64,
     pub times: CallTimes,
-    /// The objects of its handles, and their peers, as far as the line tells.
+    /// The koids that the line tells of the call's handles.
     pub koids: Vec<HandleKoid>,
-    /// The call, whose handles are those of the log.
+    /// The call, with the handles of the log.
     pub call: Call,
     /// Which of the calls of its line it is.
     pub part: LinePart,
-    /// What was answered to the line, for the last of its calls; for those ahead of it what follows of it.
+    /// The reply of the line, on its last call. A call ahead of the last has what follows from that reply.
     pub recorded: RecordedReply,
 }
 
-/// What a real system answered, as far as the log has it.
+/// The reply of the real system, as far as the log tells it.
 #[derive(Debug, Drop)]
 pub struct RecordedReply {
-    /// Nothing where no call of the semantics has this status.
+    /// None if no call of the semantics gives this status.
     pub status: Option<Status>,
-    /// The handles that the caller got, in their order.
+    /// The handles that the caller got, in order.
     pub handles: Items<HandleValue>,
-    /// The bytes of a message that was read.
+    /// The bytes of the message that was read. None if the log does not tell them.
     pub bytes: Option<Items<u8>>,
-    /// The packet of a port.
+    /// The packet that the caller got. None if the log does not tell it.
     pub packet: Option<LoggedPacket>,
-    /// The number of a process that was made.
+    /// The number of the process that was made. None if the log does not tell it.
     pub process: Option<u64>,
 }
 
@@ -54,16 +56,16 @@ pub enum LoggedPacket {
     },
 }
 
-/// The calls of a log.
+/// A log that was read.
 #[derive(Drop)]
 pub struct CallLog {
     pub calls: Vec<LoggedCall>,
-    /// How many lines there are, empty ones too.
+    /// How many lines the log has, empty ones too.
     pub lines: u64,
-    /// Those that have a call that the semantics does not know, and that may change something.
+    /// The lines whose call the semantics does not know, except those that change nothing.
     pub skipped: Vec<SkippedCall>,
-    /// The processes that it has by names.
+    /// The names that processes have in the log.
     pub names: ProcessNames,
-    /// What it has that is left out.
+    /// Notes on what was left out of the log.
     pub notes: LogNotes,
 }

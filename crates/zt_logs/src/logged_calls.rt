@@ -1,3 +1,5 @@
+//! Reads lines that are one call of the semantics.
+
 ghost use Rattle.std.specs.Prelude.{◌≡◌, true, IfOk};
 ghost use Rattle.zt_logs.specs.LineCalls.{is_one_call};
 ghost use Rattle.zt_logs.specs.declared.call_names.CallName.TheVariants as called;
@@ -12,7 +14,7 @@ use crate::places::{LineObject, Member, Place};
 use std::alloc::Global;
 use zt_rows::{Call, MESSAGE_BYTES, Parcel};
 
-/// The call of this name with the arguments of a line, and these options.
+/// The call of this name, with the arguments and options of a line. The error is `Missing`, `Member` or `OutOfMemory`.
 pub(crate) fn call_of(
     alloc: Global,
     name: CallName,
@@ -106,7 +108,7 @@ fn channel_write(alloc: Global, args: &Members<'_, '_>) -> Result<Call, Cause>
     }
 }
 
-/// More bytes than a message takes.
+/// The error of a message that has too many bytes.
 pub(crate) fn too_many_bytes() -> Cause {
     let place = Place {
         object: LineObject::Args,
@@ -166,7 +168,7 @@ fn port_cancel(args: &Members<'_, '_>) -> Result<Call, Cause>
     Ok(Call::PortCancel { port, source, key })
 }
 
-/// The packet is a text of its bytes beside its key, or an object with both.
+/// The packet is a text of its bytes next to `key`, or an object that has both.
 fn port_queue(args: &Members<'_, '_>) -> Result<Call, Cause>
     ensures { IfOk result (IsCallOf called.PortQueue (data_at args.now.value) 0) }
 {
@@ -183,7 +185,7 @@ fn port_queue(args: &Members<'_, '_>) -> Result<Call, Cause>
     Ok(Call::PortQueue { port, key, bytes })
 }
 
-/// Whether a packet is one of a user, as which it counts where it has no type.
+/// Checks that a packet is a user packet; one without a type counts as one. Otherwise the error is `Member`.
 fn is_user_packet(packet: &Members<'_, '_>) -> Result<(), Cause> {
     if !packet.has(Member::Type) {
         return Ok(());
@@ -209,7 +211,7 @@ fn spawn(args: &Members<'_, '_>) -> Result<Call, Cause>
     Ok(Call::Spawn { job, argument })
 }
 
-/// A process that is started stands as the job of its spawn, until the line that made it tells that.
+/// A spawn that has the started process in place of its job. `join_starts` of `zt_import` puts the job in.
 fn process_start(args: &Members<'_, '_>) -> Result<Call, Cause>
     ensures { IfOk result (IsCallOf called.ProcessStart (data_at args.now.value) 0) }
 {

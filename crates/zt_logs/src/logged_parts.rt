@@ -1,4 +1,4 @@
-//! The calls of a line behind those of the lines before it.
+//! Appends the calls of a line to those of the lines before it.
 
 ghost use Rattle.std.specs.Prelude.{◌≡◌, ◌++◌, ◌∷◌, [], OnOk, IfOk, length};
 ghost use Rattle.std.specs.Option.{option_to_list};
@@ -16,19 +16,19 @@ use std::alloc::{AllocError, Global};
 use zt_bits::Status;
 use zt_rows::{HandleValue, Items};
 
-/// What all calls of a line have in common.
+/// The facts that all calls of a line share.
 #[derive(Clone, Copy)]
 pub(crate) struct LineHead {
     pub(crate) line: u64,
     pub(crate) process: u64,
     pub(crate) form: LineForm,
-    /// How many calls it has.
+    /// How many calls the line has.
     pub(crate) count: usize,
     pub(crate) times: CallTimes,
 }
 
 impl LineHead {
-    /// The call of the line behind so many others of it.
+    /// The call of the line that has `ahead` calls of it ahead.
     fn call(
         self,
         ahead: usize,
@@ -62,8 +62,8 @@ impl LineHead {
     }
 }
 
-/// Puts the calls of a line behind those before. What was answered is that of the last; those ahead of it have the status that
-/// follows of it. The last has the koids of the line.
+/// Appends the calls of a line. The last has the reply and the koids of the line. Those ahead of it have the status that
+/// follows from that reply.
 #[tactic(auto, using(crate::proofs::LineCallLaws::parts_added, crate::proofs::LineCallLaws::none_added))]
 pub(crate) fn push_parts(
     alloc: Global,
@@ -84,7 +84,7 @@ pub(crate) fn push_parts(
     push_logged(calls, head.call(parts.len(), last, recorded, koids))
 }
 
-/// Puts those that are ahead of the last.
+/// Appends the calls ahead of the last.
 fn push_ahead(
     alloc: Global,
     calls: &mut Vec<LoggedCall>,
@@ -102,7 +102,7 @@ fn push_ahead(
     Ok(())
 }
 
-/// The same call of a line.
+/// A copy of a call of a line.
 fn copy_of(part: &PartCall) -> Result<PartCall, AllocError>
     ensures { IfOk result (λ copy. copy ≡ part.now) }
 {
@@ -114,8 +114,8 @@ fn copy_of(part: &PartCall) -> Result<PartCall, AllocError>
     })
 }
 
-/// The status of the calls ahead of the last one, where the line has this: they were ok where the last one found its peer
-/// closed, or an answer for which it had too little room.
+/// The status of the calls ahead of the last, if the line has this status. They were ok if the last found its peer closed,
+/// or had too little room for an answer.
 fn part_status(status: Option<Status>) -> Option<Status>
     ensures { result ≡ part_status status }
 {
@@ -125,7 +125,7 @@ fn part_status(status: Option<Status>) -> Option<Status>
     }
 }
 
-/// The answer of a call ahead of the last of its line: this status, and the handle that it gave.
+/// The reply of a call ahead of the last of its line: this status, and the handle that it gave.
 fn ahead_answer(
     alloc: Global,
     status: Option<Status>,
@@ -144,7 +144,7 @@ fn ahead_answer(
     })
 }
 
-/// The handle that was given, if one was.
+/// The list of the handle that was given; empty if none was.
 fn given_handles(alloc: Global, given: Option<HandleValue>) -> Result<Vec<HandleValue>, Cause>
     ensures { IfOk result (λ handles. handles.items ≡ option_to_list given) }
 {
@@ -158,7 +158,7 @@ fn given_handles(alloc: Global, given: Option<HandleValue>) -> Result<Vec<Handle
     }
 }
 
-/// One call more.
+/// Appends a call.
 fn push_logged(calls: &mut Vec<LoggedCall>, logged: LoggedCall) -> Result<(), Cause>
     ensures { OnOk result (calls.new.items ≡ calls.old.items ++ logged ∷ []) }
 {

@@ -1,4 +1,5 @@
-//! The members of a JSON object, each as what it has to be.
+//! Reads the members of a JSON object, each in the form that is wanted of it. A needed member that is left out is
+//! `Missing`. A member of another form is `Member`. A member that is `null` counts as left out.
 
 ghost use Rattle.std.specs.Prelude.{◌≡◌, ◌++◌, ◌∷◌, [], Some, None, IfOk, IfSome, OnOk, is_some, option_and_then};
 ghost use Rattle.json.specs.Find.{as_str};
@@ -21,7 +22,7 @@ use std::alloc::Global;
 use zt_bits::Signals;
 use zt_rows::{HandleValue, Items, MESSAGE_BYTES, MESSAGE_HANDLES};
 
-/// An object of a line, or one within it that is left out.
+/// The members of an object of a line. An object that is left out has none.
 #[derive(Clone, Copy)]
 pub(crate) struct Members<'a, 'text> {
     object: LineObject,
@@ -29,7 +30,7 @@ pub(crate) struct Members<'a, 'text> {
 }
 
 impl<'a, 'text> Members<'a, 'text> {
-    /// Those of a line.
+    /// The members of a line. The error is `NoObject` if it is not an object.
     pub(crate) fn of_line(line: &'a Value<'text>) -> Result<Members<'a, 'text>, Cause>
         ensures { IfOk result (λ members. data_at members.value ≡ Some (value_view line.now)) }
     {
@@ -42,7 +43,7 @@ impl<'a, 'text> Members<'a, 'text> {
         })
     }
 
-    /// Those of an object within this one, which may be left out.
+    /// The members of the object under this name, which may be left out.
     pub(crate) fn object(
         &self,
         name: Member,
@@ -59,14 +60,14 @@ impl<'a, 'text> Members<'a, 'text> {
         Ok(Members { object, value })
     }
 
-    /// Whether there is a member of this name.
+    /// Whether a member of this name is there, by either of its names.
     pub(crate) fn has(&self, name: Member) -> bool
         ensures { result ≡ is_some (field name (data_at self.now.value)) }
     {
         self.member(name).is_some()
     }
 
-    /// Whether a member is an object.
+    /// Whether the member of this name is an object.
     pub(crate) fn has_object(&self, name: Member) -> bool {
         match self.member(name) {
             Some(value) => is_object(value),
@@ -74,7 +75,7 @@ impl<'a, 'text> Members<'a, 'text> {
         }
     }
 
-    /// The member by its name, or by its second one.
+    /// The value of a member, by its name or else by its second name.
     pub(crate) fn member(&self, name: Member) -> Option<&'a Value<'text>>
         ensures { data_at result ≡ field name (data_at self.now.value) }
     {
@@ -84,7 +85,7 @@ impl<'a, 'text> Members<'a, 'text> {
         }
     }
 
-    /// The value of this name, unless it is left out or null.
+    /// The value under this name, unless it is left out or `null`.
     fn named(&self, name: &str) -> Option<&'a Value<'text>>
         ensures { data_at result ≡ named name.now (data_at self.now.value) }
     {
@@ -92,7 +93,7 @@ impl<'a, 'text> Members<'a, 'text> {
         if value.is_null() { None } else { Some(value) }
     }
 
-    /// A member that may not be left out.
+    /// The value of a member that may not be left out.
     fn needed(&self, name: Member) -> Result<&'a Value<'text>, Cause>
         ensures { IfOk result (λ value. field name (data_at self.now.value) ≡ Some (value_view value.now)) }
     {
@@ -102,7 +103,7 @@ impl<'a, 'text> Members<'a, 'text> {
         }
     }
 
-    /// Where a member stands.
+    /// The place of a member.
     fn place(&self, name: Member) -> Place {
         Place {
             object: self.object,
@@ -112,7 +113,7 @@ impl<'a, 'text> Members<'a, 'text> {
         }
     }
 
-    /// A member that has not the form wanted.
+    /// The error of a member that is not of the form wanted.
     pub(crate) fn fault(&self, name: Member, wanted: WantedValue) -> Cause {
         let place = self.place(name);
         Cause::Member { place, wanted }
@@ -136,7 +137,7 @@ impl<'a, 'text> Members<'a, 'text> {
         }
     }
 
-    /// A process, where there is one.
+    /// A process; none if it is left out.
     pub(crate) fn process_if_any(&self, name: Member) -> Result<Option<ProcessWord<'text>>, Cause> {
         if !self.has(name) {
             return Ok(None);
@@ -171,7 +172,7 @@ impl<'a, 'text> Members<'a, 'text> {
         Ok(HandleValue(self.narrow(name)?))
     }
 
-    /// A handle, or 0 where it is left out.
+    /// A handle; 0 if it is left out.
     pub(crate) fn handle_or_none(&self, name: Member) -> Result<HandleValue, Cause>
         ensures { IfOk result (IsNumberOrNone (field name (data_at self.now.value))) }
     {
@@ -181,14 +182,14 @@ impl<'a, 'text> Members<'a, 'text> {
         self.handle(name)
     }
 
-    /// A mask of rights.
+    /// A mask of rights, as a number or as names.
     pub(crate) fn rights(&self, name: Member) -> Result<u32, Cause>
         ensures { IfOk result (IsMaskIn (field name (data_at self.now.value))) }
     {
         self.bits(name, BitNames::Rights)
     }
 
-    /// A mask of signals.
+    /// A mask of signals, as a number or as names.
     pub(crate) fn signals(&self, name: Member) -> Result<Signals, Cause>
         ensures { IfOk result (λ signals. IsMaskIn (field name (data_at self.now.value)) signals.0) }
     {
@@ -214,7 +215,7 @@ impl<'a, 'text> Members<'a, 'text> {
         }
     }
 
-    /// True or false, where being left out is false.
+    /// A flag; false if it is left out.
     pub(crate) fn flag(&self, name: Member) -> Result<bool, Cause>
         ensures { IfOk result (λ flag. flag_of (field name (data_at self.now.value)) ≡ Some flag) }
     {
@@ -227,7 +228,7 @@ impl<'a, 'text> Members<'a, 'text> {
         }
     }
 
-    /// The bytes of a message, where there are some.
+    /// The bytes of a message; none if they are left out.
     pub(crate) fn bytes_if_any(
         &self,
         alloc: Global,
@@ -239,7 +240,7 @@ impl<'a, 'text> Members<'a, 'text> {
         }
     }
 
-    /// The bytes of a message; none, where they are left out.
+    /// The bytes of a message; empty if they are left out.
     pub(crate) fn bytes_or_none(&self, alloc: Global, name: Member) -> Result<Vec<u8>, Cause>
         ensures { IfOk result (λ bytes. AreBytes (field name (data_at self.now.value)) bytes.items) }
     {
@@ -249,7 +250,7 @@ impl<'a, 'text> Members<'a, 'text> {
         }
     }
 
-    /// The bytes that the value of this name writes.
+    /// The bytes that a value writes as hexadecimal digits, at most 65,536.
     fn bytes_in(&self, alloc: Global, name: Member, value: &Value<'_>) -> Result<Vec<u8>, Cause>
         ensures { IfOk result (λ bytes. AreBytes (Some (value_view value.now)) bytes.items) }
     {
@@ -266,7 +267,7 @@ impl<'a, 'text> Members<'a, 'text> {
         }
     }
 
-    /// The bytes of a user packet.
+    /// The 32 bytes of a user packet.
     pub(crate) fn packet_bytes(&self, name: Member) -> Result<[u8; 32], Cause>
         ensures { IfOk result (ArePacketBytes (field name (data_at self.now.value))) }
     {
@@ -279,7 +280,7 @@ impl<'a, 'text> Members<'a, 'text> {
         }
     }
 
-    /// The handles of a list; none, where it is left out.
+    /// The handles of a list of at most 64 items; empty if it is left out.
     #[tactic(auto, using(crate::proofs::ListedLaws::handles_at, crate::proofs::ListedLaws::no_handles_at))]
     pub(crate) fn handles(&self, alloc: Global, name: Member) -> Result<Vec<HandleValue>, Cause>
         ensures { IfOk result (λ handles. AreHandles (field name (data_at self.now.value)) handles.items) }
@@ -290,7 +291,7 @@ impl<'a, 'text> Members<'a, 'text> {
         }
     }
 
-    /// The same of a list of any length.
+    /// The handles of a list of any length; empty if it is left out.
     #[tactic(auto, using(crate::proofs::ListedLaws::handles_at, crate::proofs::ListedLaws::no_handles_at))]
     pub(crate) fn all_handles(&self, alloc: Global, name: Member) -> Result<Vec<HandleValue>, Cause>
         ensures { IfOk result (λ handles. AreHandles (field name (data_at self.now.value)) handles.items) }
@@ -301,7 +302,8 @@ impl<'a, 'text> Members<'a, 'text> {
         }
     }
 
-    /// The same of a list of handles that a message had, each alone or in an object with what it names.
+    /// The handles of a message that was read, at most 64. An item is a handle, or an object that has one as its member
+    /// `handle`.
     #[tactic(auto, using(crate::proofs::ListedLaws::read_at, crate::proofs::ListedLaws::no_read_at))]
     pub(crate) fn read_handles(
         &self,
@@ -316,7 +318,7 @@ impl<'a, 'text> Members<'a, 'text> {
         }
     }
 
-    /// The handles that the values of a list are, or have.
+    /// The handles that the items of a list are or have.
     fn read_handles_in(
         &self,
         alloc: Global,
@@ -333,7 +335,7 @@ impl<'a, 'text> Members<'a, 'text> {
         Ok(handles)
     }
 
-    /// The handle that this item of a list is, or has.
+    /// The handle that this item of a list is or has.
     fn read_handle_in(
         &self,
         name: Member,
@@ -348,7 +350,7 @@ impl<'a, 'text> Members<'a, 'text> {
         }
     }
 
-    /// A list of what a message can have, which may be left out.
+    /// A list of at most 64 items, as many as a message has handles; none if it is left out.
     pub(crate) fn list(&self, name: Member) -> Result<Option<&'a [Value<'text>]>, Cause>
         ensures { IfOk result (IsListAt (field name (data_at self.now.value))) }
     {
@@ -361,7 +363,7 @@ impl<'a, 'text> Members<'a, 'text> {
         Ok(list)
     }
 
-    /// A list, which may be left out.
+    /// A list of any length; none if it is left out.
     fn any_list(&self, name: Member) -> Result<Option<&'a [Value<'text>]>, Cause>
         ensures { IfOk result (IsListAt (field name (data_at self.now.value))) }
     {
@@ -374,7 +376,7 @@ impl<'a, 'text> Members<'a, 'text> {
         }
     }
 
-    /// The members of an object that is this item of a list of handles that are sent.
+    /// The members of an item of a list of handles that are sent. The error is `Member` if it is not an object.
     pub(crate) fn item(
         &self,
         name: Member,
@@ -399,7 +401,7 @@ impl<'a, 'text> Members<'a, 'text> {
         })
     }
 
-    /// Whether a handle that is sent stays, since a duplicate of it is sent.
+    /// Whether a duplicate of a handle is sent, so that the process keeps it.
     pub(crate) fn is_duplicate(&self, name: Member) -> Result<bool, Cause>
         ensures { IfOk result (IsOperationIn (field name (data_at self.now.value))) }
     {
@@ -409,7 +411,7 @@ impl<'a, 'text> Members<'a, 'text> {
         }
     }
 
-    /// The handles that the values of a list are.
+    /// The handles that the items of a list are.
     fn handles_in(
         &self,
         alloc: Global,
@@ -426,7 +428,7 @@ impl<'a, 'text> Members<'a, 'text> {
         Ok(handles)
     }
 
-    /// The handle that is this item of a list.
+    /// The handle that this item of a list is.
     fn handle_in(&self, name: Member, item: usize, value: &Value<'_>) -> Result<HandleValue, Cause>
         ensures { IfOk result (IsNumber (value_view value.now)) }
     {
@@ -446,7 +448,7 @@ fn is_object(value: &Value<'_>) -> bool {
     matches!(value, Value::Object(_))
 }
 
-/// Whether an operation on a handle, by its number or its name, is that of duplicating it.
+/// Whether an operation, by its number or its name, duplicates the handle. None if it is neither operation.
 fn is_duplicate_in(value: &Value<'_>) -> Option<bool>
     ensures { IfSome result (IsOperation (value_view value.now)) }
 {
@@ -462,7 +464,7 @@ fn is_duplicate_in(value: &Value<'_>) -> Option<bool>
     }
 }
 
-/// One handle more.
+/// Appends a handle.
 pub(crate) fn push_handle(handles: &mut Vec<HandleValue>, handle: HandleValue) -> Result<(), Cause>
     ensures { OnOk result (handles.new.items ≡ handles.old.items ++ handle ∷ []) }
 {

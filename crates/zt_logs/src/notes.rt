@@ -1,32 +1,32 @@
-//! What a log has that is left out.
+//! Notes on what is left out of a log.
 
 use std::alloc::{AllocError, Global};
 use std::fmt;
 
-/// How many notes are told.
+/// How many notes are kept; the others are only counted.
 const TOLD: usize = 100;
 
 /// Something of a line that is left out.
 #[derive(Debug, Drop)]
 pub enum LogNote {
-    /// The last line of this number is cut off in the middle.
+    /// The last line, of this number, is cut off in the middle.
     CutOff { line: u64 },
-    /// An option of a call that is not taken here.
+    /// An option of a call that is known but left out here.
     LeftOption { line: u64, name: &'static str },
-    /// Options of a call that are not known, by their bits.
+    /// The bits of a call's options that are not known.
     UnknownOptions { line: u64, options: u64 },
-    /// What a line says of a process that it starts.
+    /// A part of a line that starts a process.
     Start { line: u64, note: StartNote },
-    /// An option of a call that is not known, by its name.
+    /// The name of an option that is not known.
     UnknownOption { line: u64, name: String },
 }
 
-/// What of the start of a process is left out.
+/// The part of a process start that is left out.
 #[derive(Clone, Copy, Debug, PartialEq, Eq)]
 pub enum StartNote {
-    /// All of it: no line of the log made the process.
+    /// The whole start: no line made its process.
     Unknown,
-    /// Its argument, since the process was made before, for a line that uses its handle.
+    /// The argument: the process was needed before the start, and the handle of the argument is used since.
     LateArgument,
 }
 
@@ -68,7 +68,7 @@ impl fmt::Display for LogNote {
     }
 }
 
-/// All that is left out of a log.
+/// The notes of a log.
 #[derive(Drop)]
 pub struct LogNotes {
     told: Vec<LogNote>,
@@ -83,22 +83,22 @@ impl LogNotes {
         }
     }
 
-    /// The first hundred, in the order of the log.
+    /// The first hundred notes, in the order in which they were added.
     pub fn told(&self) -> &[LogNote] {
         self.told.as_slice()
     }
 
-    /// How many there are.
+    /// How many notes there are, also those above a hundred.
     pub fn count(&self) -> u64 {
         self.count
     }
 
-    /// One note more, of the start of a process.
+    /// Adds a note on the start of a process. The error is an allocation failure.
     pub fn add_start(&mut self, line: u64, note: StartNote) -> Result<(), AllocError> {
         self.add(LogNote::Start { line, note })
     }
 
-    /// One note more.
+    /// Adds a note. The error is an allocation failure.
     pub(crate) fn add(&mut self, note: LogNote) -> Result<(), AllocError> {
         self.count = self.count.saturating_add(1);
         if self.told.len() >= TOLD {

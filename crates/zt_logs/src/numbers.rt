@@ -1,4 +1,4 @@
-//! The numbers that values of a log are.
+//! Reads the numbers of a log.
 
 ghost use Rattle.std.specs.Prelude.{◌≡◌, ◌+◌, ◌*◌, ◌<◌, ◌≤◌, Some, IfSome};
 ghost use Rattle.std.specs.Char.{digit_value};
@@ -7,7 +7,7 @@ ghost use Rattle.zt_logs.specs.Numbers.{IsWritten, IsNumberText, IsNumber, IsSig
 
 use json::Value;
 
-/// A number of 64 bits: one of JSON without a fraction, or a text.
+/// A number of 64 bits: a JSON number without a fraction, or a text of one.
 pub(crate) fn number_in(value: &Value<'_>) -> Option<u64>
     ensures { IfSome result (IsNumber (value_view value.now)) }
 {
@@ -18,21 +18,21 @@ pub(crate) fn number_in(value: &Value<'_>) -> Option<u64>
     }
 }
 
-/// A number of 32 bits.
+/// A number of 32 bits, in the forms of `number_in`.
 pub(crate) fn narrow_in(value: &Value<'_>) -> Option<u32>
     ensures { IfSome result (IsNumber (value_view value.now)) }
 {
     narrow(number_in(value)?)
 }
 
-/// A number that has 32 bits.
+/// The number, if 32 bits hold it.
 pub(crate) fn narrow(number: u64) -> Option<u32>
     ensures { IfSome result (λ same. same ≡ number) }
 {
     u32::try_from(number).ok()
 }
 
-/// A signed number of 64 bits: one of JSON without a fraction, or a text.
+/// A signed number of 64 bits: a JSON number without a fraction, or a text of one.
 pub(crate) fn signed_in(value: &Value<'_>) -> Option<i64>
     ensures { IfSome result (λ code. IsSignedIn (Some (value_view value.now)) code) }
 {
@@ -43,7 +43,7 @@ pub(crate) fn signed_in(value: &Value<'_>) -> Option<i64>
     }
 }
 
-/// The signed number that a number of JSON is, if it has no fraction. `-0` is none: it is a float.
+/// The signed number that a JSON number is, if it has no fraction. `-0` is none, since it is a float.
 fn signed_number(text: &str) -> Option<i64>
     ensures { IfSome result (IsSigned text.now) }
 {
@@ -53,7 +53,7 @@ fn signed_number(text: &str) -> Option<i64>
     i64::from_str_radix(text, 10).ok()
 }
 
-/// The number that a text writes: `0x` and hexadecimal digits, or decimal ones.
+/// The number that a text writes in decimal digits, or in hexadecimal ones behind `0x`.
 pub(crate) fn number_of(text: &str) -> Option<u64>
     ensures { IfSome result (IsNumberText text.now) }
 {
@@ -64,7 +64,7 @@ pub(crate) fn number_of(text: &str) -> Option<u64>
     }
 }
 
-/// The signed number that a text writes. The digits behind `0x` are those of its 64 bits.
+/// The signed number that a text writes. Digits behind `0x` are those of its 64 bits.
 fn signed_of(text: &str) -> Option<i64> {
     let bytes = text.as_bytes();
     if let Some(digits) = bytes.strip_prefix(b"0x") {
@@ -78,7 +78,8 @@ fn signed_of(text: &str) -> Option<i64> {
     i64::from_str_radix(text, 10).ok()
 }
 
-/// The number of 64 bits that digits of a base write.
+/// The number of 64 bits that digits of this base write. None if there are no digits, if one is of no such base, or if it
+/// does not fit.
 pub(crate) fn written(digits: &[u8], base: u32) -> Option<u64>
     requires low { 2 ≤ base }
     requires high { base ≤ 36 }
@@ -94,7 +95,7 @@ pub(crate) fn written(digits: &[u8], base: u32) -> Option<u64>
     Some(number)
 }
 
-/// A number with one digit more behind it.
+/// A number with one digit appended. None if it does not fit 64 bits.
 fn with_digit(number: u64, digit: u8, base: u32) -> Option<u64>
     requires low { 2 ≤ base }
     requires high { base ≤ 36 }

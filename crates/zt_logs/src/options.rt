@@ -1,4 +1,4 @@
-//! The options of calls.
+//! Reads the options of calls.
 
 ghost use Rattle.std.specs.Prelude.{IfOk};
 ghost use Rattle.zt_logs.specs.declared.places.Member.TheVariants as member;
@@ -14,16 +14,17 @@ use crate::places::Member;
 use crate::process_names::shown_name;
 use std::alloc::{AllocError, Global};
 
-/// The option of `channel_read` by which a message that has no room is dropped.
+/// The option of `channel_read` that discards a message for which there is too little room.
 pub(crate) const MAY_DISCARD: u64 = 1;
 
-/// The option of `object_wait_async` by which a wait is one on edges.
+/// The option of `object_wait_async` that makes a wait one on an edge.
 pub(crate) const EDGE: u64 = 2;
 
-/// The options of `object_wait_async` that ask for a timestamp in the packet.
+/// The two options of `object_wait_async` that ask for a timestamp in the packet.
 const TIMESTAMPS: u64 = 5;
 
-/// The options of a call of this name. What of them is not known, or not taken here, is noted.
+/// The options of a call; 0 if the line has none. An option that is not known, or is left out here, gets a note. The error
+/// is `Member` or `OutOfMemory`.
 pub(crate) fn options_of(
     alloc: Global,
     notes: &mut LogNotes,
@@ -47,7 +48,7 @@ pub(crate) fn options_of(
     Ok(options)
 }
 
-/// The options that names with `|` between them say. A name that is not known is noted.
+/// The options of names with `|` between them. A name that is not known gets a note.
 fn named_options(
     alloc: Global,
     notes: &mut LogNotes,
@@ -62,7 +63,7 @@ fn named_options(
     Ok(options)
 }
 
-/// The option of a name, or of a number; none, where it is not known, which is noted.
+/// The options of one name, or of a text that is a number. A name that is not known is 0 and gets a note.
 fn named_option(
     alloc: Global,
     notes: &mut LogNotes,
@@ -85,7 +86,7 @@ fn named_option(
     Ok(0)
 }
 
-/// The option that a call has by this name.
+/// The option that a call has under this name.
 fn option_named(call: CallName, name: &str) -> Option<u64> {
     Some(match (call, name) {
         (CallName::ChannelRead | CallName::ChannelReadEtc, "ZX_CHANNEL_READ_MAY_DISCARD") =>
@@ -101,7 +102,7 @@ fn option_named(call: CallName, name: &str) -> Option<u64> {
     })
 }
 
-/// The option of a call that is known and not taken here.
+/// The option of a call that is known but left out here.
 fn left_out(call: CallName) -> Option<(u64, &'static str)> {
     Some(match call {
         CallName::ChannelWrite | CallName::ChannelWriteEtc => (2, "ZX_CHANNEL_WRITE_USE_IOVEC"),
@@ -111,7 +112,7 @@ fn left_out(call: CallName) -> Option<(u64, &'static str)> {
     })
 }
 
-/// The options of a call that are taken here, or ask for nothing that is told here.
+/// The options of a call that need no note: those with an effect here, and those that change nothing that a trace has.
 fn taken(call: CallName) -> u64 {
     match call {
         CallName::ChannelRead | CallName::ChannelReadEtc => MAY_DISCARD,
@@ -120,7 +121,7 @@ fn taken(call: CallName) -> u64 {
     }
 }
 
-/// Notes the options that are not taken.
+/// Adds notes on the options that are left out.
 fn note_others(
     notes: &mut LogNotes,
     line: u64,

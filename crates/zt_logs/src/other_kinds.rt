@@ -1,10 +1,11 @@
-//! Objects that the semantics has not, for whose handles those of events stand in.
+//! The kinds of objects that the semantics does not have. An event or an event pair stands in for such an object.
+
 ghost use Rattle.std.specs.Prelude.{◌≡◌};
 ghost use Rattle.zt_logs.specs.OtherKinds.{kind_made, memory_made, device_made, other_made, has_ends};
 
 use crate::call_names::is;
 
-/// A kind of object that the semantics has not.
+/// A kind of object that the semantics does not have.
 #[derive(Clone, Copy, Debug, PartialEq, Eq)]
 pub enum OtherKind {
     Vmo,
@@ -17,7 +18,7 @@ pub enum OtherKind {
     Clock,
     Counter,
     Thread,
-    /// One that was there before, as `object_get_child` gives a handle to one.
+    /// An object that was there before, to which `object_get_child` gives a handle.
     Child,
     Resource,
     Iommu,
@@ -28,7 +29,7 @@ pub enum OtherKind {
 }
 
 impl OtherKind {
-    /// What it is, in words.
+    /// The kind with its article, as comments of a trace have it.
     pub fn words(self) -> &'static str {
         match self {
             OtherKind::Vmo => "a vmo",
@@ -51,14 +52,14 @@ impl OtherKind {
         }
     }
 
-    /// Whether it has two ends, with a handle for each.
+    /// Whether an object of this kind has two ends, each with a handle.
     pub fn has_ends(self) -> bool
         ensures { result ≡ has_ends self }
     {
         matches!(self, OtherKind::Socket | OtherKind::Fifo)
     }
 
-    /// The kind of what a call of this name makes or gives, without `zx_` ahead.
+    /// The kind of object that a call of this name makes or gives. The name has no `zx_` ahead.
     #[tactic(auto, unfolding(crate::specs::OtherKinds::kind_made))]
     pub(crate) fn made_by(name: &[u8]) -> Option<OtherKind>
         ensures { result ≡ kind_made name.now }
@@ -69,7 +70,7 @@ impl OtherKind {
     }
 }
 
-/// What has to do with memory.
+/// The calls that have to do with memory.
 #[tactic(auto, unfolding(crate::specs::OtherKinds::memory_made))]
 fn memory_made(name: &[u8]) -> Option<OtherKind>
     ensures { result ≡ memory_made name.now }
@@ -93,7 +94,7 @@ fn memory_made(name: &[u8]) -> Option<OtherKind>
     }
 }
 
-/// What drivers use.
+/// The calls that drivers make.
 #[tactic(auto, unfolding(crate::specs::OtherKinds::device_made))]
 fn device_made(name: &[u8]) -> Option<OtherKind>
     ensures { result ≡ device_made name.now }
@@ -115,7 +116,7 @@ fn device_made(name: &[u8]) -> Option<OtherKind>
     }
 }
 
-/// All else.
+/// All other calls.
 #[tactic(auto, unfolding(crate::specs::OtherKinds::other_made))]
 fn other_made(name: &[u8]) -> Option<OtherKind>
     ensures { result ≡ other_made name.now }

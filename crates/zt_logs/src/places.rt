@@ -1,17 +1,19 @@
+//! The members of lines: their names, and their places.
+
 ghost use Rattle.std.specs.Prelude.{◌≡◌};
 ghost use Rattle.std.specs.Option.{option_map};
 ghost use Rattle.zt_logs.specs.Members.{first_name, second_name};
 
 use std::fmt;
 
-/// Where a member of a line stands.
+/// The place of a member in a line.
 #[derive(Clone, Copy, Debug)]
 pub struct Place {
     pub object: LineObject,
     pub member: Member,
-    /// Whether it stands there by its second name.
+    /// Whether the line has the member by its second name.
     pub is_second: bool,
-    /// Which item of a list it is.
+    /// The item of the list, from 0, if the place is one.
     pub item: Option<usize>,
 }
 
@@ -21,16 +23,16 @@ pub enum LineObject {
     /// The line itself.
     Line,
     Args,
-    /// The packet in the arguments of one who queues it.
+    /// The packet in the arguments of a `port_queue`.
     QueuedPacket,
     Out,
-    /// The packet in what a wait got.
+    /// The packet that a `port_wait` got.
     Packet,
-    /// The signals of that packet.
+    /// The signals of the packet that a `port_wait` got.
     PacketSignals,
-    /// A handle of a message that is written, by its place in the list.
+    /// A handle that a message sends, by its place in `handles`, from 0.
     SentHandle(usize),
-    /// The same of a call that reads the answer, too.
+    /// A handle that the message of a `channel_call_etc` sends, by its place in `wr_handles`, from 0.
     CalledHandle(usize),
 }
 
@@ -43,14 +45,14 @@ pub enum Member {
     Status,
     Out,
     Handle,
-    /// The handle of a job or process that is killed.
+    /// The handle of the job or process that is killed.
     Task,
-    /// The handle of a process that is made critical.
+    /// The handle of the process that is made critical.
     CriticalProcess,
     Handles,
     /// How many handles there is room for.
     HandleRoom,
-    /// The handle of a call that gives one.
+    /// The handle of a call that gives one handle.
     OnlyHandle,
     FirstHandle,
     SecondHandle,
@@ -69,53 +71,53 @@ pub enum Member {
     Discard,
     Options,
     Port,
-    /// The port of a call whose first argument it is.
+    /// The port of a call whose first argument is the port.
     CalledPort,
     Source,
     Key,
     Packet,
     Job,
-    /// The job under which another is made.
+    /// The job under which a job is made.
     ParentJob,
     Argument,
     Code,
     Type,
-    /// The object of what a wait saw.
+    /// The object that has the signals which a wait saw.
     Signal,
     Trigger,
     Observed,
     /// When the call returned.
     Time,
     TimeStamp,
-    /// When it began.
+    /// When the call began.
     Began,
     Koids,
-    /// The objects that are the peers of those of handles.
+    /// The koids of the peers of the handles' objects.
     RelatedKoids,
-    /// The handle of a process that was made.
+    /// The handle of the process that was made.
     ProcessHandle,
-    /// That of its address space.
+    /// The handle of the address space of the process that was made.
     VmarHandle,
-    /// The handle of a process that is started.
+    /// The handle of the process that is started.
     StartedProcess,
-    /// What it is given.
+    /// The handle that the started process is given.
     FirstArgument,
-    /// The bytes that a call writes before it reads.
+    /// The bytes that a `channel_call` writes.
     WrittenBytes,
-    /// The handles of them.
+    /// The handles that a `channel_call` writes.
     WrittenHandles,
     /// How many bytes of the answer there is room for.
     ReadByteRoom,
-    /// How many handles.
+    /// How many handles of the answer there is room for.
     ReadHandleRoom,
     /// The bytes of the answer.
     ReadBytes,
-    /// Its handles.
+    /// The handles of the answer.
     ReadHandles,
 }
 
 impl Member {
-    /// The name by which a line has it.
+    /// The name of the member in a line.
     pub fn name(self) -> &'static str
         ensures { result.now ≡ first_name self }
     {
@@ -167,7 +169,7 @@ impl Member {
         }
     }
 
-    /// The second name by which a line may have it: that of the system's reference.
+    /// The second name of the member, which is that of the system's reference.
     pub fn second_name(self) -> Option<&'static str>
         ensures { option_map (λ name. name.now) result ≡ second_name self }
     {
@@ -192,7 +194,7 @@ impl Member {
 }
 
 impl LineObject {
-    /// What stands ahead of the names of its members.
+    /// The text that is printed ahead of the name of a member of this object.
     pub fn prefix(self) -> &'static str {
         match self {
             LineObject::Line => "",
@@ -208,7 +210,7 @@ impl LineObject {
 }
 
 impl Place {
-    /// The name by which the member stands there.
+    /// The name that the line has for the member.
     fn name(&self) -> &'static str {
         if !self.is_second {
             return self.member.name();

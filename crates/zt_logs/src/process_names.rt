@@ -1,4 +1,4 @@
-//! Processes that a log has by names.
+//! Gives numbers to the processes that a log has by names.
 
 ghost use Rattle.std.specs.Prelude.{◌≡◌, OnOk, map};
 ghost use Rattle.zt_logs.specs.ProofsOnly.ReadLines.{without_process};
@@ -13,7 +13,7 @@ use std::collections::HashMap;
 /// The most bytes of a name.
 const NAME_BYTES: usize = 64;
 
-/// The processes that a log has by names, each with the number that stands for it: one that no other process of the log has.
+/// The processes that a log has by names. A number that no other process of the log has stands for each.
 #[derive(Drop)]
 pub struct ProcessNames {
     shown: HashMap<u64, String>,
@@ -26,7 +26,8 @@ impl ProcessNames {
         }
     }
 
-    /// The name of the process of this number, where the log has it by one. Bytes that are not printable are shown as `?`.
+    /// The name of the process with this number, if the log has it by a name. A `?` stands for each byte that is not
+    /// printable.
     pub fn shown(&self, process: u64) -> Option<&str> {
         match self.shown.get(&process) {
             Some(name) => Some(name.as_str()),
@@ -42,7 +43,7 @@ pub(crate) enum ProcessWord<'a> {
     Name(&'a str),
 }
 
-/// The process that a value is: a number, a text that is one, or a name of 1 to 64 bytes.
+/// The process that a value is: a number, a text of one, or a name of 1 to 64 bytes.
 pub(crate) fn process_in<'a>(value: &Value<'a>) -> Option<ProcessWord<'a>> {
     match value {
         Value::Number(digits) => Some(ProcessWord::Number(written(digits.as_bytes(), 10)?)),
@@ -61,25 +62,25 @@ fn process_of(text: &str) -> Option<ProcessWord<'_>> {
     Some(ProcessWord::Name(text))
 }
 
-/// Where the process of a line stands in what was read.
+/// A place at which a log names a process.
 #[derive(Clone, Copy)]
 pub(crate) enum NamedPlace {
-    /// It makes the call of this place.
+    /// It makes the call at this place.
     Caller(usize),
-    /// The call of this place made it.
+    /// The call at this place made it.
     Made(usize),
-    /// It makes the call of this place among those that are skipped.
+    /// It makes the skipped call at this place.
     Skipped(usize),
 }
 
-/// Where a process stands that the log has by a name.
+/// A place where the log has a process by a name.
 #[derive(Clone, Copy)]
 struct NameUse {
     place: NamedPlace,
     name: usize,
 }
 
-/// The names of processes that a log has so far.
+/// The names of processes that were read so far.
 #[derive(Drop)]
 pub(crate) struct Naming {
     places: HashMap<String, usize>,
@@ -96,7 +97,8 @@ impl Naming {
         }
     }
 
-    /// The number of the process that stands at this place: 0 where the log has it by a name, which `finish` gives its number.
+    /// The number of the process at this place. It is 0 for a name, until `finish` sets the number. The error is an
+    /// allocation failure.
     pub(crate) fn number(
         &mut self,
         place: NamedPlace,
@@ -112,7 +114,7 @@ impl Naming {
         }
     }
 
-    /// The place of a name among those of the log.
+    /// The place of a name in the list of names. A new name is appended.
     fn place(&mut self, name: &str) -> Result<usize, AllocError> {
         if let Some(place) = self.places.get(name) {
             return Ok(*place);
@@ -126,7 +128,7 @@ impl Naming {
         }
     }
 
-    /// Gives each name its number, and the calls those of their processes, also those that are skipped.
+    /// Gives each name its number, and sets it in the calls and in the skipped calls.
     pub(crate) fn finish(self, alloc: Global, log: &mut CallLog) -> Result<ProcessNames, AllocError>
         ensures calls { OnOk result (map without_process log.new.calls.items ≡ map without_process log.old.calls.items) }
         ensures lines { log.new.lines ≡ log.old.lines }
@@ -156,7 +158,7 @@ fn put_name(names: &mut ProcessNames, number: u64, shown: String) -> Result<(), 
     }
 }
 
-/// So many numbers that are not taken, the largest first.
+/// `count` numbers that are not taken, from the largest number of 64 bits down.
 fn free_numbers(
     alloc: Global,
     taken: &HashMap<u64, ()>,
@@ -172,7 +174,7 @@ fn free_numbers(
     Ok(numbers)
 }
 
-/// The last number up to this one that is not taken.
+/// The largest number up to `most` that is not taken.
 fn last_free(taken: &HashMap<u64, ()>, most: u64) -> u64 {
     let mut number = most;
     while number > 0 && taken.contains_key(&number) {
@@ -181,7 +183,7 @@ fn last_free(taken: &HashMap<u64, ()>, most: u64) -> u64 {
     number
 }
 
-/// The numbers of the processes of calls.
+/// The numbers that the processes of calls have.
 fn numbers_of(
     alloc: Global,
     calls: &[LoggedCall],
@@ -198,7 +200,7 @@ fn numbers_of(
     Ok(taken)
 }
 
-/// Takes those of the calls that are skipped.
+/// Adds the numbers of the processes of skipped calls.
 fn take_skipped(taken: &mut HashMap<u64, ()>, skipped: &[SkippedCall]) -> Result<(), AllocError> {
     for call in skipped {
         if let Some(process) = call.process {
@@ -215,7 +217,7 @@ fn take_number(taken: &mut HashMap<u64, ()>, number: u64) -> Result<(), AllocErr
     }
 }
 
-/// Gives the process at this place its number.
+/// Sets the number of the process at this place.
 fn set_number(log: &mut CallLog, place: NamedPlace, number: u64)
     ensures calls { map without_process log.new.calls.items ≡ map without_process log.old.calls.items }
     ensures lines { log.new.lines ≡ log.old.lines }
@@ -270,7 +272,8 @@ fn push_number(numbers: &mut Vec<u64>, number: u64) -> Result<(), AllocError> {
     }
 }
 
-/// A text with a `?` for each byte that is not printable; the first bytes of one that is longer than a name can be.
+/// A text of at most 64 bytes with `?` for each byte that is not printable. A longer text is cut after 64 bytes, and `..`
+/// follows.
 pub(crate) fn shown_name(alloc: Global, name: &str) -> Result<String, AllocError> {
     let mut shown = String::new(alloc);
     for byte in name.bytes() {

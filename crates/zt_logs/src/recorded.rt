@@ -1,3 +1,5 @@
+//! Reads what a line says that its call answered.
+
 ghost use Rattle.std.specs.Prelude.{◌≡◌, ◌∷◌, [], IfOk};
 ghost use Rattle.zt_logs.specs.Members.{field, data_at};
 ghost use Rattle.zt_logs.specs.declared.places.Member.TheVariants as member;
@@ -13,7 +15,8 @@ use std::alloc::Global;
 use zt_bits::Status;
 use zt_rows::{HandleValue, Items};
 
-/// What a line says that the call of this name answered, which has this place among the calls of the log.
+/// The reply of a line. `call` is the place of the line's last call in the log's calls. The error is `Missing`, `Member` or
+/// `OutOfMemory`.
 pub(crate) fn recorded_of(
     alloc: Global,
     name: CallName,
@@ -63,7 +66,7 @@ pub(crate) fn recorded_of(
     })
 }
 
-/// The process that a call made, where the line has it.
+/// The number of the process that a call made, if the line tells it.
 fn made_process(
     out: &Members<'_, '_>,
     naming: &mut Naming,
@@ -75,7 +78,7 @@ fn made_process(
     }
 }
 
-/// The handles that a call of this name gave: a list, or each by its own name.
+/// The handles that a call of this name gave: from a list, or each by a name of its own.
 fn given_handles(
     alloc: Global,
     name: CallName,
@@ -125,14 +128,14 @@ fn given_handles(
     }
 }
 
-/// The one handle that a call gave, where the line has it.
+/// The one handle that a call gave; none if the line does not tell it.
 fn only_handle(alloc: Global, out: &Members<'_, '_>) -> Result<Vec<HandleValue>, Cause>
     ensures { IfOk result (λ handles. IsOnlyGiven (field member.OnlyHandle (data_at out.now.value)) handles.items) }
 {
     named_handle(alloc, out, Member::OnlyHandle)
 }
 
-/// The one handle of this name, where the line has it.
+/// The handle under this name; none if the line does not have it.
 #[tactic(auto, using(crate::proofs::AnswerLaws::only_none, crate::proofs::AnswerLaws::only_one))]
 fn named_handle(
     alloc: Global,
@@ -155,7 +158,7 @@ fn one_handle(alloc: Global, handle: HandleValue) -> Result<Vec<HandleValue>, Ca
     Ok(handles)
 }
 
-/// The status of the last call of a line of this name: a `channel_call` that timed out has written.
+/// The status of the last call of a line. A `channel_call` that timed out has written, and its write was ok.
 fn answered_status(name: CallName, status: Option<Status>) -> Option<Status>
     ensures { result ≡ answered_status name status }
 {
@@ -167,7 +170,7 @@ fn answered_status(name: CallName, status: Option<Status>) -> Option<Status>
     }
 }
 
-/// The two handles that a call gave, where the line has one of them.
+/// The two handles that a call gave; none if the line has neither. If it has only one, the other is `Missing`.
 fn both_handles(alloc: Global, out: &Members<'_, '_>) -> Result<Vec<HandleValue>, Cause>
     ensures { IfOk result (λ handles. AreBothGiven (field member.FirstHandle (data_at out.now.value)) (field member.SecondHandle (data_at out.now.value)) handles.items) }
 {
@@ -179,7 +182,7 @@ fn both_handles(alloc: Global, out: &Members<'_, '_>) -> Result<Vec<HandleValue>
     Ok(handles)
 }
 
-/// The packet that a wait got, where the line has it.
+/// The packet that a wait got; none if the line does not tell it.
 fn packet_of(out: &Members<'_, '_>) -> Result<Option<LoggedPacket>, Cause> {
     if !out.has(Member::Packet) {
         return Ok(None);
@@ -196,7 +199,7 @@ fn packet_of(out: &Members<'_, '_>) -> Result<Option<LoggedPacket>, Cause> {
     }
 }
 
-/// What a packet of this key says that a wait saw, in the packet itself or in an object within it.
+/// The signals that a packet has, in the packet itself or in its object `signal`.
 fn signal_packet(packet: &Members<'_, '_>, key: u64) -> Result<LoggedPacket, Cause> {
     let seen = if packet.has(Member::Signal) {
         packet.object(Member::Signal, LineObject::PacketSignals)?
@@ -212,14 +215,14 @@ fn signal_packet(packet: &Members<'_, '_>, key: u64) -> Result<LoggedPacket, Cau
     })
 }
 
-/// The status of a line.
+/// The status of a line; none if no call of the semantics gives it.
 pub(crate) fn status_in(line: &Members<'_, '_>) -> Result<Option<Status>, Cause>
     ensures { IfOk result (λ status. status ≡ status_in (data_at line.now.value)) }
 {
     Ok(status_of(line.text(Member::Status)?))
 }
 
-/// The status of a word, or of the name that the kernel's interface has for it.
+/// The status of a status word, or of a name with `ZX_ERR_` ahead. None if no call of the semantics gives it.
 fn status_of(text: &str) -> Option<Status>
     ensures { result ≡ status_of text.now }
 {
@@ -230,7 +233,7 @@ fn status_of(text: &str) -> Option<Status>
     }
 }
 
-/// The statuses of most calls by their words.
+/// Statuses that most calls give, by their words.
 #[tactic(auto, unfolding(crate::specs::Answered::first_word))]
 fn first_word(text: &[u8]) -> Option<Status>
     ensures { result ≡ first_word text.now }
@@ -254,7 +257,7 @@ fn first_word(text: &[u8]) -> Option<Status>
     }
 }
 
-/// The others.
+/// The other statuses, by their words.
 #[tactic(auto, unfolding(crate::specs::Answered::other_word))]
 fn other_word(text: &[u8]) -> Option<Status>
     ensures { result ≡ other_word text.now }
@@ -280,7 +283,7 @@ fn other_word(text: &[u8]) -> Option<Status>
     }
 }
 
-/// Those of most calls by their names.
+/// Statuses that most calls give, by what follows `ZX_ERR_`.
 #[tactic(auto, unfolding(crate::specs::Answered::first_name_of))]
 fn first_name_of(text: &[u8]) -> Option<Status>
     ensures { result ≡ first_name_of text.now }
@@ -302,7 +305,7 @@ fn first_name_of(text: &[u8]) -> Option<Status>
     }
 }
 
-/// The others.
+/// The other statuses, by what follows `ZX_ERR_`.
 #[tactic(auto, unfolding(crate::specs::Answered::other_name_of))]
 fn other_name_of(text: &[u8]) -> Option<Status>
     ensures { result ≡ other_name_of text.now }

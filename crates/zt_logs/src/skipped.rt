@@ -1,4 +1,4 @@
-//! Lines whose calls the semantics does not know: their names, and the handles that they name.
+//! Lines whose calls the semantics does not know: the name of the call, and the handles that the line names.
 
 use crate::members::Members;
 use crate::numbers::narrow_in;
@@ -8,17 +8,17 @@ use std::alloc::{AllocError, Global};
 use std::collections::BTreeMap;
 use zt_rows::HandleValue;
 
-/// A line of a log whose call the semantics does not know.
+/// A line whose call the semantics does not know.
 #[derive(Debug, Drop)]
 pub struct SkippedCall {
     pub name: String,
-    /// The process that made it, where the line tells one.
+    /// The process that made the call, if the line tells it.
     pub process: Option<u64>,
-    /// What its arguments and what it gave name as handles.
+    /// The handles that `args` and `out` name.
     pub handles: Vec<HandleValue>,
 }
 
-/// What a line tells of a call of this name, which this process made.
+/// The skipped call of a line with this name. The error is an allocation failure.
 pub(crate) fn skipped_of(
     alloc: Global,
     name: &str,
@@ -35,7 +35,8 @@ pub(crate) fn skipped_of(
     })
 }
 
-/// The handles in the members of an object, in the order of their names. Of members with one name the last counts.
+/// Appends the handles that the members of an object name, ordered by the members' names. If two members have one name, the
+/// last counts.
 fn push_named(
     handles: &mut Vec<HandleValue>,
     object: Option<&Value<'_>>,
@@ -50,7 +51,7 @@ fn push_named(
     Ok(())
 }
 
-/// The members whose names are those of handles.
+/// The members that have the name of a handle or of handles.
 fn named_handles<'a, 'text>(
     alloc: Global,
     members: &'a [(&'text str, Value<'text>)],
@@ -64,12 +65,13 @@ fn named_handles<'a, 'text>(
     Ok(named)
 }
 
-/// Whether what stands under this name are handles.
+/// Whether a member of this name holds handles.
 fn is_handle_name(name: &str) -> bool {
     name == "handle" || name == "handles" || name.ends_with("_handle")
 }
 
-/// A handle, or each of a list, where an object in it has one as its member `handle`.
+/// Appends a handle, or the handles of a list. An item of a list is a handle, or an object that has one as its member
+/// `handle`.
 fn push_values(handles: &mut Vec<HandleValue>, value: &Value<'_>) -> Result<(), AllocError> {
     let Value::Array(list) = value else {
         return push_value(handles, value);
@@ -83,7 +85,7 @@ fn push_values(handles: &mut Vec<HandleValue>, value: &Value<'_>) -> Result<(), 
     Ok(())
 }
 
-/// The handle that a value is, if it is one. 0 is none.
+/// Appends the handle that a value is, unless it is 0 or no handle.
 fn push_value(handles: &mut Vec<HandleValue>, value: &Value<'_>) -> Result<(), AllocError> {
     match narrow_in(value) {
         Some(number) if number != 0 => {

@@ -1,4 +1,4 @@
-//! When calls of a log began and returned.
+//! Reads when the calls of a log began and returned.
 
 use crate::members::Members;
 use crate::numbers::number_in;
@@ -6,7 +6,7 @@ use crate::places::Member;
 use json::Value;
 use std::num::{nearest_u64_to_f64, saturating_f64_to_u64};
 
-/// A time on the clock of a log: whole units, and the rest in parts of 10 to the power of 9 of one.
+/// A time on the clock of a log: whole units, and billionths of a unit.
 #[derive(Clone, Copy, Debug, PartialEq, Eq)]
 pub struct LogTime {
     pub whole: u64,
@@ -16,12 +16,12 @@ pub struct LogTime {
 /// When a call began and returned, as far as its line tells.
 #[derive(Clone, Copy, Debug, PartialEq, Eq)]
 pub struct CallTimes {
-    /// On the clock of `ended`, or a line's number where that is not told.
+    /// On the clock of `ended`, or the number of a line if `ended` is not told.
     pub began: Option<LogTime>,
     pub ended: Option<LogTime>,
 }
 
-/// When the call of a line began and returned. A time of another form is as one that is left out.
+/// When the call of a line began and returned. A time of another form counts as left out.
 pub(crate) fn times_of(line: &Members<'_, '_>) -> CallTimes {
     CallTimes {
         began: time_at(line, Member::Began),
@@ -40,10 +40,10 @@ fn time_at(line: &Members<'_, '_>, name: Member) -> Option<LogTime> {
     }
 }
 
-/// The parts of a unit that are counted.
+/// How many parts a unit has.
 const PARTS: f64 = 1_000_000_000.0;
 
-/// A time with a fraction.
+/// The time of a JSON number with a fraction. None if it is negative or not finite.
 fn broken_time(time: f64) -> Option<LogTime> {
     if !(time >= 0.0 && time.is_finite()) {
         return None;
@@ -53,7 +53,7 @@ fn broken_time(time: f64) -> Option<LogTime> {
     Some(LogTime { whole, part })
 }
 
-/// A time that a text writes: decimals, a point and decimals.
+/// The time that a text writes: decimal digits, a point and decimal digits.
 fn time_of(text: &str) -> Option<LogTime> {
     let (whole, part) = text.split_once(".")?;
     let whole = u64::from_str_radix(whole, 10).ok()?;
@@ -61,7 +61,7 @@ fn time_of(text: &str) -> Option<LogTime> {
     Some(LogTime { whole, part })
 }
 
-/// What decimals behind a point are in parts of 10 to the power of 9. More than nine of them are not looked at.
+/// The digits behind a point, as billionths of a unit. Digits behind the ninth are ignored.
 fn part_of(digits: &[u8]) -> Option<u64> {
     if digits.is_empty() || !digits.iter().all(|digit| digit.is_ascii_digit()) {
         return None;

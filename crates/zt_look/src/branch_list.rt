@@ -1,3 +1,5 @@
+//! Lists the branches of a history, and where they leave one another.
+
 ghost use Rattle.std.specs.Prelude.{◌≡◌, ◌+◌, ◌<◌, take, length, get_or, None, IfOk};
 ghost use Rattle.std.specs.Option.{option_map};
 ghost use Rattle.zt_history.specs.Tree.{head_at};
@@ -9,8 +11,8 @@ use std::alloc::{AllocError, Global};
 use zt_history::{BranchId, History};
 use zt_rows::Moment;
 
-/// A branch: its number, its head, and where it leaves the branches before it, which is the last moment that leads to its
-/// head and to that of an earlier one, with the first such branch. Nothing for the first branch, which leaves none.
+/// A branch: its number, its head, and where it leaves the branches before it. This is the last moment that leads to
+/// its head and to that of an earlier branch, with the first such branch. The first branch leaves none.
 #[derive(Clone, Copy)]
 pub struct BranchLook {
     pub id: BranchId,
@@ -18,8 +20,8 @@ pub struct BranchLook {
     pub leaves: Option<(BranchId, Moment)>,
 }
 
-/// The branches of a history in their order. It goes from each head up to the first moment that an earlier branch has, so
-/// that it meets each moment once, and takes memory for a mark on each.
+/// The branches of a history in their order. Goes from each head up to the first moment that an earlier branch has, so
+/// that it meets each moment once. Allocates a mark for each moment.
 pub fn branches(alloc: Global, history: &History) -> Result<Vec<BranchLook>, AllocError>
     ensures { IfOk result (λ list. list.items ≡ branches_of history.now.tree) }
 {
@@ -38,7 +40,8 @@ pub fn branches(alloc: Global, history: &History) -> Result<Vec<BranchLook>, All
     Ok(list)
 }
 
-/// Marks the moments from the head of a branch up to the first that an earlier one marked, and tells that one.
+/// Marks the moments from the head of a branch up to the first one that an earlier branch marked. Returns that moment
+/// with its mark.
 fn mark_line(
     marks: &mut Vec<Option<BranchId>>,
     history: &History,
@@ -60,7 +63,7 @@ fn mark_line(
     meet(marks, moment, id)
 }
 
-/// Tells the mark of a moment; where it has none, it is marked with this branch.
+/// Returns the mark of a moment. If it has none, marks it with this branch.
 fn meet(
     marks: &mut Vec<Option<BranchId>>,
     moment: Moment,

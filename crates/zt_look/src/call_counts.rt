@@ -1,3 +1,5 @@
+//! Counts how the calls of each process were answered.
+
 ghost use Rattle.std.specs.Prelude.{◌≡◌, ◌+◌, ◌++◌, ◌∷◌, [], ℕ, List, if◌then◌else◌, map, Some, IfOk, OnOk};
 ghost use Rattle.std.specs.BTreeMap.{get, IsOrdered};
 ghost use Rattle.std.specs.Option.{unwrap_or};
@@ -21,8 +23,8 @@ pub struct CallCount {
     pub count: u64,
 }
 
-/// How often the calls of these moments were answered with which status, by rising process, then in the order of the
-/// statuses. It looks at each call once, and moves no store.
+/// How often the calls of these moments were answered with each status, by rising process, and then in the order of the
+/// statuses. Looks at each call once, and moves no store.
 pub(crate) fn call_counts(
     alloc: Global,
     history: &History,
@@ -69,7 +71,7 @@ fn count_call(
     }
 }
 
-/// Counts one answer more.
+/// Counts one more answer.
 fn count_one(
     counts: &mut BTreeMap<(u64, u8), u64>,
     process: Koid,
@@ -91,7 +93,7 @@ fn count_one(
     Ok(())
 }
 
-/// The counts one behind another.
+/// The counts, in their order.
 fn listed(alloc: Global, counts: BTreeMap<(u64, u8), u64>) -> Result<Vec<CallCount>, AllocError>
     ensures { IfOk result (λ list. list.items ≡ map count_told counts.entries) }
 {
@@ -107,7 +109,7 @@ fn listed(alloc: Global, counts: BTreeMap<(u64, u8), u64>) -> Result<Vec<CallCou
     Ok(list)
 }
 
-/// The status of this place; of a later one the last.
+/// The status of this place. For any later place, it is the last status.
 fn status_at(number: u8) -> Status
     ensures { result ≡ status_at number }
 {

@@ -1,3 +1,5 @@
+//! Lists the calls of a path that a filter asks for.
+
 ghost use Rattle.std.specs.Prelude.{◌≡◌, ◌⊎◌, ◌++◌, ◌∷◌, [], map, if◌then◌else◌, None, Ok, IfOk, IfErr, OnOk, OnErr};
 ghost use Rattle.std.specs.List.{list_any};
 ghost use Rattle.zt_history.specs.HistoryRefusals.{IsHistoryRefusal, moment_on};
@@ -16,7 +18,7 @@ use zt_history::History;
 use zt_rows::{Call, Koid, Moment, Refusal, Reply, Row, RowKey};
 use zt_store::{Record, Store};
 
-/// A call that was made: at which moment, by which process, and what it answered.
+/// A call that was made: its moment, its process, the call and its reply.
 #[derive(Drop)]
 pub struct CallMade {
     pub moment: Moment,
@@ -25,8 +27,9 @@ pub struct CallMade {
     pub reply: Reply,
 }
 
-/// Which calls are asked for: those of the moments from the first to the last, and of these, where it is asked, those alone
-/// that failed, that a process made, or that changed a row of an object or of a handle that names it.
+/// Which calls are asked for. These are the calls of the moments from the first to the last. They can be limited to
+/// calls that failed, and to those of a process. They can also be limited to calls that changed a row of an object, or
+/// of a handle that names it.
 #[derive(Clone, Copy)]
 pub struct CallFilter {
     pub first: Moment,
@@ -36,9 +39,12 @@ pub struct CallFilter {
     pub object: Option<Koid>,
 }
 
-/// The calls on the path to a moment that are asked for, in the path's order. Where those are asked for that changed rows of an
-/// object, the history goes over the moments from the first that is asked for to the last, at the cost of their records, and then to
-/// the moment, also where memory is refused on the way; else it stays where it stands.
+/// The calls on the path to `at` that are asked for, in the order of the path.
+///
+/// If an object is asked for, the history goes over the moments that are asked for, at the cost of their records. Then
+/// it goes to `at`, also after an allocation failure on the way. Otherwise the history stays where it stands.
+///
+/// Errors: `NoMoment` if `at` is beyond the last moment, `OutOfMemory` if an allocation fails.
 pub fn calls(
     alloc: Global,
     history: &mut History,
@@ -60,7 +66,7 @@ pub fn calls(
     Ok(list)
 }
 
-/// The calls on a path that are asked for, where no object is.
+/// The calls on a path that are asked for, if no object is asked for.
 fn calls_standing(
     alloc: Global,
     history: &History,
@@ -77,7 +83,7 @@ fn calls_standing(
     Ok(list)
 }
 
-/// Puts the call of a moment behind the others, where it is asked for, if no object is.
+/// Appends the call of a moment, if it is asked for and no object is asked for.
 fn push_within(
     list: &mut Vec<CallMade>,
     history: &History,
@@ -94,7 +100,8 @@ fn push_within(
     }
 }
 
-/// The calls on a path that are asked for; the history goes along it to its end, whether or not there is memory for all.
+/// The calls on a path that are asked for. The history goes along the path to its end, also after an allocation
+/// failure.
 fn calls_along(
     alloc: Global,
     history: &mut History,
@@ -110,7 +117,7 @@ fn calls_along(
     list
 }
 
-/// The calls on a path that are asked for; the history goes to the moments that are.
+/// The calls on a path that are asked for. The history goes to the moments that are asked for.
 fn calls_over(
     alloc: Global,
     history: &mut History,
@@ -129,8 +136,8 @@ fn calls_over(
     Ok(list)
 }
 
-/// Puts the call of the last moment of a path behind the others, where it is asked for. The history goes there if the moment is
-/// among those that are asked for.
+/// Appends the call of the last moment of a path, if it is asked for. The history goes there if the moment is among
+/// those that are asked for.
 fn push_last(
     list: &mut Vec<CallMade>,
     history: &mut History,
@@ -151,7 +158,7 @@ fn push_last(
     }
 }
 
-/// Puts the call of a moment behind the others, where it is asked for. The history stands there, if an object is asked for.
+/// Appends the call of a moment, if it is asked for. If an object is asked for, the history has to stand at the moment.
 fn push_asked(
     list: &mut Vec<CallMade>,
     history: &History,
@@ -170,7 +177,7 @@ fn push_asked(
     }
 }
 
-/// Puts this call of the process at a moment, with this reply, behind the others, where it is asked for.
+/// Appends this call of the process at a moment, with this reply, if it is asked for.
 fn push_if_asked(
     list: &mut Vec<CallMade>,
     history: &History,
@@ -192,7 +199,7 @@ fn push_if_asked(
     }
 }
 
-/// Puts an equal call of the process, with an equal reply, behind the others.
+/// Appends a copy of the call of the process, with a copy of its reply.
 fn push_copy(
     list: &mut Vec<CallMade>,
     moment: Moment,
@@ -212,7 +219,7 @@ fn push_copy(
     Ok(())
 }
 
-/// Whether the call of a moment, which this process made and which was answered so, is asked for.
+/// Whether the call of a moment is asked for, with this process and this reply.
 fn is_asked(
     history: &History,
     asked: &CallFilter,
@@ -236,7 +243,7 @@ fn is_within(asked: &CallFilter, moment: Moment) -> bool
     asked.first <= moment && moment <= asked.last
 }
 
-/// Whether the status is not ok.
+/// Whether the status of the reply is not ok.
 fn is_failed(reply: &Reply) -> bool
     ensures { result ≡ is_failed reply.now }
 {
@@ -247,7 +254,7 @@ fn is_failed(reply: &Reply) -> bool
     }
 }
 
-/// Whether the process is the one that is asked for, if one is.
+/// Whether the process is the one that is asked for. If none is asked for, every process is.
 fn is_by(asked: Option<Koid>, process: Koid) -> bool
     ensures { result ≡ is_by asked process }
 {
@@ -257,7 +264,8 @@ fn is_by(asked: Option<Koid>, process: Koid) -> bool
     }
 }
 
-/// Whether the call of a moment changed a row of the object that is asked for or of a handle that names it, if one is.
+/// Whether the call of a moment changed a row of the object that is asked for, or of a handle that names it. If no
+/// object is asked for, every call passes.
 fn is_about(asked: &CallFilter, history: &History, moment: Moment) -> bool
     requires { StandsFor asked.now history.now.position moment }
     ensures { result ≡ is_about asked.now.object history.now.tree.made moment }
@@ -279,7 +287,8 @@ fn is_touched(history: &History, koid: Koid) -> bool
     }
 }
 
-/// Whether a row under a key of the record, in it or in the store, is the object's or that of a handle that names it.
+/// Whether a row under a key of the record, before or after the call, is the object's or that of a handle that names
+/// it.
 fn any_touches(kept: &Record, store: &Store, koid: Koid) -> bool
     ensures { result ≡ list_any (touches koid) (map (change_under kept.now store.now.state) (map (λ e. e.0) kept.now)) }
 {
@@ -291,7 +300,7 @@ fn any_touches(kept: &Record, store: &Store, koid: Koid) -> bool
     false
 }
 
-/// The same of the row under one key.
+/// Whether the row under the key, before or after the call, is the object's or that of a handle that names it.
 fn touches(kept: &Record, store: &Store, key: &RowKey, koid: Koid) -> bool
     ensures { result ≡ touches koid (change_under kept.now store.now.state key.now) }
 {
@@ -312,7 +321,7 @@ fn names_after(store: &Store, key: &RowKey, koid: Koid) -> bool
     Row::names(store.row(*key), koid)
 }
 
-/// Whether the key is that of the object or of what it owns.
+/// Whether the key is that of the object, or of a row that it owns.
 fn is_of(koid: Koid, key: &RowKey) -> bool
     ensures { result ≡ is_of koid key.now }
 {

@@ -1,3 +1,5 @@
+//! Lists the rows that the call of a moment changed.
+
 ghost use Rattle.std.specs.Prelude.{◌≡◌, ◌++◌, ◌∷◌, [], map, Ok, IfOk, IfErr, OnOk, OnErr};
 ghost use Rattle.std.specs.Option.{option_copied};
 ghost use Rattle.zt_history.specs.HistoryRefusals.{IsHistoryRefusal, moment_on};
@@ -11,7 +13,7 @@ use zt_history::History;
 use zt_rows::{Moment, Refusal, Row, RowKey};
 use zt_store::{Record, Store};
 
-/// A row that a call changed: what stood under the key before the call, and what stands there after it.
+/// A row that a call changed: the row under the key before the call, and the row there after it.
 #[derive(Drop)]
 pub struct Change {
     pub key: RowKey,
@@ -19,8 +21,11 @@ pub struct Change {
     pub after: Option<Row>,
 }
 
-/// The rows that the call of a moment changed, in the order of their keys, the counters first; none at the opening. The
-/// history goes to the moment, at the cost of the records on the way; refused, it stands there or where it stood.
+/// The rows that the call of a moment changed, in the order of their keys, the counters first. There are none at the
+/// opening.
+///
+/// The history goes to the moment, at the cost of the records on the way. Errors: `NoMoment` beyond the last moment,
+/// `OutOfMemory` if an allocation fails. The history then stands at the moment or where it stood.
 pub fn changed(alloc: Global, history: &mut History, moment: Moment) -> Result<Vec<Change>, Refusal>
     ensures ok { IfOk result (λ list. changed_on history.old.tree moment ≡ Ok list.items) }
     ensures refused { IfErr result (IsHistoryRefusal (changed_on history.old.tree moment)) }
@@ -45,7 +50,7 @@ fn changed_here(alloc: Global, history: &History) -> Result<Vec<Change>, AllocEr
     }
 }
 
-/// What stands under the keys of the record, in it and in the store.
+/// The rows under the keys of the record, as they are in the record and in the store.
 fn changes_by(alloc: Global, kept: &Record, store: &Store) -> Result<Vec<Change>, AllocError>
     ensures { IfOk result (λ list. list.items ≡ map (change_under kept.now store.now.state) (map (λ e. e.0) kept.now)) }
 {
@@ -56,7 +61,7 @@ fn changes_by(alloc: Global, kept: &Record, store: &Store) -> Result<Vec<Change>
     Ok(list)
 }
 
-/// Puts what stands under a key, in the record and in the store, behind the others.
+/// Appends the rows under a key, as they are in the record and in the store.
 fn push_change(
     list: &mut Vec<Change>,
     kept: &Record,
@@ -76,7 +81,8 @@ fn push_change(
     Ok(())
 }
 
-/// The row that stood under the key before a call, where this is the row after it: what the record has, or else the same.
+/// The row under the key before a call, if `after` is the row after it: the record's row if the record has the key,
+/// otherwise `after`.
 pub(crate) fn row_before<'a>(
     kept: &'a Record,
     key: RowKey,
@@ -90,7 +96,7 @@ pub(crate) fn row_before<'a>(
     }
 }
 
-/// An equal row in memory of its own, if there is one.
+/// A copy of the row in memory of its own, if there is a row.
 fn copied(row: Option<&Row>) -> Result<Option<Row>, AllocError>
     ensures { IfOk result (λ copied. copied ≡ option_copied row.entry) }
 {

@@ -1,3 +1,5 @@
+//! Lists what happened to objects in the calls of a path.
+
 ghost use Rattle.std.specs.Prelude.{◌≡◌, ◌⊎◌, ◌++◌, ◌∷◌, [], ◌||◌, ◌<◌, ◌≤◌, nat_le, nat_lt, position, ℕ, true, length, map, drop, Ok, IfOk, IfErr, IfSome, OnOk, OnErr};
 ghost use Rattle.std.specs.BTreeSet.{contains, IsOrdered};
 ghost use Rattle.std.specs.List.{flat_map, list_any, position_or_len};
@@ -21,8 +23,8 @@ use zt_history::History;
 use zt_rows::{Happening, Koid, Life, Moment, ObjectRow, Refusal, Row, RowKey};
 use zt_store::{Record, Store};
 
-/// Something that happened to an object in the call of a moment. The kind is the object's after the call, or before it where
-/// the object is gone then.
+/// Something that happened to an object in the call of a moment. `kind` is the object's kind after the call, or before
+/// it if the object is gone then.
 #[derive(Clone, Copy)]
 pub struct ObjectEvent {
     pub moment: Moment,
@@ -40,7 +42,7 @@ pub struct HappeningSet {
     pub leaked: bool,
 }
 
-/// Which events are asked for: those of the moments from the first to the last, and of these the ones of these happenings.
+/// Which events are asked for: those of the moments from the first to the last that are of these happenings.
 #[derive(Clone, Copy)]
 pub struct EventFilter {
     pub first: Moment,
@@ -48,7 +50,7 @@ pub struct EventFilter {
     pub happenings: HappeningSet,
 }
 
-/// What a moment's call did to an object: its rows before and after the call, and whether the call leaked it.
+/// A change of an object by a moment's call: its rows before and after the call, and whether the call leaked it.
 #[derive(Clone, Copy)]
 struct ObjectChange {
     moment: Moment,
@@ -58,10 +60,13 @@ struct ObjectChange {
     leaked: bool,
 }
 
-/// What happened to objects in the calls on the path to a moment, as far as it is asked for: moment by moment, in each by
-/// rising koid, and to one object in the order in which `HappeningSet` lists it. The history goes back along the path and then
-/// to the moment, also where memory is refused on the way, at the cost of its records; where leaks are asked for, at that of their
-/// search too.
+/// The events on the path to `at` that are asked for. They are in the order of the moments, and at one moment by rising
+/// koid. The events of one object at one moment are in the order of the fields of `HappeningSet`.
+///
+/// The history goes back along the path and then to `at`, at the cost of the path's records. It does so also after an
+/// allocation failure on the way. If leaks are asked for, their search comes to the cost.
+///
+/// Errors: `NoMoment` if `at` is beyond the last moment, `OutOfMemory` if an allocation fails.
 pub fn events(
     alloc: Global,
     history: &mut History,
@@ -81,8 +86,10 @@ pub fn events(
     Ok(list)
 }
 
-/// The same of those of its moments that are asked for. The history goes to the last of them and back over them, at the cost of
-/// their records, and then to that last one again; where leaks are asked for, at that of their search there too.
+/// The events on the path to `at` at the moments that are asked for, in the order of `events`.
+///
+/// The history goes to the last of these moments, back over them, and to the last one again, at the cost of their
+/// records. If leaks are asked for, their search there comes to the cost. Errors are those of `events`.
 pub fn events_between(
     alloc: Global,
     history: &mut History,
@@ -117,7 +124,7 @@ fn up_to(way: &[Moment], last: Moment) -> &[Moment]
     }
 }
 
-/// The place of the first moment of a path that is this one or a later one; its length where there is none.
+/// The place of the first moment of a path that is `first` or a later one, or the path's length if there is none.
 #[tactic(auto, using(crate::proofs::EventLaws::place_none))]
 fn place_from(way: &[Moment], first: Moment) -> usize
     ensures place { result ≡ position_or_len (λ moment. nat_le first moment) way.now }
@@ -145,8 +152,8 @@ fn first_from(way: &[Moment], first: Moment) -> Option<usize>
     way.iter().position(|moment| *moment >= first)
 }
 
-/// The events on a path from this place of it on; the history goes back along it, and then to its end, whether or not there is
-/// memory for all.
+/// The events on a path from this place of it on. The history goes back along the path and then to its end, also after
+/// an allocation failure.
 fn events_along(
     alloc: Global,
     history: &mut History,
@@ -164,7 +171,7 @@ fn events_along(
     list
 }
 
-/// The events on a path from this place of it on; the history goes to its end, and back along it.
+/// The events on a path from this place of it on. The history goes to the path's end, and back along it.
 fn events_back(
     alloc: Global,
     history: &mut History,
@@ -190,8 +197,8 @@ fn events_back(
     Ok(list)
 }
 
-/// Puts the events of the moment's call behind the others, the last first, and takes the set of what is not leaked back to the
-/// moment's parent, at which the history stands. The set is there where leaks are asked for.
+/// Appends the events of the moment's call, the last first. Takes the set of unleaked objects back to the moment's
+/// parent, at which the history stands. The set is there only if leaks are asked for.
 fn push_moment(
     alloc: Global,
     list: &mut Vec<ObjectEvent>,
@@ -214,7 +221,7 @@ fn push_moment(
     Ok(())
 }
 
-/// What is not leaked at the position, where leaks are asked for.
+/// The objects that are not leaked at the position, if leaks are asked for.
 fn unleaked_if(
     alloc: Global,
     history: &History,
@@ -229,7 +236,7 @@ fn unleaked_if(
     }
 }
 
-/// What the moment's call leaked, where leaks are asked for; the set goes back to the moment's parent.
+/// The objects that the moment's call leaked, if leaks are asked for. The set goes back to the moment's parent.
 fn leaked_by(
     alloc: Global,
     set: &mut BTreeSet<u64>,
@@ -251,7 +258,7 @@ fn leaked_by(
     }
 }
 
-/// The events of the moment's call, where the history stands at the moment's parent, and these are what the call leaked.
+/// The events of the moment's call. The history stands at the moment's parent, and `leaked` has what the call leaked.
 fn events_at(
     alloc: Global,
     history: &History,
@@ -275,7 +282,7 @@ fn events_at(
     }
 }
 
-/// The koids of what was leaked, and of the objects that have a row in the record.
+/// The koids of the leaked objects, and of the objects that have a row in the record.
 fn koids_of(kept: &Record, leaked: &BTreeSet<u64>) -> Result<BTreeSet<u64>, AllocError>
     ensures has { IfOk result (λ koids. (x : ℕ) → contains nat_cmp koids x
         ≡ (contains nat_cmp leaked.now x || list_any (is_object x) (map (λ e. e.0) kept.now))) }
@@ -289,7 +296,7 @@ fn koids_of(kept: &Record, leaked: &BTreeSet<u64>) -> Result<BTreeSet<u64>, Allo
     Ok(koids)
 }
 
-/// Adds the koid of the key, where it is that of an object.
+/// Adds the koid of the key, if it is that of an object.
 fn add_object(koids: &mut BTreeSet<u64>, key: &RowKey) -> Result<(), AllocError>
     ensures { OnOk result ((x : ℕ) → contains nat_cmp koids.new x ≡ (contains nat_cmp koids.old x || is_object x key.now)) }
 {
@@ -302,7 +309,7 @@ fn add_object(koids: &mut BTreeSet<u64>, key: &RowKey) -> Result<(), AllocError>
     }
 }
 
-/// The events of these objects in the moment's call, by its record and the store before it.
+/// The events of these objects in the moment's call, from the call's record and the store before it.
 fn events_among(
     alloc: Global,
     kept: &Record,
@@ -324,7 +331,7 @@ fn events_among(
     Ok(here)
 }
 
-/// What the moment's call did to the object, by its record and the store before it.
+/// The change of the object by the moment's call, from the call's record and the store before it.
 fn change_over(
     kept: &Record,
     store: &Store,
@@ -353,7 +360,7 @@ fn object_over(kept: &Record, store: &Store, koid: Koid) -> Option<ObjectRow>
     }
 }
 
-/// Puts what happened to the object behind the others, as far as it is asked for.
+/// Appends the events of the object that are asked for.
 fn push_events(
     list: &mut Vec<ObjectEvent>,
     asked: &HappeningSet,
@@ -367,7 +374,7 @@ fn push_events(
     push_event(list, asked, change, Happening::Leaked)
 }
 
-/// Puts the event behind the others, where it happened so and is asked for.
+/// Appends the event, if it happened and is asked for.
 fn push_event(
     list: &mut Vec<ObjectEvent>,
     asked: &HappeningSet,
@@ -394,7 +401,7 @@ fn push_event(
     }
 }
 
-/// Whether it is asked for.
+/// Whether the happening is asked for.
 fn is_asked(asked: &HappeningSet, what: Happening) -> bool
     ensures { result ≡ is_asked asked.now what }
 {
@@ -406,7 +413,7 @@ fn is_asked(asked: &HappeningSet, what: Happening) -> bool
     }
 }
 
-/// Whether it happened so.
+/// Whether the change shows the happening.
 fn shows(what: Happening, change: &ObjectChange) -> bool
     ensures { result ≡ shows what change.now }
 {
@@ -418,7 +425,7 @@ fn shows(what: Happening, change: &ObjectChange) -> bool
     }
 }
 
-/// The kind after the call, or before it where the object is gone.
+/// The kind after the call, or before it if the object is gone.
 fn kind_shown(change: &ObjectChange) -> Option<Kind>
     ensures { result ≡ kind_shown change.now }
 {
@@ -441,7 +448,7 @@ fn is_living(object: &Option<ObjectRow>) -> bool
     }
 }
 
-/// Whether there is an endpoint with the signal that its peer is closed.
+/// Whether there is an endpoint on which the signal stands that its peer is closed.
 fn is_alone(object: &Option<ObjectRow>) -> bool
     ensures { result ≡ on_object is_cut_off object.now }
 {
@@ -451,7 +458,7 @@ fn is_alone(object: &Option<ObjectRow>) -> bool
     }
 }
 
-/// Whether it is an endpoint with the signal that its peer is closed.
+/// Whether the object is an endpoint on which the signal stands that its peer is closed.
 fn is_cut_off(object: &ObjectRow) -> bool
     ensures { result ≡ is_cut_off object.now }
 {

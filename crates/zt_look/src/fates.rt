@@ -1,3 +1,5 @@
+//! Tells the fate of each object of a path, from the path's events.
+
 ghost use Rattle.std.specs.Prelude.{◌≡◌, ◌<◌, ◌≤◌, ◌++◌, ℕ, [], length, if◌then◌else◌, ◌==◌, is_some, slice_index_or, IfOk, OnOk};
 ghost use Rattle.std.specs.List.{cons_option};
 ghost use Rattle.std.specs.Option.{unwrap_or};
@@ -15,7 +17,7 @@ use zt_history::History;
 use zt_rows::{Happening, Koid, Life, Moment, ObjectRow};
 use zt_store::Store;
 
-/// What became of an object: it lives, it is leaked, or it has ended or is gone.
+/// The fate of an object: it lives, it is leaked, or it has ended or is gone.
 #[derive(Clone, Copy)]
 pub enum Fate {
     Alive,
@@ -23,7 +25,8 @@ pub enum Fate {
     Dead,
 }
 
-/// What became of an object by the end of a path, and since which moment; 0 where it was so at the opening.
+/// The fate of an object at the end of a path, and the moment since which it holds. That is 0 if it held at the
+/// opening.
 #[derive(Clone, Copy)]
 pub struct ObjectFate {
     pub koid: Koid,
@@ -32,7 +35,7 @@ pub struct ObjectFate {
     pub since: Moment,
 }
 
-/// What the events of a path tell of an object.
+/// The kind and the moments that the events of a path tell of an object.
 #[derive(Clone, Copy)]
 struct FateTimes {
     kind: Option<Kind>,
@@ -41,7 +44,7 @@ struct FateTimes {
     leaked: Option<Moment>,
 }
 
-/// What is told where there are no events.
+/// No kind and no moments, since there are no events.
 const NO_FATE_TIMES: FateTimes = FateTimes {
     kind: None,
     made: None,
@@ -49,11 +52,11 @@ const NO_FATE_TIMES: FateTimes = FateTimes {
     leaked: None,
 };
 
-/// The most koids that are told of.
+/// The limit of koids: all koids that are told of are below it.
 const MOST_KOIDS: u64 = 1 << 48;
 
-/// What became of each object that was there at some moment of the path to the position, by rising koid, where these are
-/// the events of that path. Each event and each koid costs one look.
+/// The fate of each object that was there at some moment of the path to the position, by rising koid. `events` has to
+/// be the events of that path. Each event and each koid costs one look.
 pub(crate) fn fates(
     alloc: Global,
     history: &History,
@@ -69,7 +72,7 @@ pub(crate) fn fates(
     Ok(list)
 }
 
-/// What the events tell of each object, by koid.
+/// The times that the events tell of each object, by koid.
 fn fate_times_of(alloc: Global, events: &[ObjectEvent]) -> Result<Vec<FateTimes>, AllocError>
     ensures { IfOk result (λ all_times. AreFateTimes events.now all_times.items) }
 {
@@ -80,7 +83,7 @@ fn fate_times_of(alloc: Global, events: &[ObjectEvent]) -> Result<Vec<FateTimes>
     Ok(all_times)
 }
 
-/// Adds what an event tells of its object.
+/// Adds the moment that an event tells of its object.
 fn add_event(all_times: &mut Vec<FateTimes>, event: &ObjectEvent) -> Result<(), AllocError>
     ensures { OnOk result ((x : ℕ) → slice_index_or all_times.new.items x no_fate_times
         ≡ (if event.now.koid == x then turned event.now (slice_index_or all_times.old.items x no_fate_times) else slice_index_or all_times.old.items x no_fate_times)) }
@@ -92,7 +95,7 @@ fn add_event(all_times: &mut Vec<FateTimes>, event: &ObjectEvent) -> Result<(), 
     Ok(())
 }
 
-/// Makes a place for the koid. Koids from 2^48 on are refused.
+/// Makes a place for the koid. A koid from 2^48 on counts as an allocation failure.
 fn grow_to(all_times: &mut Vec<FateTimes>, koid: Koid) -> Result<(), AllocError>
     ensures same { (x : ℕ) → slice_index_or all_times.new.items x no_fate_times ≡ slice_index_or all_times.old.items x no_fate_times }
     ensures made { OnOk result (koid < length all_times.new.items) }
@@ -106,7 +109,7 @@ fn grow_to(all_times: &mut Vec<FateTimes>, koid: Koid) -> Result<(), AllocError>
     all_times.resize(koid.0 as usize + 1, NO_FATE_TIMES)
 }
 
-/// What is told with the event.
+/// The times with those that the event tells.
 fn turned(event: &ObjectEvent, times: FateTimes) -> FateTimes
     ensures { result ≡ turned event.now times }
 {
@@ -132,7 +135,8 @@ fn turned(event: &ObjectEvent, times: FateTimes) -> FateTimes
     }
 }
 
-/// What became of each object of the store, and of each of which events tell. The numbers that no object has are passed over.
+/// The fate of each object of the store, and of each object of which events tell. Skips koids that no object has or
+/// had.
 fn listed(
     alloc: Global,
     store: &Store,
@@ -149,7 +153,7 @@ fn listed(
     Ok(list)
 }
 
-/// Puts what became of the object behind the others, where there is or was one.
+/// Appends the fate of the object, if there is or was one.
 fn push_fate(
     list: &mut Vec<ObjectFate>,
     store: &Store,
@@ -168,7 +172,7 @@ fn push_fate(
     }
 }
 
-/// What is told of the koid.
+/// The times that the events tell of the koid.
 fn times_at(all_times: &[FateTimes], koid: Koid) -> FateTimes
     ensures { result ≡ slice_index_or all_times.now koid no_fate_times }
 {
@@ -178,7 +182,7 @@ fn times_at(all_times: &[FateTimes], koid: Koid) -> FateTimes
     }
 }
 
-/// What became of the object by its row, if it is there, and by what the events tell of it.
+/// The fate of the object, from its row, if it is there, and from the times that the events tell.
 fn fate_shown(koid: Koid, object: Option<ObjectRow>, times: &FateTimes) -> Option<ObjectFate>
     ensures { result ≡ fate_shown koid object times.now }
 {
@@ -210,7 +214,7 @@ fn fate_shown(koid: Koid, object: Option<ObjectRow>, times: &FateTimes) -> Optio
     }
 }
 
-/// What became of an object that is leaked or not, and lives or not.
+/// The fate of an object that is leaked or not, and lives or not.
 fn fate_by(leaked: bool, lives: bool) -> Fate
     ensures { result ≡ fate_by leaked lives }
 {
@@ -223,7 +227,7 @@ fn fate_by(leaked: bool, lives: bool) -> Fate
     }
 }
 
-/// The moment since which it is so; 0 where no event tells.
+/// The moment since which the fate holds, or 0 if no event tells.
 fn since(fate: Fate, times: &FateTimes) -> Moment
     ensures { result ≡ unwrap_or (moment_in fate times.now) 0 }
 {

@@ -1,3 +1,5 @@
+//! Lists the handles of a process.
+
 ghost use Rattle.std.specs.Prelude.{◌≡◌, ◌++◌, true, Some, IfOk, IfErr, OnOk};
 ghost use Rattle.zt_rows.specs.declared.refusals.Refusal.TheVariants as refusal;
 ghost use Rattle.zt_rows.specs.Reads.{runs};
@@ -14,7 +16,7 @@ use zt_history::History;
 use zt_rows::{HandleValue, Held, Koid, Refusal};
 use zt_store::Store;
 
-/// A handle of a process: its value, the object that it names, and what it allows with it.
+/// A handle of a process: its value, the object that it names, and its rights.
 #[derive(Clone, Copy)]
 pub struct Handle {
     pub value: HandleValue,
@@ -23,8 +25,8 @@ pub struct Handle {
     pub rights: Rights,
 }
 
-/// The handles of a process at a history's position, by rising value. It looks at the places of this process alone.
-/// Refused where the process does not run there.
+/// The handles of a process at a history's position, by rising handle value. Looks at the table of this process alone.
+/// Errors: `NoProcess` if the process is not live there, `OutOfMemory` if an allocation fails.
 pub fn handles_at(alloc: Global, history: &History, process: Koid) -> Result<Vec<Handle>, Refusal>
     ensures ok { IfOk result (λ list. AreHandles (state_at history.now.tree.made history.now.position) process list.items) }
     ensures running { OnOk result (runs (state_at history.now.tree.made history.now.position) process ≡ true) }
@@ -50,7 +52,7 @@ fn runs(store: &Store, process: Koid) -> bool
     }
 }
 
-/// The handles of a process, by rising value.
+/// The handles of a process, by rising handle value.
 fn handles_of(alloc: Global, store: &Store, process: Koid) -> Result<Vec<Handle>, AllocError>
     requires { NamesObjects store.now.state process }
     ensures { IfOk result (λ list. AreHandles store.now.state process list.items) }
@@ -64,7 +66,7 @@ fn handles_of(alloc: Global, store: &Store, process: Koid) -> Result<Vec<Handle>
     Ok(list)
 }
 
-/// Puts the handle of a value behind the others, where the process has one.
+/// Appends the handle of a value, if the process has one.
 fn push_handle(
     list: &mut Vec<Handle>,
     store: &Store,
@@ -83,7 +85,7 @@ fn push_handle(
     }
 }
 
-/// Puts what the value holds behind the others.
+/// Appends the handle of this value, which holds `held`.
 fn push_held(
     list: &mut Vec<Handle>,
     store: &Store,

@@ -1,6 +1,9 @@
-//! The questions that people ask of a trace: the calls of a path with their replies, what a call changed, what happened to
-//! objects, which handles a process has, what became of the messages of an endpoint, where branches leave one another, all that
-//! is told of one object, and a path in short; and the lines that show them.
+//! The questions that people ask of a trace, and the lines that show the answers.
+//!
+//! - The calls of a path with their replies, and the rows that a call changed.
+//! - What happened to objects, and everything that is known of one object.
+//! - The handles of a process, and the messages of an endpoint.
+//! - Where branches leave one another, and the summary of a path.
 #![tactic(auto)]
 
 mod branch_list;

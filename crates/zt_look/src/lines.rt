@@ -1,5 +1,6 @@
-//! The lines of the answers. Each function gives the text of one answer's line or lines, with rights and signals by their
-//! names, where these are asked for.
+//! The lines of the answers. Each function gives the text of one answer's line or lines. Rights and signals are shown
+//! by their names if names are asked for.
+
 ghost use Rattle.std.specs.Prelude.{◌≡◌, ◌++◌, ◌∷◌, IfOk, OnOk, string_bytes};
 ghost use Rattle.std.specs.Option.{option_map};
 ghost use Rattle.std.specs.Fmt.{decimal};
@@ -30,7 +31,7 @@ use zt_rows::{Call, Happening, Koid, Message, Moment, ObjectRow, Row, RowKey, Su
 use zt_store::Store;
 use zt_text::put_supports;
 
-/// A call of a path: its moment, the call, and what it answered.
+/// The line of a call of a path: its moment, the call, and its reply.
 pub fn print_call_made(
     alloc: Global,
     made: &CallMade,
@@ -47,7 +48,7 @@ pub fn print_call_made(
     Ok(text.into_bytes())
 }
 
-/// A row that a call changed: behind `-` as it was, behind `+` as it is.
+/// The lines of a row that a call changed: as it was behind `-`, and as it is behind `+`.
 pub fn print_change(alloc: Global, change: &Change, naming: Naming) -> Result<Vec<u8>, AllocError>
     ensures { IfOk result (λ text. text.items ≡ change_lines naming change.now) }
 {
@@ -57,7 +58,7 @@ pub fn print_change(alloc: Global, change: &Change, naming: Naming) -> Result<Ve
     Ok(text.into_bytes())
 }
 
-/// A row behind a mark, where there is one.
+/// Appends a row behind a mark, if there is a row.
 fn put_marked(
     text: &mut String,
     mark: &str,
@@ -76,7 +77,7 @@ fn put_marked(
     }
 }
 
-/// A handle of a process: its value, its object, and what it allows.
+/// The line of a handle of a process: its value, its object with the kind, and its rights.
 pub fn print_handle(alloc: Global, handle: &Handle, names: bool) -> Result<Vec<u8>, AllocError>
     ensures { IfOk result (λ text. text.items ≡ handle_line names handle.now) }
 {
@@ -93,7 +94,7 @@ pub fn print_handle(alloc: Global, handle: &Handle, names: bool) -> Result<Vec<u
     Ok(text.into_bytes())
 }
 
-/// What happened to an object, with the call of the moment.
+/// The line of an event: its moment, what happened, the object with its kind, and the call of the moment.
 pub fn print_event(
     alloc: Global,
     event: &ObjectEvent,
@@ -129,7 +130,7 @@ fn happening_word(what: Happening) -> &'static str
     }
 }
 
-/// When it happened to an object, with the call of the moment, or that it did not.
+/// The line that tells when something happened to an object, with the call of the moment, or that it never did.
 pub fn print_when(
     alloc: Global,
     what: Happening,
@@ -145,7 +146,7 @@ pub fn print_when(
     Ok(text.into_bytes())
 }
 
-/// A moment with its call, behind a space, or that there is none.
+/// Appends a moment with its call behind a space, or that there is none.
 fn put_found(
     text: &mut String,
     found: &Option<(Moment, Koid, &Call)>,
@@ -163,8 +164,8 @@ fn put_found(
     }
 }
 
-/// A message that was queued: what it is, the call that wrote it, with its process, and what became of it, with the call
-/// that did it.
+/// The lines of a message that was queued: its content, the call that wrote it, and what became of it. The last line
+/// also has the call that ended it, if `ended` has it.
 pub fn print_queued_message(
     alloc: Global,
     queued: &QueuedMessage,
@@ -183,7 +184,7 @@ pub fn print_queued_message(
     Ok(text.into_bytes())
 }
 
-/// The line of what a message carries.
+/// Appends the line of the content of a message.
 fn put_message(
     text: &mut String,
     number: u64,
@@ -197,7 +198,7 @@ fn put_message(
     text.push_str("\n")
 }
 
-/// The line of the call that wrote a message.
+/// Appends the line of the call that wrote a message.
 fn put_written(
     text: &mut String,
     queued: &QueuedMessage,
@@ -213,7 +214,7 @@ fn put_written(
     text.push_str("\n")
 }
 
-/// The line of what became of a message.
+/// Appends the line that tells what became of a message.
 fn put_end(
     text: &mut String,
     queued: &QueuedMessage,
@@ -233,7 +234,7 @@ fn put_end(
     }
 }
 
-/// A call behind a space, where one is told.
+/// Appends a call behind a space, if there is one.
 fn put_by(text: &mut String, by: &Option<(Koid, &Call)>, names: bool) -> Result<(), AllocError>
     ensures { OnOk result (string_bytes text.new ≡ string_bytes text.old ++ behind_spaces (call_words names (option_map (λ e. (e.0, e.1.now)) by.now))) }
 {
@@ -257,7 +258,8 @@ fn end_word(end: MessageEnd) -> &'static str
     }
 }
 
-/// A branch: its name and its head, and which branch it leaves at which moment. The names may be of any bytes.
+/// The line of a branch: its name and its head, and which branch it leaves at which moment. The names may be of any
+/// bytes.
 pub fn print_branch(
     alloc: Global,
     name: &[u8],
@@ -274,7 +276,7 @@ pub fn print_branch(
     Ok(text)
 }
 
-/// Which branch a branch leaves, and at which moment, behind a space, where it leaves one.
+/// If a branch leaves another one, appends which one and at which moment, behind a space.
 fn push_leaves(text: &mut Vec<u8>, leaves: &Option<(&[u8], Moment)>) -> Result<(), AllocError>
     ensures { OnOk result (text.new.items ≡ text.old.items ++ behind_spaces (leaves_words (option_map (λ e. (e.0.now, e.1)) leaves.now))) }
 {
@@ -288,7 +290,7 @@ fn push_leaves(text: &mut Vec<u8>, leaves: &Option<(&[u8], Moment)>) -> Result<(
     }
 }
 
-/// A moment behind a space.
+/// Appends a moment behind a space.
 fn push_moment(text: &mut Vec<u8>, moment: Moment) -> Result<(), AllocError>
     ensures { OnOk result (text.new.items ≡ text.old.items ++ (32 ∷ decimal moment)) }
 {
@@ -297,8 +299,8 @@ fn push_moment(text: &mut Vec<u8>, moment: Moment) -> Result<(), AllocError>
     text.extend_from_slice(number.as_bytes())
 }
 
-/// An object: its row, what keeps it, and the rows of its messages, packets and waits. The store tells of what kind the objects are
-/// whose signals the packets and waits have.
+/// The lines of an object: its row, what keeps it, and the rows of its messages, packets and waits. The store tells the
+/// kinds of the objects whose signals the packets and waits have.
 pub fn print_object(
     alloc: Global,
     object: &ObjectLook,
@@ -321,7 +323,7 @@ pub fn print_object(
     Ok(text.into_bytes())
 }
 
-/// The row of an object, or that it has none.
+/// Appends the row of an object, or that it is gone.
 fn put_object_line(
     text: &mut String,
     koid: Koid,
@@ -339,7 +341,7 @@ fn put_object_line(
     }
 }
 
-/// What keeps an object, where it has a row.
+/// Appends the lines of what keeps an object, if it has a row.
 fn put_holders(
     text: &mut String,
     koid: Koid,
@@ -357,7 +359,7 @@ fn put_holders(
     }
 }
 
-/// A line for each row.
+/// Appends a line for each row.
 fn put_rows(
     text: &mut String,
     rows: &[(RowKey, Row)],
@@ -373,7 +375,7 @@ fn put_rows(
     Ok(())
 }
 
-/// How often the calls of a process were answered with a status.
+/// The line of a call count: the process, the status, and how often its calls were answered so.
 pub fn print_call_count(alloc: Global, count: &CallCount) -> Result<Vec<u8>, AllocError>
     ensures { IfOk result (λ text. text.items ≡ call_count_line count.now) }
 {
@@ -388,7 +390,7 @@ pub fn print_call_count(alloc: Global, count: &CallCount) -> Result<Vec<u8>, All
     Ok(text.into_bytes())
 }
 
-/// What became of an object, and since which moment.
+/// The line of an object's fate: the fate, the object with its kind, and the moment since which it holds.
 pub fn print_fate(alloc: Global, object: &ObjectFate) -> Result<Vec<u8>, AllocError>
     ensures { IfOk result (λ text. text.items ≡ fate_line object.now) }
 {

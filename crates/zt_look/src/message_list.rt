@@ -1,3 +1,5 @@
+//! Lists the messages that came to an endpoint on a path, with what became of each.
+
 ghost use Rattle.std.specs.Prelude.{◌≡◌, ◌⊎◌, ◌++◌, ℕ, map, reverse, if◌then◌else◌, Some, Ok, IfOk, IfErr, OnOk, OnErr};
 ghost use Rattle.std.specs.BTreeMap.{get};
 ghost use Rattle.std.specs.List.{filter_map};
@@ -25,7 +27,7 @@ use zt_rows::{
 };
 use zt_store::{Record, Store};
 
-/// What became of a message that no queue has any more: a call at its endpoint read it, or discarded it since its reader
+/// The end of a message that no queue has any more. A call at its endpoint read it, or discarded it since the reader
 /// had no room for it, or it was lost with its endpoint.
 #[derive(Clone, Copy)]
 pub enum MessageEnd {
@@ -34,7 +36,8 @@ pub enum MessageEnd {
     Lost,
 }
 
-/// A message that was queued at an endpoint on a path: from which moment on, and until which, if it is not there any more.
+/// A message that was queued at an endpoint on a path: from which moment on, and until which, if it is not there any
+/// more.
 #[derive(Drop)]
 pub struct QueuedMessage {
     pub number: u64,
@@ -43,11 +46,16 @@ pub struct QueuedMessage {
     pub ended: Option<(Moment, MessageEnd)>,
 }
 
-/// By the numbers of messages, at which moment each is gone, and what became of it.
+/// The moments at which messages went, with their ends, under the numbers of the messages.
 type Ends = BTreeMap<u64, (Moment, MessageEnd)>;
 
-/// The messages that were queued at an endpoint on the path to a moment, in the order in which they came. The history goes
-/// back along the path and forth again, also where memory is refused on the way, at the cost of its records.
+/// The messages that were queued at an endpoint on the path to `at`, in the order in which they came.
+///
+/// The history goes back along the path and forth again to `at`, at the cost of the path's records. It does so also
+/// after an allocation failure on the way.
+///
+/// Errors: `NoMoment` if `at` is beyond the last moment, `NoObject` if the koid was not given out by `at`,
+/// `OutOfMemory` if an allocation fails.
 pub fn messages(
     alloc: Global,
     history: &mut History,
@@ -79,7 +87,8 @@ fn is_known(store: &Store, koid: Koid) -> bool
     koid >= ROOT_JOB && koid < store.counters().next_koid
 }
 
-/// The messages that come on a path; the history goes back along it and forth again, whether or not there is memory for all.
+/// The messages that come on a path. The history goes back along the path and forth again, also after an allocation
+/// failure.
 fn messages_along(
     alloc: Global,
     history: &mut History,
@@ -95,7 +104,7 @@ fn messages_along(
     list
 }
 
-/// The messages that come on a path; the history goes back along it.
+/// The messages that come on a path. The history goes back along the path.
 fn messages_back(
     alloc: Global,
     history: &mut History,
@@ -117,7 +126,7 @@ fn messages_back(
     Ok(list)
 }
 
-/// Puts the messages that come at the position behind those of the later moments, the last one first, and notes the ends
+/// Appends the messages that come at the position behind those of the later moments, the last one first. Notes the ends
 /// of those that go there.
 fn go_over(
     list: &mut Vec<QueuedMessage>,
@@ -142,7 +151,7 @@ fn go_over(
     }
 }
 
-/// Puts the messages that come under the keys of the record behind the others, the last one first.
+/// Appends the messages that come under the keys of the record, the last one first.
 fn push_coming(
     list: &mut Vec<QueuedMessage>,
     ends: &Ends,
@@ -162,7 +171,7 @@ fn push_coming(
     Ok(())
 }
 
-/// Puts a message that comes at this moment behind the others, with its end, if there is one.
+/// Appends a message that comes at this moment with its end, if there is such a message.
 fn push_came(
     list: &mut Vec<QueuedMessage>,
     ends: &Ends,
@@ -211,7 +220,7 @@ fn coming<'a>(
     }
 }
 
-/// Notes this end of the messages that go under the keys of the record, which the call of this moment changed.
+/// Notes this end for the messages that go under the keys of the record, which the call of this moment changed.
 fn note_going(
     ends: &mut Ends,
     kept: &Record,
@@ -229,7 +238,7 @@ fn note_going(
     Ok(())
 }
 
-/// Notes this end of the message of the number, if there is one.
+/// Notes this end for the message of the number, if there is a number.
 fn note(
     ends: &mut Ends,
     number: Option<u64>,
@@ -268,7 +277,7 @@ fn going(kept: &Record, store: &Store, key: &RowKey, koid: Koid) -> Option<u64>
     }
 }
 
-/// What became of the messages of the endpoint that went in the call of the position.
+/// The end of the endpoint's messages that went in the call of the position.
 fn end_here(history: &History, koid: Koid) -> MessageEnd
     ensures { result ≡ end_at history.now.tree.made koid history.now.position }
 {
@@ -282,7 +291,7 @@ fn end_here(history: &History, koid: Koid) -> MessageEnd
     }
 }
 
-/// What became of them by this call of the process, which was answered so.
+/// The end of the messages that went in this call of the process, which had this reply.
 fn end_by(history: &History, process: Koid, call: &Call, reply: &Reply, koid: Koid) -> MessageEnd
     ensures { result ≡ end_by koid (state_at history.now.tree.made (parent_at history.now.tree.made history.now.position)) process call.now reply.now }
 {
@@ -293,7 +302,7 @@ fn end_by(history: &History, process: Koid, call: &Call, reply: &Reply, koid: Ko
     }
 }
 
-/// Whether this call of the process, from which the position was made, reads at the endpoint.
+/// Whether this call of the process, by which the position was made, reads at the endpoint.
 fn reads_at(history: &History, process: Koid, call: &Call, koid: Koid) -> bool
     ensures { result ≡ reads_at koid (state_at history.now.tree.made (parent_at history.now.tree.made history.now.position)) process call.now }
 {
@@ -306,7 +315,7 @@ fn reads_at(history: &History, process: Koid, call: &Call, koid: Koid) -> bool
     }
 }
 
-/// What the process held by the value before the call of the position.
+/// The entry that the process had under the value before the call of the position.
 fn entry_before(history: &History, process: Koid, handle: HandleValue) -> Option<Held>
     ensures { result ≡ entry (state_at history.now.tree.made (parent_at history.now.tree.made history.now.position)) process handle }
 {
@@ -325,7 +334,7 @@ fn row_before_call<'a>(history: &'a History, key: &RowKey) -> Option<&'a Row>
     }
 }
 
-/// What became of a message by the reply of the call that read at its endpoint.
+/// The end of a message, from the reply of the call that read at its endpoint.
 fn read_or_discarded(reply: &Reply) -> MessageEnd
     ensures { result ≡ read_or_discarded reply.now }
 {

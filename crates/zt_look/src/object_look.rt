@@ -1,3 +1,5 @@
+//! Looks at one object: its row, what keeps it, what waits at it, and when the four happenings happened to it.
+
 ghost use Rattle.std.specs.Prelude.{◌≡◌, true, Ok, IfOk, IfErr};
 ghost use Rattle.zt_rows.specs.declared.calls.Happening.TheVariants as happening;
 ghost use Rattle.zt_rows.specs.declared.refusals.Refusal.TheVariants as refusal;
@@ -15,8 +17,8 @@ use zt_queries::{ended, holders_at, leaked_since, made, peer_closed};
 use zt_rows::{Items, Koid, Moment, ObjectRow, ROOT_JOB, Refusal, Row, RowKey, Support};
 use zt_store::Store;
 
-/// An object at a moment: its row, if it is there, what keeps it, what waits in it, for it and on it, and at which moments
-/// of the path it was made, ended, lost its peer and was leaked.
+/// An object at a moment: its row, if it is there, what keeps it, and what waits in it, for it and on it. The last four
+/// fields are the moments of the path at which it was made, ended, lost its peer and was leaked.
 #[derive(Drop)]
 pub struct ObjectLook {
     pub koid: Koid,
@@ -31,9 +33,16 @@ pub struct ObjectLook {
     pub leaked: Option<Moment>,
 }
 
-/// All that is told of an object at a history's position. It looks at the messages, packets and waits of this object
-/// alone; what keeps it is looked for in all rows, and the moments in the records of the path. Refused where the koid was
-/// not given out by the position.
+/// Everything that is told of an object at a history's position.
+///
+/// - It looks at the messages and packets of this object.
+/// - It looks at the waits for it and on it, and at waits that share a bucket with these.
+/// - It goes over the entries, the messages and the objects for what keeps it, until it has as many supports as the
+///   store counts.
+/// - The history's notes of the object tell when it was made, ended and lost its peer. `leaked_since` finds when it was
+///   leaked: from notes and records of the history, or by a graph.
+///
+/// Errors: `NoObject` if the koid was not given out by the position, `OutOfMemory` if an allocation fails.
 pub fn object_at(alloc: Global, history: &History, koid: Koid) -> Result<ObjectLook, Refusal>
     ensures ok { IfOk result (IsObjectLook history.now.tree.made history.now.position koid) }
     ensures refused { IfErr result
@@ -67,7 +76,7 @@ fn is_known(store: &Store, koid: Koid) -> bool
     koid >= ROOT_JOB && koid < store.counters().next_koid
 }
 
-/// When each of the four happened to an object.
+/// The moments at which each of the four happenings happened to an object.
 #[derive(Clone, Copy)]
 struct ObjectTimes {
     made: Option<Moment>,
@@ -76,7 +85,7 @@ struct ObjectTimes {
     leaked: Option<Moment>,
 }
 
-/// When each of the four happened on the path to the position.
+/// The moments at which each of the four happenings happened to the object, on the path to the position.
 fn times_of(alloc: Global, history: &History, koid: Koid) -> Result<ObjectTimes, Refusal>
     requires { is_known (state_at history.now.tree.made history.now.position) koid ≡ true }
     ensures made { IfOk result (λ times. when_on happening.Made history.now.tree.made history.now.position koid ≡ Ok times.made) }
@@ -99,7 +108,7 @@ fn times_of(alloc: Global, history: &History, koid: Koid) -> Result<ObjectTimes,
     })
 }
 
-/// What keeps an object, and what waits in it, for it and on it.
+/// The supports of an object, and the rows that wait in it, for it and on it.
 #[derive(Drop)]
 struct ObjectParts {
     holders: Items<Support>,
@@ -108,7 +117,7 @@ struct ObjectParts {
     waits: Vec<(RowKey, Row)>,
 }
 
-/// What keeps the object at the position, and what waits in it, for it and on it.
+/// Finds the supports of the object at the position, and the rows that wait in it, for it and on it.
 fn parts_of(alloc: Global, history: &History, koid: Koid) -> Result<ObjectParts, Refusal>
     ensures holders { IfOk result (λ parts. parts.holders ≡ holders_of (state_at history.now.tree.made history.now.position) koid) }
     ensures messages { IfOk result (λ parts. parts.messages.items ≡ rows_where (state_at history.now.tree.made history.now.position) (is_message_of koid)) }
@@ -131,7 +140,7 @@ fn parts_of(alloc: Global, history: &History, koid: Koid) -> Result<ObjectParts,
     })
 }
 
-/// What keeps the object at the position; nothing where it is gone.
+/// Finds the supports of the object at the position. An object that is gone has none.
 fn holders_of(alloc: Global, history: &History, koid: Koid) -> Result<Items<Support>, Refusal>
     ensures ok { IfOk result (λ found. found ≡ holders_of (state_at history.now.tree.made history.now.position) koid) }
     ensures refused { IfErr result (λ refusal. refusal ≡ Refusal.OutOfMemory) }

@@ -1,3 +1,5 @@
+//! Lists the messages, packets and waits of an object.
+
 ghost use Rattle.std.specs.Prelude.{◌≡◌, ◌≤◌, ◌<◌, ◌++◌, Some, IfOk, IfSome, OnOk};
 ghost use Rattle.std.specs.Option.{option_copied};
 ghost use Rattle.zt_rows.specs.Consistent.{IsConsistent};
@@ -12,14 +14,14 @@ use std::alloc::{AllocError, Global};
 use zt_rows::{Koid, Row, RowKey};
 use zt_store::Store;
 
-/// What an object owns and numbers.
+/// The kinds of rows that an object owns and numbers.
 #[derive(Clone, Copy)]
 pub(crate) enum Owned {
     Messages,
     Packets,
 }
 
-/// Equal rows of the messages of an endpoint, or of the packets of a port, by rising number. It looks at the numbers from
+/// Copies of the rows of an endpoint's messages, or of a port's packets, by rising number. Looks at the numbers from
 /// the first that is there to the last that was given out.
 pub(crate) fn owned_of(
     alloc: Global,
@@ -36,7 +38,7 @@ pub(crate) fn owned_of(
     }
 }
 
-/// The same where this is the first number.
+/// Copies of the rows of the object's messages or packets by rising number, of which `first` is the least.
 fn owned_from(
     alloc: Global,
     store: &Store,
@@ -66,7 +68,7 @@ fn first_of(store: &Store, owned: Owned, koid: Koid) -> Option<u64>
     }
 }
 
-/// The next number of what the object owns.
+/// The next number of the object's messages or packets.
 fn next_of(store: &Store, koid: Koid) -> u64
     ensures { result ≡ next_at store.now.state koid }
 {
@@ -86,7 +88,7 @@ fn key_of(owned: Owned, koid: Koid, number: u64) -> RowKey
     }
 }
 
-/// Puts an equal row with its key behind the others, where there is one.
+/// Appends a copy of the row under the key with the key, if there is a row.
 fn push_row(list: &mut Vec<(RowKey, Row)>, store: &Store, key: RowKey) -> Result<(), AllocError>
     ensures { OnOk result (list.new.items ≡ list.old.items ++ under key (row store.now.state key)) }
 {
@@ -99,7 +101,7 @@ fn push_row(list: &mut Vec<(RowKey, Row)>, store: &Store, key: RowKey) -> Result
     }
 }
 
-/// The waits behind a low number: the least of those for a port, and of those on handles that name it.
+/// The waits behind a low number: the least of those for a port, and the least of those on handles that name it.
 #[derive(Clone, Copy)]
 struct NextWaits {
     low: Option<u64>,
@@ -107,8 +109,8 @@ struct NextWaits {
     by_handle: Option<u64>,
 }
 
-/// Equal rows of the waits for a port or on handles that name the object, each once, by rising number. It looks at these
-/// waits, and at those that share a bucket with them.
+/// Copies of the rows of the waits for a port, or on handles that name the object, each once, by rising number. Looks
+/// at these waits, and at those that share a bucket with them.
 pub(crate) fn waits_of(
     alloc: Global,
     store: &Store,
@@ -137,7 +139,7 @@ fn first_waits(store: &Store, koid: Koid) -> NextWaits
     }
 }
 
-/// The waits behind the least of these.
+/// The waits behind `number`, which is the least of these.
 fn waits_behind(store: &Store, koid: Koid, next: NextWaits, number: u64) -> NextWaits
     requires next { AreNextWaits store.now.state koid next.low next.by_port next.by_handle }
     requires least { lesser next.by_port next.by_handle ≡ Some number }
@@ -151,7 +153,7 @@ fn waits_behind(store: &Store, koid: Koid, next: NextWaits, number: u64) -> Next
     }
 }
 
-/// The least wait for a port behind this number, where this was the least behind a lower one.
+/// The least wait for a port behind this number. `next.by_port` was the least behind a lower number.
 fn by_port_behind(store: &Store, koid: Koid, next: NextWaits, number: u64) -> Option<u64>
     requires next { IsNext (waits_where store.now.state (is_for koid)) next.low next.by_port }
     requires above { IsBehind (λ a b. a < b) next.low number }
@@ -164,7 +166,8 @@ fn by_port_behind(store: &Store, koid: Koid, next: NextWaits, number: u64) -> Op
     }
 }
 
-/// The least wait on a handle that names the object behind this number, where this was the least behind a lower one.
+/// The least wait on a handle that names the object behind this number. `next.by_handle` was the least behind a lower
+/// number.
 fn by_handle_behind(store: &Store, koid: Koid, next: NextWaits, number: u64) -> Option<u64>
     requires next { IsNext (waits_where store.now.state (is_at store.now.state koid)) next.low next.by_handle }
     requires above { IsBehind (λ a b. a < b) next.low number }

@@ -1,3 +1,5 @@
+//! Sums up a path: how its calls were answered, and what became of its objects.
+
 ghost use Rattle.std.specs.Prelude.{◌≡◌, ◌⊎◌, Ok, IfOk, IfErr, OnOk, OnErr};
 ghost use Rattle.zt_history.specs.HistoryRefusals.{IsHistoryRefusal, moment_on};
 ghost use Rattle.zt_history.specs.Timeline.{moved_to};
@@ -12,14 +14,14 @@ use std::alloc::Global;
 use zt_history::History;
 use zt_rows::{Moment, Refusal};
 
-/// A path in short: how its calls were answered, and what became of its objects.
+/// The summary of a path: how its calls were answered, and what became of its objects.
 #[derive(Drop)]
 pub struct PathSummary {
     pub calls: Vec<CallCount>,
     pub objects: Vec<ObjectFate>,
 }
 
-/// The happenings that fates are told by.
+/// The happenings from which fates are told.
 const OF_FATES: HappeningSet = HappeningSet {
     made: true,
     ended: true,
@@ -27,9 +29,14 @@ const OF_FATES: HappeningSet = HappeningSet {
     leaked: true,
 };
 
-/// The path to a moment in short: for each process and status how often its calls were so answered, by rising process, then in
-/// the order of the statuses; and what became of each object that was there at some moment of the path, by rising koid, and
-/// since when. It costs what `events` costs, and a look for each call and each koid.
+/// The summary of the path to `at`.
+///
+/// - How often the calls of each process were answered with each status, by rising process, and then in the order of
+///   the statuses.
+/// - The fate of each object that was there at some moment of the path, by rising koid, and since when.
+///
+/// This costs what `events` costs, and a look for each call and each koid. The history goes to `at`. Errors: `NoMoment`
+/// if `at` is beyond the last moment, `OutOfMemory` if an allocation fails.
 pub fn summary(alloc: Global, history: &mut History, at: Moment) -> Result<PathSummary, Refusal>
     ensures calls { IfOk result (λ summary. AreCallCounts history.old.tree.made (path history.old.tree.made at) summary.calls.items) }
     ensures objects { IfOk result (λ summary. AreFates history.old.tree.made at summary.objects.items) }

@@ -1,5 +1,6 @@
-//! What kind of object it is whose signals a call, its reply or a row tells: they are shown by their names, and the name of one of
-//! them depends on it.
+//! Finds the kind of the object whose signals a call, its reply or a row tells. Signals are shown by their names, and
+//! the name of one of them depends on this kind.
+
 ghost use Rattle.std.specs.Prelude.{◌≡◌, ◌++◌, ◌∷◌, [], map, IfErr, IfOk, OnOk};
 ghost use Rattle.zt_history.specs.HistoryRefusals.{IsHistoryRefusal, moment_on};
 ghost use Rattle.zt_history.specs.Timeline.{moved_to};
@@ -15,8 +16,11 @@ use zt_history::History;
 use zt_rows::{Call, HandleValue, Koid, Moment, Packet, Refusal, Reply, Row};
 use zt_store::Store;
 
-/// The kind of the object whose signals a call or its reply tells, as it was when the call was made; none where it tells none, or its
-/// handle names none then. The history goes to the moment of the call.
+/// The kind of the object whose signals a call or its reply tells, in the state right after the call. There is none if
+/// they tell no signals, or if the handle names no object there.
+///
+/// The history goes to the moment of the call. Errors: `NoMoment` if there is no such moment, `OutOfMemory` if an
+/// allocation fails.
 pub fn kind_of_call(history: &mut History, made: &CallMade) -> Result<Option<Kind>, Refusal>
     ensures ok { IfOk result (λ kind. kind ≡ kind_of_call history.old.tree.made made.now) }
     ensures refused { IfErr result (IsHistoryRefusal (moment_on history.old.tree made.now.moment)) }
@@ -28,8 +32,11 @@ pub fn kind_of_call(history: &mut History, made: &CallMade) -> Result<Option<Kin
     Ok(kind_named(history.store(), named))
 }
 
-/// The kinds of the objects whose signals the rows tell that the call of a moment changed, one for each change: as they are after the
-/// call, or else before it. The history goes to the moment before the call.
+/// The kinds of the objects whose signals the rows tell that the call of a moment changed, one for each change. A kind
+/// is read in the state after the call, or else in the state before it.
+///
+/// The history goes to the parent of the moment. Errors: `NoMoment` if there is no such moment, `OutOfMemory` if an
+/// allocation fails.
 #[tactic(auto, using(crate::proofs::CallLaws::parent_memory))]
 pub fn kinds_of_changes(
     alloc: Global,
@@ -55,7 +62,7 @@ pub fn kinds_of_changes(
     Ok(kinds)
 }
 
-/// Puts a kind behind the others.
+/// Appends a kind.
 fn push_kind(kinds: &mut Vec<Option<Kind>>, kind: Option<Kind>) -> Result<(), AllocError>
     ensures { OnOk result (kinds.new.items ≡ kinds.old.items ++ kind ∷ []) }
 {
@@ -105,7 +112,7 @@ fn kind_named(store: &Store, named: Option<(Koid, HandleValue)>) -> Option<Kind>
     Some(object.kind)
 }
 
-/// The handle, with its process, by which a call, or the packet that it was answered, names an object with signals.
+/// The handle, with its process, by which a call or the packet in its reply names an object with signals.
 fn in_answered(process: Koid, call: &Call, reply: &Reply) -> Option<(Koid, HandleValue)>
     ensures { result ≡ in_answered process call.now reply.now }
 {
@@ -115,7 +122,7 @@ fn in_answered(process: Koid, call: &Call, reply: &Reply) -> Option<(Koid, Handl
     }
 }
 
-/// The handle by which a call names an object with signals.
+/// The handle, with its process, by which a call names an object with signals.
 fn in_call(process: Koid, call: &Call) -> Option<(Koid, HandleValue)>
     ensures { result ≡ in_call process call.now }
 {
@@ -141,7 +148,7 @@ fn in_call(process: Koid, call: &Call) -> Option<(Koid, HandleValue)>
     }
 }
 
-/// The handle of a wait, or of the wait that a packet is of.
+/// The handle, with its process, of a wait, or of the wait that sent a packet.
 fn in_row(row: &Row) -> Option<(Koid, HandleValue)>
     ensures { result ≡ in_row row.now }
 {
@@ -152,7 +159,7 @@ fn in_row(row: &Row) -> Option<(Koid, HandleValue)>
     }
 }
 
-/// The handle of the wait that a packet is of.
+/// The handle, with its process, of the wait that sent the packet.
 fn in_packet(packet: &Packet) -> Option<(Koid, HandleValue)>
     ensures { result ≡ in_packet packet.now }
 {

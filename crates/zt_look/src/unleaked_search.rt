@@ -1,4 +1,6 @@
-//! The search for what is unleaked: a set of koids grows by what rows name, each koid that comes into it is looked into once.
+//! The search for what is unleaked. A set of koids grows by what rows name, and each koid that comes into it is looked
+//! into once.
+
 ghost use Rattle.std.specs.Prelude.{◌≡◌, ℕ, true, not, ◌&&◌, ◌||◌, OnOk, IfOk, []};
 ghost use Rattle.std.specs.Ordering.{nat_cmp};
 ghost use Rattle.std.specs.BTreeSet.{contains, IsOrdered};
@@ -14,8 +16,12 @@ use std::collections::BTreeSet;
 use zt_rows::{Held, Koid, ObjectRow, RowKey};
 use zt_store::{Record, Store};
 
-/// The set as far as it is known, those in it that were not looked into, and those that came into it and are there after
-/// the call.
+/// The state of a search.
+///
+/// - `set` has the koids that are known to be unleaked.
+/// - `waiting` has those of the set that were not looked into.
+/// - `found` has the objects that the call leaked: those that it made, and those that came into the set and are there
+///   after the call.
 #[derive(Drop)]
 pub(crate) struct Search {
     pub(crate) set: BTreeSet<u64>,
@@ -23,7 +29,7 @@ pub(crate) struct Search {
     pub(crate) found: BTreeSet<u64>,
 }
 
-/// Goes over the rows under these keys, and then on, until nothing more comes into the set.
+/// Goes over the rows under these keys, and adds what they name. What comes into the set waits.
 pub(crate) fn search_from(
     search: &mut Search,
     kept: &Record,
@@ -38,7 +44,7 @@ pub(crate) fn search_from(
     Ok(())
 }
 
-/// Looks into what waits, and into what comes into the set then.
+/// Looks into what waits, and into what comes into the set then, until nothing waits.
 pub(crate) fn go_on(search: &mut Search, kept: &Record, store: &Store) -> Result<(), AllocError>
     requires consistent { IsConsistent store.now.state }
     requires opened { IsOpen store.now.state search.old }
@@ -54,7 +60,7 @@ pub(crate) fn go_on(search: &mut Search, kept: &Record, store: &Store) -> Result
     Ok(())
 }
 
-/// What holds of the set: its koids rise.
+/// States what holds of the set: its koids rise.
 fn in_order(search: &Search)
     ensures { IsOrdered nat_cmp search.now.set }
 {
@@ -76,7 +82,7 @@ fn add_by(search: &mut Search, kept: &Record, store: &Store, key: RowKey) -> Res
     }
 }
 
-/// The number that the key begins with: that of the object whose row it is, or at which the message waits.
+/// The number that the key begins with: the koid of the object that has the row or at which the message waits.
 fn owner(key: RowKey) -> Koid
     ensures { result ≡ first_number key }
 {
@@ -98,8 +104,8 @@ fn has(search: &Search, koid: Koid) -> bool
     search.set.contains(&number)
 }
 
-/// Adds what the row under the key names in any case: an entry what the process holds, the root job and a live process
-/// themselves.
+/// Adds what the row under the key names in any case. For an entry, this is the object that the process holds. The root
+/// job and a live process name themselves.
 fn add_begun(
     search: &mut Search,
     kept: &Record,
@@ -115,7 +121,7 @@ fn add_begun(
     }
 }
 
-/// Adds the koid where the object keeps itself.
+/// Adds the koid, if the object keeps itself.
 fn add_itself(
     search: &mut Search,
     kept: &Record,
@@ -136,7 +142,7 @@ fn add_itself(
     }
 }
 
-/// Adds what the handle names, if there is one.
+/// Adds the object that the handle names, if there is a handle.
 fn add_held(search: &mut Search, kept: &Record, held: Option<Held>) -> Result<(), AllocError>
     ensures { OnOk result (Adds (λ x. among (koid_of held) x ≡ true) kept.now search.old search.new) }
 {
@@ -146,7 +152,7 @@ fn add_held(search: &mut Search, kept: &Record, held: Option<Held>) -> Result<()
     }
 }
 
-/// Adds what the row under the key names where its object is unleaked.
+/// Adds what the row under the key names if its object is unleaked.
 fn add_named(
     search: &mut Search,
     kept: &Record,
@@ -182,7 +188,7 @@ fn add_parent(
     }
 }
 
-/// Adds what a message names, if there is one of this number at the endpoint.
+/// Adds the objects that a message names, if there is one of this number at the endpoint.
 fn add_message(
     search: &mut Search,
     kept: &Record,
@@ -198,7 +204,7 @@ fn add_message(
     }
 }
 
-/// Adds what the handles name.
+/// Adds the objects that the handles name.
 fn add_handles(search: &mut Search, kept: &Record, handles: &[Held]) -> Result<(), AllocError>
     ensures { OnOk result (Adds (λ x. among (koids handles.now) x ≡ true) kept.now search.old search.new) }
 {
@@ -208,7 +214,7 @@ fn add_handles(search: &mut Search, kept: &Record, handles: &[Held]) -> Result<(
     Ok(())
 }
 
-/// Adds what the rows of an object name: its parent, and what the messages that wait at it have.
+/// Adds what the rows of an object name: its parent, and the objects that the messages that wait at it name.
 fn look_into(
     search: &mut Search,
     kept: &Record,
@@ -223,7 +229,7 @@ fn look_into(
     Ok(())
 }
 
-/// Adds what the messages that wait at the endpoint name, at the cost of its queue.
+/// Adds the objects that the messages that wait at the endpoint name, at the cost of its queue.
 fn add_messages(
     search: &mut Search,
     kept: &Record,
@@ -242,7 +248,7 @@ fn add_messages(
     }
 }
 
-/// The next number of what the object owns, or 0 where there is no object.
+/// The next number of what the object owns, or 0 if there is no object.
 fn next_at(store: &Store, koid: Koid) -> u64
     ensures { result ≡ next_at store.now.state koid }
 {
@@ -252,7 +258,7 @@ fn next_at(store: &Store, koid: Koid) -> u64
     }
 }
 
-/// Adds what the messages at the endpoint name, where they have numbers from the first one on and below the next.
+/// Adds the objects that the endpoint's messages name whose numbers are from `first` on and below `next`.
 fn add_between(
     search: &mut Search,
     kept: &Record,
@@ -270,7 +276,7 @@ fn add_between(
     Ok(())
 }
 
-/// Adds the koid where the set does not have it: it waits then, and is found where it is there after the call.
+/// Adds the koid, unless the set has it. A new koid waits. It is also found, if its object is there after the call.
 fn add(search: &mut Search, kept: &Record, koid: Koid) -> Result<(), AllocError>
     ensures { OnOk result (Adds (λ x. x ≡ koid) kept.now search.old search.new) }
 {
@@ -309,7 +315,7 @@ pub(crate) fn unknown_gone(
     Ok(found)
 }
 
-/// Adds the object of the key, where it is not there and the set does not have it.
+/// Adds the object of the key, if it is not there and the set does not have it.
 fn add_gone(
     found: &mut BTreeSet<u64>,
     set: &BTreeSet<u64>,
@@ -339,7 +345,7 @@ pub(crate) fn take_gone(set: &mut BTreeSet<u64>, store: &Store, all: &[RowKey])
     }
 }
 
-/// Takes the object of the key out of the set, where it is not there.
+/// Takes the object of the key out of the set, if it is not there.
 fn take_if_gone(set: &mut BTreeSet<u64>, store: &Store, key: RowKey)
     ensures { (x : ℕ) → contains nat_cmp set.new x ≡ (contains nat_cmp set.old x && not (is_gone_at store.now.state key x)) }
 {

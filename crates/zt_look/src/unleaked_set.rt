@@ -1,4 +1,6 @@
-//! Which objects are there and not leaked, at the position, and at the parent of a moment by the moment's record.
+//! The set of all objects that are there and not leaked: found at the position, and taken back over a moment's call by
+//! the moment's record.
+
 ghost use Rattle.std.specs.Prelude.{◌≡◌, ◌==◌, ◌<◌, ◌≤◌, ◌&&◌, ◌||◌, ℕ, not, Some, IfOk, OnOk, length, map};
 ghost use Rattle.std.specs.List.{list_any};
 ghost use Rattle.std.specs.Ordering.{nat_cmp};
@@ -52,7 +54,7 @@ fn keys_of(alloc: Global, store: &Store) -> Result<Vec<RowKey>, AllocError>
     Ok(list)
 }
 
-/// The koids of the objects whose keys these are.
+/// The koids of the objects that have these keys.
 fn objects_of(alloc: Global, all: &[RowKey]) -> Result<BTreeSet<u64>, AllocError>
     ensures { IfOk result (λ set. (x : ℕ) → contains nat_cmp set x ≡ list_any (is_object x) all.now) }
 {
@@ -63,7 +65,7 @@ fn objects_of(alloc: Global, all: &[RowKey]) -> Result<BTreeSet<u64>, AllocError
     Ok(set)
 }
 
-/// Adds the koid of the object, if the key is that of one.
+/// Adds the koid of the key, if it is the key of an object.
 fn add_object(set: &mut BTreeSet<u64>, key: RowKey) -> Result<(), AllocError>
     ensures { OnOk result ((x : ℕ) → contains nat_cmp set.new x ≡ (contains nat_cmp set.old x || is_object x key)) }
 {
@@ -76,7 +78,7 @@ fn add_object(set: &mut BTreeSet<u64>, key: RowKey) -> Result<(), AllocError>
     }
 }
 
-/// Takes what is leaked out of the set.
+/// Takes the leaked objects out of the set.
 fn take_leaked(set: &mut BTreeSet<u64>, leaks: &[(Koid, Kind)])
     ensures { (x : ℕ) → contains nat_cmp set.new x ≡ (contains nat_cmp set.old x && not (among (map (λ e. e.0) leaks.now) x)) }
 {
@@ -93,8 +95,8 @@ fn take_koid(set: &mut BTreeSet<u64>, koid: Koid)
     set.remove(&number);
 }
 
-/// Takes the set of a moment back to its parent, at which the history stands, and tells which objects the moment's call
-/// leaked. It costs the moment's record, and the queues of the endpoints that come into reach.
+/// Takes the set of a moment back to the moment's parent, at which the history stands. Returns the objects that the
+/// moment's call leaked. This costs the moment's record, and the queues of the endpoints that come into reach.
 pub(crate) fn back_over(
     alloc: Global,
     set: &mut BTreeSet<u64>,
@@ -115,7 +117,7 @@ pub(crate) fn back_over(
     }
 }
 
-/// The same by the moment's record.
+/// Takes the set back by the moment's record, and returns the objects that the call leaked.
 fn step_back(
     alloc: Global,
     set: &mut BTreeSet<u64>,
@@ -145,7 +147,8 @@ fn step_back(
     Ok(lost)
 }
 
-/// The search as it begins: with what the set has and is there at the position.
+/// The search at its beginning. Its set has those objects of the moment's set that are there at the position. It has
+/// found the objects that the call made and leaked.
 fn begun(
     alloc: Global,
     set: &mut BTreeSet<u64>,

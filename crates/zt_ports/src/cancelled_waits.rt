@@ -1,3 +1,5 @@
+//! Cancels waits: takes them away together with the packets that they sent, as `port_cancel` does.
+
 ghost use Rattle.std.specs.Prelude.{◌≡◌, IfOk, OnOk, OnErr};
 ghost use Rattle.std.specs.Option.{option_and_then};
 ghost use Rattle.zt_rows.specs.declared.keys.RowKey.TheVariants as key_variant;
@@ -15,8 +17,9 @@ use zt_rows::{HandleValue, Koid, Packet, RowKey};
 use zt_signals::cancel_waits;
 use zt_store::Step;
 
-/// Takes away the waits for the port that the process made on the handle under the key, and the packets of such
-/// waits, and tells whether there was any. The port's packets and the waits on the handle are looked at.
+/// Takes away the waits for the port that the process made on the handle under the key, and the packets of such waits.
+/// Returns whether there was any. Looks at the packets of the port and at the waits on the handle. If an allocation
+/// fails, the step is reset.
 pub fn cancel(
     step: &mut Step,
     port: Koid,
@@ -34,8 +37,8 @@ pub fn cancel(
     Ok(packets | waits)
 }
 
-/// Takes away the packets in the port of waits that the process made on the handle under the key, and tells
-/// whether there was any.
+/// Takes away the port's packets of waits that the process made on the handle under the key. Returns whether there was
+/// any.
 fn cancel_packets(
     step: &mut Step,
     port: Koid,
@@ -58,8 +61,8 @@ fn cancel_packets(
     Ok(any)
 }
 
-/// Takes the packet of this number away, if it is one of a wait that the process made on the handle under the
-/// key, and tells whether it was.
+/// Takes away the packet of this number, if it comes from a wait that the process made on the handle under the key.
+/// Returns whether it does.
 fn cancel_packet(
     step: &mut Step,
     port: Koid,
@@ -83,7 +86,7 @@ fn cancel_packet(
     }
 }
 
-/// Whether the packet of this number is one of a wait that the process made on the handle under the key.
+/// Whether the packet of this number comes from a wait that the process made on the handle under the key.
 fn is_cancelled(
     step: &Step,
     port: Koid,
@@ -101,7 +104,7 @@ fn is_cancelled(
     }
 }
 
-/// Whether the packet is one of a wait that the process made on the handle under the key.
+/// Whether the packet comes from a wait that the process made on the handle under the key.
 fn is_of(packet: &Packet, made_by: Koid, made_on: HandleValue, made_under: u64) -> bool
     ensures { result ≡ is_news_of made_by made_on made_under packet.now }
 {

@@ -1,3 +1,5 @@
+//! Fires a wait that is met: replaces the wait by a packet in its port.
+
 ghost use Rattle.std.specs.Prelude.{◌≡◌, ◌<◌, ◌+◌, ◌^◌, true, OnOk, OnErr};
 ghost use Rattle.zt_rows.specs.Settle.{fire, is_met, news, observed, signals_by};
 ghost use Rattle.zt_rows.specs.Reads.{entry};
@@ -12,8 +14,8 @@ use zt_bits::Signals;
 use zt_rows::{ObjectRow, Packet, RowKey, Wait};
 use zt_store::Step;
 
-/// Where the wait of this number is met, takes it away and puts the news at the end of its port. Only then has there to be
-/// room in it.
+/// If the wait of this number is met, takes it away and appends its packet to its port. Only then does the port need a
+/// free number for a packet. If an allocation fails, the step is reset.
 #[tactic(auto, using(crate::proofs::PutOrder::wait_last))]
 pub fn fire(step: &mut Step, number: u64, wait: &Wait) -> Result<(), AllocError>
     requires { is_met step.old.beginning step.old.current wait.now ≡ true → next_at step.old.current wait.now.port + 1 < 2 ^ 64 }
@@ -33,14 +35,15 @@ pub fn fire(step: &mut Step, number: u64, wait: &Wait) -> Result<(), AllocError>
     step.put(RowKey::Wait(number), None)
 }
 
-/// Whether one of the signals waited for stands; for a wait on an edge, one that did not stand when the step began.
+/// Whether one of the signals waited for stands. For a wait on an edge, that signal must not have stood when the step
+/// began.
 pub fn is_met(step: &Step, wait: &Wait) -> bool
     ensures { result ≡ is_met step.now.beginning step.now.current wait.now }
 {
     meets(step, wait, observed(step, wait))
 }
 
-/// Whether the wait is met, where these signals are all that stand on what its handle names.
+/// Whether the wait is met, if exactly these signals stand on the object that its handle names.
 fn meets(step: &Step, wait: &Wait, signals: Signals) -> bool
     requires { signals.0 ≡ observed step.now.current wait.now }
     ensures { result ≡ is_met step.now.beginning step.now.current wait.now }
@@ -53,7 +56,7 @@ fn meets(step: &Step, wait: &Wait, signals: Signals) -> bool
     wait.signals.intersects(awaited)
 }
 
-/// The packet that tells that the wait fired, and the signals that stood then.
+/// The packet that tells that the wait fired, and which signals stood then.
 fn news(wait: &Wait, observed: Signals) -> Packet
     ensures { result ≡ Packet.Signal wait.now.key wait.now.signals observed wait.now.process wait.now.handle }
 {
@@ -66,7 +69,7 @@ fn news(wait: &Wait, observed: Signals) -> Packet
     }
 }
 
-/// All the signals on what the wait's handle names.
+/// All signals that stand on the object that the wait's handle names.
 fn observed(step: &Step, wait: &Wait) -> Signals
     ensures { result.0 ≡ observed step.now.current wait.now }
 {
@@ -77,7 +80,7 @@ fn observed(step: &Step, wait: &Wait) -> Signals
     }
 }
 
-/// The signals that stood, when the step began, on what the wait's handle names now.
+/// The signals that stood, when the step began, on the object that the wait's handle names now.
 fn observed_then(step: &Step, wait: &Wait) -> Signals
     ensures { result.0 ≡ signals_by step.now.beginning (entry step.now.current wait.now.process wait.now.handle) }
 {
@@ -87,7 +90,7 @@ fn observed_then(step: &Step, wait: &Wait) -> Signals
     }
 }
 
-/// All the signals that stand on the object.
+/// All signals that stand on the object, or none if there is no object.
 fn signals_of(object: Option<ObjectRow>) -> Signals
     ensures { result.0 ≡ object_signals object }
 {

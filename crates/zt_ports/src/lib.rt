@@ -1,5 +1,5 @@
-//! The packets of a port, over a step of the store: queued at its end, taken from its front, counted and
-//! cancelled, and the news of waits that fire.
+//! Operations on the packets of a port, over a step of the store: append, take from the front, count and cancel
+//! packets, and fire waits.
 #![tactic(auto)]
 
 mod cancelled_waits;

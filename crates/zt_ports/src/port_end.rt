@@ -1,3 +1,5 @@
+//! Appends packets to a port.
+
 ghost use Rattle.std.specs.Prelude.{◌<◌, ◌+◌, ◌^◌, OnOk, OnErr};
 ghost use Rattle.zt_rows.specs.Reads.{object};
 ghost use Rattle.zt_rows.specs.Settle.{push_packet};
@@ -10,8 +12,8 @@ use std::alloc::AllocError;
 use zt_rows::{Koid, ObjectRow, Packet, Row, RowKey};
 use zt_store::Step;
 
-/// Puts the packet at the end of the port, by the port's next number. Where there is no such object, nothing
-/// changes.
+/// Appends the packet to the port, under the port's next number. If there is no such object, nothing changes. If an
+/// allocation fails, the step is reset.
 pub fn queue(step: &mut Step, port: Koid, packet: Packet) -> Result<(), AllocError>
     requires { next_at step.old.current port + 1 < 2 ^ 64 }
     ensures ok { OnOk result (Advanced step.old step.new (queued step.old.current port packet)) }
@@ -24,7 +26,7 @@ pub fn queue(step: &mut Step, port: Koid, packet: Packet) -> Result<(), AllocErr
     }
 }
 
-/// Puts the packet at the end of the port with this row.
+/// Appends the packet to the port that has this row, and raises the port's next number.
 #[inline(always)]
 #[tactic(auto, using(crate::proofs::PutOrder::packet_last))]
 pub(crate) fn push_packet(

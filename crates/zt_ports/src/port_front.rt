@@ -1,3 +1,5 @@
+//! Shows and takes the first packet of a port.
+
 ghost use Rattle.std.specs.Prelude.{◌≡◌, IfOk, OnOk, OnErr};
 ghost use Rattle.std.specs.Option.{option_map};
 ghost use Rattle.zt_rows.specs.Reads.{packets};
@@ -10,7 +12,7 @@ use std::alloc::AllocError;
 use zt_rows::{Koid, Packet, RowKey};
 use zt_store::Step;
 
-/// The first packet of the port with its number. It takes no memory.
+/// The first packet of the port, with its number. Never allocates.
 pub fn front(step: &Step, port: Koid) -> Option<(u64, Packet)>
     ensures { result ≡ first (packets step.now.current port) }
 {
@@ -20,7 +22,8 @@ pub fn front(step: &Step, port: Koid) -> Option<(u64, Packet)>
     Some((number, packet))
 }
 
-/// Takes the first packet of the port away, and answers it. Where there is none, nothing changes.
+/// Takes the first packet away from the port and returns it. If there is none, nothing changes. If an allocation fails,
+/// the step is reset.
 #[tactic(auto, using(crate::proofs::FrontLaws::taken_some, crate::proofs::FrontLaws::taken_none))]
 pub fn take_front(step: &mut Step, port: Koid) -> Result<Option<Packet>, AllocError>
     ensures packet { IfOk result (λ packet. packet ≡ option_map (λ e. e.1) (first (packets step.old.current port))) }

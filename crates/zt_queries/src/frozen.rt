@@ -1,3 +1,5 @@
+//! A frozen copy of a history at its position, as `pin` keeps it.
+
 ghost use Rattle.std.specs.Prelude.{◌≡◌, IfOk, IfErr};
 ghost use Rattle.zt_history.specs.Tree.{calls_to};
 ghost use Rattle.zt_rows.specs.Reads.{object};
@@ -9,11 +11,11 @@ use std::marker::Model;
 use zt_history::{History, push_call};
 use zt_rows::{Call, Koid, Moment, ObjectRow, Refusal, Row, RowKey};
 
-/// A copy of a history at its position: the state there, and the calls on the path to it. It stays as it is,
-/// whatever becomes of the history. It takes memory for the rows that are there and for the calls alone.
+/// A copy of a history at its position: the state there, and the calls on the path to it. Later changes of the history
+/// do not change the copy. It takes memory only for the rows that are there and for the calls.
 #[derive(Drop)]
 pub struct Frozen {
-    /// The rows of the state with their keys, in the keys' order.
+    /// The rows of the state with their keys, in the order of the keys.
     rows: Vec<(RowKey, Row)>,
     moment: Moment,
     calls: Vec<(Koid, Call)>,
@@ -32,7 +34,8 @@ impl Model for Frozen {
 }
 
 impl Frozen {
-    /// The copy of a history at its position, in memory of its own.
+    /// Copies a history at its position. The copy shares no memory with the history. Error: `OutOfMemory` if an
+    /// allocation fails.
     pub fn copy(alloc: Global, history: &History) -> Result<Frozen, Refusal>
         ensures ok { IfOk result (λ frozen. frozen ≡ at_position history.now) }
         ensures refused { IfErr result (λ refusal. refusal ≡ Refusal.OutOfMemory) }
@@ -40,28 +43,28 @@ impl Frozen {
         Ok(copied(alloc, history)?)
     }
 
-    /// The moment at which the history stood. It takes no memory.
+    /// The moment at which the history stood. Never allocates.
     pub fn moment(&self) -> Moment
         ensures { result ≡ self.now.moment }
     {
         self.moment
     }
 
-    /// The calls on the path to the moment, each with its process. It takes no memory.
+    /// The calls on the path to the moment, each with its process. Never allocates.
     pub fn calls(&self) -> &[(Koid, Call)]
         ensures { result.now ≡ self.now.calls }
     {
         self.calls.as_slice()
     }
 
-    /// The rows of the state with their keys, in the keys' order. It takes no memory.
+    /// The rows of the state with their keys, in the order of the keys. Never allocates.
     pub(crate) fn rows(&self) -> &[(RowKey, Row)]
         ensures { result.now ≡ self.now.state.rows }
     {
         self.rows.as_slice()
     }
 
-    /// The object of this koid in the state. It takes no memory.
+    /// The object of this koid in the state. Never allocates.
     pub(crate) fn object(&self, koid: Koid) -> Option<ObjectRow>
         ensures { result ≡ object self.now.state koid }
     {
@@ -69,7 +72,7 @@ impl Frozen {
     }
 }
 
-/// The copy of a history at its position.
+/// Copies a history at its position.
 fn copied(alloc: Global, history: &History) -> Result<Frozen, AllocError>
     ensures { IfOk result (λ frozen. frozen ≡ at_position history.now) }
 {

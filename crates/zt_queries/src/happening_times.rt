@@ -1,3 +1,5 @@
+//! Finds the moments at which an object was made, ended and lost its peer, from the notes of the object.
+
 ghost use Rattle.std.specs.Prelude.{◌≡◌, ◌≢◌, ◌≤◌, Ok, IfOk, IfErr, length};
 ghost use Rattle.zt_rows.specs.declared.calls.Happening.TheVariants as happening;
 ghost use Rattle.zt_rows.specs.declared.refusals.Refusal.TheVariants as refusal;
@@ -8,9 +10,11 @@ ghost use Rattle.zt_queries.specs.ProofsOnly.RowHappenings.{happening_of};
 use zt_history::{History, RowHappening};
 use zt_rows::{Koid, Moment, ROOT_JOB, Refusal};
 
-/// The moment on the path to `at` at which the object was made; none where it was there at the opening. It takes no memory,
-/// and costs a look at each change that was noted of the object, with as many at parents and jumps for each as the
-/// logarithm of the path's length.
+/// The moment on the path to `at` at which the object was made. There is none if the object was there at the opening.
+/// Never allocates. Error: `NoObject` if the koid was not given out by `at`.
+///
+/// This costs a look at each note of the object. A note that tells of the making also costs as many parents and jumps
+/// as the logarithm of the path's length.
 pub fn made(history: &History, at: Moment, koid: Koid) -> Result<Option<Moment>, Refusal>
     requires there { at ≤ length history.now.tree.made }
     ensures ok { IfOk result (λ found. when_on happening.Made history.now.tree.made at koid ≡ Ok found) }
@@ -20,7 +24,8 @@ pub fn made(history: &History, at: Moment, koid: Koid) -> Result<Option<Moment>,
     when(history, at, koid, RowHappening::Made)
 }
 
-/// The moment on the path to `at` at which the object ended, or went without having ended. It costs as much as `made`.
+/// The moment on the path to `at` at which the object ended, or went without having ended. Costs and error are those of
+/// `made`.
 pub fn ended(history: &History, at: Moment, koid: Koid) -> Result<Option<Moment>, Refusal>
     requires there { at ≤ length history.now.tree.made }
     ensures ok { IfOk result (λ found. when_on happening.Ended history.now.tree.made at koid ≡ Ok found) }
@@ -30,8 +35,8 @@ pub fn ended(history: &History, at: Moment, koid: Koid) -> Result<Option<Moment>
     when(history, at, koid, RowHappening::Ended)
 }
 
-/// The moment on the path to `at` from which on a signal of the object says that its peer is closed. It costs as much as
-/// `made`.
+/// The moment on the path to `at` from which on a signal of the object tells that its peer is closed. Costs and error
+/// are those of `made`.
 pub fn peer_closed(history: &History, at: Moment, koid: Koid) -> Result<Option<Moment>, Refusal>
     requires there { at ≤ length history.now.tree.made }
     ensures ok { IfOk result (λ found. when_on happening.PeerClosed history.now.tree.made at koid ≡ Ok found) }
@@ -41,7 +46,7 @@ pub fn peer_closed(history: &History, at: Moment, koid: Koid) -> Result<Option<M
     when(history, at, koid, RowHappening::PeerClosed)
 }
 
-/// The moment on the path to `at` at which it happened to the object.
+/// The moment on the path to `at` at which this happened to the object.
 fn when(
     history: &History,
     at: Moment,
@@ -59,7 +64,7 @@ fn when(
     Ok(history.last_shown(what, koid, at))
 }
 
-/// Whether the koid was given out by the moment that is asked about.
+/// Whether the koid was given out by the moment `at`.
 pub(crate) fn is_known(history: &History, at: Moment, koid: Koid) -> bool
     requires { at ≤ length history.now.tree.made }
     ensures { result ≡ is_known (state_at history.now.tree.made at) koid }

@@ -1,5 +1,5 @@
-//! The graph in which leaks are looked for: drawn of a state, moved along a path by the records on the way, and searched
-//! for what can be reached.
+//! Finds leaks in a graph: it is drawn from a state, moved along a path by the records on the way, and searched for
+//! what is reached.
 
 pub mod first_leak;
 pub(crate) mod graph;

@@ -1,4 +1,4 @@
-//! Who holds an object, what is leaked, and at which moment of a path something happened to an object.
+//! Queries: who holds an object, what is leaked, and at which moment of a path something happened to an object.
 #![tactic(auto)]
 
 mod frozen;

@@ -1,4 +1,5 @@
-//! The paths to a moment that is asked about and to the position, and the rows along them by the records of their moments.
+//! The paths to a moment and to the position, and the rows along them, read from the records of their moments.
+
 ghost use Rattle.std.specs.Prelude.{◌≡◌, ◌≤◌, IfOk, IfErr, length, take};
 ghost use Rattle.std.specs.Option.{option_copied};
 ghost use Rattle.zt_rows.specs.State.{row};
@@ -10,15 +11,14 @@ ghost use Rattle.zt_queries.specs.ProofsOnly.RowHappenings.{row_over, IsFork, Ar
 use zt_history::History;
 use zt_rows::{Moment, Refusal, Row, RowKey};
 
-/// The paths to the moment that is asked about and to the position, and how many moments they share.
+/// The path to the moment that is asked about, the path to the position, and how many moments they share.
 pub(crate) struct PathPair {
     pub(crate) way: Vec<Moment>,
     pub(crate) here: Vec<Moment>,
     pub(crate) shared: usize,
 }
 
-/// Lets both paths go in one call, so that a function that owns them is proved without going through them at each of its
-/// ways out.
+/// Drops both paths in one call. So the proof of a function that owns them does not go through them at each exit.
 impl Drop for PathPair {
     fn drop(self) {
         let PathPair {
@@ -29,7 +29,7 @@ impl Drop for PathPair {
     }
 }
 
-/// The paths to a moment and to the position.
+/// The paths to a moment and to the position. Fails only if an allocation fails.
 pub(crate) fn ways_to(history: &History, at: Moment) -> Result<PathPair, Refusal>
     requires there { at ≤ length history.now.tree.made }
     ensures ways { IfOk result (λ ways. AreWays history.now ways.way.items ways.here.items ways.shared) }
@@ -54,7 +54,7 @@ fn path_to(history: &History, at: Moment) -> Result<Vec<Moment>, Refusal>
     }
 }
 
-/// How many moments two paths share from the opening on.
+/// How many moments two paths share, counted from the opening on.
 fn shared_by(way: &[Moment], here: &[Moment]) -> usize
     ensures { IsFork way.now here.now result }
 {
@@ -65,7 +65,7 @@ fn shared_by(way: &[Moment], here: &[Moment]) -> usize
     shared
 }
 
-/// The row at the last moment that both paths share.
+/// The row under the key at the last moment that both paths share.
 pub(crate) fn row_at_fork<'a>(
     history: &'a History,
     ways: &PathPair,
@@ -81,8 +81,8 @@ pub(crate) fn row_at_fork<'a>(
     row
 }
 
-/// The row on the other side of a moment's call, where this is the row on one side of it: what the record has, or else
-/// the same.
+/// The row on the other side of a moment's call, from the row on this side: the record's row if the record has the key,
+/// otherwise the row itself.
 pub(crate) fn row_over<'a>(
     history: &'a History,
     moment: Moment,
@@ -100,7 +100,7 @@ pub(crate) fn row_over<'a>(
     }
 }
 
-/// Whether there is an object.
+/// Whether the row is that of an object.
 pub(crate) fn is_there(row: Option<&Row>) -> bool
     ensures { result ≡ is_there (option_copied row.entry) }
 {

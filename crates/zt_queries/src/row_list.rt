@@ -1,4 +1,5 @@
-//! Rows with their keys, in the keys' order: listed of a store, copied, and looked at.
+//! Lists of rows with their keys, in the order of the keys: taken from a store, copied, and looked up.
+
 ghost use Rattle.std.specs.Prelude.{◌≡◌, ◌++◌, ◌∷◌, [], IfOk, IfSome, OnOk, IsSome, map};
 ghost use Rattle.std.specs.FinMap.Entries.{find as find_row};
 ghost use Rattle.zt_rows.specs.Keys.{rowkey_cmp};
@@ -9,7 +10,7 @@ use std::alloc::{AllocError, Global};
 use zt_rows::{Koid, ObjectRow, Row, RowKey};
 use zt_store::Store;
 
-/// Equal rows of the store with their keys, in the keys' order.
+/// Copies of the store's rows with their keys, in the order of the keys.
 pub(crate) fn rows_of(alloc: Global, store: &Store) -> Result<Vec<(RowKey, Row)>, AllocError>
     ensures { IfOk result (λ rows. rows.items ≡ store.now.state.rows) }
 {
@@ -22,7 +23,7 @@ pub(crate) fn rows_of(alloc: Global, store: &Store) -> Result<Vec<(RowKey, Row)>
     Ok(rows)
 }
 
-/// Puts an equal row with its key behind the others.
+/// Appends a copy of the row under the key, with the key.
 fn push_row(rows: &mut Vec<(RowKey, Row)>, store: &Store, key: &RowKey) -> Result<(), AllocError>
     requires { IsSome (row store.now.state key.now) }
     ensures { OnOk result (IfSome (row store.now.state key.now) (λ r. rows.new.items ≡ rows.old.items ++ (key.now, r) ∷ [])) }
@@ -36,7 +37,7 @@ fn push_row(rows: &mut Vec<(RowKey, Row)>, store: &Store, key: &RowKey) -> Resul
     }
 }
 
-/// Equal rows with their keys.
+/// Copies of the rows with their keys.
 pub(crate) fn copy_of_rows(
     alloc: Global,
     rows: &[(RowKey, Row)],
@@ -50,7 +51,7 @@ pub(crate) fn copy_of_rows(
     Ok(copied)
 }
 
-/// The keys of the rows.
+/// The keys of the rows, in their order.
 pub(crate) fn keys_among(alloc: Global, rows: &[(RowKey, Row)]) -> Result<Vec<RowKey>, AllocError>
     ensures { IfOk result (λ list. list.items ≡ map (λ e. e.0) rows.now) }
 {

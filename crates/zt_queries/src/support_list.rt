@@ -1,3 +1,5 @@
+//! Lists the supports of an object: the entries, message handles and live children that keep it.
+
 ghost use Rattle.std.specs.Prelude.{◌≡◌, ◌==◌, ◌-◌, ◌++◌, ◌∷◌, [], Some, Ok, IfOk, IfErr, OnOk, length, if◌then◌else◌};
 ghost use Rattle.std.specs.List.{cons_option, flat_map};
 ghost use Rattle.zt_rows.specs.Change.{keys};
@@ -15,7 +17,7 @@ use zt_history::History;
 use zt_rows::{HandleValue, Held, Items, Koid, ObjectRow, Refusal, Row, RowKey, Support};
 use zt_store::Store;
 
-/// Where supports come from.
+/// The rows from which supports come.
 #[derive(Clone, Copy)]
 enum Source {
     Entries,
@@ -23,8 +25,8 @@ enum Source {
     Children,
 }
 
-/// What keeps an object: entries, handles in messages, live children, itself, each kind by rising numbers. Refused
-/// where there is no such object.
+/// The supports of an object in a frozen copy: entries, handles in messages, live children, and then the object itself.
+/// Each kind is in rising order. Errors: `NoObject` if there is no such object, `OutOfMemory` if an allocation fails.
 pub fn holders(alloc: Global, frozen: &Frozen, koid: Koid) -> Result<Items<Support>, Refusal>
     ensures ok { IfOk result (λ found. holders_on frozen.now.state koid ≡ Ok found) }
     ensures refused { IfErr result (IsHistoryRefusal (holders_on frozen.now.state koid)) }
@@ -38,7 +40,8 @@ pub fn holders(alloc: Global, frozen: &Frozen, koid: Koid) -> Result<Items<Suppo
     }
 }
 
-/// What keeps an object at a history's position, in the same order. Refused where there is no such object.
+/// The supports of an object at a history's position, in the order of `holders`. Errors: `NoObject` if there is no such
+/// object, `OutOfMemory` if an allocation fails.
 pub fn holders_at(alloc: Global, history: &History, koid: Koid) -> Result<Items<Support>, Refusal>
     ensures ok { IfOk result (λ found. holders_on (state_at history.now.tree.made history.now.position) koid ≡ Ok found) }
     ensures refused { IfErr result (IsHistoryRefusal (holders_on (state_at history.now.tree.made history.now.position) koid)) }
@@ -46,7 +49,7 @@ pub fn holders_at(alloc: Global, history: &History, koid: Koid) -> Result<Items<
     holders_in(alloc, history.store(), koid)
 }
 
-/// The same of a store.
+/// The supports of an object in a store, in the order of `holders`.
 fn holders_in(alloc: Global, store: &Store, koid: Koid) -> Result<Items<Support>, Refusal>
     ensures ok { IfOk result (λ found. holders_on store.now.state koid ≡ Ok found) }
     ensures refused { IfErr result (IsHistoryRefusal (holders_on store.now.state koid)) }
@@ -58,7 +61,7 @@ fn holders_in(alloc: Global, store: &Store, koid: Koid) -> Result<Items<Support>
     Ok(Items::new(found))
 }
 
-/// What keeps the object of the koid in a copy of a history, where this is its row.
+/// The supports of the object of this koid in a frozen copy. `found` is the object's row there.
 fn frozen_supports(
     alloc: Global,
     frozen: &Frozen,
@@ -77,7 +80,7 @@ fn frozen_supports(
     Ok(list)
 }
 
-/// Puts the live children of a live job behind the others, in the order of the rows.
+/// Appends the live children of a live job, in the order of the rows.
 #[tactic(auto, using(crate::proofs::HoldLaws::children_among))]
 fn add_listed_children(
     list: &mut Vec<Support>,
@@ -93,7 +96,7 @@ fn add_listed_children(
     Ok(())
 }
 
-/// Puts the supports that come from one part of the rows behind the others, in the order of the rows.
+/// Appends the supports of the object that come from one kind of rows, in the order of the rows.
 fn add_listed(
     list: &mut Vec<Support>,
     rows: &[(RowKey, Row)],
@@ -108,8 +111,8 @@ fn add_listed(
     Ok(())
 }
 
-/// What keeps the object of the koid, of which this is the row. Each kind is looked for until there are as many as the store
-/// counts.
+/// The supports of the object of this koid, whose row is `found`. Each kind is searched until there are as many as the
+/// store counts.
 fn supports_of(
     alloc: Global,
     store: &Store,
@@ -131,7 +134,7 @@ fn supports_of(
     Ok(list)
 }
 
-/// So many without the live children that keep the object.
+/// This number without the live children that keep the object.
 fn without_children(others: u64, store: &Store, koid: Koid, found: &ObjectRow) -> u64
     ensures { result ≡ others - length (children (Some found.now) koid store.now.state.rows) }
 {
@@ -158,7 +161,7 @@ pub(crate) fn keys_of(alloc: Global, store: &Store) -> Result<Vec<RowKey>, Alloc
     Ok(list)
 }
 
-/// Puts the live children of a live job behind the others, until there are so many.
+/// Appends the live children of a live job, until the list has `most` items.
 #[tactic(auto, using(crate::proofs::HoldLaws::children_in))]
 fn add_children(
     list: &mut Vec<Support>,
@@ -175,7 +178,7 @@ fn add_children(
     Ok(())
 }
 
-/// Puts the object itself behind the others, where it keeps itself.
+/// Appends the object itself, if it keeps itself.
 fn add_itself(list: &mut Vec<Support>, koid: Koid, found: &ObjectRow) -> Result<(), AllocError>
     ensures { OnOk result (list.new.items ≡ list.old.items ++ itself (Some found.now) koid) }
 {
@@ -185,8 +188,8 @@ fn add_itself(list: &mut Vec<Support>, koid: Koid, found: &ObjectRow) -> Result<
     Ok(())
 }
 
-/// Behind which key the rows begin that may give supports of this kind: those of one kind of key stand together, entries behind
-/// objects and messages behind entries.
+/// The key behind which the rows begin that may give supports of this kind. The rows of one kind of key stand together:
+/// entries behind objects, and messages behind entries.
 fn rows_before(part: Source) -> Option<RowKey>
     ensures { result ≡ rows_before part }
 {
@@ -198,8 +201,8 @@ fn rows_before(part: Source) -> Option<RowKey>
     }
 }
 
-/// Puts the supports that come from one part of the rows behind the others, in the order of their rows, until there are so
-/// many. It goes over no rows before that part's.
+/// Appends the supports that come from one kind of rows, in the order of the rows, until the list has `most` items.
+/// Looks at no rows before those of this kind.
 fn add_supports(
     list: &mut Vec<Support>,
     store: &Store,
@@ -221,7 +224,7 @@ fn add_supports(
     Ok(())
 }
 
-/// Puts the supports behind the others that the row under a key gives.
+/// Appends the supports that the row under the key gives.
 fn add_under(
     list: &mut Vec<Support>,
     store: &Store,
@@ -238,7 +241,7 @@ fn add_under(
     }
 }
 
-/// Puts the supports behind the others that a row gives.
+/// Appends the supports that the row gives.
 fn add_given(
     list: &mut Vec<Support>,
     key: RowKey,
@@ -255,7 +258,7 @@ fn add_given(
     }
 }
 
-/// Puts the support, if there is one, behind the others.
+/// Appends the support, if there is one.
 fn push_if(list: &mut Vec<Support>, support: Option<Support>) -> Result<(), AllocError>
     ensures { OnOk result (list.new.items ≡ list.old.items ++ cons_option support []) }
 {
@@ -265,7 +268,7 @@ fn push_if(list: &mut Vec<Support>, support: Option<Support>) -> Result<(), Allo
     Ok(())
 }
 
-/// The support by an entry that names the object.
+/// The support by the row, if it is an entry that names the object.
 fn entry_support(koid: Koid, key: RowKey, found: &Row) -> Option<Support>
     ensures { result ≡ entry_support koid (key, found.now) }
 {
@@ -284,7 +287,7 @@ fn entry_support(koid: Koid, key: RowKey, found: &Row) -> Option<Support>
     }
 }
 
-/// The support by a live job or process whose parent is the object.
+/// The support by the row, if it is a live job or process whose parent is the object.
 fn child_support(koid: Koid, key: RowKey, found: &Row) -> Option<Support>
     ensures { result ≡ child_support koid (key, found.now) }
 {
@@ -303,7 +306,7 @@ fn child_support(koid: Koid, key: RowKey, found: &Row) -> Option<Support>
     }
 }
 
-/// Puts the places in a message behind the others whose handles name the object.
+/// If the row is a message, appends the places of its handles that name the object.
 fn add_places(
     list: &mut Vec<Support>,
     koid: Koid,
@@ -324,7 +327,7 @@ fn add_places(
     }
 }
 
-/// Puts the places of the handles behind the others that name the object.
+/// Appends the places of the handles that name the object.
 fn add_places_in(
     list: &mut Vec<Support>,
     koid: Koid,
@@ -345,7 +348,7 @@ fn add_places_in(
     Ok(())
 }
 
-/// Puts the place of a handle behind the others, where it names the object.
+/// Appends the place of a handle, if the handle names the object.
 fn add_place(
     list: &mut Vec<Support>,
     koid: Koid,

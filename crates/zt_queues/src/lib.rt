@@ -1,4 +1,4 @@
-//! The queue of an endpoint, over a step of the store: messages pushed at its end, and taken from its front.
+//! The message queue of an endpoint, over a step of the store. Messages are pushed at its end and taken from its front.
 #![tactic(auto)]
 
 mod queue_end;

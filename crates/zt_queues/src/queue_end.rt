@@ -1,3 +1,5 @@
+//! The end of an endpoint's queue, where messages are pushed.
+
 ghost use Rattle.std.specs.Prelude.{◌<◌, ◌+◌, ◌^◌, OnOk, OnErr};
 ghost use Rattle.zt_rows.specs.Reads.{object};
 ghost use Rattle.zt_rows.specs.Tests.{next_at};
@@ -9,8 +11,8 @@ use std::alloc::AllocError;
 use zt_rows::{Koid, Message, ObjectRow, Row, RowKey};
 use zt_store::Step;
 
-/// Adds the message at the end of the endpoint's queue, by the endpoint's next number. Where there is no such
-/// object, nothing changes.
+/// Adds the message at the end of the endpoint's queue, under the endpoint's next number. If there is no such object,
+/// nothing changes. If an allocation fails, all puts of the step are taken back.
 #[tactic(auto, using(crate::proofs::PutOrder::message_last))]
 pub fn push(step: &mut Step, endpoint: Koid, message: Message) -> Result<(), AllocError>
     requires { next_at step.old.current endpoint + 1 < 2 ^ 64 }

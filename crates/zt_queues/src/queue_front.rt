@@ -1,3 +1,5 @@
+//! The front of an endpoint's queue, where messages are taken.
+
 ghost use Rattle.std.specs.Prelude.{◌≡◌, IfOk, OnOk, OnErr};
 ghost use Rattle.std.specs.Option.{option_map};
 ghost use Rattle.zt_rows.specs.Reads.{queue};
@@ -10,7 +12,7 @@ use std::alloc::{AllocError, Global};
 use zt_rows::{Held, Koid, Message, RowKey};
 use zt_store::Step;
 
-/// The first message of the endpoint's queue, with its number. It takes no memory.
+/// The first message of the endpoint's queue, with its number. Never allocates.
 pub fn front(step: &Step, endpoint: Koid) -> Option<(u64, &Message)>
     ensures { option_map (λ f. (f.0, f.1.now)) result ≡ first (queue step.now.current endpoint) }
 {
@@ -20,8 +22,8 @@ pub fn front(step: &Step, endpoint: Koid) -> Option<(u64, &Message)>
     Some((number, message))
 }
 
-/// Takes the first message of the endpoint's queue away, and answers an equal one. Where the queue is empty, nothing
-/// changes.
+/// Takes away the first message of the endpoint's queue, and returns a copy of it. If the queue is empty, nothing
+/// changes. If an allocation fails, all puts of the step are taken back.
 #[tactic(auto, using(crate::proofs::TakenLaws::popped_some, crate::proofs::TakenLaws::popped_none))]
 pub fn pop(step: &mut Step, endpoint: Koid) -> Result<Option<Message>, AllocError>
     ensures message { IfOk result (λ message. message ≡ option_map (λ e. e.1) (first (queue step.old.current endpoint))) }
@@ -40,7 +42,8 @@ pub fn pop(step: &mut Step, endpoint: Koid) -> Result<Option<Message>, AllocErro
     Ok(Some(copied))
 }
 
-/// Takes all messages of the endpoint away, and answers what their handles hold, in the order of the queue.
+/// Takes away all messages of the endpoint, and returns what their handles hold, in the order of the queue. If an
+/// allocation fails, all puts of the step are taken back.
 pub fn take_all(alloc: Global, step: &mut Step, endpoint: Koid) -> Result<Vec<Held>, AllocError>
     ensures handles { IfOk result (λ taken. taken.items ≡ handles_of (queue step.old.current endpoint)) }
     ensures taken { OnOk result (Advanced step.old step.new (without_messages step.old.current endpoint)) }

@@ -1,3 +1,5 @@
+//! Calls, replies, commands and answers, with the data that they carry.
+
 ghost use Rattle.std.specs.Prelude.{◌≡◌, ◌↔◌, IfOk, IsSome, IfSome};
 ghost use Rattle.zt_rows.specs.Contents.{IsWithinMessage};
 ghost use Rattle.zt_rows.specs.Step.{IsCall};
@@ -13,7 +15,7 @@ use std::alloc::AllocError;
 use std::marker::Model;
 use zt_bits::{Kind, Signals, Status};
 
-/// What a call wants to send: bytes and the values of the caller's handles, within the limits of a message.
+/// What a call wants to send: bytes, and values of the caller's handles. It is within the limits of a message.
 #[derive(Debug, Drop)]
 pub struct Parcel {
     bytes: Items<u8>,
@@ -31,8 +33,7 @@ impl Model for Parcel {
 }
 
 impl Parcel {
-    /// The parcel of these bytes and handle values, where they are within the limits of a message. It takes
-    /// no memory.
+    /// Makes a parcel of these bytes and handle values; `None` if there are more than 65,536 bytes or 64 handles. Never allocates.
     pub fn new(bytes: Vec<u8>, handles: Vec<HandleValue>) -> Option<Parcel>
         ensures within { IsSome result ↔ IsWithinMessage bytes.items handles.items }
         ensures holds { IfSome result (λ p. (p.bytes ≡ bytes.items) × (p.handles ≡ handles.items)) }
@@ -60,14 +61,14 @@ impl Parcel {
         &self.handles
     }
 
-    /// A parcel is within the limits of a message.
+    /// States that a parcel is within the limits of a message.
     pub fn limits(&self)
         ensures { IsWithinMessage self.now.bytes self.now.handles }
     {
         let _ = &self.bytes;
     }
 
-    /// An equal parcel in memory of its own.
+    /// Copies the parcel into memory of its own.
     pub fn copy(&self) -> Result<Parcel, AllocError>
         ensures { IfOk result (λ copied. copied ≡ self.now) }
     {
@@ -106,13 +107,13 @@ pub enum Call {
         set: Signals,
     },
     ChannelCreate,
-    /// The parcel's handles leave the caller's table, also where the call fails.
+    /// The handles of the parcel leave the caller's table, even if the call fails.
     ChannelWrite {
         handle: HandleValue,
         parcel: Parcel,
     },
-    /// `bytes` and `handles` are what the caller has room for. A message for which there is no room stays in
-    /// its queue, or goes where it is to be discarded.
+    /// `bytes` and `handles` are how much the caller has room for. A message that does not fit stays in its queue; with
+    /// `discard` it is dropped.
     ChannelRead {
         handle: HandleValue,
         bytes: u32,
@@ -120,8 +121,8 @@ pub enum Call {
         discard: bool,
     },
     PortCreate,
-    /// When one of the signals stands on what the handle names, a packet under this key comes to the port. With `edge`
-    /// that is a signal that did not stand before the call at whose end it does.
+    /// The port gets a packet under this key when one of the signals is asserted on the handle's object. With `edge`,
+    /// the signal has to rise: it is asserted at a call's end and was not asserted at that call's start.
     ObjectWaitAsync {
         handle: HandleValue,
         port: HandleValue,
@@ -134,11 +135,11 @@ pub enum Call {
         key: u64,
         bytes: [u8; 32],
     },
-    /// The deadline has always passed: a port with no packet answers at once.
+    /// The deadline has always passed, so a port without packets answers `timed_out` at once.
     PortWait {
         port: HandleValue,
     },
-    /// The caller's waits on the handle `source` under this key leave the port, and so do their packets.
+    /// Removes from the port the caller's waits on the handle `source` under this key, and their packets.
     PortCancel {
         port: HandleValue,
         source: HandleValue,
@@ -147,28 +148,29 @@ pub enum Call {
     JobCreate {
         job: HandleValue,
     },
-    /// A process under the job, which receives the handle `argument`, or none where that is 0.
+    /// Makes a process under the job. It receives the handle `argument`, or none if that is 0.
     Spawn {
         job: HandleValue,
         argument: HandleValue,
     },
-    /// The process becomes critical to the job, which is above it: the job ends where the process does.
+    /// Makes the process critical to the job, which is above it: the job ends when the process ends.
     JobSetCritical {
         job: HandleValue,
         process: HandleValue,
     },
-    /// The process or job ends, and with it what is under a job that ends and what a process that ends is critical to.
+    /// Ends the process or job, and all that ends together with it. That is whatever is under an ending job, and each
+    /// job that an ending process is critical to.
     TaskKill {
         handle: HandleValue,
     },
-    /// The caller ends with this code, and what else ends with it is killed.
+    /// Ends the caller with this code. Everything else that ends with it is killed.
     ProcessExit {
         code: i64,
     },
 }
 
 impl Call {
-    /// A call is within the limits of its type.
+    /// States that a call is within the limits of its type.
     pub fn limits(&self)
         ensures { IsCall self.now }
     {
@@ -177,7 +179,7 @@ impl Call {
         }
     }
 
-    /// An equal call in memory of its own.
+    /// Copies the call into memory of its own.
     pub fn copy(&self) -> Result<Call, AllocError>
         ensures { IfOk result (λ copied. copied ≡ self.now) }
     {
@@ -248,14 +250,14 @@ pub enum Reply {
     Spawned(HandleValue, Koid),
     /// Ok with a message's bytes and the caller's new handles.
     Message(Items<u8>, Items<HandleValue>),
-    /// `buffer_too_small` with the numbers of bytes and of handles of the message.
+    /// `buffer_too_small`, with the message's numbers of bytes and of handles.
     TooSmall(u32, u32),
     /// Ok with the packet.
     Packet(Packet),
 }
 
 impl Reply {
-    /// The status that it has: what answers with more than a status went well, but where a message is too long.
+    /// The status of the reply: `BufferTooSmall` for `TooSmall`, and `Ok` for any other reply that carries values.
     pub fn status(&self) -> Status
         ensures { result ≡ status_of self.now }
     {
@@ -266,7 +268,7 @@ impl Reply {
         }
     }
 
-    /// An equal reply in memory of its own.
+    /// Copies the reply into memory of its own.
     pub fn copy(&self) -> Result<Reply, AllocError>
         ensures { IfOk result (λ copied. copied ≡ self.now) }
     {
@@ -282,16 +284,16 @@ impl Reply {
     }
 }
 
-/// Something that happens to an object in one call, whose moment can be asked for.
+/// Something that happens to an object in one call. Its moment can be asked for.
 #[derive(Clone, Copy, Debug)]
 pub enum Happening {
-    /// It did not exist before, and does then.
+    /// The object did not exist before the call, and exists after it.
     Made,
-    /// It existed and had not ended before, and then it has ended or is gone.
+    /// The object existed and had not ended before the call, and has ended or is gone after it.
     Ended,
-    /// No signal said before that its peer is closed, and then one does.
+    /// `PEER_CLOSED` was not asserted on the object before the call, and is asserted after it.
     PeerClosed,
-    /// It was not leaked before, and is then.
+    /// The object was not leaked before the call, and is leaked after it.
     Leaked,
 }
 
@@ -304,7 +306,7 @@ pub struct Event {
 }
 
 impl Event {
-    /// An equal event in memory of its own.
+    /// Copies the event into memory of its own.
     pub fn copy(&self) -> Result<Event, AllocError>
         ensures { IfOk result (λ copied. copied ≡ self.now) }
     {
@@ -320,30 +322,30 @@ impl Event {
 /// What a client asks of the debugger.
 #[derive(Debug, Drop)]
 pub enum Command {
-    /// A call of a process, at the head of the branch that the client follows.
+    /// Runs a call of a process at the head of the branch that the client follows.
     Call(Koid, Call),
-    /// To the moment, away from any branch.
+    /// Moves the client to a moment. It then follows no branch.
     Goto(Moment),
-    /// To the ancestor so many moments above the position, away from any branch.
+    /// Moves the client up its path by so many moments. It then follows no branch.
     Back(u32),
-    /// A new branch of this name at the position, which the client follows from then on.
+    /// Makes a branch of this name at the position. The client follows it from then on.
     Branch(Items<u8>),
-    /// The client follows the branch of this name.
+    /// Lets the client follow the branch of this name.
     Follow(Items<u8>),
-    /// The rows of the state at the position.
+    /// Shows the rows of the state at the position.
     Show,
-    /// What keeps the object at the position.
+    /// Shows what keeps the object at the position.
     Holders(Koid),
-    /// The leaked objects at the position.
+    /// Shows the leaked objects at the position.
     Leaks,
-    /// The moment on the path to the position at which it happened to the object, with its call.
+    /// Finds the moment on the path to the position at which this happened to the object, with its call.
     When(Happening, Koid),
-    /// A copy of the state at the position, which `pinned` lines ask.
+    /// Copies the state at the position. Lines that begin with `pinned` ask this copy.
     Pin,
 }
 
 impl Command {
-    /// An equal command in memory of its own.
+    /// Copies the command into memory of its own.
     pub fn copy(&self) -> Result<Command, AllocError>
         ensures { IfOk result (λ copied. copied ≡ self.now) }
     {
@@ -362,31 +364,31 @@ impl Command {
     }
 }
 
-/// What the debugger answers to a command that it did not refuse.
+/// The answer to a command that was not refused.
 #[derive(Debug, Drop)]
 pub enum Answer {
-    /// The new moment, and what the call answered.
+    /// The new moment, and the reply of the call.
     Called(Moment, Reply),
     /// The moment of the new position.
     At(Moment),
     /// The new branch, and its head.
     Branched(Items<u8>, Moment),
-    /// The branch that is followed from now on, and its head.
+    /// The branch that the client follows from now on, and its head.
     Followed(Items<u8>, Moment),
     /// The moment of the position, and its rows in the order of their keys.
     Rows(Moment, Items<(RowKey, Row)>),
-    /// The object and what keeps it: entries, handles in messages, live children, itself.
+    /// The object, and what keeps it in this order: entries, handles in messages, live children, itself.
     Holders(Koid, Items<Support>),
     /// The moment of the position, and its leaked objects by rising koid, with their kinds.
     Leaks(Moment, Items<(Koid, Kind)>),
-    /// The moment at which it happened, or that it never did.
+    /// The moment at which it happened, with its call; `None` if it never did.
     When(Option<Event>),
     /// The moment that is pinned from now on.
     Pinned(Moment),
 }
 
 impl Answer {
-    /// An equal answer in memory of its own.
+    /// Copies the answer into memory of its own.
     pub fn copy(&self) -> Result<Answer, AllocError>
         ensures { IfOk result (λ copied. copied ≡ self.now) }
     {
@@ -405,7 +407,7 @@ impl Answer {
     }
 }
 
-/// Equal rows under their keys, in memory of their own.
+/// Copies the rows with their keys into memory of their own.
 fn copied_rows(rows: &Items<(RowKey, Row)>) -> Result<Items<(RowKey, Row)>, AllocError>
     ensures { IfOk result (λ copied. copied ≡ rows.now) }
 {

@@ -1,9 +1,11 @@
+//! Lists in rows, calls and replies.
+
 ghost use Rattle.std.specs.Prelude.{◌≡◌, IfOk, length};
 
 use std::alloc::{AllocError, Global};
 use std::marker::Model;
 
-/// A list in a row, a call or a reply. It is made of a `Vec` and gives it back without taking memory.
+/// A list in a row, a call or a reply. It wraps a `Vec`.
 #[derive(Debug, Drop)]
 pub struct Items<T> {
     items: Vec<T>,
@@ -18,14 +20,14 @@ impl<T> Model for Items<T> {
 }
 
 impl<T> Items<T> {
-    /// The list of these elements.
+    /// Makes a list of these elements. Never allocates.
     pub fn new(items: Vec<T>) -> Items<T>
         ensures { result ≡ items.items }
     {
         Items { items }
     }
 
-    /// The elements as a `Vec`.
+    /// Returns the elements as a `Vec`. Never allocates.
     pub fn into_vec(self) -> Vec<T>
         ensures { result.items ≡ self }
     {
@@ -54,7 +56,7 @@ impl<T> Items<T> {
 }
 
 impl<T: Copy> Items<T> {
-    /// An equal list in memory of its own.
+    /// Copies the list into memory of its own.
     pub fn copy(&self) -> Result<Items<T>, AllocError>
         ensures { IfOk result (λ copied. copied ≡ self.now) }
     {

@@ -1,15 +1,18 @@
+//! Keys of rows, and their order.
+
 ghost use Rattle.std.specs.Prelude.{◌≡◌};
 ghost use Rattle.std.specs.Ordering.{as_partial_cmp};
 
 use crate::numbers::{HandleValue, Koid};
 use std::cmp::Ordering;
 
-/// What a row is found under. Keys are ordered by variant as listed, then by their numbers.
+/// The key under which a row stands. Keys are ordered by variant as listed, then by their first number, then by their
+/// second number.
 #[derive(Clone, Copy, Debug)]
 pub enum RowKey {
     Counters,
     Object(Koid),
-    /// An entry of a process's handle table.
+    /// An entry of a process's handle table, by its handle value.
     Entry(Koid, HandleValue),
     /// A message of an endpoint, by its number.
     Msg(Koid, u64),
@@ -92,7 +95,7 @@ impl Ord for RowKey {
 impl RowKey {
     ghost use Rattle.zt_rows.specs.Keys.{variant, first_number, second_number};
 
-    /// The number of the variant in their list.
+    /// The number of the variant in the list, from 0.
     fn variant(self) -> u8
         ensures { result ≡ variant self }
     {
@@ -106,7 +109,7 @@ impl RowKey {
         }
     }
 
-    /// The numbers of the key.
+    /// The two numbers of the key, 0 for a number that it does not have.
     fn numbers(self) -> (u64, u64)
         ensures first { result.0 ≡ first_number self }
         ensures second { result.1 ≡ second_number self }

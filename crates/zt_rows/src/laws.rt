@@ -1,5 +1,6 @@
-//! What holds of every state and every change of one, and of what follows every call. Each law is the contract
-//! of a function that does nothing.
+//! Laws of all states, of changes of a state, and of what follows a call. Each law is the contract of a function that
+//! does nothing.
+
 ghost use Rattle.std.specs.Prelude.{◌≡◌, ◌↔◌, ◌≤◌, ◌<◌, ◌+◌, true, if◌then◌else◌, List, map, Option, Some, option_and_then, ◌||◌, ℕ, Bool, false};
 ghost use Rattle.std.specs.List.{IsDistinct};
 ghost use Rattle.zt_rows.specs.declared.keys.RowKey.{RowKey};
@@ -21,33 +22,33 @@ ghost use Rattle.zt_rows.specs.Room.{HasRoom, HasSpent, most_calls};
 ghost use Rattle.zt_rows.specs.Opening.{opening};
 ghost use Rattle.zt_rows.specs.Step.{IsCall, step};
 
-/// After a row is put, it stands under its key and every other row is as it was.
+/// After a row is put, it stands under its key, and every other row is as it was.
 #[tactic(auto, using(crate::proofs::StateLaws::put_laws))]
 pub fn put_changes_one_row()
     ensures { (s : State) (k : RowKey) (r : Option Row) (q : RowKey)
         → row (put s k r) q ≡ (if rowkey_eq q k then r else row s q) }
 {}
 
-/// After a change of each row, what stands under a key is what the change makes of what stood there.
+/// A change works row by row: the row under a key afterwards is what the change makes of the row that stood there.
 #[tactic(auto, using(crate::proofs::StateLaws::change_laws))]
 pub fn change_works_row_by_row()
     ensures { (f : RowKey → Row → Option Row) (s : State) (q : RowKey)
         → row (change f s) q ≡ option_and_then (f q) (row s q) }
 {}
 
-/// States with the same rows are one.
+/// Two states with the same rows are equal.
 #[tactic(auto, using(crate::proofs::StateLaws::same_state))]
 pub fn same_rows_are_one_state()
     ensures { (s t : State) → ((k : RowKey) → row s k ≡ row t k) → s ≡ t }
 {}
 
-/// The test that two rows are one is exact.
+/// The equality test of rows is exact: it holds for equal rows and for no others.
 #[tactic(auto, using(crate::proofs::ChangeLaws::exact_laws))]
 pub fn row_test_is_exact()
     ensures { (a b : Row) → (row_eq a b ≡ true) ↔ (a ≡ b) }
 {}
 
-/// To exchange a record with distinct keys twice changes nothing.
+/// Exchanging a record with distinct keys twice changes neither the state nor the record.
 #[tactic(auto, using(crate::proofs::ChangeLaws::twice_laws))]
 pub fn exchanging_twice_changes_nothing()
     ensures { (s : State) (rows : List (RowKey × Option Row))
@@ -55,22 +56,22 @@ pub fn exchanging_twice_changes_nothing()
         → exchange (exchange s rows).0 (exchange s rows).1 ≡ (s, rows) }
 {}
 
-/// What was before, exchanged with the state after, restores the state before, and leaves the record by which
-/// the state after comes back.
+/// A record keeps the rows from before a change. Exchanging it with the state after the change restores the state
+/// before. The record then brings the state after back.
 #[tactic(auto, using(crate::proofs::ChangeLaws::before_laws))]
 pub fn exchanging_back_restores()
     ensures { (s after : State) → exchange after (before s after) ≡ (s, before after s) }
 {}
 
-/// Over a path of states the records, exchanged from the last to the first, restore the first state.
+/// Exchanging the records of a path of states, from the last to the first, restores the first state.
 #[tactic(auto, using(crate::proofs::ChangeLaws::path_laws))]
 pub fn undoing_a_path_restores()
     ensures { (s : State) (path : List State)
         → (exchange_back (end_of s path) (records_of s path)).0 ≡ s }
 {}
 
-/// Over a path of states the records, exchanged from the last to the first and then from the first to the last,
-/// are the records again, and the state is the last one again.
+/// Exchanging the records of a path from the last to the first, and then from the first to the last, changes nothing.
+/// The records and the last state are as they were.
 #[tactic(auto, using(crate::proofs::ChangeLaws::turned_laws))]
 pub fn a_path_is_made_again()
     ensures back { (s : State) (path : List State)
@@ -79,21 +80,21 @@ pub fn a_path_is_made_again()
         → exchange_forth s (forth_of s path) ≡ (end_of s path, records_of s path) }
 {}
 
-/// A consistent state is at rest: nothing is left to be removed, renewed or fired.
+/// A consistent state is at rest: nothing is left to remove, to renew or to fire.
 #[tactic(auto, using(crate::proofs::SettleLaws::rest_laws))]
 pub fn consistent_is_at_rest()
     ensures collected { (S : State) → IsConsistent S → collect S ≡ S }
     ensures settled { (S : State) → IsConsistent S → settle S S ≡ S }
 {}
 
-/// Nothing goes after collecting: every object that is left has a support.
+/// After collecting, every object that is left has a support.
 #[tactic(auto, using(crate::proofs::CollectLaws::collect_laws))]
 pub fn collected_is_supported()
     ensures { (S : State) (x : ℕ) → goes (collect S) x ≡ false }
 {}
 
-/// What is sound is consistent once it is collected and settled, whatever it came from, so a call owes no more than a
-/// sound state.
+/// A sound state becomes consistent when it is collected and settled, whatever state it came from. So a call only has
+/// to leave a sound state.
 pub fn sound_becomes_consistent()
     ensures { (S T : State) → IsSound T → IsConsistent (settle S (collect T)) }
 {}
@@ -110,8 +111,8 @@ pub fn opening_is_consistent()
     ensures { IsConsistent opening }
 {}
 
-/// The opening has given out few numbers, each call gives out few more, and where no more calls gave them out
-/// than a history can have, there is room for one more call.
+/// The opening has given out few numbers, and each call gives out few more. If no more calls gave numbers out than a
+/// history can have, there is room for one more call.
 pub fn few_calls_leave_room()
     ensures opening { HasSpent 0 opening }
     ensures call { (S : State) (p : ℕ) (c : Call) (calls : ℕ) → calls < most_calls → IsConsistent S
@@ -119,7 +120,7 @@ pub fn few_calls_leave_room()
     ensures room { (S : State) (calls : ℕ) → calls ≤ most_calls → HasSpent calls S → HasRoom S }
 {}
 
-/// What ends with a live process or job is the least set that ends together and has it.
+/// What ends with a live process or job of a sound state is the least closed set that has it.
 pub fn what_ends_is_the_least_closed_set()
     ensures has { (S : State) (x : ℕ) (o : ObjectRow) → IsSound S → object S x ≡ Some o → is_live_task (Some o) ≡ true
         → ends_with S x x ≡ true }
@@ -130,14 +131,14 @@ pub fn what_ends_is_the_least_closed_set()
         → (y : ℕ) → ends_with S x y ≡ true → ending y ≡ true }
 {}
 
-/// To remove one set of objects and then another is to remove both.
+/// Removing one set of objects and then another is removing both at once.
 pub fn removing_twice_removes_both()
     ensures { (S : State) (b c : ℕ → Bool)
         → without (without S b) c ≡ without S (λ x. b x || c x) }
 {}
 
-/// Collecting is the removal of any set that was built one object at a time, each of which nothing supported
-/// once those before it were gone, until nothing was left to go: the order does not matter.
+/// The order of removal does not matter. A set may be built one object at a time, each without support once those
+/// before it are gone. If nothing is left to go once the whole set is removed, removing it is the same as collecting.
 pub fn order_of_removal_is_free()
     ensures { (S : State) (b : ℕ → Bool) → Justified S b
         → ((x : ℕ) → goes (without S b) x ≡ false) → collect S ≡ without S b }

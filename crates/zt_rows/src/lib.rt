@@ -1,5 +1,5 @@
-//! What the debugger keeps of a kernel: the rows of objects, handles, messages, packets and waits under
-//! their keys, and the calls, replies and refusals that are made of them.
+//! The debugger's model of a kernel: rows of objects, handles, messages, packets and waits under their keys. The crate
+//! also has calls, replies, commands, refusals and saved trees.
 #![tactic(auto)]
 
 mod calls;

@@ -1,12 +1,15 @@
+//! Fixed numbers: the first koids, the first handle value, and the limits of messages, histories and books.
+
 use crate::numbers::{HandleValue, Koid};
 
-/// The koid of the root job, which keeps itself and is never leaked.
+/// The koid of the root job, which supports itself and is never leaked.
 pub const ROOT_JOB: Koid = Koid(1024);
 
-/// The koid of the root process, which is there at the opening, under the root job.
+/// The koid of the root process, which is under the root job at the opening.
 pub const ROOT_PROCESS: Koid = Koid(1025);
 
-/// The first handle that a process can have: the root process's to the root job, and that of another to what it was handed.
+/// The first handle value of a process. The root process has its handle to the root job there, and a spawned process
+/// its argument, if it has one.
 pub const FIRST_HANDLE: HandleValue = HandleValue(3);
 
 /// The most bytes that a message carries.
@@ -21,5 +24,5 @@ pub const LAST_MOMENT: u32 = 1_048_576;
 /// The most clients of a book.
 pub const CLIENTS: u8 = 4;
 
-/// The most commands that are answered to a client.
+/// The most commands that a book answers to one client.
 pub const CLIENT_ROWS: u32 = 4096;

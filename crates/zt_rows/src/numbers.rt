@@ -1,6 +1,8 @@
+//! The numbers of kernel objects, handles and moments.
+
 use std::marker::Model;
 
-/// The number of a kernel object: unique along a path of history, 0 for none.
+/// The number of a kernel object, unique along a path of history; 0 stands for no object.
 #[derive(Clone, Copy, Debug, PartialEq, Eq, PartialOrd, Ord)]
 pub struct Koid(pub u64);
 
@@ -14,7 +16,7 @@ impl Model for Koid {
     ghost inverse = { λ n. record { 0 = n } };
 }
 
-/// The number by which a process names an entry of its handle table; 0 is never an entry's.
+/// The number by which a process names an entry of its handle table; 0 never names one.
 #[derive(Clone, Copy, Debug, PartialEq, Eq, PartialOrd, Ord)]
 pub struct HandleValue(pub u32);
 

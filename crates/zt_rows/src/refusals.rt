@@ -1,26 +1,28 @@
+//! Refusals: why the debugger did not do what it was asked.
+
 ghost use Rattle.std.specs.Prelude.{◌≡◌};
 ghost use Rattle.zt_rows.specs.Refusals.{refusal_number, refusal_name};
 
 use std::alloc::AllocError;
 
-/// Why the debugger did not do what it was asked; nothing is changed by it.
+/// Why the debugger did not do what it was asked. A refusal changes nothing.
 #[derive(Clone, Copy, Debug, PartialEq, Eq)]
 pub enum Refusal {
-    /// Memory was refused.
+    /// An allocation failed.
     OutOfMemory,
-    /// The caller is not a live process of that state.
+    /// The caller is not a live process in that state.
     NoProcess,
-    /// The last moment exists.
+    /// The history has its last moment already.
     Full,
     NoMoment,
     NoBranch,
     NameTaken,
-    /// A call while the cursor follows no branch.
+    /// A call was asked for while the client follows no branch.
     Detached,
-    /// Fewer ancestors than asked.
+    /// The position has fewer ancestors than were asked for.
     AtStart,
     NoObject,
-    /// The line has not the form wanted at this column, counted from 1.
+    /// The line is malformed: the parse error is at this column, counted from 1.
     BadLine(u64),
     LineTooLong,
     ClientFull,

@@ -1,3 +1,5 @@
+//! Rows: what a state has of counters, objects, entries, messages, packets and waits.
+
 ghost use Rattle.std.specs.Prelude.{◌≡◌, ◌≤◌, ◌==◌, ◌||◌, ◌↔◌, IfOk, IsSome, IfSome, length};
 ghost use Rattle.std.specs.List.{list_any};
 ghost use Rattle.std.specs.Option.{option_copied};
@@ -13,14 +15,14 @@ use std::alloc::AllocError;
 use std::marker::Model;
 use zt_bits::{Kind, Rights, Signals};
 
-/// The next numbers that the system gives out.
+/// The numbers that the system gives out next: a koid, and the number of a wait.
 #[derive(Clone, Copy, Debug, PartialEq, Eq)]
 pub struct Counters {
     pub next_koid: Koid,
     pub next_wait: u64,
 }
 
-/// What a handle holds: the object that it names, and what it allows with it.
+/// What a handle holds: the koid of the object that it names, and its rights to the object.
 #[derive(Clone, Copy, Debug, PartialEq, Eq)]
 pub struct Held {
     pub koid: Koid,
@@ -35,9 +37,9 @@ pub enum Life {
     Exited(i64),
 }
 
-/// An object. `link` is the peer of an endpoint, the parent of a live process or job, or 0. `next` is the
-/// next number of what the object owns: handles of a process, messages of an endpoint, packets of a port.
-/// `critical` is the job that ends where this live process ends, or 0.
+/// An object. `link` is the peer of an endpoint, the parent of a live process or job, or 0. `next` is the next number
+/// of what the object owns: handles of a process, messages of an endpoint, packets of a port. `critical` is the job
+/// that ends when this live process ends, or 0.
 #[derive(Clone, Copy, Debug, PartialEq, Eq)]
 pub struct ObjectRow {
     pub kind: Kind,
@@ -51,7 +53,7 @@ pub struct ObjectRow {
 impl ObjectRow {
     ghost use Rattle.zt_rows.specs.Handles.{fresh};
 
-    /// A new live object of the kind, linked so.
+    /// Makes a new live object of this kind and link. It has no signals and owns nothing yet.
     pub fn new(kind: Kind, link: Koid) -> ObjectRow
         ensures { result ≡ fresh kind link }
     {
@@ -97,7 +99,8 @@ impl ObjectRow {
         self.is_task() && self.life == Life::Live
     }
 
-    /// Whether it stays where no handle names it: the root job, or a process that has not ended.
+    /// Whether the object of this koid supports itself, so that it stays without any handle. The root job does, and so
+    /// does a process that has not ended.
     #[inline(always)]
     pub fn keeps_itself(&self, koid: Koid) -> bool
         ensures { result ≡ (is_live_process self.now || (koid == root_job)) }
@@ -106,7 +109,7 @@ impl ObjectRow {
     }
 }
 
-/// A message that waits in the queue of an endpoint, within the limits of a message.
+/// A message in the queue of an endpoint. It is within the limits of a message.
 #[derive(Debug, Drop)]
 pub struct Message {
     bytes: Items<u8>,
@@ -126,7 +129,7 @@ impl Model for Message {
 impl Message {
     ghost use Rattle.zt_rows.specs.Contents.{MessageContent};
 
-    /// The message of these bytes and handles, where they are within the limits of a message.
+    /// Makes a message of these bytes and handles; `None` if there are more than 65,536 bytes or 64 handles.
     pub fn new(bytes: Items<u8>, handles: Items<Held>) -> Option<Message>
         ensures within { IsSome result ↔ IsWithinMessage bytes handles }
         ensures holds { IfSome result (λ m. (m.bytes ≡ bytes) × (m.handles ≡ handles)) }
@@ -162,7 +165,7 @@ impl Message {
         (bytes, handles)
     }
 
-    /// An equal message in memory of its own.
+    /// Copies the message into memory of its own.
     pub fn copy(&self) -> Result<Message, AllocError>
         ensures { IfOk result (λ copied. copied ≡ self.now) }
     {
@@ -185,14 +188,14 @@ impl PartialEq for Message {
     }
 }
 
-/// What waits in a port: bytes that a user sent, or the news that a wait fired.
+/// A packet in a port: bytes that a user sent, or the news that a wait fired.
 #[derive(Clone, Copy, Debug, PartialEq, Eq)]
 pub enum Packet {
     User {
         key: u64,
         bytes: [u8; 32],
     },
-    /// `trigger` is what was waited for, `observed` all signals of the object when the wait fired.
+    /// `trigger` has the signals that were waited for, `observed` all signals of the object when the wait fired.
     Signal {
         key: u64,
         trigger: Signals,
@@ -202,8 +205,8 @@ pub enum Packet {
     },
 }
 
-/// A wait: when one of the signals stands on what the handle names, a packet goes to the port. With `edge` it is not
-/// enough that one stands: it must have come to stand in a call.
+/// A wait: when one of the signals is asserted on the handle's object, a packet goes to the port. With `edge`, the
+/// signal has to rise: it is asserted at a call's end and was not asserted at that call's start.
 #[derive(Clone, Copy, Debug, PartialEq, Eq)]
 pub struct Wait {
     pub process: Koid,
@@ -214,7 +217,7 @@ pub struct Wait {
     pub edge: bool,
 }
 
-/// What stands under a key: one variant for each variant of the key.
+/// The row under a key, with one variant for each variant of the key.
 #[derive(Debug, Drop)]
 pub enum Row {
     Counters(Counters),
@@ -226,7 +229,7 @@ pub enum Row {
 }
 
 impl Row {
-    /// The object, if there is a row and it is one.
+    /// The object, if there is a row and it is an object.
     #[inline(always)]
     pub fn as_object(row: Option<&Row>) -> Option<&ObjectRow>
         ensures { option_copied result ≡ as_object (option_copied row.entry) }
@@ -237,7 +240,7 @@ impl Row {
         }
     }
 
-    /// What an entry holds, if there is a row and it is one.
+    /// What the entry holds, if there is a row and it is an entry.
     #[inline(always)]
     pub fn as_entry(row: Option<&Row>) -> Option<Held>
         ensures { result ≡ as_entry (option_copied row.entry) }
@@ -248,7 +251,7 @@ impl Row {
         }
     }
 
-    /// The message, if there is a row and it is one.
+    /// The message, if there is a row and it is a message.
     #[inline(always)]
     pub fn as_message(row: Option<&Row>) -> Option<&Message>
         ensures { option_copied result ≡ as_message (option_copied row.entry) }
@@ -259,7 +262,7 @@ impl Row {
         }
     }
 
-    /// The packet, if there is a row and it is one.
+    /// The packet, if there is a row and it is a packet.
     #[inline(always)]
     pub fn as_packet(row: Option<&Row>) -> Option<Packet>
         ensures { result ≡ as_packet (option_copied row.entry) }
@@ -270,7 +273,7 @@ impl Row {
         }
     }
 
-    /// The wait, if there is a row and it is one.
+    /// The wait, if there is a row and it is a wait.
     #[inline(always)]
     pub fn as_wait(row: Option<&Row>) -> Option<Wait>
         ensures { result ≡ as_wait (option_copied row.entry) }
@@ -281,7 +284,7 @@ impl Row {
         }
     }
 
-    /// Whether there is a row and it names the object: as an entry, or as a message with a handle that does.
+    /// Whether there is a row and it names the object: it is an entry that does, or a message with a handle that does.
     pub fn names(row: Option<&Row>, koid: Koid) -> bool
         ensures { result ≡ names koid (option_copied row.entry) }
     {
@@ -292,7 +295,7 @@ impl Row {
         }
     }
 
-    /// An equal row in memory of its own.
+    /// Copies the row into memory of its own.
     pub fn copy(&self) -> Result<Row, AllocError>
         ensures { IfOk result (λ copied. copied ≡ self.now) }
     {

@@ -1,3 +1,5 @@
+//! Saved trees: moments, branches and cursors, as they are written down and read again.
+
 ghost use Rattle.std.specs.Prelude.{◌≡◌, IfOk};
 
 use crate::calls::Call;
@@ -5,7 +7,7 @@ use crate::items::Items;
 use crate::numbers::{Koid, Moment};
 use std::alloc::AllocError;
 
-/// How a moment of a saved tree was made: at which moment, and by which call of which process.
+/// How a moment of a saved tree was made: at which moment, by which process, and by which call.
 #[derive(Debug, Drop)]
 pub struct SavedCall {
     pub parent: Moment,
@@ -14,7 +16,7 @@ pub struct SavedCall {
 }
 
 impl SavedCall {
-    /// An equal call of a saved tree, in memory of its own.
+    /// Copies the saved call into memory of its own.
     pub fn copy(&self) -> Result<SavedCall, AllocError>
         ensures { IfOk result (λ copied. copied ≡ self.now) }
     {
@@ -35,7 +37,7 @@ pub struct SavedBranch {
 }
 
 impl SavedBranch {
-    /// An equal branch of a saved tree, in memory of its own.
+    /// Copies the saved branch into memory of its own.
     pub fn copy(&self) -> Result<SavedBranch, AllocError>
         ensures { IfOk result (λ copied. copied ≡ self.now) }
     {
@@ -57,7 +59,7 @@ pub enum Cursor {
 }
 
 impl Cursor {
-    /// An equal cursor, in memory of its own.
+    /// Copies the cursor into memory of its own.
     pub fn copy(&self) -> Result<Cursor, AllocError>
         ensures { IfOk result (λ copied. copied ≡ self.now) }
     {
@@ -68,20 +70,20 @@ impl Cursor {
     }
 }
 
-/// A tree of moments as it is written down and read again. It is what somebody wrote: whether there is such a tree is
-/// found where it is loaded.
+/// A tree of moments, as it is written down and read again. It is only what somebody wrote: loading it finds out
+/// whether there is such a tree.
 #[derive(Debug, Drop)]
 pub struct Saved {
-    /// Those after the opening: moment n is the n-th, counted from 1.
+    /// The moments after the opening. Moment n is the n-th, counted from 1.
     pub moments: Items<SavedCall>,
-    /// In the order in which they were made.
+    /// The branches, in the order in which they were made.
     pub branches: Items<SavedBranch>,
-    /// Those of the clients 1, 2 and so on.
+    /// The cursors of the clients 1, 2 and so on.
     pub cursors: Items<Cursor>,
 }
 
 impl Saved {
-    /// An equal tree, in memory of its own.
+    /// Copies the tree into memory of its own.
     pub fn copy(&self) -> Result<Saved, AllocError>
         ensures { IfOk result (λ copied. copied ≡ self.now) }
     {
@@ -96,7 +98,7 @@ impl Saved {
     }
 }
 
-/// Equal calls of a saved tree, in memory of their own.
+/// Copies the calls of a saved tree into memory of their own.
 fn copied_moments(moments: &Items<SavedCall>) -> Result<Items<SavedCall>, AllocError>
     ensures { IfOk result (λ copied. copied ≡ moments.now) }
 {
@@ -107,7 +109,7 @@ fn copied_moments(moments: &Items<SavedCall>) -> Result<Items<SavedCall>, AllocE
     Ok(Items::new(copied))
 }
 
-/// Equal branches of a saved tree, in memory of their own.
+/// Copies the branches of a saved tree into memory of their own.
 fn copied_branches(branches: &Items<SavedBranch>) -> Result<Items<SavedBranch>, AllocError>
     ensures { IfOk result (λ copied. copied ≡ branches.now) }
 {
@@ -118,7 +120,7 @@ fn copied_branches(branches: &Items<SavedBranch>) -> Result<Items<SavedBranch>, 
     Ok(Items::new(copied))
 }
 
-/// Equal cursors, in memory of their own.
+/// Copies the cursors into memory of their own.
 fn copied_cursors(cursors: &Items<Cursor>) -> Result<Items<Cursor>, AllocError>
     ensures { IfOk result (λ copied. copied ≡ cursors.now) }
 {

@@ -1,5 +1,5 @@
-//! An account: a list of rows that two sides keep in common, though only one of them is at hand at a time. It knows
-//! nothing of what the rows say.
+//! An account: a list of rows that two sides have in common, though only one of the sides is at hand at a time. An account does
+//! not depend on what its rows mean.
 ghost use Rattle.std.specs.Prelude.{◌≡◌, ℕ, ◌≤◌, ◌<◌, ◌++◌, ◌∷◌, [], length, slice_index, slice_index_or, vec_len, vec_capacity, OnOk, OnErr, IfSome, None, Some};
 ghost use Rattle.once_cell.specs.Once.{cell_name, Agrees};
 ghost use Rattle.zt_shared.specs.Accounts.{most, cells_of, known_of};
@@ -11,7 +11,7 @@ use std::sync::ledger;
 use std::sync::ledger::{Book, Ledger, Share};
 use zt_rows::CLIENT_ROWS;
 
-/// Which account it is: the ledger's name, and the names of the cells in their order.
+/// The name of an account: the ledger's name, and the names of the cells in order.
 pub trait Naming: Ledger {
     ghost use Rattle.std.specs.Prelude.{ℕ, List};
 
@@ -24,7 +24,7 @@ impl Naming for Brand {
     ghost cells = { [] };
 }
 
-/// An account without rows, which no type names yet.
+/// An account without rows, before a type names it.
 #[derive(Drop)]
 pub struct Blank<T> {
     cells: Vec<OnceBox<T>>,
@@ -43,14 +43,14 @@ impl<T> Model for Blank<T> {
     ghost invariant = { λ b. (b.ledger.parts ≡ 1) × (length b.cells.items ≡ most) };
 }
 
-/// A note in a list. A note alone takes no bytes, and no list is made of such.
+/// A note in a list. The number gives it a size: a note alone has no bytes, and a list needs items that have some.
 #[derive(Drop)]
 struct NoteSlot<T> {
     number: usize,
     note: Note<T>,
 }
 
-/// The side of the account that lies under a lock. Contracts see its rows, though it holds none of them, and its room.
+/// The side of the account that lies under a lock. Contracts see its rows, though it does not hold them, and its room.
 #[derive(Drop)]
 pub struct LockSide<N: Naming, T> {
     cells: Vec<OnceBox<T>>,
@@ -70,7 +70,7 @@ impl<N: Naming, T> Model for LockSide<N, T> {
     ghost invariant = { λ k. (map cell_name k.cells.items ≡ N.cells) × KnowsItsRows N.cells k.notes.items (somes (known_of k.notes.items)) × (k.book.total ≡ length k.notes.items) };
 }
 
-/// The side of the account that a client has. Contracts see its rows, and its room.
+/// The side of the account that a client has. Contracts see its rows and its room.
 #[derive(Drop)]
 pub struct PassSide<N: Naming, T> {
     rows: Vec<T>,
@@ -90,7 +90,7 @@ impl<N: Naming, T> Model for PassSide<N, T> {
 }
 
 impl<T: Drop> Blank<T> {
-    /// An account with an empty cell for each row that it takes.
+    /// Makes an account with `CLIENT_ROWS` empty cells, one for each row that it can take.
     pub fn new(alloc: Global) -> Result<Blank<T>, AllocError> {
         let mut cells = Vec::with_capacity(alloc, CLIENT_ROWS as usize)?;
         for _ in 0..CLIENT_ROWS {
@@ -102,7 +102,7 @@ impl<T: Drop> Blank<T> {
         })
     }
 
-    /// The two sides of the account, under the name that was picked for it. It takes no memory.
+    /// Returns the two sides of the account, under the name that was chosen for it. Never allocates.
     pub fn open<N: Naming>(self, alloc: Global) -> (LockSide<N, T>, PassSide<N, T>)
         requires ledger { self.ledger ≡ N.name }
         requires whole { N.parts ≡ 1 }
@@ -127,12 +127,12 @@ impl<T: Drop> Blank<T> {
     }
 }
 
-/// Why a row was not added: memory was refused, or its cell.
+/// A row was not added, because an allocation failed or its cell was not empty.
 #[derive(Debug, Drop)]
 pub struct Refused;
 
 impl<N: Naming, T: Drop> LockSide<N, T> {
-    /// The two sides have the same rows. It changes nothing and takes no memory.
+    /// Shows that both sides have the same rows. Changes nothing, and never allocates.
     pub fn agree(&mut self, side: &mut PassSide<N, T>)
         ensures lock { self.new ≡ self.old }
         ensures pass { side.new ≡ side.old }
@@ -142,7 +142,8 @@ impl<N: Naming, T: Drop> LockSide<N, T> {
         compare_all(&mut self.notes, &mut side.notes);
     }
 
-    /// Asks for the memory that one row more takes on both sides: adding it asks for no more, but for the row's own.
+    /// Allocates room for one more row on both sides. Adding the row then allocates nothing but the row itself. Fails with
+    /// `Refused` if an allocation fails.
     pub fn reserve(&mut self, side: &mut PassSide<N, T>) -> Result<(), Refused>
         ensures lock { self.new.rows ≡ self.old.rows }
         ensures pass { side.new.rows ≡ side.old.rows }
@@ -151,7 +152,8 @@ impl<N: Naming, T: Drop> LockSide<N, T> {
         room(&mut self.notes, &mut side.notes, &mut side.rows)
     }
 
-    /// Puts a row on both sides, and an equal one into its cell, or, refused, does neither.
+    /// Adds a row to both sides, and puts the equal `shown` into the row's cell. Fails with `Refused` if an allocation fails or
+    /// the cell is not empty; then neither side has the row.
     pub fn add(&mut self, side: &mut PassSide<N, T>, shown: Box<T>, row: T) -> Result<(), Refused>
         requires room { length self.old.rows < most }
         requires equal { shown.value ≡ row }
@@ -179,7 +181,7 @@ impl<N: Naming, T: Drop> LockSide<N, T> {
 }
 
 impl<N: Naming, T> PassSide<N, T> {
-    /// The rows.
+    /// Returns the rows.
     pub fn rows(&self) -> &[T]
         ensures { result.now ≡ self.now.rows }
     {
@@ -187,7 +189,7 @@ impl<N: Naming, T> PassSide<N, T> {
     }
 }
 
-/// Makes room for one more in each of the three.
+/// Makes room for one more item in each of the three lists.
 fn room<T>(
     ours: &mut Vec<NoteSlot<T>>,
     theirs: &mut Vec<NoteSlot<T>>,
@@ -212,7 +214,7 @@ fn room<T>(
     Ok(())
 }
 
-/// Notes of the same cells, in turn, know the same rows.
+/// Shows that notes of the same cells, in the same order, know the same rows.
 fn compare_all<T>(ours: &mut Vec<NoteSlot<T>>, theirs: &mut Vec<NoteSlot<T>>)
     requires many { length ours.old.items ≡ length theirs.old.items }
     requires cells { cells_of ours.old.items ≡ cells_of theirs.old.items }
@@ -227,7 +229,7 @@ fn compare_all<T>(ours: &mut Vec<NoteSlot<T>>, theirs: &mut Vec<NoteSlot<T>>)
     }
 }
 
-/// The notes at this place, of one cell, know one row.
+/// Shows that the two notes at this place, which are of one cell, know the same row.
 fn compare<T>(ours: &mut Vec<NoteSlot<T>>, theirs: &mut Vec<NoteSlot<T>>, at: usize)
     requires ours { at < length ours.old.items }
     requires theirs { at < length theirs.old.items }
@@ -244,7 +246,7 @@ fn compare<T>(ours: &mut Vec<NoteSlot<T>>, theirs: &mut Vec<NoteSlot<T>>, at: us
     mine.note.compare(note);
 }
 
-/// Sets an empty cell, and notes what stands in it.
+/// Sets an empty cell, and returns a note of its content. Returns `None` if the cell is not empty.
 pub(crate) fn claim<T: Drop>(cell: &OnceBox<T>, shown: Box<T>) -> Option<Note<T>>
     ensures { IfSome result (λ note. (note.cell ≡ cell_name cell.now) × (note.known ≡ Some shown.value)) }
 {

@@ -1,3 +1,5 @@
+//! One turn of a client: its command is answered by the book, and added to both sides of its account.
+
 ghost use Rattle.std.specs.Prelude.{◌≡◌, ◌≢◌, ◌≤◌, ◌<◌, ◌++◌, ◌∷◌, [], Ok, Err, IfOk, IfErr, OnOk, OnErr, length};
 ghost use Rattle.zt_rows.specs.declared.calls.Command.TheVariants as command;
 ghost use Rattle.zt_rows.specs.declared.refusals.Refusal.TheVariants as refusal;
@@ -13,7 +15,7 @@ use zt_book::Book;
 use zt_queries::Frozen;
 use zt_rows::{Answer, Command, Refusal};
 
-/// Puts a command with its answer into both sides of an account, or, refused, into neither.
+/// Adds a command with its answer to both sides of an account. If that fails, neither side has it.
 fn enter<N: Naming>(
     alloc: Global,
     ours: &mut LockSide<N, Said>,
@@ -32,7 +34,7 @@ fn enter<N: Naming>(
     }
 }
 
-/// A command with its answer as a row, and an equal one as a cell shows it.
+/// Makes two equal rows of a command and its answer: one for the cell, and one for the pass.
 fn row(alloc: Global, asked: Command, said: &Answer) -> Result<(Box<Said>, Said), AllocError>
     ensures shown { IfOk result (λ rows. rows.0.value ≡ (asked, said.now)) }
     ensures row { IfOk result (λ rows. rows.1 ≡ (asked, said.now)) }
@@ -45,7 +47,7 @@ fn row(alloc: Global, asked: Command, said: &Answer) -> Result<(Box<Said>, Said)
     Ok((shown, row))
 }
 
-/// A command with its answer, as a cell shows them.
+/// Makes a row of a command and its answer for a cell.
 fn shown(alloc: Global, asked: &Command, said: &Answer) -> Result<Box<Said>, AllocError>
     ensures { IfOk result (λ shown. shown.value ≡ (asked.now, said.now)) }
 {
@@ -53,7 +55,7 @@ fn shown(alloc: Global, asked: &Command, said: &Answer) -> Result<Box<Said>, All
     Ok(Box::new(alloc, row)?)
 }
 
-/// An equal command with an equal answer.
+/// Copies a command and its answer.
 fn copied(asked: &Command, said: &Answer) -> Result<Said, AllocError>
     ensures { IfOk result (λ row. row ≡ (asked.now, said.now)) }
 {
@@ -61,7 +63,7 @@ fn copied(asked: &Command, said: &Answer) -> Result<Said, AllocError>
     answered(asked, said)
 }
 
-/// The command with an equal answer.
+/// Pairs the command with a copy of the answer.
 fn answered(asked: Command, said: &Answer) -> Result<Said, AllocError>
     ensures { IfOk result (λ row. row ≡ (asked, said.now)) }
 {

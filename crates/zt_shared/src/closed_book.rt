@@ -1,3 +1,5 @@
+//! Closes a shared book.
+
 ghost use Rattle.std.specs.Prelude.{◌≡◌, All, map, length, IsPermutation};
 ghost use Rattle.zt_book.specs.Log.{Replays};
 ghost use Rattle.zt_shared.specs.Sharing.{IsOneLog, numbers};
@@ -7,9 +9,9 @@ use crate::pass::{Beginning, Pass};
 use crate::shared::{OpenedBook, Shared};
 use zt_book::{Book, Log};
 
-/// The book of a shared book to which all its passes came back, in any order. Its log is the one that `close` gives: it
-/// begins where the shared book began, also where there are no clients, and the book stands where it ends. It takes no
-/// memory.
+/// Closes a shared book when all its passes are back, in any order, and returns the book. Its log is the one that `close`
+/// returns. The log begins where the shared book began, even if there are no clients, and ends in the book's session. Never
+/// allocates.
 pub fn close_book<A: Naming + Beginning, B: Naming, C: Naming, D: Naming>(
     opened: OpenedBook<A, B, C, D>,
     mut passes: Vec<Pass<A, B, C, D>>,
@@ -28,8 +30,8 @@ pub fn close_book<A: Naming + Beginning, B: Naming, C: Naming, D: Naming>(
     locked.into_book()
 }
 
-/// The one log of a shared book to which all its passes came back, in any order: each pass is its client's part of it.
-/// It takes no memory.
+/// Closes a shared book when all its passes are back, in any order, and returns its log. Each pass has its client's rows of this
+/// log. Never allocates.
 pub fn close<A: Naming + Beginning, B: Naming, C: Naming, D: Naming>(
     opened: OpenedBook<A, B, C, D>,
     passes: Vec<Pass<A, B, C, D>>,

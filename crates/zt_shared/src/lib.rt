@@ -1,4 +1,4 @@
-//! One book for several clients: each client's answers are its rows of one log, which replays.
+//! Shares one book between several clients. One log has all answers and replays; each client keeps its own rows of it.
 #![tactic(auto)]
 
 pub mod account;

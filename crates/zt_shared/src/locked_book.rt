@@ -1,3 +1,5 @@
+//! The part of a shared book that lies under its lock.
+
 ghost use Rattle.std.specs.Prelude.{◌≡◌, ◌≢◌, ◌++◌, ◌∷◌, [], All, Ok, Err, IfOk, IfErr, OnErr, IfSome, IsSome, length};
 ghost use Rattle.std.specs.List.{AllByRecursion};
 ghost use Rattle.zt_rows.specs.declared.calls.Command.TheVariants as command;
@@ -17,8 +19,8 @@ use zt_book::Book;
 use zt_queries::Frozen;
 use zt_rows::{Answer, Command, Refusal, Saved};
 
-/// What lies under the lock: the book, and of each client's account the lock's side. Each row of the log is a row of
-/// its client's account, in the log's order.
+/// The book, and the lock's side of each client's account. The rows of an account are its client's rows of the log, in the log's
+/// order.
 #[derive(Drop)]
 pub(crate) struct LockedBook<A: Naming + Beginning, B: Naming, C: Naming, D: Naming> {
     pub(crate) book: Book,
@@ -44,7 +46,7 @@ impl<A: Naming + Beginning, B: Naming, C: Naming, D: Naming> Model for LockedBoo
 }
 
 impl<A: Naming + Beginning, B: Naming, C: Naming, D: Naming> LockedBook<A, B, C, D> {
-    /// The pass is a part of the log. It changes nothing and takes no memory.
+    /// Shows that the pass is a part of the log. Changes nothing, and never allocates.
     pub(crate) fn agree(&mut self, pass: &mut Pass<A, B, C, D>)
         ensures locked { self.new ≡ self.old }
         ensures pass { pass.new ≡ pass.old }
@@ -59,8 +61,8 @@ impl<A: Naming + Beginning, B: Naming, C: Naming, D: Naming> LockedBook<A, B, C,
         }
     }
 
-    /// Answers a command of the pass's client: one event of the one history, which is one row more of the log and of the
-    /// pass, or, refused, none.
+    /// Answers a command of the pass's client. It is one event of the one history: one more row of the log and of the pass. If
+    /// the command is refused, neither has a new row.
     pub(crate) fn ask(
         &mut self,
         pass: &mut Pass<A, B, C, D>,
@@ -100,7 +102,7 @@ impl<A: Naming + Beginning, B: Naming, C: Naming, D: Naming> LockedBook<A, B, C,
         }
     }
 
-    /// As `ask` of the command that pins, with a copy of the history at the client's position.
+    /// Answers `Command::Pin` as `ask` answers a command, and also returns a copy of the history at the client's position.
     pub(crate) fn pin(&mut self, pass: &mut Pass<A, B, C, D>) -> Result<(Answer, Frozen), Refusal>
         ensures served { IfOk result (λ pinned. serve self.old.session pass.old.client command.Pin ≡ Ok (pinned.0, self.new.session)) }
         ensures frozen { IfOk result (λ pinned. pinned.1 ≡ snapshot_at self.old.session.tree (position_of self.old.session pass.old.client)) }
@@ -123,7 +125,7 @@ impl<A: Naming + Beginning, B: Naming, C: Naming, D: Naming> LockedBook<A, B, C,
         }
     }
 
-    /// The log begins where this note of the base cell says. It changes nothing and takes no memory.
+    /// Shows that the log begins where this note of the base cell says. Changes nothing, and never allocates.
     pub(crate) fn agree_on_beginning(&mut self, told: &mut Note<Saved>)
         requires cell { told.old.cell ≡ A.base }
         requires known { IsSome told.old.known }
@@ -134,7 +136,7 @@ impl<A: Naming + Beginning, B: Naming, C: Naming, D: Naming> LockedBook<A, B, C,
         agree_on_base(&mut self.told, told);
     }
 
-    /// Each of the passes is a part of the log. It changes nothing and takes no memory.
+    /// Shows that each of the passes is a part of the log. Changes nothing, and never allocates.
     pub(crate) fn agree_with_all(&mut self, passes: &mut Vec<Pass<A, B, C, D>>)
         ensures locked { self.new ≡ self.old }
         ensures passes { passes.new.items ≡ passes.old.items }
@@ -145,7 +147,7 @@ impl<A: Naming + Beginning, B: Naming, C: Naming, D: Naming> LockedBook<A, B, C,
         }
     }
 
-    /// The book, with a log that replays, and of which each row is of one of the clients. It takes no memory.
+    /// Returns the book. Its log replays, and each row of the log is of one of the clients. Never allocates.
     pub(crate) fn into_book(self) -> Book
         ensures session { result.session ≡ self.session }
         ensures log { result.log ≡ self.log }
@@ -159,7 +161,7 @@ impl<A: Naming + Beginning, B: Naming, C: Naming, D: Naming> LockedBook<A, B, C,
     }
 }
 
-/// Two notes of the base cell know one base.
+/// Shows that two notes of the base cell know the same saved tree.
 fn agree_on_base(ours: &mut Note<Saved>, theirs: &mut Note<Saved>)
     requires { ours.old.cell ≡ theirs.old.cell }
     ensures ours { ours.new ≡ ours.old }

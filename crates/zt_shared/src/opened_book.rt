@@ -1,3 +1,5 @@
+//! Opens a shared book.
+
 ghost use Rattle.std.specs.Prelude.{◌≡◌, ◌≢◌, ◌≤◌, ◌<◌, ◌+◌, ◌++◌, [], Some, IfOk, IfErr, IsErrOf, IsSome, OnOk, ◌↔◌, vec_len, vec_capacity};
 ghost use Rattle.once_cell.specs.Once.{cell_name};
 ghost use Rattle.zt_rows.specs.declared.refusals.Refusal.TheVariants as refusal;
@@ -20,8 +22,8 @@ use zt_book::Book;
 use zt_book::laws::what_was_loaded_is_loaded_again;
 use zt_rows::{CLIENTS, Refusal, Saved};
 
-/// What a shared book is made of, before any type names it: an empty base cell, and an account without rows for each
-/// of the four clients, also those beyond the number of clients.
+/// The parts of a shared book before types name them: an empty base cell, and an account without rows for each of the four
+/// clients. There are four accounts even if there are fewer clients.
 #[derive(Drop)]
 pub struct Blanks {
     clients: u8,
@@ -45,7 +47,8 @@ impl Model for Blanks {
 }
 
 impl Blanks {
-    /// The blanks of a shared book of so many clients.
+    /// Makes the parts of a shared book with this many clients. Fails with `TooManyClients` above four clients, and with
+    /// `OutOfMemory` if an allocation fails.
     pub fn new(alloc: Global, clients: u8) -> Result<Blanks, Refusal>
         ensures clients { IfOk result (λ blanks. blanks.clients ≡ clients) }
         ensures few { OnOk result (clients ≤ 4) }
@@ -59,7 +62,7 @@ impl Blanks {
     }
 }
 
-/// A base cell and accounts, for so many clients, who are few.
+/// Makes a base cell and four accounts, for at most four clients.
 fn empty_accounts(alloc: Global, clients: u8) -> Result<Blanks, AllocError>
     requires { clients ≤ 4 }
     ensures { IfOk result (λ blanks. blanks.clients ≡ clients) }
@@ -78,7 +81,7 @@ fn empty_accounts(alloc: Global, clients: u8) -> Result<Blanks, AllocError>
     })
 }
 
-/// A shared book at the opening, and a pass for each of its clients, in order.
+/// Opens a shared book at the opening, with a pass for each client, in order of their numbers. Its only error is `OutOfMemory`.
 pub fn open<A: Naming + Beginning, B: Naming, C: Naming, D: Naming>(
     alloc: Global,
     blanks: Blanks,
@@ -102,8 +105,8 @@ pub fn open<A: Naming + Beginning, B: Naming, C: Naming, D: Naming>(
     }
 }
 
-/// A shared book that goes on from a book to whose clients nothing was answered yet, and a pass for each of them, in
-/// order. Refused, the book comes back.
+/// Opens a shared book over a book whose clients were answered nothing yet, with a pass for each client, in order of their
+/// numbers. Its only error is `OutOfMemory`, which returns the book unchanged.
 pub fn open_book<A: Naming + Beginning, B: Naming, C: Naming, D: Naming>(
     alloc: Global,
     blanks: Blanks,
@@ -128,7 +131,7 @@ pub fn open_book<A: Naming + Beginning, B: Naming, C: Naming, D: Naming>(
     }
 }
 
-/// Room for the passes, and a note of the base cell, in which the book's session is written down from now on.
+/// Makes a list with room for the passes, and a note of the base cell, which now holds the book's session as a saved tree.
 fn set_out<A: Naming + Beginning, B: Naming, C: Naming, D: Naming>(
     alloc: Global,
     blanks: &Blanks,
@@ -144,7 +147,7 @@ fn set_out<A: Naming + Beginning, B: Naming, C: Naming, D: Naming>(
     Ok((passes, told))
 }
 
-/// The book with the lock's sides of the accounts under the lock, and a pass for each client. It takes no memory.
+/// Puts the book and the lock's sides of the accounts under the lock, and makes a pass for each client. Never allocates.
 fn hand_over<A: Naming + Beginning, B: Naming, C: Naming, D: Naming>(
     alloc: Global,
     blanks: Blanks,
@@ -203,7 +206,7 @@ fn hand_over<A: Naming + Beginning, B: Naming, C: Naming, D: Naming>(
     )
 }
 
-/// Puts the pass of a client behind the others, where there are so many clients.
+/// Appends the pass of a client if there are at least this many clients; otherwise drops its slot.
 fn hand_out<A: Naming + Beginning, B: Naming, C: Naming, D: Naming>(
     passes: &mut Vec<Pass<A, B, C, D>>,
     told: &mut Note<Saved>,
@@ -228,7 +231,7 @@ fn hand_out<A: Naming + Beginning, B: Naming, C: Naming, D: Naming>(
     }
 }
 
-/// Writes the book's session down in the base cell, and notes what stands in it.
+/// Saves the book's session into the base cell, and returns a note of the cell's content.
 fn note_base(alloc: Global, cell: &OnceBox<Saved>, book: &Book) -> Result<Note<Saved>, Refused>
     ensures { IfOk result (λ note. (note.cell ≡ cell_name cell.now) × (note.known ≡ Some (saved_of_session book.now.session))) }
 {

@@ -1,3 +1,5 @@
+//! The pass of one client of a shared book.
+
 ghost use Rattle.std.specs.Prelude.{◌≡◌, length};
 ghost use Rattle.std.specs.Option.{option_map};
 ghost use Rattle.zt_shared.specs.Sharing.{row_at};
@@ -8,10 +10,10 @@ use once_cell::race::Note;
 use std::marker::{Brand, Model};
 use zt_rows::{Answer, Command, Saved};
 
-/// A command of a client with its answer.
+/// A command of a client, with its answer.
 pub type Said = (Command, Answer);
 
-/// Where a log begins: the name of the cell that tells it, and the number of clients.
+/// Where a log begins: the name of the base cell, which holds the saved tree, and the number of clients.
 pub trait Beginning {
     ghost use Rattle.std.specs.Prelude.{ℕ};
 
@@ -26,7 +28,7 @@ impl Beginning for Brand {
     ghost clients = { 0 };
 }
 
-/// A client's side of its account. There is an account for each of the four clients, and each has a name of its own.
+/// A client's side of its account. Each of the four clients has an account, which is named by a type of its own.
 #[derive(Drop)]
 pub(crate) enum Slot<A: Naming, B: Naming, C: Naming, D: Naming> {
     First(PassSide<A, Said>),
@@ -35,8 +37,8 @@ pub(crate) enum Slot<A: Naming, B: Naming, C: Naming, D: Naming> {
     Fourth(PassSide<D, Said>),
 }
 
-/// What one client of a shared book has of it: its number, what it was told, and where the log begins. Whoever has
-/// the pass speaks for the client.
+/// One client's part of a shared book: the client's number, its answered commands, and where the log begins. The owner of a pass
+/// asks for its client.
 #[derive(Drop)]
 pub struct Pass<A: Naming + Beginning, B: Naming, C: Naming, D: Naming> {
     pub(crate) slot: Slot<A, B, C, D>,
@@ -84,21 +86,21 @@ impl<A: Naming + Beginning, B: Naming, C: Naming, D: Naming> Slot<A, B, C, D> {
 }
 
 impl<A: Naming + Beginning, B: Naming, C: Naming, D: Naming> Pass<A, B, C, D> {
-    /// The client's number. It takes no memory.
+    /// Returns the client's number. Never allocates.
     pub fn client(&self) -> u8
         ensures { result ≡ self.now.client }
     {
         self.slot.number()
     }
 
-    /// How many rows the client has. It takes no memory.
+    /// Returns how many rows the client has. Never allocates.
     pub fn len(&self) -> usize
         ensures { result ≡ length self.now.rows }
     {
         self.slot.rows().len()
     }
 
-    /// The client's row of this number, from 1; nothing at 0, nor beyond the last. It takes no memory.
+    /// Returns the client's row of this number, counted from 1, or `None` for 0 and beyond the last row. Never allocates.
     pub fn row(&self, n: usize) -> Option<(&Command, &Answer)>
         ensures { option_map (λ r. (r.0.now, r.1.now)) result ≡ row_at self.now.rows n }
     {

@@ -1,3 +1,5 @@
+//! A shared book: one book under one lock, for up to four clients.
+
 ghost use Rattle.std.specs.Prelude.{◌≡◌, ◌++◌, ◌∷◌, [], IfOk, IfErr, OnErr};
 ghost use Rattle.zt_rows.specs.declared.calls.Command.TheVariants as command;
 ghost use Rattle.zt_shared.specs.Sharing.{IsAnsweredOnPass, IsRefusedTo, IsPinnedOnPass};
@@ -11,14 +13,14 @@ use std::sync::{Mutex, Wait};
 use zt_queries::Frozen;
 use zt_rows::{Answer, Command, Refusal, Saved};
 
-/// What the threads of several clients share of a book. Each client has a pass, by which it speaks.
+/// The part of a shared book that the clients' threads share. Each client asks with its pass.
 #[derive(Drop)]
 pub struct Shared<A: Naming + Beginning, B: Naming, C: Naming, D: Naming> {
     pub(crate) lock: Mutex<LockedBook<A, B, C, D>>,
 }
 
-/// A shared book that was opened: what the clients share, and where its log begins. Whoever has it lends the one to their
-/// threads, and closes the other when all have come back.
+/// An opened shared book: the part that the clients share, and where its log begins. Its owner lends the shared part to the
+/// clients' threads, and closes the book when all passes are back.
 #[derive(Drop)]
 pub struct OpenedBook<A: Naming + Beginning, B: Naming, C: Naming, D: Naming> {
     pub(crate) shared: Shared<A, B, C, D>,
@@ -38,14 +40,15 @@ impl<A: Naming + Beginning, B: Naming, C: Naming, D: Naming> Model for OpenedBoo
 }
 
 impl<A: Naming + Beginning, B: Naming, C: Naming, D: Naming> OpenedBook<A, B, C, D> {
-    /// What the clients' threads share.
+    /// Returns the part that the clients' threads share.
     pub fn shared(&self) -> &Shared<A, B, C, D> {
         &self.shared
     }
 }
 
 impl<A: Naming + Beginning, B: Naming, C: Naming, D: Naming> Shared<A, B, C, D> {
-    /// Answers a command of the pass's client, as one event of the history. It waits for the lock.
+    /// Waits for the lock, and answers a command of the pass's client. The command with its answer is one event of the log, and a
+    /// row of the pass. Fails with the book's refusal, or with `OutOfMemory`; then the pass is unchanged.
     pub fn ask<R: Wait>(
         &self,
         rt: &R,
@@ -62,8 +65,9 @@ impl<A: Naming + Beginning, B: Naming, C: Naming, D: Naming> Shared<A, B, C, D> 
         self.lock.lock(rt).ask(pass, asked)
     }
 
-    /// Pins the position of the pass's client, as one event of the history, and copies the history there. It waits
-    /// for the lock.
+    /// Waits for the lock, pins the position of the pass's client, and copies the history there. The command with its answer is
+    /// one event of the log, and a row of the pass. Fails with the book's refusal, or with `OutOfMemory`; then the pass is
+    /// unchanged.
     pub fn pin<R: Wait>(
         &self,
         rt: &R,

@@ -1,3 +1,5 @@
+//! Derived signals: those that follow from the rows, and that no call sets.
+
 ghost use Rattle.std.specs.Prelude.{◌≡◌, bit_or};
 ghost use Rattle.zt_rows.specs.Settle.{bit_if, derived, derived_mask, no_jobs, no_processes, peer_closed, readable, renewed, terminated, writable};
 
@@ -12,7 +14,7 @@ const JOB_SIGNALS: Signals = Signals(0x38);
 /// The derived signals of a channel's endpoint: `READABLE`, `WRITABLE` and `PEER_CLOSED`.
 const CHANNEL_SIGNALS: Signals = Signals(0x7);
 
-/// All signals of the object, the derived ones anew. It takes no memory.
+/// All signals of the object, with the derived ones computed anew. Never allocates.
 pub(crate) fn renewed_signals(step: &Step, koid: Koid, object: &ObjectRow) -> Signals
     ensures { result.0 ≡ renewed step.now.current koid object.now }
 {
@@ -20,7 +22,7 @@ pub(crate) fn renewed_signals(step: &Step, koid: Koid, object: &ObjectRow) -> Si
     lasting.union(derived_signals(step, koid, object))
 }
 
-/// The signals of a kind that follow from the rows.
+/// The derived signals of the kind: those that follow from the rows.
 fn derived_mask(kind: Kind) -> Signals
     ensures { result.0 ≡ derived_mask kind }
 {
@@ -49,7 +51,7 @@ fn derived_signals(step: &Step, koid: Koid, object: &ObjectRow) -> Signals
     }
 }
 
-/// Readable while a message is queued.
+/// `READABLE` while a message is queued.
 fn readable(step: &Step, endpoint: Koid) -> Signals
     ensures { result.0 ≡ readable step.now.current endpoint }
 {
@@ -57,35 +59,35 @@ fn readable(step: &Step, endpoint: Koid) -> Signals
     signal_if(first.is_some(), Signals::READABLE)
 }
 
-/// Writable while the peer is there.
+/// `WRITABLE` while the peer is there.
 fn writable(endpoint: &ObjectRow) -> Signals
     ensures { result.0 ≡ writable endpoint.now }
 {
     signal_if(endpoint.link != Koid(0), Signals::WRITABLE)
 }
 
-/// Peer closed once the peer is gone.
+/// `PEER_CLOSED` once the peer is gone.
 fn peer_closed(endpoint: &ObjectRow) -> Signals
     ensures { result.0 ≡ peer_closed endpoint.now }
 {
     signal_if(endpoint.link == Koid(0), Signals::PEER_CLOSED)
 }
 
-/// Terminated once it has ended.
+/// `TERMINATED` once the task has ended.
 fn terminated(task: &ObjectRow) -> Signals
     ensures { result.0 ≡ terminated task.now }
 {
     signal_if(task.life != Life::Live, Signals::TERMINATED)
 }
 
-/// No jobs and no processes while none is its child.
+/// `NO_JOBS` while no live job is a child of the job, and `NO_PROCESSES` while no live process is.
 fn no_children(step: &Step, job: Koid) -> Signals
     ensures { result.0 ≡ bit_or (no_jobs step.now.current job) (no_processes step.now.current job) }
 {
     no_jobs(step, job).union(no_processes(step, job))
 }
 
-/// No jobs while no live job is its child.
+/// `NO_JOBS` while no live job is a child of the job.
 fn no_jobs(step: &Step, job: Koid) -> Signals
     ensures { result.0 ≡ no_jobs step.now.current job }
 {
@@ -93,7 +95,7 @@ fn no_jobs(step: &Step, job: Koid) -> Signals
     signal_if(children == 0, Signals::NO_JOBS)
 }
 
-/// No processes while no live process is its child.
+/// `NO_PROCESSES` while no live process is a child of the job.
 fn no_processes(step: &Step, job: Koid) -> Signals
     ensures { result.0 ≡ no_processes step.now.current job }
 {
@@ -101,7 +103,7 @@ fn no_processes(step: &Step, job: Koid) -> Signals
     signal_if(children == 0, Signals::NO_PROCESSES)
 }
 
-/// The signal, where the test holds.
+/// The signal if the test holds, else none.
 fn signal_if(holds: bool, signal: Signals) -> Signals
     ensures { result.0 ≡ bit_if holds signal.0 }
 {

@@ -1,5 +1,5 @@
-//! The signals of one object, over a step of the store: those that calls set, and those that follow from the
-//! rows. And the waits for signals: added, and taken away.
+//! The signals of one object, over a step of the store: those that calls set, and those that follow from the rows. Also
+//! the waits for signals, which are added and taken away.
 #![tactic(auto)]
 
 mod derived_signals;

@@ -1,3 +1,5 @@
+//! Adds waits, and takes away those on a handle.
+
 ghost use Rattle.std.specs.Prelude.{◌≡◌, ◌<◌, ◌+◌, ◌^◌, IfOk, OnOk, OnErr};
 ghost use Rattle.zt_rows.specs.PortCalls.{add_wait};
 ghost use Rattle.zt_rows.specs.Reads.{counters};
@@ -12,7 +14,7 @@ use std::alloc::AllocError;
 use zt_rows::{Counters, HandleValue, Koid, Row, RowKey, Wait};
 use zt_store::Step;
 
-/// Adds a wait, by the next wait number.
+/// Adds the wait under the next wait number. If an allocation fails, all puts of the step are taken back.
 #[tactic(auto, using(crate::proofs::PutOrder::wait_last))]
 pub fn add_wait(step: &mut Step, wait: Wait) -> Result<(), AllocError>
     requires { (counters step.old.current).next_wait + 1 < 2 ^ 64 }
@@ -29,8 +31,8 @@ pub fn add_wait(step: &mut Step, wait: Wait) -> Result<(), AllocError>
     step.put(RowKey::Wait(counters.next_wait), Some(Row::Wait(wait)))
 }
 
-/// Takes away the waits that the process made on the handle. They are found by the handle, so that other waits are
-/// not looked at.
+/// Takes away the waits that the process made on the handle. It finds them in the handle's hash bucket, and looks at no
+/// waits outside it. If an allocation fails, all puts of the step are taken back.
 pub fn drop_waits(step: &mut Step, process: Koid, handle: HandleValue) -> Result<(), AllocError>
     ensures ok { OnOk result (Advanced step.old step.new (change (without_waits_on process handle) step.old.current)) }
     ensures err { OnErr result (AsBegun step.old step.new) }
@@ -40,8 +42,9 @@ pub fn drop_waits(step: &mut Step, process: Koid, handle: HandleValue) -> Result
     Ok(())
 }
 
-/// Takes away the waits for the port that the process made on the handle under the key, and tells whether there
-/// was any. They are found by the handle, so that waits on others are not looked at.
+/// Takes away the waits for the port that the process made on the handle under the key. Returns whether there was any.
+/// It finds them in the handle's hash bucket, and looks at no waits outside it. If an allocation fails, all puts of the
+/// step are taken back.
 pub fn cancel_waits(
     step: &mut Step,
     port: Koid,

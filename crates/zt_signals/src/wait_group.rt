@@ -1,3 +1,5 @@
+//! Takes away a group of waits: those on one handle, or those of them for one port under one key.
+
 ghost use Rattle.std.specs.Prelude.{◌≡◌, IfOk, OnOk, OnErr};
 ghost use Rattle.std.specs.Option.{option_and_then};
 ghost use Rattle.zt_rows.specs.declared.keys.RowKey.TheVariants as key_variant;
@@ -12,17 +14,17 @@ use std::alloc::AllocError;
 use zt_rows::{HandleValue, Koid, RowKey, Wait};
 use zt_store::Step;
 
-/// The waits that go together.
+/// A group of waits that go together.
 #[derive(Clone, Copy, Debug)]
 pub(crate) enum WaitGroup {
-    /// Those that the process made on the handle.
+    /// The waits that the process made on the handle.
     On(Koid, HandleValue),
-    /// Those for the port that the process made on the handle under the key.
+    /// The waits for the port that the process made on the handle under the key.
     Under(Koid, Koid, HandleValue, u64),
 }
 
 impl WaitGroup {
-    /// Whether the wait is one of them.
+    /// Whether the wait is in the group.
     fn takes(&self, wait: &Wait) -> bool
         ensures { result ≡ picks self.now wait.now }
     {
@@ -38,7 +40,8 @@ impl WaitGroup {
     }
 }
 
-/// Takes away the waits that are picked, and tells whether there was any.
+/// Takes away the waits of the group, and returns whether there was any. If an allocation fails, all puts of the step
+/// are taken back.
 #[inline(always)]
 pub(crate) fn drop_picked(step: &mut Step, picked: WaitGroup) -> Result<bool, AllocError>
     ensures ok { OnOk result (Advanced step.old step.new (change (without_waits (picks picked)) step.old.current)) }
@@ -56,8 +59,8 @@ pub(crate) fn drop_picked(step: &mut Step, picked: WaitGroup) -> Result<bool, Al
     Ok(any)
 }
 
-/// The number of the next wait after the low one that may be picked, or of the first of all. It takes no memory, and where there
-/// never was a wait nothing is looked for.
+/// The number of the next wait above `low` that may be in the group, or of the first one if `low` is `None`. Never
+/// allocates. If there never was a wait, it looks for none.
 #[inline(always)]
 fn next_picked(step: &Step, picked: &WaitGroup, low: Option<u64>) -> Option<u64>
     ensures { IsNextPicked (picks picked.now) step.now.current low result }
@@ -69,8 +72,8 @@ fn next_picked(step: &Step, picked: &WaitGroup, low: Option<u64>) -> Option<u64>
     }
 }
 
-/// The number of the next wait after the low one that may be picked, or of the first of all, where there may be a wait. It takes no
-/// memory.
+/// The number of the next wait above `low` that may be in the group, or of the first one if `low` is `None`. Called
+/// only if there may be a wait. Never allocates.
 #[inline(never)]
 fn find_picked(step: &Step, picked: &WaitGroup, low: Option<u64>) -> Option<u64>
     ensures { IsNextPicked (picks picked.now) step.now.current low result }
@@ -82,7 +85,8 @@ fn find_picked(step: &Step, picked: &WaitGroup, low: Option<u64>) -> Option<u64>
     }
 }
 
-/// Takes the wait of this number away, if it is picked, and tells whether it was.
+/// Takes away the wait of this number if it is in the group, and returns whether it was. If an allocation fails, all
+/// puts of the step are taken back.
 fn drop_if(step: &mut Step, number: u64, picked: &WaitGroup) -> Result<bool, AllocError>
     ensures ok { let S = step.old.current in OnOk result (Advanced step.old step.new
         (put S (key_variant.Wait number) (option_and_then (without_waits (picks picked.now) (key_variant.Wait number)) (row S (key_variant.Wait number))))) }
@@ -98,7 +102,7 @@ fn drop_if(step: &mut Step, number: u64, picked: &WaitGroup) -> Result<bool, All
     }
 }
 
-/// Whether the wait of this number is picked.
+/// Whether there is a wait of this number and it is in the group.
 fn is_picked(step: &Step, number: u64, picked: &WaitGroup) -> bool
     ensures { result ≡ is_picked (picks picked.now) step.now.current number }
 {

@@ -1,3 +1,5 @@
+//! Exchanges the rows of records and of steps with those of a store.
+
 ghost use Rattle.std.specs.Prelude.{◌≡◌, ◌<◌, [], ◌∷◌, ◌++◌, true, List, length, map};
 ghost use Rattle.std.specs.List.{IsDistinct};
 ghost use Rattle.zt_rows.specs.Change.{exchange};
@@ -18,8 +20,8 @@ use crate::record::Record;
 use crate::store::Store;
 use zt_rows::{Row, RowKey};
 
-/// Exchanges the record's rows with the store's: the store then has the record's, and the record what the
-/// store had under the same keys. It takes no memory.
+/// Exchanges the record's rows with the store's. The store then has the record's rows, and the record has what the
+/// store had under the same keys. Never allocates.
 pub fn swap(store: &mut Store, kept: &mut Record)
     requires { fits store.old.places kept.old ≡ true }
     ensures exchanged { (store.new.state, kept.new) ≡ exchange store.old.state kept.old }
@@ -29,7 +31,7 @@ pub fn swap(store: &mut Store, kept: &mut Record)
     exchange_kept(store, &mut kept.rows);
 }
 
-/// Exchanges the rows with the store's, in whichever form they are kept. It takes no memory.
+/// Exchanges the rows with the store's, in whichever form they are kept. Never allocates.
 fn exchange_kept(store: &mut Store, kept: &mut KeptRows)
     requires recorded { IsBareRecord (keys_in kept.old) (rows_in kept.old) }
     requires placed { fits store.old.places (pairs_of (keys_in kept.old) (rows_in kept.old)) ≡ true }
@@ -50,7 +52,7 @@ fn exchange_kept(store: &mut Store, kept: &mut KeptRows)
     }
 }
 
-/// Exchanges the block's rows with the store's. It takes no memory.
+/// Exchanges the block's rows with the store's. Never allocates.
 fn exchange_block<const N: usize>(store: &mut Store, block: &mut RowBlock<N>)
     requires recorded { IsBareRecord block.old.keys block.old.rows }
     requires placed { fits store.old.places (pairs_of block.old.keys block.old.rows) ≡ true }
@@ -62,7 +64,7 @@ fn exchange_block<const N: usize>(store: &mut Store, block: &mut RowBlock<N>)
     exchange_under(store, &block.keys, &mut block.rows);
 }
 
-/// Exchanges the rows of the lists with the store's. It takes no memory.
+/// Exchanges the rows of the lists with the store's. Never allocates.
 fn exchange_lists(store: &mut Store, lists: &mut RowLists)
     requires recorded { IsBareRecord lists.old.keys.items lists.old.rows.items }
     requires placed { fits store.old.places (pairs_of lists.old.keys.items lists.old.rows.items) ≡ true }
@@ -74,7 +76,7 @@ fn exchange_lists(store: &mut Store, lists: &mut RowLists)
     exchange_under(store, lists.keys.as_slice(), lists.rows.as_mut_slice());
 }
 
-/// Exchanges the bare rows with the store's, each under the key at its place. It takes no memory.
+/// Exchanges the bare rows with the store's, each under the key at its place. Never allocates.
 fn exchange_under(store: &mut Store, keys: &[RowKey], rows: &mut [Row])
     requires recorded { IsBareRecord keys.now rows.old }
     requires placed { fits store.old.places (pairs_of keys.now rows.old) ≡ true }
@@ -86,7 +88,7 @@ fn exchange_under(store: &mut Store, keys: &[RowKey], rows: &mut [Row])
     exchange_each(store, keys, rows);
 }
 
-/// Exchanges a step's first rows with the store's under their keys. It takes no memory.
+/// Exchanges a step's first rows with the store's under their keys. Never allocates.
 pub(crate) fn exchange_rows(store: &mut Store, firsts: &mut FirstRows)
     requires distinct { IsDistinct rowkey_eq (map (λ e. e.0) (rows_of firsts.old.rows)) }
     requires suited { AllSuit (rows_of firsts.old.rows) }
@@ -99,7 +101,7 @@ pub(crate) fn exchange_rows(store: &mut Store, firsts: &mut FirstRows)
     exchange_each(store, firsts.keys.as_slice(), firsts.rows.as_mut_slice());
 }
 
-/// Exchanges the bare row with what stands under the key, which comes behind the first rows. It takes no memory.
+/// Puts the bare row under the key. What stood there goes behind the first rows. Never allocates.
 #[inline(always)]
 pub(crate) fn exchange_behind(store: &mut Store, firsts: &mut FirstRows, key: &RowKey, bare: Row)
     requires room { length firsts.old.rows < firsts.old.room }
@@ -116,7 +118,7 @@ pub(crate) fn exchange_behind(store: &mut Store, firsts: &mut FirstRows, key: &R
     store.exchange(key, &mut firsts.rows[place]);
 }
 
-/// Exchanges the bare rows with the store's, each under the key at its place, where each key is listed once. It takes no memory.
+/// Exchanges the bare rows with the store's, each under the key at its place. Each key is listed once. Never allocates.
 fn exchange_each(store: &mut Store, keys: &[RowKey], rows: &mut [Row])
     requires even { length rows.old ≡ length keys.now }
     requires distinct { IsDistinct rowkey_eq (map (λ e. e.0) (pairs_of keys.now rows.old)) }
@@ -133,7 +135,8 @@ fn exchange_each(store: &mut Store, keys: &[RowKey], rows: &mut [Row])
     }
 }
 
-/// Exchanges the rows of the records with the store's, from the last record to the first. It takes no memory.
+/// Exchanges the rows of the records with the store's, from the last record to the first. If the records are those of a
+/// path to the store's state, this restores the state at the beginning of the path. Never allocates.
 pub fn undo(store: &mut Store, records: &mut [Record])
     requires { all_fit store.old.places records.old ≡ true }
     ensures exchanged { (store.new.state, records.new) ≡ exchange_back store.old.state records.old }

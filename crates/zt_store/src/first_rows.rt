@@ -1,3 +1,5 @@
+//! The first rows of a step: what stood under each key before the step's first put there.
+
 ghost use Rattle.std.specs.Prelude.{◌≡◌, ◌<◌, ◌-◌, ◌^◌, [], length, map, slice_set, IfOk, OnOk, OnErr};
 ghost use Rattle.zt_store.specs.ProofsOnly.ChangedRows.{IsOrder, first_at, picked};
 ghost use Rattle.zt_store.specs.ProofsOnly.KeptRows.{AreOf};
@@ -9,7 +11,7 @@ use std::marker::Model;
 use std::mem::swap;
 use zt_rows::{Row, RowKey};
 
-/// The first rows of a step, bare, in the order in which they came, and each at the place of its key.
+/// The first rows of a step, as bare rows in the order in which they came. Each stands at the place of its key.
 #[derive(Drop)]
 pub(crate) struct FirstRows {
     pub(crate) keys: Vec<RowKey>,
@@ -32,7 +34,7 @@ impl Model for FirstRows {
 }
 
 impl FirstRows {
-    /// No rows, and no memory for any.
+    /// No rows. Never allocates.
     pub fn new(alloc: Global) -> FirstRows
         ensures { result.rows ≡ [] }
     {
@@ -42,7 +44,7 @@ impl FirstRows {
         }
     }
 
-    /// How many there are.
+    /// How many rows there are.
     pub fn len(&self) -> usize
         ensures count { result ≡ length self.now.rows }
         ensures few { result < 2 ^ 64 - 1 }
@@ -76,7 +78,7 @@ impl FirstRows {
         &self.rows[place]
     }
 
-    /// Makes room for one more.
+    /// Makes room for one more row.
     #[inline(always)]
     pub fn reserve_one(&mut self) -> Result<(), AllocError>
         ensures same { self.new.rows ≡ self.old.rows }
@@ -89,7 +91,7 @@ impl FirstRows {
         self.widen()
     }
 
-    /// Makes room for one more where one of the lists is full.
+    /// Makes room for one more row when one of the lists is full.
     #[inline(never)]
     fn widen(&mut self) -> Result<(), AllocError>
         ensures same { self.new.rows ≡ self.old.rows }
@@ -100,7 +102,7 @@ impl FirstRows {
         Ok(())
     }
 
-    /// Exchanges the row at the place, and says its key.
+    /// Exchanges the row at the place, and returns its key.
     #[inline(always)]
     pub fn exchange(&mut self, place: usize, row: &mut Row) -> RowKey
         requires { place < length self.old.rows }
@@ -111,7 +113,7 @@ impl FirstRows {
         self.keys[place]
     }
 
-    /// Forgets all, and keeps their memory.
+    /// Removes all rows, and keeps the memory of the lists.
     pub fn clear(&mut self)
         ensures { self.new.rows ≡ [] }
     {
@@ -119,8 +121,9 @@ impl FirstRows {
         self.rows.clear();
     }
 
-    /// Gives away the rows at these places, in this order and with their keys, with the memory in which they stand, and lets the others
-    /// go. It asks for memory to tell where each row is while they are moved, and where that is refused nothing changes.
+    /// Gives away the rows at these places, in this order and with their keys, together with the memory in which they
+    /// stand. The other rows are dropped. It allocates for a while, to tell where each row is while rows are moved. If
+    /// an allocation fails, nothing changes.
     pub fn give_memory(
         &mut self,
         alloc: Global,

@@ -1,3 +1,5 @@
+//! The keys and rows of an undo record: a block of memory for up to six, or two lists.
+
 ghost use Rattle.std.specs.Prelude.{◌≡◌, ◌≤◌, [], length, vec_capacity, IfOk, OnOk, OnErr};
 ghost use Rattle.zt_store.specs.ProofsOnly.ChangedRows.{IsOrder, picked};
 ghost use Rattle.zt_store.specs.ProofsOnly.KeptRows.{AreOf, keys_in, rows_in, room_of};
@@ -9,7 +11,8 @@ use std::mem::{forget, replace};
 use zt_cells::NO_ROW;
 use zt_rows::{Row, RowKey};
 
-/// From how many rows on a record takes the memory in which its step listed them. Of fewer the next step has more use.
+/// From this many rows on, a record takes the memory in which its step listed them. For fewer rows, the next step has
+/// more use for it.
 const MANY: usize = 512;
 
 /// Some keys and as many bare rows in one block of memory of just their size.
@@ -26,8 +29,8 @@ pub(crate) struct RowLists {
     pub(crate) rows: Vec<Row>,
 }
 
-/// Some keys and as many rows, behind one pointer. `Many` also has those of fewer rows, where memory was refused for their
-/// block.
+/// Some keys and as many bare rows, behind one pointer. `Many` also has those of fewer rows, if the allocation of their
+/// block failed.
 #[derive(Drop)]
 pub(crate) enum KeptRows {
     NoRow,
@@ -41,8 +44,9 @@ pub(crate) enum KeptRows {
 }
 
 impl KeptRows {
-    /// Takes the rows at these places, in this order and with copies of their keys, into memory of just their size: few into fresh
-    /// memory, and many with that in which they stand, where the others are let go. Where memory is refused nothing changes.
+    /// Takes the rows at these places, in this order and with copies of their keys, into memory of just their size.
+    /// Fewer than `MANY` rows get fresh memory. More rows take over the lists in which they stand, and the other rows
+    /// are dropped. If an allocation fails, nothing changes.
     pub fn take(
         alloc: Global,
         firsts: &mut FirstRows,
@@ -99,8 +103,8 @@ impl KeptRows {
     }
 }
 
-/// Takes the rows at these places, in this order and with copies of their keys, into two lists. Where memory is refused nothing
-/// changes.
+/// Takes the rows at these places, in this order and with copies of their keys, into two lists. If an allocation fails,
+/// nothing changes.
 fn take_many(
     alloc: Global,
     firsts: &mut FirstRows,
@@ -122,7 +126,8 @@ fn take_many(
 }
 
 impl<const N: usize> RowBlock<N> {
-    /// Takes the rows at these places, with copies of their keys, into a new block. Where memory is refused nothing changes.
+    /// Takes the rows at these places, in this order and with copies of their keys, into a new block. If an allocation
+    /// fails, nothing changes.
     fn take(
         alloc: Global,
         firsts: &mut FirstRows,
@@ -144,7 +149,7 @@ impl<const N: usize> RowBlock<N> {
     }
 }
 
-/// Takes the rows at these places, with copies of their keys, into as many places, in which there is no row.
+/// Takes the rows at these places, in this order and with copies of their keys, into as many places without rows.
 #[inline(always)]
 fn take_into(keys: &mut [RowKey], rows: &mut [Row], firsts: &mut FirstRows, order: &[usize])
     requires order { IsOrder order.now (length firsts.old.rows) }
@@ -155,7 +160,7 @@ fn take_into(keys: &mut [RowKey], rows: &mut [Row], firsts: &mut FirstRows, orde
     for place in 0..order.len() {
         let mut row = NO_ROW;
         keys[place] = firsts.exchange(order[place], &mut row);
-        // What stood there has nothing to let go, and is not asked.
+        // The row that stood there owns no memory, so it is not dropped.
         forget(replace(&mut rows[place], row));
     }
 }
@@ -172,7 +177,7 @@ impl RowLists {
         Ok(Box::new(alloc, lists)?)
     }
 
-    /// Empty lists without memory.
+    /// Empty lists without memory for rows.
     pub fn empty(alloc: Global) -> Result<Box<RowLists>, AllocError>
         ensures keys { IfOk result (λ lists. lists.value.keys.items ≡ []) }
         ensures rows { IfOk result (λ lists. lists.value.rows.items ≡ []) }
@@ -184,14 +189,14 @@ impl RowLists {
         Ok(Box::new(alloc, lists)?)
     }
 
-    /// For how many rows there is room.
+    /// How many rows there is room for.
     pub fn room(&self) -> usize
         ensures { result ≡ room_of self.now }
     {
         self.keys.capacity().min(self.rows.capacity())
     }
 
-    /// Makes room for so many rows in empty lists. Where memory is refused the room that was there stays.
+    /// Makes room for so many rows in empty lists. If an allocation fails, the room that was there stays.
     pub fn grow_to(&mut self, count: usize) -> Result<(), AllocError>
         ensures ok { OnOk result (count ≤ room_of self.new) }
         ensures kept { room_of self.old ≤ room_of self.new }
@@ -201,7 +206,8 @@ impl RowLists {
         Ok(())
     }
 
-    /// Takes the rows at these places, with copies of their keys, and gives back the room for more. It takes no memory.
+    /// Takes the rows at these places, in this order and with copies of their keys, and gives back the room for more.
+    /// It cannot fail: without a smaller block, a list keeps the one that it has.
     pub fn take(&mut self, firsts: &mut FirstRows, order: &[usize])
         requires order { IsOrder order.now (length firsts.old.rows) }
         requires room { length order.now ≤ room_of self.old }
@@ -213,7 +219,7 @@ impl RowLists {
     }
 }
 
-/// Leaves just the rows at these places, and their keys, in the lists.
+/// Leaves in the lists just the rows at these places, in this order, and their keys.
 fn push_rows(keys: &mut Vec<RowKey>, rows: &mut Vec<Row>, firsts: &mut FirstRows, order: &[usize])
     requires order { IsOrder order.now (length firsts.old.rows) }
     requires keys { length order.now ≤ vec_capacity keys.old }

@@ -1,3 +1,5 @@
+//! Finds the next key of a store, and whether its numbers leave room for one more call.
+
 ghost use Rattle.std.specs.Prelude.{◌≡◌, ◌≤◌, ◌<◌, ◌^◌, ◌↔◌, ℕ, IsTrue, IfSome, Some, find, is_some};
 ghost use Rattle.std.specs.Option.{MatchOption};
 ghost use Rattle.zt_rows.specs.declared.keys.RowKey.TheVariants as key_variant;
@@ -23,7 +25,7 @@ const LAST_NUMBER: u64 = 1 << 62;
 /// The greatest next number of a process's handles that leaves room for one more call.
 const LAST_HANDLE: u64 = (1 << 30) - 64;
 
-/// The keys that differ in their last number alone. In the order of all keys a column stands in one piece.
+/// A column of keys: those that differ only in their last number. In the order of all keys, a column stands in one piece.
 #[derive(Clone, Copy)]
 enum KeyColumn {
     Objects,
@@ -48,7 +50,7 @@ impl KeyColumn {
         }
     }
 
-    /// From this number on there is no row.
+    /// From this number on, the column has no row.
     fn end(&self, cells: &Cells) -> u64
         ensures past { (n : ℕ) → result ≤ n → row cells.now.state (key_in self.now n) ≡ None }
         ensures few { result ≤ numbers_end self.now }
@@ -62,7 +64,7 @@ impl KeyColumn {
         }
     }
 
-    /// The column of the next keys, where no owner has a koid from `owners` on.
+    /// The column of the next keys, if no owner has a koid from `owners` on; `None` for the last column.
     fn next(&self, owners: u64) -> Option<KeyColumn>
         ensures { result ≡ next_column owners self.now }
     {
@@ -95,8 +97,8 @@ fn stands(cells: &Cells, key: &RowKey) -> bool
     cells.row(*key).is_some()
 }
 
-/// The least value above the low one, or of all, under which the process has an entry. It takes no memory, and walks over no
-/// handle that was closed.
+/// The least handle value above `low` under which the process has an entry; the least of all if `low` is `None`. Never
+/// allocates, and walks over no handle that was closed.
 pub(crate) fn handle_of(
     cells: &Cells,
     process: Koid,
@@ -107,7 +109,7 @@ pub(crate) fn handle_of(
     cells.next_entry(process, value_above(low))
 }
 
-/// The least number above the low value, or of all.
+/// The least number above `low`, or 0 if `low` is `None`.
 fn value_above(low: Option<HandleValue>) -> u64
     ensures { (h : ℕ) → (result ≤ h) ↔ IsBehind (λ a b. a < b) low h }
 {
@@ -117,8 +119,8 @@ fn value_above(low: Option<HandleValue>) -> u64
     }
 }
 
-/// The least number above the low one, or of all, of a packet in the port. It takes no memory, and walks over no packet that
-/// went.
+/// The least number above `low` of a packet in the port; the least of all if `low` is `None`. Never allocates, and
+/// walks over no packet that went.
 pub(crate) fn packet_of(cells: &Cells, port: Koid, low: Option<u64>) -> Option<u64>
     ensures { IsNext (has_packet cells.now.state port) low result }
 {
@@ -139,7 +141,7 @@ fn packet_behind(cells: &Cells, port: Koid, number: u64) -> Option<u64>
     }
 }
 
-/// The first key of the column from this number on, which is then the least of all from there on.
+/// The first key of the column, from this number on, that has a row. It is then the least key of all from there on.
 fn first_in(cells: &Cells, column: &KeyColumn, from: u64) -> Option<RowKey>
     ensures { MatchOption result
         ((n : ℕ) → from ≤ n → row cells.now.state (key_in column.now n) ≡ None)
@@ -155,7 +157,7 @@ fn first_in(cells: &Cells, column: &KeyColumn, from: u64) -> Option<RowKey>
     None
 }
 
-/// The least key from this number of the column on.
+/// The least key that has a row, from this number of the column on.
 fn key_from(cells: &Cells, first: KeyColumn, from: u64) -> Option<RowKey>
     ensures { result ≡ find (is_from (key_in first from)) (keys cells.now.state) }
 {
@@ -174,7 +176,7 @@ fn key_from(cells: &Cells, first: KeyColumn, from: u64) -> Option<RowKey>
     }
 }
 
-/// The least key above the one with this number of the column.
+/// The least key that has a row, above the key with this number of the column.
 fn key_above_in(cells: &Cells, column: KeyColumn, number: u64) -> Option<RowKey>
     ensures { result ≡ find (is_above (Some (key_in column number))) (keys cells.now.state) }
 {
@@ -185,7 +187,7 @@ fn key_above_in(cells: &Cells, column: KeyColumn, number: u64) -> Option<RowKey>
     }
 }
 
-/// The least key above the low one, or the least of all. It takes no memory.
+/// The least key above `low`, or the least of all if `low` is `None`. Never allocates.
 pub(crate) fn key_after(cells: &Cells, low: Option<RowKey>) -> Option<RowKey>
     ensures { result ≡ next_key cells.now.state low }
 {
@@ -195,7 +197,7 @@ pub(crate) fn key_after(cells: &Cells, low: Option<RowKey>) -> Option<RowKey>
     }
 }
 
-/// The least key above the low one.
+/// The least key above `low`.
 fn key_above(cells: &Cells, low: RowKey) -> Option<RowKey>
     ensures { result ≡ next_key cells.now.state (Some low) }
 {
@@ -219,7 +221,7 @@ fn first_key(cells: &Cells) -> Option<RowKey>
     Some(RowKey::Counters)
 }
 
-/// Whether every number that a call may raise leaves room for one more call. It takes no memory.
+/// Whether every number that a call may raise leaves room for one more call. Never allocates.
 pub(crate) fn has_room(cells: &Cells) -> bool
     ensures { IsTrue result ↔ HasRoom cells.now.state }
 {
@@ -227,7 +229,7 @@ pub(crate) fn has_room(cells: &Cells) -> bool
     counters.next_koid.0 <= LAST_NUMBER && counters.next_wait <= LAST_NUMBER && objects_fit(cells)
 }
 
-/// Whether what each owner gives out next leaves room for one more call.
+/// Whether the next number of each owner leaves room for one more call.
 fn objects_fit(cells: &Cells) -> bool
     ensures { IsTrue result
         ↔ ((x : ℕ) (o : ObjectRow) → object cells.now.state x ≡ Some o → NextFits o.kind o.next) }
@@ -240,7 +242,7 @@ fn objects_fit(cells: &Cells) -> bool
     true
 }
 
-/// Whether what the object gives out next, if there is one, leaves room for one more call.
+/// Whether the next number of the object, if there is one, leaves room for one more call.
 fn object_fits(cells: &Cells, koid: Koid) -> bool
     ensures { IsTrue result ↔ IfSome (object cells.now.state koid) (λ o. NextFits o.kind o.next) }
 {
@@ -250,7 +252,7 @@ fn object_fits(cells: &Cells, koid: Koid) -> bool
     }
 }
 
-/// Whether what an owner of this kind gives out next leaves room for one more call.
+/// Whether this next number of an owner of this kind leaves room for one more call.
 fn next_fits(kind: Kind, next: u64) -> bool
     ensures { IsTrue result ↔ NextFits kind next }
 {

@@ -1,3 +1,5 @@
+//! Finds the place of a key among those that a step put: few keys one by one, many by hash buckets.
+
 ghost use Rattle.std.specs.Prelude.{◌≡◌, ◌<◌, ◌≤◌, ◌+◌, ◌-◌, ◌^◌, [], ◌∷◌, ◌++◌, List, Some, length, slice_get, OnOk, OnErr};
 ghost use Rattle.zt_rows.specs.Keys.{variant, first_number, rowkey_eq, second_number};
 ghost use Rattle.zt_rows.specs.declared.keys.RowKey.{RowKey};
@@ -7,29 +9,29 @@ ghost use Rattle.zt_store.specs.ProofsOnly.StepRows.{IsPlaceOf};
 use std::alloc::{AllocError, Global};
 use zt_rows::RowKey;
 
-/// How many keys are looked through one by one. Where more come, all are spread over buckets.
+/// Up to this many keys are compared one by one. If more come, all are put into hash buckets.
 const FEW: usize = 8;
 
-/// How many buckets there are at first.
+/// The number of buckets at first.
 const FIRST_BUCKETS: usize = 32;
 
-/// How many keys there are at most, so that the number of each is one that a chain can hold.
+/// The most keys, so that the number of each is one that a chain can hold.
 const MOST_KEYS: usize = u32::MAX as usize;
 
-/// By this the first number of a key is multiplied: numbers in a row stay so in the upper half.
+/// The factor of a key's first number: consecutive numbers stay consecutive in the upper half of the product.
 const FIRST_FACTOR: u64 = 0x1_0000_0000;
 
-/// Odd numbers without a pattern, by which the other parts of a key are multiplied.
+/// The factor of a key's second number. It and `VARIANT_FACTOR`, that of the variant, are odd numbers without a pattern.
 const SECOND_FACTOR: u64 = 0xc2b2ae3d27d4eb4f;
 
 const VARIANT_FACTOR: u64 = 0x165667b19e3779f9;
 
-/// What leads from a key to the one before it in its bucket.
+/// The link from a key to the one before it in its bucket.
 #[derive(Clone, Copy, Debug)]
 struct KeyLink {
-    /// What is mixed of the key, by which most others are told from it with no look at it.
+    /// The hash of the key. It tells most other keys from this one without a look at the key.
     mixed: u32,
-    /// The number of the one before it.
+    /// The number of the key before it, or 0.
     before: u32,
 }
 
@@ -39,19 +41,19 @@ const NO_LINK: KeyLink = KeyLink {
     before: 0,
 };
 
-/// By what the places of a list's keys are found. The keys themselves stand in the list, and each call is given it. While they are
-/// few, nothing is kept. More are spread over buckets, and the keys of a bucket are chained from the last one back to the first: a
-/// chain says the number of a key in the list, counted from 1, and ends with 0.
+/// Finds the places of a list's keys. The keys themselves stand in the list, and each call is given the list. While
+/// they are few, nothing is kept. More keys are put into hash buckets, and those of a bucket are chained from the last
+/// one back to the first. A chain has the numbers of keys in the list, counted from 1, and ends with 0.
 #[derive(Drop)]
 pub(crate) struct KeyPlaces {
-    /// The number of the last key of each bucket.
+    /// The number of the last key of each bucket, or 0.
     last: Vec<u32>,
     /// The link of each key.
     links: Vec<KeyLink>,
 }
 
 impl KeyPlaces {
-    /// Those of no keys. It takes no memory.
+    /// The places of no keys. Never allocates.
     pub(crate) fn new(alloc: Global) -> KeyPlaces
         ensures last { result.last.items ≡ [] }
         ensures links { result.links.items ≡ [] }
@@ -62,7 +64,7 @@ impl KeyPlaces {
         }
     }
 
-    /// Where the key stands in the list. It takes no memory.
+    /// The place of the key in the list, if it is there. Never allocates.
     #[inline(always)]
     pub(crate) fn place(&self, keys: &[RowKey], key: &RowKey) -> Option<usize>
         requires { AreNoted self.now keys.now }
@@ -75,7 +77,8 @@ impl KeyPlaces {
         }
     }
 
-    /// Notes that the key will stand behind those of the list. Where memory is refused, the list's are found still.
+    /// Notes that the key will stand behind those of the list. Fails if an allocation fails, and beyond 2^32 - 1 keys.
+    /// The keys of the list are then still found.
     #[inline(always)]
     pub(crate) fn note(&mut self, keys: &[RowKey], key: &RowKey) -> Result<(), AllocError>
         requires { AreNoted self.old keys.now }
@@ -88,7 +91,7 @@ impl KeyPlaces {
         self.note_chained(keys, key)
     }
 
-    /// Notes the key where there are buckets, or where so many keys stand before it that there are to be some.
+    /// Notes the key when there are buckets, or when enough keys stand before it for buckets to be made.
     #[inline(never)]
     fn note_chained(&mut self, keys: &[RowKey], key: &RowKey) -> Result<(), AllocError>
         requires { AreNoted self.old keys.now }
@@ -109,7 +112,7 @@ impl KeyPlaces {
         Ok(())
     }
 
-    /// Makes more buckets, where there are no more of them than keys.
+    /// Makes more buckets, if there are no more buckets than keys.
     fn make_buckets(&mut self, keys: &[RowKey]) -> Result<(), AllocError>
         requires noted { AreNoted self.old keys.now }
         requires few { length keys.now < 2 ^ 32 - 1 }
@@ -123,7 +126,7 @@ impl KeyPlaces {
         self.double_buckets(keys)
     }
 
-    /// Makes twice as many buckets, and spreads the keys over them.
+    /// Makes twice as many buckets, and puts all keys into them.
     fn double_buckets(&mut self, keys: &[RowKey]) -> Result<(), AllocError>
         requires noted { AreNoted self.old keys.now }
         requires few { length keys.now < 2 ^ 32 - 1 }
@@ -139,7 +142,7 @@ impl KeyPlaces {
         Ok(())
     }
 
-    /// Forgets all keys. It takes no memory, and leaves what there is to later ones.
+    /// Forgets all keys, and leaves the memory to later ones. Never allocates.
     pub(crate) fn clear(&mut self)
         ensures last { self.new.last.items ≡ [] }
         ensures links { self.new.links.items ≡ [] }
@@ -149,7 +152,7 @@ impl KeyPlaces {
     }
 }
 
-/// Where the key stands, by a look at each.
+/// The place of the key, by a look at each key.
 fn place_among(keys: &[RowKey], key: &RowKey) -> Option<usize>
     ensures { IsPlaceOf keys.now key.now result }
 {
@@ -161,7 +164,7 @@ fn place_among(keys: &[RowKey], key: &RowKey) -> Option<usize>
     None
 }
 
-/// Where the key stands, by a look at those of its bucket.
+/// The place of the key, by a look at the keys of its bucket.
 #[inline(never)]
 fn chained_place(last: &[u32], links: &[KeyLink], keys: &[RowKey], key: &RowKey) -> Option<usize>
     requires some { 0 < length last.now }
@@ -204,7 +207,7 @@ fn chain_all(last: &mut [u32], links: &mut [KeyLink], keys: &[RowKey])
     }
 }
 
-/// Chains the key at the place, the keys before which are chained.
+/// Chains the key at the place. The keys before it are chained already.
 #[inline(always)]
 fn chain(last: &mut [u32], links: &mut [KeyLink], place: usize, key: &RowKey)
     requires some { 0 < length last.old }
@@ -222,7 +225,7 @@ fn chain(last: &mut [u32], links: &mut [KeyLink], place: usize, key: &RowKey)
     last[bucket] = (place + 1) as u32;
 }
 
-/// The bucket of a key of which this is mixed.
+/// The bucket of a key with this hash.
 #[inline(always)]
 fn bucket(mixed: u32, buckets: usize) -> usize
     requires { 0 < buckets }
@@ -232,9 +235,9 @@ fn bucket(mixed: u32, buckets: usize) -> usize
     mixed as usize & (buckets - 1)
 }
 
-/// A number that depends on the key's variant and numbers. Keys whose first numbers are in a row, as those of objects that were made
-/// one after another, come to buckets in a row, which are near in memory: a call that ends many things goes through them so. All others
-/// are spread.
+/// A hash of the key, from its variant and numbers. Keys with consecutive first numbers, as those of objects that were
+/// made one after another, come into consecutive buckets. These are near each other in memory, and a call that ends
+/// many things goes through them in this order. All other keys are spread.
 #[inline(always)]
 fn mixed(key: &RowKey) -> u32
     ensures { result ≡ mixed_of key.now }
@@ -246,7 +249,7 @@ fn mixed(key: &RowKey) -> u32
     (numbers.wrapping_add(variant.wrapping_mul(VARIANT_FACTOR)) >> 32) as u32
 }
 
-/// The number of the key's variant, and its numbers.
+/// The number of the key's variant, and its two numbers, 0 for a number that it does not have.
 #[inline(always)]
 pub(crate) fn parts(key: &RowKey) -> (u64, u64, u64)
     ensures variant { result.0 ≡ variant key.now }

@@ -1,5 +1,4 @@
-//! The store of a debugger's rows: looks at it, steps that change it, and records by which a step is
-//! undone and made again.
+//! The store: the rows of one state in memory, steps that change it, and undo records that take a step back or forth.
 #![tactic(auto)]
 
 mod arranged_rows;

@@ -1,3 +1,5 @@
+//! Undo records: the rows that a step changed, as they were, by which the step is undone.
+
 ghost use Rattle.std.specs.Option.{option_copied, option_map};
 ghost use Rattle.std.specs.Prelude.{◌≡◌, ◌<◌, ◌≤◌, true, Some, length, map, slice_get, IfOk, OnOk};
 ghost use Rattle.std.specs.List.{IsDistinct};
@@ -18,8 +20,8 @@ use std::marker::Model;
 use zt_cells::row_under;
 use zt_rows::{Row, RowKey};
 
-/// The rows under some keys at an earlier moment, or that there was none, in the order of the keys. Each row stands at the
-/// place of its key.
+/// An undo record: the rows under some keys at another moment, or that there was none. They are in the order of the
+/// keys, and each row stands at the place of its key.
 #[derive(Drop)]
 pub struct Record {
     pub(crate) rows: KeptRows,
@@ -40,14 +42,14 @@ impl Model for Record {
 }
 
 impl Record {
-    /// The keys in their order. It takes no memory.
+    /// The keys in their order. Never allocates.
     pub fn keys(&self) -> &[RowKey]
         ensures { result.now ≡ map (λ e. e.0) self.now }
     {
         self.rows.keys()
     }
 
-    /// The keys and the rows at hand. It takes no memory.
+    /// Lends the keys and the rows. Never allocates.
     pub fn rows(&self) -> RecordRows<'_>
         ensures { result ≡ self.now }
     {
@@ -55,8 +57,8 @@ impl Record {
         RecordRows { keys, rows }
     }
 
-    /// The row, or that there was none, under the key; nothing where the record does not have the key. It takes no
-    /// memory, and as many looks as the number of the keys has binary digits.
+    /// What the record has under the key: a row, or that there was none. The outer `None` means that it does not have
+    /// the key. Never allocates, and makes as many looks as the number of keys has binary digits.
     pub fn held(&self, key: RowKey) -> Option<Option<&Row>>
         ensures { option_map option_copied result ≡ held self.now key }
     {
@@ -67,7 +69,8 @@ impl Record {
     }
 }
 
-/// The keys and the rows of a record at hand. Who goes over all of them asks once in which form the record keeps them.
+/// The keys and the rows of a record, lent without the form in which it keeps them. So a walk over all of them finds
+/// out the form only once.
 #[derive(Drop)]
 pub struct RecordRows<'a> {
     keys: &'a [RowKey],
@@ -89,14 +92,14 @@ impl<'a> Model for RecordRows<'a> {
 }
 
 impl<'a> RecordRows<'a> {
-    /// How many there are. It takes no memory.
+    /// How many keys there are. Never allocates.
     pub fn len(&self) -> usize
         ensures { result ≡ length self.now }
     {
         self.keys.len()
     }
 
-    /// The key at the place. It takes no memory.
+    /// The key at the place. Never allocates.
     #[inline(always)]
     pub fn key(&self, place: usize) -> RowKey
         requires { place < length self.now }
@@ -106,7 +109,7 @@ impl<'a> RecordRows<'a> {
         keys[place]
     }
 
-    /// The row, or that there was none, under the key at the place. It takes no memory.
+    /// The row under the key at the place, or `None` if there was none. Never allocates.
     #[inline(always)]
     pub fn row(&self, place: usize) -> Option<&'a Row>
         requires { place < length self.now }
@@ -118,14 +121,14 @@ impl<'a> RecordRows<'a> {
     }
 }
 
-/// Room for a record that is still to be made, for where memory is refused when it is: empty lists, or none as yet. Beside them
-/// stand the places of the rows that come into it.
+/// Room for a record that is still to be made, used if the allocation of the record fails: empty lists, or none yet.
+/// Beside it stand the places of the rows that come into the record.
 #[derive(Drop)]
 pub(crate) struct RecordLists {
     alloc: Global,
     lists: Option<Box<RowLists>>,
     order: Vec<usize>,
-    /// For how many rows there is room in all of these.
+    /// How many rows there is room for in all of these.
     room: usize,
 }
 
@@ -151,7 +154,7 @@ impl RecordLists {
         }
     }
 
-    /// Makes room for so many rows. Where memory is refused the room that was there stays.
+    /// Makes room for so many rows. If an allocation fails, the room that was there stays.
     #[inline(always)]
     pub(crate) fn grow_to(&mut self, count: usize) -> Result<(), AllocError>
         ensures ok { OnOk result (count ≤ self.new) }
@@ -164,7 +167,7 @@ impl RecordLists {
         }
     }
 
-    /// Makes room for so many rows, for which there is none yet.
+    /// Makes room for so many rows when there is less. If an allocation fails, the room that was there stays.
     #[inline(never)]
     fn widen_to(&mut self, count: usize) -> Result<(), AllocError>
         requires { self.old ≤ count }
@@ -179,8 +182,8 @@ impl RecordLists {
         Ok(())
     }
 
-    /// The record of those of a step's first rows that differ from the rows now, in memory that has room for no others. It asks
-    /// for memory, and takes that of these lists where it is refused.
+    /// Makes the record of those first rows of a step that differ from the rows now, in memory of just their size. It
+    /// cannot fail: if an allocation for the record fails, it takes the memory of these lists.
     pub(crate) fn record_of(&mut self, store: &Store, firsts: &mut FirstRows) -> Record
         requires room { length firsts.old.rows ≤ self.old }
         requires distinct { IsDistinct rowkey_eq (map (λ e. e.0) (rows_of firsts.old.rows)) }
@@ -201,7 +204,7 @@ impl RecordLists {
     }
 }
 
-/// Makes room for so many rows in the lists, and says for how many there is.
+/// Makes room for so many rows in the lists, and returns how many rows there is room for.
 fn grow_lists(
     alloc: Global,
     lists: &mut Option<Box<RowLists>>,
@@ -224,7 +227,7 @@ fn grow_lists(
     }
 }
 
-/// Takes the rows at these places into the lists, which are then given away.
+/// Takes the rows at these places into the lists, and gives the lists away.
 fn give(lists: &mut Option<Box<RowLists>>, firsts: &mut FirstRows, order: &[usize]) -> KeptRows
     requires order { IsOrder order.now (length firsts.old.rows) }
     requires room { length order.now ≤ room_in lists.old }

@@ -1,3 +1,5 @@
+//! The store: the rows of one state, with the counts and the index that follow them.
+
 ghost use Rattle.std.specs.Prelude.{◌≡◌, ◌<◌, ◌+◌, ◌^◌, ◌↔◌, ℕ, true, false, IsTrue, IfOk, OnOk, Option, None, if◌then◌else◌};
 ghost use Rattle.std.specs.Option.{option_copied};
 ghost use Rattle.zt_rows.specs.declared.keys.RowKey.{RowKey};
@@ -32,10 +34,10 @@ use zt_rows::{
     ROOT_PROCESS, Row, RowKey, Wait,
 };
 
-/// The first koid that is given out: the one behind the root process.
+/// The first koid that is given out, one above that of the root process.
 const FIRST_KOID: Koid = Koid(1026);
 
-/// All rights to a job, those that `defaults` gives.
+/// The default rights to a job, as `defaults` of `zt_bits` gives them.
 const JOB_RIGHTS: Rights = Rights(0x3d203);
 
 const FIRST_COUNTERS: Counters = Counters {
@@ -66,7 +68,8 @@ const TO_ROOT_JOB: Held = Held {
     rights: JOB_RIGHTS,
 };
 
-/// The rows of a system, each under its key, how often they name each object, and how many packets of users each port has.
+/// The rows of one state, each under its key. Beside them stand how often they name each koid, how many user packets
+/// each port has, and the index of waits and live tasks.
 pub struct Store {
     cells: Cells,
     support_counts: SupportCounts,
@@ -75,8 +78,7 @@ pub struct Store {
     alloc: Global,
 }
 
-/// Lets all parts go in one call, so that a function that owns a store is proved without going through them at each of its
-/// ways out.
+/// Drops all parts in one call. So the proof of a function that owns a store does not go through them at each exit.
 impl Drop for Store {
     fn drop(self) {
         let Store {
@@ -105,7 +107,7 @@ impl Model for Store {
 }
 
 impl Store {
-    /// A store of counters that stand at 0. It takes no memory.
+    /// A store with the counters at 0 and no other row. Never allocates.
     pub fn hollow(alloc: Global) -> Store
         ensures { result ≡ record { state = hollow; places = no_places } }
     {
@@ -118,7 +120,7 @@ impl Store {
         }
     }
 
-    /// The store that a history begins with: the root job with its first process.
+    /// The store that a history begins with: the root job, the root process, and its handle to the root job.
     pub fn opening(alloc: Global) -> Result<Store, AllocError>
         ensures { IfOk result (λ store. store.state ≡ opening) }
     {
@@ -141,15 +143,14 @@ impl Store {
         )
     }
 
-    /// The row under the key. It takes no memory.
+    /// The row under the key. Never allocates.
     pub fn row(&self, key: RowKey) -> Option<&Row>
         ensures { option_copied result ≡ row self.now.state key }
     {
         self.cells.row(key)
     }
 
-    /// The row under the key, for a caller who knows the key's variant: as part of the caller, it looks at one table. It takes no
-    /// memory.
+    /// The row under the key. It is inlined, so a caller that knows the key's variant looks at one table. Never allocates.
     #[inline(always)]
     pub fn look(&self, key: RowKey) -> Option<&Row>
         ensures { option_copied result ≡ row self.now.state key }
@@ -157,56 +158,56 @@ impl Store {
         self.cells.look(key)
     }
 
-    /// The next numbers that the system gives out. It takes no memory.
+    /// The next numbers that the system gives out. Never allocates.
     pub fn counters(&self) -> Counters
         ensures { result ≡ counters self.now.state }
     {
         self.cells.counters()
     }
 
-    /// The object of this koid. It takes no memory.
+    /// The object of this koid. Never allocates.
     pub fn object(&self, koid: Koid) -> Option<ObjectRow>
         ensures { result ≡ object self.now.state koid }
     {
         self.cells.object(koid)
     }
 
-    /// What the process holds by this handle value. It takes no memory.
+    /// What the process holds by this handle value. Never allocates.
     pub fn entry(&self, process: Koid, handle: HandleValue) -> Option<Held>
         ensures { result ≡ entry self.now.state process handle }
     {
         self.cells.entry(process, handle)
     }
 
-    /// The message of this number in the endpoint's queue. It takes no memory.
+    /// The message of this number in the endpoint's queue. Never allocates.
     pub fn message(&self, endpoint: Koid, number: u64) -> Option<&Message>
         ensures { option_copied result ≡ message self.now.state endpoint number }
     {
         self.cells.message(endpoint, number)
     }
 
-    /// The packet of this number in the port. It takes no memory.
+    /// The packet of this number in the port. Never allocates.
     pub fn packet(&self, port: Koid, number: u64) -> Option<Packet>
         ensures { result ≡ packet self.now.state port number }
     {
         self.cells.packet(port, number)
     }
 
-    /// The wait of this number. It takes no memory.
+    /// The wait of this number. Never allocates.
     pub fn wait(&self, number: u64) -> Option<Wait>
         ensures { result ≡ wait self.now.state number }
     {
         self.cells.wait(number)
     }
 
-    /// The least key above the low one, or the least of all. It takes no memory.
+    /// The least key above `low`, or the least of all if `low` is `None`. Never allocates.
     pub fn after(&self, low: Option<RowKey>) -> Option<RowKey>
         ensures { result ≡ next_key self.now.state low }
     {
         key_after(&self.cells, low)
     }
 
-    /// How many supports the object has. It takes no memory.
+    /// How many supports the object has. Never allocates.
     pub fn count(&self, koid: Koid) -> u64
         ensures { result ≡ support_count self.now.state koid }
     {
@@ -217,28 +218,28 @@ impl Store {
         numbers.named + tasks_kept(&object, numbers) + itself
     }
 
-    /// How many live jobs have the koid as their parent. It takes no memory.
+    /// How many live jobs have the koid as their parent. Never allocates.
     pub fn child_jobs(&self, koid: Koid) -> u64
         ensures { result ≡ count_row (is_child_job_of koid) self.now.state }
     {
         u64::from(self.support_counts.at(koid).jobs)
     }
 
-    /// How many live processes have the koid as their parent. It takes no memory.
+    /// How many live processes have the koid as their parent. Never allocates.
     pub fn child_processes(&self, koid: Koid) -> u64
         ensures { result ≡ count_row (is_child_process_of koid) self.now.state }
     {
         u64::from(self.support_counts.at(koid).processes)
     }
 
-    /// How many packets of users are in the port. It takes no memory.
+    /// How many user packets are in the port. Never allocates.
     pub fn user_packets(&self, port: Koid) -> u64
         ensures { result ≡ pending self.now.state port }
     {
         self.packet_counts.at(port)
     }
 
-    /// The least number of a message in the endpoint's queue. It takes no memory.
+    /// The least number of a message in the endpoint's queue. Never allocates.
     pub fn first_message(&self, endpoint: Koid) -> Option<u64>
         ensures first { IsFirst self.now.state (λ n. key_variant.Msg endpoint n) result }
         ensures suited { (key : RowKey) → SuitsKey key (row self.now.state key) }
@@ -247,7 +248,7 @@ impl Store {
         self.cells.first_message(endpoint)
     }
 
-    /// The least number of a packet in the port. It takes no memory.
+    /// The least number of a packet in the port. Never allocates.
     pub fn first_packet(&self, port: Koid) -> Option<u64>
         ensures first { IsFirst self.now.state (λ n. key_variant.Packet port n) result }
         ensures suited { (key : RowKey) → SuitsKey key (row self.now.state key) }
@@ -256,7 +257,8 @@ impl Store {
         self.cells.first_packet(port)
     }
 
-    /// Whether there ever was a wait here: a place for one, once made, is never given up. It takes no memory.
+    /// Whether a place for a wait was ever made here. Places are never given up, so `false` means that there never was
+    /// a wait. Never allocates.
     pub fn ever_had_waits(&self) -> bool
         ensures places { IsTrue result ↔ (0 < self.now.places.sizes.waits) }
         ensures none { result ≡ false → (n : ℕ) → wait self.now.state n ≡ None }
@@ -264,71 +266,71 @@ impl Store {
         self.cells.waits_end() > 0
     }
 
-    /// The least number above the low one, or of all, of a wait that the process made on the handle. It takes no
-    /// memory, and looks at waits that share a bucket with the handle alone.
+    /// The least number above `low` of a wait that the process made on the handle; the least of all if `low` is `None`.
+    /// Never allocates, and looks only at waits in the hash bucket of the handle.
     pub fn wait_on(&self, process: Koid, handle: HandleValue, low: Option<u64>) -> Option<u64>
         ensures { IsNext (waits_where self.now.state (is_on process handle)) low result }
     {
         self.index.wait_on(&self.cells, process, handle, low)
     }
 
-    /// The least number above the low one, or of all, of a wait for the port. It takes no memory, and looks at waits
-    /// that share a bucket with the port alone.
+    /// The least number above `low` of a wait for the port; the least of all if `low` is `None`. Never allocates, and
+    /// looks only at waits in the hash bucket of the port.
     pub fn wait_for(&self, port: Koid, low: Option<u64>) -> Option<u64>
         ensures { IsNext (waits_where self.now.state (is_for port)) low result }
     {
         self.index.wait_for(&self.cells, port, low)
     }
 
-    /// The least number above the low one, or of all, of a wait on a handle that names the object. It takes no memory,
-    /// and looks at waits that share a bucket with the object alone.
+    /// The least number above `low` of a wait on a handle that names the object; the least of all if `low` is `None`.
+    /// Never allocates, and looks only at waits in the hash bucket of the object.
     pub fn wait_at(&self, koid: Koid, low: Option<u64>) -> Option<u64>
         ensures { IsNext (waits_where self.now.state (is_at self.now.state koid)) low result }
     {
         self.index.wait_at(&self.cells, koid, low)
     }
 
-    /// The least number above the low one, or of all, of a wait that the process made. It takes no memory, and looks at
-    /// waits that share a bucket with the process alone.
+    /// The least number above `low` of a wait that the process made; the least of all if `low` is `None`. Never
+    /// allocates, and looks only at waits in the hash bucket of the process.
     pub fn wait_by(&self, process: Koid, low: Option<u64>) -> Option<u64>
         ensures { IsNext (waits_where self.now.state (is_by process)) low result }
     {
         self.index.wait_by(&self.cells, process, low)
     }
 
-    /// The least koid above the low one, or of all, of a live job or process whose parent is the koid. It takes no
-    /// memory, and looks at live jobs and processes whose parents share a bucket with the koid alone.
+    /// The least koid above `low` of a live job or process with this parent; the least of all if `low` is `None`. Never
+    /// allocates, and looks only at live jobs and processes in the hash bucket of the parent.
     pub fn task_below(&self, parent: Koid, low: Option<Koid>) -> Option<Koid>
         ensures { IsNext (objects_where self.now.state (is_below parent)) low result }
     {
         self.index.task_below(&self.cells, parent, low)
     }
 
-    /// The least value above the low one, or of all, under which the process has an entry. It takes no memory, and looks
-    /// at the places of this process alone.
+    /// The least handle value above `low` under which the process has an entry; the least of all if `low` is `None`.
+    /// Never allocates, and looks only at the places of this process.
     pub fn handle_of(&self, process: Koid, low: Option<HandleValue>) -> Option<HandleValue>
         ensures { IsNext (has_entry self.now.state process) low result }
     {
         handle_of(&self.cells, process, low)
     }
 
-    /// The least number above the low one, or of all, of a packet in the port. It takes no memory, and looks at the places
-    /// of this port alone, from its first packet on.
+    /// The least number above `low` of a packet in the port; the least of all if `low` is `None`. Never allocates, and
+    /// looks only at the places of this port.
     pub fn packet_of(&self, port: Koid, low: Option<u64>) -> Option<u64>
         ensures { IsNext (has_packet self.now.state port) low result }
     {
         packet_of(&self.cells, port, low)
     }
 
-    /// Whether every number that a call may raise leaves room for one more call. It takes no memory.
+    /// Whether every number that a call may raise leaves room for one more call. Never allocates.
     pub fn room(&self) -> bool
         ensures { IsTrue result ↔ HasRoom self.now.state }
     {
         has_room(&self.cells)
     }
 
-    /// Whether each key of the record, and each koid that its rows count for, has a place in the store, so that
-    /// they can exchange their rows. It takes no memory.
+    /// Whether the record fits the store: each of its keys, and each koid that its rows count for, has a place in the
+    /// store. They can then exchange their rows. Never allocates.
     pub fn fits(&self, kept: &Record) -> bool
         ensures { result ≡ fits self.now.places kept.now }
     {
@@ -342,7 +344,7 @@ impl Store {
         true
     }
 
-    /// Whether the key, and each koid that the row counts for, has a place in the store. It takes no memory.
+    /// Whether the key, and each koid that the row counts for, has a place in the store. Never allocates.
     fn fits_row(&self, key: &RowKey, row: &Row) -> bool
         ensures { result ≡ fits_row self.now.places key.now (row_under key.now row.now) }
     {
@@ -350,7 +352,7 @@ impl Store {
         self.cells.has_place(*key) && self.support_counts.covers_if(*key, held)
     }
 
-    /// An equal store in memory of its own, with the same places.
+    /// Copies the store, with the same places, into memory of its own.
     pub fn copy(&self) -> Result<Store, AllocError>
         ensures { IfOk result (λ copied. copied ≡ self.now) }
     {
@@ -363,13 +365,14 @@ impl Store {
         })
     }
 
-    /// What the store asks for memory.
+    /// The allocator of the store.
     pub(crate) fn alloc(&self) -> Global {
         self.alloc
     }
 
-    /// Makes what the row needs under the key: the place of the key, and the numbers of the koids that it counts
-    /// for. The rows stay as they are, also where memory is refused. Koids from 2^48 on are refused.
+    /// Makes what the row needs under the key: the place of the key, and counts for the koids that the row counts for.
+    /// Fails if an allocation fails, for koids from 2^48 on, and beyond the limits of `Cells::make_place`. The rows
+    /// stay as they are, even if it fails.
     #[inline(always)]
     pub(crate) fn make_room(&mut self, key: &RowKey, row: Option<&Row>) -> Result<(), AllocError>
         ensures state { self.new.state ≡ self.old.state }
@@ -427,8 +430,8 @@ impl Store {
         self.add_place(&key)
     }
 
-    /// Makes the place of a key whose variant the caller may know: as part of the caller, it asks once what the key means. With
-    /// the place of a packet comes the number of its port.
+    /// Makes the place of the key, and with that of a packet the count of its port. It is inlined, so a caller that
+    /// knows the key's variant has the key taken apart once.
     #[inline(always)]
     fn add_place(&mut self, key: &RowKey) -> Result<(), AllocError>
         ensures state { self.new.state ≡ self.old.state }
@@ -440,7 +443,7 @@ impl Store {
         self.cells.make_place(*key)
     }
 
-    /// Exchanges the bare row, which is one or stands for none, with what stands under the key. It takes no memory.
+    /// Exchanges the bare row with the one under the key. Either may stand for none. Never allocates.
     #[inline(always)]
     pub(crate) fn exchange(&mut self, key: &RowKey, kept: &mut Row)
         requires { IsExchangeable self.old key.now kept.old }
@@ -501,7 +504,8 @@ impl Store {
         self.exchange_under(&RowKey::Wait(number), kept);
     }
 
-    /// Exchanges the row under a key whose variant the caller knows: as part of the caller, it asks once what the key means.
+    /// Exchanges the bare row with the one under the key. It is inlined, so a caller that knows the key's variant has
+    /// the key taken apart once.
     #[inline(always)]
     fn exchange_under(&mut self, key: &RowKey, kept: &mut Row)
         requires { IsExchangeable self.old key.now kept.old }
@@ -530,9 +534,8 @@ impl Store {
         }
     }
 
-    /// Exchanges the object with the one of this koid where both are there, of the same kind, life and link, and says whether
-    /// they are; else nothing changes. Most objects that are put are such: they count for the same supports and stand in
-    /// the same bucket, so that the rows alone change.
+    /// If both objects are there and have the same kind, life and link, exchanges them and returns `true`. Else nothing changes.
+    /// Most objects that are put are such: they count for the same supports and stand in the same bucket, so only the rows change.
     #[inline(always)]
     fn exchange_alike(&mut self, koid: Koid, kept: &mut Row) -> bool
         requires { IsExchangeable self.old (key_variant.Object koid) kept.old }
@@ -558,7 +561,7 @@ impl Store {
     }
 }
 
-/// Whether the live tasks below the object are its supports.
+/// Whether the live tasks below the object support it.
 fn keeps_tasks(object: &Option<ObjectRow>) -> bool
     ensures { result ≡ keeps_tasks object.now }
 {
@@ -568,7 +571,7 @@ fn keeps_tasks(object: &Option<ObjectRow>) -> bool
     }
 }
 
-/// How many tasks support the object, by the numbers of its koid.
+/// How many tasks support the object, by the counts of its koid.
 fn tasks_kept(object: &Option<ObjectRow>, numbers: KoidCounts) -> u64
     requires jobs { numbers.jobs < 2 ^ 62 }
     requires processes { numbers.processes < 2 ^ 62 }

@@ -1,3 +1,5 @@
+//! Finds, gives and takes away entries of a process's handle table.
+
 ghost use Rattle.std.specs.Prelude.{◌≡◌, ◌<◌, ◌+◌, ◌^◌, IfOk, OnErr};
 ghost use Rattle.zt_rows.specs.Reads.{entry};
 ghost use Rattle.zt_rows.specs.Tests.{next_at};
@@ -11,18 +13,18 @@ use zt_bits::{Kind, Rights, Signals};
 use zt_rows::{FIRST_HANDLE, HandleValue, Held, Koid, Life, ObjectRow, Row, RowKey};
 use zt_store::{Step, Store};
 
-/// By how much the value of a handle is greater than that of the one which its process received before.
+/// The distance between a handle value and the one that its process received before.
 const VALUE_STEP: u64 = 4;
 
-/// What the process holds by this handle value. It takes no memory.
+/// What the process holds by this handle value. Never allocates.
 pub fn find(store: &Store, process: Koid, value: HandleValue) -> Option<Held>
     ensures { result ≡ entry store.now.state process value }
 {
     store.entry(process, value)
 }
 
-/// Gives the process a handle, by its next value. A process without a row counts as one that had no handle
-/// so far.
+/// Gives the process a handle under its next value, and returns the value. A process without a row counts as one that
+/// had no handle so far. If an allocation fails, all puts of the step are taken back.
 #[tactic(auto, using(crate::proofs::PutOrder::entry_last))]
 #[inline(always)]
 pub fn install(step: &mut Step, process: Koid, held: Held) -> Result<HandleValue, AllocError>
@@ -44,8 +46,8 @@ pub fn install(step: &mut Step, process: Koid, held: Held) -> Result<HandleValue
     Ok(value)
 }
 
-/// Gives the process two handles in turn, by its next two values. It does the same as two calls of `install`, and puts the
-/// process's row once.
+/// Gives the process two handles in turn, under its next two values, and returns the values. It does the same as two
+/// calls of `install`, and puts the process's row once. If an allocation fails, all puts of the step are taken back.
 #[tactic(auto, using(crate::proofs::PutOrder::entries_last))]
 pub fn install_pair(
     step: &mut Step,
@@ -74,7 +76,8 @@ pub fn install_pair(
     Ok((near, far))
 }
 
-/// Takes the entry away, and answers what it held. No later handle gets its value.
+/// Takes away the entry, and returns what it held. No later handle gets its value. If an allocation fails, all puts of
+/// the step are taken back.
 #[inline(always)]
 pub fn remove(
     step: &mut Step,
@@ -91,7 +94,8 @@ pub fn remove(
     Ok(held)
 }
 
-/// Gives the process one more handle to what is held, with these rights.
+/// Gives the process one more handle to what is held, with these rights, and returns its value. If an allocation fails,
+/// all puts of the step are taken back.
 pub fn duplicate(
     step: &mut Step,
     process: Koid,
@@ -108,7 +112,7 @@ pub fn duplicate(
     install(step, process, Held { rights, ..held })
 }
 
-/// The value of the handle that a process receives as the n-th, counted from 0.
+/// The value of the n-th handle that a process receives, counted from 0.
 #[inline(always)]
 fn value_of(n: u64) -> HandleValue
     requires { n < 2 ^ 30 }
@@ -117,7 +121,7 @@ fn value_of(n: u64) -> HandleValue
     HandleValue((VALUE_STEP * n + u64::from(FIRST_HANDLE.0)) as u32)
 }
 
-/// The row of the process, or that of an ended one that had no handle.
+/// The row of the process. If there is none, the row of a killed process that had no handle.
 #[inline(always)]
 fn owner_of(step: &Step, process: Koid) -> ObjectRow
     ensures row { result ≡ caller step.now.current process }

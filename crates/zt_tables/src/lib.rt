@@ -1,4 +1,4 @@
-//! The table of a process's handles, over a step of the store.
+//! The handle table of a process, over a step of the store.
 #![tactic(auto)]
 
 mod handle_table;

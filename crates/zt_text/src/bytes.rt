@@ -1,3 +1,5 @@
+//! Bytes in a line: two hexadecimal digits each, or `-` for none.
+
 ghost use Rattle.std.specs.Prelude.{◌≡◌, ◌≤◌, ◌*◌, true, length, IfOk, IfErr};
 ghost use Rattle.std.specs.List.{list_all};
 ghost use Rattle.zt_text.specs.Numbers.{is_hex_digit};
@@ -9,7 +11,7 @@ use std::alloc::Global;
 use std::marker::Model;
 use zt_rows::{MESSAGE_BYTES, Refusal};
 
-/// Bytes as the digits that write them, which take no memory.
+/// Bytes as the digits that write them, without memory of their own.
 #[derive(Drop)]
 pub struct Digits<'a> {
     digits: &'a [u8],
@@ -27,7 +29,7 @@ impl<'a> Model for Digits<'a> {
 }
 
 impl<'a> Digits<'a> {
-    /// The digits of a field: two for each byte, or `-` for none.
+    /// Reads the digits of a field: two for each byte, or `-` for none. Returns `None` for anything else.
     #[tactic(auto, unfolding(crate::specs::Bytes::bytes_of, crate::specs::Bytes::hex_bytes))]
     pub fn of(field: &'a [u8]) -> Option<Digits<'a>>
         ensures { result ≡ bytes_of field.now }
@@ -41,7 +43,7 @@ impl<'a> Digits<'a> {
         }
     }
 
-    /// The bytes in memory of their own.
+    /// Copies the bytes to the heap. Its only error is `OutOfMemory`.
     #[tactic(auto, using(crate::proofs::ByteLemmas::digits_pairs, crate::proofs::ByteLemmas::digits_all, crate::proofs::ByteLemmas::length_hex_bytes), unfolding(crate::specs::Bytes::hex_bytes))]
     pub fn to_vec(&self, alloc: Global) -> Result<Vec<u8>, Refusal>
         ensures ok { IfOk result (λ bytes. bytes.items ≡ self.now) }
@@ -56,7 +58,7 @@ impl<'a> Digits<'a> {
     }
 }
 
-/// The bytes of a packet that a field writes in 64 digits.
+/// Reads the 32 bytes of a packet from a field of 64 digits. Returns `None` for anything else.
 #[tactic(auto, using(crate::proofs::ByteLemmas::packet_read), unfolding(crate::specs::Bytes::packet_bytes_of))]
 pub fn packet_bytes(field: &[u8]) -> Option<[u8; 32]>
     ensures { result ≡ packet_bytes_of field.now }
@@ -69,7 +71,7 @@ pub fn packet_bytes(field: &[u8]) -> Option<[u8; 32]>
     Some(bytes)
 }
 
-/// Writes the bytes of these digits over others.
+/// Overwrites `bytes` with the bytes of these digits.
 #[inline(always)]
 fn fill(digits: &[u8], bytes: &mut [u8])
     requires pairs { length digits.now ≡ 2 * length bytes.old }
@@ -83,14 +85,14 @@ fn fill(digits: &[u8], bytes: &mut [u8])
     }
 }
 
-/// Whether these are pairs of digits, for no more bytes than a message takes.
+/// Whether these are pairs of digits, for at most as many bytes as a message can have.
 fn is_digits(field: &[u8]) -> bool
     ensures { result ≡ is_digits field.now }
 {
     field.len() % 2 == 0 && field.len() <= 2 * MESSAGE_BYTES && is_hexadecimal(field)
 }
 
-/// Whether each byte is a digit. All are looked at, so that many are together.
+/// Whether each byte is a digit. It never stops early, so that many bytes are checked at once.
 #[inline(always)]
 fn is_hexadecimal(field: &[u8]) -> bool
     ensures { result ≡ list_all is_hex_digit field.now }

@@ -1,3 +1,5 @@
+//! The names of the system calls in a line.
+
 ghost use Rattle.std.specs.Prelude.{◌≡◌};
 ghost use Rattle.zt_text.specs.ProofsOnly.CallNames.{name_of, name_of_object, name_of_handle, name_of_port, name_of_task};
 
@@ -27,7 +29,7 @@ pub enum CallName {
 }
 
 impl CallName {
-    /// The call that a field names.
+    /// Reads the name of a call; `None` for any other field.
     #[tactic(auto, unfolding(crate::specs::ProofsOnly::CallNames::name_of))]
     pub fn of(field: &[u8]) -> Option<CallName>
         ensures { result ≡ name_of field.now }
@@ -38,7 +40,7 @@ impl CallName {
             .or_else(|| CallName::of_task(field))
     }
 
-    /// The write to a channel, and the calls on events.
+    /// Reads `channel_write` and the names of the calls on events.
     #[tactic(auto, unfolding(crate::specs::ProofsOnly::CallNames::name_of_object))]
     fn of_object(field: &[u8]) -> Option<CallName>
         ensures { result ≡ name_of_object field.now }
@@ -58,7 +60,7 @@ impl CallName {
         }
     }
 
-    /// The calls on handles, and those on channels that carry no parcel.
+    /// Reads the names of the calls on handles, and of those on channels except `channel_write`.
     #[tactic(auto, unfolding(crate::specs::ProofsOnly::CallNames::name_of_handle))]
     fn of_handle(field: &[u8]) -> Option<CallName>
         ensures { result ≡ name_of_handle field.now }
@@ -78,7 +80,7 @@ impl CallName {
         }
     }
 
-    /// The calls on ports.
+    /// Reads the names of the calls on ports.
     #[tactic(auto, unfolding(crate::specs::ProofsOnly::CallNames::name_of_port))]
     fn of_port(field: &[u8]) -> Option<CallName>
         ensures { result ≡ name_of_port field.now }
@@ -98,7 +100,7 @@ impl CallName {
         }
     }
 
-    /// The calls on jobs and processes.
+    /// Reads the names of the calls on jobs and processes.
     #[tactic(auto, unfolding(crate::specs::ProofsOnly::CallNames::name_of_task))]
     fn of_task(field: &[u8]) -> Option<CallName>
         ensures { result ≡ name_of_task field.now }

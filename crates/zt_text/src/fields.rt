@@ -1,3 +1,5 @@
+//! Reads the fields of a line one after another, from the left.
+
 ghost use Rattle.std.specs.Prelude.{◌≡◌, ◌≤◌, IfOk};
 ghost use Rattle.zt_text.specs.Numbers.{decimal_of, handle_of, amount_of, koid_of, key_of, moment_of, code_of, mask_of, signals_of, count_of};
 ghost use Rattle.zt_text.specs.Bytes.{bytes_of, packet_bytes_of};
@@ -42,14 +44,14 @@ impl<'a> Field<'a> {
         self.bytes == word.as_bytes()
     }
 
-    /// The bytes.
+    /// Returns the field's bytes.
     pub fn bytes(&self) -> &'a [u8]
         ensures { result.now ≡ self.now.bytes }
     {
         self.bytes
     }
 
-    /// The fault of a field that has not the form wanted in its place.
+    /// Returns `BadLine` at the field's column.
     pub fn fault(&self) -> Refusal
         ensures { result ≡ BadLine self.now.column }
     {
@@ -57,7 +59,10 @@ impl<'a> Field<'a> {
     }
 }
 
-/// The fields of a line that are not read yet. A line is cut at each single space.
+/// The fields of a line that are not read yet. Fields are separated by single spaces.
+///
+/// A function that reads a field fails with `BadLine` and the field's column if the field has another form. If no field is left,
+/// the column is the one after the end of the line.
 #[derive(Drop)]
 pub struct Fields<'a> {
     left: Option<&'a [u8]>,
@@ -75,9 +80,9 @@ impl<'a> Model for Fields<'a> {
     ghost invariant = { λ f. IsLeftOfLine f.left f.line_len };
 }
 
-// What reads a field is taken into its caller, since a field and those behind it go through memory at a call.
+// `inline(always)` is here because a field and the fields after it would go through memory at a call.
 impl<'a> Fields<'a> {
-    /// All fields of the line, of which there is one at least.
+    /// Returns all fields of a line. There is always at least one.
     pub fn new(line: &'a [u8]) -> Fields<'a>
         ensures { result ≡ unread line.now }
     {
@@ -87,7 +92,7 @@ impl<'a> Fields<'a> {
         }
     }
 
-    /// The next field, and those behind it.
+    /// Returns the next field, and the fields after it.
     #[inline(always)]
     pub fn next(self) -> Result<(Field<'a>, Fields<'a>), Refusal>
         ensures { result ≡ next self.entry }
@@ -101,7 +106,7 @@ impl<'a> Fields<'a> {
         Ok((Field { column, bytes }, Fields { left, line_len }))
     }
 
-    /// The number of no more than `most` that the next field writes.
+    /// Reads the next field as a number of at most `most`.
     #[inline(always)]
     #[tactic(auto, unfolding(crate::specs::Fields::field))]
     fn number(self, most: u64) -> Result<(u64, Fields<'a>), Refusal>
@@ -117,7 +122,7 @@ impl<'a> Fields<'a> {
         number_cut(self, most)
     }
 
-    /// The handle's value that the next field writes.
+    /// Reads the next field as a handle value.
     #[inline(always)]
     #[tactic(auto, unfolding(crate::specs::Fields::field))]
     pub fn handle(self) -> Result<(HandleValue, Fields<'a>), Refusal>
@@ -127,7 +132,7 @@ impl<'a> Fields<'a> {
         Ok((HandleValue(number as u32), rest))
     }
 
-    /// The number of an object that the next field writes.
+    /// Reads the next field as the koid of an object.
     #[inline(always)]
     #[tactic(auto, unfolding(crate::specs::Fields::field))]
     pub fn koid(self) -> Result<(Koid, Fields<'a>), Refusal>
@@ -137,7 +142,7 @@ impl<'a> Fields<'a> {
         Ok((Koid(number), rest))
     }
 
-    /// The key of a packet that the next field writes.
+    /// Reads the next field as the key of a packet.
     #[inline(always)]
     #[tactic(auto, unfolding(crate::specs::Fields::field))]
     pub fn key(self) -> Result<(u64, Fields<'a>), Refusal>
@@ -146,7 +151,7 @@ impl<'a> Fields<'a> {
         self.number(u64::MAX)
     }
 
-    /// The code of a process that the next field writes.
+    /// Reads the next field as the exit code of a process.
     #[tactic(auto, unfolding(crate::specs::Fields::field))]
     pub fn code(self) -> Result<(i64, Fields<'a>), Refusal>
         ensures { result ≡ field code_of self.entry }
@@ -158,7 +163,7 @@ impl<'a> Fields<'a> {
         }
     }
 
-    /// The bits of the mask that the next field writes.
+    /// Reads the next field as a mask, and returns its bits.
     #[inline(always)]
     #[tactic(auto, unfolding(crate::specs::Fields::field))]
     pub fn mask(self) -> Result<(u32, Fields<'a>), Refusal>
@@ -173,7 +178,7 @@ impl<'a> Fields<'a> {
         mask_cut(self)
     }
 
-    /// The signals that the next field writes.
+    /// Reads the next field as a mask of signals.
     #[inline(always)]
     #[tactic(auto, unfolding(crate::specs::Fields::field))]
     pub fn signals(self) -> Result<(Signals, Fields<'a>), Refusal>
@@ -183,7 +188,7 @@ impl<'a> Fields<'a> {
         Ok((Signals(bits), rest))
     }
 
-    /// The moment that the next field writes.
+    /// Reads the next field as a moment.
     #[inline(always)]
     #[tactic(auto, unfolding(crate::specs::Fields::field))]
     pub fn moment(self) -> Result<(Moment, Fields<'a>), Refusal>
@@ -193,7 +198,7 @@ impl<'a> Fields<'a> {
         Ok((Moment(number as u32), rest))
     }
 
-    /// The happening that the next field names.
+    /// Reads the next field as a happening.
     #[tactic(auto, unfolding(crate::specs::Fields::field))]
     pub fn happening(self) -> Result<(Happening, Fields<'a>), Refusal>
         ensures { result ≡ field happening_of self.entry }
@@ -205,7 +210,7 @@ impl<'a> Fields<'a> {
         }
     }
 
-    /// The name of a branch that the next field writes.
+    /// Reads the next field as the name of a branch.
     #[tactic(auto, unfolding(crate::specs::Fields::field))]
     pub fn name(self) -> Result<(Name<'a>, Fields<'a>), Refusal>
         ensures { result ≡ field name_of self.entry }
@@ -217,7 +222,7 @@ impl<'a> Fields<'a> {
         }
     }
 
-    /// The number of this client, where the next field writes it.
+    /// Reads the next field as the client number `wanted`; any other number is an error.
     #[tactic(auto, unfolding(crate::specs::Fields::field))]
     pub fn client(self, wanted: u64) -> Result<(u64, Fields<'a>), Refusal>
         ensures { result ≡ field (client_of wanted) self.entry }
@@ -229,7 +234,7 @@ impl<'a> Fields<'a> {
         }
     }
 
-    /// The number of steps that the next field writes.
+    /// Reads the next field as a number of moments, of at least 1.
     #[tactic(auto, unfolding(crate::specs::Fields::field))]
     pub fn count(self) -> Result<(u32, Fields<'a>), Refusal>
         ensures { result ≡ field count_of self.entry }
@@ -241,7 +246,7 @@ impl<'a> Fields<'a> {
         }
     }
 
-    /// The number of bytes or of handles that the next field writes.
+    /// Reads the next field as a number of bytes or of handles.
     #[inline(always)]
     #[tactic(auto, unfolding(crate::specs::Fields::field))]
     pub fn amount(self) -> Result<(u32, Fields<'a>), Refusal>
@@ -251,7 +256,7 @@ impl<'a> Fields<'a> {
         Ok((number as u32, rest))
     }
 
-    /// The bytes that the next field writes.
+    /// Reads the next field as bytes.
     #[tactic(auto, unfolding(crate::specs::Fields::field))]
     pub fn bytes(self) -> Result<(Digits<'a>, Fields<'a>), Refusal>
         ensures { result ≡ field bytes_of self.entry }
@@ -263,7 +268,7 @@ impl<'a> Fields<'a> {
         }
     }
 
-    /// The bytes of a packet that the next field writes.
+    /// Reads the next field as the 32 bytes of a packet.
     #[tactic(auto, unfolding(crate::specs::Fields::field))]
     pub fn packet_bytes(self) -> Result<([u8; 32], Fields<'a>), Refusal>
         ensures { result ≡ field packet_bytes_of self.entry }
@@ -275,7 +280,7 @@ impl<'a> Fields<'a> {
         }
     }
 
-    /// The handles that the next field lists.
+    /// Reads the next field as a list of handles.
     #[tactic(auto, unfolding(crate::specs::Fields::field))]
     pub fn handles(self) -> Result<(HandleList<'a>, Fields<'a>), Refusal>
         ensures { result ≡ field handles_of self.entry }
@@ -287,7 +292,7 @@ impl<'a> Fields<'a> {
         }
     }
 
-    /// Whether the word stands at the end, which may also be left out.
+    /// Returns whether this word is the last field. The word is optional, but any other field is an error.
     #[tactic(auto, unfolding(crate::specs::Fields::flag, crate::specs::Fields::ended))]
     pub fn flag(self, word: &str) -> Result<bool, Refusal>
         ensures { result ≡ flag word.now self.entry }
@@ -305,7 +310,7 @@ impl<'a> Fields<'a> {
         }
     }
 
-    /// Nothing, where every field is read.
+    /// Fails if a field is left, with the column of that field.
     #[inline(always)]
     #[tactic(auto, unfolding(crate::specs::Fields::ended))]
     pub fn end(self) -> Result<(), Refusal>
@@ -321,7 +326,7 @@ impl<'a> Fields<'a> {
     }
 }
 
-/// The number of no more than `most` that the next field writes, which is cut out and then read.
+/// Reads the next field as a number of at most `most`: finds the end of the field first, and then reads its digits.
 #[inline(always)]
 #[tactic(auto, unfolding(crate::specs::Fields::field))]
 fn number_cut<'a>(fields: Fields<'a>, most: u64) -> Result<(u64, Fields<'a>), Refusal>
@@ -335,7 +340,7 @@ fn number_cut<'a>(fields: Fields<'a>, most: u64) -> Result<(u64, Fields<'a>), Re
     }
 }
 
-/// The bits of the mask that the next field writes, which is cut out and then read.
+/// Reads the next field as a mask: finds the end of the field first, and then reads its digits.
 #[inline(always)]
 #[tactic(auto, unfolding(crate::specs::Fields::field))]
 fn mask_cut<'a>(fields: Fields<'a>) -> Result<(u32, Fields<'a>), Refusal>

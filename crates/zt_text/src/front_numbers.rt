@@ -1,3 +1,5 @@
+//! Numbers in the front of a line, read while the end of their field is sought.
+
 ghost use Rattle.std.specs.Prelude.{◌≡◌, ◌≤◌, length, take, true, IfSome};
 ghost use Rattle.std.specs.Char.{is_ascii_digit};
 ghost use Rattle.std.specs.List.{list_all};
@@ -8,11 +10,11 @@ ghost use Rattle.zt_text.specs.ProofsOnly.Cut.{IsInFront};
 use crate::numbers::{DIGITS_THAT_FIT, digit, has_leading_zero, mask};
 use crate::separator::cut_at;
 
-/// How many bytes write a mask.
+/// How many bytes a mask has: `0x` and eight digits.
 const MASK_BYTES: usize = 10;
 
-/// The number of no more than `most` that the field in front writes, and what is left behind that field. Its digits are
-/// read while its end is sought. It is none where the field is no such number, and where it has twenty digits.
+/// Reads the first field as a number of at most `most`, and returns it with the bytes after the field. It reads the digits while
+/// it seeks the end of the field. Returns `None` if the field is not such a number, or has twenty digits.
 #[inline(always)]
 pub fn number_in_front(bytes: &[u8], most: u64) -> Option<(u64, Option<&[u8]>)>
     ensures read { IfSome result (IsInFront (decimal_of most) bytes.now) }
@@ -27,7 +29,7 @@ pub fn number_in_front(bytes: &[u8], most: u64) -> Option<(u64, Option<&[u8]>)>
     }
 }
 
-/// The number that the digits in front write, nineteen of them at most, and how many they are.
+/// Reads the digits in the front, at most nineteen. Returns their number and how many they are.
 fn digits_in_front(bytes: &[u8]) -> (u64, usize)
     ensures inside { result.1 ≤ length bytes.now }
     ensures digits { list_all is_ascii_digit (take result.1 bytes.now) ≡ true }
@@ -44,7 +46,7 @@ fn digits_in_front(bytes: &[u8]) -> (u64, usize)
     (number, most)
 }
 
-/// The mask that the field in front writes, and what is left behind that field; none, where it is no mask.
+/// Reads the first field as a mask, and returns its bits with the bytes after the field. Returns `None` if it is no mask.
 #[inline(always)]
 pub fn mask_in_front(bytes: &[u8]) -> Option<(u32, Option<&[u8]>)>
     ensures { IfSome result (IsInFront mask_of bytes.now) }

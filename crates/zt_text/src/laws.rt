@@ -1,4 +1,4 @@
-//! What holds of every line that is shown. Each law is the contract of a function that does nothing.
+//! Laws of reading and printing lines. Each law is the contract of a function that does nothing.
 ghost use Rattle.std.specs.Prelude.{◌≡◌, ℕ, ℤ, true, ◌^◌, ◌<◌, ◌≤◌, List, [], length, Some, None, Ok, Err};
 ghost use Rattle.std.specs.Fmt.{decimal, signed_decimal};
 ghost use Rattle.std.specs.List.{All};
@@ -32,8 +32,7 @@ use crate::within::{
 };
 use zt_rows::{Call, Cursor, Koid, Row, RowKey, Saved, SavedBranch, SavedCall};
 
-/// Who reads the calls of a session text one after another reads what the text reads as: its calls in their order, or its
-/// first fault.
+/// Reading the calls of a session text one by one gives what reading the text gives: its calls in order, or its first fault.
 #[tactic(auto, using(crate::proofs::SessionCallLemmas::row_session, crate::proofs::SessionCallLemmas::row_saved, crate::proofs::SessionCallLemmas::row_more_left, crate::proofs::SessionCallLemmas::rest_shorter, crate::proofs::SessionCallLemmas::row_ended, crate::proofs::SessionCallLemmas::row_fault))]
 pub fn calls_one_by_one_are_those_of_the_text()
     ensures session { (text : List ℕ) (left : LinesLeft) → row_lines (lines_of text) ≡ Ok left
@@ -48,20 +47,20 @@ pub fn calls_one_by_one_are_those_of_the_text()
     ensures fault { (left : LinesLeft) (fault : ℕ × Refusal) → next_call left ≡ Err fault → calls_left left ≡ Err fault }
 {}
 
-/// A number that is shown in decimal digits reads as that number, and a code with its sign as that code.
+/// A number that is printed in decimal reads as that number. An exit code that is printed with its sign reads as that code.
 #[tactic(auto, using(crate::proofs::ShownFields::decimal_read, crate::proofs::ShownFields::code_read))]
 pub fn numbers_read_back()
     ensures decimals { (most n : ℕ) → n ≤ most → most < 2 ^ 64 → decimal_of most (decimal n) ≡ Some n }
     ensures codes { (code : ℤ) → IsCode code → code_of (signed_decimal code) ≡ Some code }
 {}
 
-/// A mask that is shown reads as that mask.
+/// A mask that is printed reads as that mask.
 #[tactic(auto, using(crate::proofs::ShownFields::mask_read))]
 pub fn masks_read_back()
     ensures { (bits : ℕ) → bits < 2 ^ 32 → mask_of (shown_mask bits) ≡ Some bits }
 {}
 
-/// Bytes that are shown read as those bytes, in a message and in a packet.
+/// Bytes that are printed read as those bytes, in a message and in a packet.
 #[tactic(auto, using(crate::proofs::ShownFields::bytes_read, crate::proofs::ShownFields::packet_bytes_read))]
 pub fn bytes_read_back()
     ensures message { (bytes : List ℕ) → All IsByte bytes → length bytes ≤ 65536
@@ -70,14 +69,14 @@ pub fn bytes_read_back()
         → packet_bytes_of (shown_bytes bytes) ≡ Some bytes }
 {}
 
-/// A list of handles that is shown reads as that list.
+/// A list of handles that is printed reads as that list.
 #[tactic(auto, using(crate::proofs::ShownWords::handles_read))]
 pub fn lists_read_back()
     ensures { (handles : List ℕ) → All IsHandle handles → length handles ≤ 64
         → handles_of (shown_list decimal handles) ≡ Some handles }
 {}
 
-/// A number has one spelling: in decimal digits without leading zeros; so has a code, which has no `+` and no `-0`.
+/// A number has one spelling: decimal digits without leading zeros. An exit code has one spelling too, without `+` or `-0`.
 pub fn numbers_are_spelled_as_shown()
     ensures decimals { (most : ℕ) → most < 2 ^ 64 → IsSpelledAsShown (decimal_of most) decimal }
     ensures codes { IsSpelledAsShown code_of signed_decimal }
@@ -99,7 +98,7 @@ pub fn lists_are_spelled_as_shown()
     ensures { IsSpelledAsShown handles_of (shown_list decimal) }
 {}
 
-/// Every call of every process has the numbers that the laws on its line speak of.
+/// The numbers of every process and every call are in the ranges that the laws on its line ask for.
 pub fn every_call_is_within(process: Koid, call: &Call)
     ensures process { process < 2 ^ 64 }
     ensures call { IsWithin call.now }
@@ -178,35 +177,35 @@ pub fn every_call_is_within(process: Koid, call: &Call)
     }
 }
 
-/// The line of a call reads as that call.
+/// The printed line of a call reads as that call.
 #[tactic(auto, using(crate::proofs::ShownCalls::call_line_read))]
 pub fn calls_read_back()
     ensures { (process : ℕ) (call : Call) → process < 2 ^ 64 → IsWithin call
         → read_as (shown_call process call) ≡ Ok (Some (line.Command (commands.Call process call))) }
 {}
 
-/// A call has one line: a line that reads as a call is the line that shows it.
+/// A call has one line: each line that reads as a call is the line that is printed for it.
 pub fn calls_are_spelled_as_shown()
     ensures { CallsAreSpelledAsShown }
 {}
 
-/// All else that a line can ask has one line too: the words of what is asked, with a space between.
+/// Every other line that asks something has one spelling too: the words of what it asks, with single spaces between.
 pub fn lines_have_the_words_of_what_they_ask()
     ensures { LinesHaveTheWordsOfWhatTheyAsk }
 {}
 
-/// What can be asked is asked by its words, with a space between: so each call, each command and each question to the
-/// pinned copy has exactly one line.
+/// The words of a call, a command or a question to the pinned copy, with single spaces between, ask for it. So each of them has
+/// exactly one line.
 pub fn lines_read_back()
     ensures { WordsAskWhatTheySay }
 {}
 
-/// No two lines ask the same.
+/// No two lines ask for the same thing.
 pub fn lines_ask_different_things()
     ensures { LinesAskDifferentThings }
 {}
 
-/// No two calls have one line.
+/// No two calls have the same line.
 #[tactic(auto, using(crate::proofs::ShownCalls::call_lines_differ))]
 pub fn calls_have_lines_of_their_own()
     ensures { (process other : ℕ) (call made : Call) → process < 2 ^ 64 → other < 2 ^ 64 → IsWithin call → IsWithin made
@@ -219,13 +218,13 @@ pub fn sessions_read_back()
     ensures { (calls : List (ℕ × Call)) → All IsCalled calls → session_of (session_text calls) ≡ Ok calls }
 {}
 
-/// The session text of a tree reads as that tree: of its moments, its branches and its cursors nothing is lost.
+/// The session text of a saved tree reads as that tree, with all its moments, branches and cursors.
 #[tactic(auto, using(crate::proofs::SavedTrees::saved_read))]
 pub fn saved_trees_read_back()
     ensures { (saved : Saved) → IsSaved saved → saved_of (saved_text saved) ≡ Ok saved }
 {}
 
-/// Every saved tree has the numbers that the law on its text speaks of.
+/// The numbers of every saved tree are in the ranges that the law on its text asks for.
 pub fn every_saved_is_within(saved: &Saved)
     ensures moments { All IsSavedCall saved.now.moments }
     ensures heads { All IsHeadWithin saved.now.branches }
@@ -236,7 +235,7 @@ pub fn every_saved_is_within(saved: &Saved)
     places_are_within(saved.cursors.as_slice());
 }
 
-/// Every moment has such numbers.
+/// The numbers of each moment are in the ranges of their types.
 fn moments_are_within(moments: &[SavedCall])
     ensures { All IsSavedCall moments.now }
 {
@@ -245,7 +244,7 @@ fn moments_are_within(moments: &[SavedCall])
     }
 }
 
-/// A moment has such numbers.
+/// The numbers of a moment are in the ranges of their types.
 fn moment_is_within(made: &SavedCall)
     ensures { IsSavedCall made.now }
 {
@@ -253,7 +252,7 @@ fn moment_is_within(made: &SavedCall)
     every_call_is_within(made.process, &made.call);
 }
 
-/// Every head has such a number.
+/// The head of each branch is in the range of its type.
 fn heads_are_within(branches: &[SavedBranch])
     ensures { All IsHeadWithin branches.now }
 {
@@ -262,14 +261,14 @@ fn heads_are_within(branches: &[SavedBranch])
     }
 }
 
-/// A head has such a number.
+/// The head of a branch is in the range of its type.
 fn head_is_within(branch: &SavedBranch)
     ensures { IsHeadWithin branch.now }
 {
     mask_is_within(branch.head.0);
 }
 
-/// Every cursor has such a number.
+/// The moment of each cursor is in the range of its type.
 fn places_are_within(cursors: &[Cursor])
     ensures { All IsPlaceWithin cursors.now }
 {
@@ -278,7 +277,7 @@ fn places_are_within(cursors: &[Cursor])
     }
 }
 
-/// A cursor has such a number.
+/// The moment of a cursor is in the range of its type.
 fn place_is_within(cursor: &Cursor)
     ensures { IsPlaceWithin cursor.now }
 {
@@ -287,30 +286,30 @@ fn place_is_within(cursor: &Cursor)
     }
 }
 
-/// A session text of version 1 reads as the calls that it has, each made at the moment of the one before it.
+/// A session text of version 1 reads as its calls, each made at the moment of the one before it.
 #[tactic(auto, using(crate::proofs::SavedTrees::first_version))]
 pub fn calls_read_as_a_row()
     ensures { (text : List ℕ) (calls : List (ℕ × Call)) → session_of text ≡ Ok calls → saved_of text ≡ Ok (in_a_row calls) }
 {}
 
-/// A session text that reads as calls is their session text, but for skipped lines and the line feed of its last line.
+/// A session text that reads as calls is the text that is printed for them. Only skipped lines and the last line feed can differ.
 pub fn sessions_are_spelled_as_shown()
     ensures { SessionsAreSpelledAsShown }
 {}
 
-/// A session text of version 2 that reads as a tree is the text of that tree, but for skipped lines and the line feed of
-/// its last line.
+/// A session text of version 2 that reads as a tree is the text that is printed for it. Only skipped lines and the last line feed
+/// can differ.
 pub fn saved_trees_are_spelled_as_shown()
     ensures { SavedTreesAreSpelledAsShown }
 {}
 
-/// The column of a line's fault is that of the first field with which no line begins that asks something, or is behind
-/// the line, where each of its fields is one with which such a line begins.
+/// The column of a parse error is that of the first wrong field: no line with the same fields up to it asks for anything. If a
+/// longer line with all these fields asks for something, the column is the one after the line.
 pub fn columns_tell_first_faults()
     ensures { ColumnsTellFirstFaults }
 {}
 
-/// Every key and every row has the numbers that the law on their lines speaks of.
+/// The numbers of every key and every row are in the ranges that the law on their lines asks for.
 pub fn every_row_is_within(key: RowKey, row: &Row)
     ensures key { IsKeyWithin key }
     ensures row { IsRowWithin row.now }
@@ -344,7 +343,7 @@ pub fn every_row_is_within(key: RowKey, row: &Row)
     }
 }
 
-/// Every key has such numbers.
+/// The numbers of every key are in the ranges of their types.
 fn every_key_is_within(key: RowKey)
     ensures { IsKeyWithin key }
 {
@@ -367,7 +366,7 @@ fn every_key_is_within(key: RowKey)
     }
 }
 
-/// No two rows, each under a key of its variant, have one line.
+/// No two rows, each under a key of its variant, have the same line.
 pub fn rows_have_lines_of_their_own()
     ensures { (key other : RowKey) (row shown : Row) → suits key row ≡ true → suits other shown ≡ true
         → IsKeyWithin key → IsKeyWithin other → IsRowWithin row → IsRowWithin shown

@@ -1,4 +1,4 @@
-//! Lines and answers: what a line of a client reads as, and how the debugger's answers and refusals are shown.
+//! Reads the lines of clients and of session texts, and prints calls, answers, refusals and session texts.
 #![tactic(auto)]
 
 mod bytes;

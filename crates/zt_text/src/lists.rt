@@ -1,3 +1,5 @@
+//! Lists of handles in a line: values with commas between, or `-` for none.
+
 ghost use Rattle.std.specs.Prelude.{◌≡◌, ◌≤◌, length, true, Some, is_some, IfOk, IfErr};
 ghost use Rattle.zt_text.specs.Numbers.{handle_of};
 ghost use Rattle.zt_text.specs.Lists.{handles_of, listed};
@@ -9,7 +11,7 @@ use std::alloc::{AllocError, Global};
 use std::marker::Model;
 use zt_rows::{HandleValue, MESSAGE_HANDLES, Refusal};
 
-/// Values of handles as the field that lists them, no more than a message takes. They take no memory.
+/// Handle values as the field that lists them, without memory of their own. There are at most as many as a message can have.
 #[derive(Drop)]
 pub struct HandleList<'a> {
     field: &'a [u8],
@@ -28,7 +30,7 @@ impl<'a> Model for HandleList<'a> {
 }
 
 impl<'a> HandleList<'a> {
-    /// The values that a field lists with commas between, or `-` for none.
+    /// Reads a field that lists handle values with commas between, or is `-` for none. Returns `None` for anything else.
     #[tactic(auto, using(crate::proofs::ListLemmas::some_handles, crate::proofs::ListLemmas::no_handles))]
     pub fn of(field: &'a [u8]) -> Option<HandleList<'a>>
         ensures { result ≡ handles_of field.now }
@@ -40,7 +42,7 @@ impl<'a> HandleList<'a> {
         }
     }
 
-    /// The values in memory of their own.
+    /// Copies the values to the heap. Its only error is `OutOfMemory`.
     pub fn to_vec(&self, alloc: Global) -> Result<Vec<HandleValue>, Refusal>
         ensures ok { IfOk result (λ values. values.items ≡ self.now) }
         ensures few { IfOk result (λ values. length values.items ≤ 64) }
@@ -53,7 +55,7 @@ impl<'a> HandleList<'a> {
     }
 }
 
-/// Whether the field lists handles with commas between, or is `-` for none.
+/// Whether the field lists handle values with commas between, or is `-` for none.
 #[tactic(auto, unfolding(crate::specs::Lists::handles_of))]
 fn is_handles(field: &[u8]) -> bool
     ensures { result ≡ is_some (handles_of field.now) }
@@ -61,7 +63,7 @@ fn is_handles(field: &[u8]) -> bool
     field == b"-".as_slice() || is_listed(field)
 }
 
-/// Whether commas cut the field into handles, and no more of them than a message takes.
+/// Whether the field is handle values with commas between, and at most as many as a message can have.
 fn is_listed(field: &[u8]) -> bool
     ensures { result ≡ is_some (listed field.now) }
 {
@@ -82,7 +84,7 @@ fn is_listed(field: &[u8]) -> bool
     true
 }
 
-/// The values that the field lists.
+/// Returns the values that the field lists.
 #[tactic(auto, unfolding(crate::specs::Lists::handles_of))]
 fn handles_in(alloc: Global, field: &[u8]) -> Result<Vec<HandleValue>, AllocError>
     requires { is_some (handles_of field.now) ≡ true }
@@ -95,7 +97,7 @@ fn handles_in(alloc: Global, field: &[u8]) -> Result<Vec<HandleValue>, AllocErro
     }
 }
 
-/// The values of the elements that commas cut.
+/// Returns the values between the commas.
 fn listed_in(alloc: Global, field: &[u8]) -> Result<Vec<HandleValue>, AllocError>
     requires { is_some (listed field.now) ≡ true }
     ensures { IfOk result (λ values. Some values.items ≡ listed field.now) }
@@ -113,7 +115,7 @@ fn listed_in(alloc: Global, field: &[u8]) -> Result<Vec<HandleValue>, AllocError
     Ok(values)
 }
 
-/// The value that an element writes.
+/// Reads one handle value.
 fn handle(element: &[u8]) -> Option<HandleValue>
     ensures { result ≡ handle_of element.now }
 {

@@ -1,3 +1,5 @@
+//! Branch names and happenings in a line.
+
 ghost use Rattle.std.specs.Prelude.{◌≡◌, IfOk, IfErr};
 ghost use Rattle.std.specs.List.{list_all};
 ghost use Rattle.zt_text.specs.Names.{is_visible, name_of, happening_of};
@@ -7,7 +9,7 @@ use std::alloc::Global;
 use std::marker::Model;
 use zt_rows::{Happening, Items, Refusal};
 
-/// The name of a branch as a line writes it, which takes no memory.
+/// The name of a branch as its line has it, without memory of its own.
 #[derive(Drop)]
 pub struct Name<'a> {
     bytes: &'a [u8],
@@ -22,7 +24,7 @@ impl<'a> Model for Name<'a> {
 }
 
 impl<'a> Name<'a> {
-    /// The name that a field writes: one visible character of ASCII or more.
+    /// Reads a field as a name: one or more visible ASCII characters.
     #[tactic(auto, unfolding(crate::specs::Names::name_of))]
     pub fn of(field: &'a [u8]) -> Option<Name<'a>>
         ensures { result ≡ name_of field.now }
@@ -34,7 +36,7 @@ impl<'a> Name<'a> {
         }
     }
 
-    /// The name in memory of its own.
+    /// Copies the name to the heap. Its only error is `OutOfMemory`.
     pub fn to_items(&self, alloc: Global) -> Result<Items<u8>, Refusal>
         ensures ok { IfOk result (λ name. name ≡ self.now) }
         ensures refused { IfErr result (λ refusal. refusal ≡ OutOfMemory) }
@@ -44,14 +46,14 @@ impl<'a> Name<'a> {
     }
 }
 
-/// Whether each byte is a visible character of ASCII.
+/// Whether each byte is a visible ASCII character.
 fn is_visible(field: &[u8]) -> bool
     ensures { result ≡ list_all is_visible field.now }
 {
     field.iter().all(|byte| matches!(*byte, b'!'..=b'~'))
 }
 
-/// The happening that a field names.
+/// Reads a field as a happening.
 #[tactic(auto, unfolding(crate::specs::Names::happening_of))]
 pub fn happening(field: &[u8]) -> Option<Happening>
     ensures { result ≡ happening_of field.now }

@@ -1,3 +1,5 @@
+//! Numbers in a line: decimal numbers, exit codes and masks.
+
 ghost use Rattle.std.specs.Prelude.{◌≡◌, ◌+◌, ◌-◌, ◌*◌, ◌<◌, ◌≤◌, ◌^◌, true, IsTrue, IfSome, length, pos, if◌then◌else◌};
 ghost use Rattle.std.specs.Option.{SomeIff, option_map};
 ghost use Rattle.std.specs.Char.{digit_value, is_ascii_digit};
@@ -5,13 +7,13 @@ ghost use Rattle.std.specs.List.{list_all};
 ghost use Rattle.std.specs.Str.Parse.{digits_value};
 ghost use Rattle.zt_text.specs.Numbers.{has_leading_zero, decimal_of, negative, code_of, mask_of, is_hex_digit};
 
-/// The most digits of which each number has 64 bits.
+/// Every number with at most this many decimal digits fits into 64 bits.
 pub const DIGITS_THAT_FIT: usize = 19;
 
-/// What stands for a byte that is no digit: more than eight digits of `0` to `9` and `a` to `f` have together.
+/// The value of a byte that is no digit. It is more than the sum of any eight hexadecimal digits.
 const NONE: u8 = 128;
 
-/// What each byte stands for as a digit of `0` to `9`, which are 48 to 57, and of `a` to `f`, which are 97 to 102.
+/// The value of each byte as a hexadecimal digit: `0` to `9` are 48 to 57, and `a` to `f` are 97 to 102.
 const HEX_VALUES: [u8; 256] = [
     NONE, NONE, NONE, NONE, NONE, NONE, NONE, NONE, NONE, NONE, NONE, NONE, NONE, NONE, NONE, NONE,
     NONE, NONE, NONE, NONE, NONE, NONE, NONE, NONE, NONE, NONE, NONE, NONE, NONE, NONE, NONE, NONE,
@@ -31,7 +33,7 @@ const HEX_VALUES: [u8; 256] = [
     NONE, NONE, NONE, NONE, NONE, NONE, NONE, NONE, NONE,
 ];
 
-/// The number that the bytes write in decimal digits, without leading zeros and up to `most`.
+/// Reads a decimal number of at most `most`, without leading zeros.
 #[inline(never)]
 #[tactic(auto, unfolding(crate::specs::Numbers::decimal_of))]
 pub fn decimal(bytes: &[u8], most: u64) -> Option<u64>
@@ -47,14 +49,14 @@ pub fn decimal(bytes: &[u8], most: u64) -> Option<u64>
     }
 }
 
-/// Whether a zero stands before other digits.
+/// Whether a zero is followed by other digits.
 pub fn has_leading_zero(bytes: &[u8]) -> bool
     ensures { result ≡ has_leading_zero bytes.now }
 {
     bytes.len() > 1 && bytes[0] == b'0'
 }
 
-/// The number that the digits write, where they are digits and it fits.
+/// Returns the number that these bytes write in decimal. Returns `None` if a byte is no digit or the number does not fit.
 fn digits(bytes: &[u8]) -> Option<u64>
     ensures { SomeIff result (IsTrue (list_all is_ascii_digit bytes.now) × (digits_value 10 bytes.now < 2 ^ 64))
         (digits_value 10 bytes.now) }
@@ -66,7 +68,7 @@ fn digits(bytes: &[u8]) -> Option<u64>
     }
 }
 
-/// The same, of so few digits that each number of them fits.
+/// Returns the number that at most nineteen digits write; such a number always fits. Returns `None` if a byte is no digit.
 fn few_digits(bytes: &[u8]) -> Option<u64>
     requires { length bytes.now ≤ 19 }
     ensures { SomeIff result (IsTrue (list_all is_ascii_digit bytes.now) × (digits_value 10 bytes.now < 2 ^ 64))
@@ -80,7 +82,8 @@ fn few_digits(bytes: &[u8]) -> Option<u64>
     Some(number)
 }
 
-/// The same, of more digits.
+/// Returns the number that these digits write, with a check at each digit. Returns `None` if a byte is no digit or the number
+/// does not fit.
 fn many_digits(bytes: &[u8]) -> Option<u64>
     ensures { SomeIff result (IsTrue (list_all is_ascii_digit bytes.now) × (digits_value 10 bytes.now < 2 ^ 64))
         (digits_value 10 bytes.now) }
@@ -92,7 +95,7 @@ fn many_digits(bytes: &[u8]) -> Option<u64>
     Some(number)
 }
 
-/// What a digit stands for.
+/// Returns the value of a decimal digit.
 pub fn digit(byte: u8) -> Option<u64>
     ensures { SomeIff result (IsTrue (is_ascii_digit byte)) (byte - 48) }
 {
@@ -103,7 +106,7 @@ pub fn digit(byte: u8) -> Option<u64>
     }
 }
 
-/// The number that one digit more makes.
+/// Appends one more digit to a number. Returns `None` if the byte is no digit or the number does not fit.
 fn with_digit(number: u64, byte: u8) -> Option<u64>
     ensures { SomeIff result (IsTrue (is_ascii_digit byte) × (number * 10 + (byte - 48) < 2 ^ 64))
         (number * 10 + (byte - 48)) }
@@ -111,7 +114,7 @@ fn with_digit(number: u64, byte: u8) -> Option<u64>
     number.checked_mul(10)?.checked_add(digit(byte)?)
 }
 
-/// The code that the bytes write in decimal digits, with `-` before one below zero.
+/// Reads an exit code in decimal, with `-` in front if it is below zero.
 #[tactic(auto, unfolding(crate::specs::Numbers::code_of))]
 pub fn code(bytes: &[u8]) -> Option<i64>
     ensures { result ≡ code_of bytes.now }
@@ -126,7 +129,7 @@ pub fn code(bytes: &[u8]) -> Option<i64>
     }
 }
 
-/// The code that the bytes write without a sign.
+/// Reads an exit code without a sign.
 fn unsigned(bytes: &[u8]) -> Option<i64>
     ensures { result ≡ option_map pos (decimal_of (2 ^ 63 - 1) bytes.now) }
 {
@@ -136,7 +139,7 @@ fn unsigned(bytes: &[u8]) -> Option<i64>
     }
 }
 
-/// The number below zero, where this is not zero.
+/// Returns the negative of a number that is not 0. Returns `None` for 0: a code has no `-0`.
 fn negative(number: u64) -> Option<i64>
     requires { number ≤ 2 ^ 63 }
     ensures { result ≡ negative number }
@@ -148,7 +151,7 @@ fn negative(number: u64) -> Option<i64>
     }
 }
 
-/// The number that `0x` and eight digits of `0` to `9` and `a` to `f` write.
+/// Reads a mask: `0x` and eight digits of `0` to `9` and `a` to `f`.
 #[tactic(auto, unfolding(crate::specs::Numbers::mask_of))]
 pub fn mask(bytes: &[u8]) -> Option<u32>
     ensures { result ≡ mask_of bytes.now }
@@ -159,8 +162,8 @@ pub fn mask(bytes: &[u8]) -> Option<u32>
     hex_digits(&bytes[2..])
 }
 
-/// The number that so few digits write, where they are digits of `0` to `9` and `a` to `f`. All are looked at, with no way out
-/// before the last one: what stands for a byte that is no digit makes the sum large.
+/// Returns the number that at most eight digits of `0` to `9` and `a` to `f` write. It reads all bytes and never stops early: a
+/// byte that is no digit makes the sum too large.
 fn hex_digits(bytes: &[u8]) -> Option<u32>
     requires { length bytes.now ≤ 8 }
     ensures { SomeIff result (IsTrue (list_all is_hex_digit bytes.now)) (digits_value 16 bytes.now) }
@@ -186,7 +189,7 @@ pub fn is_hex_digit(byte: u8) -> bool
     matches!(byte, b'0'..=b'9' | b'a'..=b'f')
 }
 
-/// What such a digit stands for.
+/// Returns the value of a digit of `0` to `9` and `a` to `f`.
 #[inline(always)]
 pub fn hex_value(digit: u8) -> u8
     requires { is_hex_digit digit ≡ true }
@@ -199,7 +202,7 @@ pub fn hex_value(digit: u8) -> u8
     }
 }
 
-/// What such a digit stands for, and `NONE` where the byte is none.
+/// Returns the value of a digit of `0` to `9` and `a` to `f`, or `NONE` for any other byte.
 #[inline(always)]
 fn hex_value_or_none(byte: u8) -> u8
     ensures { result ≡ (if is_hex_digit byte then digit_value byte else 128) }

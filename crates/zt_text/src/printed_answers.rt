@@ -1,3 +1,5 @@
+//! Prints answers.
+
 ghost use Rattle.std.specs.Prelude.{◌≡◌, ◌++◌, ◌∷◌, [], codes, length, IfOk, OnOk, string_bytes};
 ghost use Rattle.std.specs.List.{flat_map};
 ghost use Rattle.std.specs.Fmt.{decimal};
@@ -11,7 +13,7 @@ use std::alloc::{AllocError, Global};
 use zt_bits::Kind;
 use zt_rows::{Answer, Event, Koid, Moment, Reply, Row, RowKey, Support};
 
-/// The lines of an answer.
+/// Prints the lines of an answer.
 #[tactic(auto, unfolding(crate::specs::Answers::shown_answer))]
 pub fn print_answer(alloc: Global, answer: &Answer) -> Result<Vec<u8>, AllocError>
     ensures { IfOk result (λ text. text.items ≡ shown_answer answer.now) }
@@ -29,7 +31,7 @@ pub fn print_answer(alloc: Global, answer: &Answer) -> Result<Vec<u8>, AllocErro
     }
 }
 
-/// The line of a call's answer.
+/// Prints the line of a call's answer.
 fn print_called(alloc: Global, moment: Moment, reply: &Reply) -> Result<Vec<u8>, AllocError>
     ensures { IfOk result (λ text. text.items ≡ as_line (words (decimal moment ∷ shown_reply reply.now ∷ []))) }
 {
@@ -40,7 +42,7 @@ fn print_called(alloc: Global, moment: Moment, reply: &Reply) -> Result<Vec<u8>,
     Ok(text.into_bytes())
 }
 
-/// The line of a word and a moment.
+/// Prints the line of a word and a moment.
 fn print_moment(alloc: Global, word: &str, moment: Moment) -> Result<Vec<u8>, AllocError>
     ensures { IfOk result (λ text. text.items ≡ moment_line word.now moment) }
 {
@@ -49,7 +51,7 @@ fn print_moment(alloc: Global, word: &str, moment: Moment) -> Result<Vec<u8>, Al
     Ok(text.into_bytes())
 }
 
-/// The line of a word, a name and a moment. The name may be of any bytes.
+/// Prints the line of a word, a name and a moment. The name may have any bytes.
 pub(crate) fn print_name(
     alloc: Global,
     word: &str,
@@ -67,7 +69,7 @@ pub(crate) fn print_name(
     Ok(text)
 }
 
-/// A word with a number, in front of so many lines.
+/// Prints the first line of a list: a word, a number, and how many lines follow.
 fn heading(alloc: Global, word: &str, number: u64, lines: usize) -> Result<String, AllocError>
     ensures { IfOk result (λ text. string_bytes text ≡ heading word.now number lines) }
 {
@@ -76,7 +78,7 @@ fn heading(alloc: Global, word: &str, number: u64, lines: usize) -> Result<Strin
     Ok(text)
 }
 
-/// The rows at a moment.
+/// Prints the rows at a moment.
 fn print_rows_at(
     alloc: Global,
     moment: Moment,
@@ -89,7 +91,7 @@ fn print_rows_at(
     Ok(text.into_bytes())
 }
 
-/// What keeps an object.
+/// Prints what keeps an object.
 fn print_holders(alloc: Global, koid: Koid, kept: &[Support]) -> Result<Vec<u8>, AllocError>
     ensures { IfOk result (λ text. text.items ≡ heading (codes "holders") koid (length kept.now) ++ flat_map support_line kept.now) }
 {
@@ -98,7 +100,7 @@ fn print_holders(alloc: Global, koid: Koid, kept: &[Support]) -> Result<Vec<u8>,
     Ok(text.into_bytes())
 }
 
-/// A line for each thing that keeps an object.
+/// Appends a line for each thing that keeps an object.
 pub fn put_supports(text: &mut String, kept: &[Support]) -> Result<(), AllocError>
     ensures { OnOk result (string_bytes text.new ≡ string_bytes text.old ++ flat_map support_line kept.now) }
 {
@@ -109,7 +111,7 @@ pub fn put_supports(text: &mut String, kept: &[Support]) -> Result<(), AllocErro
     Ok(())
 }
 
-/// One thing that keeps an object.
+/// Appends one thing that keeps an object, without a line feed.
 #[tactic(auto, unfolding(crate::specs::Answers::shown_support))]
 fn put_support(text: &mut String, support: Support) -> Result<(), AllocError>
     ensures { OnOk result (string_bytes text.new ≡ string_bytes text.old ++ shown_support support) }
@@ -124,7 +126,7 @@ fn put_support(text: &mut String, support: Support) -> Result<(), AllocError>
     }
 }
 
-/// The leaked objects at a moment.
+/// Prints the leaked objects at a moment.
 fn print_leaks(
     alloc: Global,
     moment: Moment,
@@ -137,7 +139,7 @@ fn print_leaks(
     Ok(text.into_bytes())
 }
 
-/// A line for each leaked object.
+/// Appends a line for each leaked object.
 fn put_leaks(text: &mut String, leaked: &[(Koid, Kind)]) -> Result<(), AllocError>
     ensures { OnOk result (string_bytes text.new ≡ string_bytes text.old ++ flat_map leak_line leaked.now) }
 {
@@ -147,7 +149,7 @@ fn put_leaks(text: &mut String, leaked: &[(Koid, Kind)]) -> Result<(), AllocErro
     Ok(())
 }
 
-/// The line of a moment with its call, or of none.
+/// Prints the line of a moment with its call, or `never` if there is no such moment.
 fn print_event(alloc: Global, event: &Option<Event>) -> Result<Vec<u8>, AllocError>
     ensures { IfOk result (λ text. text.items ≡ as_line (shown_event event.now)) }
 {
@@ -157,7 +159,7 @@ fn print_event(alloc: Global, event: &Option<Event>) -> Result<Vec<u8>, AllocErr
     Ok(text.into_bytes())
 }
 
-/// A moment with its call, or that there is none.
+/// Appends a moment with its call, or `never` if there is no such moment.
 fn put_event(text: &mut String, event: &Option<Event>) -> Result<(), AllocError>
     ensures { OnOk result (string_bytes text.new ≡ string_bytes text.old ++ shown_event event.now) }
 {

@@ -1,3 +1,5 @@
+//! Prints calls, and the session texts of version 1.
+
 ghost use Rattle.std.specs.Prelude.{◌≡◌, ◌++◌, [], ◌∷◌, IfOk, OnOk, string_bytes, codes};
 ghost use Rattle.std.specs.Fmt.{decimal};
 ghost use Rattle.std.specs.List.{flat_map};
@@ -11,7 +13,7 @@ use std::alloc::{AllocError, Global};
 use zt_bits::Signals;
 use zt_rows::{Call, HandleValue, Koid, Parcel};
 
-/// The line of a process's call, without a line feed.
+/// Prints the line of a process's call, without a line feed.
 pub fn print_call(alloc: Global, process: Koid, call: &Call) -> Result<Vec<u8>, AllocError>
     ensures { IfOk result (λ text. text.items ≡ shown_call process call.now) }
 {
@@ -20,7 +22,7 @@ pub fn print_call(alloc: Global, process: Koid, call: &Call) -> Result<Vec<u8>, 
     Ok(text.into_bytes())
 }
 
-/// The session text of these calls.
+/// Prints the session text, of version 1, of these calls.
 #[tactic(auto, unfolding(crate::specs::Calls::session_text))]
 pub fn print_session(alloc: Global, calls: &[(Koid, Call)]) -> Result<Vec<u8>, AllocError>
     ensures { IfOk result (λ text. text.items ≡ session_text calls.now) }
@@ -31,7 +33,7 @@ pub fn print_session(alloc: Global, calls: &[(Koid, Call)]) -> Result<Vec<u8>, A
     Ok(text.into_bytes())
 }
 
-/// A line for each call.
+/// Appends a line for each call.
 fn put_lines(text: &mut String, calls: &[(Koid, Call)]) -> Result<(), AllocError>
     ensures { OnOk result (string_bytes text.new ≡ string_bytes text.old ++ flat_map call_line calls.now) }
 {
@@ -42,7 +44,7 @@ fn put_lines(text: &mut String, calls: &[(Koid, Call)]) -> Result<(), AllocError
     Ok(())
 }
 
-/// The line of a process's call, behind what is written.
+/// Appends the line of a process's call, without a line feed.
 pub fn put_call(text: &mut String, process: Koid, call: &Call) -> Result<(), AllocError>
     ensures { OnOk result (string_bytes text.new ≡ string_bytes text.old ++ shown_call process call.now) }
 {
@@ -51,7 +53,7 @@ pub fn put_call(text: &mut String, process: Koid, call: &Call) -> Result<(), All
     put_arguments(text, call)
 }
 
-/// The name of a call.
+/// Returns the name of a call.
 fn name(call: &Call) -> &'static str
     ensures { result.now ≡ call_name call.now }
 {
@@ -79,7 +81,7 @@ fn name(call: &Call) -> &'static str
     }
 }
 
-/// The arguments of a call with a space in front of each.
+/// Appends the arguments of a call, each after a space.
 fn put_arguments(text: &mut String, call: &Call) -> Result<(), AllocError>
     ensures { OnOk result (string_bytes text.new ≡ string_bytes text.old ++ spaced (call_arguments call.now)) }
 {
@@ -130,7 +132,7 @@ fn put_arguments(text: &mut String, call: &Call) -> Result<(), AllocError>
     }
 }
 
-/// A handle and a mask of rights.
+/// Appends a handle and a mask of rights.
 fn put_rights(text: &mut String, handle: HandleValue, rights: u32) -> Result<(), AllocError>
     ensures { OnOk result (string_bytes text.new ≡ string_bytes text.old ++ spaced (decimal handle ∷ shown_mask rights ∷ [])) }
 {
@@ -138,7 +140,7 @@ fn put_rights(text: &mut String, handle: HandleValue, rights: u32) -> Result<(),
     put_mask(text, rights)
 }
 
-/// A handle and the masks of the signals that go and of those that come.
+/// Appends a handle, the mask of signals to clear, and the mask of signals to set.
 fn put_change(
     text: &mut String,
     handle: HandleValue,
@@ -154,7 +156,7 @@ fn put_change(
     put_mask(text, set.0)
 }
 
-/// A handle, and the bytes and handles that are sent.
+/// Appends a handle, and the bytes and handles to send.
 fn put_write(text: &mut String, handle: HandleValue, parcel: &Parcel) -> Result<(), AllocError>
     ensures { OnOk result (string_bytes text.new ≡ string_bytes text.old
         ++ spaced (decimal handle ∷ shown_bytes parcel.now.bytes ∷ shown_list decimal parcel.now.handles ∷ [])) }
@@ -165,7 +167,7 @@ fn put_write(text: &mut String, handle: HandleValue, parcel: &Parcel) -> Result<
     put_handles(text, parcel.handles().as_slice())
 }
 
-/// A handle, the port of a wait, its key and its signals, and the word of a wait on an edge.
+/// Appends a handle, the port of a wait, its key and its signals, and `edge` for a wait on an edge.
 fn put_wait_async(
     text: &mut String,
     handle: HandleValue,
@@ -182,7 +184,7 @@ fn put_wait_async(
     if edge { text.push_str(" edge") } else { Ok(()) }
 }
 
-/// A port, and the key and the bytes of a packet.
+/// Appends a port, and the key and bytes of a packet.
 fn put_queue(
     text: &mut String,
     port: HandleValue,
@@ -196,7 +198,7 @@ fn put_queue(
     put_bytes(text, bytes)
 }
 
-/// A handle, what there is room for, and the word of a read that discards.
+/// Appends a handle, the room for bytes and for handles, and `discard` for a read that discards.
 fn put_read(
     text: &mut String,
     handle: HandleValue,

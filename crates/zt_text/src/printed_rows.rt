@@ -1,3 +1,5 @@
+//! Prints replies, refusals, and the keys and rows of a state.
+
 ghost use Rattle.std.specs.Prelude.{◌≡◌, ◌++◌, IfOk, OnOk, string_bytes};
 ghost use Rattle.std.specs.Fmt.{decimal};
 ghost use Rattle.std.specs.List.{flat_map};
@@ -12,7 +14,7 @@ use zt_rows::{
     HandleValue, Held, Koid, Life, ObjectRow, Packet, Refusal, Reply, Row, RowKey, Wait,
 };
 
-/// The status of a reply and its values, without a line feed.
+/// Prints the status and the values of a reply, without a line feed.
 pub fn print_reply(alloc: Global, reply: &Reply) -> Result<Vec<u8>, AllocError>
     ensures { IfOk result (λ text. text.items ≡ shown_reply reply.now) }
 {
@@ -21,7 +23,7 @@ pub fn print_reply(alloc: Global, reply: &Reply) -> Result<Vec<u8>, AllocError>
     Ok(text.into_bytes())
 }
 
-/// A line for each row.
+/// Prints a line for each row.
 pub fn print_rows(alloc: Global, rows: &[(RowKey, Row)]) -> Result<Vec<u8>, AllocError>
     ensures { IfOk result (λ text. text.items ≡ flat_map row_line rows.now) }
 {
@@ -30,7 +32,7 @@ pub fn print_rows(alloc: Global, rows: &[(RowKey, Row)]) -> Result<Vec<u8>, Allo
     Ok(text.into_bytes())
 }
 
-/// The line of a refusal.
+/// Prints the line of a refusal.
 #[tactic(auto, unfolding(crate::specs::Answers::shown_refusal))]
 pub fn print_refusal(alloc: Global, refusal: Refusal) -> Result<Vec<u8>, AllocError>
     ensures { IfOk result (λ text. text.items ≡ shown_refusal refusal) }
@@ -42,7 +44,7 @@ pub fn print_refusal(alloc: Global, refusal: Refusal) -> Result<Vec<u8>, AllocEr
     Ok(text.into_bytes())
 }
 
-/// A refusal as its line shows it, without a line feed: for what is printed elsewhere.
+/// Displays a refusal as its line, without a line feed, for use in other messages.
 #[derive(Clone, Copy, Debug)]
 pub struct RefusalLine(pub Refusal);
 
@@ -57,7 +59,7 @@ impl Display for RefusalLine {
     }
 }
 
-/// The column of a bad line.
+/// Appends the column of a `BadLine`.
 fn put_column(text: &mut String, refusal: Refusal) -> Result<(), AllocError>
     ensures { OnOk result (string_bytes text.new ≡ string_bytes text.old ++ shown_column refusal) }
 {
@@ -67,7 +69,7 @@ fn put_column(text: &mut String, refusal: Refusal) -> Result<(), AllocError>
     }
 }
 
-/// The status of a reply and its values.
+/// Appends the status and the values of a reply.
 #[tactic(auto, unfolding(crate::specs::Answers::shown_reply))]
 pub fn put_reply(text: &mut String, reply: &Reply) -> Result<(), AllocError>
     ensures { OnOk result (string_bytes text.new ≡ string_bytes text.old ++ shown_reply reply.now) }
@@ -100,7 +102,7 @@ pub fn put_reply(text: &mut String, reply: &Reply) -> Result<(), AllocError>
     }
 }
 
-/// A packet as the reader of its port gets it.
+/// Appends a packet as the reader of its port gets it.
 #[tactic(auto, unfolding(crate::specs::Answers::shown_packet))]
 fn put_packet(text: &mut String, packet: &Packet) -> Result<(), AllocError>
     ensures { OnOk result (string_bytes text.new ≡ string_bytes text.old ++ shown_packet packet.now) }
@@ -125,14 +127,14 @@ fn put_packet(text: &mut String, packet: &Packet) -> Result<(), AllocError>
     }
 }
 
-/// `0x` and eight digits.
+/// Appends a mask: `0x` and eight digits.
 pub fn put_mask(text: &mut String, bits: u32) -> Result<(), AllocError>
     ensures { OnOk result (string_bytes text.new ≡ string_bytes text.old ++ shown_mask bits) }
 {
     write!(text, "0x{bits:08x}")
 }
 
-/// Two digits for each byte, or `-` for none.
+/// Appends two digits for each byte, or `-` for none.
 pub fn put_bytes(text: &mut String, bytes: &[u8]) -> Result<(), AllocError>
     ensures { OnOk result (string_bytes text.new ≡ string_bytes text.old ++ shown_bytes bytes.now) }
 {
@@ -143,7 +145,7 @@ pub fn put_bytes(text: &mut String, bytes: &[u8]) -> Result<(), AllocError>
     text.push_str(digits.as_str())
 }
 
-/// The values with a comma between, or `-` for none.
+/// Appends the values with commas between, or `-` for none.
 pub fn put_handles(text: &mut String, handles: &[HandleValue]) -> Result<(), AllocError>
     ensures { OnOk result (string_bytes text.new ≡ string_bytes text.old ++ shown_list decimal handles.now) }
 {
@@ -157,7 +159,7 @@ pub fn put_handles(text: &mut String, handles: &[HandleValue]) -> Result<(), All
     Ok(())
 }
 
-/// What handles hold, with a comma between, or `-` for none.
+/// Appends held handles with commas between, or `-` for none.
 fn put_handles_held(text: &mut String, handles: &[Held]) -> Result<(), AllocError>
     ensures { OnOk result (string_bytes text.new ≡ string_bytes text.old ++ shown_list shown_held handles.now) }
 {
@@ -172,7 +174,7 @@ fn put_handles_held(text: &mut String, handles: &[Held]) -> Result<(), AllocErro
     Ok(())
 }
 
-/// An object's koid and the rights on it.
+/// Appends an object's koid and the rights of a handle to it.
 fn put_held(text: &mut String, held: Held) -> Result<(), AllocError>
     ensures { OnOk result (string_bytes text.new ≡ string_bytes text.old ++ shown_held held) }
 {
@@ -180,7 +182,7 @@ fn put_held(text: &mut String, held: Held) -> Result<(), AllocError>
     put_mask(text, held.rights.0)
 }
 
-/// A line for each row.
+/// Appends a line for each row.
 pub fn put_rows(text: &mut String, rows: &[(RowKey, Row)]) -> Result<(), AllocError>
     ensures { OnOk result (string_bytes text.new ≡ string_bytes text.old ++ flat_map row_line rows.now) }
 {
@@ -193,7 +195,7 @@ pub fn put_rows(text: &mut String, rows: &[(RowKey, Row)]) -> Result<(), AllocEr
     Ok(())
 }
 
-/// The word and the numbers of a key.
+/// Appends the word and the numbers of a key.
 #[tactic(auto, unfolding(crate::specs::Answers::shown_key))]
 pub fn put_key(text: &mut String, key: RowKey) -> Result<(), AllocError>
     ensures { OnOk result (string_bytes text.new ≡ string_bytes text.old ++ shown_key key) }
@@ -208,7 +210,7 @@ pub fn put_key(text: &mut String, key: RowKey) -> Result<(), AllocError>
     }
 }
 
-/// What stands under a key.
+/// Appends a row, without its key.
 #[tactic(auto, unfolding(crate::specs::Answers::shown_row))]
 fn put_row(text: &mut String, row: &Row) -> Result<(), AllocError>
     ensures { OnOk result (string_bytes text.new ≡ string_bytes text.old ++ shown_row row.now) }
@@ -242,7 +244,7 @@ fn put_object(text: &mut String, object: &ObjectRow) -> Result<(), AllocError>
     put_critical(text, object.critical)
 }
 
-/// The job to which an object is critical, where there is one.
+/// Appends the job to which a process is critical, if there is one.
 pub fn put_critical(text: &mut String, job: Koid) -> Result<(), AllocError>
     ensures { OnOk result (string_bytes text.new ≡ string_bytes text.old ++ shown_critical job) }
 {
@@ -253,7 +255,7 @@ pub fn put_critical(text: &mut String, job: Koid) -> Result<(), AllocError>
     }
 }
 
-/// Whether an object runs, or how it ended.
+/// Appends whether an object is live, or how it ended.
 pub fn put_life(text: &mut String, life: Life) -> Result<(), AllocError>
     ensures { OnOk result (string_bytes text.new ≡ string_bytes text.old ++ shown_life life) }
 {
@@ -264,7 +266,7 @@ pub fn put_life(text: &mut String, life: Life) -> Result<(), AllocError>
     }
 }
 
-/// A packet that waits shows, behind what its reader will get, whose handle was waited on.
+/// Appends a packet in a port: what its reader will get, and for the packet of a wait also the wait's process and handle.
 #[tactic(auto, unfolding(crate::specs::Answers::shown_queued))]
 fn put_queued(text: &mut String, packet: &Packet) -> Result<(), AllocError>
     ensures { OnOk result (string_bytes text.new ≡ string_bytes text.old ++ shown_queued packet.now) }

@@ -1,3 +1,5 @@
+//! Prints the session text, of version 2, of a saved tree.
+
 ghost use Rattle.std.specs.Prelude.{◌≡◌, ◌++◌, ◌+◌, IfOk, OnOk, string_bytes};
 ghost use Rattle.std.specs.List.{flat_map};
 ghost use Rattle.zt_rows.specs.declared.saved.Cursor.TheVariants.{Follows, At};
@@ -10,7 +12,7 @@ use crate::printed_calls::put_call;
 use std::alloc::{AllocError, Global};
 use zt_rows::{Call, Cursor, Koid, Moment, Saved, SavedBranch, SavedCall};
 
-/// The session text of a tree, of version 2.
+/// Prints the session text, of version 2, of a saved tree.
 #[tactic(auto, unfolding(crate::specs::SavedTexts::saved_text))]
 pub fn print_saved(alloc: Global, saved: &Saved) -> Result<Vec<u8>, AllocError>
     ensures { IfOk result (λ text. text.items ≡ saved_text saved.now) }
@@ -28,7 +30,7 @@ pub fn print_saved(alloc: Global, saved: &Saved) -> Result<Vec<u8>, AllocError>
     Ok(text)
 }
 
-/// A line for each moment.
+/// Appends a line for each moment.
 fn put_calls(text: &mut String, moments: &[SavedCall]) -> Result<(), AllocError>
     ensures { OnOk result (string_bytes text.new ≡ string_bytes text.old ++ flat_map saved_call_line moments.now) }
 {
@@ -38,7 +40,7 @@ fn put_calls(text: &mut String, moments: &[SavedCall]) -> Result<(), AllocError>
     Ok(())
 }
 
-/// The line of a moment behind a text: where its call was made, the process and the call.
+/// Appends the line of a moment: its parent, the process, and the call.
 #[tactic(auto, unfolding(crate::specs::Calls::shown_call))]
 pub fn put_moment(
     text: &mut String,
@@ -53,7 +55,7 @@ pub fn put_moment(
     text.push_str("\n")
 }
 
-/// The lines of these branches and cursors behind a text.
+/// Appends a line for each branch, and then one for each cursor.
 pub fn put_places(
     alloc: Global,
     text: &mut Vec<u8>,
@@ -66,7 +68,7 @@ pub fn put_places(
     put_cursors(alloc, text, cursors)
 }
 
-/// A line for each branch.
+/// Appends a line for each branch.
 fn put_branches(
     alloc: Global,
     text: &mut Vec<u8>,
@@ -81,7 +83,7 @@ fn put_branches(
     Ok(())
 }
 
-/// A line for the cursor of each client.
+/// Appends a line for each client's cursor.
 fn put_cursors(alloc: Global, text: &mut Vec<u8>, cursors: &[Cursor]) -> Result<(), AllocError>
     ensures { OnOk result (text.new.items ≡ text.old.items ++ cursor_lines 1 cursors.now) }
 {
@@ -91,7 +93,7 @@ fn put_cursors(alloc: Global, text: &mut Vec<u8>, cursors: &[Cursor]) -> Result<
     Ok(())
 }
 
-/// The line of a client's cursor.
+/// Appends the line of a client's cursor.
 fn put_cursor(
     alloc: Global,
     text: &mut Vec<u8>,
@@ -106,7 +108,7 @@ fn put_cursor(
     }
 }
 
-/// The line of a client that follows a branch.
+/// Appends the line of a client that follows a branch.
 fn put_follows(
     alloc: Global,
     text: &mut Vec<u8>,
@@ -123,7 +125,7 @@ fn put_follows(
     Ok(())
 }
 
-/// The line of a client that stands at a moment.
+/// Appends the line of a client that stands at a moment.
 fn put_at(alloc: Global, text: &mut Vec<u8>, client: u64, moment: Moment) -> Result<(), AllocError>
     ensures { OnOk result (text.new.items ≡ text.old.items ++ as_line (words (cursor_words client (At moment)))) }
 {

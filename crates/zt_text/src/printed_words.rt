@@ -1,25 +1,25 @@
-//! A word and the numbers behind it, with a space between.
+//! Prints a word and the numbers after it, with spaces between.
 ghost use Rattle.std.specs.Prelude.{◌≡◌, ◌++◌, ◌∷◌, [], OnOk, string_bytes};
 ghost use Rattle.std.specs.Fmt.{decimal};
 ghost use Rattle.zt_text.specs.ShownNumbers.{words};
 
 use std::alloc::AllocError;
 
-/// A word and a number.
+/// Appends a word and a number.
 pub fn put_one(text: &mut String, word: &str, number: u64) -> Result<(), AllocError>
     ensures { OnOk result (string_bytes text.new ≡ string_bytes text.old ++ words (word.now ∷ decimal number ∷ [])) }
 {
     write!(text, "{word} {number}")
 }
 
-/// A word and two numbers.
+/// Appends a word and two numbers.
 pub fn put_two(text: &mut String, word: &str, first: u64, second: u64) -> Result<(), AllocError>
     ensures { OnOk result (string_bytes text.new ≡ string_bytes text.old ++ words (word.now ∷ decimal first ∷ decimal second ∷ [])) }
 {
     write!(text, "{word} {first} {second}")
 }
 
-/// A word and three numbers.
+/// Appends a word and three numbers.
 pub fn put_three(
     text: &mut String,
     word: &str,

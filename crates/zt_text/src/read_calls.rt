@@ -1,3 +1,5 @@
+//! Reads a call and its arguments.
+
 ghost use Rattle.std.specs.Prelude.{◌≡◌, IfOk, IfErr};
 ghost use Rattle.zt_text.specs.ReadLines.{IsUnread, has_parcel};
 ghost use Rattle.zt_text.specs.ProofsOnly.CallNames.{call_with};
@@ -9,8 +11,8 @@ use crate::write_arguments::Write;
 use std::alloc::Global;
 use zt_rows::{Call, Refusal};
 
-/// The call that the fields behind the process write. It is taken into its caller, since a call is large and goes through
-/// memory at each return.
+/// Reads a call from the fields after the process. It is inlined because a call is large, and would go through memory at each
+/// return.
 #[inline(always)]
 #[tactic(auto, using(crate::proofs::CallNames::named), unfolding(crate::specs::ReadCalls::call))]
 pub fn call(alloc: Global, fields: Fields<'_>) -> Result<Call, Refusal>
@@ -24,8 +26,8 @@ pub fn call(alloc: Global, fields: Fields<'_>) -> Result<Call, Refusal>
     }
 }
 
-/// The call of this name, with the arguments behind it. What reads them is taken into it but for a parcel's, as fields go through
-/// memory at a call.
+/// Reads the arguments of a call of this name. The functions that read them are inlined, except for a parcel's, because fields
+/// would go through memory at a call.
 #[inline(always)]
 #[tactic(auto, unfolding(crate::specs::ProofsOnly::CallNames::call_with))]
 fn call_named(alloc: Global, name: CallName, rest: Fields<'_>) -> Result<Call, Refusal>
@@ -190,8 +192,7 @@ fn channel_write(fields: Fields<'_>) -> Result<Write<'_>, Refusal>
     Ok(Write::new(handle, bytes, handles))
 }
 
-/// The call of a `channel_write`. It is a function of its own that is not taken into its caller, since it alone asks for
-/// memory, and no other call is to pay for that.
+/// Reads a `channel_write`. It is never inlined: only this call allocates, and no other call should pay for that.
 #[inline(never)]
 fn write_call(alloc: Global, fields: Fields<'_>) -> Result<Call, Refusal>
     ensures read { IfOk result (λ made. channel_write fields.entry ≡ Ok made) }

@@ -1,3 +1,5 @@
+//! Reads the line of a client: a call, another command, or a question to the pinned copy.
+
 ghost use Rattle.std.specs.Prelude.{◌≡◌, IfOk, IfErr};
 ghost use Rattle.zt_text.specs.ReadLines.{IsUnread, takes_memory, asked_takes_memory, line_takes_memory, is_skipped, fields_in, read_as, asked_by, word_named, pinned, pinned_named, pinned_show, pinned_holders, pinned_leaks, command_named, plain_command_named, question_named, goto, back, only_name, branch, follow, show, holders, leaks, when, pin};
 
@@ -8,23 +10,25 @@ use crate::read_calls::call;
 use std::alloc::Global;
 use zt_rows::{Command, Koid, Refusal};
 
-/// The most bytes of a line.
+/// The longest line, in bytes.
 pub const LINE_BYTES: usize = 140_000;
 
-/// What a line asks.
+/// What a line asks for.
 #[derive(Debug, Drop)]
 pub enum Line {
     Command(Command),
-    /// What `show` asks, of the pinned copy.
+    /// `pinned show`: the rows of the pinned copy.
     PinnedShow,
-    /// What `holders` asks, of the pinned copy.
+    /// `pinned holders`: what keeps an object in the pinned copy.
     PinnedHolders(Koid),
-    /// What `leaks` asks, of the pinned copy.
+    /// `pinned leaks`: the leaked objects of the pinned copy.
     PinnedLeaks,
 }
 
-/// What a line asks; nothing, where it is empty or begins with `#`. Memory is asked for only where the whole line
-/// has its form, by the parcel of a call or by the name of a branch.
+/// Reads a line. Returns `None` for a skipped line: one that is empty or begins with `#`.
+///
+/// Errors are `LineTooLong` above `LINE_BYTES` bytes, `BadLine` with the column of a parse error, and `OutOfMemory`. It allocates
+/// only for the parcel of a call or the name of a branch, and only after the whole line is parsed.
 #[tactic(auto, unfolding(crate::specs::ReadLines::read_as))]
 pub fn read_line(alloc: Global, line: &[u8]) -> Result<Option<Line>, Refusal>
     ensures read { IfOk result (λ asked. read_as line.now ≡ Ok asked) }
@@ -36,7 +40,7 @@ pub fn read_line(alloc: Global, line: &[u8]) -> Result<Option<Line>, Refusal>
     }
 }
 
-/// The fields of a line; none, where it is empty or begins with `#`.
+/// Returns the fields of a line, or `None` for a skipped line. Fails with `LineTooLong` above `LINE_BYTES` bytes.
 #[tactic(auto, unfolding(crate::specs::ReadLines::fields_in))]
 pub fn fields_in(line: &[u8]) -> Result<Option<Fields<'_>>, Refusal>
     ensures { result ≡ fields_in line.now }
@@ -51,14 +55,14 @@ pub fn fields_in(line: &[u8]) -> Result<Option<Fields<'_>>, Refusal>
     }
 }
 
-/// An empty line, and one that begins with `#`.
+/// Whether a line is skipped: it is empty or begins with `#`.
 pub(crate) fn is_skipped(line: &[u8]) -> bool
     ensures { result ≡ is_skipped line.now }
 {
     matches!(line, [] | [b'#', ..])
 }
 
-/// A line that begins with a number is a call of that process.
+/// Reads the fields of a line. If the first is a number, the line is a call of that process.
 #[tactic(auto, unfolding(crate::specs::ReadLines::asked_by))]
 fn asked_by(alloc: Global, fields: Fields<'_>) -> Result<Line, Refusal>
     ensures read { IfOk result (λ asked. asked_by fields.entry ≡ Ok asked) }
@@ -71,7 +75,7 @@ fn asked_by(alloc: Global, fields: Fields<'_>) -> Result<Line, Refusal>
     }
 }
 
-/// A line that begins with `pinned` asks the pinned copy.
+/// Reads a line whose first field is not a number. After `pinned` it asks the pinned copy.
 #[tactic(auto, unfolding(crate::specs::ReadLines::word_named))]
 fn word_named(alloc: Global, first: &Field<'_>, rest: Fields<'_>) -> Result<Line, Refusal>
     ensures read { IfOk result (λ asked. word_named first.now rest.entry ≡ Ok asked) }
@@ -84,7 +88,7 @@ fn word_named(alloc: Global, first: &Field<'_>, rest: Fields<'_>) -> Result<Line
     }
 }
 
-/// The question behind the word `pinned`.
+/// Reads the question after the word `pinned`.
 #[tactic(auto, unfolding(crate::specs::ReadLines::pinned))]
 fn pinned(fields: Fields<'_>) -> Result<Line, Refusal>
     ensures { result ≡ pinned fields.entry }
@@ -133,7 +137,7 @@ fn pinned_leaks(fields: Fields<'_>) -> Result<Line, Refusal>
     Ok(Line::PinnedLeaks)
 }
 
-/// The command of this name, with the arguments behind it.
+/// Reads the arguments of the command of this name.
 #[tactic(auto, unfolding(crate::specs::ReadLines::command_named))]
 fn command_named(alloc: Global, name: &Field<'_>, rest: Fields<'_>) -> Result<Command, Refusal>
     ensures read { IfOk result (λ asked. command_named name.now rest.entry ≡ Ok asked) }
@@ -166,7 +170,7 @@ fn follow(alloc: Global, fields: Fields<'_>) -> Result<Command, Refusal>
     Ok(Command::Follow(name.to_items(alloc)?))
 }
 
-/// A name with nothing behind it.
+/// Reads a name that is the last field.
 #[tactic(auto, unfolding(crate::specs::ReadLines::only_name))]
 pub(crate) fn only_name(fields: Fields<'_>) -> Result<Name<'_>, Refusal>
     ensures { result ≡ only_name fields.entry }
@@ -176,7 +180,7 @@ pub(crate) fn only_name(fields: Fields<'_>) -> Result<Name<'_>, Refusal>
     Ok(name)
 }
 
-/// The command of this name, of those that take no memory, with the arguments behind it.
+/// Reads the arguments of the command of this name, if it is one that needs no allocation.
 #[tactic(auto, unfolding(crate::specs::ReadLines::plain_command_named))]
 fn plain_command_named(name: &Field<'_>, rest: Fields<'_>) -> Result<Command, Refusal>
     ensures { result ≡ plain_command_named name.now rest.entry }
@@ -190,7 +194,7 @@ fn plain_command_named(name: &Field<'_>, rest: Fields<'_>) -> Result<Command, Re
     }
 }
 
-/// The command of this name, of those that ask for what stands at the position, with the arguments behind it.
+/// Reads the arguments of the command of this name, if it asks about the client's position.
 #[tactic(auto, unfolding(crate::specs::ReadLines::question_named))]
 fn question_named(name: &Field<'_>, rest: Fields<'_>) -> Result<Command, Refusal>
     ensures { result ≡ question_named name.now rest.entry }

@@ -1,3 +1,5 @@
+//! Reads a session text of version 1 as a saved tree.
+
 ghost use Rattle.std.specs.Prelude.{◌≡◌, ◌∷◌, [], codes, IfOk, IfErr};
 ghost use Rattle.zt_rows.specs.CallsInARow.{as_moment, in_a_row, moments_from};
 ghost use Rattle.zt_text.specs.Session.{session_of};
@@ -8,7 +10,7 @@ use crate::session_text::read_session;
 use std::alloc::{AllocError, Global};
 use zt_rows::{Call, Items, Koid, Moment, Refusal, Saved, SavedBranch, SavedCall};
 
-/// The tree of a session text of version 1, each call of which is made at the moment of the one before it.
+/// Reads the saved tree of a session text of version 1. Each call is made at the moment of the one before it.
 #[tactic(auto, using(crate::proofs::SavedLemmas::row_read, crate::proofs::SavedLemmas::row_faulty, crate::proofs::SavedLemmas::row_wanted))]
 pub(crate) fn read_row(alloc: Global, text: &[u8]) -> Result<Saved, (u64, Refusal)>
     ensures read { IfOk result (λ saved. row_of (session_of text.now) ≡ Ok saved) }
@@ -21,7 +23,7 @@ pub(crate) fn read_row(alloc: Global, text: &[u8]) -> Result<Saved, (u64, Refusa
     }
 }
 
-/// The tree of calls each of which is made at the moment of the one before it.
+/// Makes the saved tree of these calls. Each is made at the moment of the one before it.
 fn tree_of(alloc: Global, calls: Vec<(Koid, Call)>) -> Result<Saved, AllocError>
     ensures { IfOk result (λ saved. saved ≡ in_a_row calls.items) }
 {
@@ -34,7 +36,7 @@ fn tree_of(alloc: Global, calls: Vec<(Koid, Call)>) -> Result<Saved, AllocError>
     })
 }
 
-/// The branch `main` alone.
+/// Makes the branch `main`, and no other.
 fn main_branch(alloc: Global, head: Moment) -> Result<Items<SavedBranch>, AllocError>
     ensures { IfOk result (λ branches. branches ≡ record { name = codes "main"; head = head } ∷ []) }
 {
@@ -44,7 +46,7 @@ fn main_branch(alloc: Global, head: Moment) -> Result<Items<SavedBranch>, AllocE
     Ok(Items::new(branches))
 }
 
-/// The moments of these calls.
+/// Makes the moments of these calls.
 fn moments_of(alloc: Global, calls: Vec<(Koid, Call)>) -> Result<Vec<SavedCall>, AllocError>
     ensures { IfOk result (λ moments. moments.items ≡ moments_from 0 calls.items) }
 {
@@ -60,7 +62,7 @@ fn moments_of(alloc: Global, calls: Vec<(Koid, Call)>) -> Result<Vec<SavedCall>,
     Ok(moments)
 }
 
-/// The moment of this number, or that with the largest number that there is.
+/// Returns the moment of this number, or the moment with the largest number if this one is too large.
 fn as_moment(number: usize) -> Moment
     ensures { result ≡ as_moment number }
 {

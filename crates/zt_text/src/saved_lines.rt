@@ -1,3 +1,5 @@
+//! Reads one line of a session text of version 2.
+
 ghost use Rattle.std.specs.Prelude.{◌≡◌, true, IfOk, IfErr, OnOk};
 ghost use Rattle.zt_text.specs.ReadLines.{IsUnread};
 ghost use Rattle.zt_text.specs.SavedTexts.{saved_call, saved_branch, saved_cursor, place_named, follows, at_moment, with_call, with_branch, with_cursor, with_word, with_fields, with_line};
@@ -9,7 +11,7 @@ use crate::session_text::process_call;
 use std::alloc::Global;
 use zt_rows::{Cursor, Refusal, SavedBranch, SavedCall};
 
-/// Adds what a line tells to the tree of the lines before it, unless the line is skipped.
+/// Reads a line, and adds its moment, branch or cursor to the saved tree. A skipped line adds nothing.
 #[tactic(auto, unfolding(crate::specs::SavedTexts::with_line))]
 pub fn take_line(alloc: Global, tree: &mut SavedLists, line: &[u8]) -> Result<(), Refusal>
     ensures taken { OnOk result (with_line tree.old line.now ≡ Ok tree.new) }
@@ -21,7 +23,7 @@ pub fn take_line(alloc: Global, tree: &mut SavedLists, line: &[u8]) -> Result<()
     }
 }
 
-/// Adds what the fields of a line tell.
+/// Reads the fields of a line, and adds its moment, branch or cursor.
 #[tactic(auto, unfolding(crate::specs::SavedTexts::with_fields))]
 fn take_fields(alloc: Global, tree: &mut SavedLists, fields: Fields<'_>) -> Result<(), Refusal>
     ensures taken { OnOk result (with_fields tree.old fields.entry ≡ Ok tree.new) }
@@ -31,7 +33,7 @@ fn take_fields(alloc: Global, tree: &mut SavedLists, fields: Fields<'_>) -> Resu
     take_word(alloc, tree, &word, rest)
 }
 
-/// Adds what stands behind the first word of a line.
+/// Reads the fields after the first word of a line, and adds its moment, branch or cursor.
 #[tactic(auto, unfolding(crate::specs::SavedTexts::with_word))]
 fn take_word(
     alloc: Global,
@@ -83,7 +85,7 @@ fn take_cursor(alloc: Global, tree: &mut SavedLists, fields: Fields<'_>) -> Resu
     Ok(())
 }
 
-/// A moment: where its call was made, the process and the call.
+/// Reads a moment: its parent, the process, and the call.
 #[tactic(auto, unfolding(crate::specs::SavedTexts::saved_call))]
 fn saved_call(alloc: Global, fields: Fields<'_>) -> Result<SavedCall, Refusal>
     ensures read { IfOk result (λ made. saved_call fields.entry ≡ Ok made) }
@@ -98,7 +100,7 @@ fn saved_call(alloc: Global, fields: Fields<'_>) -> Result<SavedCall, Refusal>
     })
 }
 
-/// A branch and its head.
+/// Reads a branch and its head.
 #[tactic(auto, unfolding(crate::specs::SavedTexts::saved_branch))]
 fn saved_branch(alloc: Global, fields: Fields<'_>) -> Result<SavedBranch, Refusal>
     ensures read { IfOk result (λ branch. saved_branch fields.entry ≡ Ok branch) }
@@ -111,7 +113,7 @@ fn saved_branch(alloc: Global, fields: Fields<'_>) -> Result<SavedBranch, Refusa
     Ok(SavedBranch { name, head })
 }
 
-/// Where a client stands, which has to be the one that is wanted.
+/// Reads the cursor of this client. A line with another client's number is an error.
 #[tactic(auto, unfolding(crate::specs::SavedTexts::saved_cursor))]
 fn saved_cursor(alloc: Global, client: u64, fields: Fields<'_>) -> Result<Cursor, Refusal>
     ensures read { IfOk result (λ cursor. saved_cursor client fields.entry ≡ Ok cursor) }
@@ -122,7 +124,7 @@ fn saved_cursor(alloc: Global, client: u64, fields: Fields<'_>) -> Result<Cursor
     place_named(alloc, &word, rest)
 }
 
-/// Where a client stands, by the word that tells how.
+/// Reads where a client stands: at the head of a branch after `follow`, or at a moment after `at`.
 #[tactic(auto, unfolding(crate::specs::SavedTexts::place_named))]
 fn place_named(alloc: Global, word: &Field<'_>, rest: Fields<'_>) -> Result<Cursor, Refusal>
     ensures read { IfOk result (λ cursor. place_named word.now rest.entry ≡ Ok cursor) }

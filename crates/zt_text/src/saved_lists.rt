@@ -1,3 +1,5 @@
+//! A saved tree whose lines are being read.
+
 ghost use Rattle.std.specs.Prelude.{◌≡◌, OnOk};
 ghost use Rattle.zt_text.specs.SavedTexts.{bare, add_call, add_branch, add_cursor, next_client, takes_branches, takes_calls};
 
@@ -5,7 +7,7 @@ use std::alloc::{AllocError, Global};
 use std::marker::Model;
 use zt_rows::{Cursor, Items, Saved, SavedBranch, SavedCall};
 
-/// A saved tree while its lines are read.
+/// The moments, branches and cursors of the lines that were read so far.
 #[derive(Drop)]
 pub struct SavedLists {
     moments: Vec<SavedCall>,
@@ -22,7 +24,7 @@ impl Model for SavedLists {
 }
 
 impl SavedLists {
-    /// No moment, no branch and no cursor, which take no memory.
+    /// A saved tree without moments, branches and cursors. Never allocates.
     pub fn new(alloc: Global) -> SavedLists
         ensures { result ≡ bare }
     {
@@ -33,28 +35,28 @@ impl SavedLists {
         }
     }
 
-    /// Whether a moment may come: behind no branch and no cursor.
+    /// Whether the next line may be a moment. It may not after a branch or a cursor.
     pub fn takes_calls(&self) -> bool
         ensures { result ≡ takes_calls self.now }
     {
         self.branches.is_empty() && self.cursors.is_empty()
     }
 
-    /// Whether a branch may come: behind no cursor.
+    /// Whether the next line may be a branch. It may not after a cursor.
     pub fn takes_branches(&self) -> bool
         ensures { result ≡ takes_branches self.now }
     {
         self.cursors.is_empty()
     }
 
-    /// The client whose cursor is to come, counted from 1.
+    /// Returns the client of the next cursor, counted from 1.
     pub fn next_client(&self) -> u64
         ensures { result ≡ next_client self.now }
     {
         self.cursors.len() as u64 + 1
     }
 
-    /// A moment more.
+    /// Appends a moment.
     pub fn push_call(&mut self, made: SavedCall) -> Result<(), AllocError>
         ensures { OnOk result (self.new ≡ add_call self.old made) }
     {
@@ -62,7 +64,7 @@ impl SavedLists {
         Ok(())
     }
 
-    /// A branch more.
+    /// Appends a branch.
     pub fn push_branch(&mut self, branch: SavedBranch) -> Result<(), AllocError>
         ensures { OnOk result (self.new ≡ add_branch self.old branch) }
     {
@@ -70,7 +72,7 @@ impl SavedLists {
         Ok(())
     }
 
-    /// A cursor more.
+    /// Appends a cursor.
     pub fn push_cursor(&mut self, cursor: Cursor) -> Result<(), AllocError>
         ensures { OnOk result (self.new ≡ add_cursor self.old cursor) }
     {
@@ -78,7 +80,7 @@ impl SavedLists {
         Ok(())
     }
 
-    /// The tree.
+    /// Returns the saved tree.
     pub fn into_saved(self) -> Saved
         ensures { result ≡ self }
     {

@@ -1,3 +1,5 @@
+//! Reads a session text of either version as a saved tree.
+
 ghost use Rattle.std.specs.Prelude.{◌≡◌, length, IfOk, IfErr, OnOk};
 ghost use Rattle.zt_text.specs.Lines.{lines_of};
 ghost use Rattle.zt_text.specs.SavedTexts.{bare, with_lines, tree_lines, saved_of, IsUnreadTree};
@@ -10,8 +12,8 @@ use crate::session_text::{fault_at, next_line};
 use std::alloc::Global;
 use zt_rows::{Refusal, Saved};
 
-/// The tree of a session text of either version. The number with a refusal is that of the line at fault, counted from 1,
-/// and 0 where memory was refused.
+/// Reads a session text of either version as a saved tree. Fails with the line's number, counted from 1, and its parse error; the
+/// number is 0 for `OutOfMemory`.
 pub fn read_saved(alloc: Global, text: &[u8]) -> Result<Saved, (u64, Refusal)>
     ensures read { IfOk result (λ saved. saved_of text.now ≡ Ok saved) }
     ensures refused { IfErr result (λ fault. IsUnreadTree (saved_of text.now) fault) }
@@ -22,7 +24,7 @@ pub fn read_saved(alloc: Global, text: &[u8]) -> Result<Saved, (u64, Refusal)>
     }
 }
 
-/// What stands behind the first line, where that is the first line of version 2.
+/// Returns the bytes after the first line, or `None` if that line is not `zxtt 2`.
 fn behind_first(text: &[u8]) -> Option<&[u8]>
     ensures { IsBehindFirst (tree_lines (lines_of text.now)) result }
 {
@@ -37,7 +39,7 @@ fn behind_first(text: &[u8]) -> Option<&[u8]>
     }
 }
 
-/// The tree of the lines behind the first line of version 2.
+/// Reads the lines after the first line of version 2.
 fn read_tree(alloc: Global, text: &[u8]) -> Result<Saved, (u64, Refusal)>
     ensures read { IfOk result (λ saved. with_lines bare 2 (lines_of text.now) ≡ Ok saved) }
     ensures refused { IfErr result (λ fault. IsUnreadTree (with_lines bare 2 (lines_of text.now)) fault) }
@@ -47,7 +49,7 @@ fn read_tree(alloc: Global, text: &[u8]) -> Result<Saved, (u64, Refusal)>
     Ok(tree.into_saved())
 }
 
-/// Adds what lines tell, of which the first has the number 2.
+/// Reads these lines, and adds what they say. The first of them has number 2.
 fn take_lines(alloc: Global, tree: &mut SavedLists, text: &[u8]) -> Result<(), (u64, Refusal)>
     ensures taken { OnOk result (with_lines tree.old 2 (lines_of text.now) ≡ Ok tree.new) }
     ensures refused { IfErr result (λ fault. IsUnreadTree (with_lines tree.old 2 (lines_of text.now)) fault) }

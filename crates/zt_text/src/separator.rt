@@ -1,15 +1,17 @@
+//! Finds the first separator in bytes, and cuts there.
+
 ghost use Rattle.std.specs.Prelude.{◌≡◌, ◌+◌, ◌<◌, ◌≤◌, ◌==◌, true, length, take, position, slice_index, IfSome};
 ghost use Rattle.zt_text.specs.ProofsOnly.Cut.{IsCut, IsClear};
 
 use std::simd::prelude::*;
 
-/// How many bytes are looked at together, as long as there are so many.
+/// How many bytes are checked at once, as long as this many are left.
 const MANY: usize = 16;
 
-/// How many of the rest are.
+/// How many bytes are checked at once after that, if this many are left.
 const FEW: usize = 8;
 
-/// The bytes before the first separator, and those behind it.
+/// Cuts the bytes at the first separator. The second part is `None` if there is no separator.
 pub fn cut(bytes: &[u8], separator: u8) -> (&[u8], Option<&[u8]>)
     ensures { IsCut separator bytes.now result.0.now result.1 }
 {
@@ -19,7 +21,8 @@ pub fn cut(bytes: &[u8], separator: u8) -> (&[u8], Option<&[u8]>)
     }
 }
 
-/// The same, where that separator is at this place, or where there is none and these are all bytes.
+/// Cuts the bytes at `end` if a separator is there, or if all bytes end there. No separator may be before `end`. Returns `None`
+/// if another byte is at `end`.
 #[inline(always)]
 pub fn cut_at(bytes: &[u8], separator: u8, end: usize) -> Option<(&[u8], Option<&[u8]>)>
     requires inside { end ≤ length bytes.now }
@@ -36,7 +39,7 @@ pub fn cut_at(bytes: &[u8], separator: u8, end: usize) -> Option<(&[u8], Option<
     }
 }
 
-/// Where the first separator stands. The bytes are looked at sixteen together, then eight, and the last few one by one.
+/// Finds the first separator. It checks sixteen bytes at once, then eight, and the last few one by one.
 #[tactic(auto, using(crate::proofs::Places::first_place))]
 fn first_of(bytes: &[u8], separator: u8) -> Option<usize>
     ensures at { result ≡ position (λ byte. byte == separator) bytes.now }
@@ -53,7 +56,7 @@ fn first_of(bytes: &[u8], separator: u8) -> Option<usize>
     first_of_rest(bytes, separator, seen)
 }
 
-/// The same of the bytes from a place on, before which there is none.
+/// Finds the first separator; there is none before `from`.
 #[tactic(auto, using(crate::proofs::Places::first_place))]
 fn first_of_rest(bytes: &[u8], separator: u8, from: usize) -> Option<usize>
     requires inside { from ≤ length bytes.now }
@@ -72,7 +75,7 @@ fn first_of_rest(bytes: &[u8], separator: u8, from: usize) -> Option<usize>
     }
 }
 
-/// How many of sixteen bytes from a place on stand before the first separator among them.
+/// Returns how many of the sixteen bytes from `from` on are before the first separator among them.
 fn others_of_many(bytes: &[u8], separator: u8, from: usize) -> usize
     requires { from + 16 ≤ length bytes.now }
     ensures few { result ≤ 16 }
@@ -88,7 +91,7 @@ fn others_of_many(bytes: &[u8], separator: u8, from: usize) -> usize
     }
 }
 
-/// How many of eight bytes from a place on stand before the first separator among them.
+/// Returns how many of the eight bytes from `from` on are before the first separator among them.
 fn others_of_few(bytes: &[u8], separator: u8, from: usize) -> usize
     requires { from + 8 ≤ length bytes.now }
     ensures few { result ≤ 8 }
@@ -104,7 +107,7 @@ fn others_of_few(bytes: &[u8], separator: u8, from: usize) -> usize
     }
 }
 
-/// Where the first separator stands, of which none stands before this place.
+/// Finds the first separator, byte by byte; there is none before `from`.
 fn first_behind(bytes: &[u8], separator: u8, from: usize) -> Option<usize>
     requires inside { from ≤ length bytes.now }
     requires others { IsClear separator bytes.now 0 from }

@@ -1,3 +1,5 @@
+//! Reads the calls of a session text of version 1 one by one.
+
 ghost use Rattle.std.specs.Prelude.{◌≡◌, Ok, true, is_ok, length, IfOk, IfErr, OnOk, OnErr};
 ghost use Rattle.zt_text.specs.Lines.{lines_of};
 ghost use Rattle.zt_text.specs.Session.{has_call, IsFaultOf};
@@ -9,7 +11,7 @@ use std::alloc::Global;
 use std::marker::Model;
 use zt_rows::{Call, Koid, Refusal};
 
-/// The calls of a session text of version 1, read one after another. Nothing is kept of those that were read.
+/// The calls of a session text of version 1, which are read one after another. Calls that were read are not kept.
 #[derive(Drop)]
 pub struct SessionCalls<'a> {
     left: &'a [u8],
@@ -28,7 +30,8 @@ impl<'a> Model for SessionCalls<'a> {
 }
 
 impl<'a> SessionCalls<'a> {
-    /// All calls of a session text of version 1, or the fault of its first line.
+    /// Begins at the first call of a session text of version 1. If its first line is not `zxtt 1`, fails with line number 1 and
+    /// `BadLine` or `LineTooLong`.
     pub fn new(text: &'a [u8]) -> Result<SessionCalls<'a>, (u64, Refusal)>
         ensures { result ≡ row_lines (lines_of text.now) }
     {
@@ -42,7 +45,7 @@ impl<'a> SessionCalls<'a> {
         }
     }
 
-    /// All calls of some lines of such a text behind its first, numbered as though they stood right behind that.
+    /// Begins at the first of these lines, which are lines after the first of a session text. The first of them has number 2.
     pub fn of_lines(lines: &'a [u8]) -> SessionCalls<'a>
         ensures { result ≡ record { number = 2; lines = lines_of lines.now } }
     {
@@ -52,8 +55,8 @@ impl<'a> SessionCalls<'a> {
         }
     }
 
-    /// The next call with its process; nothing at the end of the text. The number with a refusal is that of the line at
-    /// fault, counted from 1, and 0 where memory was refused.
+    /// Returns the next call with its process, or `None` at the end of the text. Fails with the line's number, counted from 1,
+    /// and its parse error; the number is 0 for `OutOfMemory`.
     #[inline(always)]
     pub fn next(&mut self, alloc: Global) -> Result<Option<(Koid, Call)>, (u64, Refusal)>
         ensures read { IfOk result (λ made. next_call self.old ≡ Ok (made, self.new)) }
@@ -75,7 +78,7 @@ impl<'a> SessionCalls<'a> {
         Ok(None)
     }
 
-    /// Reads all calls left, and lets them go.
+    /// Reads all calls that are left, and drops them. Errors are those of `next`.
     pub fn read_rest(&mut self, alloc: Global) -> Result<(), (u64, Refusal)>
         ensures read { OnOk result (is_ok (calls_left self.old) ≡ true) }
         ensures refused { IfErr result (IsFaultOf (has_call self.old.lines) (calls_left self.old)) }
@@ -84,7 +87,7 @@ impl<'a> SessionCalls<'a> {
         Ok(())
     }
 
-    /// How many calls are left, if each line left reads. It takes no memory.
+    /// Returns how many calls are left, if all lines that are left can be parsed. Never allocates.
     pub fn count(&self) -> usize
         ensures { result ≡ calls_counted self.now.lines }
     {

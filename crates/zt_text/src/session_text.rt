@@ -1,3 +1,5 @@
+//! Reads a session text of version 1.
+
 ghost use Rattle.std.specs.Prelude.{◌≡◌, ◌∷◌, ◌<◌, true, length, is_some, IfOk, IfErr};
 ghost use Rattle.zt_text.specs.Lines.{lines_of};
 ghost use Rattle.zt_text.specs.ReadLines.{IsUnread};
@@ -12,8 +14,10 @@ use crate::session_calls::SessionCalls;
 use std::alloc::Global;
 use zt_rows::{Call, Koid, Refusal};
 
-/// The calls of a session text in their order: behind its first line `zxtt 1` each line is a call, or empty, or begins
-/// with `#`. The number with a refusal is that of the line at fault, counted from 1, and 0 where memory was refused.
+/// Reads the calls of a session text of version 1, in order. The first line is `zxtt 1`. Each line after it is a call, or is
+/// empty, or begins with `#`.
+///
+/// Fails with the line's number, counted from 1, and its parse error; the number is 0 for `OutOfMemory`.
 pub fn read_session(alloc: Global, text: &[u8]) -> Result<Vec<(Koid, Call)>, (u64, Refusal)>
     ensures read { IfOk result (λ calls. session_of text.now ≡ Ok calls.items) }
     ensures refused { IfErr result (λ fault. IsFaultOf (session_has_call text.now) (session_of text.now) fault) }
@@ -29,7 +33,7 @@ pub fn read_session(alloc: Global, text: &[u8]) -> Result<Vec<(Koid, Call)>, (u6
     Ok(calls)
 }
 
-/// The first line of some bytes, and those behind its line feed.
+/// Returns the first line, and the bytes after its line feed.
 pub(crate) fn next_line(bytes: &[u8]) -> (&[u8], &[u8])
     requires { 0 < length bytes.now }
     ensures lines { lines_of bytes.now ≡ result.0.now ∷ lines_of result.1.now }
@@ -42,7 +46,7 @@ pub(crate) fn next_line(bytes: &[u8]) -> (&[u8], &[u8])
     }
 }
 
-/// Nothing, where this is the first line of a session text.
+/// Fails if this is not the first line of a session text of version 1.
 pub(crate) fn first_line(line: &[u8]) -> Result<(), Refusal>
     ensures { result ≡ first_line line.now }
 {
@@ -55,7 +59,7 @@ pub(crate) fn first_line(line: &[u8]) -> Result<(), Refusal>
     }
 }
 
-/// A fault with the number of its line; a want of memory has no line.
+/// Pairs a parse error with the number of its line. `OutOfMemory` belongs to no line, and gets 0.
 pub(crate) fn fault_at(number: u64, fault: Refusal) -> (u64, Refusal)
     ensures { result ≡ fault_at number fault }
 {
@@ -65,7 +69,7 @@ pub(crate) fn fault_at(number: u64, fault: Refusal) -> (u64, Refusal)
     }
 }
 
-/// The call of a line; none, where it is empty or begins with `#`.
+/// Reads the call of a line; `None` if the line is skipped.
 #[inline(always)]
 #[tactic(auto, unfolding(crate::specs::Session::call_in))]
 pub(crate) fn call_in(alloc: Global, line: &[u8]) -> Result<Option<(Koid, Call)>, Refusal>
@@ -78,7 +82,7 @@ pub(crate) fn call_in(alloc: Global, line: &[u8]) -> Result<Option<(Koid, Call)>
     }
 }
 
-/// A process and its call.
+/// Reads a process and its call.
 #[inline(always)]
 #[tactic(auto, unfolding(crate::specs::ReadCalls::process_call))]
 pub(crate) fn process_call(alloc: Global, fields: Fields<'_>) -> Result<(Koid, Call), Refusal>
@@ -89,8 +93,8 @@ pub(crate) fn process_call(alloc: Global, fields: Fields<'_>) -> Result<(Koid, C
     Ok((process, call(alloc, rest)?))
 }
 
-/// The line of the call with this number, counted from 0, in a session text that reads: lines are counted from 1, and
-/// skipped ones too. It is 0 where there are not so many calls. It takes no memory.
+/// Returns the line number of a call in a session text without parse errors. Calls are counted from 0, and lines from 1, skipped
+/// lines included. Returns 0 if there are not so many calls. Never allocates.
 pub fn line_of_call(text: &[u8], call: u64) -> u64
     ensures { result ≡ line_of_call text.now call }
 {
@@ -101,7 +105,7 @@ pub fn line_of_call(text: &[u8], call: u64) -> u64
     line_of_call_in(calls, call)
 }
 
-/// As `line_of_call`, in the lines behind the first.
+/// Returns the line number of a call, as `line_of_call` does, in the lines after the first.
 fn line_of_call_in(text: &[u8], call: u64) -> u64
     ensures { result ≡ line_of_call_in 2 call (lines_of text.now) }
 {

@@ -1,10 +1,12 @@
+//! Shows that numbers, masks and bytes are in the ranges of their types.
+
 ghost use Rattle.std.specs.List.{All};
 ghost use Rattle.zt_text.specs.Calls.{IsByte, IsHandle, IsMask, IsKey, IsCode};
 ghost use Rattle.zt_text.specs.Rows.{IsHeldWithin, IsLifeWithin, IsPacketWithin};
 
 use zt_rows::{HandleValue, Held, Life, Packet};
 
-/// A value of a handle has 32 bits.
+/// A handle value has 32 bits.
 pub fn handle_is_within(handle: HandleValue)
     ensures { IsHandle handle }
 {
@@ -41,7 +43,7 @@ pub fn bytes_are_within(bytes: &[u8])
     }
 }
 
-/// Each value of a handle has 32 bits.
+/// Each handle value has 32 bits.
 pub fn handles_are_within(handles: &[HandleValue])
     ensures { All IsHandle handles.now }
 {
@@ -50,7 +52,7 @@ pub fn handles_are_within(handles: &[HandleValue])
     }
 }
 
-/// What a handle holds has a koid of 64 bits and rights of 32.
+/// A held handle has a koid of 64 bits and rights of 32 bits.
 pub fn held_is_within(held: Held)
     ensures { IsHeldWithin held }
 {
@@ -58,7 +60,7 @@ pub fn held_is_within(held: Held)
     mask_is_within(held.rights.0);
 }
 
-/// So has each of several.
+/// Each held handle has a koid of 64 bits and rights of 32 bits.
 pub fn handles_held_are_within(handles: &[Held])
     ensures { All IsHeldWithin handles.now }
 {
@@ -67,7 +69,7 @@ pub fn handles_held_are_within(handles: &[Held])
     }
 }
 
-/// The code with which a process exited has 64 bits and a sign.
+/// The exit code of a process has 64 bits and a sign.
 pub fn life_is_within(life: Life)
     ensures { IsLifeWithin life }
 {
@@ -76,7 +78,7 @@ pub fn life_is_within(life: Life)
     }
 }
 
-/// The numbers, masks and bytes of a packet are those of their types.
+/// The numbers, masks and bytes of a packet are in the ranges of their types.
 pub fn packet_is_within(packet: &Packet)
     ensures { IsPacketWithin packet.now }
 {

@@ -1,3 +1,5 @@
+//! The arguments of a `channel_write`, before its parcel is allocated.
+
 ghost use Rattle.std.specs.Prelude.{◌≡◌, IfOk, IfErr};
 ghost use Rattle.zt_rows.specs.declared.calls.Call.TheVariants.{ChannelWrite};
 ghost use Rattle.zt_rows.specs.declared.refusals.Refusal.TheVariants.{OutOfMemory};
@@ -8,7 +10,7 @@ use std::alloc::Global;
 use std::marker::Model;
 use zt_rows::{Call, HandleValue, Parcel, Refusal};
 
-/// A `channel_write` as its line writes it, which takes no memory.
+/// A `channel_write` as its line has it, without memory of its own.
 #[derive(Drop)]
 pub struct Write<'a> {
     handle: HandleValue,
@@ -26,7 +28,7 @@ impl<'a> Model for Write<'a> {
 }
 
 impl<'a> Write<'a> {
-    /// The write to a handle of these bytes and handles.
+    /// A write of these bytes and handles to a handle.
     pub fn new(handle: HandleValue, bytes: Digits<'a>, handles: HandleList<'a>) -> Write<'a>
         ensures { result ≡ ChannelWrite handle (record { bytes = bytes.entry; handles = handles.entry }) }
     {
@@ -37,7 +39,7 @@ impl<'a> Write<'a> {
         }
     }
 
-    /// The call, whose parcel takes memory.
+    /// Makes the call, and allocates its parcel. Its only error is `OutOfMemory`.
     pub fn to_call(&self, alloc: Global) -> Result<Call, Refusal>
         ensures ok { IfOk result (λ call. call ≡ self.now) }
         ensures refused { IfErr result (λ refusal. refusal ≡ OutOfMemory) }

@@ -1,3 +1,5 @@
+//! The tests, a module for each subject.
+
 mod accounts;
 mod books;
 mod cascades;

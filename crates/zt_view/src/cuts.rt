@@ -1,4 +1,4 @@
-//! Texts that are cut at a separator, their words, and numbers that are written in decimal.
+//! Cuts texts at separators, and reads decimal numbers.
 
 ghost use Rattle.std.specs.Prelude.{◌≡◌, ◌+◌, ◌-◌, ◌*◌, ◌^◌, ◌<◌, ◌≤◌, ◌==◌, length, position, IfSome, IsTrue};
 ghost use Rattle.std.specs.Char.{is_ascii_digit};
@@ -11,7 +11,7 @@ ghost use Rattle.zt_view.specs.Cuts.{before, behind};
 
 use zt_rows::{Koid, Moment};
 
-/// The bytes before the first separator, and those behind it, if it is there.
+/// Cuts the bytes at the first separator. The second part is `None` if there is no separator.
 pub fn cut(bytes: &[u8], separator: u8) -> (&[u8], Option<&[u8]>)
     ensures before { result.0.now ≡ before separator bytes.now }
     ensures behind { option_map (λ rest. rest.now) result.1 ≡ behind separator bytes.now }
@@ -23,7 +23,7 @@ pub fn cut(bytes: &[u8], separator: u8) -> (&[u8], Option<&[u8]>)
     }
 }
 
-/// Where the first separator stands.
+/// Returns the place of the first separator.
 fn first_of(bytes: &[u8], separator: u8) -> Option<usize>
     ensures at { result ≡ position (λ byte. byte == separator) bytes.now }
     ensures inside { IfSome result (λ place. place < length bytes.now) }
@@ -38,7 +38,7 @@ pub fn is(bytes: &[u8], word: &str) -> bool
     bytes == word.as_bytes()
 }
 
-/// The moment that the bytes write.
+/// Reads the bytes as a moment.
 pub fn moment(bytes: &[u8]) -> Option<Moment>
     ensures { result ≡ moment_of bytes.now }
 {
@@ -48,7 +48,7 @@ pub fn moment(bytes: &[u8]) -> Option<Moment>
     }
 }
 
-/// The koid that the bytes write.
+/// Reads the bytes as a koid.
 pub fn koid(bytes: &[u8]) -> Option<Koid>
     ensures { result ≡ koid_of bytes.now }
 {
@@ -58,7 +58,7 @@ pub fn koid(bytes: &[u8]) -> Option<Koid>
     }
 }
 
-/// The number that the bytes write in decimal digits, without leading zeros and up to `most`.
+/// Reads a decimal number of at most `most`, without leading zeros.
 #[tactic(auto, unfolding(zt_text::specs::Numbers::decimal_of))]
 fn decimal(bytes: &[u8], most: u64) -> Option<u64>
     ensures value { result ≡ decimal_of most bytes.now }
@@ -73,14 +73,14 @@ fn decimal(bytes: &[u8], most: u64) -> Option<u64>
     }
 }
 
-/// Whether a zero stands before other digits.
+/// Whether a zero is followed by other digits.
 fn has_leading_zero(bytes: &[u8]) -> bool
     ensures { result ≡ has_leading_zero bytes.now }
 {
     bytes.len() > 1 && bytes[0] == b'0'
 }
 
-/// The number that the digits write, where they are digits and it fits.
+/// Returns the number that these bytes write in decimal. Returns `None` if a byte is no digit or the number does not fit.
 fn digits(bytes: &[u8]) -> Option<u64>
     ensures { SomeIff result (IsTrue (list_all is_ascii_digit bytes.now) × (digits_value 10 bytes.now < 2 ^ 64))
         (digits_value 10 bytes.now) }
@@ -92,7 +92,7 @@ fn digits(bytes: &[u8]) -> Option<u64>
     Some(number)
 }
 
-/// The number that one digit more makes.
+/// Appends one more digit to a number. Returns `None` if the byte is no digit or the number does not fit.
 fn with_digit(number: u64, byte: u8) -> Option<u64>
     ensures { SomeIff result (IsTrue (is_ascii_digit byte) × (number * 10 + (byte - 48) < 2 ^ 64))
         (number * 10 + (byte - 48)) }

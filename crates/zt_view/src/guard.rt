@@ -1,5 +1,5 @@
-//! Which requests are let in: those alone that a page of this server, or a person's own program, sends to it by its own
-//! name. So no page from elsewhere can talk to it, whatever name it has made a browser resolve to this machine.
+//! Decides which requests are admitted: those that a page of this server, or a person's own program, sends to it by its own name.
+//! So no page from elsewhere can talk to it, whatever name it has made a browser resolve to this machine.
 
 ghost use Rattle.std.specs.Prelude.{◌≤◌, ◌↔◌, All, IfErr, IfOk, IsTrue, OnErr, OnOk, codes};
 ghost use Rattle.http_header.specs.HeaderMap.{get_all};
@@ -8,12 +8,12 @@ ghost use Rattle.zt_view.specs.Guard.{IsAskedOnSite, IsOwnSite};
 use http::{HeaderMap, HeaderValue, StatusCode, Uri, header};
 use std::alloc::{AllocError, Global};
 
-/// What the server is called: its address and its name, each with its port.
+/// The server's own names: its address and its name, each with its port.
 #[derive(Drop)]
 pub struct Own {
     pub address: String,
     pub name: String,
-    /// Whether the port is that of HTTP, which browsers leave out of both.
+    /// Whether the port is that of HTTP, which browsers leave out of the address and the name.
     pub is_port_left_out: bool,
 }
 
@@ -23,7 +23,7 @@ const HTTP: u16 = 80;
 impl Own {
     ghost use Rattle.zt_view.specs.Guard.{IsAdmitted, IsAskedOf, IsOwnHost, IsOwnOf, IsOwnOrigin};
 
-    /// What a server at this port is called.
+    /// Makes the names of a server at this port.
     pub fn new(alloc: Global, port: u16) -> Result<Own, AllocError>
         ensures { IfOk result (IsOwnOf port) }
     {
@@ -34,7 +34,7 @@ impl Own {
         })
     }
 
-    /// Whether a request for this target with these headers is let in, or else the status of its answer.
+    /// Whether a request for this target with these headers is admitted. If it is not, the error is the status of the response.
     pub fn admits(&self, target: &Uri, headers: &HeaderMap) -> Result<(), StatusCode>
         ensures admitted { OnOk result (IsAdmitted self.now target.now headers.now) }
         ensures foreign { OnErr result (¬ (IsAdmitted self.now target.now headers.now)) }
@@ -53,7 +53,7 @@ impl Own {
         }
     }
 
-    /// Whether there is one host in the headers, and it is this server.
+    /// Whether the headers name exactly one host, and it is this server.
     fn is_asked(&self, headers: &HeaderMap) -> bool
         ensures { IsTrue result ↔ IsAskedOf self.now (get_all headers.now (codes "host")) }
     {
@@ -89,7 +89,7 @@ impl Own {
         }
     }
 
-    /// Whether this is the server's address or name, with its port where browsers do not leave it out.
+    /// Whether this is the server's address or name, with its port unless browsers leave it out.
     fn is_host(&self, host: &[u8]) -> bool
         ensures { IsTrue result ↔ IsOwnHost self.now host.now }
     {
@@ -101,8 +101,8 @@ impl Own {
     }
 }
 
-/// Whether no browser says that a page of another site asks: there is no such header, or there is one and it says that a page of
-/// this server or a person does.
+/// Whether no browser says that a page of another site asks. This is so if the header is missing, or if there is exactly one and
+/// it names a page of this server or a person.
 fn is_asked_on_site(headers: &HeaderMap) -> bool
     ensures { IsTrue result ↔ IsAskedOnSite (get_all headers.now (codes "sec-fetch-site")) }
 {
@@ -116,7 +116,7 @@ fn is_asked_on_site(headers: &HeaderMap) -> bool
     }
 }
 
-/// Whether a browser says so of a page of the server, or of a person.
+/// Whether a browser says that a page of this server, or a person, asks.
 fn is_own_site(site: &[u8]) -> bool
     ensures { IsTrue result ↔ IsOwnSite site.now }
 {

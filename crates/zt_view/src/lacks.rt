@@ -1,4 +1,4 @@
-//! Why a request asks for nothing that there is.
+//! Explains why a request asks for nothing that exists.
 
 ghost use Rattle.std.specs.Prelude.{◌≡◌, ◌≤◌};
 ghost use Rattle.zt_view.specs.Lacks.{lack_of, lack_status, lack_text, taking_text};
@@ -6,20 +6,20 @@ ghost use Rattle.zt_view.specs.Lacks.{lack_of, lack_status, lack_text, taking_te
 use crate::cuts::is;
 use http::StatusCode;
 
-/// Why a request asks for nothing that there is.
+/// Why a request asks for nothing that exists.
 #[derive(Clone, Copy)]
 pub enum Lack {
-    /// There is no such path.
+    /// No such path exists.
     NoPath,
-    /// The path takes other words behind its first one.
+    /// The path needs other words after its first one.
     Takes(Taking),
-    /// The path is asked for by `GET`.
+    /// The path needs `GET`.
     AskedByGet,
-    /// The path is asked for by `POST`.
+    /// The path needs `POST`.
     AskedByPost,
 }
 
-/// The first word of a path that takes others.
+/// The first word of a path that needs more words.
 #[derive(Clone, Copy)]
 pub enum Taking {
     Change,
@@ -30,7 +30,7 @@ pub enum Taking {
 }
 
 impl Lack {
-    /// The status that tells it.
+    /// Returns the status of the response.
     pub fn status(self) -> StatusCode
         ensures status { result ≡ lack_status self }
         ensures refusal { 400 ≤ result }
@@ -42,7 +42,7 @@ impl Lack {
         }
     }
 
-    /// The line that tells it.
+    /// Returns the line of the response.
     pub fn text(self) -> &'static str
         ensures { result.now ≡ lack_text self }
     {
@@ -58,7 +58,7 @@ impl Lack {
 }
 
 impl Taking {
-    /// The line that tells what the path takes.
+    /// Returns the line that says which words the path needs.
     fn text(self) -> &'static str
         ensures { result.now ≡ taking_text self }
     {
@@ -76,7 +76,7 @@ impl Taking {
     }
 }
 
-/// What a path lacks that begins with this word and asks for nothing.
+/// Returns what is wrong with a path that begins with this word and asks for nothing.
 #[tactic(auto, unfolding(crate::specs::Lacks::lack_of))]
 pub fn lack_of(word: &[u8]) -> Lack
     ensures { result ≡ lack_of word.now }

@@ -1,4 +1,4 @@
-//! A history that is viewed in a browser: what each request asks for, which requests are let in, and how each is answered.
+//! Answers the requests of browsers about a history: what each asks for, whether it is admitted, and its response.
 #![tactic(auto)]
 
 mod cuts;

@@ -1,4 +1,4 @@
-//! The page that a browser shows.
+//! The parts of the page that a browser shows.
 
 mod index;
 mod script;
@@ -18,7 +18,7 @@ pub enum Part {
 }
 
 impl Part {
-    /// Its text.
+    /// Returns the text of the part.
     pub fn text(self) -> &'static str {
         match self {
             Part::Index => index(),
@@ -27,7 +27,7 @@ impl Part {
         }
     }
 
-    /// What it is.
+    /// Returns the content type of the part.
     pub fn content(self) -> Content {
         match self {
             Part::Index => Content::Html,

@@ -1,4 +1,4 @@
-//! The moments of a path, in ranges.
+//! Prints the moments of a path as ranges.
 
 ghost use Rattle.std.specs.Prelude.{◌≡◌, ◌++◌, if◌then◌else◌, IfErr, IfOk, OnOk, Ok, nat_le, reverse, take};
 ghost use Rattle.std.specs.List.{flat_map};
@@ -10,17 +10,18 @@ use std::alloc::{AllocError, Global};
 use zt_history::History;
 use zt_rows::{Moment, Refusal};
 
-/// The most ranges of an answer. Who asks for the rest asks from behind the last one.
+/// How many ranges an answer has at most. To get the rest, ask again from the moment after the last one.
 const MOST_RANGES: usize = 16_384;
 
-/// Moments that follow one another by one, from the first to the last.
+/// Consecutive moments, from the first to the last.
 #[derive(Clone, Copy)]
 pub struct MomentRange {
     pub first: Moment,
     pub last: Moment,
 }
 
-/// The lines of the first ranges that the path to a moment has from another one on, as many as an answer may have.
+/// Prints the ranges of the path to `at`, from the moment `from` on; at most `MOST_RANGES` of them. Fails with `NoMoment` if `at`
+/// does not exist, and with `OutOfMemory`.
 pub fn path_lines(
     alloc: Global,
     history: &History,
@@ -40,7 +41,7 @@ pub fn path_lines(
     Ok(text)
 }
 
-/// The ranges of the moments of a path from this one on.
+/// Returns the ranges of a path, from this moment on.
 fn ranges_from(alloc: Global, way: &[Moment], from: Moment) -> Result<Vec<MomentRange>, AllocError>
     ensures { IfOk result (λ list. list.items ≡ ranges_from from way.now) }
 {
@@ -52,7 +53,7 @@ fn ranges_from(alloc: Global, way: &[Moment], from: Moment) -> Result<Vec<Moment
     Ok(list)
 }
 
-/// Puts a moment ahead of ranges, of which the first is the last of the list, if it is this one or a later one.
+/// Puts a moment in front of the ranges, unless it is before `from`. The list has the ranges in reverse order.
 fn put_if_from(list: &mut Vec<MomentRange>, moment: Moment, from: Moment) -> Result<(), AllocError>
     ensures { OnOk result (reverse list.new.items ≡ (if nat_le from moment then begun_by moment (reverse list.old.items) else reverse list.old.items)) }
 {
@@ -63,7 +64,8 @@ fn put_if_from(list: &mut Vec<MomentRange>, moment: Moment, from: Moment) -> Res
     }
 }
 
-/// Puts a moment ahead of ranges, of which the first is the last of the list: that one begins with it, if it is the next one.
+/// Puts a moment in front of the ranges. The list has them in reverse order. If the first range begins with the next moment, it
+/// now begins with this one.
 fn put_ahead(list: &mut Vec<MomentRange>, moment: Moment) -> Result<(), AllocError>
     ensures { OnOk result (reverse list.new.items ≡ begun_by moment (reverse list.old.items)) }
 {
@@ -82,7 +84,7 @@ fn put_ahead(list: &mut Vec<MomentRange>, moment: Moment) -> Result<(), AllocErr
     Ok(())
 }
 
-/// The range of one moment.
+/// A range of one moment.
 fn alone(moment: Moment) -> MomentRange
     ensures first { result.first ≡ moment }
     ensures last { result.last ≡ moment }
@@ -93,14 +95,14 @@ fn alone(moment: Moment) -> MomentRange
     }
 }
 
-/// Whether the second moment follows the first by one.
+/// Whether `next` is one more than `moment`.
 fn is_next(moment: Moment, next: Moment) -> bool
     ensures { result ≡ is_next moment next }
 {
     moment < next && next.0 - moment.0 == 1
 }
 
-/// Puts ranges behind a text.
+/// Appends ranges.
 fn put_ranges(alloc: Global, text: &mut Vec<u8>, ranges: &[MomentRange]) -> Result<(), AllocError>
     ensures { OnOk result (text.new.items ≡ text.old.items ++ flat_map range_line ranges.now) }
 {
@@ -110,7 +112,7 @@ fn put_ranges(alloc: Global, text: &mut Vec<u8>, ranges: &[MomentRange]) -> Resu
     Ok(())
 }
 
-/// The line of a range.
+/// Prints the line of a range.
 fn print_range(alloc: Global, range: &MomentRange) -> Result<Vec<u8>, AllocError>
     ensures { IfOk result (λ text. text.items ≡ range_line range.now) }
 {

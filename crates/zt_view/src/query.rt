@@ -1,4 +1,4 @@
-//! What the words of a query ask for.
+//! Reads the words of a query.
 
 ghost use Rattle.std.specs.Prelude.{◌≡◌};
 ghost use Rattle.zt_text.specs.Fields.{parts_of};
@@ -8,7 +8,7 @@ use crate::cuts::{cut, is, koid};
 use zt_look::{CallFilter, HappeningSet};
 use zt_rows::Koid;
 
-/// Of these calls those that the words of a query ask for; nothing, where a word is unknown.
+/// Returns the filter with what the words of a query ask for. Returns `None` if a word is unknown.
 pub fn calls_wanted(all: CallFilter, query: &[u8]) -> Option<CallFilter>
     ensures { result ≡ calls_wanted all query.now }
 {
@@ -19,7 +19,7 @@ pub fn calls_wanted(all: CallFilter, query: &[u8]) -> Option<CallFilter>
     }
 }
 
-/// Of these calls those that the words of a text ask for, of which there is one at least.
+/// Returns the filter with what the words of a text ask for; there is at least one word.
 #[tactic(auto, using(crate::proofs::CutLaws::words_alone, crate::proofs::CutLaws::words_more, crate::proofs::QueryLaws::none_wanted))]
 fn wanted_by(wanted: CallFilter, words: &[u8]) -> Option<CallFilter>
     ensures { result ≡ wanted_by wanted (parts_of 38 words.now) }
@@ -32,7 +32,7 @@ fn wanted_by(wanted: CallFilter, words: &[u8]) -> Option<CallFilter>
     }
 }
 
-/// Of these calls those that one word more asks for.
+/// Returns the filter with what one more word asks for.
 #[tactic(auto, unfolding(crate::specs::Requests::wanted_with))]
 fn wanted_with(wanted: CallFilter, word: &[u8]) -> Option<CallFilter>
     ensures { result ≡ wanted_with wanted word.now }
@@ -56,7 +56,7 @@ fn wanted_with(wanted: CallFilter, word: &[u8]) -> Option<CallFilter>
     }
 }
 
-/// Of these calls those that a process made, or that are about an object.
+/// Returns the filter for calls that a process made, or that are about an object.
 #[tactic(auto, unfolding(crate::specs::Requests::wanted_of))]
 fn wanted_of(wanted: CallFilter, name: &[u8], koid: Koid) -> Option<CallFilter>
     ensures { result ≡ wanted_of wanted name.now koid }
@@ -76,7 +76,7 @@ fn wanted_of(wanted: CallFilter, name: &[u8], koid: Koid) -> Option<CallFilter>
     }
 }
 
-/// The happenings that the words of a query ask for, all of them where there is no word; nothing, where a word is unknown.
+/// Returns the happenings that the words of a query ask for, or all if there are no words. Returns `None` if a word is unknown.
 pub fn happenings_wanted(query: &[u8]) -> Option<HappeningSet>
     ensures { result ≡ happenings_wanted query.now }
 {
@@ -87,7 +87,7 @@ pub fn happenings_wanted(query: &[u8]) -> Option<HappeningSet>
     }
 }
 
-/// All happenings, or none.
+/// Returns all happenings, or none.
 fn each_happening(is: bool) -> HappeningSet
     ensures { result ≡ each_happening is }
 {
@@ -99,7 +99,7 @@ fn each_happening(is: bool) -> HappeningSet
     }
 }
 
-/// These happenings with those that the words of a text name, of which there is one at least.
+/// Returns these happenings with those that the words of a text name; there is at least one word.
 #[tactic(auto, using(crate::proofs::CutLaws::words_alone, crate::proofs::CutLaws::words_more, crate::proofs::QueryLaws::none_named))]
 fn happenings_by(wanted: HappeningSet, words: &[u8]) -> Option<HappeningSet>
     ensures { result ≡ happenings_by wanted (parts_of 38 words.now) }
@@ -112,7 +112,7 @@ fn happenings_by(wanted: HappeningSet, words: &[u8]) -> Option<HappeningSet>
     }
 }
 
-/// These happenings with the one that the word names.
+/// Returns these happenings with the one that the word names.
 #[tactic(auto, unfolding(crate::specs::Requests::happenings_with))]
 fn happenings_with(wanted: HappeningSet, word: &[u8]) -> Option<HappeningSet>
     ensures { result ≡ happenings_with wanted word.now }

@@ -1,4 +1,4 @@
-//! Questions about a history, and the lines that answer them.
+//! Answers questions about a history.
 
 ghost use Rattle.std.specs.Prelude.{◌≡◌, false, ◌≤◌, ◌++◌, IfErr, IfOk, OnOk, length};
 ghost use Rattle.std.specs.List.{flat_map};
@@ -22,16 +22,16 @@ use zt_look::{
 };
 use zt_rows::{Call, Happening, Koid, Moment, Refusal};
 
-/// What is asked of a history. None of it shows rights and signals by their names.
+/// A question about a history. Its answer has masks, and no names, for rights and signals.
 #[derive(Clone, Copy)]
 pub enum ViewQuestion {
-    /// What the call of a moment changed.
+    /// The rows that the call of a moment changed.
     Change(Moment),
-    /// The calls on the path to a moment that are asked for.
+    /// The calls on the path to a moment that the filter selects.
     Calls(Moment, CallFilter),
-    /// What happened to objects on the path to a moment, as far as it is asked for.
+    /// The events on the path to a moment that the filter selects.
     Events(Moment, EventFilter),
-    /// The moments of the path to a moment, from another one on.
+    /// The moments of the path to the first moment, from the second one on.
     Path(Moment, Moment),
     /// An object at a moment.
     Object(Koid, Moment),
@@ -39,7 +39,7 @@ pub enum ViewQuestion {
     Branches,
 }
 
-/// A question with the memory that its answer takes.
+/// A question, with the allocator for its answer.
 #[derive(Clone, Copy)]
 struct Asking {
     alloc: Global,
@@ -60,7 +60,7 @@ impl TreeLook for Asking {
     }
 }
 
-/// What a book has for an answer to a question; its history, its clients and its log are as before.
+/// Returns the lines that answer a question. History, clients and log of the book are unchanged.
 pub fn found(alloc: Global, book: &mut Book, question: ViewQuestion) -> Result<Vec<u8>, Refusal>
     requires { 1 ≤ length book.old.session.clients }
     ensures answer { IfOk result (λ text. IsAnswer question book.old.session.tree text.items) }
@@ -71,7 +71,7 @@ pub fn found(alloc: Global, book: &mut Book, question: ViewQuestion) -> Result<V
     book.look(&Asking { alloc, question })
 }
 
-/// The lines that answer a question about a history.
+/// Returns the lines that answer a question about a history.
 fn lines_of(alloc: Global, history: &mut History, asked: &ViewQuestion) -> Result<Vec<u8>, Refusal>
     ensures answer { IfOk result (λ text. IsAnswer asked.now history.old.tree text.items) }
     ensures none { IfErr result (IsUnanswered asked.now history.old.tree) }
@@ -87,7 +87,7 @@ fn lines_of(alloc: Global, history: &mut History, asked: &ViewQuestion) -> Resul
     }
 }
 
-/// The rows that the call of a moment changed.
+/// Prints the rows that the call of a moment changed.
 fn change_lines(alloc: Global, history: &mut History, moment: Moment) -> Result<Vec<u8>, Refusal>
     ensures answer { IfOk result (λ text. IsAnswer (question.Change moment) history.old.tree text.items) }
     ensures none { IfErr result (IsUnanswered (question.Change moment) history.old.tree) }
@@ -99,7 +99,7 @@ fn change_lines(alloc: Global, history: &mut History, moment: Moment) -> Result<
     Ok(text)
 }
 
-/// Puts rows that a call changed behind a text.
+/// Appends rows that a call changed.
 fn put_changes(alloc: Global, text: &mut Vec<u8>, list: &[Change]) -> Result<(), AllocError>
     ensures { OnOk result (text.new.items ≡ text.old.items ++ flat_map (change_lines masks) list.now) }
 {
@@ -109,7 +109,7 @@ fn put_changes(alloc: Global, text: &mut Vec<u8>, list: &[Change]) -> Result<(),
     Ok(())
 }
 
-/// The calls of the path that are asked for.
+/// Prints the calls of the path that the filter selects.
 fn call_lines(
     alloc: Global,
     history: &mut History,
@@ -126,7 +126,7 @@ fn call_lines(
     Ok(text)
 }
 
-/// Puts calls behind a text.
+/// Appends calls.
 fn put_calls(alloc: Global, text: &mut Vec<u8>, list: &[CallMade]) -> Result<(), AllocError>
     ensures { OnOk result (text.new.items ≡ text.old.items ++ flat_map (call_made_line masks) list.now) }
 {
@@ -136,7 +136,7 @@ fn put_calls(alloc: Global, text: &mut Vec<u8>, list: &[CallMade]) -> Result<(),
     Ok(())
 }
 
-/// What happened to objects on the path, of what is asked for.
+/// Prints the events on the path that the filter selects.
 fn event_lines(
     alloc: Global,
     history: &mut History,
@@ -153,7 +153,7 @@ fn event_lines(
     Ok(text)
 }
 
-/// Puts events behind a text, each with the call of its moment.
+/// Appends events, each with the call of its moment.
 fn put_events(
     alloc: Global,
     text: &mut Vec<u8>,
@@ -168,7 +168,7 @@ fn put_events(
     Ok(())
 }
 
-/// Puts one event, with the call of its moment, behind a text.
+/// Appends one event, with the call of its moment.
 fn put_event(
     alloc: Global,
     text: &mut Vec<u8>,
@@ -186,7 +186,7 @@ fn put_event(
     }
 }
 
-/// An object at a moment, and when each of the four happened to it.
+/// Prints an object at a moment, and when each of the four happenings happened to it.
 #[tactic(auto, using(crate::proofs::ObjectLaws::unanswered_way, crate::proofs::ObjectLaws::unanswered_there, crate::proofs::ObjectLaws::unanswered_memory))]
 fn object_lines(
     alloc: Global,
@@ -205,7 +205,7 @@ fn object_lines(
     Ok(text)
 }
 
-/// Puts when each of the four happened to an object behind a text.
+/// Appends when each of the four happenings happened to an object.
 fn put_times(
     alloc: Global,
     text: &mut Vec<u8>,
@@ -221,7 +221,7 @@ fn put_times(
     put_time(alloc, text, history, Happening::Leaked, object.leaked)
 }
 
-/// Puts when one of the four happened behind a text.
+/// Appends when one happening happened.
 fn put_time(
     alloc: Global,
     text: &mut Vec<u8>,
@@ -236,7 +236,7 @@ fn put_time(
     text.extend_from_slice(line.as_slice())
 }
 
-/// The call of a moment, if there is one.
+/// Returns the call of a moment, if there is one.
 fn call_at(history: &History, moment: Option<Moment>) -> Option<(Moment, Koid, &Call)>
     ensures { option_map (λ e. (e.0, e.1, e.2.now)) result ≡ found_at history.now.tree.made moment }
 {
@@ -249,7 +249,7 @@ fn call_at(history: &History, moment: Option<Moment>) -> Option<(Moment, Koid, &
     }
 }
 
-/// The branches.
+/// Prints the branches.
 fn branch_lines(alloc: Global, history: &History) -> Result<Vec<u8>, Refusal>
     ensures answer { IfOk result (λ text. IsAnswer question.Branches history.now.tree text.items) }
     ensures none { IfErr result (λ reason. reason ≡ refusal.OutOfMemory) }
@@ -260,7 +260,7 @@ fn branch_lines(alloc: Global, history: &History) -> Result<Vec<u8>, Refusal>
     Ok(text)
 }
 
-/// Puts branches behind a text.
+/// Appends branches.
 fn put_branches(
     alloc: Global,
     text: &mut Vec<u8>,
@@ -275,7 +275,7 @@ fn put_branches(
     Ok(())
 }
 
-/// Puts one branch behind a text.
+/// Appends one branch.
 fn put_branch(
     alloc: Global,
     text: &mut Vec<u8>,
@@ -292,7 +292,7 @@ fn put_branch(
     text.extend_from_slice(line.as_slice())
 }
 
-/// The name of a branch, if it is there.
+/// Returns the name of a branch, or no bytes if there is no such branch.
 fn name_of(history: &History, id: BranchId) -> &[u8]
     ensures { result.now ≡ name_at history.now.tree.branches id }
 {

@@ -1,4 +1,4 @@
-//! What requests ask for.
+//! Reads what requests ask for.
 
 ghost use Rattle.std.specs.Prelude.{◌≡◌, option_copied};
 ghost use Rattle.zt_view.specs.Requests.{asked_at, asked_by, calls_asked, change_asked, events_asked, is_few, method_lack, method_of, named, object_asked, of_numbers, part_asked, path_asked, wish};
@@ -11,8 +11,7 @@ use crate::question::ViewQuestion;
 use zt_look::{CallFilter, EventFilter};
 use zt_rows::Moment;
 
-/// The most moments from the first to the last of which a request may ask for calls or events, so that none keeps others waiting
-/// for long.
+/// A request may ask for the calls or events of at most this many moments, so that it does not keep others waiting for long.
 const MOST_MOMENTS: u64 = 16_384;
 
 /// What a request asks for.
@@ -20,7 +19,7 @@ const MOST_MOMENTS: u64 = 16_384;
 pub enum ViewRequest {
     /// A part of the page.
     Page(Part),
-    /// That the lines of its body are answered.
+    /// The answers to the lines of its body.
     Lines,
     /// The name of the trace that the history began with.
     Trace,
@@ -28,11 +27,11 @@ pub enum ViewRequest {
     Tree,
     /// The answer to a question about the history.
     Answer(ViewQuestion),
-    /// That the server ends.
+    /// The end of the server.
     End,
 }
 
-/// A part of the path to a moment: that from one moment to another, which need not be on it.
+/// A part of the path to the moment `at`: from one moment to another, which need not be on the path.
 #[derive(Clone, Copy)]
 pub struct PathPart {
     pub at: Moment,
@@ -40,7 +39,7 @@ pub struct PathPart {
     pub last: Moment,
 }
 
-/// What a request of this method, path and query asks for, or else why it asks for nothing.
+/// Returns what a request of this method, path and query asks for, or why it asks for nothing.
 pub fn wish(method: &str, path: &str, query: Option<&str>) -> Result<ViewRequest, Lack>
     ensures { result ≡ wish method.now path.now (option_copied query.entry) }
 {
@@ -56,7 +55,7 @@ pub fn wish(method: &str, path: &str, query: Option<&str>) -> Result<ViewRequest
     }
 }
 
-/// The method by which it is asked for.
+/// Returns the method with which this must be asked for.
 fn method_of(asked: &ViewRequest) -> &'static str
     ensures { result.now ≡ method_of asked.now }
 {
@@ -67,7 +66,7 @@ fn method_of(asked: &ViewRequest) -> &'static str
     }
 }
 
-/// What another method lacks.
+/// Returns why another method is wrong.
 fn method_lack(asked: &ViewRequest) -> Lack
     ensures { result ≡ method_lack asked.now }
 {
@@ -78,7 +77,7 @@ fn method_lack(asked: &ViewRequest) -> Lack
     }
 }
 
-/// What is asked for by a path, which begins with `/`, and a query.
+/// Returns what a path with a query asks for. The path must begin with `/`.
 #[tactic(auto, unfolding(crate::specs::Requests::asked_at))]
 fn asked_at(path: &[u8], query: &[u8]) -> Result<ViewRequest, Lack>
     ensures { result ≡ asked_at path.now query.now }
@@ -93,7 +92,7 @@ fn asked_at(path: &[u8], query: &[u8]) -> Result<ViewRequest, Lack>
     }
 }
 
-/// What is asked for by a path without the `/` that it begins with, and a query.
+/// Returns what a path without its first `/`, with a query, asks for.
 #[tactic(auto, unfolding(crate::specs::Requests::asked_by))]
 fn asked_by(path: &[u8], query: &[u8]) -> Result<ViewRequest, Lack>
     ensures { result ≡ asked_by path.now query.now }
@@ -109,7 +108,7 @@ fn asked_by(path: &[u8], query: &[u8]) -> Result<ViewRequest, Lack>
     }
 }
 
-/// What a word alone asks for.
+/// Returns what a path of one word asks for.
 #[tactic(auto, unfolding(crate::specs::Requests::named))]
 fn named(word: &[u8]) -> Option<ViewRequest>
     ensures { result ≡ named word.now }
@@ -135,7 +134,7 @@ fn named(word: &[u8]) -> Option<ViewRequest>
     }
 }
 
-/// What a word with numbers behind it asks for.
+/// Returns what a word with numbers after it asks for.
 #[tactic(auto, unfolding(crate::specs::Requests::of_numbers))]
 fn of_numbers(word: &[u8], numbers: &[u8], query: &[u8]) -> Option<ViewRequest>
     ensures { result ≡ of_numbers word.now numbers.now query.now }
@@ -155,7 +154,7 @@ fn of_numbers(word: &[u8], numbers: &[u8], query: &[u8]) -> Option<ViewRequest>
     }
 }
 
-/// What a moment changed.
+/// Reads `MOMENT`: what its call changed.
 #[tactic(auto, unfolding(crate::specs::Requests::change_asked))]
 fn change_asked(numbers: &[u8]) -> Option<ViewRequest>
     ensures { result ≡ change_asked numbers.now }
@@ -164,7 +163,7 @@ fn change_asked(numbers: &[u8]) -> Option<ViewRequest>
     Some(ViewRequest::Answer(ViewQuestion::Change(moment)))
 }
 
-/// The events on a part of the path to a moment.
+/// Reads `AT/FROM/TO` and the query: events on a part of a path.
 #[tactic(auto, unfolding(crate::specs::Requests::events_asked))]
 fn events_asked(numbers: &[u8], query: &[u8]) -> Option<ViewRequest>
     ensures { result ≡ events_asked numbers.now query.now }
@@ -179,7 +178,7 @@ fn events_asked(numbers: &[u8], query: &[u8]) -> Option<ViewRequest>
     Some(ViewRequest::Answer(ViewQuestion::Events(part.at, wanted)))
 }
 
-/// An object at a moment.
+/// Reads `KOID/AT`: an object at a moment.
 #[tactic(auto, unfolding(crate::specs::Requests::object_asked))]
 fn object_asked(numbers: &[u8]) -> Option<ViewRequest>
     ensures { result ≡ object_asked numbers.now }
@@ -190,7 +189,7 @@ fn object_asked(numbers: &[u8]) -> Option<ViewRequest>
     Some(ViewRequest::Answer(ViewQuestion::Object(koid, at)))
 }
 
-/// The path to a moment, from another one on.
+/// Reads `AT/FROM`: the path to a moment, from another moment on.
 #[tactic(auto, unfolding(crate::specs::Requests::path_asked))]
 fn path_asked(numbers: &[u8]) -> Option<ViewRequest>
     ensures { result ≡ path_asked numbers.now }
@@ -201,7 +200,7 @@ fn path_asked(numbers: &[u8]) -> Option<ViewRequest>
     Some(ViewRequest::Answer(ViewQuestion::Path(at, from)))
 }
 
-/// The calls on a part of the path to a moment.
+/// Reads `AT/FROM/TO` and the query: calls on a part of a path.
 #[tactic(auto, unfolding(crate::specs::Requests::calls_asked))]
 fn calls_asked(numbers: &[u8], query: &[u8]) -> Option<ViewRequest>
     ensures { result ≡ calls_asked numbers.now query.now }
@@ -218,7 +217,7 @@ fn calls_asked(numbers: &[u8], query: &[u8]) -> Option<ViewRequest>
     Some(ViewRequest::Answer(ViewQuestion::Calls(part.at, wanted)))
 }
 
-/// A part of the path to a moment, of as many moments as one request may ask for.
+/// Reads `AT/FROM/TO`: a part of the path to a moment. Returns `None` if it has more moments than a request may ask for.
 #[tactic(auto, unfolding(crate::specs::Requests::part_asked))]
 fn part_asked(numbers: &[u8]) -> Option<PathPart>
     ensures { result ≡ part_asked numbers.now }
@@ -235,7 +234,7 @@ fn part_asked(numbers: &[u8]) -> Option<PathPart>
     }
 }
 
-/// Whether there are no more moments from one to the other than one request may ask for.
+/// Whether one request may ask for all moments from the first to the last.
 fn is_few(first: Moment, last: Moment) -> bool
     ensures { result ≡ is_few first last }
 {

@@ -1,4 +1,4 @@
-//! Responses that are filled.
+//! Fills responses.
 
 ghost use Rattle.std.specs.Prelude.{◌≡◌, ◌≤◌, ◌++◌, ◌∷◌, [], Err, IfErr, IfOk, IsTrue, Ok, OnErr, OnOk};
 ghost use Rattle.http_header.specs.FieldName.{is_header_name};
@@ -16,7 +16,7 @@ use std::alloc::{AllocError, Global};
 use zt_rows::Refusal;
 use zt_text::print_refusal;
 
-/// What the body of a response is.
+/// The content type of a body.
 #[derive(Clone, Copy)]
 pub enum Content {
     Plain,
@@ -26,7 +26,7 @@ pub enum Content {
 }
 
 impl Content {
-    /// As a header tells it.
+    /// Returns the value of the header `Content-Type`.
     fn value(self) -> HeaderValue {
         match self {
             Content::Plain => HeaderValue::from_static("text/plain; charset=utf-8"),
@@ -37,7 +37,8 @@ impl Content {
     }
 }
 
-/// Fills a blank response of the server that has this start; where an allocation fails it is a failure of the server, with no body.
+/// Fills a blank response. `start` goes into the header that names this start of the program. If an allocation fails, the
+/// response is 500 without a body.
 pub fn fill(
     response: &mut Response,
     start: &HeaderValue,
@@ -54,7 +55,7 @@ pub fn fill(
     }
 }
 
-/// Makes a response a failure of the server, with no body.
+/// Makes a response 500 without a body.
 fn fail(response: &mut Response)
     ensures { IsFailure response.new }
 {
@@ -62,7 +63,7 @@ fn fail(response: &mut Response)
     response.status = StatusCode::INTERNAL_SERVER_ERROR;
 }
 
-/// Puts headers and body.
+/// Adds headers and body.
 fn put(
     response: &mut Response,
     start: &HeaderValue,
@@ -77,7 +78,7 @@ fn put(
     response.body.push(body)
 }
 
-/// Puts the headers.
+/// Adds the headers.
 fn put_headers(
     response: &mut Response,
     start: &HeaderValue,
@@ -93,7 +94,7 @@ fn put_headers(
     Ok(())
 }
 
-/// Puts the headers that every response has.
+/// Adds the headers that every response has.
 fn put_guards(response: &mut Response) -> Result<(), AllocError>
     ensures body { response.new.body ≡ response.old.body }
     ensures headers { OnOk result (fields_of response.new ≡ fields_of response.old ++ guards) }
@@ -109,7 +110,7 @@ fn put_guards(response: &mut Response) -> Result<(), AllocError>
     Ok(())
 }
 
-/// Puts a header of this value.
+/// Adds a header with a constant value.
 fn add_text(
     response: &mut Response,
     name: &'static str,
@@ -123,7 +124,7 @@ fn add_text(
     add(response, name, HeaderValue::from_static(value))
 }
 
-/// Puts a header.
+/// Adds a header.
 fn add(response: &mut Response, name: &'static str, value: HeaderValue) -> Result<(), AllocError>
     requires { IsTrue (is_header_name name.now) }
     ensures body { response.new.body ≡ response.old.body }
@@ -132,7 +133,7 @@ fn add(response: &mut Response, name: &'static str, value: HeaderValue) -> Resul
     response.add_header(HeaderName::from_static(name), value)
 }
 
-/// Fills a blank response with a refusal of the request.
+/// Fills a blank response with this status, which refuses the request.
 pub fn refuse(response: &mut Response, start: &HeaderValue, status: StatusCode)
     requires blank { IsBlank response.old }
     requires status { 400 ≤ status }
@@ -162,7 +163,7 @@ pub fn tell_lack(response: &mut Response, start: &HeaderValue, lack: Lack)
     tell(response, start, lack.status(), lack.text());
 }
 
-/// Fills a blank response with a line of this text.
+/// Fills a blank response with this text and a line feed.
 pub fn tell_line(alloc: Global, response: &mut Response, start: &HeaderValue, text: &[u8])
     requires { IsBlank response.old }
     ensures { Tells start.now.bytes 200 (text.now ++ 10 ∷ []) response.new }
@@ -173,7 +174,7 @@ pub fn tell_line(alloc: Global, response: &mut Response, start: &HeaderValue, te
     }
 }
 
-/// The line of a text.
+/// Appends a line feed to a copy of a text.
 fn line_of(alloc: Global, text: &[u8]) -> Result<Vec<u8>, AllocError>
     ensures { IfOk result (λ line. line.items ≡ text.now ++ 10 ∷ []) }
 {
@@ -182,7 +183,7 @@ fn line_of(alloc: Global, text: &[u8]) -> Result<Vec<u8>, AllocError>
     Ok(line)
 }
 
-/// Fills a blank response with a text, where there is memory for it.
+/// Fills a blank response with a text. If an allocation fails, the response is 500 without a body.
 fn fill_text(response: &mut Response, start: &HeaderValue, status: StatusCode, text: Vec<u8>)
     requires { IsBlank response.old }
     ensures { Tells start.now.bytes status text.items response.new }
@@ -193,7 +194,8 @@ fn fill_text(response: &mut Response, start: &HeaderValue, status: StatusCode, t
     }
 }
 
-/// Fills a blank response with what is found, or with the line of what refused it.
+/// Fills a blank response with what was found, or with status 404 and the line of the refusal. After a failed allocation the
+/// response is 500 without a body.
 pub fn fill_found(
     alloc: Global,
     response: &mut Response,
@@ -211,7 +213,7 @@ pub fn fill_found(
     }
 }
 
-/// Fills a blank response with what lines are answered, or with the line of what stopped that.
+/// Fills a blank response with the answers to lines, or with status 500 and the line of the refusal that stopped them.
 pub fn fill_talk(
     alloc: Global,
     response: &mut Response,

@@ -1,4 +1,4 @@
-//! Lines that are answered over a book.
+//! Answers lines over a book.
 
 ghost use Rattle.std.specs.Prelude.{◌≤◌, IfOk, OnErr, length};
 ghost use Rattle.zt_view.specs.Answers.{IsPartOfTalk, IsTalk};
@@ -7,7 +7,8 @@ use std::alloc::Global;
 use zt_console::{Book, Counted, End, explore};
 use zt_rows::Refusal;
 
-/// What is written for lines that are answered over a book, with the book that is left.
+/// Returns the text that answers these lines over a book, and the book after them. If it stops early, the returned book is the
+/// one after the lines that were answered.
 pub fn talk(alloc: Global, book: Book, lines: &[u8]) -> (Book, Result<Vec<u8>, Refusal>)
     requires { 1 ≤ length book.session.clients }
     ensures whole { IfOk result.1 (λ text. IsTalk book result.0 lines.now text.items) }

@@ -1,4 +1,4 @@
-//! The history that the requests share, and how each is answered.
+//! The history that the requests share, and how each request is answered.
 
 ghost use Rattle.std.specs.Prelude.{◌≡◌, ◌≤◌, [], IfOk, IfSome, Some, Ok, false, length};
 ghost use Rattle.http_server.specs.Response.{IsBlank};
@@ -19,13 +19,13 @@ use zt_console::{Book, tree_text};
 pub struct View {
     pub alloc: Global,
     pub own: Own,
-    /// What tells this start of the program from others, in a header of each response.
+    /// A header of each response, which tells this start of the program from others.
     pub start: HeaderValue,
-    /// The name of the trace that the history began with; none where it began with nothing.
+    /// The name of the trace with which the history began; empty if it began at the opening.
     pub trace: Vec<u8>,
-    /// The history; it is elsewhere only while lines are answered.
+    /// The history. It is `None` only while lines are answered.
     pub book: Option<Book>,
-    /// Whether it was asked to end.
+    /// Whether the view was asked to end.
     pub is_ended: bool,
     ghost ready: { ∥ IfSome book (λ b. 1 ≤ length b.session.clients) ∥₁ },
 }
@@ -38,8 +38,8 @@ impl View {
     ghost use Rattle.http_header.specs.FieldValue.{plain_value};
     ghost use Rattle.zt_view.specs.Guard.{IsOwnOf};
 
-    /// A book of a client or more, from a trace of this name, that is viewed at a port, by the start of the program that has this
-    /// number.
+    /// Makes a view of a book with at least one client, at a port. `trace` is the name of its trace, and `start` the number of
+    /// this start of the program.
     pub fn new(
         alloc: Global,
         port: u16,
@@ -75,7 +75,7 @@ impl View {
         }
     }
 
-    /// Answers a request that is let in.
+    /// Answers an admitted request.
     fn answer_admitted(&mut self, request: &Request<Bytes>, response: &mut Response)
         requires { IsBlank response.old }
         ensures { AnswersWish (wish_of request.now) self.old (body_of request.now) response.new self.new }
@@ -87,7 +87,7 @@ impl View {
         }
     }
 
-    /// Answers what is asked for.
+    /// Answers a request by what it asks for.
     fn answer_asked(&mut self, asked: ViewRequest, body: &Bytes, response: &mut Response)
         requires { IsBlank response.old }
         ensures { AnswersWish (Ok asked) self.old body.now response.new self.new }
@@ -107,7 +107,7 @@ impl View {
         }
     }
 
-    /// Answers lines by what a run writes for them.
+    /// Answers lines with the text that a run writes for them.
     fn answer_lines(&mut self, lines: &[u8], response: &mut Response)
         requires { IsBlank response.old }
         ensures { AnswersLines self.old lines.now response.new self.new }
@@ -150,7 +150,7 @@ impl View {
         }
     }
 
-    /// Answers that the server ends, and has it end.
+    /// Answers that the server ends, and ends it.
     fn answer_end(&mut self, response: &mut Response)
         requires { IsBlank response.old }
         ensures { AnswersWish (Ok asked.End) self.old [] response.new self.new }

@@ -1,37 +1,38 @@
-//! What is said of the field of a line for which it was refused.
+//! Finds what to say about the wrong field of a refused line.
 
 use crate::fields::{field, place_of, start_of_field};
 use crate::reason::{Reason, reason_of, tree_reason_of};
 use crate::wanted::{Wanted, fields_of_call, fields_of_command, fields_of_tree_line};
 use zt_rows::Refusal;
 
-/// What is said of a field.
+/// What to say about a field.
 #[derive(Clone, Copy)]
 pub enum Advice {
-    /// It is to be this.
+    /// The field must be this.
     Wanted(Wanted),
-    /// It is no word that a line may begin with.
+    /// No line begins with this word.
     NoName,
-    /// It is none, but a question of `look` has this name, and a command asks what is like it, if one does.
+    /// No line begins with this word, but a question of `look` has this name. The second value is a similar command, if there is
+    /// one.
     Question(&'static str, Option<&'static str>),
-    /// It is no call's name.
+    /// No call has this name.
     NoCall,
-    /// The line is to end ahead of it.
+    /// The line must end before this field.
     NothingMore,
-    /// It ends in a carriage return, the first half of another end of a line.
+    /// The field ends in a carriage return, so the line ends in CRLF.
     CarriageReturn,
-    /// It reads, and was refused.
+    /// The field has the right form, and was refused for this reason.
     Refused(Reason),
 }
 
-/// What is said of a line, and behind how many of its bytes the field begins of which it is said.
+/// What to say about a field of a line, and how many bytes of the line are before that field.
 #[derive(Clone, Copy)]
 pub struct Remark {
     pub offset: usize,
     pub advice: Advice,
 }
 
-/// What is said of a line that was refused so; nothing, for what no line is refused as.
+/// Returns the remark on a line that was refused for this reason; `None` for a refusal that no line gets.
 pub fn remark_on(line: &[u8], refusal: Refusal) -> Option<Remark> {
     match refusal {
         Refusal::BadLine(column) => {
@@ -42,7 +43,7 @@ pub fn remark_on(line: &[u8], refusal: Refusal) -> Option<Remark> {
     }
 }
 
-/// The same, of a line of a session text of version 1, with its number.
+/// Returns the remark on a refused line of a session text of version 1. `number` is the line's number.
 pub fn session_remark(number: u64, line: &[u8], refusal: Refusal) -> Option<Remark> {
     match refusal {
         Refusal::BadLine(column) => {
@@ -53,7 +54,7 @@ pub fn session_remark(number: u64, line: &[u8], refusal: Refusal) -> Option<Rema
     }
 }
 
-/// The same, of a line of version 2 behind the first.
+/// Returns the remark on a refused line, after the first, of a session text of version 2.
 pub fn tree_remark(line: &[u8], refusal: Refusal) -> Option<Remark> {
     match refusal {
         Refusal::BadLine(column) => {
@@ -64,12 +65,12 @@ pub fn tree_remark(line: &[u8], refusal: Refusal) -> Option<Remark> {
     }
 }
 
-/// How many bytes of the line stand before the column.
+/// Returns how many bytes of the line are before the column.
 fn offset_of(line: &[u8], column: u64) -> usize {
     (column.saturating_sub(1) as usize).min(line.len())
 }
 
-/// What is said of a line that does not read. A carriage return at its end is told ahead of what else may be at fault there.
+/// Makes the remark on a line with a parse error. If `ends_in_return` holds, the remark is about the CRLF instead of `advice`.
 fn remark_at(line: &[u8], offset: usize, advice: Advice) -> Remark {
     if ends_in_return(line, offset) {
         Remark {
@@ -81,14 +82,13 @@ fn remark_at(line: &[u8], offset: usize, advice: Advice) -> Remark {
     }
 }
 
-/// Whether the field that begins behind so many bytes is the last, or the line is the first of a session text, and ends in a carriage
-/// return.
+/// Whether the line ends in a carriage return, and the field at `offset` is its last or begins the first line of a session text.
 fn ends_in_return(line: &[u8], offset: usize) -> bool {
     let rest = line.get(offset..).unwrap_or(&[]);
     line.last() == Some(&b'\r') && (!rest.contains(&b' ') || rest.starts_with(b"zxtt "))
 }
 
-/// What is said of a line of which this field is at fault, for this reason.
+/// Makes the remark on a line of which this field is wrong for this reason.
 fn reason_remark(line: &[u8], found: Option<(usize, Reason)>) -> Option<Remark> {
     let (place, reason) = found?;
     Some(Remark {
@@ -97,7 +97,7 @@ fn reason_remark(line: &[u8], found: Option<(usize, Reason)>) -> Option<Remark> 
     })
 }
 
-/// What is said of the field of a line that begins behind so many bytes.
+/// Returns the advice on the field that begins after this many bytes.
 fn advice_at(line: &[u8], offset: usize) -> Advice {
     let place = place_of(line, offset);
     let first = field(line, 0);
@@ -110,7 +110,7 @@ fn advice_at(line: &[u8], offset: usize) -> Advice {
     }
 }
 
-/// The same, of a line of a session text of version 1, with its number.
+/// Returns the advice on a field of a line of a session text of version 1. `number` is the line's number.
 fn session_advice(number: u64, line: &[u8], offset: usize) -> Advice {
     if number == 1 {
         Advice::Wanted(Wanted::SessionLine)
@@ -119,7 +119,7 @@ fn session_advice(number: u64, line: &[u8], offset: usize) -> Advice {
     }
 }
 
-/// The same, of a line of version 2 behind the first.
+/// Returns the advice on a field of a line, after the first, of a session text of version 2.
 fn tree_advice(line: &[u8], offset: usize) -> Advice {
     let place = place_of(line, offset);
     let first = field(line, 0);
@@ -136,7 +136,7 @@ fn tree_advice(line: &[u8], offset: usize) -> Advice {
     }
 }
 
-/// The same, of a line that can be a call alone.
+/// Returns the advice on a field of a line that can only be a call.
 fn call_advice(line: &[u8], offset: usize) -> Advice {
     if offset == 0 {
         Advice::Wanted(Wanted::Process)
@@ -145,7 +145,7 @@ fn call_advice(line: &[u8], offset: usize) -> Advice {
     }
 }
 
-/// Of the first field.
+/// Returns the advice on the first field.
 fn of_beginning(first: &[u8]) -> Advice {
     if first.is_empty() {
         Advice::Wanted(Wanted::Beginning)
@@ -156,7 +156,7 @@ fn of_beginning(first: &[u8]) -> Advice {
     }
 }
 
-/// Of a name that no call and no command has.
+/// Returns the advice on a word that is no name of a call or command.
 fn of_other_name(name: &[u8]) -> Advice {
     match name {
         b"calls" => Advice::Question("calls", None),
@@ -171,7 +171,7 @@ fn of_other_name(name: &[u8]) -> Advice {
     }
 }
 
-/// Of a field behind the process of a call.
+/// Returns the advice on a field after the process of a call.
 fn of_call(line: &[u8], place: usize) -> Advice {
     let name = field(line, 1);
     if place > 1 {
@@ -183,7 +183,7 @@ fn of_call(line: &[u8], place: usize) -> Advice {
     }
 }
 
-/// Of a field behind the name of a command. Behind `pinned` the next word is a command's too.
+/// Returns the advice on a field after the name of a command. After `pinned`, the next word is a command's name too.
 fn of_command(line: &[u8], place: usize) -> Advice {
     let name = field(line, 0);
     if place > 1 && name == b"pinned".as_slice() {
@@ -193,7 +193,7 @@ fn of_command(line: &[u8], place: usize) -> Advice {
     }
 }
 
-/// Of the field at this place behind a name, by what is wanted behind the name.
+/// Returns the advice on the field at this place after a name, by the fields that the name wants.
 fn of_field(fields: Option<&[Wanted]>, place: usize) -> Advice {
     match fields.unwrap_or(&[]).get(place) {
         Some(wanted) => Advice::Wanted(*wanted),
@@ -201,7 +201,7 @@ fn of_field(fields: Option<&[Wanted]>, place: usize) -> Advice {
     }
 }
 
-/// Whether the field begins as a number does. A field that can be read and does not is a command's name.
+/// Whether the field begins with a digit. A valid first field that does not is the name of a command.
 fn is_number(field: &[u8]) -> bool {
     matches!(field, [b'0'..=b'9', ..])
 }

@@ -1,20 +1,20 @@
-//! Lines that were refused, explained to a person.
+//! Prints a refused line with a caret and an explanation.
 
 use crate::advice::{Advice, Remark};
 use crate::fields::field;
 use crate::reason::Reason;
 use std::alloc::{AllocError, Global};
 
-/// The most bytes of a line that are shown.
+/// How many bytes of a line are shown at most.
 const SHOWN: usize = 72;
 
-/// What stands before each line of an explanation.
+/// The indentation of an explanation.
 const INDENT: &str = "    ";
 
-/// What stands where bytes of a line are left out.
+/// Stands where bytes of a line are left out.
 const LEFT_OUT: &str = "..";
 
-/// A line of which this is said: the line, a caret below its field, and what is said of that.
+/// Prints a line, a caret below its wrong field, and the advice on that field.
 pub fn explanation(alloc: Global, line: &[u8], remark: Remark) -> Result<String, AllocError> {
     let offset = remark.offset;
     let mut text = String::new(alloc);
@@ -32,26 +32,26 @@ pub fn explanation(alloc: Global, line: &[u8], remark: Remark) -> Result<String,
     Ok(text)
 }
 
-/// A line as it is shown, where no column of it is at fault.
+/// Prints a line of which no column is wrong.
 pub fn shown_line(alloc: Global, line: &[u8]) -> Result<String, AllocError> {
     let mut text = String::new(alloc);
     push_line(&mut text, line, 0)?;
     Ok(text)
 }
 
-/// The field that begins behind so many bytes.
+/// Returns the field that begins after this many bytes.
 fn field_from(line: &[u8], offset: usize) -> &[u8] {
     field(line.get(offset..).unwrap_or(&[]), 0)
 }
 
-/// Where the part of a line begins that is shown: at its beginning, where it is short or the place of interest is near that.
+/// Returns where the shown part of a line begins. That is 0 if the line is short or `offset` is near its beginning.
 fn start_of(length: usize, offset: usize) -> usize {
     offset
         .saturating_sub(SHOWN / 2)
         .min(length.saturating_sub(SHOWN))
 }
 
-/// The part of a line from `start` on, with marks where it is cut off.
+/// Appends the part of a line from `start` on, with marks where it is cut off.
 fn push_line(text: &mut String, line: &[u8], start: usize) -> Result<(), AllocError> {
     let rest = line.get(start..).unwrap_or(&[]);
     text.push_str(INDENT)?;
@@ -66,7 +66,7 @@ fn push_line(text: &mut String, line: &[u8], start: usize) -> Result<(), AllocEr
     Ok(())
 }
 
-/// The bytes, each as one character: `?` for what is none of `!` to `~` nor a space.
+/// Appends each byte as one character, with `?` for any byte that is not a space or `!` to `~`.
 fn push_bytes(text: &mut String, bytes: &[u8]) -> Result<(), AllocError> {
     for byte in bytes {
         let shown = match *byte {
@@ -78,7 +78,7 @@ fn push_bytes(text: &mut String, bytes: &[u8]) -> Result<(), AllocError> {
     Ok(())
 }
 
-/// So many spaces.
+/// Appends this many spaces.
 fn push_spaces(text: &mut String, count: usize) -> Result<(), AllocError> {
     for _ in 0..count {
         text.push(' ')?;
@@ -86,7 +86,7 @@ fn push_spaces(text: &mut String, count: usize) -> Result<(), AllocError> {
     Ok(())
 }
 
-/// What is said of this field.
+/// Appends the advice on this field.
 fn push_advice(text: &mut String, advice: Advice, field: &[u8]) -> Result<(), AllocError> {
     match advice {
         Advice::Wanted(wanted) => {
@@ -102,17 +102,17 @@ fn push_advice(text: &mut String, advice: Advice, field: &[u8]) -> Result<(), Al
     }
 }
 
-/// What is said of a word that no line may begin with.
+/// The advice on a word with which no line begins.
 fn no_name() -> &'static str {
     "no call or command has this name"
 }
 
-/// What is said of a line that ends as elsewhere.
+/// The advice on a line that ends in CRLF.
 fn carriage_return() -> &'static str {
     "the line ends in CRLF: a line ends in LF alone, and CR is a byte of it"
 }
 
-/// What is said of the name of a question.
+/// Appends the advice on a word that is the name of a question.
 fn push_question(
     text: &mut String,
     name: &str,
@@ -132,7 +132,7 @@ fn push_question(
     }
 }
 
-/// Why this field was refused.
+/// Appends why this field was refused.
 fn push_reason(text: &mut String, reason: Reason, field: &[u8]) -> Result<(), AllocError> {
     text.push_str(reason.text())?;
     if reason.names_field() {

@@ -1,11 +1,11 @@
 //! The fields of a line, by their places.
 
-/// The field at this place, counted from 0; no bytes, where it is missing.
+/// Returns the field at this place, counted from 0, or no bytes if it is missing.
 pub fn field(line: &[u8], place: usize) -> &[u8] {
     line.split(|byte| *byte == b' ').nth(place).unwrap_or(&[])
 }
 
-/// How many bytes of the line stand before the field at this place.
+/// Returns how many bytes of the line are before the field at this place.
 pub fn start_of_field(line: &[u8], place: usize) -> usize {
     let mut start = 0usize;
     for before in line.split(|byte| *byte == b' ').take(place) {
@@ -14,7 +14,8 @@ pub fn start_of_field(line: &[u8], place: usize) -> usize {
     start
 }
 
-/// Which field of the line it is, counted from 0, that begins behind so many bytes. One that is missing begins behind all.
+/// Returns the place, counted from 0, of the field that begins after this many bytes. A missing field begins after the whole
+/// line.
 pub fn place_of(line: &[u8], offset: usize) -> usize {
     let before = line.get(..offset).unwrap_or(line);
     let spaces = spaces_in(before);
@@ -24,7 +25,7 @@ pub fn place_of(line: &[u8], offset: usize) -> usize {
     }
 }
 
-/// The place of the last field.
+/// Returns the place of the last field.
 pub fn last_place(line: &[u8]) -> usize {
     spaces_in(line)
 }

@@ -1,4 +1,4 @@
-//! Lines that were heard with their answers, and what is said of those that were refused.
+//! Explains lines that were heard with their answers and were refused.
 
 use crate::advice::remark_on;
 use crate::explanation::explanation;
@@ -7,18 +7,18 @@ use std::alloc::{AllocError, Global};
 use zt_rows::Refusal;
 use zt_text::read_line;
 
-/// What stands above a line that is explained.
+/// The heading above an explained line.
 #[derive(Clone, Copy)]
 pub enum Heading {
-    /// Nothing, since it was just typed.
+    /// No heading, because the line was just typed.
     Nothing,
-    /// Its number.
+    /// The number of the line.
     Line(u64),
-    /// The client that sent it, and its number among that client's lines.
+    /// The client that sent the line, and its number among that client's lines.
     Client(u8, u64),
 }
 
-/// What is said of a line that was answered by this text; nothing, where it was not refused.
+/// Explains a line that was answered with this text. Returns `None` if the line was not refused.
 pub fn said_of(
     alloc: Global,
     heading: Heading,
@@ -31,7 +31,7 @@ pub fn said_of(
     }
 }
 
-/// What is said of a line that was refused so; nothing, for what no line is refused as.
+/// Explains a line that was refused for this reason. Returns `None` for a refusal that no line gets.
 fn explained(
     alloc: Global,
     heading: Heading,
@@ -47,7 +47,7 @@ fn explained(
     Ok(Some(said))
 }
 
-/// The heading as it is said.
+/// Prints a heading.
 fn head(alloc: Global, heading: Heading) -> Result<String, AllocError> {
     match heading {
         Heading::Nothing => Ok(String::new(alloc)),
@@ -56,7 +56,7 @@ fn head(alloc: Global, heading: Heading) -> Result<String, AllocError> {
     }
 }
 
-/// The refusal that this text of a line tells, if it tells one.
+/// Returns the refusal in the text of an answer, if there is one. To find the column of a parse error, it reads the line again.
 fn refusal_of(alloc: Global, line: &[u8], text: &[u8]) -> Option<Refusal> {
     if field(text, 0) != b"refused".as_slice() {
         return None;
@@ -67,7 +67,7 @@ fn refusal_of(alloc: Global, line: &[u8], text: &[u8]) -> Option<Refusal> {
     }
 }
 
-/// The refusal of a line that has this number.
+/// Returns the refusal of this number, if a line can get it. A parse error, number 10, is not among these.
 fn refusal_numbered(number: &[u8]) -> Option<Refusal> {
     match number {
         b"1" => Some(Refusal::OutOfMemory),

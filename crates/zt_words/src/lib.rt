@@ -1,4 +1,4 @@
-//! The words of a command line and what they ask for, and what is said of lines that are refused.
+//! Reads the words of a command line, and explains lines that were refused.
 #![tactic(auto)]
 
 mod advice;

@@ -1,4 +1,4 @@
-//! The words behind `look`.
+//! Reads the words after `zxtt look`.
 
 ghost use Rattle.std.specs.Prelude.{◌≡◌, IfOk, Some, [], codes, false, is_some, map, unwrap_or};
 ghost use Rattle.std.specs.Option.{option_map};
@@ -15,21 +15,21 @@ use clap::{Arg, ArgAction, ArgMatches, Command, Error, value_parser};
 use std::alloc::Global;
 use zt_rows::{Koid, LAST_MOMENT, Moment};
 
-/// What is to be looked at, and what is asked of it.
+/// What to look at, and the question about it.
 #[derive(Clone, Copy)]
 pub struct Look<'a> {
     /// The file of the session text, or `-` for standard input.
     pub file: &'a str,
-    /// The moment to which the path goes.
+    /// The moment at the end of the path.
     pub at: Option<Moment>,
-    /// The branch to whose head it goes. Where neither is named it goes to that of `main`.
+    /// The branch whose head is at the end of the path. If `at` and `branch` are both `None`, it is `main`.
     pub branch: Option<&'a str>,
-    /// Whether rights and signals are shown by their names.
+    /// Whether rights and signals are shown by name.
     pub names: bool,
     pub question: Question,
 }
 
-/// What the words behind `look` ask for.
+/// Returns what the parsed words after `look` ask for. Fails with `NoQuestion` if they ask no question.
 pub fn look_of<'a>(words: &ArgMatches<'a>) -> Result<Look<'a>, NoQuestion>
     ensures { IfOk result (IsLookOf (rows_of (found_of words.now))) }
 {
@@ -45,7 +45,7 @@ pub fn look_of<'a>(words: &ArgMatches<'a>) -> Result<Look<'a>, NoQuestion>
     }
 }
 
-/// The question that the words ask.
+/// Returns the question that the words ask.
 fn question_in(words: &ArgMatches<'_>) -> Result<Question, NoQuestion>
     ensures { IfOk result (IsQuestionIn (rows_of (found_of words.now))) }
 {
@@ -57,7 +57,7 @@ fn question_in(words: &ArgMatches<'_>) -> Result<Question, NoQuestion>
     }
 }
 
-/// The question with this name, of the words behind it and these options.
+/// Returns the question of this name, with the words after it and these options.
 fn question_by(name: &str, words: &[&str], options: &Options) -> Result<Question, NoQuestion>
     ensures { IfOk result (λ asked. question_of name.now (map (λ s. s.now) words.now) options.now ≡ Some asked) }
 {
@@ -67,7 +67,7 @@ fn question_by(name: &str, words: &[&str], options: &Options) -> Result<Question
     }
 }
 
-/// The options that some questions have.
+/// Returns the options that only some questions have.
 fn options_in(words: &ArgMatches<'_>) -> Options
     ensures { AreOptionsOf (rows_of (found_of words.now)) result }
 {
@@ -79,35 +79,35 @@ fn options_in(words: &ArgMatches<'_>) -> Options
     }
 }
 
-/// Whether the word with this name has a value.
+/// Whether the option of this name has a value.
 fn is_given(words: &ArgMatches<'_>, name: &str) -> bool
     ensures { result ≡ is_some (first_of name.now (rows_of (found_of words.now))) }
 {
     words.get_str(name).is_some()
 }
 
-/// Whether the flag with this name is there.
+/// Whether the flag of this name is given.
 pub fn flag_in(words: &ArgMatches<'_>, name: &str) -> bool
     ensures { IsFlagOf (one_of name.now (rows_of (found_of words.now))) result }
 {
     words.get_flag(name)
 }
 
-/// The value of the word with this name, which does not lack.
+/// Returns the value of a required argument.
 fn text_in<'a>(words: &ArgMatches<'a>, name: &str) -> &'a str
     ensures { result.now ≡ unwrap_or (first_of name.now (rows_of (found_of words.now))) [] }
 {
     words.get_str(name).unwrap_or("")
 }
 
-/// The branch to whose head the path goes, if it is named.
+/// Returns the branch whose head is at the end of the path, if it is given.
 fn branch_in<'a>(words: &ArgMatches<'a>) -> Option<&'a str>
     ensures { option_map (λ s. s.now) result ≡ first_of (codes "branch") (rows_of (found_of words.now)) }
 {
     words.get_str("branch")
 }
 
-/// The moment to which the path goes, if it is named.
+/// Returns the moment at the end of the path, if it is given.
 fn moment_in(words: &ArgMatches<'_>) -> Option<Moment>
     ensures { IsOptionalNumberOf 32 (one_of (codes "at") (rows_of (found_of words.now))) result }
 {
@@ -117,7 +117,7 @@ fn moment_in(words: &ArgMatches<'_>) -> Option<Moment>
     }
 }
 
-/// The koid behind the word with this name, if it is there.
+/// Returns the koid of this option, if it is given.
 fn koid_in(words: &ArgMatches<'_>, name: &str) -> Option<Koid>
     ensures { IsOptionalNumberOf 64 (one_of name.now (rows_of (found_of words.now))) result }
 {
@@ -127,14 +127,14 @@ fn koid_in(words: &ArgMatches<'_>, name: &str) -> Option<Koid>
     }
 }
 
-// No clause tells the texts that these functions give, so that who asks for one is proved without going over its bytes.
+// The contracts do not say which texts these functions return, so proofs of their callers need not go over the bytes.
 
-/// What `look` does.
+/// The description of `look`.
 pub fn look_about<'a>() -> &'a str {
     "Answers one question about a session text, and ends"
 }
 
-/// What the questions are.
+/// The questions, after the help.
 fn questions<'a>() -> &'a str {
     "Questions, each about the path to a moment, or to the head of a branch, `main` where none is named:
   calls [FROM [TO]]     the calls of the path, with their replies, between two moments;
@@ -184,7 +184,7 @@ fn object_help() -> &'static str {
     "Of the calls, those alone that changed this object or a handle of it"
 }
 
-/// The word of the session text.
+/// The argument `TRACE`: the session text.
 fn trace_word<'a>(alloc: Global) -> Arg<'a>
     ensures rule { rule_of result ≡ needed (codes "TRACE") }
     ensures global { result.global ≡ false }
@@ -195,7 +195,7 @@ fn trace_word<'a>(alloc: Global) -> Arg<'a>
         .help(trace_help())
 }
 
-/// The word of the question.
+/// The argument `QUESTION`: the name of the question.
 fn question_word<'a>(alloc: Global) -> Arg<'a>
     ensures rule { rule_of result ≡ needed (codes "QUESTION") }
     ensures global { result.global ≡ false }
@@ -206,7 +206,7 @@ fn question_word<'a>(alloc: Global) -> Arg<'a>
         .help(question_help())
 }
 
-/// The words of the question.
+/// The arguments `WORD`: the words of the question.
 fn words_word<'a>(alloc: Global) -> Arg<'a>
     ensures rule { rule_of result ≡ words_word }
     ensures global { result.global ≡ false }
@@ -217,7 +217,7 @@ fn words_word<'a>(alloc: Global) -> Arg<'a>
         .help(words_help())
 }
 
-/// The word of the moment to which the path goes.
+/// The option `--at`: the moment at the end of the path. It excludes `--branch`.
 fn at_word<'a>(alloc: Global) -> Result<Arg<'a>, Error>
     ensures rule { IfOk result (λ arg. rule_of arg ≡ at_word) }
     ensures global { IfOk result (λ arg. arg.global ≡ false) }
@@ -226,7 +226,7 @@ fn at_word<'a>(alloc: Global) -> Result<Arg<'a>, Error>
     Ok(word)
 }
 
-/// The same, which may stand beside any other.
+/// The option `--at`, which does not exclude another option yet.
 fn moment_word<'a>(alloc: Global) -> Arg<'a>
     ensures rule { rule_of result ≡ moment_word }
     ensures global { result.global ≡ false }
@@ -240,7 +240,7 @@ fn moment_word<'a>(alloc: Global) -> Arg<'a>
         .help(at_help())
 }
 
-/// The word of the branch to whose head the path goes.
+/// The option `--branch`: the branch whose head is at the end of the path.
 fn branch_word<'a>(alloc: Global) -> Arg<'a>
     ensures rule { rule_of result ≡ valued (codes "branch") }
     ensures global { result.global ≡ false }
@@ -252,7 +252,7 @@ fn branch_word<'a>(alloc: Global) -> Arg<'a>
         .help(branch_help())
 }
 
-/// The word of the names of bits.
+/// The flag `--names`: rights and signals by name.
 fn names_word<'a>(alloc: Global) -> Arg<'a>
     ensures rule { rule_of result ≡ flag (codes "names") }
     ensures global { result.global ≡ false }
@@ -263,7 +263,7 @@ fn names_word<'a>(alloc: Global) -> Arg<'a>
         .help(names_help())
 }
 
-/// The word of the calls that failed.
+/// The flag `--failed`: only calls that failed.
 fn failed_word<'a>(alloc: Global) -> Arg<'a>
     ensures rule { rule_of result ≡ flag (codes "failed") }
     ensures global { result.global ≡ false }
@@ -274,7 +274,7 @@ fn failed_word<'a>(alloc: Global) -> Arg<'a>
         .help(failed_help())
 }
 
-/// The word of the process that makes the calls.
+/// The option `--process`: only calls that this process made.
 fn process_word<'a>(alloc: Global) -> Arg<'a>
     ensures rule { rule_of result ≡ koid_word (codes "process") }
     ensures global { result.global ≡ false }
@@ -287,7 +287,7 @@ fn process_word<'a>(alloc: Global) -> Arg<'a>
         .help(process_help())
 }
 
-/// The word of the object that the calls change.
+/// The option `--object`: only calls that changed this object or a handle to it.
 fn object_word<'a>(alloc: Global) -> Arg<'a>
     ensures rule { rule_of result ≡ koid_word (codes "object") }
     ensures global { result.global ≡ false }
@@ -300,7 +300,7 @@ fn object_word<'a>(alloc: Global) -> Arg<'a>
         .help(object_help())
 }
 
-/// The words behind `look`.
+/// Declares `look`.
 pub fn look_command<'a>(alloc: Global) -> Result<Command<'a>, Error>
     ensures line { IfOk result (λ command. app_of command ≡ look_line) }
     ensures globals { IfOk result (λ command. (fields_of command).has_globals ≡ false) }
@@ -313,7 +313,7 @@ pub fn look_command<'a>(alloc: Global) -> Result<Command<'a>, Error>
     )
 }
 
-/// The same without any options.
+/// Declares `look` without options.
 fn question_command<'a>(alloc: Global) -> Result<Command<'a>, Error>
     ensures line { IfOk result (λ command. app_of command ≡ question_line) }
     ensures globals { IfOk result (λ command. (fields_of command).has_globals ≡ false) }
@@ -326,7 +326,7 @@ fn question_command<'a>(alloc: Global) -> Result<Command<'a>, Error>
     )
 }
 
-/// The same without the options that `calls` alone has.
+/// Declares `look` without the options that only `calls` has.
 fn path_command<'a>(alloc: Global) -> Result<Command<'a>, Error>
     ensures line { IfOk result (λ command. app_of command ≡ path_line) }
     ensures globals { IfOk result (λ command. (fields_of command).has_globals ≡ false) }

@@ -1,24 +1,24 @@
-//! What is said of words that ask no question of `look`.
+//! Explains words that ask `look` no question.
 
 use crate::question::Topic;
 use std::fmt;
 use std::fmt::{Formatter, Write};
 
-/// Why the words behind `look` ask no question.
+/// Why the words after `look` ask no question.
 #[derive(Debug, Drop)]
 pub enum NoQuestion {
-    /// No question has the name; one with a name like it may be meant.
+    /// No question has this name; the value is a similar name, if there is one.
     Unnamed(Option<&'static str>),
-    /// It is a word of `run`, and this question asks the like.
+    /// The name is a word of `run`; the value is a question that asks something similar.
     OfRun(&'static str),
-    /// The question about this lacks its word.
+    /// The question about this topic lacks its word.
     Lacks(Topic),
-    /// The question about this is asked in other words.
+    /// The question about this topic is asked with other words.
     Otherwise(Topic),
 }
 
 impl NoQuestion {
-    /// Why there is none with this name, of the words behind it, where a question with this name asks about that.
+    /// Finds why this name, with the words after it, asks no question. `about` is the topic of the question with this name.
     pub fn of(about: Option<Topic>, name: &str, words: &[&str]) -> NoQuestion {
         match about {
             Some(about) if words.is_empty() && word_of(about).is_some() => NoQuestion::Lacks(about),
@@ -57,7 +57,7 @@ impl fmt::Display for NoQuestion {
     }
 }
 
-/// Writes that no question has the name, and which may be meant.
+/// Writes that no question has this name, and a similar name.
 fn write_unnamed<W: Write>(f: &mut Formatter<W>, near: Option<&str>) -> fmt::Result {
     f.write_str(known_questions())?;
     match near {
@@ -76,7 +76,7 @@ fn write_form<W: Write>(f: &mut Formatter<W>, about: Topic) -> fmt::Result {
     f.write_str(form_of(about))
 }
 
-/// The word that a question has behind its name.
+/// Returns the word that must come after the name of a question.
 fn word_of(about: Topic) -> Option<&'static str> {
     match about {
         Topic::Changed => Some("<MOMENT>"),
@@ -86,7 +86,7 @@ fn word_of(about: Topic) -> Option<&'static str> {
     }
 }
 
-/// The question that asks what `run` is asked by this word, or by a line that has it behind `when`.
+/// Returns the question that is similar to this word of `run`, or to the word after `when`.
 fn question_like(name: &str) -> Option<&'static str> {
     match name {
         "when" | "made" | "ended" | "peer_closed" | "leaked" | "leaks" => Some("events"),
@@ -95,7 +95,7 @@ fn question_like(name: &str) -> Option<&'static str> {
     }
 }
 
-/// The name of a question that is most like this one, if one is like it.
+/// Returns the name of the most similar question, if one is similar.
 fn nearest(name: &str) -> Option<&'static str> {
     let mut found = None;
     let mut best = 0;
@@ -109,15 +109,15 @@ fn nearest(name: &str) -> Option<&'static str> {
     found
 }
 
-/// The names of all questions.
+/// Returns the names of all questions.
 fn questions() -> [&'static str; 8] {
     [
         "calls", "changed", "events", "object", "handles", "messages", "branches", "summary",
     ]
 }
 
-/// How many bytes two names have in common at their beginning and at their end; none, where more than two of the longer one are left, and
-/// the first name is not the beginning of the other.
+/// Returns how many bytes two names have in common at their beginning and end. Returns 0 if more than two bytes of the longer
+/// name are left, unless `name` has three bytes or more and `other` begins with it.
 fn likeness(name: &[u8], other: &[u8]) -> usize {
     let first = first_in_common(name, other);
     let last = last_in_common(name, other);
@@ -129,7 +129,7 @@ fn likeness(name: &[u8], other: &[u8]) -> usize {
     }
 }
 
-/// How many bytes two names have in common at their beginning.
+/// Returns how many bytes two names have in common at their beginning.
 fn first_in_common(name: &[u8], other: &[u8]) -> usize {
     let mut count = 0usize;
     for (byte, its) in name.iter().zip(other.iter()) {
@@ -141,7 +141,7 @@ fn first_in_common(name: &[u8], other: &[u8]) -> usize {
     count
 }
 
-/// How many at their end.
+/// Returns how many bytes two names have in common at their end.
 fn last_in_common(name: &[u8], other: &[u8]) -> usize {
     let mut count = 0usize;
     for (byte, its) in name.iter().rev().zip(other.iter().rev()) {
@@ -153,20 +153,20 @@ fn last_in_common(name: &[u8], other: &[u8]) -> usize {
     count
 }
 
-// No clause tells the texts, so that who asks for one is proved without going over its bytes.
+// The contracts do not say which texts these functions return, so proofs of their callers need not go over the bytes.
 
-/// What the names of questions are.
+/// The list of all questions.
 fn known_questions() -> &'static str {
     "no question has the name that was given for '<QUESTION>'
   [questions: calls, changed, events, object, handles, messages, branches, summary]"
 }
 
-/// What is said of a word of `run`, up to the question that asks the like.
+/// What is said about a word of `run`, up to the name of the similar question.
 fn of_run() -> &'static str {
     "\n\n  tip: this is a word of `zxtt run`; the question `"
 }
 
-/// How a question is asked.
+/// Returns how a question is asked.
 fn form_of(about: Topic) -> &'static str {
     match about {
         Topic::Calls => calls_form(),
@@ -176,12 +176,12 @@ fn form_of(about: Topic) -> &'static str {
     }
 }
 
-/// How calls are asked for.
+/// Returns how the question about calls is asked.
 fn calls_form() -> &'static str {
     "[--at <MOMENT> | --branch <NAME>] [--names] calls [FROM [TO]] [--failed] [--process <P>] [--object <K>]"
 }
 
-/// How the other questions on a path are asked.
+/// Returns how the other questions about a path are asked.
 fn form_on_path(about: Topic) -> &'static str {
     match about {
         Topic::Events => {

@@ -1,4 +1,4 @@
-//! The question of `look`, by the words that ask it.
+//! Finds the question of `look` that the words ask.
 
 ghost use Rattle.std.specs.Prelude.{◌≡◌, ◌≤◌, IfSome, map};
 ghost use Rattle.std.specs.List.{list_all, list_any};
@@ -10,7 +10,7 @@ ghost use Rattle.zt_words.specs.Questions.{all_happenings, calls_question, first
 use zt_look::{CallFilter, HappeningSet};
 use zt_rows::{Koid, LAST_MOMENT, Moment};
 
-/// What is asked about.
+/// The topic of a question.
 #[derive(Clone, Copy, Debug, PartialEq, Eq)]
 pub enum Topic {
     Calls,
@@ -23,18 +23,18 @@ pub enum Topic {
     Summary,
 }
 
-/// A question.
+/// A question with its values.
 #[derive(Clone, Copy)]
 pub enum Question {
-    /// The calls of the path that are asked for.
+    /// Calls of the path, as the filter says.
     Calls(CallFilter),
     /// The rows that the call of a moment changed.
     Changed(Moment),
-    /// What happened to objects on the path, of what is asked for.
+    /// The happenings to objects on the path, as the set says.
     Events(HappeningSet),
     /// An object at the end of the path.
     Object(Koid),
-    /// The handles of a process there.
+    /// The handles of a process at the end of the path.
     Handles(Koid),
     /// The messages that were queued at an endpoint.
     Messages(Koid),
@@ -44,18 +44,18 @@ pub enum Question {
     Summary,
 }
 
-/// Which options are given that some questions have, and others have not.
+/// The options that only some questions have.
 #[derive(Clone, Copy)]
 pub struct Options {
-    /// Whether the path is named.
+    /// Whether `--at` or `--branch` is given.
     pub placed: bool,
     pub failed: bool,
     pub process: Option<Koid>,
     pub object: Option<Koid>,
 }
 
-/// The question with this name, of the words behind it and these options. Where they ask none, it is told what a question
-/// with this name asks about.
+/// Returns the question of this name, with the words after it and these options. Fails with the topic of this name if the words
+/// or options do not fit it, and with `None` if no question has this name.
 pub fn question_of(name: &str, words: &[&str], options: &Options) -> Result<Question, Option<Topic>>
     ensures { result_ok result ≡ question_of name.now (map (λ s. s.now) words.now) options.now }
 {
@@ -68,7 +68,7 @@ pub fn question_of(name: &str, words: &[&str], options: &Options) -> Result<Ques
     }
 }
 
-/// What a question with this name asks about.
+/// Returns the topic of the question with this name.
 fn topic_named(name: &str) -> Option<Topic>
     ensures { result ≡ topic_named name.now }
 {
@@ -85,7 +85,7 @@ fn topic_named(name: &str) -> Option<Topic>
     }
 }
 
-/// The same, of the other four.
+/// Returns the topic of the question with this name, among the other four.
 fn other_topic_named(name: &str) -> Option<Topic>
     ensures { result ≡ other_topic_named name.now }
 {
@@ -102,7 +102,7 @@ fn other_topic_named(name: &str) -> Option<Topic>
     }
 }
 
-/// The question about this that the words and options ask; none, where one of them is not the question's.
+/// Returns the question about this topic. Returns `None` if a word or an option does not fit it.
 fn question_on(about: Topic, words: &[&str], options: &Options) -> Option<Question>
     ensures { result ≡ question_on about (map (λ s. s.now) words.now) options.now }
 {
@@ -113,7 +113,7 @@ fn question_on(about: Topic, words: &[&str], options: &Options) -> Option<Questi
     }
 }
 
-/// Whether an option is given that such a question has not.
+/// Whether an option is given that questions about this topic do not have.
 fn has_other_option(about: Topic, options: &Options) -> bool
     ensures { result ≡ has_other_option about options.now }
 {
@@ -123,7 +123,7 @@ fn has_other_option(about: Topic, options: &Options) -> bool
         || (options.placed && !is_of_path(about))
 }
 
-/// Whether it is asked of a path.
+/// Whether questions about this topic are asked of a path.
 fn is_of_path(about: Topic) -> bool
     ensures { result ≡ is_of_path about }
 {
@@ -133,7 +133,7 @@ fn is_of_path(about: Topic) -> bool
     }
 }
 
-/// The question of no option that these words ask.
+/// Returns the question about this topic that these words ask without options.
 fn plain_question(about: Topic, words: &[&str]) -> Option<Question>
     ensures { result ≡ plain_question about (map (λ s. s.now) words.now) }
 {
@@ -149,14 +149,14 @@ fn plain_question(about: Topic, words: &[&str]) -> Option<Question>
     }
 }
 
-/// The question, where there are no words.
+/// Returns the question if there are no words.
 fn without_words(words: &[&str], asked: Question) -> Option<Question>
     ensures { result ≡ without_words (map (λ s. s.now) words.now) asked }
 {
     if words.is_empty() { Some(asked) } else { None }
 }
 
-/// The calls that the words and options ask for.
+/// Returns the question about calls that the words and options ask.
 fn calls_question(words: &[&str], options: &Options) -> Option<Question>
     ensures { result ≡ calls_question (map (λ s. s.now) words.now) options.now }
 {
@@ -171,7 +171,7 @@ fn calls_question(words: &[&str], options: &Options) -> Option<Question>
     }))
 }
 
-/// The first moment of the calls.
+/// Returns the first moment of the calls: the first word, or 1 without words.
 fn first_of_calls(words: &[&str]) -> Option<Moment>
     ensures { result ≡ first_of_calls (map (λ s. s.now) words.now) }
 {
@@ -181,7 +181,7 @@ fn first_of_calls(words: &[&str]) -> Option<Moment>
     }
 }
 
-/// The last.
+/// Returns the last moment of the calls: the second word, or `LAST_MOMENT` without one.
 fn last_of_calls(words: &[&str]) -> Option<Moment>
     ensures { result ≡ last_of_calls (map (λ s. s.now) words.now) }
 {
@@ -192,7 +192,7 @@ fn last_of_calls(words: &[&str]) -> Option<Moment>
     }
 }
 
-/// The happenings that are named, or all.
+/// Returns the happenings that the words name, or all without words.
 fn happenings_of(words: &[&str]) -> Option<HappeningSet>
     ensures { result ≡ happenings_of (map (λ s. s.now) words.now) }
 {
@@ -205,7 +205,7 @@ fn happenings_of(words: &[&str]) -> Option<HappeningSet>
     }
 }
 
-/// All of them.
+/// Returns all happenings.
 fn all_happenings() -> HappeningSet
     ensures { result ≡ all_happenings }
 {
@@ -217,7 +217,7 @@ fn all_happenings() -> HappeningSet
     }
 }
 
-/// Those that are named.
+/// Returns the happenings that the words name.
 fn named_happenings(words: &[&str]) -> HappeningSet
     ensures { result ≡ named_happenings (map (λ s. s.now) words.now) }
 {
@@ -229,14 +229,14 @@ fn named_happenings(words: &[&str]) -> HappeningSet
     }
 }
 
-/// Whether each word is a happening's.
+/// Whether each word names a happening.
 fn are_happenings(words: &[&str]) -> bool
     ensures { result ≡ list_all is_happening (map (λ s. s.now) words.now) }
 {
     are_all_happenings(words)
 }
 
-/// The same, of the words where they stand.
+/// Whether each word names a happening; this contract is about the borrowed words themselves.
 fn are_all_happenings(words: &[&str]) -> bool
     ensures { result ≡ list_all (λ s. is_happening s.now) words.now }
 {
@@ -248,21 +248,21 @@ fn are_all_happenings(words: &[&str]) -> bool
     true
 }
 
-/// Whether the word is a happening's.
+/// Whether the word names a happening.
 fn is_happening(word: &str) -> bool
     ensures { result ≡ is_happening word.now }
 {
     word == "made" || word == "ended" || word == "peer_closed" || word == "leaked"
 }
 
-/// Whether the word is among these.
+/// Whether the name is among these words.
 fn is_named(words: &[&str], name: &str) -> bool
     ensures { result ≡ is_named (map (λ s. s.now) words.now) name.now }
 {
     is_among(words, name)
 }
 
-/// The same, of the words where they stand.
+/// Whether the name is among these words; this contract is about the borrowed words themselves.
 fn is_among(words: &[&str], name: &str) -> bool
     ensures { result ≡ list_any (λ s. bytes_eq s.now name.now) words.now }
 {
@@ -274,21 +274,21 @@ fn is_among(words: &[&str], name: &str) -> bool
     false
 }
 
-/// The moment that is the only word.
+/// Reads the only word as a moment.
 fn one_moment(words: &[&str]) -> Option<Moment>
     ensures { result ≡ one_moment (map (λ s. s.now) words.now) }
 {
     moment_word(one_word(words)?)
 }
 
-/// The koid that is the only word.
+/// Reads the only word as a koid.
 fn one_koid(words: &[&str]) -> Option<Koid>
     ensures { result ≡ one_koid (map (λ s. s.now) words.now) }
 {
     koid_word(one_word(words)?)
 }
 
-/// The only word.
+/// Returns the only word; `None` if there are none or more.
 fn one_word<'a>(words: &[&'a str]) -> Option<&'a str>
     ensures { option_map (λ s. s.now) result ≡ one_word (map (λ s. s.now) words.now) }
 {
@@ -298,7 +298,7 @@ fn one_word<'a>(words: &[&'a str]) -> Option<&'a str>
     }
 }
 
-/// The moment of a word.
+/// Reads a word as a moment of at most `LAST_MOMENT`.
 fn moment_word(word: &str) -> Option<Moment>
     ensures { result ≡ moment_word word.now }
 {
@@ -308,7 +308,7 @@ fn moment_word(word: &str) -> Option<Moment>
     }
 }
 
-/// The koid of a word.
+/// Reads a word as a koid.
 fn koid_word(word: &str) -> Option<Koid>
     ensures { result ≡ koid_word word.now }
 {
@@ -318,7 +318,7 @@ fn koid_word(word: &str) -> Option<Koid>
     }
 }
 
-/// The number of a word, up to this one.
+/// Reads a word as a number of at most `most`.
 fn number_up_to(most: u64, word: &str) -> Option<u64>
     ensures number { result ≡ number_up_to most word.now }
     ensures within { IfSome result (λ n. n ≤ most) }

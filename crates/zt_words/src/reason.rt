@@ -1,9 +1,9 @@
-//! Why a line that reads was refused.
+//! Finds why a line without a parse error was refused.
 
 use crate::fields::{field, last_place};
 use zt_rows::Refusal;
 
-/// Why a line that reads was refused.
+/// Why a line without a parse error was refused.
 #[derive(Clone, Copy)]
 pub enum Reason {
     NoProcess,
@@ -11,9 +11,9 @@ pub enum Reason {
     /// A `pinned` line, before any `pin`.
     NothingPinned,
     NoBranch,
-    /// Of a saved tree: its first branch is another than `main`.
+    /// In a saved tree: the first branch is not `main`.
     NotMain,
-    /// Of a saved tree: a cursor before any branch.
+    /// In a saved tree: a cursor comes before any branch.
     NoBranches,
     NameTaken,
     BadName,
@@ -27,7 +27,7 @@ pub enum Reason {
 }
 
 impl Reason {
-    /// It in words, up to the field that is at fault where that is named.
+    /// Returns the reason in words. Some reasons need the wrong field after these words.
     pub fn text(self) -> &'static str {
         match self {
             Reason::NoProcess => "no live process here has the koid ",
@@ -48,7 +48,7 @@ impl Reason {
         }
     }
 
-    /// The same, of what there is too much of.
+    /// Returns the reason in words, if it is a limit that was reached.
     fn text_of_limit(self) -> &'static str {
         match self {
             Reason::Full => "there are as many moments as can be, 1048576",
@@ -58,7 +58,7 @@ impl Reason {
         }
     }
 
-    /// Whether the field that is at fault is named behind the words.
+    /// Whether the wrong field comes after the words of the reason.
     pub fn names_field(self) -> bool {
         matches!(
             self,
@@ -72,7 +72,8 @@ impl Reason {
     }
 }
 
-/// Which field of a line is at fault that was refused so, counted from 0, and why; nothing, for what no line is refused as.
+/// Returns the place, counted from 0, of the wrong field of a refused line, and why it is wrong. Returns `None` for a refusal
+/// that no line gets.
 pub fn reason_of(line: &[u8], refusal: Refusal) -> Option<(usize, Reason)> {
     match refusal {
         Refusal::NoProcess => Some((0, Reason::NoProcess)),
@@ -88,7 +89,7 @@ pub fn reason_of(line: &[u8], refusal: Refusal) -> Option<(usize, Reason)> {
     }
 }
 
-/// The same of a line of a session text of version 2.
+/// Returns the place and the reason for a line of a session text of version 2.
 pub fn tree_reason_of(line: &[u8], refusal: Refusal) -> Option<(usize, Reason)> {
     let word = field(line, 0);
     match refusal {
@@ -102,7 +103,7 @@ pub fn tree_reason_of(line: &[u8], refusal: Refusal) -> Option<(usize, Reason)> 
     }
 }
 
-/// The same of what is at fault in the same field of a line of either.
+/// Returns the place and the reason for a refusal that concerns the same field in every kind of line.
 fn reason_in_any_line(refusal: Refusal) -> Option<(usize, Reason)> {
     match refusal {
         Refusal::NameTaken => Some((1, Reason::NameTaken)),

@@ -1,11 +1,11 @@
-//! The line of a session text for which it was refused.
+//! The wrong line of a session text, with an explanation.
 
 use crate::advice::{session_remark, tree_remark};
 use crate::explanation::{explanation, shown_line};
 use std::alloc::{AllocError, Global};
 use zt_rows::Refusal;
 
-/// A line of a session text, with the file that it stands in.
+/// A line of a session text, with the path of its file.
 #[derive(Debug, Drop)]
 pub struct TraceLine {
     path: String,
@@ -15,7 +15,8 @@ pub struct TraceLine {
 }
 
 impl TraceLine {
-    /// The line with this number of the text in the file; nothing, where no line has it or memory is refused.
+    /// Returns the line of this number, counted from 1, of the text in a file. Returns `None` if there is no such line or an
+    /// allocation fails.
     pub fn of(alloc: Global, path: &str, text: &[u8], number: u64) -> Option<TraceLine> {
         let bytes = line_of(text, number)?;
         Some(TraceLine {
@@ -25,7 +26,7 @@ impl TraceLine {
         })
     }
 
-    /// It in words, with its number and why it was refused.
+    /// Explains the line: its path and number, the line itself, and why it was refused.
     pub fn explained(
         &self,
         alloc: Global,
@@ -39,7 +40,7 @@ impl TraceLine {
         Ok(text)
     }
 
-    /// The line, and why it was refused.
+    /// Prints the line, and why it was refused.
     fn shown(&self, alloc: Global, number: u64, refusal: Refusal) -> Result<String, AllocError> {
         let line = self.bytes.as_slice();
         let remark = if self.is_of_tree {
@@ -54,7 +55,7 @@ impl TraceLine {
     }
 }
 
-/// The line with this number, counted from 1.
+/// Returns the line of this number, counted from 1.
 fn line_of(text: &[u8], number: u64) -> Option<&[u8]> {
     let before = number.checked_sub(1)? as usize;
     text.split(|byte| *byte == b'\n').nth(before)

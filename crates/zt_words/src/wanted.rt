@@ -1,13 +1,13 @@
-//! What is wanted of each field of a line.
+//! Describes what each field of a line must be.
 
-/// What a field is to be.
+/// What a field must be.
 #[derive(Clone, Copy)]
 pub enum Wanted {
     /// The first line of a session text.
     SessionLine,
-    /// What a line of a session text of version 2 begins with.
+    /// The word with which a line of a session text of version 2 begins.
     TreeLine,
-    /// What a line begins with.
+    /// The first field of a line.
     Beginning,
     /// The process that makes a call.
     Process,
@@ -19,23 +19,23 @@ pub enum Wanted {
     Job,
     Task,
     ProcessHandle,
-    /// The handle whose waits are taken back.
+    /// The handle whose waits are cancelled.
     Source,
-    /// What a new process receives.
+    /// The handle that a new process receives.
     Argument,
     Rights,
-    /// Signals that are cleared.
+    /// The signals to clear.
     Cleared,
-    /// Signals that are set.
+    /// The signals to set.
     Set,
-    /// Signals that are waited for.
+    /// The signals to wait for.
     Signals,
     Key,
     Bytes,
     Handles,
-    /// How many bytes there is room for.
+    /// The room for bytes, as their number.
     ByteRoom,
-    /// How many handles there is room for.
+    /// The room for handles, as their number.
     HandleRoom,
     Discard,
     Edge,
@@ -45,17 +45,17 @@ pub enum Wanted {
     Count,
     Name,
     Koid,
-    /// The client whose cursor is to come.
+    /// The client whose cursor comes next.
     Client,
-    /// How it stands: behind a branch, or at a moment.
+    /// How a client stands: it follows a branch, or is at a moment.
     Cursor,
     Happening,
-    /// What may stand behind `pinned`.
+    /// The word after `pinned`.
     PinnedQuestion,
 }
 
 impl Wanted {
-    /// It in words.
+    /// Returns it in words.
     pub fn text(self) -> &'static str {
         match self {
             Wanted::SessionLine => "`zxtt 1` or `zxtt 2`, the first line of a session text",
@@ -99,7 +99,7 @@ impl Wanted {
     }
 }
 
-/// The fields behind the name of a call, in their order; nothing, where no call has the name.
+/// Returns the fields after the name of a call, in order; `None` if no call has this name.
 pub fn fields_of_call(name: &[u8]) -> Option<&'static [Wanted]> {
     match name {
         b"event_create" | b"eventpair_create" | b"channel_create" | b"port_create" => Some(&[]),
@@ -126,7 +126,7 @@ pub fn fields_of_call(name: &[u8]) -> Option<&'static [Wanted]> {
     }
 }
 
-/// The same, of the calls on ports, jobs and processes.
+/// Returns the fields after the name of a call on a port, job or process, in order; `None` if no such call has this name.
 fn fields_of_other_call(name: &[u8]) -> Option<&'static [Wanted]> {
     match name {
         b"port_queue" => Some(&[Wanted::Port, Wanted::Key, Wanted::Packet]),
@@ -141,7 +141,7 @@ fn fields_of_other_call(name: &[u8]) -> Option<&'static [Wanted]> {
     }
 }
 
-/// The fields behind the name of a command, in their order; nothing, where no command has the name.
+/// Returns the fields after the name of a command, in order; `None` if no command has this name.
 pub fn fields_of_command(name: &[u8]) -> Option<&'static [Wanted]> {
     match name {
         b"goto" => Some(&[Wanted::Moment]),
@@ -155,8 +155,8 @@ pub fn fields_of_command(name: &[u8]) -> Option<&'static [Wanted]> {
     }
 }
 
-/// The fields behind the first word of a line of a session text of version 2, in their order, with the third field of the
-/// line; of a call those ahead of its process.
+/// Returns the fields after the first word of a line of a session text of version 2, in order; `None` for another word. `third`
+/// is the third field of the line. For `call` only the fields before the process are returned.
 pub fn fields_of_tree_line(word: &[u8], third: &[u8]) -> Option<&'static [Wanted]> {
     match word {
         b"call" => Some(&[Wanted::Moment]),

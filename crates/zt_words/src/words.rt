@@ -1,4 +1,4 @@
-//! The words of the command line.
+//! Reads the command line of `zxtt`.
 
 ghost use Rattle.std.specs.Prelude.{◌≡◌, IfOk, codes, false, map, string_bytes};
 ghost use Rattle.clap.specs.Words.{HasMatchesOf, app_of, found_of, new_app, rows_of, rule_of, subcommand_of, subcommand_rows_of, with_rule};
@@ -12,9 +12,9 @@ use clap::{Arg, ArgAction, ArgMatches, Command, Error, value_parser};
 use std::alloc::Global;
 use std::{env, fs};
 
-// No clause tells the texts that these functions give, so that who asks for one is proved without going over its bytes.
+// The contracts do not say which texts these functions return, so proofs of their callers need not go over the bytes.
 
-/// What the program does.
+/// The description of the program.
 fn about() -> &'static str {
     "A time-travel debugger for traces of Zircon's kernel objects.
 
@@ -25,42 +25,42 @@ at once. So one can go back to the call that leaked a handle, closed a peer or
 killed a job."
 }
 
-/// What `run` does.
+/// The description of `run`.
 fn run_about<'a>() -> &'a str {
     "Answers the lines of a file; without any words the program does this"
 }
 
-/// What `serve` does.
+/// The description of `serve`.
 fn serve_about<'a>() -> &'a str {
     "Answers the lines of clients that connect to a port, over one history"
 }
 
-/// What the word `from` does.
+/// The help of `--from`.
 fn from_help() -> &'static str {
     "Begins with the calls or the whole tree of a session text"
 }
 
-/// What the word `save` does.
+/// The help of `--save`.
 fn save_help() -> &'static str {
     "Writes the calls on `main` as a session text, once the input has ended"
 }
 
-/// What the word `save-tree` does.
+/// The help of `--save-tree`.
 fn save_tree_help() -> &'static str {
     "Writes the whole tree as a session text, all branches and where each client stands, at the end"
 }
 
-/// What the word `clients` does.
+/// The help of `--clients`.
 fn clients_help() -> &'static str {
     "How many connections are accepted, 1 to 4; they are the clients 1 to N, in that order"
 }
 
-/// What the word `explain` does.
+/// The help of `--explain`.
 fn explain_help() -> &'static str {
     "Says on standard error why lines were refused: number, line, caret and what is wanted there"
 }
 
-/// What is said behind the words.
+/// The text after the help.
 fn examples<'a>() -> &'a str {
     "Lines, with what they do:
   1025 event_create               process 1025, which is there from the start, makes an event
@@ -81,53 +81,53 @@ Exit statuses:
   6  anything else was refused, as a line of a loaded trace"
 }
 
-/// The words that the program was started with.
+/// The words with which the program was started.
 #[derive(Drop)]
 pub struct Words {
     pub words: Vec<String>,
 }
 
-/// What `run` is asked for.
+/// What `run` is asked to do.
 #[derive(Clone, Copy)]
 pub struct RunWords<'a> {
-    /// The file of the lines, or `-` for standard input.
+    /// The file to read lines from, or `-` for standard input.
     pub file: &'a str,
-    /// The trace that the history begins with.
+    /// The trace with which the history begins.
     pub from: Option<&'a str>,
     /// The file to which the history of `main` is saved.
     pub save: Option<&'a str>,
     /// The file to which the whole tree is saved.
     pub save_tree: Option<&'a str>,
-    /// Whether lines that were refused are explained.
+    /// Whether refused lines are explained.
     pub explain: bool,
 }
 
-/// What `serve` is asked for, on its port, for so many clients.
+/// What `serve` is asked to do, on this port and for this many clients.
 #[derive(Clone, Copy)]
 pub struct ServeWords<'a> {
     pub port: u16,
     pub clients: u8,
-    /// The trace that the history begins with.
+    /// The trace with which the history begins.
     pub from: Option<&'a str>,
     /// The file to which the whole tree is saved.
     pub save_tree: Option<&'a str>,
-    /// Whether lines that were refused are explained.
+    /// Whether refused lines are explained.
     pub explain: bool,
 }
 
-/// What the words ask for.
+/// What the words ask the program to do.
 #[derive(Clone, Copy)]
 pub enum Asked<'a> {
-    /// To run the lines of a file.
+    /// Run the lines of a file.
     Run(RunWords<'a>),
-    /// To serve the clients of a port.
+    /// Serve clients that connect to a port.
     Serve(ServeWords<'a>),
-    /// To answer a question about a session text.
+    /// Answer a question about a session text.
     Look(Look<'a>),
 }
 
 impl Words {
-    /// The words, the program's own name among them.
+    /// Reads the words, with the program's own name first. Fails with `Unread` or `OutOfMemory`.
     pub fn of(rt: &HostRuntime) -> Result<Words, WordsFault> {
         let words = match env::args(rt) {
             Ok(words) => words,
@@ -139,7 +139,8 @@ impl Words {
         }
     }
 
-    /// What they ask for. No words at all ask to run standard input.
+    /// Returns what the words ask for. Without words, the program runs standard input. Fails with `Refused` if the words are not
+    /// accepted or ask for help, and with `Unasked` if they ask `look` no question.
     pub fn asked(&self, alloc: Global) -> Result<Asked<'_>, WordsFault>
         ensures { IfOk result (IsAskedWith (map string_bytes self.now.words.items)) }
     {
@@ -149,7 +150,7 @@ impl Words {
         self.parsed(alloc)
     }
 
-    /// Whether `--explain` is among them.
+    /// Whether `--explain` is among the words.
     pub fn ask_to_explain(&self) -> bool {
         for word in &self.words {
             if word.as_str() == "--explain" {
@@ -159,7 +160,7 @@ impl Words {
         false
     }
 
-    /// The first of them, where it stands in the place of a subcommand and names a file, or has the look of a file's name.
+    /// Returns the first word if it is in the place of a subcommand, but names a file or looks like the name of one.
     pub fn file_alone(&self, rt: &HostRuntime) -> Option<&str> {
         let word = self.words.get(1)?.as_str();
         let is_other = word.starts_with('-') || matches!(word, "run" | "serve" | "look" | "help");
@@ -170,7 +171,7 @@ impl Words {
         }
     }
 
-    /// What they ask for, as the command line is declared.
+    /// Returns what the words ask for, by the declared command line.
     fn parsed(&self, alloc: Global) -> Result<Asked<'_>, WordsFault>
         ensures { IfOk result (IsAskedBy (subcommand_of command_line (map string_bytes self.now.words.items))) }
     {
@@ -180,7 +181,7 @@ impl Words {
         }
     }
 
-    /// What is met of them.
+    /// Parses the words with clap.
     fn met(&self, alloc: Global) -> Result<ArgMatches<'_>, Error>
         ensures { IfOk result (HasMatchesOf command_line (map string_bytes self.now.words.items)) }
     {
@@ -189,7 +190,7 @@ impl Words {
     }
 }
 
-/// What is done where nothing else is asked for: standard input is run.
+/// The default: run standard input.
 fn unasked<'a>() -> Asked<'a>
     ensures { IsStandardInput result }
 {
@@ -202,7 +203,7 @@ fn unasked<'a>() -> Asked<'a>
     })
 }
 
-/// What the words that were met ask for.
+/// Returns what the parsed words ask for.
 fn asked_of<'a>(matches: &ArgMatches<'a>) -> Result<Asked<'a>, WordsFault>
     ensures { IfOk result (IsAskedBy (subcommand_rows_of matches.now)) }
 {
@@ -217,7 +218,7 @@ fn asked_of<'a>(matches: &ArgMatches<'a>) -> Result<Asked<'a>, WordsFault>
     }
 }
 
-/// What the words behind `look` ask for.
+/// Returns what the parsed words after `look` ask for.
 fn looked_for<'a>(words: &ArgMatches<'a>) -> Result<Asked<'a>, WordsFault>
     ensures { IfOk result (IsLookedFor (rows_of (found_of words.now))) }
 {
@@ -227,7 +228,7 @@ fn looked_for<'a>(words: &ArgMatches<'a>) -> Result<Asked<'a>, WordsFault>
     }
 }
 
-/// What the words behind `run` ask for.
+/// Returns what the parsed words after `run` ask for.
 fn run_of<'a>(words: &ArgMatches<'a>) -> Asked<'a>
     ensures { IsRunOf (rows_of (found_of words.now)) result }
 {
@@ -240,7 +241,7 @@ fn run_of<'a>(words: &ArgMatches<'a>) -> Asked<'a>
     })
 }
 
-/// What the words behind `serve` ask for.
+/// Returns what the parsed words after `serve` ask for.
 fn serve_of<'a>(words: &ArgMatches<'a>) -> Asked<'a>
     ensures { IsServeOf (rows_of (found_of words.now)) result }
 {
@@ -253,14 +254,14 @@ fn serve_of<'a>(words: &ArgMatches<'a>) -> Asked<'a>
     })
 }
 
-/// The command line.
+/// Declares the command line.
 fn command<'a>(alloc: Global) -> Result<Command<'a>, Error>
     ensures { IfOk result (λ command. app_of command ≡ command_line) }
 {
     Ok(talk_command(alloc)?.subcommand(look_command(alloc)?)?)
 }
 
-/// The words that answer line by line.
+/// Declares the subcommands that answer line by line.
 fn talk_command<'a>(alloc: Global) -> Result<Command<'a>, Error>
     ensures line { IfOk result (λ command. app_of command ≡ talk_line) }
     ensures globals { IfOk result (λ command. (fields_of command).has_globals ≡ false) }
@@ -276,7 +277,7 @@ fn talk_command<'a>(alloc: Global) -> Result<Command<'a>, Error>
     )
 }
 
-/// The word of the session text that a history begins with.
+/// The option `--from`: the session text with which the history begins.
 fn from_word<'a>(alloc: Global) -> Arg<'a>
     ensures rule { rule_of result ≡ valued (codes "from") }
     ensures global { result.global ≡ false }
@@ -288,7 +289,7 @@ fn from_word<'a>(alloc: Global) -> Arg<'a>
         .help(from_help())
 }
 
-/// The word of the session text that a run leaves.
+/// The option `--save`: the session text that a run writes.
 fn save_word<'a>(alloc: Global) -> Arg<'a>
     ensures rule { rule_of result ≡ valued (codes "save") }
     ensures global { result.global ≡ false }
@@ -300,7 +301,7 @@ fn save_word<'a>(alloc: Global) -> Arg<'a>
         .help(save_help())
 }
 
-/// The word of the session text of the whole tree that the program leaves.
+/// The option `--save-tree`: the session text of the whole tree that the program writes.
 fn save_tree_word<'a>(alloc: Global) -> Arg<'a>
     ensures rule { rule_of result ≡ valued (codes "save-tree") }
     ensures global { result.global ≡ false }
@@ -312,7 +313,7 @@ fn save_tree_word<'a>(alloc: Global) -> Arg<'a>
         .help(save_tree_help())
 }
 
-/// The word of what is said of lines that were refused.
+/// The flag `--explain`: whether refused lines are explained.
 fn explain_word<'a>(alloc: Global) -> Arg<'a>
     ensures rule { rule_of result ≡ flag (codes "explain") }
     ensures global { result.global ≡ false }
@@ -323,7 +324,7 @@ fn explain_word<'a>(alloc: Global) -> Arg<'a>
         .help(explain_help())
 }
 
-/// The word of the lines that are run.
+/// The argument `FILE`: the lines to run.
 fn file_word<'a>(alloc: Global) -> Arg<'a>
     ensures rule { rule_of result ≡ file_word }
     ensures global { result.global ≡ false }
@@ -334,7 +335,7 @@ fn file_word<'a>(alloc: Global) -> Arg<'a>
         .help("The lines; `-` is standard input")
 }
 
-/// The word of the port that is listened on.
+/// The argument `PORT`: the port to listen on.
 fn port_word<'a>(alloc: Global) -> Arg<'a>
     ensures rule { rule_of result ≡ port_word }
     ensures global { result.global ≡ false }
@@ -346,7 +347,7 @@ fn port_word<'a>(alloc: Global) -> Arg<'a>
         .help("The port of 127.0.0.1 that is listened on")
 }
 
-/// The word of how many clients are served.
+/// The option `--clients`: how many clients are served.
 fn clients_word<'a>(alloc: Global) -> Arg<'a>
     ensures rule { rule_of result ≡ clients_word }
     ensures global { result.global ≡ false }
@@ -360,7 +361,7 @@ fn clients_word<'a>(alloc: Global) -> Arg<'a>
         .help(clients_help())
 }
 
-/// A word that tells what is done, with what is said of it and no words behind it.
+/// A subcommand without arguments, with its description and the text after its help.
 pub fn told_command<'a>(
     alloc: Global,
     name: &'a str,
@@ -373,7 +374,7 @@ pub fn told_command<'a>(
     Command::new(alloc, name).about(about).after_help(examples)
 }
 
-/// A word's command with the words that `run` and `serve` have behind all others.
+/// Adds the options that come last in `run` and in `serve`: `--save-tree` and `--explain`.
 fn with_last_words<'a>(alloc: Global, command: Command<'a>) -> Result<Command<'a>, Error>
     requires { (fields_of command).has_globals ≡ false }
     ensures line { IfOk result (λ done. app_of done ≡ with_rule (with_rule (app_of command.entry) (valued (codes "save-tree"))) (flag (codes "explain"))) }
@@ -386,7 +387,7 @@ fn with_last_words<'a>(alloc: Global, command: Command<'a>) -> Result<Command<'a
     )
 }
 
-/// The words behind `run`.
+/// Declares `run`.
 fn run_command<'a>(alloc: Global) -> Result<Command<'a>, Error>
     ensures line { IfOk result (λ command. app_of command ≡ run_line) }
     ensures globals { IfOk result (λ command. (fields_of command).has_globals ≡ false) }
@@ -398,7 +399,7 @@ fn run_command<'a>(alloc: Global) -> Result<Command<'a>, Error>
     with_last_words(alloc, words)
 }
 
-/// The words behind `serve`.
+/// Declares `serve`.
 fn serve_command<'a>(alloc: Global) -> Result<Command<'a>, Error>
     ensures line { IfOk result (λ command. app_of command ≡ serve_line) }
     ensures globals { IfOk result (λ command. (fields_of command).has_globals ≡ false) }

@@ -1,16 +1,16 @@
-//! Lines that are written to standard output, one by one.
+//! Writes the lines of an answer to standard output.
 
 use std::alloc::AllocError;
 use std::io;
 use std::io::{BufWriter, Stdout, Write};
 use zt_rows::Refusal;
 
-/// What stops an answer.
+/// Why an answer stopped.
 #[derive(Debug, Drop)]
 pub enum Stopped {
-    /// Nobody reads on.
+    /// Nobody reads standard output any more.
     Unread,
-    /// This was refused.
+    /// A write or an allocation failed, or the question was refused.
     By(Refusal),
 }
 
@@ -36,27 +36,27 @@ impl From<io::Error> for Stopped {
     }
 }
 
-/// What lines are written to.
+/// The buffered writer of an answer.
 #[derive(Drop)]
 pub struct AnswerLines {
     writer: BufWriter<Stdout>,
 }
 
 impl AnswerLines {
-    /// No lines yet.
+    /// A writer without any lines yet.
     pub fn new(rt: &HostRuntime) -> Result<AnswerLines, Stopped> {
         Ok(AnswerLines {
             writer: BufWriter::new(rt.alloc(), rt.stdout())?,
         })
     }
 
-    /// Writes lines behind the others.
+    /// Writes more lines.
     pub fn write(&mut self, text: Vec<u8>) -> Result<(), Stopped> {
         self.writer.write_all(text.as_slice())?;
         Ok(())
     }
 
-    /// Writes what is kept back.
+    /// Writes what is still in the buffer.
     pub fn finish(mut self) -> Result<(), Stopped> {
         self.writer.flush()?;
         Ok(())

@@ -1,4 +1,4 @@
-//! Who sits beside a person who runs lines: greets, prompts, answers what is asked of it, and explains lines that were refused.
+//! The attendant of a person who runs lines: it greets, prompts, answers asides, and explains refused lines.
 
 use crate::faults::Fault;
 use crate::place::Place;
@@ -8,26 +8,26 @@ use std::io::IsTerminal;
 use zt_console::{Aside, Book, Host, Listener};
 use zt_words::{Heading, said_of};
 
-/// What hears the lines that are answered, and says on standard error what a person is to be told beside the answers. Where
-/// memory is refused it says nothing more.
+/// Hears the lines that are answered, and says on standard error what a person should know beside the answers. If an allocation
+/// fails, it explains no more lines.
 #[derive(Drop)]
 pub struct Attendant<'a> {
     rt: &'a HostRuntime,
-    /// Whether lines are explained.
+    /// Whether refused lines are explained.
     explains: Cell<bool>,
     /// Whether there is a prompt before each line.
     prompts: bool,
-    /// How many lines were answered or skipped.
+    /// How many lines were heard: answered or skipped.
     answered: Cell<u64>,
-    /// What is to be said before the next read.
+    /// What to say before the next read.
     told: Cell<String>,
-    /// Where the client of the lines stands, as far as that was told.
+    /// Where the client stands, as far as the answers said.
     place: Cell<Option<Place>>,
 }
 
 impl<'a> Attendant<'a> {
-    /// Who attends to lines, which a person types where standard input is read and is a terminal. They are explained where
-    /// that is asked for, or standard error is a terminal.
+    /// Makes the attendant of a run. A person types the lines if standard input is read, and it and standard error are terminals.
+    /// Refused lines are explained if that is asked for, or if standard error is a terminal.
     pub fn new(rt: &'a HostRuntime, reads_standard_input: bool, is_asked: bool) -> Attendant<'a> {
         let is_seen = rt.stderr().is_terminal();
         Attendant {
@@ -45,13 +45,13 @@ impl<'a> Attendant<'a> {
         self.prompts
     }
 
-    /// Says once who is there, to a person who begins with this book.
+    /// Greets a person who begins with this book.
     pub fn greet(&self, book: &Book) {
         self.place.set(Place::in_book(self.rt.alloc(), book));
         self.say(greeting());
     }
 
-    /// Says what is to be told: the lines that were read before have been answered.
+    /// Says what was kept to be said. All lines that were read before are answered by now.
     pub fn say_told(&self) {
         let told = self.told.replace(String::new(self.rt.alloc()));
         if !told.is_empty() {
@@ -59,7 +59,7 @@ impl<'a> Attendant<'a> {
         }
     }
 
-    /// Says where the client of the lines stands.
+    /// Says where the client stands.
     fn say_place(&self) {
         let place = self.place.replace(None);
         match &place {
@@ -73,14 +73,14 @@ impl<'a> Attendant<'a> {
         self.place.set(place);
     }
 
-    /// Keeps where the client of the lines stands once a line was answered by this text. Where memory is refused, that is not known.
+    /// Keeps where the client stands after a line was answered with this text. After a failed allocation that is not known.
     fn follow(&self, line: &[u8], text: &[u8]) {
         if let Some(place) = self.place.replace(None) {
             self.place.set(place.behind(self.rt.alloc(), line, text));
         }
     }
 
-    /// What is said of a line that was answered by this text is to be told. Lines that are not typed have a number.
+    /// Keeps the explanation of a line that was answered with this text, to be said later. A line that was not typed is numbered.
     fn note(&self, number: u64, line: &[u8], text: &[u8]) -> Result<(), AllocError> {
         let alloc = self.rt.alloc();
         let heading = if self.prompts {
@@ -97,7 +97,7 @@ impl<'a> Attendant<'a> {
         Ok(())
     }
 
-    /// Says the text. That it cannot be said is no fault of the run.
+    /// Says the text. If it cannot be written, the run goes on.
     fn say(&self, text: &str) {
         let _ = eprint!(self.rt; "{text}");
     }
@@ -135,19 +135,19 @@ impl Host for Attendant<'_> {
     }
 }
 
-/// What a person is told first.
+/// The first text for a person.
 fn greeting() -> &'static str {
     "zxtt 0.1: type a call, as `1025 event_create`, or a command, as `show`; each is answered.
 `help` lists what may be typed; `quit` or Ctrl-D ends the run.
 "
 }
 
-/// What is said where it is not known where the client stands.
+/// The answer to `where` if the client's place is not known.
 fn no_place() -> &'static str {
     "no answer has told where this is: `show` does\n"
 }
 
-/// What may be typed.
+/// The answer to `help`.
 fn help() -> &'static str {
     "Calls, each behind the process that makes it, as `1025 event_create`:
   event_create    eventpair_create    channel_create    port_create
@@ -167,8 +167,8 @@ At a terminal alone:
 "
 }
 
-/// Shows the line for which a session text was refused, if that ended the program, where that is asked for, or to a person at a
-/// terminal.
+/// Shows the wrong line of a session text, if one ended the program. It does so only if that is asked for, or if standard error
+/// is a terminal.
 pub fn show_trace_line(rt: &HostRuntime, fault: &Fault, is_asked: bool) {
     let Fault::Trace {
         line,

@@ -10,31 +10,33 @@ use zt_console::Counted;
 use zt_shared::Gate;
 use zt_words::{Heading, said_of};
 
-/// The two directions of a client's connection.
+/// The two directions of a client's connection: its reader and its writer.
 pub type Directions = (Counted<TcpStream>, Counted<TcpStream>);
 
-/// A client's connection, and how many lines of the client were answered or skipped.
+/// A client's connection, and how many of the client's lines were heard. Lines are counted only if they are explained.
 #[derive(Drop)]
 struct Connection {
     end: TcpStream,
     answered: AtomicU64,
 }
 
-/// The connections of the clients 1, 2 and so on. Each is shut for writing when its client's session has ended, so that the
-/// client gets the end of its answers while others are served. On standard error is said how many are waited for, who comes and who
-/// goes, and, where that is asked for, why lines were refused.
+/// The connections of the clients 1, 2 and so on. Each is shut for writing when its client's session has ended. So the client
+/// gets the end of its answers while others are still served.
+///
+/// Messages on standard error say how many clients are missing, who comes and who goes, and, if asked for, why lines were
+/// refused.
 #[derive(Drop)]
 pub struct Connections<'a, R> {
     rt: &'a R,
-    /// How many clients there are to be.
+    /// How many clients there will be.
     clients: u8,
-    /// Whether lines that were refused are explained.
+    /// Whether refused lines are explained.
     explains: bool,
     accepted: Vec<Connection>,
 }
 
 impl<'a, R: AllocGlobal + Eprint> Connections<'a, R> {
-    /// None yet, of so many clients.
+    /// No connections yet, for this many clients.
     pub fn new(rt: &'a R, clients: u8, explains: bool) -> Connections<'a, R> {
         let accepted = Vec::new(rt.alloc());
         Connections {
@@ -45,7 +47,7 @@ impl<'a, R: AllocGlobal + Eprint> Connections<'a, R> {
         }
     }
 
-    /// The next connection, which is that of this client.
+    /// Accepts the next connection, which is that of this client. Fails with `Unconnected`, or with `Refused` and `OutOfMemory`.
     pub fn accept(&mut self, listener: &TcpListener, client: u8) -> Result<Directions, Fault>
         ensures { IfOk result (λ ends. (ends.0.1 ≡ 0) × (ends.1.1 ≡ 0)) }
     {
@@ -59,14 +61,14 @@ impl<'a, R: AllocGlobal + Eprint> Connections<'a, R> {
         Ok(directions)
     }
 
-    /// Says how many clients are waited for, this one and those behind it.
+    /// Says how many clients are missing: this one and those after it.
     fn say_who_lacks(&self, client: u8) {
         let left = self.clients.saturating_sub(client).saturating_add(1);
         let clients = if left == 1 { "client" } else { "clients" };
         let _ = eprintln!(self.rt; "zxtt: waiting for {left} {clients}");
     }
 
-    /// Puts a connection behind the others, and gives its directions.
+    /// Keeps a connection, and returns its two directions.
     fn keep(&mut self, connection: TcpStream) -> Result<Directions, Fault>
         ensures { IfOk result (λ ends. (ends.0.1 ≡ 0) × (ends.1.1 ≡ 0)) }
     {
@@ -84,8 +86,7 @@ impl<'a, R: AllocGlobal + Eprint> Connections<'a, R> {
         }
     }
 
-    /// Says why a line was refused that was answered by this text, in one piece; nothing, where it was not. Where memory is refused
-    /// nothing is said.
+    /// Explains a line in one piece if the text of its answer is a refusal. If an allocation fails, it says nothing.
     fn explain(&self, heading: Heading, line: &[u8], text: &[u8]) {
         if let Ok(Some(said)) = said_of(self.rt.alloc(), heading, line, text) {
             let _ = eprint!(self.rt; "{said}");
@@ -93,7 +94,7 @@ impl<'a, R: AllocGlobal + Eprint> Connections<'a, R> {
     }
 }
 
-/// The connection twice.
+/// Returns two more handles of the connection: one to read and one to write.
 fn both(connection: &TcpStream) -> io::Result<(TcpStream, TcpStream)> {
     let reader = connection.try_clone()?;
     let writer = connection.try_clone()?;
@@ -101,7 +102,7 @@ fn both(connection: &TcpStream) -> io::Result<(TcpStream, TcpStream)> {
 }
 
 impl<R> Connections<'_, R> {
-    /// The connection of a client.
+    /// Returns the connection of a client.
     fn of_client(&self, client: u8) -> Option<&Connection> {
         self.accepted.get(usize::from(client).saturating_sub(1))
     }
@@ -125,7 +126,7 @@ impl<R: AllocGlobal + Eprint> Gate for Connections<'_, R> {
 
     fn ended(&self, client: u8) {
         if let Some(connection) = self.of_client(client) {
-            // (a client that is gone has nothing to be shut)
+            // A client that closed its connection has nothing to shut.
             let _ = connection.end.shutdown(Shutdown::Write);
         }
         let _ = eprintln!(self.rt; "zxtt: client {client} went");

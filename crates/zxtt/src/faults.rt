@@ -1,4 +1,4 @@
-//! What ends the program before it is done.
+//! Why the program ends early, and its exit status.
 
 ghost use Rattle.std.specs.Prelude.{◌≡◌, ℕ};
 ghost use Rattle.zt_rows.specs.declared.refusals.Refusal.TheVariants as refusal;
@@ -52,14 +52,14 @@ pub enum Fault {
 }
 
 impl Fault {
-    /// Memory was refused.
+    /// An allocation failed.
     pub fn of_memory() -> Fault
         ensures { result ≡ fault.Refused refusal.OutOfMemory }
     {
         Fault::Refused(Refusal::OutOfMemory)
     }
 
-    /// A file was not read or written. No session text is at fault.
+    /// A file was not read or written. This is never about the lines of a session text.
     pub fn of_file(fault: FileFault) -> Fault
         ensures { (clients : ℕ) → TellsOfSomeText clients result }
     {
@@ -70,7 +70,7 @@ impl Fault {
         }
     }
 
-    /// The exit status.
+    /// Returns the exit status.
     pub fn status(&self) -> u8
         ensures { result ≡ fault_status self.now }
     {
@@ -96,7 +96,7 @@ impl From<Refusal> for Fault {
     }
 }
 
-/// The exit status where the words ask for nothing.
+/// Returns the exit status if the words ask for nothing.
 fn words_status(fault: &WordsFault) -> u8
     ensures { result ≡ words_status fault.now }
 {
@@ -106,7 +106,7 @@ fn words_status(fault: &WordsFault) -> u8
     }
 }
 
-/// The exit status where this was refused.
+/// Returns the exit status for a refusal.
 pub fn stopped_status(refusal: Refusal) -> u8
     ensures { result ≡ stopped_status refusal }
 {

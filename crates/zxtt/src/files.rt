@@ -1,4 +1,4 @@
-//! Session texts that are loaded and saved.
+//! Loads and saves session texts.
 
 ghost use Rattle.std.specs.Prelude.{◌≡◌, length, IfErr, IfOk, List, ℕ};
 ghost use Rattle.zt_shared.specs.Sharing.{IsFresh};
@@ -13,7 +13,7 @@ use zt_console::{Book, LoadProgress, load_read, load_text_told, main_text, tree_
 use zt_files::{FileFault, Progress, is_regular, read_rest, rewind, write_whole};
 use zt_words::TraceLine;
 
-/// Opens a file to be read.
+/// Opens a file for reading. Fails with `Unopened`, or with `Refused` and `OutOfMemory`.
 pub fn open(rt: &HostRuntime, path: &str) -> Result<File, Fault>
     ensures { (clients : ℕ) → IfErr result (TellsOfSomeText clients) }
 {
@@ -23,12 +23,11 @@ pub fn open(rt: &HostRuntime, path: &str) -> Result<File, Fault>
     }
 }
 
-/// The book of so many clients over the tree of a session text that is read from a file. A person at a terminal is told how far
-/// the loading is.
+/// Loads a session text from a file into a book with this many clients. A person at a terminal sees the progress.
 ///
-/// Where nobody is told, a text of calls is loaded while it is read. If that does not give a book, the file is read again from
-/// its beginning and whole, and what is told is the fault of that text; so where the file changed meanwhile, it is the
-/// later one that is loaded or told at fault. What cannot be read again, as a pipe, is read whole at once.
+/// If no progress is shown, a text of version 1 is loaded while it is read. If that fails, the file is read again as a whole, and
+/// its errors are those of this second read. So if the file changed in between, the later text is loaded or reported. A file that
+/// cannot be read twice, such as a pipe, is read as a whole at once.
 pub fn load(rt: &HostRuntime, clients: u8, path: &str) -> Result<Book, Fault>
     ensures loaded { IfOk result (λ book. (text : List ℕ) × IsLoadedOf clients text book) }
     ensures refused { IfErr result (TellsOfSomeText clients) }
@@ -55,7 +54,7 @@ pub fn load(rt: &HostRuntime, clients: u8, path: &str) -> Result<Book, Fault>
     book_of(rt.alloc(), clients, path, text.as_slice(), &told)
 }
 
-/// The book over the tree of a session text for `look`, which stands in the file, or on standard input for `-`.
+/// Loads the session text for `look` from a file, or from standard input for `-`.
 pub fn load_looked(rt: &HostRuntime, file: &str) -> Result<Book, Fault>
     ensures loaded { IfOk result (λ book. (text : List ℕ) × IsLoadedOf 1 text book) }
     ensures refused { IfErr result (TellsOfSomeText 1) }
@@ -67,7 +66,7 @@ pub fn load_looked(rt: &HostRuntime, file: &str) -> Result<Book, Fault>
     }
 }
 
-/// The book of so many clients over the tree of a session text that stands on standard input.
+/// Loads a session text from standard input into a book with this many clients.
 fn load_input(rt: &HostRuntime, clients: u8) -> Result<Book, Fault>
     ensures loaded { IfOk result (λ book. (text : List ℕ) × IsLoadedOf clients text book) }
     ensures refused { IfErr result (TellsOfSomeText clients) }
@@ -96,7 +95,7 @@ fn go_back(file: &mut File) -> Result<(), Fault>
     }
 }
 
-/// All bytes of a file that are not read yet.
+/// Reads all bytes that are left of a file or of standard input.
 fn rest<R: Read>(alloc: Global, reader: &mut R) -> Result<Vec<u8>, Fault>
     ensures { (clients : ℕ) → IfErr result (TellsOfSomeText clients) }
 {
@@ -106,8 +105,7 @@ fn rest<R: Read>(alloc: Global, reader: &mut R) -> Result<Vec<u8>, Fault>
     }
 }
 
-/// The book of so many clients over the tree of a session text, which was read from this file. What was told of how far that is
-/// is wiped in the end.
+/// Loads a session text, which was read from `path`, into a book with this many clients. Erases the line of progress at the end.
 fn book_of(
     alloc: Global,
     clients: u8,
@@ -143,8 +141,8 @@ pub fn look_ahead(rt: &HostRuntime, to: Option<&str>) {
     }
 }
 
-/// Writes the session text of the path to the head of `main`, if a file is named. Where it cannot be written, a file that
-/// stands there stays.
+/// Writes the session text of the path to the head of `main`, if a file is named. `write_whole` says what an existing file has
+/// after a failure.
 pub fn save(rt: &HostRuntime, book: &Book, to: Option<&str>) -> Result<(), Fault> {
     let Some(path) = to else {
         return Ok(());
@@ -153,7 +151,7 @@ pub fn save(rt: &HostRuntime, book: &Book, to: Option<&str>) -> Result<(), Fault
     written(write_whole(rt, path, text.as_slice()))
 }
 
-/// The same with the session text of the whole tree.
+/// Writes the session text of the whole tree, if a file is named. `write_whole` says what an existing file has after a failure.
 pub fn save_tree(rt: &HostRuntime, book: &Book, to: Option<&str>) -> Result<(), Fault> {
     let Some(path) = to else {
         return Ok(());
@@ -162,7 +160,7 @@ pub fn save_tree(rt: &HostRuntime, book: &Book, to: Option<&str>) -> Result<(), 
     written(write_whole(rt, path, text.as_slice()))
 }
 
-/// What ends the program where a file is not written.
+/// Converts the error of a file that was not written.
 fn written(done: Result<(), FileFault>) -> Result<(), Fault> {
     match done {
         Ok(()) => Ok(()),

@@ -1,4 +1,4 @@
-//! One question about a session text, and its answer.
+//! Answers one question about a session text.
 
 ghost use Rattle.std.specs.Prelude.{◌≡◌};
 ghost use Rattle.zt_history.specs.HistoryRefusals.{moment_on};
@@ -19,7 +19,7 @@ use zt_look::{
 use zt_rows::{Call, Happening, Koid, Moment, Refusal};
 use zt_words::{Look, Question};
 
-/// Answers what is asked, on standard output. Where nobody reads on, it ends at once, and all is well.
+/// Answers a question on standard output. If nobody reads the output any more, it ends at once without an error.
 pub fn look(rt: &HostRuntime, asked: &Look<'_>) -> Result<(), Fault> {
     let book = load_looked(rt, asked.file)?;
     let mut history = book.into_history();
@@ -31,7 +31,7 @@ pub fn look(rt: &HostRuntime, asked: &Look<'_>) -> Result<(), Fault> {
     }
 }
 
-/// Answers what is asked of a history.
+/// Answers a question about a history.
 fn answer(rt: &HostRuntime, history: &mut History, asked: &Look<'_>) -> Result<(), Stopped> {
     let at = path_end(history, asked.at, asked.branch)?;
     let mut lines = AnswerLines::new(rt)?;
@@ -39,7 +39,7 @@ fn answer(rt: &HostRuntime, history: &mut History, asked: &Look<'_>) -> Result<(
     lines.finish()
 }
 
-/// The end of the path that is looked at.
+/// Returns the moment at the end of the path.
 fn path_end(history: &History, at: Option<Moment>, branch: Option<&str>) -> Result<Moment, Refusal>
     ensures { result ≡ path_end history.now.tree at branch.entry }
 {
@@ -52,7 +52,7 @@ fn path_end(history: &History, at: Option<Moment>, branch: Option<&str>) -> Resu
     }
 }
 
-/// The moment, if it is there.
+/// Returns the moment, or fails with `NoMoment` beyond the last one.
 fn moment_there(history: &History, moment: Moment) -> Result<Moment, Refusal>
     ensures { result ≡ moment_on history.now.tree moment }
 {
@@ -63,7 +63,7 @@ fn moment_there(history: &History, moment: Moment) -> Result<Moment, Refusal>
     }
 }
 
-/// The head of the branch with this name, if it is there.
+/// Returns the head of the branch with this name, or fails with `NoBranch`.
 fn head_named(history: &History, name: &str) -> Result<Moment, Refusal>
     ensures { result ≡ head_named history.now.tree name.now }
 {
@@ -94,7 +94,7 @@ fn answer_at(
     }
 }
 
-/// Writes the calls of the path that are asked for.
+/// Writes the calls of the path that the filter selects.
 fn write_calls(
     alloc: Global,
     lines: &mut AnswerLines,
@@ -111,7 +111,7 @@ fn write_calls(
     Ok(())
 }
 
-/// How a call is shown: by names, where these are asked for, as the kind of the object tells whose signals it has.
+/// Returns how to print a call. If names are asked for, the kind of the object decides the names of its signals.
 fn naming_of_call(history: &mut History, made: &CallMade, names: bool) -> Result<Naming, Refusal> {
     if !names {
         return Ok(Naming::masks());
@@ -138,7 +138,7 @@ fn write_changes(
     Ok(())
 }
 
-/// Writes rows that the call of a moment changed, with names.
+/// Writes the rows that the call of a moment changed, with names.
 fn write_named_changes(
     alloc: Global,
     lines: &mut AnswerLines,
@@ -157,7 +157,7 @@ fn write_named_changes(
     Ok(())
 }
 
-/// Writes what happened to objects on the path, of what is asked for.
+/// Writes the wanted happenings to objects on the path.
 fn write_events(
     alloc: Global,
     lines: &mut AnswerLines,
@@ -187,7 +187,7 @@ fn write_event(
     }
 }
 
-/// Writes an object at the end of the path, and when each of the four happened to it.
+/// Writes an object at the end of the path, and when each of the four happenings happened to it.
 fn write_object(
     alloc: Global,
     lines: &mut AnswerLines,
@@ -202,7 +202,7 @@ fn write_object(
     write_times(alloc, lines, history, &object, names)
 }
 
-/// Writes when each of the four happened to an object.
+/// Writes when each of the four happenings happened to an object.
 fn write_times(
     alloc: Global,
     lines: &mut AnswerLines,
@@ -230,7 +230,7 @@ fn write_times(
     )
 }
 
-/// Writes when one of the four happened.
+/// Writes when one happening happened.
 fn write_time(
     alloc: Global,
     lines: &mut AnswerLines,
@@ -243,7 +243,7 @@ fn write_time(
     lines.write(print_when(alloc, what, &found, names)?)
 }
 
-/// The call of a moment, if there is one.
+/// Returns the call of a moment, if there is one.
 fn call_at(history: &History, moment: Option<Moment>) -> Option<(Moment, Koid, &Call)> {
     match moment {
         Some(moment) => match history.call_of(moment) {
@@ -287,7 +287,7 @@ fn write_messages(
     Ok(())
 }
 
-/// Writes one message, with the calls that wrote and ended it.
+/// Writes one message, with the call that wrote it and the call that ended it.
 fn write_message(
     alloc: Global,
     lines: &mut AnswerLines,
@@ -334,7 +334,7 @@ fn write_branch(
     lines.write(print_branch(alloc, name_of(history, branch.id), branch.head, &leaves)?)
 }
 
-/// The name of a branch that is there.
+/// Returns the name of a branch, or no bytes if there is no such branch.
 fn name_of(history: &History, id: BranchId) -> &[u8] {
     if id.0 < history.branches() {
         history.name(id)

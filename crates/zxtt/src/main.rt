@@ -1,4 +1,4 @@
-//! `zxtt` reads calls and commands line by line, and answers each; or it answers one question about a session text.
+//! `zxtt` answers calls and commands line by line, or answers one question about a session text.
 #![tactic(auto)]
 
 ghost use Rattle.std.specs.Prelude.{◌≡◌, ◌≤◌, length, IfErr, IfOk};
@@ -57,8 +57,8 @@ fn main(rt: HostRuntime) -> ExitCode {
     status
 }
 
-/// Says what ended the program before it was done, if something did, and gives its status. Where that is asked for, the line
-/// for which a session text was refused is explained.
+/// Reports why the program ended early, if it did, and returns its exit status. If asked for, it also explains the wrong line of
+/// a session text.
 fn ended(rt: &HostRuntime, done: &Result<(), Fault>, explains: bool) -> ExitCode
     ensures { exit_status result ≡ end_status done.now }
 {
@@ -72,7 +72,7 @@ fn ended(rt: &HostRuntime, done: &Result<(), Fault>, explains: bool) -> ExitCode
     }
 }
 
-/// Says where a trace stands among the words, if they were not accepted and have a file in the place of a subcommand.
+/// Says where the path of a trace must be, if the words were not accepted and a file is in the place of a subcommand.
 fn say_where_traces_stand(rt: &HostRuntime, words: &Words, done: &Result<(), Fault>) {
     if !matches!(done, Err(Fault::Words(WordsFault::Refused(_)))) {
         return;
@@ -84,12 +84,12 @@ fn say_where_traces_stand(rt: &HostRuntime, words: &Words, done: &Result<(), Fau
     }
 }
 
-/// Where a trace stands.
+/// The first line of that hint.
 fn traces_stand() -> &'static str {
     "A trace stands behind `look` or `run --from`:"
 }
 
-/// Runs the lines of a file, and saves the history of `main`, and then the whole tree, if files are named.
+/// Runs the lines of a file. Then it saves the history of `main` and the whole tree, if files are named.
 fn run_asked(rt: &HostRuntime, words: &RunWords<'_>) -> Result<(), Fault> {
     let book = begin(rt, 1, words.from)?;
     let book = run_file(rt, book, words)?;
@@ -98,7 +98,7 @@ fn run_asked(rt: &HostRuntime, words: &RunWords<'_>) -> Result<(), Fault> {
     saved
 }
 
-/// The book that is served. What cannot be saved in the end is told before anybody is listened to.
+/// Makes the book to serve. If the tree could not be saved at the end, it says so before it listens.
 fn begin_to_serve(rt: &HostRuntime, words: &ServeWords<'_>) -> Result<Book, Fault>
     ensures { IfOk result (IsFresh words.now.clients) }
 {
@@ -118,7 +118,7 @@ fn save_asked(
     save_tree(rt, book, tree_to)
 }
 
-/// Leaves the memory of what a program has until it ends to the system, which takes it back all at once.
+/// Never frees a value that is needed until the end: the system frees all memory at once when the process exits.
 pub(crate) fn leave<T: Drop>(kept: T) {
     forget(kept);
 }
@@ -135,7 +135,7 @@ fn save_served(
     saved
 }
 
-/// A book of so many clients at the opening, or over a trace if one is named.
+/// Makes a book with this many clients at the opening, or loads a trace if one is named.
 fn begin(rt: &HostRuntime, clients: u8, from: Option<&str>) -> Result<Book, Fault>
     ensures begins { IfOk result (BeginsFrom clients from.entry) }
     ensures clients { IfOk result (λ book. length book.session.clients ≡ clients) }
@@ -166,7 +166,7 @@ fn run_file(rt: &HostRuntime, book: Book, words: &RunWords<'_>) -> Result<Book, 
     }
 }
 
-/// Says what cannot be saved in the end, as far as that shows before any line is read.
+/// Says which files could not be saved at the end, as far as that shows before any line is read.
 fn tell_ahead(rt: &HostRuntime, words: &RunWords<'_>) {
     look_ahead(rt, words.save);
     look_ahead(rt, words.save_tree);
@@ -188,7 +188,7 @@ fn run_input<'a>(
     }
 }
 
-/// Runs the lines of the reader, and answers on standard output. The attendant hears them.
+/// Runs the lines of the reader, and answers on standard output. The attendant hears the lines.
 fn run_lines<'a, R: Read + Drop>(
     rt: &'a HostRuntime,
     book: Book,
@@ -206,7 +206,7 @@ fn run_lines<'a, R: Read + Drop>(
     left(book, end)
 }
 
-/// The book that a run left, if the run was finished.
+/// Returns the book of a finished run, or the refusal that stopped the run.
 fn left(book: Book, end: End) -> Result<Book, Fault>
     ensures finished { IfOk result (λ given. (end ≡ Finished) × (given ≡ book)) }
     ensures stopped { IfErr result (λ fault. (cause : Refusal) × (end ≡ Stopped cause) × (fault ≡ Refused cause)) }

@@ -1,4 +1,4 @@
-//! Where a client stands, by what it was answered last.
+//! Follows where a client stands, by its last answers.
 
 use std::alloc::{AllocError, Global};
 use zt_console::Book;
@@ -8,14 +8,14 @@ use zt_words::field;
 /// Where a client stands.
 #[derive(Drop)]
 pub struct Place {
-    /// The moment, as it was told.
+    /// The moment, as it was printed.
     moment: String,
-    /// The branch that is followed, if one is.
+    /// The branch that the client follows, if it follows one.
     branch: Option<String>,
 }
 
 impl Place {
-    /// Where the first client of a book stands.
+    /// Returns where the first client of a book stands. Returns `None` if that cannot be told, as after a failed allocation.
     pub fn in_book(alloc: Global, book: &Book) -> Option<Place> {
         let places = book.save_places().ok()?;
         match places.cursors.as_slice().first()? {
@@ -33,7 +33,8 @@ impl Place {
         Some(Place { moment, branch })
     }
 
-    /// Where the client stands whose line was answered by this text, and who stood here before.
+    /// Returns where the client stands after a line of it was answered with this text. Returns `None` if that cannot be told, as
+    /// after a failed allocation.
     pub fn behind(self, alloc: Global, line: &[u8], text: &[u8]) -> Option<Place> {
         let told = text.split(|byte| *byte == b'\n').next().unwrap_or(&[]);
         match field(told, 0) {
@@ -53,7 +54,7 @@ impl Place {
         }
     }
 
-    /// It in words, with a line feed.
+    /// Prints the place in words, with a line feed.
     pub fn shown(&self, alloc: Global) -> Result<String, AllocError> {
         let moment = self.moment.as_str();
         match &self.branch {
@@ -63,7 +64,7 @@ impl Place {
     }
 }
 
-/// These bytes as a text.
+/// Copies these bytes into a string. Returns `None` if they are not UTF-8 or an allocation fails.
 fn text_of(alloc: Global, bytes: &[u8]) -> Option<String> {
     String::from_str(alloc, str::from_utf8(bytes).ok()?).ok()
 }

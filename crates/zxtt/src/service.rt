@@ -1,4 +1,4 @@
-//! Clients that connect to a port, over one history.
+//! Serves clients that connect to a port, over one history.
 
 ghost use Rattle.std.specs.Prelude.{◌≡◌, map, All, IfOk};
 ghost use Rattle.zt_shared.specs.OpenedBook.{IsNamed};
@@ -18,8 +18,10 @@ use zt_rows::Refusal;
 use zt_shared::account::Naming;
 use zt_shared::{Beginning, Blanks, Pass, open_book};
 
-/// Serves so many clients that connect to a port of 127.0.0.1 over the book, prints how many rows its log has when all of
-/// them have gone, and gives it back. Where that is asked for, it says why lines were refused.
+/// Serves this many clients that connect to a port of 127.0.0.1 over the book, and returns the book. When all of them have gone,
+/// it prints how many rows the log has. If asked for, it explains refused lines.
+///
+/// Fails with `Unlistened`, `Unconnected`, or `Refused` with `OutOfMemory` or `WriteFault`.
 pub fn serve<
     R: Net<Listener = TcpListener, Stream = TcpStream>
         + Threads
@@ -51,7 +53,7 @@ pub fn serve<
     }
 }
 
-/// Listens on a port of 127.0.0.1, and says so.
+/// Listens on a port of 127.0.0.1, and says so on standard error.
 fn listen<R: Net<Listener = TcpListener, Stream = TcpStream> + Eprint>(
     rt: &R,
     port: u16,
@@ -62,7 +64,7 @@ fn listen<R: Net<Listener = TcpListener, Stream = TcpStream> + Eprint>(
     Ok(listener)
 }
 
-/// Serves the clients of the book, and gives it back when all of them have gone.
+/// Serves the clients of the book, and returns the book when all of them have gone.
 fn serve_book<
     A: Naming + Beginning + Send + Sync,
     B: Naming + Send + Sync,
@@ -94,7 +96,7 @@ fn serve_book<
     }
 }
 
-/// A connection for each pass, in the order in which they come.
+/// Accepts a connection for each pass, in the order in which clients connect.
 fn accept_all<A: Naming + Beginning, B: Naming, C: Naming, D: Naming, R: AllocGlobal + Eprint>(
     alloc: Global,
     connections: &mut Connections<'_, R>,

@@ -1,4 +1,4 @@
-//! A reader before whose reads a person is told something.
+//! A reader that lets an attendant speak before each read.
 
 ghost use Rattle.std.specs.Prelude.{◌≡◌};
 ghost use Rattle.std.specs.Io.{ReadsAtMost};
@@ -9,7 +9,7 @@ use std::io;
 use std::io::Read;
 use std::marker::Model;
 
-/// A reader before each read of which an attendant says what is to be told. Its reads are those of the reader itself.
+/// A reader. Before each read, an attendant says what it has to say. Reads are those of the reader itself.
 #[derive(Drop)]
 pub struct Attended<'a, R> {
     inner: R,
@@ -23,7 +23,7 @@ impl<'a, R> Model for Attended<'a, R> {
 }
 
 impl<'a, R> Attended<'a, R> {
-    /// The reader, before whose reads the attendant speaks from now on.
+    /// Wraps a reader. From now on the attendant speaks before each of its reads.
     pub fn new(inner: R, attendant: &'a Attendant<'a>) -> Attended<'a, R>
         ensures { result ≡ inner }
     {

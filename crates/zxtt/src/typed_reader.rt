@@ -1,4 +1,4 @@
-//! A reader of what a person types at a terminal.
+//! Reads the lines that a person types at a terminal.
 
 ghost use Rattle.std.specs.Prelude.{◌≡◌, true, false, take, Ok, None, IfOk};
 ghost use Rattle.std.specs.Io.{ReadsAtMost};
@@ -11,7 +11,7 @@ use std::io::Read;
 use std::marker::Model;
 use zt_console::Typed;
 
-/// The lines that a person types, of which an attendant answers some. Its reads are those of `Typed`.
+/// The lines that a person types. An attendant answers some of them. Reads are those of `Typed`.
 #[derive(Drop)]
 pub struct TypedLines<'a, R> {
     inner: Typed<'a, R, Attendant<'a>>,
@@ -26,7 +26,7 @@ impl<'a, R> Model for TypedLines<'a, R> {
 }
 
 impl<'a, R> TypedLines<'a, R> {
-    /// The reader, at the beginning of a line.
+    /// Wraps a reader that stands at the beginning of a line.
     pub fn new(inner: R, attendant: &'a Attendant<'a>) -> TypedLines<'a, R>
         ensures { result ≡ (inner, false, false) }
     {

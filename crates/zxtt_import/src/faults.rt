@@ -1,4 +1,4 @@
-//! What ends the program before it is done.
+//! Why the program ends early, and with which exit status.
 
 use std::alloc::AllocError;
 use std::io;
@@ -46,7 +46,7 @@ pub enum Fault {
 }
 
 impl Fault {
-    /// Says on standard error what it is. Which reply differs is said before.
+    /// Prints the fault on standard error. A reply that differs was printed before.
     pub fn tell(&self, rt: &HostRuntime) {
         match self {
             Fault::Differs => {}
@@ -56,7 +56,7 @@ impl Fault {
         }
     }
 
-    /// The exit status.
+    /// The exit status of the program.
     pub fn status(&self) -> u8 {
         match self {
             Fault::Words(_) | Fault::Unread(_) => 2,

@@ -1,11 +1,11 @@
-//! The log that is read, and the trace that is written.
+//! Reads the log and writes the trace.
 
 use crate::faults::Fault;
 use std::io::{self, Read, Write};
 use zt_files::{FileFault, open, read_rest, write_whole};
 
-/// All bytes of a file, or of standard input for `-`. Once the file is open, and before it is read, is said that the trace cannot be written
-/// where it is to be, if that shows.
+/// Reads all bytes of a file, or of standard input for `-`. Before it reads, it prints a warning if it is already clear
+/// that `to` cannot be written. The error is `Unopened`, `Read` or `OutOfMemory`.
 pub fn read(rt: &HostRuntime, path: &str, to: Option<&str>) -> Result<Vec<u8>, Fault> {
     if path == "-" {
         look_ahead(rt, to);
@@ -16,7 +16,7 @@ pub fn read(rt: &HostRuntime, path: &str, to: Option<&str>) -> Result<Vec<u8>, F
     Ok(read_rest(rt.alloc(), &mut file)?)
 }
 
-/// Says on standard error that a file cannot be written, if one is named and that shows before there is anything to write.
+/// Prints a warning if `to` names a file and it is already clear that it cannot be written.
 fn look_ahead(rt: &HostRuntime, to: Option<&str>) {
     match to {
         Some(path) if path != "-" => {
@@ -30,7 +30,7 @@ fn look_ahead(rt: &HostRuntime, to: Option<&str>) {
     }
 }
 
-/// All bytes of a reader.
+/// Reads all bytes of a reader.
 fn read_all<R: Read + Drop>(rt: &HostRuntime, reader: R) -> Result<Vec<u8>, Fault> {
     let mut reader = reader;
     let mut bytes = Vec::new(rt.alloc());
@@ -41,7 +41,9 @@ fn read_all<R: Read + Drop>(rt: &HostRuntime, reader: R) -> Result<Vec<u8>, Faul
     }
 }
 
-/// Writes the text to a file, which stays as it was where that fails, or to standard output where none is named or for `-`.
+/// Writes the text to a file as `write_whole` does, or to standard output if none is named or for `-`. If writing a file
+/// fails, the old file is unchanged, unless it had to be overwritten. The error is `Unopened`, `Write`, `Unwritten` or
+/// `OutOfMemory`.
 pub fn write(rt: &HostRuntime, to: Option<&str>, text: &[u8]) -> Result<(), Fault> {
     match to {
         Some(path) if path != "-" => Ok(write_whole(rt, path, text)?),
@@ -49,7 +51,7 @@ pub fn write(rt: &HostRuntime, to: Option<&str>, text: &[u8]) -> Result<(), Faul
     }
 }
 
-/// Writes the text.
+/// Writes the text and flushes the writer.
 fn write_all<W: Write + Drop>(writer: W, text: &[u8]) -> Result<(), Fault> {
     let mut writer = writer;
     match writer.write_all(text) {

@@ -1,5 +1,4 @@
-//! `zxtt-import` makes a trace of a log of calls of a real system, and says where that system answered otherwise than the
-//! semantics.
+//! `zxtt-import` makes a trace of a log of a real system's calls, and prints the replies that differ from the semantics.
 #![tactic(auto)]
 
 mod faults;
@@ -29,7 +28,7 @@ fn main(rt: HostRuntime) -> ExitCode {
     ended(&rt, &done)
 }
 
-/// Says what ended the program before it was done, if something did, and gives its status.
+/// Prints the fault that ended the program, if there is one, and returns the exit status.
 fn ended(rt: &HostRuntime, done: &Result<(), Fault>) -> ExitCode {
     match done {
         Ok(()) => ExitCode::SUCCESS,
@@ -40,7 +39,7 @@ fn ended(rt: &HostRuntime, done: &Result<(), Fault>) -> ExitCode {
     }
 }
 
-/// Makes the trace of a log, and tells where replies differ.
+/// Makes the trace of a log, and prints where replies differ.
 fn make_trace(rt: &HostRuntime, asked: &Asked<'_>) -> Result<(), Fault> {
     let text = read(rt, asked.log, asked.to)?;
     let mut log = read_log(rt.alloc(), text.as_slice())?;
@@ -67,7 +66,7 @@ fn make_trace(rt: &HostRuntime, asked: &Asked<'_>) -> Result<(), Fault> {
     Ok(())
 }
 
-/// Tells what of the log is left out, a line each. Where the import is strict the first ends it.
+/// Prints a line for each thing that is left out of the log. If the import is strict, the first of them is the error.
 fn tell_notes(rt: &HostRuntime, log: &CallLog, is_strict: bool) -> Result<(), Fault> {
     for note in log.notes.told() {
         if is_strict {
@@ -85,7 +84,7 @@ fn tell_notes(rt: &HostRuntime, log: &CallLog, is_strict: bool) -> Result<(), Fa
     Ok(())
 }
 
-/// What ended the import, with the name of the process at fault, where the log has it by one.
+/// The fault of the import. It names the process at fault if the log has that by a name.
 fn fault_of(rt: &HostRuntime, log: &CallLog, fault: LogFault) -> Result<Fault, AllocError> {
     let Cause::SpawnedTwice(process) = fault.cause else {
         return Ok(Fault::Log(fault));
@@ -99,7 +98,7 @@ fn fault_of(rt: &HostRuntime, log: &CallLog, fault: LogFault) -> Result<Fault, A
     }
 }
 
-/// Tells the differences, a line each; where it is strict, up to the first that is not by the schedule.
+/// Prints a line for each difference. If the import is strict, the first that is not by the schedule is the last one.
 fn tell_differences(
     rt: &HostRuntime,
     log: &CallLog,
@@ -116,7 +115,7 @@ fn tell_differences(
     Ok(())
 }
 
-/// Tells which calls are in no trace since they are on what stands in for another object, if any are.
+/// Prints the calls that are left out since they are on stand-ins, if there are any.
 fn tell_left(rt: &HostRuntime, left: &LeftCalls) -> Result<(), Fault> {
     if left.is_empty() {
         return Ok(());
@@ -126,7 +125,7 @@ fn tell_left(rt: &HostRuntime, left: &LeftCalls) -> Result<(), Fault> {
     Ok(())
 }
 
-/// Tells which calls were skipped, if any were, and whether one of them names a handle that its process has in the log.
+/// Prints the skipped calls, if there are any. Returns whether one of them names a handle that its process has in the log.
 fn tell_skipped(rt: &HostRuntime, log: &CallLog) -> Result<bool, Fault> {
     if log.skipped.is_empty() {
         return Ok(false);
@@ -136,7 +135,7 @@ fn tell_skipped(rt: &HostRuntime, log: &CallLog) -> Result<bool, Fault> {
     Ok(skips_handles(rt.alloc(), log.calls.as_slice(), log.skipped.as_slice())?)
 }
 
-/// Tells how many lines and calls there were, and how many replies differ.
+/// Prints how many lines and calls there were, and how many replies differ.
 fn tell_counts(rt: &HostRuntime, log: &CallLog, imported: &Imported) {
     let calls = calls_in(log.calls.as_slice(), imported.trail());
     let lines = log.lines;

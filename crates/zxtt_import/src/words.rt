@@ -1,13 +1,13 @@
-//! The words of the command line.
+//! The command line: its arguments, and its help.
 
 use crate::faults::Fault;
 use clap::{Arg, ArgAction, ArgMatches, Command, Error};
 use std::alloc::Global;
 use std::env;
 
-// No clause tells the texts that these functions give, so that who asks for one is proved without going over its bytes.
+// No clause tells the texts that these functions return. So a proof of their callers does not go over the bytes.
 
-/// What the program does.
+/// The text that help prints first.
 fn about() -> &'static str {
     "Makes a trace for zxtt of a log of calls of a real system.
 
@@ -16,22 +16,22 @@ calls are run by the written semantics of zxtt, and where it answers otherwise t
 log says, that is told on standard error."
 }
 
-/// What the word `LOG` is.
+/// The help of the argument `LOG`.
 fn log_help() -> &'static str {
     "The log; `-` is standard input"
 }
 
-/// What the word `to` does.
+/// The help of the option `--to`.
 fn to_help() -> &'static str {
     "Writes the trace to a file; `-`, as without it, is standard output"
 }
 
-/// What the word `strict` does.
+/// The help of the option `--strict`.
 fn strict_help() -> &'static str {
     "Ends where something is left out, or at the first reply that differs; writes nothing"
 }
 
-/// What is said behind the words.
+/// The text that help prints last.
 fn statuses<'a>() -> &'a str {
     "Exit statuses:
   0  the trace is written, where replies differ too
@@ -43,24 +43,24 @@ fn statuses<'a>() -> &'a str {
   7  with --strict, a reply differs, or a skipped call names a handle of the log"
 }
 
-/// The words that the program was started with.
+/// The arguments of the program.
 #[derive(Drop)]
 pub struct Words {
     words: Vec<String>,
 }
 
-/// What the words ask for.
+/// What the arguments ask for.
 #[derive(Clone, Copy)]
 pub struct Asked<'a> {
-    /// The log that is read.
+    /// The path of the log, or `-`.
     pub log: &'a str,
-    /// Where the trace is written, if that is not standard output.
+    /// The path of the trace. None, or `-`, is standard output.
     pub to: Option<&'a str>,
     pub is_strict: bool,
 }
 
 impl Words {
-    /// The words, the program's own name among them.
+    /// The arguments, with the program's own name. The error is `Unread` if they are not text, or `OutOfMemory`.
     pub fn of(rt: &HostRuntime) -> Result<Words, Fault> {
         let words = match env::args(rt) {
             Ok(words) => words,
@@ -72,7 +72,7 @@ impl Words {
         }
     }
 
-    /// What they ask for.
+    /// What the arguments ask for. The error is `Words`, also if they ask for help or the version.
     pub fn asked(&self, alloc: Global) -> Result<Asked<'_>, Fault> {
         match self.met(alloc) {
             Ok(matches) => Ok(asked_of(&matches)),
@@ -80,14 +80,14 @@ impl Words {
         }
     }
 
-    /// What is met of them.
+    /// Matches the arguments.
     fn met(&self, alloc: Global) -> Result<ArgMatches<'_>, Error> {
         let matches = command(alloc)?.try_get_matches_from(self.words.as_slice())?;
         Ok(matches)
     }
 }
 
-/// What the words that were met ask for.
+/// The log and the trace that the matched arguments name.
 fn asked_of<'a>(matches: &ArgMatches<'a>) -> Asked<'a> {
     Asked {
         log: matches.get_str("LOG").unwrap_or("-"),
@@ -96,7 +96,7 @@ fn asked_of<'a>(matches: &ArgMatches<'a>) -> Asked<'a> {
     }
 }
 
-/// The command line.
+/// The command line that `clap` matches.
 fn command<'a>(alloc: Global) -> Result<Command<'a>, Error> {
     Ok(
         Command::new(alloc, "zxtt-import")

@@ -1,4 +1,4 @@
-//! What ends the program before it is done.
+//! Why the program ends early, and its exit status.
 
 use std::io;
 use thiserror::Error;
@@ -36,12 +36,12 @@ pub enum Fault {
 }
 
 impl Fault {
-    /// Memory was refused.
+    /// An allocation failed.
     pub fn of_memory() -> Fault {
         Fault::Refused(Refusal::OutOfMemory)
     }
 
-    /// The exit status.
+    /// Returns the exit status.
     pub fn status(&self) -> u8 {
         match self {
             Fault::Words(_) | Fault::Unread(_) => 2,

@@ -1,4 +1,4 @@
-//! The session text that a history begins with, and the one that it leaves.
+//! Loads and saves session texts.
 
 ghost use Rattle.std.specs.Prelude.{◌≡◌, IfOk, List, length, ℕ};
 ghost use Rattle.zt_console.specs.LoadedText.{IsLoadedOf};
@@ -10,8 +10,7 @@ use zt_console::{Book, load_text_told, tree_text};
 use zt_files::{FileFault, Progress, read_whole, write_whole};
 use zt_view::View;
 
-/// The book of one client over the tree of a session text that is read from a file. A person at a terminal is told how far the
-/// loading is.
+/// Loads a session text from a file into a book with one client. A person at a terminal sees the progress.
 pub fn load(rt: &HostRuntime, path: &str) -> Result<Book, Fault>
     ensures loaded { IfOk result (λ book. (text : List ℕ) × IsLoadedOf 1 text book) }
     ensures clients { IfOk result (λ book. length book.session.clients ≡ 1) }
@@ -22,7 +21,7 @@ pub fn load(rt: &HostRuntime, path: &str) -> Result<Book, Fault>
     }
 }
 
-/// The book of one client over the tree of a session text. What was told of how far that is is wiped in the end.
+/// Loads a session text into a book with one client. Erases the line of progress at the end.
 fn book_of(alloc: Global, text: &[u8], told: &Progress<'_>) -> Result<Book, Fault>
     ensures loaded { IfOk result (IsLoadedOf 1 text.now) }
     ensures clients { IfOk result (λ book. length book.session.clients ≡ 1) }
@@ -44,7 +43,7 @@ pub fn look_ahead(rt: &HostRuntime, to: Option<&str>) {
     }
 }
 
-/// Writes the session text of the whole tree, if a file is named. Where it cannot be written, a file that stands there stays.
+/// Writes the session text of the whole tree, if a file is named. `write_whole` says what an existing file has after a failure.
 pub fn save_tree(rt: &HostRuntime, view: &View, to: Option<&str>) -> Result<(), Fault> {
     let Some(path) = to else {
         return Ok(());

@@ -1,4 +1,4 @@
-//! `zxtt-view` shows a history in a browser: it serves a page on a port of 127.0.0.1, and answers what the page asks.
+//! `zxtt-view` shows a history in a browser: it serves a page on a port of 127.0.0.1, and answers the page's requests.
 #![tactic(auto)]
 
 ghost use Rattle.std.specs.Prelude.{◌≤◌, IfOk, length};
@@ -36,7 +36,7 @@ fn main(rt: HostRuntime) -> ExitCode {
     ended(&rt, &done)
 }
 
-/// Says what ended the program before it was done, if something did, and gives its status.
+/// Reports why the program ended early, if it did, and returns its exit status.
 fn ended(rt: &HostRuntime, done: &Result<(), Fault>) -> ExitCode {
     match done {
         Ok(()) => ExitCode::SUCCESS,
@@ -47,7 +47,7 @@ fn ended(rt: &HostRuntime, done: &Result<(), Fault>) -> ExitCode {
     }
 }
 
-/// Listens on a port, and says where the page is that shows the book which is asked for.
+/// Loads the book, listens on a port, and says where the page is.
 fn begin(rt: &HostRuntime, asked: &Asked<'_>) -> Result<(TcpListener, View), Fault> {
     let book = begun(rt, asked.from)?;
     let (listener, port) = listen(rt, asked.port)?;
@@ -61,7 +61,7 @@ fn begin(rt: &HostRuntime, asked: &Asked<'_>) -> Result<(TcpListener, View), Fau
     Ok((listener, view))
 }
 
-/// What stands in a path behind the last `/`.
+/// Returns the part of a path after the last `/`.
 fn file_name(path: &str) -> &str {
     match path.rsplit_once('/') {
         Some((_, name)) => name,
@@ -69,8 +69,8 @@ fn file_name(path: &str) -> &str {
     }
 }
 
-/// A number that no other start of the program has on this machine: the clock's nanoseconds, and the number of the process, by which
-/// starts differ where there is no clock.
+/// Returns a number that no other start of the program on this machine should have: the clock in nanoseconds plus the process id.
+/// Without a clock, the process id still tells starts apart.
 fn start_number(rt: &HostRuntime) -> u64 {
     let seconds_and_rest = match SystemTime::now(rt) {
         Ok(now) => match now.duration_since(SystemTime::UNIX_EPOCH) {
@@ -106,7 +106,7 @@ fn say(rt: &HostRuntime, port: u16) -> Result<(), Fault> {
     }
 }
 
-/// A book of one client at the opening, or over a trace if one is named.
+/// Makes a book with one client at the opening, or loads a trace if one is named.
 fn begun(rt: &HostRuntime, from: Option<&str>) -> Result<Book, Fault>
     ensures { IfOk result (λ book. 1 ≤ length book.session.clients) }
 {

@@ -1,4 +1,4 @@
-//! The sockets of the server, on one thread.
+//! Serves all sockets on one thread.
 
 use crate::faults::Fault;
 use crate::socket::{Socket, Turn};
@@ -15,25 +15,25 @@ use std::sync::Wait;
 use std::time::{Clock, Duration, Instant};
 use zt_view::View;
 
-/// The most connections at once. One more takes the place of the one on which nothing has happened for longest.
+/// How many connections there are at most. One more takes the place of the connection that was idle the longest.
 const SOCKETS: usize = 64;
 
-/// The seconds after which a connection is dropped on which nothing happens.
+/// After how many seconds an idle connection is dropped.
 const IDLE_SECONDS: u64 = 120;
 
-/// The most bytes of a body.
+/// How many bytes a body can have at most.
 const BODY_BYTES: usize = 16 * 1024 * 1024;
 
-/// How many milliseconds are waited for sockets before it is looked which of them are idle.
+/// How many milliseconds to wait for sockets before idle ones are looked for.
 const TICK_MILLISECONDS: u64 = 1000;
 
-/// How often it is waited, a tenth of a tick at a time, until all is sent at the end.
+/// How many times to wait at the end, a tenth of a tick each, until everything is sent.
 const LAST_WAITS: usize = 50;
 
-/// The token of the listening socket; those of the others are their keys.
+/// The token of the listening socket. The tokens of the other sockets are their keys.
 const LISTENER: Token = Token(usize::MAX);
 
-/// The sockets, and what waits for them.
+/// The sockets, and the poll that waits for them.
 #[derive(Drop)]
 struct Sockets {
     alloc: Global,
@@ -41,7 +41,8 @@ struct Sockets {
     sockets: Slab<Socket>,
 }
 
-/// Listens on a port of 127.0.0.1, a free one for 0, and tells which.
+/// Listens on a port of 127.0.0.1, or on a free one for 0, and returns the port. Fails with `Unlistened`, or with `Unconnected`
+/// if the port cannot be told.
 pub fn listen<R: Net>(rt: &R, port: u16) -> Result<(TcpListener, u16), Fault> {
     let address = SocketAddr::from((Ipv4Addr::LOCALHOST, port));
     match TcpListener::bind(rt, address) {
@@ -53,7 +54,8 @@ pub fn listen<R: Net>(rt: &R, port: u16) -> Result<(TcpListener, u16), Fault> {
     }
 }
 
-/// Serves the view to all who connect, until it is ended, and gives it back.
+/// Serves the view to all who connect, until it is ended, and returns it. Fails with `Unconnected`, or with `Refused` and
+/// `OutOfMemory`.
 pub fn serve<R: Net + Wait + Clock + RandomSource + AllocGlobal>(
     rt: &R,
     listener: TcpListener,
@@ -90,7 +92,7 @@ pub fn serve<R: Net + Wait + Clock + RandomSource + AllocGlobal>(
 }
 
 impl Sockets {
-    /// Takes all connections that wait to be accepted. One that cannot be had is left.
+    /// Accepts the connections that wait, at most `SOCKETS` at a time. A connection that cannot be added is dropped.
     fn accept<R: RandomSource>(&mut self, rt: &R, listener: &TcpListener, now: Instant) {
         for _ in 0..SOCKETS {
             match listener.accept() {
@@ -120,7 +122,7 @@ impl Sockets {
         }
     }
 
-    /// Serves the socket of a token, where it is there.
+    /// Serves the socket of a token, if there is one.
     fn turn(&mut self, token: Token, view: &mut View, now: Instant) {
         let Token(key) = token;
         let turn = match self.sockets.get_mut(key) {
@@ -132,7 +134,7 @@ impl Sockets {
         }
     }
 
-    /// Has a socket that is ready reported once more.
+    /// Asks to have a ready socket reported once more.
     fn asks_again(&mut self, key: usize) -> bool {
         match self.sockets.get_mut(key) {
             Some(socket) => self
@@ -144,7 +146,7 @@ impl Sockets {
         }
     }
 
-    /// Drops the connection on which nothing has happened for longest.
+    /// Drops the connection that was idle the longest.
     fn drop_oldest(&mut self) {
         let mut oldest: Option<(usize, Instant)> = None;
         for (key, socket) in self.sockets.iter() {
@@ -161,12 +163,12 @@ impl Sockets {
         }
     }
 
-    /// Drops the connections on which nothing happens.
+    /// Drops idle connections.
     fn drop_idle(&mut self, now: Instant) {
         self.sockets.retain(|_, socket| now.duration_since(socket.active).as_secs() < IDLE_SECONDS);
     }
 
-    /// Sends what is still to be sent, as far as it can be sent within five seconds.
+    /// Sends what is left to send, for at most five seconds of waiting.
     fn finish(&mut self, events: &mut Events) -> Result<(), Fault> {
         for _ in 0..LAST_WAITS {
             self.sockets.retain(|_, socket| is_kept_at_the_end(socket));
@@ -179,12 +181,12 @@ impl Sockets {
     }
 }
 
-/// Writes once, and tells whether more is to be sent.
+/// Writes once, and returns whether more is to be sent.
 fn is_kept_at_the_end(socket: &mut Socket) -> bool {
     socket.connection.wants_write() && socket.write() != Turn::Gone
 }
 
-/// The limits of a connection.
+/// Returns the limits of a connection.
 fn config() -> Config {
     let limits = Config::default();
     Config {
@@ -193,7 +195,7 @@ fn config() -> Config {
     }
 }
 
-/// That a socket can be read or written.
+/// Asks for both readable and writable.
 fn both_ways() -> Interest {
     Interest::READABLE | Interest::WRITABLE
 }

@@ -8,23 +8,23 @@ use std::net::Shutdown;
 use std::time::Instant;
 use zt_view::View;
 
-/// The most steps at one turn, so that a connection that is never still leaves the others their turn.
+/// How many steps one turn has at most, so that a connection that is always ready leaves the others their turn.
 const STEPS: usize = 1024;
 
-/// The most bytes of a read whose bytes are not wanted.
+/// How many bytes are read at once to be discarded.
 const UNWANTED: usize = 4096;
 
-/// The most such reads: what is left of a body that was refused is read, so that its sender gets the answer.
+/// How many such reads are made at most. The rest of a refused body is read so that its sender gets the answer.
 const UNWANTED_READS: u32 = 16_384;
 
-/// A socket with what was received and is to be sent on it.
+/// A socket, with the bytes that were received and are to be sent on it.
 #[derive(Drop)]
 pub struct Socket {
     pub stream: TcpStream,
     pub connection: Connection,
-    /// When something was last read or written.
+    /// When bytes were last read or written.
     pub active: Instant,
-    /// How many reads more are made of what is not wanted, once all is sent.
+    /// How many more reads are made to discard bytes, once everything is sent.
     pub unwanted: Option<u32>,
 }
 
@@ -35,12 +35,12 @@ pub enum Turn {
     Goes,
     /// Nothing can be done before the socket is ready again.
     Waits,
-    /// The socket is done with.
+    /// The socket is done.
     Gone,
 }
 
 impl Socket {
-    /// A socket at its first byte.
+    /// A socket before its first byte.
     pub fn new(stream: TcpStream, connection: Connection, now: Instant) -> Socket {
         Socket {
             stream,
@@ -50,7 +50,7 @@ impl Socket {
         }
     }
 
-    /// Reads, answers and writes until the socket is not ready or is done with, or it is the turn of others.
+    /// Reads, answers and writes until the socket is not ready or done, or it is the turn of others.
     pub fn turn(&mut self, view: &mut View, now: Instant) -> Turn {
         for _ in 0..STEPS {
             match self.step(view) {
@@ -81,7 +81,7 @@ impl Socket {
         }
     }
 
-    /// Writes once of what is to be sent.
+    /// Writes once.
     pub fn write(&mut self) -> Turn {
         match self.connection.write_to(&mut self.stream) {
             Ok(0) => Turn::Gone,
@@ -90,7 +90,7 @@ impl Socket {
         }
     }
 
-    /// Reads once what is not wanted any more.
+    /// Reads once, and discards the bytes.
     fn pass_over(&mut self, reads: u32) -> Turn {
         if reads == 0 {
             return Turn::Gone;
@@ -105,7 +105,7 @@ impl Socket {
     }
 }
 
-/// What is to be done after a read or a write that failed.
+/// Returns what to do after a failed read or write.
 fn turn_after(error: &io::Error) -> Turn {
     match error.kind() {
         io::ErrorKind::Interrupted => Turn::Goes,

@@ -1,13 +1,13 @@
-//! The words of the command line.
+//! Reads the command line of `zxtt-view`.
 
 use crate::faults::Fault;
 use clap::{Arg, ArgAction, ArgMatches, Command, Error, value_parser};
 use std::alloc::Global;
 use std::env;
 
-// No clause tells the texts that these functions give, so that who asks for one is proved without going over its bytes.
+// The contracts do not say which texts these functions return, so proofs of their callers need not go over the bytes.
 
-/// What the program does.
+/// The description of the program.
 fn about() -> &'static str {
     "Shows the history of Zircon's kernel objects in a browser.
 
@@ -17,27 +17,27 @@ forth, makes other futures on branches of their own, and shows what each call
 changed. `zxtt` answers the same lines without a browser."
 }
 
-/// What the word `from` does.
+/// The help of `--from`.
 fn from_help() -> &'static str {
     "Begins with the calls or the whole tree of a session text"
 }
 
-/// What the trace without a word in front does.
+/// The help of `TRACE`.
 fn trace_help() -> &'static str {
     "As --from TRACE"
 }
 
-/// What the word `port` does.
+/// The help of `--port`.
 fn port_help() -> &'static str {
     "The port of 127.0.0.1 that is listened on; a free one where none is given"
 }
 
-/// What the word `save-tree` does.
+/// The help of `--save-tree`.
 fn save_tree_help() -> &'static str {
     "Writes the whole tree as a session text, once the page has ended the program; an interrupt saves nothing"
 }
 
-/// What is said behind the words.
+/// The text after the help.
 fn statuses() -> &'static str {
     "Exit statuses:
   0  it was ended from the page
@@ -47,14 +47,13 @@ fn statuses() -> &'static str {
   6  anything else was refused, as a line of a loaded trace"
 }
 
-/// The words that the program was started with.
+/// The words with which the program was started.
 #[derive(Drop)]
 pub struct Words {
     pub words: Vec<String>,
 }
 
-/// What the words ask for: a port, 0 for a free one, the session text that the history begins with, and the one that it
-/// leaves.
+/// What the words ask for. `port` is 0 for a free one. The history begins with `from`, and its tree is saved to `save_tree`.
 #[derive(Clone, Copy)]
 pub struct Asked<'a> {
     pub port: u16,
@@ -63,7 +62,7 @@ pub struct Asked<'a> {
 }
 
 impl Words {
-    /// The words, the program's own name among them.
+    /// Reads the words, with the program's own name first. Fails with `Unread`, or with `Refused` and `OutOfMemory`.
     pub fn of(rt: &HostRuntime) -> Result<Words, Fault> {
         let words = match env::args(rt) {
             Ok(words) => words,
@@ -75,7 +74,7 @@ impl Words {
         }
     }
 
-    /// What they ask for.
+    /// Returns what the words ask for. Fails with `Words` if they are not accepted or ask for help.
     pub fn asked(&self, alloc: Global) -> Result<Asked<'_>, Fault> {
         match self.met(alloc) {
             Ok(matches) => Ok(asked_of(&matches)),
@@ -83,14 +82,14 @@ impl Words {
         }
     }
 
-    /// What is met of them.
+    /// Parses the words with clap.
     fn met(&self, alloc: Global) -> Result<ArgMatches<'_>, Error> {
         let matches = command(alloc)?.try_get_matches_from(self.words.as_slice())?;
         Ok(matches)
     }
 }
 
-/// What the words that were met ask for.
+/// Returns what the parsed words ask for.
 fn asked_of<'a>(matches: &ArgMatches<'a>) -> Asked<'a> {
     Asked {
         port: matches.get_one("port").unwrap_or(0),
@@ -102,7 +101,7 @@ fn asked_of<'a>(matches: &ArgMatches<'a>) -> Asked<'a> {
     }
 }
 
-/// The command line.
+/// Declares the command line.
 fn command<'a>(alloc: Global) -> Result<Command<'a>, Error> {
     Ok(
         Command::new(alloc, "zxtt-view")
@@ -116,7 +115,7 @@ fn command<'a>(alloc: Global) -> Result<Command<'a>, Error> {
     )
 }
 
-/// The session text that a history begins with, without a word in front.
+/// The argument `TRACE`: the session text with which the history begins. It excludes `--from`.
 fn trace_word<'a>(alloc: Global) -> Result<Arg<'a>, Error> {
     let trace = Arg::new(alloc, "TRACE")
         .action(ArgAction::Set)
@@ -124,7 +123,7 @@ fn trace_word<'a>(alloc: Global) -> Result<Arg<'a>, Error> {
     Ok(trace.conflicts_with("from")?)
 }
 
-/// The word of the session text that a history begins with.
+/// The option `--from`: the session text with which the history begins.
 fn from_word<'a>(alloc: Global) -> Arg<'a> {
     Arg::new(alloc, "from")
         .long("from")
@@ -133,7 +132,7 @@ fn from_word<'a>(alloc: Global) -> Arg<'a> {
         .help(from_help())
 }
 
-/// The word of the port that is listened on.
+/// The option `--port`: the port to listen on.
 fn port_word<'a>(alloc: Global) -> Arg<'a> {
     Arg::new(alloc, "port")
         .long("port")
@@ -143,7 +142,7 @@ fn port_word<'a>(alloc: Global) -> Arg<'a> {
         .help(port_help())
 }
 
-/// The word of the session text of the whole tree that the program leaves.
+/// The option `--save-tree`: the session text of the whole tree that the program writes.
 fn save_tree_word<'a>(alloc: Global) -> Arg<'a> {
     Arg::new(alloc, "save-tree")
         .long("save-tree")

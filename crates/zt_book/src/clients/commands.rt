@@ -1,3 +1,5 @@
+//! Answers each command of a client.
+
 ghost use Rattle.std.specs.Prelude.{◌≡◌, ◌≤◌, ◌<◌, Ok, IfOk, IfErr, OnOk, OnErr, length};
 ghost use Rattle.zt_history.specs.Tree.{path};
 ghost use Rattle.zt_history.specs.TreeInvariant.{Falls};
@@ -16,7 +18,8 @@ use zt_rows::{
 };
 
 impl Clients {
-    /// Answers a command of a client, and counts it. Refused, the session is as before.
+    /// Answers a command of a client, and counts it. Fails with `ClientFull` if the client can be answered no more commands. If
+    /// the command is refused, the session is unchanged.
     pub(crate) fn serve(&mut self, client: u8, request: &Command) -> Result<Answer, Refusal>
         requires numbered { 1 ≤ client }
         requires known { client ≤ length self.old.session.clients }
@@ -35,7 +38,7 @@ impl Clients {
         Ok(said)
     }
 
-    /// Answers a command of a client, which is not counted. Refused, the session is as before.
+    /// Answers a command of a client without counting it. If the command is refused, the session is unchanged.
     pub(crate) fn answer(&mut self, client: u8, request: &Command) -> Result<Answer, Refusal>
         requires numbered { 1 ≤ client }
         requires known { client ≤ length self.old.session.clients }
@@ -58,7 +61,7 @@ impl Clients {
         }
     }
 
-    /// Runs a call at the head of the branch that the client follows.
+    /// Runs a call at the head of the branch that the client follows. Fails with `Detached` if it follows none.
     fn call(&mut self, client: u8, process: Koid, call: &Call) -> Result<Answer, Refusal>
         requires numbered { 1 ≤ client }
         requires known { client ≤ length self.old.session.clients }
@@ -76,7 +79,7 @@ impl Clients {
         Ok(new_moment(made))
     }
 
-    /// Detaches the client at a moment.
+    /// Detaches the client, and puts it at a moment. Fails with `NoMoment` beyond the last moment.
     fn stand_at(&mut self, client: u8, moment: Moment) -> Result<Answer, Refusal>
         requires numbered { 1 ≤ client }
         requires known { client ≤ length self.old.session.clients }
@@ -93,7 +96,7 @@ impl Clients {
         Ok(Answer::At(moment))
     }
 
-    /// Detaches the client so many moments above its position.
+    /// Detaches the client, and moves it up its path by this many moments. Fails with `AtStart` if the path has fewer.
     fn back(&mut self, client: u8, count: u32) -> Result<Answer, Refusal>
         requires numbered { 1 ≤ client }
         requires known { client ≤ length self.old.session.clients }
@@ -113,7 +116,8 @@ impl Clients {
         Ok(Answer::At(moment))
     }
 
-    /// Makes a branch at the client's position, which the client follows from then on.
+    /// Makes a branch at the client's position. From then on the client follows this branch. Fails with `BadName` or `NameTaken`
+    /// for the name.
     fn branch(&mut self, client: u8, name: &Items<u8>) -> Result<Answer, Refusal>
         requires numbered { 1 ≤ client }
         requires known { client ≤ length self.old.session.clients }
@@ -137,7 +141,7 @@ impl Clients {
         Ok(Answer::Branched(named, position))
     }
 
-    /// The client follows the branch of the name.
+    /// Makes the client follow the branch of this name. Fails with `NoBranch` if there is none.
     fn follow(&mut self, client: u8, name: &Items<u8>) -> Result<Answer, Refusal>
         requires numbered { 1 ≤ client }
         requires known { client ≤ length self.old.session.clients }
@@ -155,7 +159,7 @@ impl Clients {
         Ok(Answer::Followed(named, head))
     }
 
-    /// The rows of the state at the client's position.
+    /// Returns the rows of the state at the client's position.
     fn show(&mut self, client: u8) -> Result<Answer, Refusal>
         requires numbered { 1 ≤ client }
         requires known { client ≤ length self.old.session.clients }
@@ -169,7 +173,7 @@ impl Clients {
         Ok(Answer::Rows(position, rows))
     }
 
-    /// What keeps an object at the client's position.
+    /// Returns what keeps an object at the client's position.
     fn holders(&mut self, client: u8, koid: Koid) -> Result<Answer, Refusal>
         requires numbered { 1 ≤ client }
         requires known { client ≤ length self.old.session.clients }
@@ -183,7 +187,7 @@ impl Clients {
         Ok(Answer::Holders(koid, held))
     }
 
-    /// The leaked objects at the client's position.
+    /// Returns the leaked objects at the client's position.
     fn leaks(&mut self, client: u8) -> Result<Answer, Refusal>
         requires numbered { 1 ≤ client }
         requires known { client ≤ length self.old.session.clients }
@@ -197,8 +201,8 @@ impl Clients {
         Ok(Answer::Leaks(position, found))
     }
 
-    /// The moment on the path to the client's position at which something happened to an object. The store goes there, so
-    /// that a next question is asked where it stands.
+    /// Finds the moment on the path to the client's position at which something happened to an object. It moves the store to the
+    /// client's position, so that a next question begins there.
     fn when(&mut self, client: u8, what: Happening, koid: Koid) -> Result<Answer, Refusal>
         requires numbered { 1 ≤ client }
         requires known { client ≤ length self.old.session.clients }
@@ -211,7 +215,7 @@ impl Clients {
         self.told_when(client, what, koid)
     }
 
-    /// The moment on the path to the client's position at which something happened to an object, with its call.
+    /// Finds the moment on the path to the client's position at which something happened to an object, with a copy of its call.
     #[tactic(auto, using(crate::proofs::ClientsLaws::when_told, crate::proofs::ClientsLaws::when_refused, crate::proofs::ClientsLaws::when_forgotten))]
     fn told_when(&self, client: u8, what: Happening, koid: Koid) -> Result<Answer, Refusal>
         requires numbered { 1 ≤ client }
@@ -225,7 +229,7 @@ impl Clients {
         Ok(Answer::When(event))
     }
 
-    /// The moment on the path to another at which something happened to an object.
+    /// Finds the moment on the path to `at` at which something happened to an object.
     fn moment_of(&self, what: Happening, at: Moment, koid: Koid) -> Result<Option<Moment>, Refusal>
         requires { at ≤ length self.now.session.tree.made }
         ensures ok { IfOk result (λ found. when_on what self.now.session.tree.made at koid ≡ Ok found) }
@@ -240,7 +244,7 @@ impl Clients {
         }
     }
 
-    /// A moment with an equal call, if there is one.
+    /// Returns the moment with a copy of its call, or `None` if there is no moment or it has no call.
     #[tactic(auto, using(crate::proofs::ClientsLaws::event_called))]
     fn event(&self, moment: Option<Moment>) -> Result<Option<Event>, AllocError>
         ensures { IfOk result (λ event. event ≡ event_at self.now.session.tree.made moment) }
@@ -278,7 +282,7 @@ impl Clients {
         Ok(Answer::Pinned(position))
     }
 
-    /// The client stands elsewhere, and the history is as it was.
+    /// Moves the client to another cursor, and notes that the history is unchanged.
     fn stand(&mut self, client: u8, cursor: Cursor)
         requires numbered { 1 ≤ client }
         requires known { client ≤ length self.old.session.clients }
@@ -290,7 +294,7 @@ impl Clients {
         self.turn(client, cursor);
     }
 
-    /// The client stands elsewhere.
+    /// Moves the client to another cursor.
     fn turn(&mut self, client: u8, cursor: Cursor)
         requires numbered { 1 ≤ client }
         requires known { client ≤ length self.old.session.clients }
@@ -304,7 +308,7 @@ impl Clients {
     }
 }
 
-/// The answer to a call that made a moment.
+/// Makes the answer to a call that made a moment.
 fn new_moment(made: (Moment, Reply)) -> Answer
     ensures { result ≡ Answer.Called made.0 made.1 }
 {
@@ -312,7 +316,7 @@ fn new_moment(made: (Moment, Reply)) -> Answer
     Answer::Called(moment, reply)
 }
 
-/// The moment so many steps above another. It takes no memory, and a look at each moment between.
+/// Returns the moment this many steps up the path of another. Never allocates; takes time linear in the steps.
 fn ancestor(history: &History, moment: Moment, count: u32) -> Moment
     requires falls { Falls history.now.tree.made }
     requires far { count ≤ length (path history.now.tree.made moment) }

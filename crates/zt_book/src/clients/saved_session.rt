@@ -1,3 +1,5 @@
+//! Writes a session down as a saved tree.
+
 ghost use Rattle.std.specs.Prelude.{◌≡◌, ◌<◌, ◌++◌, [], ◌∷◌, IfOk, OnOk, length, map};
 ghost use Rattle.std.specs.List.{filter_map};
 ghost use Rattle.zt_history.specs.Tree.{head_at, name_at};
@@ -12,7 +14,7 @@ use zt_history::{BranchId, History};
 use zt_rows::{Cursor as SavedCursor, Items, Moment, Saved, SavedBranch, SavedCall};
 
 impl Clients {
-    /// The session as it is written down.
+    /// Returns the session as a saved tree.
     pub(crate) fn saved(&self) -> Result<Saved, AllocError>
         ensures { IfOk result (λ saved. saved ≡ saved_of_session self.now.session) }
     {
@@ -29,7 +31,7 @@ impl Clients {
         })
     }
 
-    /// The same without its moments.
+    /// Returns the session as a saved tree without moments: the branches, and where each client stands.
     pub(crate) fn saved_places(&self) -> Result<Saved, AllocError>
         ensures { IfOk result (λ saved. saved ≡ without_moments (saved_of_session self.now.session)) }
     {
@@ -43,7 +45,7 @@ impl Clients {
         })
     }
 
-    /// Where each client stands.
+    /// Returns where each client stands.
     fn saved_cursors(&self, alloc: Global) -> Result<Items<SavedCursor>, AllocError>
         ensures { IfOk result (λ cursors. cursors ≡ map (saved_client self.now.session.tree) self.now.session.clients) }
     {
@@ -57,7 +59,7 @@ impl Clients {
     }
 }
 
-/// How each moment after the opening was made.
+/// Returns the parent, process and call of each moment after the opening, in order.
 fn saved_moments(alloc: Global, history: &History) -> Result<Items<SavedCall>, AllocError>
     ensures { IfOk result (λ moments. moments ≡ map saved_call history.now.tree.made) }
 {
@@ -69,7 +71,7 @@ fn saved_moments(alloc: Global, history: &History) -> Result<Items<SavedCall>, A
     Ok(Items::new(moments))
 }
 
-/// Puts behind the others how a moment was made: nothing for the opening, nor beyond the last moment.
+/// Appends a moment's parent, process and call. Appends nothing for the opening and beyond the last moment.
 fn push_moment(
     moments: &mut Vec<SavedCall>,
     history: &History,
@@ -92,7 +94,7 @@ fn push_moment(
     }
 }
 
-/// The branches in the order in which they were made.
+/// Returns the branches in the order in which they were made.
 fn saved_branches(alloc: Global, history: &History) -> Result<Items<SavedBranch>, AllocError>
     ensures { IfOk result (λ branches. branches ≡ map saved_branch history.now.tree.branches) }
 {
@@ -105,7 +107,7 @@ fn saved_branches(alloc: Global, history: &History) -> Result<Items<SavedBranch>
     Ok(Items::new(branches))
 }
 
-/// A branch by its name, with its head.
+/// Returns a branch's name and head.
 fn saved_branch(alloc: Global, history: &History, id: BranchId) -> Result<SavedBranch, AllocError>
     requires { id < length history.now.tree.branches }
     ensures name { IfOk result (λ saved. saved.name ≡ name_at history.now.tree.branches id) }
@@ -116,7 +118,7 @@ fn saved_branch(alloc: Global, history: &History, id: BranchId) -> Result<SavedB
     Ok(SavedBranch { name, head })
 }
 
-/// Where a client stands: a branch by its name.
+/// Returns where a client stands, with a followed branch by its name.
 fn saved_place(alloc: Global, history: &History, cursor: Cursor) -> Result<SavedCursor, AllocError>
     requires { IsCursor history.now.tree cursor }
     ensures { IfOk result (λ saved. saved ≡ saved_place history.now.tree.branches cursor) }

@@ -1,3 +1,5 @@
+//! The exchange of an object with one of the same kind, life and link.
+
 ghost use Rattle.std.specs.Prelude.{◌≡◌, ◌↔◌, IsTrue, false};
 ghost use Rattle.zt_cells.specs.AlikeObjects.{AreAlike};
 ghost use Rattle.zt_cells.specs.ProofsOnly.AlikeRows.{AlikeRows};
@@ -5,7 +7,7 @@ ghost use Rattle.zt_cells.specs.ProofsOnly.AlikeRows.{AlikeRows};
 use std::mem;
 use zt_rows::{ObjectRow, Row};
 
-/// Exchanges the object with the one that the row is, if they are alike: the rest of the row stays where it is.
+/// If the row is an object that is alike, exchanges the two in place and returns `true`. Else nothing changes.
 #[inline(always)]
 pub(crate) fn exchange_alike(row: &mut Row, object: &mut ObjectRow) -> bool
     ensures done { IsTrue result → AlikeRows row.old row.new object.old object.new }

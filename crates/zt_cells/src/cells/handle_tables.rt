@@ -1,3 +1,5 @@
+//! The tables of handle entries, four for each process.
+
 ghost use Rattle.std.specs.Prelude.{◌≡◌, ◌≤◌, ◌<◌, ◌↔◌, ◌+◌, ◌-◌, ◌/◌, ◌%◌, ◌*◌, ◌^◌, ℕ, List, [], ◌∷◌, length, map, IfOk, OnOk, OnErr, None, nat_lt};
 ghost use Rattle.std.specs.Option.{option_copied};
 ghost use Rattle.zt_cells.specs.BareRows.{row_in};
@@ -10,9 +12,9 @@ use std::alloc::{AllocError, Global};
 use std::marker::Model;
 use zt_rows::{HandleValue, Koid, Row};
 
-/// Places for the entries of processes. A kernel gives out the values 4n + 3 from 3 on, so values stand in four
-/// lists of tables by what they leave when they are divided by four: a table spends one place on each such value, and
-/// entries under other values have places too.
+/// The places for the entries of processes. The semantics gives out only the handle values 4n + 3. So the entries stand
+/// in four lists of tables, by the remainder of the handle value divided by 4. A table then spends one place on each
+/// value that is given out, and entries under other values have places too.
 #[derive(Drop)]
 pub(crate) struct Entries {
     sizes: [TablesByOwner; 4],
@@ -31,7 +33,7 @@ impl Model for Entries {
 }
 
 impl Entries {
-    /// No entries, and no places for them. It takes no memory.
+    /// No entries, and no places for them. Never allocates.
     pub fn new(alloc: Global) -> Entries
         ensures { result ≡ [] ∷ [] ∷ [] ∷ [] ∷ [] }
     {
@@ -45,7 +47,7 @@ impl Entries {
         }
     }
 
-    /// The row under the value. It takes no memory.
+    /// The row under the process's handle value. Never allocates.
     pub fn row(&self, process: Koid, value: HandleValue) -> Option<&Row>
         ensures { option_copied result ≡ entry self.now process value }
     {
@@ -53,7 +55,7 @@ impl Entries {
         by_owner.row(process.0 as usize, quotient(value))
     }
 
-    /// Exchanges the row, or none, with what stands under the value. It takes no memory.
+    /// Exchanges the bare row with the one under the process's handle value. Either may stand for none. Never allocates.
     pub fn exchange(&mut self, process: Koid, value: HandleValue, kept: &mut Row)
         requires { value / 4 < length (entry_table self.old process value) }
         ensures put { self.new ≡ set_entry self.old process value (row_in kept.old) }
@@ -63,7 +65,7 @@ impl Entries {
         by_owner.exchange(process.0 as usize, quotient(value), kept);
     }
 
-    /// How many places the process has for values that leave the remainder of this one.
+    /// How many places the process has for values with the remainder of this one.
     pub fn len_of(&self, process: Koid, value: HandleValue) -> usize
         ensures { result ≡ length (entry_table self.now process value) }
     {
@@ -94,7 +96,8 @@ impl Entries {
         by_owner.grow(process.0 as usize, len)
     }
 
-    /// The least value of an entry of the process from this one on. It takes no memory, and walks over no value.
+    /// The least handle value, from this one on, under which the process has an entry. Never allocates, and does not
+    /// walk over values.
     pub fn next_from(&self, process: Koid, from: u64) -> Option<HandleValue>
         ensures { IsNextValue self.now process from (λ r. r < 4) result }
     {
@@ -106,7 +109,7 @@ impl Entries {
         least
     }
 
-    /// The least value of an entry of the process from this one on that leaves the remainder.
+    /// The least handle value with this remainder, from `from` on, under which the process has an entry.
     fn next_in(&self, process: Koid, from: u64, remainder: usize) -> Option<HandleValue>
         requires { remainder < 4 }
         ensures { IsNextValue self.now process from (λ r. r ≡ remainder) result }
@@ -119,7 +122,7 @@ impl Entries {
         }
     }
 
-    /// What holds of the entries: none stands under a number that is no handle value.
+    /// States that no entry stands under a number that is no handle value.
     pub fn limits(&self)
         ensures { (x h : ℕ) → 2 ^ 32 ≤ h → entry self.now x h ≡ None }
     {
@@ -153,7 +156,7 @@ impl Entries {
         4 * most
     }
 
-    /// Equal entries in memory of their own.
+    /// Copies the entries into memory of their own.
     pub fn copy(&self) -> Result<Entries, AllocError>
         ensures { IfOk result (λ copied. copied ≡ self.now) }
     {
@@ -177,7 +180,7 @@ fn quotient(value: HandleValue) -> usize
     (value.0 / 4) as usize
 }
 
-/// The least quotient of a value from this one on that leaves the remainder.
+/// The least n for which 4n + `remainder` is not below `from`.
 fn quotient_from(from: u64, remainder: u64) -> u64
     requires { remainder < 4 }
     ensures { (n : ℕ) → (result ≤ n) ↔ (from ≤ 4 * n + remainder) }
@@ -189,7 +192,7 @@ fn quotient_from(from: u64, remainder: u64) -> u64
     }
 }
 
-/// The lesser of two values, where there is one.
+/// The lesser of the two values, or the one that is there.
 fn lesser(a: Option<HandleValue>, b: Option<HandleValue>) -> Option<HandleValue>
     ensures { result ≡ lesser_of a b }
 {

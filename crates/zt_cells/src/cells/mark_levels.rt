@@ -1,3 +1,5 @@
+//! Marks in three levels, for tables of more than 64 places.
+
 ghost use Rattle.std.specs.Prelude.{◌≡◌, ◌≤◌, ◌<◌, ◌*◌, ◌/◌, ℕ, [], ◌∷◌, length, IfOk, OnOk};
 ghost use Rattle.zt_cells.specs.ProofsOnly.MarkedNumbers.{mark, AreAbove, IsMarkedAs, IsNextMark};
 
@@ -5,9 +7,9 @@ use crate::cells::mark_words::MarkWords;
 use std::alloc::{AllocError, Global};
 use std::marker::Model;
 
-/// Marks of numbers in levels: a bit for each number, a bit for each word of these that is not 0, and a bit for each word of
-/// those. So the next number that is marked is found by a look at one word of a level, whatever lies between; only the topmost
-/// level, of which a word stands for 64 * 64 * 64 numbers, is walked.
+/// Marks of numbers in three levels. The lowest level has a bit for each number. Each of the two levels above has a bit for each
+/// word of the level below, set if that word is not 0. So the next marked number is found by at most two looks at each of the
+/// lower levels, however far it is. Only the top level is walked, and each of its words stands for 64 * 64 * 64 numbers.
 #[derive(Drop)]
 pub(crate) struct MarkLevels {
     numbers: MarkWords,
@@ -39,7 +41,7 @@ impl MarkLevels {
         })
     }
 
-    /// How many words there are for the numbers.
+    /// The number of words of the lowest level.
     pub fn len(&self) -> usize
         ensures { result ≡ length self.now }
     {
@@ -70,7 +72,7 @@ impl MarkLevels {
         }
     }
 
-    /// Lets the number be unmarked.
+    /// Removes the mark of the number.
     pub fn unmark(&mut self, index: usize)
         requires { index < 64 * length self.old }
         ensures { IsMarkedAs self.old self.new index 0 }
@@ -81,7 +83,7 @@ impl MarkLevels {
         }
     }
 
-    /// The first number from this one on that is marked.
+    /// The first marked number from this one on.
     pub fn next_from(&self, from: usize) -> Option<usize>
         ensures { IsNextMark self.now from result }
     {
@@ -94,7 +96,7 @@ impl MarkLevels {
         }
     }
 
-    /// Equal marks in memory of their own.
+    /// Copies the marks into memory of their own.
     pub fn copy(&self) -> Result<MarkLevels, AllocError>
         ensures { IfOk result (λ copied. copied ≡ self.now) }
     {
@@ -106,7 +108,7 @@ impl MarkLevels {
     }
 }
 
-/// The first word from this one on in which a number is marked.
+/// The first word, from this one on, in which a number is marked.
 fn next_word(words: &MarkWords, groups: &MarkWords, from: usize) -> Option<usize>
     requires { AreAbove groups.now words.now }
     ensures { IsNextMark words.now from result }

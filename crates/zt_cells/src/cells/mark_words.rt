@@ -1,3 +1,5 @@
+//! One level of marks: bits in a list of words.
+
 ghost use Rattle.std.specs.Prelude.{◌≡◌, ◌≤◌, ◌<◌, ◌+◌, ◌*◌, ◌/◌, ◌^◌, ◌↔◌, ℕ, [], ◌∷◌, length, max, IfOk, IsTrue, OnOk, OnErr};
 ghost use Rattle.std.specs.Int.{bit_at};
 ghost use Rattle.std.specs.Option.{MatchOption};
@@ -12,7 +14,7 @@ pub(crate) struct MarkWords {
     words: Vec<u64>,
 }
 
-/// How many words there are at most, so that the numbers of their bits are within a `usize`.
+/// The most words, so that the numbers of their bits fit a `usize`.
 const MOST_WORDS: usize = 1 << 32;
 
 impl Model for MarkWords {
@@ -26,7 +28,7 @@ impl Model for MarkWords {
 }
 
 impl MarkWords {
-    /// This one word.
+    /// The marks of this one word.
     pub fn of(alloc: Global, word: u64) -> Result<MarkWords, AllocError>
         ensures { IfOk result (λ words. words ≡ word ∷ []) }
     {
@@ -42,7 +44,7 @@ impl MarkWords {
         self.words.len()
     }
 
-    /// Makes words in which nothing is marked until there are so many. More than 2^32 are refused.
+    /// Adds words without marks until there are so many. Fails if an allocation fails, and for more than 2^32 words.
     pub fn grow(&mut self, len: usize) -> Result<(), AllocError>
         ensures same { (k : ℕ) → word self.new k ≡ word self.old k }
         ensures longer { length self.old ≤ length self.new }
@@ -58,7 +60,7 @@ impl MarkWords {
         Ok(())
     }
 
-    /// Marks the number, and says whether it is the first that is marked in its word.
+    /// Marks the number. Returns whether nothing in its word was marked before.
     pub fn mark(&mut self, index: usize) -> bool
         requires { index / 64 < length self.old }
         ensures marked { IsMarkedAs self.old self.new index 1 }
@@ -70,7 +72,7 @@ impl MarkWords {
         was == 0
     }
 
-    /// Lets the number be unmarked, and says whether nothing is marked in its word any more.
+    /// Removes the mark of the number. Returns whether nothing in its word is marked any more.
     pub fn unmark(&mut self, index: usize) -> bool
         requires { index / 64 < length self.old }
         ensures marked { IsMarkedAs self.old self.new index 0 }
@@ -83,7 +85,7 @@ impl MarkWords {
         left == 0
     }
 
-    /// The first number from this one on that is marked in its word.
+    /// The first marked number from this one on, in the word of this one.
     pub fn next_in_word(&self, from: usize) -> Option<usize>
         ensures { IsNextInWord self.now from result }
     {
@@ -97,7 +99,7 @@ impl MarkWords {
         }
     }
 
-    /// The first number that is marked in this word, in which there is one.
+    /// The first marked number of this word, which has one.
     pub fn first_of(&self, place: usize) -> usize
         requires { 0 < word self.now place }
         ensures { IsNextAt self.now (64 * place) result }
@@ -106,7 +108,7 @@ impl MarkWords {
         64 * place + lowest(word)
     }
 
-    /// The first number from this one on that is marked. It walks from word to word.
+    /// The first marked number from this one on. It walks from word to word.
     pub fn next_from(&self, from: usize) -> Option<usize>
         ensures { IsNextMark self.now from result }
     {
@@ -121,7 +123,7 @@ impl MarkWords {
         None
     }
 
-    /// Equal marks in memory of their own.
+    /// Copies the marks into memory of their own.
     pub fn copy(&self) -> Result<MarkWords, AllocError>
         ensures { IfOk result (λ copied. copied ≡ self.now) }
     {
@@ -130,7 +132,7 @@ impl MarkWords {
     }
 }
 
-/// The word with this bit.
+/// The word with this bit set.
 pub(crate) fn with_bit(word: u64, bit: usize) -> u64
     requires { bit < 64 }
     ensures { IsWordWith word result bit 1 }
@@ -138,7 +140,7 @@ pub(crate) fn with_bit(word: u64, bit: usize) -> u64
     word | 1 << bit
 }
 
-/// The word without this bit.
+/// The word with this bit cleared.
 pub(crate) fn without_bit(word: u64, bit: usize) -> u64
     requires { bit < 64 }
     ensures without { IsWordWith word result bit 0 }
@@ -147,7 +149,7 @@ pub(crate) fn without_bit(word: u64, bit: usize) -> u64
     word & !(1 << bit)
 }
 
-/// The lowest bit of the word, which is not 0.
+/// The place of the lowest bit that is set in the word, which is not 0.
 fn lowest(word: u64) -> usize
     requires { 0 < word }
     ensures within { result < 64 }
@@ -157,7 +159,7 @@ fn lowest(word: u64) -> usize
     word.trailing_zeros() as usize
 }
 
-/// The lowest bit of the word from this one on.
+/// The place of the lowest bit that is set in the word, from `low` on.
 pub(crate) fn lowest_from(word: u64, low: usize) -> Option<usize>
     requires { low < 64 }
     ensures { MatchOption result

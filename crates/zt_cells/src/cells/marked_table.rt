@@ -1,3 +1,5 @@
+//! A table of rows that marks which of its places have a row.
+
 ghost use Rattle.std.specs.Prelude.{◌≡◌, ◌≤◌, ◌<◌, ℕ, [], length, IfOk, OnOk, OnErr, slice_set};
 ghost use Rattle.std.specs.Option.{option_copied};
 ghost use Rattle.zt_cells.specs.BareRows.{row_in};
@@ -9,7 +11,7 @@ use std::alloc::{AllocError, Global};
 use std::marker::Model;
 use zt_rows::Row;
 
-/// A table that knows which of its places have a row, so that the next row is found whatever went before it.
+/// A table that marks which of its places have a row. So it finds the next row without a walk over empty places.
 #[derive(Drop)]
 pub(crate) struct MarkedTable {
     table: Table,
@@ -29,7 +31,7 @@ impl Model for MarkedTable {
 }
 
 impl MarkedTable {
-    /// A table with no place. It takes no memory.
+    /// A table without places. Never allocates.
     pub fn new(alloc: Global) -> MarkedTable
         ensures { result ≡ [] }
     {
@@ -46,14 +48,15 @@ impl MarkedTable {
         self.table.len()
     }
 
-    /// The row at the place. It takes no memory.
+    /// The row at the place. Never allocates.
     pub fn row(&self, index: usize) -> Option<&Row>
         ensures { option_copied result ≡ cell self.now index }
     {
         self.table.row(index)
     }
 
-    /// Makes empty places until there are so many. More than 2^32 - 2 places are refused.
+    /// Adds empty places until there are so many. Fails if an allocation fails, and for more than 2^32 - 2 places; the
+    /// table is then as it was.
     #[inline(always)]
     pub fn grow(&mut self, len: usize) -> Result<(), AllocError>
         requires { length self.old ≤ len }
@@ -70,7 +73,7 @@ impl MarkedTable {
         self.table.grow(len)
     }
 
-    /// Exchanges the row, or none, with what stands at the place. It takes no memory.
+    /// Exchanges the bare row with the one at the place. Either may stand for none. Never allocates.
     pub fn exchange(&mut self, index: usize, kept: &mut Row)
         requires { index < length self.old }
         ensures put { self.new ≡ slice_set self.old index (row_in kept.old) }
@@ -83,14 +86,14 @@ impl MarkedTable {
         }
     }
 
-    /// The first place with a row from this one on. It takes no memory, and walks over no place.
+    /// The first place, from this one on, that has a row. Never allocates, and does not walk over places.
     pub fn next_from(&self, from: usize) -> Option<usize>
         ensures { IsNextCell self.now from result }
     {
         self.marks.next_from(from)
     }
 
-    /// An equal table in memory of its own.
+    /// Copies the table into memory of its own.
     pub fn copy(&self) -> Result<MarkedTable, AllocError>
         ensures { IfOk result (λ copied. copied ≡ self.now) }
     {

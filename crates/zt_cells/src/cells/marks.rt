@@ -1,3 +1,5 @@
+//! Marks that tell which places of a table have a row.
+
 ghost use Rattle.std.specs.Prelude.{◌≡◌, ◌≤◌, ◌<◌, ◌*◌, ℕ, [], ◌∷◌, length, IfOk, OnOk};
 ghost use Rattle.zt_cells.specs.ProofsOnly.MarkedNumbers.{mark, IsMarkedAs, IsNextMark};
 ghost use Rattle.zt_cells.specs.ProofsOnly.WordsOfMarks.{words_in};
@@ -6,7 +8,7 @@ use crate::cells::mark_levels::MarkLevels;
 use crate::cells::mark_words::{lowest_from, with_bit, without_bit};
 use std::alloc::{AllocError, Global};
 
-/// Marks of numbers from 0 on. Most tables are short: up to 64 numbers take a word and no memory beside it.
+/// Marks of numbers from 0 on. Most tables are short: the marks of up to 64 numbers take one word and no allocation.
 #[derive(Drop)]
 pub(crate) enum Marks {
     Few(u64),
@@ -14,7 +16,7 @@ pub(crate) enum Marks {
 }
 
 impl Marks {
-    /// No number is marked. It takes no memory.
+    /// No number is marked. Never allocates.
     pub fn new() -> Marks
         ensures { words_in result ≡ 0 ∷ [] }
     {
@@ -50,7 +52,7 @@ impl Marks {
         }
     }
 
-    /// Lets the number be unmarked.
+    /// Removes the mark of the number.
     pub fn unmark(&mut self, index: usize)
         requires { index < 64 * length (words_in self.old) }
         ensures { IsMarkedAs (words_in self.old) (words_in self.new) index 0 }
@@ -61,7 +63,7 @@ impl Marks {
         }
     }
 
-    /// The first number from this one on that is marked. It looks at a few words, whatever lies between.
+    /// The first marked number from this one on. It looks at a few words, and at one more for each 262,144 numbers between.
     pub fn next_from(&self, from: usize) -> Option<usize>
         ensures { IsNextMark (words_in self.now) from result }
     {
@@ -72,7 +74,7 @@ impl Marks {
         }
     }
 
-    /// Equal marks in memory of their own.
+    /// Copies the marks into memory of their own.
     pub fn copy(&self, alloc: Global) -> Result<Marks, AllocError>
         ensures { IfOk result (λ copied. words_in copied ≡ words_in self.now) }
     {

@@ -1,3 +1,5 @@
+//! A place of a table, with a row or none.
+
 ghost use Rattle.std.specs.Prelude.{◌≡◌, IfOk, IsTrue, None, false};
 ghost use Rattle.std.specs.Option.{option_copied, is_none};
 ghost use Rattle.zt_cells.specs.ProofsOnly.AlikeRows.{AlikePlaces};
@@ -10,7 +12,7 @@ use std::marker::Model;
 use std::mem;
 use zt_rows::{ObjectRow, Row};
 
-/// A row or none, as a bare row: the counters have no place in a table.
+/// A row or none, kept as a bare row. The counters have no place in a table.
 #[derive(Drop)]
 pub(crate) struct Place {
     held: Row,
@@ -27,7 +29,7 @@ impl Model for Place {
 }
 
 impl Place {
-    /// No row.
+    /// A place without a row.
     pub fn empty() -> Place
         ensures { result ≡ None }
     {
@@ -50,7 +52,7 @@ impl Place {
         row_in(&self.held)
     }
 
-    /// Exchanges the row, or none, with this bare one.
+    /// Exchanges the row, or none, with what this bare row stands for.
     #[inline(always)]
     pub fn exchange(&mut self, kept: &mut Row)
         ensures put { self.new ≡ row_in kept.old }
@@ -59,7 +61,7 @@ impl Place {
         mem::swap(&mut self.held, kept);
     }
 
-    /// Exchanges the object with the one that stands here, if there is one alike, and says whether there is.
+    /// If an object that is alike stands here, exchanges the two and returns `true`. Else nothing changes.
     #[inline(always)]
     pub fn exchange_alike(&mut self, object: &mut ObjectRow) -> bool
         ensures done { IsTrue result → AlikePlaces self.old self.new object.old object.new }
@@ -68,7 +70,7 @@ impl Place {
         exchange_alike(&mut self.held, object)
     }
 
-    /// An equal place, with memory of its own.
+    /// Copies the place into memory of its own.
     pub fn copy(&self) -> Result<Place, AllocError>
         ensures { IfOk result (λ copied. copied ≡ self.now) }
     {

@@ -1,3 +1,5 @@
+//! All tables of a store, by kinds of keys.
+
 ghost use Rattle.std.specs.Prelude.{◌≡◌, ◌≤◌, ◌<◌, ◌+◌, ◌^◌, ℕ, length, IfOk, IsTrue, OnOk, OnErr, Some, false};
 ghost use Rattle.std.specs.Option.{option_copied};
 ghost use Rattle.zt_rows.specs.declared.keys.RowKey.TheVariants as key_variant;
@@ -25,8 +27,7 @@ pub(crate) struct RowTables {
     pub waits: Table,
 }
 
-/// Lets all tables go in one call, so that a function that owns a store is proved without going through them at each of its
-/// ways out.
+/// Drops all tables in one call. So the proof of a function that owns a store does not go through them at each exit.
 impl Drop for RowTables {
     fn drop(self) {
         let RowTables {
@@ -41,7 +42,7 @@ impl Drop for RowTables {
 }
 
 impl RowTables {
-    /// No row but the counters, and no other place. It takes no memory.
+    /// Tables with the counters, and without any other row or place. Never allocates.
     pub fn new(alloc: Global, counters: Row) -> RowTables
         ensures { result ≡ row_tables_of counters }
     {
@@ -55,7 +56,7 @@ impl RowTables {
         }
     }
 
-    /// Equal tables in memory of their own.
+    /// Copies the tables into memory of their own.
     pub fn copy(&self) -> Result<RowTables, AllocError>
         ensures { IfOk result (λ copied. copied ≡ self.now) }
     {
@@ -69,7 +70,7 @@ impl RowTables {
         })
     }
 
-    /// The row in the place of the key. It takes no memory.
+    /// The row in the place of the key. Never allocates.
     #[inline(always)]
     #[tactic(auto, unfolding(crate::specs::ProofsOnly::RowTables::look))]
     pub fn row(&self, key: RowKey) -> Option<&Row>
@@ -121,7 +122,7 @@ impl RowTables {
         }
     }
 
-    /// Exchanges the row, or none, with what stands in the place of the key. It takes no memory.
+    /// Exchanges the bare row with the one in the place of the key. Either may stand for none. Never allocates.
     #[inline(always)]
     #[tactic(auto, using(crate::proofs::RowTableLaws::length_laws), unfolding(crate::specs::ProofsOnly::RowTables::sizes_of))]
     pub fn exchange(&mut self, key: RowKey, kept: &mut Row)
@@ -144,7 +145,7 @@ impl RowTables {
         }
     }
 
-    /// Exchanges the object with the one of this koid, if there is one alike, and says whether there is. It takes no memory.
+    /// If an object that is alike has this koid, exchanges the two and returns `true`. Else nothing changes. Never allocates.
     #[inline(always)]
     pub fn exchange_alike(&mut self, koid: Koid, object: &mut ObjectRow) -> bool
         requires { koid < length self.old.objects }
@@ -155,7 +156,7 @@ impl RowTables {
         self.objects.exchange_alike(koid.0 as usize, object)
     }
 
-    /// Makes the places in the table of the key, up to its own.
+    /// Makes empty places in the table of the key, up to its own.
     #[inline(always)]
     #[tactic(auto, using(crate::proofs::RowTableLaws::length_laws), unfolding(crate::specs::ProofsOnly::RowTables::sizes_of))]
     pub fn grow(&mut self, key: RowKey) -> Result<(), AllocError>
@@ -168,7 +169,7 @@ impl RowTables {
         ensures ok { OnOk result (MadeFor key self.old self.new) }
         ensures err { OnErr result (places_in self.new ≡ places_in self.old) }
     {
-        // A copy for the call that takes the key, which is matched on below.
+        // `place_of` gets a copy of the key, since the key is matched on below.
         let asked = key;
         let len = place_of(asked) + 1;
         match key {

@@ -1,3 +1,5 @@
+//! A table: a list of places for rows.
+
 ghost use Rattle.std.specs.Prelude.{◌≡◌, ◌≤◌, ◌<◌, ◌-◌, ◌^◌, ℕ, length, vec_len, IfOk, OnOk, OnErr, slice_set, IsSome, IsTrue, None, [], false};
 ghost use Rattle.std.specs.Vec.{vec_capacity};
 ghost use Rattle.std.specs.Option.{option_copied};
@@ -10,13 +12,13 @@ use std::alloc::{AllocError, Global};
 use std::marker::Model;
 use zt_rows::{ObjectRow, Row};
 
-/// Places for rows, from 0 on. A place, once there, is never given up.
+/// Places for rows, from 0 on. A place that was made is never given up.
 #[derive(Drop)]
 pub(crate) struct Table {
     places: Vec<Place>,
 }
 
-/// How many places a table has at most, so that one more than there are objects is a small number.
+/// The most places of a table, so that the number of objects plus one fits in 32 bits.
 pub(crate) const MOST_IN_TABLE: usize = u32::MAX as usize - 1;
 
 impl Model for Table {
@@ -31,7 +33,7 @@ impl Model for Table {
 }
 
 impl Table {
-    /// A table with no place. It takes no memory.
+    /// A table without places. Never allocates.
     pub fn new(alloc: Global) -> Table
         ensures { result ≡ [] }
     {
@@ -51,14 +53,14 @@ impl Table {
         *self.places.allocator()
     }
 
-    /// What holds of the places: there are not too many.
+    /// States that there are fewer than 2^32 - 1 places.
     pub fn limits(&self)
         ensures { length self.now < 2 ^ 32 - 1 }
     {
         let _ = &self.places;
     }
 
-    /// The row at the place. It takes no memory.
+    /// The row at the place. Never allocates.
     pub fn row(&self, index: usize) -> Option<&Row>
         ensures { option_copied result ≡ cell self.now index }
     {
@@ -68,7 +70,8 @@ impl Table {
         }
     }
 
-    /// Makes empty places until there are so many. More than 2^32 - 2 places are refused.
+    /// Adds empty places until there are so many. Fails if an allocation fails, and for more than 2^32 - 2 places; the
+    /// table is then as it was.
     #[inline(always)]
     pub fn grow(&mut self, len: usize) -> Result<(), AllocError>
         requires { length self.old ≤ len }
@@ -90,7 +93,7 @@ impl Table {
         Ok(())
     }
 
-    /// Exchanges the row, or none, with what stands at the place. It takes no memory.
+    /// Exchanges the bare row with the one at the place. Either may stand for none. Never allocates.
     #[inline(always)]
     pub fn exchange(&mut self, index: usize, kept: &mut Row)
         requires { index < length self.old }
@@ -101,7 +104,8 @@ impl Table {
         place.exchange(kept);
     }
 
-    /// Exchanges the object with the one at the place, if there is one alike, and says whether there is. It takes no memory.
+    /// If an object that is alike stands at the place, exchanges the two and returns `true`. Else nothing changes.
+    /// Never allocates.
     #[inline(always)]
     pub fn exchange_alike(&mut self, index: usize, object: &mut ObjectRow) -> bool
         requires { index < length self.old }
@@ -112,7 +116,7 @@ impl Table {
         place.exchange_alike(object)
     }
 
-    /// An equal table in memory of its own.
+    /// Copies the table into memory of its own.
     pub fn copy(&self) -> Result<Table, AllocError>
         ensures { IfOk result (λ copied. copied ≡ self.now) }
     {
@@ -124,8 +128,8 @@ impl Table {
     }
 }
 
-/// Asks for memory for so many places; at first for just these, since most queues stay short, and then for twice as many as
-/// there were.
+/// Allocates room for so many places. The first request is for just these, since most queues stay short. Each later one
+/// at least doubles the room.
 #[inline(never)]
 fn make_room(places: &mut Vec<Place>, len: usize) -> Result<(), AllocError>
     requires { vec_len places.old ≤ len }

@@ -1,3 +1,5 @@
+//! Tables by owner: messages by endpoint, packets by port, entries by process.
+
 ghost use Rattle.std.specs.Prelude.{◌≡◌, ◌≤◌, ◌<◌, ◌≢◌, ◌+◌, ◌-◌, ◌^◌, ℕ, List, [], length, vec_len, IfOk, OnOk, OnErr};
 ghost use Rattle.std.specs.List.{sum};
 ghost use Rattle.std.specs.Option.{option_copied, unwrap_or};
@@ -11,16 +13,16 @@ use std::alloc::{AllocError, Global};
 use std::marker::Model;
 use zt_rows::Row;
 
-/// Tables of places for rows, one for each owner from 0 on. Memory for a table is taken only by an owner that was to have a
-/// place: most koids are owners of nothing, and take the four bytes of a number.
+/// Tables of places for rows, one for each owner, by koid from 0 on. Only an owner that was to have a place takes
+/// memory for a table. Most koids own nothing, and take the four bytes of a number.
 #[derive(Drop)]
 pub(crate) struct TablesByOwner {
-    /// For each owner where its table stands, or `NO_TABLE`.
+    /// The place of each owner's table in `tables`, or `NO_TABLE`.
     numbers: Vec<u32>,
     tables: Vec<MarkedTable>,
 }
 
-/// The number of an owner that has no table, and no place.
+/// The number of an owner without a table, which has no places.
 const NO_TABLE: u32 = u32::MAX;
 
 impl Model for TablesByOwner {
@@ -36,7 +38,7 @@ impl Model for TablesByOwner {
 }
 
 impl TablesByOwner {
-    /// No table. It takes no memory.
+    /// No tables. Never allocates.
     #[tactic(auto, using(crate::proofs::NumberLaws::owner_laws))]
     pub fn new(alloc: Global) -> TablesByOwner
         ensures { result ≡ [] }
@@ -47,7 +49,7 @@ impl TablesByOwner {
         }
     }
 
-    /// How many owners have tables.
+    /// From this owner on, none has a table.
     #[tactic(auto, using(crate::proofs::NumberLaws::owner_laws))]
     pub fn owners(&self) -> usize
         ensures { result ≡ length self.now }
@@ -55,7 +57,7 @@ impl TablesByOwner {
         self.numbers.len()
     }
 
-    /// The owner's table. Where it has none, it has no place.
+    /// The owner's table. An owner without one has no places.
     #[inline(always)]
     fn table_of(&self, owner: usize) -> Option<&MarkedTable>
         ensures { unwrap_or (option_copied result) [] ≡ table self.now owner }
@@ -76,7 +78,7 @@ impl TablesByOwner {
         }
     }
 
-    /// The row at the owner's place. It takes no memory.
+    /// The row at the owner's place. Never allocates.
     pub fn row(&self, owner: usize, index: usize) -> Option<&Row>
         ensures { option_copied result ≡ cell_at self.now owner index }
     {
@@ -86,7 +88,7 @@ impl TablesByOwner {
         }
     }
 
-    /// The first place of the owner with a row from this one on. It takes no memory.
+    /// The owner's first place, from this one on, that has a row. Never allocates.
     #[inline(always)]
     pub fn next_from(&self, owner: usize, from: u64) -> Option<u64>
         ensures { IsNextCell (table self.now owner) from result }
@@ -97,7 +99,7 @@ impl TablesByOwner {
         }
     }
 
-    /// Exchanges the row, or none, with what stands at the owner's place. It takes no memory.
+    /// Exchanges the bare row with the one at the owner's place. Either may stand for none. Never allocates.
     #[inline(always)]
     pub fn exchange(&mut self, owner: usize, index: usize, kept: &mut Row)
         requires { index < length (table self.old owner) }
@@ -109,7 +111,8 @@ impl TablesByOwner {
         table.exchange(index, kept);
     }
 
-    /// Makes empty places for the owner until it has so many. An owner from 2^48 on is refused.
+    /// Adds empty places for the owner until it has so many. Fails if an allocation fails, and for owners from 2^48 on.
+    /// Fails also beyond 2^32 - 2 places, or 2^32 - 1 tables.
     #[inline(always)]
     pub fn grow(&mut self, owner: usize, len: usize) -> Result<(), AllocError>
         requires { length (table self.old owner) ≤ len }
@@ -126,7 +129,7 @@ impl TablesByOwner {
         table.grow(len)
     }
 
-    /// Equal tables in memory of its own.
+    /// Copies the tables into memory of their own.
     pub fn copy(&self) -> Result<TablesByOwner, AllocError>
         ensures { IfOk result (λ copied. copied ≡ self.now) }
     {
@@ -136,7 +139,7 @@ impl TablesByOwner {
     }
 }
 
-/// Where the owner's table stands. One with no place is made where there is none.
+/// The place of the owner's table in `tables`. An owner without a table gets one without places.
 #[inline(always)]
 fn make_table(
     numbers: &mut Vec<u32>,
@@ -157,7 +160,8 @@ fn make_table(
     add_table(numbers, tables, owner)
 }
 
-/// Makes a table with no place for the owner, which has none.
+/// Makes a table without places for the owner, which has none. Fails if an allocation fails, for owners from 2^48 on,
+/// and beyond 2^32 - 1 tables.
 #[inline(never)]
 fn add_table(
     numbers: &mut Vec<u32>,
@@ -182,7 +186,7 @@ fn add_table(
     Ok(number)
 }
 
-/// Makes a number for the owner, that of no table where it has none yet. An owner from 2^48 on is refused.
+/// Makes a number for the owner: `NO_TABLE`, if it has none yet. Fails if an allocation fails, and for owners from 2^48 on.
 fn make_number(numbers: &mut Vec<u32>, owner: usize) -> Result<(), AllocError>
     ensures same { (x : ℕ) → number_of numbers.new.items x ≡ number_of numbers.old.items x }
     ensures there { OnOk result (owner < vec_len numbers.new) }
@@ -196,7 +200,7 @@ fn make_number(numbers: &mut Vec<u32>, owner: usize) -> Result<(), AllocError>
     numbers.resize(owner + 1, NO_TABLE)
 }
 
-/// Equal tables in memory of their own.
+/// Copies the tables into memory of their own.
 fn copy_tables(tables: &Vec<MarkedTable>) -> Result<Vec<MarkedTable>, AllocError>
     ensures { IfOk result (λ copied. copied.items ≡ tables.now.items) }
 {

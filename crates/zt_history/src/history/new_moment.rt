@@ -1,3 +1,5 @@
+//! The private steps by which a history changes: go to a moment, run a call there, add or drop a moment, add a branch.
+
 ghost use Rattle.std.specs.Prelude.{◌≡◌, ◌<◌, ◌≤◌, ◌-◌, true, Some, None, IsSome, IfOk, IfErr, OnOk, OnErr, length};
 ghost use Rattle.zt_rows.specs.Reads.{runs};
 ghost use Rattle.zt_rows.specs.declared.calls.Call.{Call};
@@ -15,8 +17,8 @@ use zt_calls::runs;
 use zt_rows::{Call, Koid, LAST_MOMENT, Moment, Refusal, Reply};
 
 impl History {
-    /// Moves the store to a moment. Where it stands there already it takes no memory; where memory is refused it stays
-    /// where it is.
+    /// Moves the store to a moment. Never allocates if the store stands there already. If an allocation fails, the
+    /// store stays where it is.
     pub(super) fn stand_at(&mut self, moment: Moment) -> Result<(), AllocError>
         requires { moment ≤ length self.old.tree.made }
         ensures ok { OnOk result (self.new ≡ moved_to self.old moment) }
@@ -32,7 +34,16 @@ impl History {
         }
     }
 
-    /// Moves the store to a moment at which the process is to call. Refused, it stands where it stood or at that moment.
+    /// Moves the store to a moment at which the process is to call.
+    ///
+    /// Errors, in the order of the checks:
+    ///
+    /// - `Full`, after 1,048,576 moments;
+    /// - `NoMoment`, beyond the last moment;
+    /// - `OutOfMemory`, if an allocation fails;
+    /// - `NoProcess`, if the caller is not a live process there.
+    ///
+    /// The store then stands where it stood, or at that moment.
     pub(super) fn stand_ready(&mut self, parent: Moment, process: Koid) -> Result<(), Refusal>
         ensures ok { OnOk result (self.new ≡ moved_to self.old parent) }
         ensures few { OnOk result (length self.old.tree.made < most_moments) }
@@ -55,9 +66,11 @@ impl History {
         Ok(())
     }
 
-    /// Runs a call of a process that runs where the store stands, notes what it did to each object, and adds the moment that it makes, to
-    /// which the store moves; no head moves. The call is taken from where it stands, and neither it nor its reply is copied. Where
-    /// memory is refused, also for the notes, nothing changes.
+    /// Runs a call of a live process at the position, notes what it did to each object, and adds the new moment. The
+    /// store moves to that moment, and no head moves.
+    ///
+    /// Moves the call out of `call`, so that neither the call nor its reply is copied. If an allocation fails, for the
+    /// notes too, nothing changes.
     pub(super) fn grow(&mut self, process: Koid, call: &mut Call) -> Result<(), AllocError>
         requires few { length self.old.tree.made < most_moments }
         requires running { runs (state_at self.old.tree.made self.old.position) process ≡ true }
@@ -85,8 +98,8 @@ impl History {
         }
     }
 
-    /// A copy of the reply of the last moment, at which the store stands. Where memory is refused the moment is dropped, as
-    /// `drop_moment` does.
+    /// Copies the reply of the last moment, at which the store stands. If an allocation fails, the moment is dropped,
+    /// as `drop_moment` does.
     pub(super) fn last_reply(&mut self) -> Result<Reply, AllocError>
         requires there { IsSome (reply_at self.old.tree.made self.old.position) }
         requires some { 0 < last_moment self.old.tree }
@@ -105,14 +118,14 @@ impl History {
         }
     }
 
-    /// What holds of the branches of every history.
+    /// States what holds of the branches of every history.
     pub(super) fn limits(&self)
         ensures { AreBranches (last_moment self.now.tree) self.now.tree.branches }
     {
         let _branches = &self.branches;
     }
 
-    /// A copy of the reply of the moment at which the store stands.
+    /// Copies the reply of the moment at which the store stands.
     fn reply_here(&self) -> Result<Reply, AllocError>
         requires { IsSome (reply_at self.now.tree.made self.now.position) }
         ensures { IfOk result (λ reply. Some reply ≡ reply_at self.now.tree.made self.now.position) }
@@ -123,8 +136,8 @@ impl History {
         }
     }
 
-    /// Drops the last moment, at which the store stands and at which no branch has its head, and moves the store to the parent.
-    /// It takes no memory.
+    /// Drops the last moment, and moves the store to its parent. The store stands at the moment, and no branch has its
+    /// head there. Never allocates.
     pub(super) fn drop_moment(&mut self)
         requires some { 0 < last_moment self.old.tree }
         requires last { self.old.position ≡ last_moment self.old.tree }
@@ -140,7 +153,7 @@ impl History {
         self.undo = Undo::Nothing;
     }
 
-    /// Adds a branch of a name that none has. Where memory is refused nothing changes.
+    /// Adds a branch of a name that none has. If an allocation fails, nothing changes.
     pub(super) fn add(&mut self, name: &[u8], at: Moment) -> Result<BranchId, AllocError>
         requires free { branch_named self.old.tree.branches name.now ≡ None }
         requires there { at ≤ length self.old.tree.made }

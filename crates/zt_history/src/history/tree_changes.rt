@@ -1,3 +1,5 @@
+//! The changes of a history's tree: calls, branches, heads, and taking the last change back.
+
 ghost use Rattle.std.specs.Prelude.{◌≡◌, ◌<◌, ◌≤◌, Some, None, Ok, Err, IsSome, IfOk, IfErr, OnOk, OnErr, length};
 ghost use Rattle.zt_rows.specs.declared.calls.Answer.TheVariants as answer;
 ghost use Rattle.zt_history.specs.HistoryRefusals.{IsHistoryRefusal, call_on, call_under, branch_on, moment_on};
@@ -9,8 +11,10 @@ use crate::history::{History, Undo};
 use zt_rows::{Call, Koid, Moment, Refusal, Reply};
 
 impl History {
-    /// Runs a call of a process at the head of a branch, which moves to the new moment, as does the store. Refused,
-    /// moments and heads are as before, and the store stands where it stood or at the head.
+    /// Runs a call of a process at the head of a branch. The head moves to the new moment, and so does the store.
+    ///
+    /// Errors: `Full` after 1,048,576 moments, `NoProcess` if the caller is not a live process there, `OutOfMemory` if
+    /// an allocation fails. Moments and heads are then as before, and the store stands where it stood or at the head.
     pub fn call(
         &mut self,
         id: BranchId,
@@ -31,9 +35,12 @@ impl History {
         Ok(made)
     }
 
-    /// Runs a call of a process at any moment, and moves the store to the moment that it makes; no head moves, and
-    /// nothing can be taken back then. Refused, moments and heads are as before, and the store stands where it stood or
-    /// at the parent.
+    /// Runs a call of a process at any moment, and moves the store to the new moment. No head moves, and nothing can be
+    /// taken back then.
+    ///
+    /// Errors: `Full` after 1,048,576 moments, `NoMoment` beyond the last moment, `NoProcess` if the caller is not a
+    /// live process there, `OutOfMemory` if an allocation fails. Moments and heads are then as before, and the store
+    /// stands where it stood or at the parent.
     pub fn call_at(
         &mut self,
         parent: Moment,
@@ -56,8 +63,8 @@ impl History {
         Ok((self.last(), reply))
     }
 
-    /// Runs a call of a process at any moment as `call_at` does, and keeps the call itself, so that neither it nor its reply
-    /// is copied. Refused, the call is let go.
+    /// Runs a call of a process at any moment as `call_at` does, and keeps the call itself. So neither the call nor its
+    /// reply is copied. The errors are those of `call_at`, and the call is then dropped.
     #[inline(always)]
     pub fn take_call_at(
         &mut self,
@@ -76,8 +83,8 @@ impl History {
         Ok(self.last())
     }
 
-    /// Gives a branch another head, any moment. The store stays where it is, and nothing can be taken back then. It
-    /// takes no memory.
+    /// Moves the head of a branch to any moment. The store stays where it is, and nothing can be taken back then. Never
+    /// allocates. Error: `NoMoment` beyond the last moment.
     pub fn move_head(&mut self, id: BranchId, moment: Moment) -> Result<(), Refusal>
         requires { id < length self.old.tree.branches }
         ensures moved { OnOk result (self.new ≡ after_move_head self.old id moment) }
@@ -93,8 +100,10 @@ impl History {
         Ok(())
     }
 
-    /// Makes a branch of a name that none has, with its head at a moment. The store stays where it is. Refused,
-    /// nothing changes.
+    /// Makes a branch of a name that none has, with its head at a moment. The store stays where it is.
+    ///
+    /// Errors: `NoMoment` beyond the last moment, `NameTaken` if a branch has the name, `OutOfMemory` if an allocation
+    /// fails. The tree is then as before.
     pub fn branch(&mut self, name: &[u8], at: Moment) -> Result<BranchId, Refusal>
         ensures ok { IfOk result (λ id. branch_on self.old.tree name.now at ≡ Ok (id, self.new.tree)) }
         ensures branched { OnOk result (self.new ≡ after_branch self.old name.now at) }
@@ -111,8 +120,8 @@ impl History {
         Ok(self.add(name, at)?)
     }
 
-    /// Takes back the last call by `&mut`, a `call` or a `branch` that was answered: moments, branches and heads are
-    /// those before it, and after a call the store stands at the head at which it ran. It takes no memory.
+    /// Takes back the last `call` or `branch` that was answered. Moments, branches and heads are then those before it.
+    /// After a call, the store stands at the head at which the call ran. Never allocates.
     pub fn retract(&mut self)
         requires { IsSome self.old.before }
         ensures back { self.old.before ≡ Some (point_of self.new) }

@@ -1,4 +1,5 @@
-//! The notes of all objects in one list, with each note linked to the earlier one of its object.
+//! The notes of all objects in one list, in which each note is linked to the earlier one of its object.
+
 ghost use Rattle.std.specs.Prelude.{◌≡◌, ◌<◌, ◌++◌, ◌∷◌, [], IfOk, OnOk, length, take};
 ghost use Rattle.std.specs.Option.{option_copied};
 ghost use Rattle.zt_rows.specs.State.{row};
@@ -14,7 +15,8 @@ use std::marker::Model;
 use zt_rows::{Held, Koid, Moment, Row, RowKey};
 use zt_store::{Record, Store};
 
-/// What a moment's call did to an object. `earlier` is the place behind that of the object's earlier note, or 0 if this is the first.
+/// A note: a change of an object by a moment's call. `earlier` is the place behind that of the object's earlier note,
+/// or 0 if this is the first.
 #[derive(Clone, Copy)]
 pub(super) struct ObjectNote {
     koid: u32,
@@ -23,10 +25,11 @@ pub(super) struct ObjectNote {
     what: Noted,
 }
 
-// There are many of them: each takes sixteen bytes.
+// There are many notes: each takes 16 bytes.
 const _: () = prove_eq!(size_of::<ObjectNote>(), 16);
 
-/// The notes in the order of their moments. `last` has for each koid the place behind that of its last note, or 0 if it has none.
+/// The notes in the order of their moments. `last` has for each koid the place behind that of its last note, or 0 if it
+/// has none.
 #[derive(Drop)]
 pub(super) struct NoteChains {
     list: Vec<ObjectNote>,
@@ -62,8 +65,8 @@ impl NoteChains {
         self.list.len()
     }
 
-    /// Notes what a moment's call did to each object of its record, and which names it let go there. On an allocation failure some
-    /// of these notes may be there.
+    /// Notes what a moment's call did to each object of its record, and which names and live children were lost by it.
+    /// On an allocation failure some of these notes may be there.
     pub(super) fn note_record(
         &mut self,
         moment: Moment,
@@ -80,8 +83,9 @@ impl NoteChains {
         Ok(())
     }
 
-    /// Notes what a moment's call did under one key: for an object's key, to the object and to its parent, and else that it let go of
-    /// what the row before it named. On an allocation failure some of these notes may be there.
+    /// Notes what a moment's call did under one key. For an object's key, notes the changes of the object, and that its
+    /// parent lost it. For any other key, notes that the call let go of what the row before it named. On an allocation
+    /// failure some of these notes may be there.
     fn note_under(
         &mut self,
         moment: Moment,
@@ -105,8 +109,8 @@ impl NoteChains {
         }
     }
 
-    /// Notes what a moment's call did to an object, and whether the object's parent lost it as a live child. On an allocation failure
-    /// one of the two notes may be there.
+    /// Notes what a moment's call did to an object, and whether the object's parent lost it as a live child. On an
+    /// allocation failure one of the two notes may be there.
     fn note_object(
         &mut self,
         moment: Moment,
@@ -122,8 +126,8 @@ impl NoteChains {
         self.note_loss(moment, before, after, store)
     }
 
-    /// Notes what an object's rows before and after a moment's call show, if they show anything. On an allocation failure nothing is
-    /// noted.
+    /// Notes what an object's rows before and after a moment's call show, if they show anything. On an allocation
+    /// failure nothing is noted.
     fn note_shown(
         &mut self,
         moment: Moment,
@@ -141,8 +145,8 @@ impl NoteChains {
         Ok(())
     }
 
-    /// Notes that a parent lost the live process or job of the row before, if it did: most rows are of no such. On an allocation
-    /// failure nothing is noted.
+    /// If the row before was that of a live process or job, notes that the parent lost it, if it did. Most rows are of
+    /// neither. On an allocation failure nothing is noted.
     fn note_loss(
         &mut self,
         moment: Moment,
@@ -162,8 +166,8 @@ impl NoteChains {
         }
     }
 
-    /// Notes which names among the handles of a message a moment's call let go. The message stood under the key before. On an
-    /// allocation failure some of these notes may be there.
+    /// Notes which names among the handles of a message a moment's call let go. The message stood under the key before.
+    /// On an allocation failure some of these notes may be there.
     fn note_names(
         &mut self,
         moment: Moment,
@@ -180,8 +184,8 @@ impl NoteChains {
         Ok(())
     }
 
-    /// Notes that a moment's call let go of a name of an object, if it did. The name stood under the key before. On an allocation
-    /// failure nothing is noted.
+    /// Notes that a moment's call let go of a name of an object, if it did. The name stood under the key before. On an
+    /// allocation failure nothing is noted.
     #[inline(always)]
     fn note_name(
         &mut self,
@@ -197,7 +201,7 @@ impl NoteChains {
         self.push_if(gone, moment, koid, Noted::LetGo)
     }
 
-    /// Adds a note of an object as its last one, if what it tells happened. On an allocation failure none is added.
+    /// Adds a note of an object as its last one, if this happened. On an allocation failure none is added.
     #[inline(always)]
     fn push_if(
         &mut self,
@@ -274,7 +278,7 @@ impl NoteChains {
         }
     }
 
-    /// The last moment on the path to `at` at which it happened to the object.
+    /// The last moment on the path to `at` at which this happened to the object.
     pub(super) fn last_found(
         &self,
         moments: &Moments,
@@ -289,7 +293,7 @@ impl NoteChains {
     }
 }
 
-/// The last moment on the path to `at` at which it happened to the object.
+/// The last moment on the path to `at` at which this happened to the object, read from the last note back.
 fn found(
     list: &Vec<ObjectNote>,
     last: &Vec<u32>,
@@ -325,7 +329,7 @@ fn end_of(last: &Vec<u32>, koid: Koid) -> usize
     }
 }
 
-/// The number in four bytes. If it does not fit, that counts as an allocation failure.
+/// The number in four bytes. A number that does not fit counts as an allocation failure.
 fn in_four_bytes(number: u64) -> Result<u32, AllocError>
     ensures { IfOk result (λ same. same ≡ number) }
 {
@@ -335,7 +339,7 @@ fn in_four_bytes(number: u64) -> Result<u32, AllocError>
     }
 }
 
-/// Makes places up to that of the koid. On an allocation failure some may have been made.
+/// Extends the list until it has a place for the koid. On an allocation failure some places may have been added.
 fn cover(last: &mut Vec<u32>, koid: u32) -> Result<(), AllocError>
     ensures same { IsSameEnd last.old.items last.new.items }
     ensures ok { OnOk result (koid < length last.new.items) }
@@ -346,7 +350,7 @@ fn cover(last: &mut Vec<u32>, koid: u32) -> Result<(), AllocError>
     Ok(())
 }
 
-/// Whether the note is what is looked for.
+/// Whether the note tells what is searched for.
 fn tells(what: Sought, note: &ObjectNote) -> bool
     ensures { result ≡ tells what (note_as note.now) }
 {

@@ -1,4 +1,5 @@
-//! Tests of rows: whether one names an object or is a live child's, and whether the object lost that by a call.
+//! Tests by the rows before and after a call whether an object lost a name or a live child.
+
 ghost use Rattle.std.specs.Prelude.{◌≡◌};
 ghost use Rattle.std.specs.Option.{option_copied};
 ghost use Rattle.zt_rows.specs.State.{row};
@@ -32,7 +33,7 @@ fn is_child_row(parent: Koid, row: Option<&Row>) -> bool
     }
 }
 
-/// The parent of the live process or job of the row, if it is the row of one.
+/// The parent, if the row is that of a live process or job.
 pub(super) fn parent_in(row: Option<&Row>) -> Option<Koid>
     ensures { result ≡ parent_in (option_copied row.entry) }
 {

@@ -1,4 +1,5 @@
-//! The texts of calls and replies, with rights and signals by their names, where these are asked for.
+//! The texts of calls and replies, with rights and signals by their names if names are asked for.
+
 ghost use Rattle.std.specs.Prelude.{◌≡◌, ◌++◌, ◌∷◌, [], OnOk, string_bytes, codes};
 ghost use Rattle.std.specs.Fmt.{decimal};
 ghost use Rattle.zt_text.specs.ShownNumbers.{words};
@@ -12,7 +13,7 @@ use std::alloc::AllocError;
 use zt_bits::Signals;
 use zt_rows::{Call, HandleValue, Koid, Reply};
 
-/// A call of a process.
+/// Appends a call of a process.
 #[tactic(auto, unfolding(crate::specs::NamedTexts::call_text, zt_text::specs::Calls::shown_call))]
 pub(crate) fn put_call(
     text: &mut String,
@@ -64,7 +65,7 @@ pub(crate) fn put_call(
     }
 }
 
-/// A call that asks for a handle's rights.
+/// Appends a call that asks for a handle's rights.
 fn put_asked(
     text: &mut String,
     process: Koid,
@@ -80,7 +81,7 @@ fn put_asked(
     put_rights(text, rights, naming.names)
 }
 
-/// A call that takes signals away and sets others.
+/// Appends a call that clears signals and sets others.
 fn put_signaled(
     text: &mut String,
     process: Koid,
@@ -99,7 +100,7 @@ fn put_signaled(
     put_signals(text, set, naming)
 }
 
-/// A call that waits for signals of what a handle names, with a packet of this key to a port.
+/// Appends a call that waits for signals on a handle, with a packet of this key to a port.
 fn put_wait_async(
     text: &mut String,
     process: Koid,
@@ -119,7 +120,7 @@ fn put_wait_async(
     put_waited(text, signals, edge, naming)
 }
 
-/// The signals of a wait, and the word of one on an edge.
+/// Appends the signals of a wait, and the word `edge` if it is on an edge.
 fn put_waited(
     text: &mut String,
     signals: Signals,
@@ -133,7 +134,7 @@ fn put_waited(
     if edge { text.push_str(" edge") } else { Ok(()) }
 }
 
-/// The status of a reply and its values.
+/// Appends the status of a reply and its values.
 #[tactic(auto, unfolding(crate::specs::NamedTexts::reply_text))]
 pub(crate) fn put_reply(text: &mut String, reply: &Reply, naming: Naming) -> Result<(), AllocError>
     ensures { OnOk result (string_bytes text.new ≡ string_bytes text.old ++ reply_text naming reply.now) }

@@ -1,4 +1,5 @@
-//! Rights and signals by their names, where these are asked for, or as masks.
+//! Shows rights and signals by their names, if names are asked for, or as masks.
+
 ghost use Rattle.std.specs.Prelude.{◌≡◌, ◌++◌, ◌<◌, map, OnOk, string_bytes};
 ghost use Rattle.zt_look.specs.Names.{shown_bits, shown_rights, shown_signals, signal_names, right_names};
 
@@ -9,7 +10,7 @@ use zt_text::put_mask;
 /// The mask of a bit, and the bit's name.
 type BitName = (u32, &'static str);
 
-/// The rights, as a handle has them and as they are asked for.
+/// The names of rights, as a handle has them and as they are asked for.
 static RIGHTS: [BitName; 12] = [
     (0x1, "DUPLICATE"),
     (0x2, "TRANSFER"),
@@ -25,7 +26,8 @@ static RIGHTS: [BitName; 12] = [
     (0x80000000, "SAME_RIGHTS"),
 ];
 
-/// How rights and signals are shown: by their names or as masks, and of what kind the object of the signals is, if it is known.
+/// How rights and signals are shown: by their names or as masks. `kind` is the kind of the object of the signals, if it
+/// is known.
 #[derive(Clone, Copy)]
 pub struct Naming {
     pub names: bool,
@@ -43,7 +45,7 @@ impl Naming {
         Naming::of_any(false)
     }
 
-    /// Names, where these are asked for, of signals of an object whose kind is not known.
+    /// Names if they are asked for, for signals of an object whose kind is not known.
     pub fn of_any(names: bool) -> Naming
         ensures { result ≡ of_any names }
     {
@@ -51,7 +53,7 @@ impl Naming {
     }
 }
 
-/// The signals of an object whose kind is not known: the name of one bit depends on it.
+/// The signals of an object whose kind is not known. The name of bit 0x8 depends on the kind, so it is left out.
 static SIGNALS_OF_ANY: [BitName; 13] = [
     (0x1, "READABLE"),
     (0x2, "WRITABLE"),
@@ -68,7 +70,7 @@ static SIGNALS_OF_ANY: [BitName; 13] = [
     (0x80000000, "USER_7"),
 ];
 
-/// The signals of an object that is no job and no process.
+/// The signals of an object that is neither a job nor a process.
 static SIGNALS: [BitName; 14] = [
     (0x1, "READABLE"),
     (0x2, "WRITABLE"),
@@ -104,7 +106,7 @@ static TASK_SIGNALS: [BitName; 14] = [
     (0x80000000, "USER_7"),
 ];
 
-/// Rights by their names, where these are asked for, or as a mask.
+/// Appends rights by their names, if names are asked for, or as a mask.
 #[tactic(auto, unfolding(crate::specs::Names::shown_rights))]
 pub(crate) fn put_rights(text: &mut String, rights: u32, names: bool) -> Result<(), AllocError>
     ensures { OnOk result (string_bytes text.new ≡ string_bytes text.old ++ shown_rights names rights) }
@@ -116,7 +118,7 @@ pub(crate) fn put_rights(text: &mut String, rights: u32, names: bool) -> Result<
     }
 }
 
-/// Signals by their names, where these are asked for, or as a mask.
+/// Appends signals by their names, if names are asked for, or as a mask.
 #[tactic(auto, unfolding(crate::specs::Names::shown_signals))]
 pub(crate) fn put_signals(
     text: &mut String,
@@ -132,14 +134,14 @@ pub(crate) fn put_signals(
     }
 }
 
-/// The rights.
+/// The names of the rights.
 fn right_names() -> &'static [BitName]
     ensures { map (λ e. (e.0, e.1.now)) result.now ≡ right_names }
 {
     &RIGHTS
 }
 
-/// The signals of an object of a kind, if it is known.
+/// The names of the signals of an object of this kind, if the kind is known.
 fn signal_names(kind: Option<Kind>) -> &'static [BitName]
     ensures { map (λ e. (e.0, e.1.now)) result.now ≡ signal_names kind }
 {
@@ -150,7 +152,8 @@ fn signal_names(kind: Option<Kind>) -> &'static [BitName]
     }
 }
 
-/// The bits of a mask by their names with a bar between, and behind them those that have no name.
+/// Appends the bits of a mask by their names with a bar between them, and behind these the bits without a name as a
+/// mask. Appends `NONE` if there are no bits.
 fn put_bits(text: &mut String, names: &[BitName], bits: u32) -> Result<(), AllocError>
     ensures { OnOk result (string_bytes text.new ≡ string_bytes text.old ++ shown_bits (map (λ e. (e.0, e.1.now)) names.now) bits) }
 {

@@ -1,4 +1,5 @@
-//! The lines of rows, with rights and signals by their names, where these are asked for.
+//! The lines of rows, with rights and signals by their names if names are asked for.
+
 ghost use Rattle.std.specs.Prelude.{◌≡◌, ◌++◌, ◌∷◌, [], OnOk, string_bytes};
 ghost use Rattle.zt_text.specs.ShownNumbers.{words, shown_bytes, shown_list};
 ghost use Rattle.zt_look.specs.NamedTexts.{held_text, object_text, packet_text, queued_text, wait_text, row_text, line_of_row};
@@ -8,7 +9,7 @@ use std::alloc::AllocError;
 use zt_rows::{Held, Message, ObjectRow, Packet, Row, RowKey, Wait};
 use zt_text::{put_bytes, put_critical, put_key, put_life};
 
-/// The line of a row.
+/// Appends the line of a row.
 pub(crate) fn put_row(
     text: &mut String,
     key: RowKey,
@@ -23,7 +24,7 @@ pub(crate) fn put_row(
     text.push_str("\n")
 }
 
-/// What stands under a key.
+/// Appends the row without its key.
 #[tactic(auto, unfolding(crate::specs::NamedTexts::row_text))]
 fn put_value(text: &mut String, row: &Row, naming: Naming) -> Result<(), AllocError>
     ensures { OnOk result (string_bytes text.new ≡ string_bytes text.old ++ row_text naming row.now) }
@@ -57,7 +58,7 @@ fn put_object(text: &mut String, object: &ObjectRow, names: bool) -> Result<(), 
     put_critical(text, object.critical)
 }
 
-/// What a message carries.
+/// Appends the content of a message.
 pub(crate) fn put_content(
     text: &mut String,
     message: &Message,
@@ -71,7 +72,7 @@ pub(crate) fn put_content(
     put_handles_held(text, message.handles().as_slice(), names)
 }
 
-/// What handles hold, with a comma between, or `-` for none.
+/// Appends the held objects of handles, with a comma between them, or `-` if there are none.
 fn put_handles_held(text: &mut String, handles: &[Held], names: bool) -> Result<(), AllocError>
     ensures { OnOk result (string_bytes text.new ≡ string_bytes text.old ++ shown_list (held_text names) handles.now) }
 {
@@ -86,7 +87,7 @@ fn put_handles_held(text: &mut String, handles: &[Held], names: bool) -> Result<
     Ok(())
 }
 
-/// An object's koid and the rights on it.
+/// Appends an object's koid and the rights to it.
 fn put_held(text: &mut String, held: Held, names: bool) -> Result<(), AllocError>
     ensures { OnOk result (string_bytes text.new ≡ string_bytes text.old ++ held_text names held) }
 {
@@ -94,7 +95,7 @@ fn put_held(text: &mut String, held: Held, names: bool) -> Result<(), AllocError
     put_rights(text, held.rights.0, names)
 }
 
-/// A packet as the reader of its port gets it.
+/// Appends a packet as the reader of its port gets it.
 #[tactic(auto, unfolding(crate::specs::NamedTexts::packet_text))]
 pub(crate) fn put_packet(
     text: &mut String,
@@ -123,7 +124,8 @@ pub(crate) fn put_packet(
     }
 }
 
-/// A packet that waits shows, behind what its reader will get, whose handle was waited on.
+/// Appends a packet that waits in its port. Behind the part that its reader will get, it has the process and the handle
+/// that was waited on.
 #[tactic(auto, unfolding(crate::specs::NamedTexts::queued_text))]
 fn put_queued(text: &mut String, packet: &Packet, naming: Naming) -> Result<(), AllocError>
     ensures { OnOk result (string_bytes text.new ≡ string_bytes text.old ++ queued_text naming packet.now) }

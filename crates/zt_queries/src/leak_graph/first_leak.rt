@@ -1,16 +1,19 @@
-//! The moment at which an object was leaked. `leaked_since` goes through these cases in this order, and the first one that tells
-//! is the answer:
+//! Finds the moment at which an object was leaked. `leaked_since` goes through these cases in this order, and the first
+//! one that tells gives the answer:
 //!
 //! 1. The object went, and the record of the call by which it went shows that an entry reached it (`never_leaked.rt`,
 //!    `record_reach.rt`). It was never leaked.
-//! 2. It is there at the position, and is the root job, a process that runs, or named by an entry that was put by the call that made
-//!    it or by the last one that took a name of it away (`never_leaked.rt`). It was never leaked.
+//! 2. It is there at the position, and is the root job or a process that runs, or an entry names it. The entry was put
+//!    by the call that made the object, or by the last one that took a name of it away (`never_leaked.rt`). It was
+//!    never leaked.
 //! 3. It is there at the position, is no job that has ended, and all its names stand in messages that nothing reaches
-//!    (`name_search.rt`). It was leaked by the last call that took one of these names away, or ended what kept it.
-//! 4. A row of the object or a record of the path shows that it was not leaked where it is there last (`unleaked_signs.rt`). It
-//!    was never leaked.
-//! 5. All else is looked for in a graph (`graph.rt`), which the records of the path move (`moved_graph.rt`) and which is searched for
-//!    what is reached (`reachability.rt`, `leak_list.rt`). The moment is found by halving, here.
+//!    (`name_search.rt`). It was leaked by the last call that took one of these names away, or ended what kept it. If
+//!    an entry or a running process turns up instead, the object was never leaked.
+//! 4. A sign shows that the object was not leaked where it is there last (`unleaked_signs.rt`): its row, an entry at
+//!    the position, or a record of the path. It was never leaked.
+//! 5. In all other cases a graph tells (`graph.rt`). The records of the path move it (`moved_graph.rt`), and it is
+//!    searched for what is reached (`reachability.rt`, `leak_list.rt`). The moment is found by halving, here.
+
 ghost use Rattle.std.specs.Prelude.{◌≡◌, ◌==◌, ◌&&◌, ◌||◌, ◌≤◌, ◌<◌, ◌+◌, true, false, Some, IfOk, IfErr, Ok, None, filter, length};
 ghost use Rattle.std.specs.List.{last_or};
 ghost use Rattle.zt_rows.specs.declared.calls.Happening.TheVariants as happening;
@@ -39,23 +42,31 @@ use zt_bits::Kind;
 use zt_history::History;
 use zt_rows::{Koid, Moment, ROOT_JOB, Refusal};
 
-/// The moment on the path to `at` at which the object was leaked, if it was. Of the moments up to `at`, the object is leaked
-/// at none before it, and from it on no process reaches the object, which is leaked or gone; where none is answered, it is
-/// leaked at none of them.
+/// The moment on the path to `at` at which the object was leaked, if it was.
 ///
-/// Where the object went by a call that took away an entry that names it, or is named at the position by an entry that was put
-/// when it was made or last let go, it never was, and this reads no more than `ended` and takes no memory. So it is where it went
-/// with the endpoint at which a message waited that names it, and that with the next, up to an entry: this goes some times over
-/// the rows that the call changed, and takes no memory. Where it is there at the position and is neither a job nor a process that
-/// runs, the notes of what it and the endpoints above it let go lead to the messages that name them: this costs a look at each of
-/// these moments, and takes memory for those endpoints and messages. Where an entry turns up among these names, that takes a walk
-/// over entries up to the first one. So it is of a live job, with what it and the live jobs below it let go and what children they
-/// lost.
+/// The object is leaked at no earlier moment of the path. From this moment on no process reaches it, and it is leaked
+/// or gone. If the answer is none, it is leaked at no moment up to `at`.
 ///
-/// What is left, as an object that is gone, one that was let go very often, a job that has ended, or a position elsewhere, is told
-/// behind the lists of two paths: by what the object's own row or the records show of the moment at which it was there last, or else in a graph that the records of the path move, without a store: since what is
-/// leaked stays so, half of the moments that are left are passed over by each look at what is reached. It takes memory for two such
-/// graphs.
+/// Errors: `NoObject` if the koid was not given out by `at`, `OutOfMemory` if an allocation fails.
+///
+/// The cost depends on what tells:
+///
+/// - An object that went and is no job or process was never leaked, if the call took away an entry that names it. Nor
+///   was one that an entry at the position names, if the entry was put when the object was made or last let go. Both
+///   cost a look at the notes of the object and at the rows of up to two calls. They never allocate.
+/// - An object may go together with the endpoint of a message that names it. This endpoint may go with the next one, up
+///   to an entry. Then the object was never leaked either. This takes up to 16 passes over the rows of the call, and
+///   never allocates.
+/// - An object at the position may be neither a job nor a running process. Then the notes tell when it and the
+///   endpoints above it were let go. These moments lead to the messages that name them. This costs a look at each of
+///   the moments, and memory for the endpoints and messages. If an entry turns up among the names, it also costs a walk
+///   over the entries up to the first such one.
+/// - A live job is treated in the same way. The notes also tell when it and the live jobs below it lost their children.
+/// - All other cases need the lists of two paths. Examples are an object that is gone or was let go very often, a job
+///   that has ended, and a moment other than the position. The object's own row or a record may tell, from the last
+///   moment at which the object is there.
+/// - If they do not tell, a graph does, which the records of the path move without a store. A leaked object stays
+///   leaked. So each look at what is reached halves the moments that are left. This takes memory for two such graphs.
 pub fn leaked_since(
     alloc: Global,
     history: &History,
@@ -81,7 +92,7 @@ pub fn leaked_since(
     Ok(found)
 }
 
-/// The same by a graph, where nothing tells without one.
+/// Finds the moment at which the object was leaked by the lists of two paths, and by a graph if no sign tells.
 fn searched_since(
     alloc: Global,
     history: &History,
@@ -121,7 +132,8 @@ fn last_leaked(
     }
 }
 
-/// The same where the object is there for the last time at a place that both paths share.
+/// The last moment of the way at which the object was leaked, if the object is there last at a place that both paths
+/// share.
 fn leaked_within(
     alloc: Global,
     history: &History,
@@ -146,7 +158,8 @@ fn leaked_within(
     Ok(Some(moment))
 }
 
-/// The same where that place is beyond.
+/// The last moment of the way at which the object was leaked, if the object is there last at a place beyond the shared
+/// ones.
 fn leaked_beyond(
     alloc: Global,
     history: &History,
@@ -173,8 +186,9 @@ fn leaked_beyond(
     Ok(Some(ways.way[first_leak]))
 }
 
-/// The moment at which the object was leaked, where it is leaked at a place that both paths share, of which this is the
-/// graph. Most are leaked by the call behind the last sign that they are not, so that is looked at first.
+/// The moment at which the object was leaked, if it is leaked at this place, which both paths share. `graph` is the
+/// graph of the place. Most objects are leaked by the call behind the last sign that they are not, so that call is
+/// tried first.
 fn first_leak_within(
     alloc: Global,
     history: &History,
@@ -198,8 +212,8 @@ fn first_leak_within(
     Ok(ways.way[first_leak])
 }
 
-/// The place behind which the object is leaked: after the low one, where it is not leaked, and before the high one, where
-/// it is, of which this is the graph.
+/// The place behind which the object is leaked. It is not leaked at the low place, and it is leaked at the high one.
+/// `graph` is the graph of the high place.
 fn first_leak_back(
     alloc: Global,
     history: &History,
@@ -234,7 +248,8 @@ fn first_leak_back(
     Ok(below)
 }
 
-/// The same beyond the places that both paths share, of the last of which this is the graph.
+/// The place behind which the object is leaked, beyond the places that both paths share. `graph` is the graph of the
+/// last shared place, at which it is not leaked. It is leaked at the high place.
 fn first_leak_forth(
     alloc: Global,
     history: &History,
@@ -268,7 +283,7 @@ fn first_leak_forth(
     Ok(below)
 }
 
-/// The place in the middle between two that are not next to each other.
+/// The place in the middle between two places that are not next to each other.
 fn between(low: usize, high: usize) -> usize
     requires apart { low + 1 < high }
     ensures above { low < result }
@@ -277,7 +292,8 @@ fn between(low: usize, high: usize) -> usize
     low + (high - low) / 2
 }
 
-/// Whether the object is leaked at an earlier place of those that both paths share, by the graph of a later one.
+/// Whether the object is leaked at an earlier place of those that both paths share. `graph` is the graph of a later
+/// one.
 fn leaked_back(
     alloc: Global,
     history: &History,
@@ -299,7 +315,8 @@ fn leaked_back(
     Ok(leaks)
 }
 
-/// Whether the object is leaked at a later place beyond those that both paths share, by the graph of an earlier one.
+/// Whether the object is leaked at a later place beyond those that both paths share. `graph` is the graph of an earlier
+/// one.
 fn leaked_forth(
     alloc: Global,
     history: &History,
@@ -322,7 +339,7 @@ fn leaked_forth(
     Ok(leaks)
 }
 
-/// Whether the object is leaked in the graph. Where there is no such object, or it keeps itself, nothing is looked for.
+/// Whether the object is leaked in the graph. If there is no such object, or it keeps itself, nothing is searched.
 fn leaked_in(alloc: Global, graph: &Graph, koid: Koid) -> Result<bool, AllocError>
     ensures { IfOk result (λ leaked. (S : State) → IsGraph graph.now S → leaked ≡ is_leaked S koid) }
 {
@@ -345,7 +362,8 @@ fn keeps_itself(koid: Koid, node: &GraphNode) -> bool
     koid == ROOT_JOB || (node.kind == Kind::Process && node.live)
 }
 
-/// Whether the object is leaked in the graph: not where an entry names it, and else by what is reached there.
+/// Whether the object is leaked in the graph. It is not if an entry names it. Otherwise a search for what is reached
+/// tells.
 fn searched(alloc: Global, graph: &Graph, koid: Koid) -> Result<bool, AllocError>
     ensures { IfOk result (λ leaked. (S : State) → IsGraph graph.now S → leaked ≡ is_leaked S koid) }
 {

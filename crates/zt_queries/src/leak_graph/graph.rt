@@ -1,5 +1,6 @@
-//! The graph in which leaks are looked for: of each row no more than what leaks hang on, so that a record can move it
-//! from one moment to the next.
+//! The graph in which leaks are searched. It has only those parts of each row on which leaks depend, so that a record
+//! can move it from one moment to the next.
+
 ghost use Rattle.std.specs.Prelude.{◌≡◌, IfOk, OnOk, Some, None, map, if◌then◌else◌};
 ghost use Rattle.std.specs.BTreeMap.{get};
 ghost use Rattle.zt_rows.specs.Keys.{rowkey_cmp, rowkey_eq};
@@ -15,7 +16,7 @@ use zt_bits::Kind;
 use zt_rows::{Held, Items, Koid, Life, Row, RowKey};
 use zt_store::Store;
 
-/// What leaks hang on in an object.
+/// The parts of an object's row on which leaks depend.
 #[derive(Clone, Copy)]
 pub(crate) struct GraphNode {
     pub(crate) kind: Kind,
@@ -23,7 +24,7 @@ pub(crate) struct GraphNode {
     pub(crate) link: Koid,
 }
 
-/// What leaks hang on in a row: the objects that it names, and the next koid.
+/// The parts of a row on which leaks depend: the objects that it names, and the next koid.
 #[derive(Drop)]
 pub(crate) enum GraphRow {
     Counters(Koid),
@@ -32,10 +33,10 @@ pub(crate) enum GraphRow {
     Message(Items<Koid>),
 }
 
-/// The graph rows of a state's rows.
+/// The graph rows of a state's rows, under the keys of these rows.
 pub(crate) type Graph = BTreeMap<RowKey, GraphRow>;
 
-/// What leaks hang on in the row, if anything.
+/// The parts of the row on which leaks depend, if there are any.
 pub(crate) fn graph_row_of(alloc: Global, row: &Row) -> Result<Option<GraphRow>, AllocError>
     ensures { IfOk result (λ drawn. drawn ≡ graph_row row.now) }
 {
@@ -75,7 +76,7 @@ pub(crate) fn graph_of(alloc: Global, store: &Store) -> Result<Graph, AllocError
     Ok(graph)
 }
 
-/// Puts into the graph what stands under the key in the store.
+/// Puts the graph row of the store's row under the key into the graph.
 fn draw(alloc: Global, graph: &mut Graph, store: &Store, key: RowKey) -> Result<(), AllocError>
     ensures { OnOk result ((q : RowKey) → get rowkey_cmp graph.new q ≡ (if rowkey_eq key q then graph_row_if (row store.now.state key) else get rowkey_cmp graph.old q)) }
 {
@@ -88,7 +89,7 @@ fn draw(alloc: Global, graph: &mut Graph, store: &Store, key: RowKey) -> Result<
     Ok(())
 }
 
-/// The graph of a copy of a history.
+/// The graph of a frozen copy of a history.
 pub(crate) fn frozen_graph(alloc: Global, frozen: &Frozen) -> Result<Graph, AllocError>
     ensures { IfOk result (λ graph. IsGraph graph frozen.now.state) }
 {
@@ -99,7 +100,7 @@ pub(crate) fn frozen_graph(alloc: Global, frozen: &Frozen) -> Result<Graph, Allo
     Ok(graph)
 }
 
-/// Puts into the graph what this row gives, under its key.
+/// Puts the graph row of this row under the key into the graph.
 fn draw_row(alloc: Global, graph: &mut Graph, key: RowKey, row: &Row) -> Result<(), AllocError>
     ensures { OnOk result ((q : RowKey) → get rowkey_cmp graph.new q ≡ (if rowkey_eq key q then graph_row row.now else get rowkey_cmp graph.old q)) }
 {
@@ -108,7 +109,7 @@ fn draw_row(alloc: Global, graph: &mut Graph, key: RowKey, row: &Row) -> Result<
     Ok(())
 }
 
-/// Puts the graph row, or none, under the key, and gives back what stood there.
+/// Puts the graph row, or none, under the key. Returns the graph row that stood there.
 pub(crate) fn place(
     graph: &mut Graph,
     key: RowKey,
@@ -123,7 +124,7 @@ pub(crate) fn place(
     }
 }
 
-/// An equal graph in memory of its own.
+/// A copy of the graph in memory of its own.
 pub(crate) fn copy_of(alloc: Global, graph: &Graph) -> Result<Graph, AllocError>
     ensures { IfOk result (λ copied. (k : RowKey) → get rowkey_cmp copied k ≡ get rowkey_cmp graph.now k) }
 {
@@ -134,7 +135,7 @@ pub(crate) fn copy_of(alloc: Global, graph: &Graph) -> Result<Graph, AllocError>
     Ok(copied)
 }
 
-/// Puts an equal graph row under the key, where there is none yet.
+/// Puts a copy of the graph row under the key, unless one stands there already.
 fn put_copy(copied: &mut Graph, key: RowKey, graph_row: &GraphRow) -> Result<(), AllocError>
     ensures { OnOk result ((q : RowKey) → get rowkey_cmp copied.new q ≡ first_of (get rowkey_cmp copied.old q) (if rowkey_eq key q then Some graph_row.now else None)) }
 {
@@ -146,7 +147,7 @@ fn put_copy(copied: &mut Graph, key: RowKey, graph_row: &GraphRow) -> Result<(),
     Ok(())
 }
 
-/// An equal graph row.
+/// A copy of the graph row.
 fn copy_graph_row(graph_row: &GraphRow) -> Result<GraphRow, AllocError>
     ensures { IfOk result (λ copied. copied ≡ graph_row.now) }
 {
@@ -158,7 +159,7 @@ fn copy_graph_row(graph_row: &GraphRow) -> Result<GraphRow, AllocError>
     })
 }
 
-/// The object of the koid.
+/// The object of the koid in the graph.
 pub(crate) fn node_of(graph: &Graph, koid: Koid) -> Option<GraphNode>
     ensures { result ≡ node graph.now koid }
 {
@@ -168,7 +169,7 @@ pub(crate) fn node_of(graph: &Graph, koid: Koid) -> Option<GraphNode>
     }
 }
 
-/// The parent or peer of the object of the koid, 0 for none.
+/// The parent or peer of the object of the koid, or 0 if it has none.
 pub(crate) fn link(graph: &Graph, koid: Koid) -> Koid
     ensures { result ≡ link_of (node graph.now koid) }
 {

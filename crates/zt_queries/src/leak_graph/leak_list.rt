@@ -1,3 +1,5 @@
+//! Lists the leaked objects of a state.
+
 ghost use Rattle.std.specs.Prelude.{◌≡◌, ◌++◌, ◌∷◌, [], IfOk, IfErr, OnOk, Some};
 ghost use Rattle.std.specs.List.{filter_map};
 ghost use Rattle.std.specs.Ordering.{nat_cmp};
@@ -21,8 +23,8 @@ use zt_history::History;
 use zt_rows::{Items, Koid, ROOT_JOB, Refusal, RowKey};
 use zt_store::Store;
 
-/// All leaked objects of a copy by rising koid, with their kinds. It takes memory, and time, for its objects, handles
-/// and messages.
+/// All leaked objects of a frozen copy by rising koid, with their kinds. The time and memory grow with its objects,
+/// handles and messages. Error: `OutOfMemory` if an allocation fails.
 pub fn leaks(alloc: Global, frozen: &Frozen) -> Result<Items<(Koid, Kind)>, Refusal>
     ensures ok { IfOk result (λ found. found ≡ leaks frozen.now.state) }
     ensures refused { IfErr result (λ refusal. refusal ≡ Refusal.OutOfMemory) }
@@ -30,7 +32,8 @@ pub fn leaks(alloc: Global, frozen: &Frozen) -> Result<Items<(Koid, Kind)>, Refu
     Ok(frozen_leaks(alloc, frozen)?)
 }
 
-/// All leaked objects at a history's position, in the same order.
+/// All leaked objects at a history's position by rising koid, with their kinds. Error: `OutOfMemory` if an allocation
+/// fails.
 pub fn leaks_at(alloc: Global, history: &History) -> Result<Items<(Koid, Kind)>, Refusal>
     ensures ok { IfOk result (λ found. found ≡ leaks (state_at history.now.tree.made history.now.position)) }
     ensures refused { IfErr result (λ refusal. refusal ≡ Refusal.OutOfMemory) }
@@ -47,7 +50,7 @@ fn leaks_in(alloc: Global, store: &Store) -> Result<Items<(Koid, Kind)>, AllocEr
     leaks_drawn(alloc, &graph, row_keys.as_slice())
 }
 
-/// All leaked objects of a copy of a history, in the same order.
+/// All leaked objects of a frozen copy by rising koid, with their kinds.
 fn frozen_leaks(alloc: Global, frozen: &Frozen) -> Result<Items<(Koid, Kind)>, AllocError>
     ensures { IfOk result (λ found. found ≡ leaks frozen.now.state) }
 {
@@ -56,7 +59,8 @@ fn frozen_leaks(alloc: Global, frozen: &Frozen) -> Result<Items<(Koid, Kind)>, A
     leaks_drawn(alloc, &graph, row_keys.as_slice())
 }
 
-/// All leaked objects of the state of a graph, of which these are the keys, in the same order.
+/// All leaked objects of a graph's state by rising koid, with their kinds. `row_keys` are the keys of that state, in
+/// order.
 fn leaks_drawn(
     alloc: Global,
     graph: &Graph,
@@ -69,14 +73,14 @@ fn leaks_drawn(
     Ok(Items::new(list))
 }
 
-/// What is reached, and what is above something that is kept.
+/// The koids of what is reached, and of what is above a live process or above a job that is reached.
 #[derive(Drop)]
 pub(crate) struct Reachability {
     pub(crate) reached: BTreeSet<u64>,
     pub(crate) above: BTreeSet<u64>,
 }
 
-/// What is reached in a graph, and what is above something that is kept.
+/// The koids of what is reached in a graph, and of what is above a live process or above a job that is reached.
 pub(crate) fn reachability_of(alloc: Global, graph: &Graph) -> Result<Reachability, AllocError>
     ensures { IfOk result (λ found. (S : State) → IsGraph graph.now S → IsSurvey found S) }
 {
@@ -85,7 +89,7 @@ pub(crate) fn reachability_of(alloc: Global, graph: &Graph) -> Result<Reachabili
     Ok(Reachability { reached, above })
 }
 
-/// Whether the object of the koid, if there is one, is leaked.
+/// Whether there is an object of the koid, and it is leaked.
 pub(crate) fn is_leaked(graph: &Graph, found: &Reachability, koid: Koid) -> bool
     ensures { (S : State) → IsGraph graph.now S → IsSurvey found.now S → result ≡ is_leaked S koid }
 {
@@ -121,7 +125,7 @@ fn listed(
     Ok(list)
 }
 
-/// Puts the object of the key with its kind behind the others, where nothing keeps it.
+/// Appends the object of the key with its kind, if it is neither reached nor kept.
 fn push_left(
     list: &mut Vec<(Koid, Kind)>,
     graph: &Graph,
@@ -139,7 +143,7 @@ fn push_left(
     }
 }
 
-/// The object of the key with its kind, where nothing keeps it.
+/// The object of the key with its kind, if it is neither reached nor kept.
 fn left_at(graph: &Graph, found: &Reachability, key: RowKey) -> Option<(Koid, Kind)>
     ensures { result ≡ left_at graph.now (contains nat_cmp found.now.reached) (contains nat_cmp found.now.above) key }
 {

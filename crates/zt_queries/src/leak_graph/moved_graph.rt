@@ -1,4 +1,5 @@
-//! The graph of a state moved along the paths of a history by the records of their moments.
+//! Moves the graph of a state along the paths of a history, by the records of their moments.
+
 ghost use Rattle.std.specs.Prelude.{◌≡◌, ◌≤◌, IfOk, OnOk, length, if◌then◌else◌};
 ghost use Rattle.std.specs.BTreeMap.{get};
 ghost use Rattle.zt_rows.specs.declared.keys.RowKey.{RowKey};
@@ -97,7 +98,7 @@ fn turn(
     Ok(())
 }
 
-/// Puts what the record has under its keys.
+/// Puts the rows of the record into the graph, under their keys.
 fn exchange(alloc: Global, graph: &mut Graph, change: &Record) -> Result<(), AllocError>
     ensures { OnOk result ((q : RowKey) → get rowkey_cmp graph.new q ≡ held_over (held change.now q) (get rowkey_cmp graph.old q)) }
 {
@@ -107,7 +108,7 @@ fn exchange(alloc: Global, graph: &mut Graph, change: &Record) -> Result<(), All
     Ok(())
 }
 
-/// Puts what the record has under the key, if it has the key.
+/// Puts the record's row under the key into the graph, if the record has the key.
 fn redraw(alloc: Global, graph: &mut Graph, change: &Record, key: RowKey) -> Result<(), AllocError>
     ensures { OnOk result ((q : RowKey) → get rowkey_cmp graph.new q ≡ (if rowkey_eq key q then held_over (held change.now key) (get rowkey_cmp graph.old key) else get rowkey_cmp graph.old q)) }
 {

@@ -1,9 +1,16 @@
-//! When an object was leaked, by what was let go: it was leaked by the call by which the last name went that a process could use,
-//! its own or that of an endpoint above it, or, if it is a process, by the call that ended it, where that came later. The names
-//! that are left stand in messages at endpoints of which the same holds. Each such message came at a moment at which what it names
-//! lost an entry, so the notes of what was let go lead to it, and the count of its names tells when all are found. A live job is
-//! kept by its live children too, which are jobs of which the same holds: so it was leaked by the last call by which a name went or
-//! a child ended, its own or that of such an endpoint or job. Of a job that has ended the graph tells.
+//! Finds when an object was leaked, from the names that it lost.
+//!
+//! The call that leaked an object took away the last name that a process could use: a name of the object, or of an
+//! endpoint above it. A process that ended later was leaked by the call that ended it.
+//!
+//! The names that are left stand in messages. They wait at endpoints of which no process can use a name either. Each
+//! such message came at a moment at which the object that it names lost an entry. So the notes of names that were let
+//! go lead to the messages, and the count of the names tells when all are found.
+//!
+//! A live job is also kept by its live children, which are jobs of which the same holds. So it was leaked by the last
+//! call that took away a name or ended a child: its own, or that of such an endpoint or job. A job that has ended is
+//! left to the graph, unless an entry names it.
+
 ghost use Rattle.std.specs.Prelude.{◌≡◌, ◌≤◌, ◌==◌, ◌∷◌, [], false, true, IfOk, OnOk, length, count_by};
 ghost use Rattle.std.specs.Option.{option_copied};
 ghost use Rattle.zt_rows.specs.declared.keys.RowKey.TheVariants as key_variant;
@@ -26,34 +33,33 @@ use zt_history::{History, RowHappening};
 use zt_rows::{Held, Koid, Moment, ObjectRow, ROOT_JOB, Row, RowKey};
 use zt_store::{Record, Store};
 
-/// So many endpoints and jobs at most are gone through, which are more than there can be objects.
+/// The most endpoints and jobs that a search goes through. There can never be so many objects.
 const MOST_ENDS: usize = 4_194_304;
 
-/// At so many moments at most it is looked for the messages that name one object: each look passes over the notes of those
-/// before it.
+/// The most moments at which messages that name one object are searched. Each look passes again over the notes of the
+/// looks before it.
 const MOST_LOOKS: u64 = 512;
 
-/// What is found of the moment at which an object was leaked.
+/// The moment at which an object was leaked, as far as it was found.
 #[derive(Clone, Copy)]
 pub(crate) enum LeakTime {
-    /// This moment, or none.
+    /// It was leaked at this moment, or at none.
     Known(Option<Moment>),
     Unknown,
 }
 
-/// A search for what keeps an object: what names it and the endpoints above it, and the live jobs below it.
+/// A search for what keeps an object: the endpoints above it by messages that name it, and the live jobs below it.
 struct NameSearch {
-    /// The koids of the object, and of the endpoints and jobs that were found to keep it or others of these, in the order in which
-    /// they were found.
+    /// The koids of the object, and of the endpoints and jobs that were found to keep it or others of these. They are
+    /// in the order in which they were found.
     ends: IndexSet<u64>,
-    /// The messages that were found to name the one of these that is looked at.
+    /// The messages that were found to name the object that is looked at now.
     messages: Vec<RowKey>,
-    /// How many names of that one are left to be found, at most.
+    /// How many names of that object are left to be found, at most.
     left: u64,
 }
 
-/// Lets both lists go in one call, so that a function that owns them is proved without going through them at each of its ways
-/// out.
+/// Drops both lists in one call. So the proof of a function that owns them does not go through them at each exit.
 impl Drop for NameSearch {
     fn drop(self) {
         let NameSearch {
@@ -64,20 +70,21 @@ impl Drop for NameSearch {
     }
 }
 
-/// What is found by what keeps an object.
+/// The result of a search for what keeps an object.
 #[derive(Clone, Copy)]
 enum FoundNames {
-    /// All names are in messages, and all live children are jobs of which the same holds. These are the last moment at which one
-    /// of the names was let go, and that at which one of the jobs lost a child, if there are any.
+    /// All names stand in messages, and all live children are jobs of which the same holds. `names` is the last moment
+    /// at which one of the names was let go. `children` is that at which one of the jobs lost a child.
     All {
         names: Option<Moment>,
         children: Option<Moment>,
     },
-    /// Not all are, and this is told without them.
+    /// The search did not find all of these. This is told without them.
     Told(LeakTime),
 }
 
-/// The moment on the path to one at which the object was leaked, if any, where the names at the position tell.
+/// The moment on the path to `at` at which the object was leaked, if its names at the position tell. Tells only if `at`
+/// is the position.
 pub(crate) fn told_by_names(
     alloc: Global,
     history: &History,
@@ -104,15 +111,18 @@ pub(crate) fn told_by_names(
     }
 }
 
-/// Whether it is neither a job nor a process that runs, so that nothing keeps it but what names it.
+/// Whether the object is neither a job nor a running process, so that only its names keep it.
 fn is_passive(object: &ObjectRow) -> bool
     ensures { result ≡ is_passive object.now }
 {
     object.kind != Kind::Job && !object.is_live_process()
 }
 
-/// The same of an object that is neither a job nor a process that runs: of the moment at which it ended, if it is a process, and
-/// those at which it or an endpoint above it was let go, the last is the one.
+/// The moment at which an object that is neither a job nor a running process was leaked. This is the last of these
+/// moments:
+///
+/// - those at which the object or an endpoint above it was let go;
+/// - that at which the object ended, if it is a process.
 fn told_of_passive(alloc: Global, history: &History, koid: Koid) -> Result<LeakTime, AllocError>
     requires { stands_passive (state_at history.now.tree.made history.now.position) koid ≡ true }
     ensures { IfOk result (IsToldBy history.now.tree.made history.now.position koid) }
@@ -124,8 +134,10 @@ fn told_of_passive(alloc: Global, history: &History, koid: Koid) -> Result<LeakT
     }
 }
 
-/// The same of a live job other than the root job: of the moments at which it, a job below it or an endpoint above these was let
-/// go, and those at which such a job lost a child, the last is the one.
+/// The moment at which a live job other than the root job was leaked. This is the last of these moments:
+///
+/// - those at which it, a job below it or an endpoint above these was let go;
+/// - those at which it or a job below it lost a child.
 fn told_of_job(alloc: Global, history: &History, koid: Koid) -> Result<LeakTime, AllocError>
     requires live { on_object is_live_job (object (state_at history.now.tree.made history.now.position) koid) ≡ true }
     requires no_root { (koid == root_job) ≡ false }
@@ -138,8 +150,8 @@ fn told_of_job(alloc: Global, history: &History, koid: Koid) -> Result<LeakTime,
     }
 }
 
-/// That the object was not leaked on the path to the position, where an entry there names one that is leaked with it, or a process
-/// runs below that one.
+/// Tells that the object was not leaked on the path to the position, if an entry there names `named` or a process runs
+/// below `named`. If the object is leaked, `named` has to be leaked with it.
 fn told_by_entries(history: &History, koid: Koid, named: Koid) -> LeakTime
     requires there { exists (state_at history.now.tree.made history.now.position) koid ≡ true }
     requires with { is_leaked (state_at history.now.tree.made history.now.position) koid ≡ true
@@ -155,7 +167,8 @@ fn told_by_entries(history: &History, koid: Koid, named: Koid) -> LeakTime
     }
 }
 
-/// Looks for all that keeps an object: from the messages that name it upwards, and from its live children downwards.
+/// Searches for everything that keeps an object: from the messages that name it upwards, and from its live children
+/// downwards.
 fn search_names(alloc: Global, history: &History, koid: Koid) -> Result<FoundNames, AllocError>
     requires { exists (state_at history.now.tree.made history.now.position) koid ≡ true }
     ensures { IfOk result (AreFound history.now.tree.made history.now.position koid) }
@@ -178,7 +191,7 @@ fn search_names(alloc: Global, history: &History, koid: Koid) -> Result<FoundNam
     Ok(FoundNames::Told(LeakTime::Unknown))
 }
 
-/// The later of two moments, of which there may be none.
+/// The later of two moments, either of which may be missing.
 fn later(first: Option<Moment>, second: Option<Moment>) -> Option<Moment>
     ensures { result ≡ later first second }
 {
@@ -203,8 +216,8 @@ impl NameSearch {
         })
     }
 
-    /// Adds the endpoints at which messages wait that name this one, and its live children; and whether it is shown that nothing
-    /// else at the position keeps it, and no process runs as its child.
+    /// Adds the endpoints at which messages wait that name this object, and its live children. Returns whether this
+    /// shows that nothing else at the position keeps it, and that no process runs as its child.
     fn find_all(&mut self, history: &History, koid: Koid) -> Result<bool, AllocError>
         ensures wider { OnOk result (Widens (state_at history.now.tree.made history.now.position) koid self.old.ends.keys self.new.ends.keys) }
         ensures held { IfOk result (λ whole. whole ≡ true
@@ -219,7 +232,7 @@ impl NameSearch {
         self.find_names(history, koid)
     }
 
-    /// Adds the live children of this one.
+    /// Adds the live children of this object.
     fn add_children(&mut self, store: &Store, koid: Koid) -> Result<(), AllocError>
         ensures wider { OnOk result (Widens store.now.state koid self.old.ends.keys self.new.ends.keys) }
         ensures children { OnOk result (AreChildrenIn store.now.state self.new.ends.keys koid) }
@@ -232,8 +245,10 @@ impl NameSearch {
         Ok(())
     }
 
-    /// Adds the endpoints at which messages wait that name this one; and whether it is shown that nothing else at the position
-    /// names it. The moments at which it was let go are looked at from the last on, until all its names are found.
+    /// Adds the endpoints at which messages wait that name this object. Returns whether this shows that nothing else at
+    /// the position names it.
+    ///
+    /// Looks at the moments at which it was let go, from the last one on, until all its names are found.
     fn find_names(&mut self, history: &History, koid: Koid) -> Result<bool, AllocError>
         ensures wider { OnOk result (Widens (state_at history.now.tree.made history.now.position) koid self.old.ends.keys self.new.ends.keys) }
         ensures guarded { IfOk result (λ whole. whole ≡ true
@@ -256,7 +271,7 @@ impl NameSearch {
         Ok(false)
     }
 
-    /// Takes in what names the object in the store under a key of the record, if there is one.
+    /// Takes in the messages of the store that name the object and have a key of the record, if there is a record.
     fn look_into(
         &mut self,
         record: Option<&Record>,
@@ -273,7 +288,7 @@ impl NameSearch {
         }
     }
 
-    /// The same of some keys.
+    /// Takes in the messages of the store that name the object and have one of these keys.
     fn look_under(&mut self, keys: &[RowKey], store: &Store, koid: Koid) -> Result<(), AllocError>
         ensures wider { OnOk result (Widens store.now.state koid self.old.ends.keys self.new.ends.keys) }
         ensures counted { OnOk result (IsNameCount store.now.state koid self.old.ends.keys self.old.messages.items self.old.left
@@ -285,7 +300,7 @@ impl NameSearch {
         Ok(())
     }
 
-    /// The same of one key. A message is taken in once.
+    /// Takes in the message of the store under this key, if it names the object and was not taken in before.
     fn look_at(&mut self, key: RowKey, store: &Store, koid: Koid) -> Result<(), AllocError>
         ensures wider { OnOk result (Widens store.now.state koid self.old.ends.keys self.new.ends.keys) }
         ensures counted { OnOk result (IsNameCount store.now.state koid self.old.ends.keys self.old.messages.items self.old.left
@@ -303,7 +318,7 @@ impl NameSearch {
         self.add_end(endpoint)
     }
 
-    /// Puts the koid behind the others, where it is not one of them.
+    /// Appends the koid, unless it is there already.
     fn add_end(&mut self, koid: Koid) -> Result<(), AllocError>
         ensures ends { OnOk result (self.new.ends.keys ≡ with_end self.old.ends.keys koid) }
         ensures messages { self.new.messages ≡ self.old.messages }
@@ -314,7 +329,7 @@ impl NameSearch {
     }
 }
 
-/// How many rows and places in rows name the object, at most: its supports, but for live children where it is a live job.
+/// The most names that the object can have in rows: its supports, without the live children if it is a live job.
 fn names_of(store: &Store, koid: Koid) -> u64
     ensures { total (named_by koid) store.now.state ≤ result }
 {
@@ -333,7 +348,7 @@ fn names_of(store: &Store, koid: Koid) -> u64
     }
 }
 
-/// How often a row names the object, where it is that of a message.
+/// How often the row names the object, if it is that of a message.
 pub(crate) fn times_named(row: Option<&Row>, koid: Koid) -> u64
     ensures { result ≡ times_named koid (option_copied row.entry) }
 {
@@ -343,7 +358,7 @@ pub(crate) fn times_named(row: Option<&Row>, koid: Koid) -> u64
     }
 }
 
-/// How many of these name the object.
+/// How many of the handles name the object.
 fn times_among(handles: &[Held], koid: Koid) -> u64
     ensures { result ≡ count_by (λ held. held.koid == koid) handles.now }
 {

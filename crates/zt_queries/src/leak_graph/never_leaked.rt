@@ -1,5 +1,6 @@
-//! Signs that an object never was leaked which are found without a path: in the record of the call by which it went, or at the
-//! position. None of them takes memory.
+//! Signs that an object was never leaked, found without a path: in the record of the call by which it went, or at the
+//! position. None of them allocates.
+
 ghost use Rattle.std.specs.Prelude.{◌≡◌, ◌≤◌, true, false, None, length};
 ghost use Rattle.zt_rows.specs.declared.calls.Happening.TheVariants as happening;
 ghost use Rattle.zt_rows.specs.declared.keys.RowKey.TheVariants as key_variant;
@@ -20,7 +21,8 @@ use zt_history::{History, RowHappening};
 use zt_rows::{Koid, Moment, Row, RowKey};
 use zt_store::{Record, Store};
 
-/// Whether it shows that the object is leaked at no moment up to `at`: by the call by which it went, or at the position.
+/// Whether a sign shows that the object is leaked at no moment up to `at`. The sign is in the call by which the object
+/// went, or at the position.
 pub(crate) fn is_never_leaked(history: &History, at: Moment, koid: Koid) -> bool
     requires there { at ≤ length history.now.tree.made }
     requires known { is_known (state_at history.now.tree.made at) koid ≡ true }
@@ -34,7 +36,7 @@ pub(crate) fn is_never_leaked(history: &History, at: Moment, koid: Koid) -> bool
     }
 }
 
-/// Whether the object is there at the position, and it shows that it is not leaked there.
+/// Whether the object is there at the position, and a sign shows that it is not leaked there.
 fn stands_unleaked(history: &History, koid: Koid) -> bool
     ensures there { result ≡ true → exists (state_at history.now.tree.made history.now.position) koid ≡ true }
     ensures unleaked { result ≡ true → is_leaked (state_at history.now.tree.made history.now.position) koid ≡ false }
@@ -43,8 +45,8 @@ fn stands_unleaked(history: &History, koid: Koid) -> bool
     is_there(row) && (is_sure(row, koid) || is_entered_here(history, koid))
 }
 
-/// Whether there is at the position an entry that names the object and was put by the call that made it, or by the last that
-/// took a name of it away: mostly there is, where a process holds it.
+/// Whether an entry at the position names the object and was put by one of two calls. These are the call that made the
+/// object, and the last one that took a name of it away. If a process holds the object, there mostly is such an entry.
 fn is_entered_here(history: &History, koid: Koid) -> bool
     ensures { result ≡ true → is_leaked (state_at history.now.tree.made history.now.position) koid ≡ false }
 {
@@ -56,7 +58,7 @@ fn is_entered_here(history: &History, koid: Koid) -> bool
     ) || is_entered_by(history, history.last_let_go(koid, position), koid)
 }
 
-/// Whether there is at the position an entry that names the object and was put by the call of this moment, if there is one.
+/// Whether an entry at the position names the object and was put by the call of this moment, if there is a moment.
 fn is_entered_by(history: &History, moment: Option<Moment>, koid: Koid) -> bool
     ensures { result ≡ true → is_leaked (state_at history.now.tree.made history.now.position) koid ≡ false }
 {
@@ -82,8 +84,8 @@ fn is_entered_among(keys: &[RowKey], store: &Store, koid: Koid) -> bool
     false
 }
 
-/// Whether the record of a moment has the object, of a kind that is gone when it ends, and shows that the object was not leaked
-/// on its side of the call.
+/// Whether the record of a moment shows that the object was not leaked on its side of the call. The record has to have
+/// the object, of a kind that is gone when it ends.
 fn went_unleaked(history: &History, moment: Moment, koid: Koid) -> bool
     ensures { result ≡ true → (S : State) → HoldsRowsOf (recorded_at history.now.tree.made history.now.position moment) S → PassesUnleaked S koid }
 {

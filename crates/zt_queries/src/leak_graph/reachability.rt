@@ -1,4 +1,6 @@
-//! What is reached and what is kept, by worklists over a graph: each name is looked at once.
+//! Finds what is reached in a graph, by a worklist that looks at each name once. Also finds the koids above live
+//! processes and above jobs that are reached.
+
 ghost use Rattle.std.specs.Prelude.{◌≡◌, ◌==◌, ◌||◌, ◌+◌, ◌++◌, [], ℕ, List, IfOk, OnOk, if◌then◌else◌, length};
 ghost use Rattle.std.specs.Ordering.{nat_cmp};
 ghost use Rattle.std.specs.BTreeMap.{IsOrdered};
@@ -16,10 +18,10 @@ use std::collections::{BTreeMap, BTreeSet};
 use zt_bits::Kind;
 use zt_rows::{Items, Koid, RowKey};
 
-/// What messages name, under the numbers of the endpoints at which they wait.
+/// The koids that messages name, under the numbers of the endpoints at which the messages wait.
 type Queues = BTreeMap<u64, Items<Koid>>;
 
-/// The koids of what can be reached.
+/// The koids of all objects that are reached.
 pub(crate) fn reached_in(alloc: Global, graph: &Graph) -> Result<BTreeSet<u64>, AllocError>
     ensures { IfOk result (λ set. (S : State) → IsGraph graph.now S → (x : ℕ) → contains nat_cmp set x ≡ among (reached S) x) }
 {
@@ -33,7 +35,7 @@ pub(crate) fn reached_in(alloc: Global, graph: &Graph) -> Result<BTreeSet<u64>, 
     Ok(set)
 }
 
-/// What the entries name.
+/// The koids that the entries name.
 pub(crate) fn entered(alloc: Global, graph: &Graph) -> Result<Vec<Koid>, AllocError>
     ensures found { IfOk result (λ found. found.items ≡ roots graph.now) }
     ensures ordered { OnOk result (IsOrdered rowkey_cmp graph.now) }
@@ -47,7 +49,7 @@ pub(crate) fn entered(alloc: Global, graph: &Graph) -> Result<Vec<Koid>, AllocEr
     Ok(found)
 }
 
-/// What an entry names.
+/// The koid that the row names, if it is an entry.
 fn entered_by(key: RowKey, graph_row: &GraphRow) -> Option<Koid>
     ensures { result ≡ root_at (key, graph_row.now) }
 {
@@ -60,7 +62,7 @@ fn entered_by(key: RowKey, graph_row: &GraphRow) -> Option<Koid>
     }
 }
 
-/// What messages name, under the endpoints at which they wait.
+/// The koids that messages name, under the endpoints at which the messages wait.
 fn queued(alloc: Global, graph: &Graph) -> Result<Queues, AllocError>
     ensures { IfOk result (λ queues. (e : ℕ) → waiting queues e ≡ names graph.now e) }
 {
@@ -71,7 +73,7 @@ fn queued(alloc: Global, graph: &Graph) -> Result<Queues, AllocError>
     Ok(queues)
 }
 
-/// Puts what a message names behind what is under its endpoint.
+/// If the row is a message, appends the koids that it names to those of its endpoint.
 fn queue_up(
     alloc: Global,
     queues: &mut Queues,
@@ -89,7 +91,7 @@ fn queue_up(
     }
 }
 
-/// Puts the koids behind what is under the endpoint.
+/// Appends the koids to those of the endpoint.
 fn put_behind(
     alloc: Global,
     queues: &mut Queues,
@@ -108,7 +110,7 @@ fn put_behind(
     Ok(())
 }
 
-/// Takes what is under the endpoint, and puts it behind what is found.
+/// Takes the koids of the endpoint away, and appends them to what is found.
 fn look_into(found: &mut Vec<Koid>, queues: &mut Queues, endpoint: Koid) -> Result<(), AllocError>
     ensures found { OnOk result (found.new.items ≡ found.old.items ++ waiting queues.old endpoint) }
     ensures queues { OnOk result ((e : ℕ) → waiting queues.new e ≡ (if endpoint == e then [] else waiting queues.old e)) }
@@ -141,7 +143,7 @@ pub(crate) fn above_in(
     Ok(set)
 }
 
-/// Adds what is above the object of this koid, if there is one.
+/// Adds the koids above the object of this koid, if there is one.
 fn add_above(set: &mut BTreeSet<u64>, graph: &Graph, keeper: Option<Koid>) -> Result<(), AllocError>
     ensures { OnOk result ((y : ℕ) → contains nat_cmp set.new y ≡ (contains nat_cmp set.old y || is_over graph.now keeper y)) }
 {
@@ -151,7 +153,7 @@ fn add_above(set: &mut BTreeSet<u64>, graph: &Graph, keeper: Option<Koid>) -> Re
     }
 }
 
-/// The koid of a live process, or of a job that is reached.
+/// The koid of the row, if it is a live process, or a job that is reached.
 fn keeper_of(reached: &BTreeSet<u64>, key: RowKey, graph_row: &GraphRow) -> Option<Koid>
     ensures { result ≡ keeper_at (contains nat_cmp reached.now) (key, graph_row.now) }
 {
@@ -170,7 +172,7 @@ fn keeper_of(reached: &BTreeSet<u64>, key: RowKey, graph_row: &GraphRow) -> Opti
     }
 }
 
-/// Whether it is a live process, or a job that is reached.
+/// Whether the node is a live process, or a job that is reached.
 fn keeps(reached: &BTreeSet<u64>, koid: Koid, node: &GraphNode) -> bool
     ensures { result ≡ keeps (contains nat_cmp reached.now) koid node.now }
 {
@@ -179,7 +181,7 @@ fn keeps(reached: &BTreeSet<u64>, koid: Koid, node: &GraphNode) -> bool
         || (node.kind == Kind::Job && reached.contains(&number))
 }
 
-/// Adds the koid.
+/// Adds the koid to the set.
 fn mark(set: &mut BTreeSet<u64>, koid: Koid) -> Result<(), AllocError>
     ensures { OnOk result ((y : ℕ) → contains nat_cmp set.new y ≡ (contains nat_cmp set.old y || (koid == y))) }
 {
@@ -187,7 +189,7 @@ fn mark(set: &mut BTreeSet<u64>, koid: Koid) -> Result<(), AllocError>
     Ok(())
 }
 
-/// Adds the koids that one comes to from this one by links.
+/// Adds the koids to which the links lead from this one.
 fn climb_from(set: &mut BTreeSet<u64>, graph: &Graph, koid: Koid) -> Result<(), AllocError>
     ensures { OnOk result ((y : ℕ) → contains nat_cmp set.new y ≡ (contains nat_cmp set.old y || among (climbed graph.now koid) y)) }
 {

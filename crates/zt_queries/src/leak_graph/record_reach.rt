@@ -1,5 +1,9 @@
-//! The sign that an object was reached before the call by which it went, by the record of that call: it has an entry that names
-//! the object, or a message that names it and waited at an endpoint of which the same holds. It takes no memory.
+//! Tells from the record of the call by which an object went that the object was reached before that call. Never
+//! allocates.
+//!
+//! The record has an entry that names the object, or a message that names it. The message waited at an endpoint that
+//! was reached in the same way.
+
 ghost use Rattle.std.specs.Prelude.{◌≡◌, true, false, Some};
 ghost use Rattle.zt_rows.specs.State.{State};
 ghost use Rattle.zt_queries.specs.Leaks.{is_leaked};
@@ -10,13 +14,15 @@ use crate::leak_graph::unleaked_signs::is_entered_in;
 use zt_rows::{Koid, RowKey};
 use zt_store::Record;
 
-/// So many times at most the messages of a record are gone over for an endpoint further up. One time goes up through all
-/// endpoints above each other of which the upper was made before the lower.
+/// The most passes over the messages of a record in search of an endpoint further up. One pass goes up through all
+/// endpoints above each other, if each upper one was made before the lower one.
 const MOST_PASSES: usize = 16;
 
-/// Whether the record shows that the object was reached on its side of the call, by an entry, or by messages that wait one above
-/// the other under an entry. What goes with its holders goes by the last name of each, so that it is enough to follow one
-/// message at each step.
+/// Whether the record shows that the object was reached on its side of the call: by an entry, or by messages that wait
+/// one above the other under an entry.
+///
+/// An object that goes with its holders goes by the last name of each. So it is enough to follow one message at each
+/// step.
 pub(crate) fn tells_reached(change: &Record, koid: Koid) -> bool
     ensures { result ≡ true → (S : State) → HoldsRowsOf (Some change.now) S → is_leaked S koid ≡ false }
 {
@@ -34,8 +40,8 @@ pub(crate) fn tells_reached(change: &Record, koid: Koid) -> bool
     false
 }
 
-/// An endpoint above the object, which was reached where the endpoint was: from message to message of the record, from the
-/// last on. The object itself, where no message of the record names it.
+/// An endpoint above the object: wherever the endpoint was reached, so was the object. Goes from message to message of
+/// the record, from the last one on. Returns the object itself if no message of the record names it.
 fn end_above(change: &Record, koid: Koid) -> Koid
     ensures { ShowsReachedWith change.now koid result }
 {
@@ -49,7 +55,7 @@ fn end_above(change: &Record, koid: Koid) -> Koid
     end
 }
 
-/// The endpoint of the message that the record has under the key, if that names the object; else the object itself.
+/// The endpoint of the record's message under the key, if that message names the object. Otherwise the object itself.
 fn end_under(change: &Record, key: RowKey, koid: Koid) -> Koid
     ensures { ShowsReachedWith change.now koid result }
 {

@@ -1,5 +1,6 @@
-//! Signs that an object is not leaked, by its own row, by the store and by the records of a path: none of them takes
-//! memory, and where one is found nothing needs to be reached.
+//! Signs that an object is not leaked, in its own row, in the store and in the records of a path. None of them
+//! allocates. If a sign is found, no search for what is reached is needed.
+
 ghost use Rattle.std.specs.Prelude.{◌≡◌, ◌≤◌, ◌<◌, ℕ, true, false, Some, length};
 ghost use Rattle.std.specs.Option.{option_copied};
 ghost use Rattle.zt_rows.specs.declared.keys.RowKey.TheVariants as key_variant;
@@ -16,14 +17,14 @@ use zt_history::History;
 use zt_rows::{Koid, Moment, ROOT_JOB, Row, RowKey};
 use zt_store::{Record, Store};
 
-/// A place of a way, and whether an object surely is not leaked there.
+/// A place of a path, and whether an object surely is not leaked there.
 #[derive(Clone, Copy)]
 pub(crate) struct PathPlace {
     pub(crate) place: usize,
     pub(crate) sure: bool,
 }
 
-/// The last place of the way at which there is the object, or else the first.
+/// The last place of the way at which the object is there, or else the first place.
 pub(crate) fn last_there(history: &History, ways: &PathPair, koid: Koid) -> PathPlace
     requires { AreWays history.now ways.now.way.items ways.now.here.items ways.now.shared }
     ensures last { IsLast history.now.tree.made ways.now.way.items koid result.place }
@@ -49,7 +50,8 @@ pub(crate) fn last_there(history: &History, ways: &PathPair, koid: Koid) -> Path
     }
 }
 
-/// The same where the object is at no place beyond those that both paths share.
+/// The last place of the way at which the object is there, or else the first place. The object is at no place beyond
+/// those that both paths share.
 fn last_shared_there(history: &History, ways: &PathPair, koid: Koid) -> PathPlace
     requires ways { AreWays history.now ways.now.way.items ways.now.here.items ways.now.shared }
     requires gone { (j : ℕ) → ways.now.shared < j → j ≤ length ways.now.way.items → exists (state_after history.now.tree.made ways.now.way.items j) koid ≡ false }
@@ -69,7 +71,7 @@ fn last_shared_there(history: &History, ways: &PathPair, koid: Koid) -> PathPlac
     }
 }
 
-/// Whether the row tells that the object is not there, or keeps itself.
+/// Whether the row tells that the object is not there, or that it keeps itself.
 pub(crate) fn is_sure(row: Option<&Row>, koid: Koid) -> bool
     ensures { result ≡ is_sure (option_copied row.entry) koid }
 {
@@ -79,8 +81,8 @@ pub(crate) fn is_sure(row: Option<&Row>, koid: Koid) -> bool
     }
 }
 
-/// Whether it shows without a search that the object is not leaked at a place that both paths share: by what the next
-/// call takes away, or at the position by an entry.
+/// Whether a sign shows that the object is not leaked at a place that both paths share. The sign is in the record of
+/// the next call, or is an entry if the place is the position.
 pub(crate) fn is_unleaked_at(history: &History, ways: &PathPair, koid: Koid, place: usize) -> bool
     requires ways { AreWays history.now ways.now.way.items ways.now.here.items ways.now.shared }
     requires shared { place ≤ ways.now.shared }
@@ -93,7 +95,8 @@ pub(crate) fn is_unleaked_at(history: &History, ways: &PathPair, koid: Koid, pla
     }
 }
 
-/// A place not behind this one at which the object is not leaked: the last that the records show, or else the first.
+/// A place not behind this one at which the object is not leaked: the last one that the records show, or else the
+/// first.
 pub(crate) fn unleaked_before(history: &History, ways: &PathPair, koid: Koid, place: usize) -> usize
     requires ways { AreWays history.now ways.now.way.items ways.now.here.items ways.now.shared }
     requires shared { place ≤ ways.now.shared }
@@ -128,7 +131,7 @@ pub(crate) fn is_entered(store: &Store, koid: Koid) -> bool
     false
 }
 
-/// The key behind that of an entry; nothing behind any other.
+/// The key behind that of an entry. There is none for any other key.
 fn entry_after(store: &Store, key: RowKey) -> Option<RowKey> {
     let low = key;
     match key {
@@ -147,7 +150,7 @@ fn shows_unleaked(history: &History, moment: Moment, koid: Koid) -> bool
     tells_unleaked(record, koid)
 }
 
-/// Whether the record has that the object is not there, or an entry that names it.
+/// Whether the record tells that the object is not there, or has an entry that names it.
 fn tells_unleaked(change: &Record, koid: Koid) -> bool
     ensures { result ≡ true → (S : State) → HoldsRowsOf (Some change.now) S → is_leaked S koid ≡ false }
 {
@@ -166,7 +169,7 @@ pub(crate) fn is_entered_in(change: &Record, koid: Koid) -> bool
     false
 }
 
-/// Whether the record has that the object is not there.
+/// Whether the record tells that the object is not there.
 fn has_none(change: &Record, koid: Koid) -> bool
     ensures { result ≡ has_none (held change.now (key_variant.Object koid)) }
 {

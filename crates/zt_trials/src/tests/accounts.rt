@@ -1,4 +1,5 @@
-//! An account of numbers, where memory is ample.
+//! An account of numbers, if no allocation fails.
+
 ghost use Rattle.std.specs.Prelude.{◌≡◌, ◌<◌, length};
 ghost use Rattle.zt_shared.specs.Accounts.{most};
 ghost use Rattle.zt_shared.specs.OpenedBook.{IsNamed};
@@ -8,7 +9,7 @@ use std::alloc::{AllocError, Global};
 use std::marker::Brand;
 use zt_shared::account::{Blank, LockSide, Naming, PassSide};
 
-/// Adds the row to both sides, once there is memory for it.
+/// Adds a row to both sides, after it has the memory for it.
 fn add<N: Naming>(
     alloc: Global,
     ours: &mut LockSide<N, u8>,

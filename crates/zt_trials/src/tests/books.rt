@@ -1,4 +1,5 @@
-//! A client's commands where memory is ample, and with each request for memory refused in turn.
+//! A client's commands if no allocation fails, and with each allocation failing in turn.
+
 ghost use Rattle.std.specs.Prelude.{◌≡◌, ◌≤◌, length};
 
 use super::checks::check;
@@ -32,7 +33,7 @@ fn made(book: &mut Book) -> Option<HandleValue>
     }
 }
 
-/// The handle of the first event in a fresh book.
+/// The handle of the first event in a new book.
 fn made_first(alloc: Global) -> Option<HandleValue> {
     match Book::new(alloc, 1) {
         Ok(mut book) => made(&mut book),
@@ -45,7 +46,7 @@ fn always_out_of_memory(rt: HostRuntime) {
     check(&rt, made_first(rt.alloc()) == Some(NEAR));
 }
 
-/// All rows at the position of the client.
+/// All rows at the client's position.
 pub(super) fn rows_of(book: &mut Book) -> Result<Items<(RowKey, Row)>, Refusal>
     requires { 1 ≤ length book.old.session.clients }
     ensures { length book.new.session.clients ≡ length book.old.session.clients }
@@ -81,13 +82,13 @@ pub(super) fn is_served(book: &mut Book, command: &Command) -> bool
     book.serve(1, command).is_ok()
 }
 
-/// How many moments there are, and how many rows of the log.
+/// The number of moments, and the number of rows of the log.
 fn sizes(book: &Book) -> (Moment, usize) {
     (book.history().last(), book.log().len())
 }
 
-/// Serves the command. Where memory is refused to it moments, log and all rows are as before, and it is served when
-/// asked again.
+/// Serves a command. If an allocation fails, moments, log and all rows are as before, and the command is served when asked
+/// again.
 fn ask(rt: &impl Abort, book: &mut Book, command: &Command)
     requires { 1 ≤ length book.old.session.clients }
     ensures { length book.new.session.clients ≡ length book.old.session.clients }
@@ -97,7 +98,7 @@ fn ask(rt: &impl Abort, book: &mut Book, command: &Command)
     }
 }
 
-/// As `ask`, in a book with these rows.
+/// Asks as `ask` does, in a book that has these rows.
 fn ask_over(rt: &impl Abort, book: &mut Book, command: &Command, before: &Items<(RowKey, Row)>)
     requires { 1 ≤ length book.old.session.clients }
     ensures { length book.new.session.clients ≡ length book.old.session.clients }
@@ -110,10 +111,11 @@ fn ask_over(rt: &impl Abort, book: &mut Book, command: &Command, before: &Items<
     }
 }
 
-/// How many calls `nth_call` tells apart.
+/// How many calls `nth_call` has.
 const CALLS: u8 = 7;
 
-/// A pair of events is made, one handle duplicated and replaced, the far end signalled, and handles closed.
+/// The `n`-th of seven calls. They make an event pair, duplicate a handle, signal the far end, and replace a handle. Then
+/// they close the far end, make an event, and close the duplicate.
 fn nth_call(n: u8) -> Call {
     match n {
         0 => Call::EventPairCreate,
@@ -138,7 +140,7 @@ fn nth_call(n: u8) -> Call {
     }
 }
 
-/// Asks for each of the calls, and goes back over four of them.
+/// Asks for each of the calls, and then goes back over four of them.
 fn ask_calls(rt: &impl Abort, book: &mut Book)
     requires { 1 ≤ length book.old.session.clients }
 {
@@ -155,8 +157,8 @@ fn refused_memory_leaves_the_book(rt: HostRuntime) {
     }
 }
 
-/// Three events, a branch from the first of them, and its rows. Each is in its place too where one before it was left
-/// out, since memory was refused to the rows that it was to be compared with.
+/// Makes three events, a branch from the first of them, and shows its rows. Each command can be asked even if one before it
+/// was left out, because there was no memory for the rows to compare with.
 fn ask_branch(rt: &impl Abort, book: &mut Book, name: Items<u8>)
     requires { 1 ≤ length book.old.session.clients }
 {
@@ -173,7 +175,7 @@ fn name(alloc: Global) -> Result<Items<u8>, AllocError> {
     Ok(Items::new(b"fix".to_vec(alloc)?))
 }
 
-/// As `ask_branch`, where there is memory for the name.
+/// Asks as `ask_branch` does, if there is memory for the name.
 fn ask_named_branch(rt: &(impl Abort + AllocGlobal), book: &mut Book)
     requires { 1 ≤ length book.old.session.clients }
 {

@@ -1,5 +1,6 @@
-//! Calls that bring down nested channels, fire waits over several ports and kill many processes, with each request for
-//! memory refused in turn.
+//! Calls that close nested channels, fire waits for several ports and kill many processes, with each allocation failing in
+//! turn.
+
 ghost use Rattle.std.specs.Prelude.{◌≡◌, ◌≤◌, IfOk, length};
 
 use super::books::{has_rows, is_served, rows_of};
@@ -22,15 +23,15 @@ fn book_after(alloc: Global, lines: &[u8]) -> Result<Book, Refusal>
     Ok(book)
 }
 
-/// Serves the call behind these lines, and goes back over it. Where memory is refused to it, all rows are as before, and
-/// it is served when asked again; taken back, all rows are as before.
+/// Serves a call after these lines, and goes back over it. If an allocation fails, all rows are as before, and the call is
+/// served when asked again. After going back, all rows are as before.
 fn check_taken_back(rt: &(impl Abort + AllocGlobal), lines: &[u8], call: Call) {
     if let Ok(mut book) = book_after(rt.alloc(), lines) {
         check_command(rt, &mut book, &Command::Call(ROOT_PROCESS, call));
     }
 }
 
-/// As `check_taken_back`, of a command in this book.
+/// Checks as `check_taken_back` does, with a command in this book.
 fn check_command(rt: &impl Abort, book: &mut Book, command: &Command)
     requires { 1 ≤ length book.old.session.clients }
 {
@@ -40,7 +41,7 @@ fn check_command(rt: &impl Abort, book: &mut Book, command: &Command)
     }
 }
 
-/// Serves the command. Where memory is refused to it, all rows are as before, and it is served when asked again.
+/// Serves a command. If an allocation fails, all rows are as before, and the command is served when asked again.
 fn check_served(rt: &impl Abort, book: &mut Book, command: &Command, before: &Items<(RowKey, Row)>)
     requires { 1 ≤ length book.old.session.clients }
     ensures { length book.new.session.clients ≡ length book.old.session.clients }
@@ -51,7 +52,7 @@ fn check_served(rt: &impl Abort, book: &mut Book, command: &Command, before: &It
     }
 }
 
-/// Goes back over the last call: all rows are as before it.
+/// Goes back over the last call. All rows are then as before it.
 fn check_gone_back(rt: &impl Abort, book: &mut Book, before: &Items<(RowKey, Row)>)
     requires { 1 ≤ length book.old.session.clients }
 {
@@ -62,8 +63,8 @@ fn check_gone_back(rt: &impl Abort, book: &mut Book, before: &Items<(RowKey, Row
     check(rt, same);
 }
 
-/// Three channels, of which the far end of each lies in the queue of the next one's. No clause tells the lines, so that
-/// who asks for them is proved without going over their bytes.
+/// Three channels. The far end of each but the last waits in the queue of the next. No clause tells the lines, so a proof
+/// of the callers does not go over their bytes.
 fn nested_channels() -> &'static [u8] {
     b"1025 channel_create\n1025 channel_create\n1025 channel_create\n1025 event_create\n1025 channel_write 15 6869 11,31\n1025 channel_write 23 - 19\n"
 }
@@ -91,7 +92,7 @@ fn refused_memory_fires_no_wait(rt: HostRuntime) {
     check_taken_back(&rt, ten_waits(), call);
 }
 
-/// A process under the job of handle 7, with an event, a port and a wait of its own.
+/// Adds a process under the job of handle 7, with an event, a port and a wait of its own.
 fn add_process(lines: &mut Vec<u8>, process: u64) -> io::Result<()> {
     lines.write_all(b"1025 spawn 7 0\n")?;
     writeln!(lines, "{process} event_create")?;
@@ -99,7 +100,7 @@ fn add_process(lines: &mut Vec<u8>, process: u64) -> io::Result<()> {
     writeln!(lines, "{process} object_wait_async 3 7 1 0x00000008")
 }
 
-/// A job with forty processes: each takes three koids.
+/// A job with forty processes. Each process takes three koids.
 fn forty_processes(alloc: Global) -> io::Result<Vec<u8>> {
     let mut lines = Vec::new(alloc);
     lines.write_all(b"1025 job_create 3\n")?;

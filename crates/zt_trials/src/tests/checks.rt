@@ -1,8 +1,9 @@
-//! Where a trial stops that does not go as it should.
+//! The check of a test.
+
 use std::process::Abort;
 
-/// Stops the test where this does not hold. The text of an assertion stands in this function alone, so that who makes one
-/// is proved without going over its bytes.
+/// Stops the test if this does not hold. The text of the assertion is in this function alone. So a proof of a caller does
+/// not go over its bytes.
 pub(super) fn check(rt: &impl Abort, holds: bool) {
     assert!(rt; holds);
 }

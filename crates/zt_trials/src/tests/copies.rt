@@ -1,4 +1,5 @@
-//! Copies made where memory is ample.
+//! Copies, if no allocation fails.
+
 use super::checks::check;
 use std::alloc::{AllocError, Global};
 use zt_bits::Signals;
@@ -7,7 +8,7 @@ use zt_rows::{
     Row, Saved, SavedBranch, SavedCall, Wait,
 };
 
-/// The bytes of what is copied. No clause tells them, so that who asks for them is proved without going over them.
+/// The bytes that are copied. No clause tells them, so a proof of the callers does not go over them.
 fn hi() -> &'static [u8] {
     b"hi"
 }
@@ -50,7 +51,7 @@ fn bytes(alloc: Global) -> Result<Items<u8>, AllocError> {
     Ok(Items::new(hi().to_vec(alloc)?))
 }
 
-/// A parcel that is copied.
+/// A parcel to copy.
 fn parcel(alloc: Global) -> Result<Parcel, AllocError> {
     let parcel = Parcel::new(hi().to_vec(alloc)?, HANDLES.to_vec(alloc)?);
     parcel.ok_or(AllocError)
@@ -135,7 +136,7 @@ fn events_are_copied(rt: HostRuntime) {
     check(&rt, is_event_copied(&event) == Ok(true));
 }
 
-/// A tree of one moment, of which a branch of this name is the head, and a client follows it.
+/// A tree of one moment. It is the head of a branch, which one cursor follows, and another cursor is at the moment.
 fn saved(alloc: Global) -> Result<Saved, AllocError> {
     let mut moments = Vec::new(alloc);
     moments.push(SavedCall {

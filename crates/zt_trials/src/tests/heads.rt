@@ -1,9 +1,10 @@
 //! A call at a moment that is no head, and a head that moves, over one history each.
+
 use std::alloc::Global;
 use zt_history::History;
 use zt_rows::{Call, HandleValue, Moment, ROOT_PROCESS, Reply};
 
-/// Whether the store stands at the last moment, which is this one, with this handle for its reply.
+/// Whether the store is at the last moment, which is this one, and the moment's reply is this handle.
 fn tells(history: &History, moment: u32, handle: u32) -> bool {
     let last = history.last();
     match history.reply_of(last) {
@@ -14,7 +15,7 @@ fn tells(history: &History, moment: u32, handle: u32) -> bool {
     }
 }
 
-/// Whether an event that the first process makes on `main` is told so.
+/// Whether the first process makes an event on `main`, with this moment and this handle.
 fn tells_on_main(history: &mut History, moment: u32, handle: u32) -> bool {
     match history.find(b"main") {
         Some(id) => {
@@ -25,7 +26,7 @@ fn tells_on_main(history: &mut History, moment: u32, handle: u32) -> bool {
     }
 }
 
-/// Whether an event that it makes at a moment is told so.
+/// Whether the first process makes an event at a moment, with this moment and this handle.
 fn tells_at(history: &mut History, parent: u32, moment: u32, handle: u32) -> bool {
     history
         .call_at(Moment(parent), ROOT_PROCESS, &Call::EventCreate)
@@ -33,7 +34,7 @@ fn tells_at(history: &mut History, parent: u32, moment: u32, handle: u32) -> boo
         && tells(history, moment, handle)
 }
 
-/// Whether `main` has this head.
+/// Whether this moment is the head of `main`.
 fn has_head(history: &History, moment: u32) -> bool {
     match history.find(b"main") {
         Some(id) => history.head(id) == Moment(moment),
@@ -41,7 +42,7 @@ fn has_head(history: &History, moment: u32) -> bool {
     }
 }
 
-/// Whether a second event at the opening is told beside the first, on `main`, whose head stays.
+/// Whether an event can be made at the opening beside the one on `main`, whose head stays.
 fn is_moment_made_at_the_opening(history: &mut History) -> bool {
     tells_on_main(history, 1, 7)
         && tells_at(history, 0, 2, 7)
@@ -49,7 +50,7 @@ fn is_moment_made_at_the_opening(history: &mut History) -> bool {
         && !history.can_retract()
 }
 
-/// Whether the head of `main` moves there, and the store stays.
+/// Whether the head of `main` moves to this moment, and the store stays.
 fn moves_head(history: &mut History, moment: u32) -> bool {
     let position = history.position();
     match history.find(b"main") {
@@ -60,7 +61,7 @@ fn moves_head(history: &mut History, moment: u32) -> bool {
     }
 }
 
-/// Whether a call on `main` is told behind the head that was moved.
+/// Whether a call on `main` is made behind the head that was moved.
 fn is_moved_head_called_at(history: &mut History) -> bool {
     tells_on_main(history, 1, 7)
         && tells_on_main(history, 2, 11)
@@ -70,14 +71,14 @@ fn is_moved_head_called_at(history: &mut History) -> bool {
         && has_head(history, 3)
 }
 
-/// What is tried over a history that begins at the opening.
+/// A trial over a history at the opening.
 #[derive(Clone, Copy)]
 enum Trial {
     MomentAtTheOpening,
     MovedHead,
 }
 
-/// Whether it holds over a new history.
+/// Whether the trial holds over a new history.
 fn holds(alloc: Global, trial: Trial) -> bool {
     match History::new(alloc) {
         Ok(mut history) => match trial {

@@ -1,4 +1,5 @@
-//! A history alone and what is asked of it.
+//! A history alone, and questions to it.
+
 mod branch_calls;
 mod branches;
 mod cascades;

@@ -6,20 +6,20 @@ use std::test::Fail;
 use zt_console::{Book, load_text, main_text};
 use zt_rows::{Moment, Refusal};
 
-/// The calls of a session text.
+/// How many calls the session text has.
 const CALLS: usize = 1_000_000;
 
-/// The first line of a session text. No clause tells it, so that who asks for it is proved without going over its bytes.
+/// The first line of a session text. No clause tells it, so a proof of the callers does not go over its bytes.
 fn heading() -> &'static [u8] {
     b"zxtt 1\n"
 }
 
-/// Four calls of a process that makes an event, raises a signal of it twice, and makes another event.
+/// Four calls of a process: it makes an event, changes the event's signals twice, and makes another event.
 fn four_calls() -> &'static [u8] {
     b"1025 event_create\n1025 object_signal 7 0x00000000 0x00000008\n1025 object_signal 7 0x00000008 0x01000000\n1025 event_create\n"
 }
 
-/// A session text of so many times the four calls.
+/// A session text with the four calls this many times.
 fn text_of(alloc: Global, times: usize) -> Result<Vec<u8>, Fail> {
     let mut text = Vec::new(alloc);
     text.extend_from_slice(heading())?;
@@ -43,7 +43,7 @@ fn a_million_calls_are_loaded_and_saved(rt: HostRuntime) -> Result<(), Fail> {
     }
 }
 
-/// Whether a book has so many clients.
+/// Whether a book can have this many clients.
 fn has_place_for(alloc: Global, clients: u8) -> Result<bool, Fail> {
     match Book::new(alloc, clients) {
         Ok(_) => Ok(true),
@@ -52,7 +52,7 @@ fn has_place_for(alloc: Global, clients: u8) -> Result<bool, Fail> {
     }
 }
 
-/// Whether a book that a session text is loaded into has so many clients.
+/// Whether a session text can be loaded for this many clients.
 fn loads_for(alloc: Global, clients: u8, text: &[u8]) -> Result<bool, Fail> {
     match load_text(alloc, clients, text) {
         Ok(_) => Ok(true),
@@ -76,7 +76,7 @@ fn two_calls() -> &'static [u8] {
     b"zxtt 1\n1025 event_create\n1025 handle_close 7\n"
 }
 
-/// Whether the two calls of a session text are loaded. Want of memory is told at line 0.
+/// Whether the two calls of a session text are loaded. An allocation failure is reported at line 0.
 fn are_two_loaded(alloc: Global) -> Result<bool, Fail> {
     match load_text(alloc, 1, two_calls()) {
         Ok(book) => Ok(book.history().last() == Moment(2)),

@@ -1,4 +1,5 @@
-//! What is asked of a history of a few calls, where memory is ample.
+//! Questions to a history of a few calls, if no allocation fails.
+
 mod branch_list;
 mod lines;
 mod message_list;
@@ -53,7 +54,7 @@ fn are_both(list: &[Handle]) -> bool {
     }
 }
 
-/// Whether the call is told by what it changed, and leaves two handles.
+/// Whether the right rows changed in the call, and the process has two handles after it.
 fn is_told(alloc: Global) -> bool {
     match one_event(alloc) {
         Some(mut history) => match changed(alloc, &mut history, Moment(1)) {
@@ -79,7 +80,7 @@ fn closing(handle: u32) -> Call {
     }
 }
 
-/// Whether the first process calls this on `main`.
+/// Whether the first process makes this call on `main`.
 fn is_called(history: &mut History, call: &Call) -> bool {
     match history.find(b"main") {
         Some(main) => history.call(main, ROOT_PROCESS, call).is_ok(),
@@ -87,7 +88,7 @@ fn is_called(history: &mut History, call: &Call) -> bool {
     }
 }
 
-/// The history in which it makes an event, fails to close another handle, and closes that of the event.
+/// The history in which the first process makes an event, fails to close another handle, and closes the event's.
 fn three_calls(alloc: Global) -> Option<History> {
     match one_event(alloc) {
         Some(mut history) => {
@@ -101,7 +102,7 @@ fn three_calls(alloc: Global) -> Option<History> {
     }
 }
 
-/// What is asked of the three.
+/// Which of the three calls are asked for.
 #[derive(Clone, Copy)]
 enum AskedCalls {
     All,
@@ -109,7 +110,7 @@ enum AskedCalls {
     About,
 }
 
-/// The calls to the third moment that are asked for.
+/// The filter for the calls that are asked for, up to the third moment.
 fn filter_of(question: AskedCalls) -> CallFilter {
     let (failed, object) = match question {
         AskedCalls::All => (false, None),
@@ -140,7 +141,7 @@ fn are_those(question: AskedCalls, told: &[CallMade]) -> bool {
     }
 }
 
-/// Whether the calls that are asked for are told.
+/// Whether the calls that are asked for are found.
 fn are_told(alloc: Global, question: AskedCalls) -> bool {
     match three_calls(alloc) {
         Some(mut history) => {
@@ -168,7 +169,7 @@ fn calls_about_an_object_are_told(rt: HostRuntime) {
     assert!(rt; are_told(rt.alloc(), AskedCalls::About));
 }
 
-/// The call that sends the one end of the first channel over the other end, so that it waits at itself.
+/// The call that sends the far end of the first channel through the near end, so that the far end waits at itself.
 fn sending_itself(alloc: Global) -> Option<Call> {
     let mut handles = Vec::new(alloc);
     match handles.push(HandleValue(11)) {
@@ -183,7 +184,7 @@ fn sending_itself(alloc: Global) -> Option<Call> {
     }
 }
 
-/// Whether the first process makes a channel, sends the one end to itself, and closes the other.
+/// Whether the first process makes a channel, sends its far end to itself, and closes the near end.
 fn is_cycle_made(alloc: Global, history: &mut History) -> bool {
     match sending_itself(alloc) {
         Some(call) => {
@@ -195,7 +196,7 @@ fn is_cycle_made(alloc: Global, history: &mut History) -> bool {
     }
 }
 
-/// The number of the happening, as they are listed.
+/// The place of the happening in the list of happenings.
 fn number_of(what: Happening) -> u8 {
     match what {
         Happening::Made => 0,
@@ -227,7 +228,7 @@ fn are_all_events(list: &[ObjectEvent]) -> bool {
     }
 }
 
-/// Whether these are its events but for the leak.
+/// Whether these are all events of the cycle but the leak.
 fn are_shown_events(list: &[ObjectEvent]) -> bool {
     match list {
         [first, second, ended, closed] => {
@@ -240,7 +241,7 @@ fn are_shown_events(list: &[ObjectEvent]) -> bool {
     }
 }
 
-/// Whether the events of the cycle are told, with the leak or without it.
+/// Whether the events of the cycle are found, with the leak or without it.
 fn are_events_told(alloc: Global, history: &mut History, leaked: bool) -> bool {
     let asked = HappeningSet {
         made: true,
@@ -260,7 +261,7 @@ fn are_events_told(alloc: Global, history: &mut History, leaked: bool) -> bool {
     }
 }
 
-/// Whether the events of the cycle are told, in a history of their own.
+/// Whether the events of the cycle are found in a new history.
 fn is_cycle_told(alloc: Global, leaked: bool) -> bool {
     match History::new(alloc) {
         Ok(mut history) => {

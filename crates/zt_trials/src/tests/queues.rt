@@ -1,4 +1,5 @@
-//! Queues of a channel's ends, with each request for memory refused in turn.
+//! The queues of a channel's ends, with each allocation failing in turn.
+
 ghost use Rattle.std.specs.Prelude.{◌≡◌, ◌<◌, ◌+◌, ◌^◌, ◌↔◌, IsTrue};
 ghost use Rattle.zt_rows.specs.Tests.{next_at, object_next};
 
@@ -25,7 +26,7 @@ const SECOND: Held = Held {
     rights: Rights(4),
 };
 
-// No clause tells the bytes, so that who asks for them is proved without going over them.
+// No clause tells the bytes, so a proof of the callers does not go over them.
 
 fn first() -> &'static [u8] {
     b"first"
@@ -51,7 +52,7 @@ fn put_end(step: &mut Step, koid: Koid, link: Koid) -> Result<(), AllocError> {
     step.put(RowKey::Object(koid), Some(Row::Object(end)))
 }
 
-/// Puts both ends of a channel, whose queues are empty.
+/// Puts both ends of a channel, with empty queues.
 fn put_ends(step: &mut Step) -> Result<(), AllocError> {
     put_end(step, NEAR, FAR)?;
     put_end(step, FAR, NEAR)
@@ -91,7 +92,7 @@ fn put_messages(rt: &impl Abort, alloc: Global, step: &mut Step) -> Result<(), A
     pushed(rt, step, message(alloc, second(), &[SECOND, FIRST])?)
 }
 
-/// A step over two messages that wait at the near end.
+/// A step that begins with two messages at the near end.
 fn over_messages(rt: &impl Abort, alloc: Global) -> Result<Step, AllocError> {
     let mut step = Step::begin(Store::opening(alloc)?);
     put_messages(rt, alloc, &mut step)?;
@@ -106,7 +107,7 @@ fn is_first(step: &Step, number: u64, bytes: &[u8]) -> bool {
     }
 }
 
-/// Whether one more message was pushed.
+/// Whether one more message is pushed.
 fn is_pushed(rt: &(impl Abort + AllocGlobal), step: &mut Step) -> bool {
     match message(rt.alloc(), third(), &[]) {
         Ok(third) => pushed(rt, step, third).is_ok(),
@@ -175,7 +176,7 @@ fn a_message_is_taken(rt: HostRuntime) -> Result<(), Fail> {
     Ok(())
 }
 
-/// Whether the handles that are taken are those that were sent, in their order.
+/// Whether the handles that are taken are those that were sent, in order.
 fn are_taken(alloc: Global, step: &mut Step) -> Result<bool, AllocError> {
     let taken = take_all(alloc, step, NEAR)?;
     Ok(taken.as_slice() == [FIRST, SECOND, FIRST].as_slice())

@@ -1,4 +1,5 @@
 //! Runs in which one read or one write fails.
+
 ghost use Rattle.std.specs.Prelude.{◌≡◌, ◌≤◌, IfOk, length};
 
 use super::checks::check;
@@ -10,16 +11,16 @@ use std::test::Fail;
 use zt_console::{Book, Counted, End, run};
 use zt_rows::Refusal;
 
-/// Lines, and what they are told.
+/// Lines, and the answers to them.
 #[derive(Clone, Copy)]
 struct Script {
     asked: &'static [u8],
     answers: &'static [u8],
 }
 
-// No clause tells the lines, so that who asks for them is proved without going over their bytes.
+// No clause tells the lines, so a proof of the callers does not go over their bytes.
 
-/// Two calls and two commands, of which the last is told many rows.
+/// Two calls and two commands. The last is answered with many rows.
 fn stored_run() -> Script {
     Script {
         asked: b"1025 event_create\n1025 object_signal 7 0x00000000 0x00000008\nback 1\nshow\n",
@@ -27,8 +28,8 @@ fn stored_run() -> Script {
     }
 }
 
-/// Three calls that two clients make elsewhere, of which the second closes the peer of the first one's channel, and what a
-/// query says of it.
+/// Three calls, and a question about them. In other trials two clients make these calls, and the second closes the peer of
+/// the first client's channel.
 fn peer_closed() -> Script {
     Script {
         asked: b"1025 channel_create\n1025 handle_close 11\n1025 channel_write 7 - -\nwhen peer_closed 1026\n",
@@ -36,7 +37,7 @@ fn peer_closed() -> Script {
     }
 }
 
-/// Moves one byte in a turn, and fails once, after so many turns that did not.
+/// Moves one byte at each use, and fails once, after `good` uses.
 #[derive(Drop)]
 struct Turns<T> {
     inner: T,
@@ -75,7 +76,7 @@ impl<W: Write> Write for Turns<W> {
     }
 }
 
-/// Takes nothing and cannot be flushed.
+/// A writer that takes nothing and cannot be flushed.
 #[derive(Drop)]
 struct Stuck;
 
@@ -89,7 +90,7 @@ impl Write for Stuck {
     }
 }
 
-/// A run over fresh counts.
+/// Runs lines over a book, with new counts of failed reads and writes.
 pub(super) fn talk<R: Read + Drop, W: Write>(
     alloc: Global,
     book: Book,
@@ -111,7 +112,7 @@ fn feeds(text: &[u8]) -> usize
     text.iter().filter(|byte| **byte == b'\n').count()
 }
 
-/// What stands behind so many line feeds; nothing, where there are fewer.
+/// The text behind this many line feeds; empty if there are fewer.
 fn behind(text: &[u8], feeds: usize) -> &[u8] {
     let mut left = text;
     for _ in 0..feeds {
@@ -123,7 +124,7 @@ fn behind(text: &[u8], feeds: usize) -> &[u8] {
     left
 }
 
-/// The ends of a run in which a read fails after so many, and of a run over the lines that it did not read whole, with
+/// Runs lines of which a read fails after `good` reads, and then the lines that were not read whole. Returns both ends, and
 /// what both wrote.
 fn read_again(
     alloc: Global,
@@ -141,7 +142,7 @@ fn read_again(
     Ok((first, second, told))
 }
 
-/// The lines that were read whole are answered, and a run over the others goes on from there.
+/// Checks that the lines that were read whole are answered, and that a run over the others goes on from there.
 fn check_failed_read(
     rt: &(impl Abort + AllocGlobal),
     talked: Script,
@@ -154,7 +155,7 @@ fn check_failed_read(
     Ok(())
 }
 
-/// Each read of these lines fails, that of the end too.
+/// Checks that each read of these lines can fail, also the read of the end.
 fn check_each_read(rt: &(impl Abort + AllocGlobal), talked: Script) -> Result<(), Fail> {
     let len = talked.asked.len();
     for good in 0..len {
@@ -169,8 +170,8 @@ fn each_read_fails_once(rt: HostRuntime) -> Result<(), Fail> {
     check_each_read(&rt, peer_closed())
 }
 
-/// A run whose lines come byte by byte, so that each is answered before the next is read, in which a write fails after so
-/// many; with what it wrote.
+/// Runs lines that come byte by byte, so that each is answered before the next is read. A write fails after `good` writes.
+/// Returns what was written too.
 fn write_some(
     alloc: Global,
     lines: &'static [u8],
@@ -191,7 +192,7 @@ fn write_some(
     Ok((book, end, writer.inner))
 }
 
-/// The ends of such a run, and of a run over the lines that it did not serve, each with what it wrote.
+/// Runs such lines, and then those that were not served. Returns the end of each run, with what it wrote.
 fn write_again(
     alloc: Global,
     lines: &'static [u8],
@@ -203,7 +204,7 @@ fn write_again(
     Ok((first, written, second, told))
 }
 
-/// What was written is a prefix, and a run over the lines that were not served goes on behind them.
+/// Checks that what was written is a prefix, and that a run over the lines that were not served goes on behind it.
 fn check_failed_write(
     rt: &(impl Abort + AllocGlobal),
     talked: Script,
@@ -226,7 +227,7 @@ fn check_failed_write(
     Ok(())
 }
 
-/// Each write of what these lines are told fails.
+/// Checks that each write of the answers can fail.
 fn check_each_write(rt: &(impl Abort + AllocGlobal), talked: Script) -> Result<(), Fail> {
     for good in 0..talked.answers.len() {
         check_failed_write(rt, talked, good)?;

@@ -1,4 +1,5 @@
 //! Sessions that are saved as trees, and loaded again.
+
 mod faults;
 mod loaded;
 mod refused;

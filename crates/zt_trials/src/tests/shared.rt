@@ -1,4 +1,5 @@
 //! A shared book, beside a book of one thread that is asked the same.
+
 mod branches;
 mod opened_books;
 mod same_logs;

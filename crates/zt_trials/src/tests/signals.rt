@@ -1,4 +1,5 @@
-//! Signals of a channel, with each request for memory refused in turn.
+//! The signals of a channel, with each allocation failing in turn.
+
 use super::checks::check;
 use std::alloc::{AllocError, Global};
 use std::process::Abort;
@@ -10,7 +11,7 @@ use zt_store::{Step, Store};
 
 const MADE: Koid = Koid(1026);
 
-/// A channel without a peer, before its signals follow from the rows.
+/// A channel without a peer, whose signals do not yet follow from the rows.
 fn channel(signals: u32) -> ObjectRow {
     ObjectRow {
         kind: Kind::Channel,
@@ -53,7 +54,7 @@ fn refused_memory_sets_nothing(rt: HostRuntime) {
     }
 }
 
-/// A refused refresh takes back all that the step did, the bits that were set too.
+/// If an allocation of a refresh fails, all that the step did is taken back, also the bits that were set.
 fn check_refresh(rt: &impl Abort, step: &mut Step) {
     if set(step).is_err() {
         return;

@@ -1,5 +1,6 @@
-//! Steps of a store and the records that take them back, with each request for memory refused in turn, and with all
-//! refused from one on.
+//! Steps of a store and the records that take them back. Each allocation fails in turn, and in other runs all allocations
+//! from one on.
+
 ghost use Rattle.std.specs.Prelude.{◌≡◌, true, IfOk};
 ghost use Rattle.zt_store.specs.Places.{fits};
 
@@ -60,7 +61,7 @@ fn put_entry(step: &mut Step, process: Koid, handle: u32, koid: Koid) -> Result<
     step.put(key, Some(Row::Entry(held(koid))))
 }
 
-/// A message with a handle to each of these.
+/// A message with a handle to each of these objects.
 fn message(alloc: Global, koids: &[Koid]) -> Result<Message, AllocError> {
     let mut handles = Vec::new(alloc);
     for koid in koids {
@@ -94,7 +95,7 @@ fn put_wait(step: &mut Step, number: u64) -> Result<(), AllocError> {
     step.put(RowKey::Wait(number), Some(Row::Wait(wait)))
 }
 
-/// Puts the n-th of the rows of all six variants, one of them under a handle value that no process gives out.
+/// Puts the `n`-th of ten rows of all six variants. One has a handle value that no process gives.
 fn put_one(alloc: Global, step: &mut Step, n: u8) -> Result<(), AllocError> {
     match n {
         0 => put_counters(step, 1030),
@@ -118,7 +119,7 @@ fn put_all_variants(alloc: Global, step: &mut Step) -> Result<(), AllocError> {
     Ok(())
 }
 
-/// Changes or takes away the n-th of those rows, or puts a row under a key beyond all that there were.
+/// Changes or removes the `n`-th of those rows, or puts a row under a key beyond all others.
 fn put_over_one(alloc: Global, step: &mut Step, n: u8) -> Result<(), AllocError> {
     match n {
         0 => put_counters(step, 1036),
@@ -135,7 +136,7 @@ fn put_over_one(alloc: Global, step: &mut Step, n: u8) -> Result<(), AllocError>
     }
 }
 
-/// Changes or takes away each of those rows, and puts rows under keys beyond all that there were.
+/// Changes or removes those rows, and puts rows under keys beyond all others.
 fn put_over_all_variants(alloc: Global, step: &mut Step) -> Result<(), AllocError> {
     for n in 0..11 {
         put_over_one(alloc, step, n)?;
@@ -156,7 +157,7 @@ fn agree_at(first: &Store, second: &Store, key: &RowKey) -> bool {
     first.row(*key) == second.row(*key) && first.after(Some(*key)) == second.after(Some(*key))
 }
 
-/// Whether both stores have the same numbers of the koid.
+/// Whether both stores have the same numbers for the koid.
 fn agree_on(first: &Store, second: &Store, koid: Koid) -> bool {
     first.count(koid) == second.count(koid)
         && first.child_jobs(koid) == second.child_jobs(koid)
@@ -184,7 +185,7 @@ pub(super) fn is_same(first: &Store, second: &Store) -> bool {
     false
 }
 
-/// Gives up a step to which memory was refused: its store has the rows and numbers of before. The puts then succeed.
+/// Gives up a step in which an allocation failed. Its store is as before, and the puts then succeed.
 fn put_again(rt: &impl Abort, alloc: Global, step: Step, before: &Store) -> Step {
     let store = step.abandon();
     check(rt, is_same(&store, before));
@@ -193,7 +194,7 @@ fn put_again(rt: &impl Abort, alloc: Global, step: Step, before: &Store) -> Step
     step
 }
 
-/// The numbers of a step over whose rows of all variants others were put, and what comes of it given up.
+/// Checks the numbers of a step that put rows over those of all variants. Then gives the step up.
 fn check_put(rt: &impl Abort, step: Step, before: &Store) {
     let store = step.store();
     check(rt, store.count(EVENT) == 0);
@@ -202,7 +203,7 @@ fn check_put(rt: &impl Abort, step: Step, before: &Store) {
     check(rt, is_same(&step.abandon(), before));
 }
 
-/// Puts over rows of all variants, in a store that has the rows of before. It is `Ok` only where no memory was refused.
+/// Puts rows over those of all variants, in a store that is equal to `before`. `Ok` only if no allocation failed.
 fn put_over(
     rt: &impl Abort,
     alloc: Global,
@@ -225,8 +226,8 @@ fn all_variants_twice(alloc: Global) -> Result<(Store, Store), AllocError> {
     Ok((store, before))
 }
 
-/// Puts over rows of all variants. Where memory is refused, the store that is given up has the rows and numbers of
-/// before, and the puts then succeed. It is `Ok` only where no memory was refused.
+/// Puts rows over those of all variants. If an allocation fails, the store that is given up is as before, and the puts then
+/// succeed. `Ok` only if no allocation failed.
 fn rows_are_put(rt: &impl Abort, alloc: Global) -> Result<(), AllocError> {
     let (store, before) = all_variants_twice(alloc)?;
     put_over(rt, alloc, store, &before)
@@ -243,7 +244,7 @@ fn rows_of_all_variants_are_put(rt: HostRuntime) -> Result<(), Fail> {
     Ok(())
 }
 
-/// A step over the store that puts over rows of all variants, finished.
+/// Finishes a step that puts rows over those of all variants.
 fn finished(alloc: Global, store: Store) -> Result<(Store, Record), AllocError>
     ensures { IfOk result (λ after. fits after.0.places after.1 ≡ true) }
 {
@@ -254,8 +255,8 @@ fn finished(alloc: Global, store: Store) -> Result<(Store, Record), AllocError>
     }
 }
 
-/// A finished step, taken back, made again and taken back: from the last put on no memory is asked for. It is `Ok`
-/// only where none was refused before.
+/// Finishes a step, takes it back, makes it again and takes it back. It never allocates after the last put. `Ok` only if no
+/// allocation failed before.
 fn a_step_is_taken_back(rt: &impl Abort, alloc: Global) -> Result<(), AllocError> {
     let (store, before) = all_variants_twice(alloc)?;
     match finished(alloc, store) {
@@ -292,7 +293,7 @@ fn a_record_takes_its_step_back(rt: HostRuntime) -> Result<(), Fail> {
     Ok(())
 }
 
-/// The opening twice.
+/// The opening, and a copy of it.
 fn opened_twice(alloc: Global) -> Result<(Store, Store), AllocError> {
     let store = Store::opening(alloc)?;
     let before = store.copy()?;

@@ -1,4 +1,5 @@
-//! The table of the first process, with each request for memory refused in turn.
+//! The handle table of the first process, with each allocation failing in turn.
+
 ghost use Rattle.std.specs.Prelude.{◌≡◌, ◌<◌, ◌^◌, ◌↔◌, IsTrue};
 ghost use Rattle.zt_rows.specs.Tests.{next_at, object_next};
 
@@ -18,7 +19,7 @@ const TO_EVENT: Held = Held {
     rights: Rights(0xd003),
 };
 
-/// A duplicate of it with one right alone.
+/// A duplicate of it with only one right.
 const DUPLICATE: Held = Held {
     koid: Koid(1026),
     rights: Rights(1),
@@ -54,7 +55,7 @@ fn opened(alloc: Global) -> Result<Step, AllocError> {
     Ok(Step::begin(Store::opening(alloc)?))
 }
 
-/// Whether the first process has its first handle alone, and gives out the second next.
+/// Whether the first process has only its first handle, and gives the second next.
 fn is_as_begun(step: &Step) -> bool {
     let store = step.store();
     next_in(store.object(ROOT_PROCESS)) == 1
@@ -62,7 +63,7 @@ fn is_as_begun(step: &Step) -> bool {
         && store.entry(ROOT_PROCESS, SECOND).is_none()
 }
 
-/// What the store after the step has at the second handle.
+/// The object and rights of the second handle, in the store after the step.
 fn second_of(step: Step) -> Option<Held> {
     let (store, _) = step.finish();
     find(&store, ROOT_PROCESS, SECOND)

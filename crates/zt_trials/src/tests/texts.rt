@@ -1,4 +1,5 @@
-//! Calls, replies and rows printed where memory is ample.
+//! Calls, replies and rows as text, if no allocation fails.
+
 use super::checks::check;
 use std::alloc::{AllocError, Global};
 use std::test::Fail;
@@ -9,7 +10,7 @@ use zt_rows::{
 };
 use zt_text::{print_call, print_reply, print_rows};
 
-/// The line of the call. No clause tells it, so that who asks for it is proved without going over its bytes.
+/// The line of the call. No clause tells it, so a proof of the callers does not go over its bytes.
 fn call_line() -> &'static [u8] {
     b"1025 handle_duplicate 7 0x80000000"
 }
@@ -33,7 +34,7 @@ fn reply_line() -> &'static [u8] {
     b"ok signal 5 0x00000004 0x00000006"
 }
 
-/// A packet is told without the process and the handle that made the wait.
+/// A packet is printed without the process and the handle that made the wait.
 fn is_reply_printed(alloc: Global) -> Result<bool, AllocError> {
     let reply = Reply::Packet(Packet::Signal {
         key: 5,

@@ -1,4 +1,5 @@
-//! Lines of a book's clients, with what they are told.
+//! Lines of a book's clients, and the answers to them.
+
 ghost use Rattle.std.specs.Prelude.{◌≤◌, length};
 
 use super::commands::command;
@@ -7,7 +8,7 @@ use zt_book::Book;
 use zt_rows::Command;
 use zt_text::print_answer;
 
-/// What a command is answered, as a text; nothing where it is refused.
+/// The answer to a command as a text; none if it is refused.
 fn answer(alloc: Global, book: &mut Book, client: u8, asked: &Command) -> Option<Vec<u8>>
     requires numbered { 1 ≤ client }
     requires known { client ≤ length book.old.session.clients }
@@ -18,7 +19,7 @@ fn answer(alloc: Global, book: &mut Book, client: u8, asked: &Command) -> Option
     }
 }
 
-/// What a client is told to its line; nothing where that is refused.
+/// The answer to a client's line as a text; none if it is refused.
 pub(super) fn told(alloc: Global, book: &mut Book, client: u8, line: &str) -> Option<Vec<u8>> {
     if client < 1 || book.clients() < client {
         return None;
@@ -29,7 +30,7 @@ pub(super) fn told(alloc: Global, book: &mut Book, client: u8, line: &str) -> Op
     }
 }
 
-/// Whether both are texts, and one text.
+/// Whether both are texts, and the same text.
 pub(super) fn is_one_text(first: &Option<Vec<u8>>, second: &Option<Vec<u8>>) -> bool {
     match (first, second) {
         (Some(first), Some(second)) => first.as_slice() == second.as_slice(),
@@ -37,14 +38,14 @@ pub(super) fn is_one_text(first: &Option<Vec<u8>>, second: &Option<Vec<u8>>) -> 
     }
 }
 
-/// Whether both books tell a client the same, or both refuse its line.
+/// Whether both books give a client the same answer, or both refuse its line.
 fn tell_same(alloc: Global, first: &mut Book, second: &mut Book, client: u8, line: &str) -> bool {
     let one = told(alloc, first, client, line);
     let other = told(alloc, second, client, line);
     is_one_text(&one, &other) || (one.is_none() && other.is_none())
 }
 
-/// Whether they do so of each of the lines, which may be asked twice; memory is refused once at most.
+/// Whether both books answer each of the lines alike. Each line may be asked twice, since one allocation may fail.
 pub(super) fn tell_all_same(
     alloc: Global,
     first: &mut Book,

@@ -1,4 +1,5 @@
-//! Calls of the first process on branches that are named, and calls in short.
+//! Calls of the first process on branches that are named, and short forms of calls.
+
 ghost use Rattle.std.specs.Prelude.{◌<◌, length, IfSome};
 
 use std::alloc::{AllocError, Global};
@@ -10,14 +11,14 @@ pub(super) const MAIN: &[u8] = b"main";
 
 pub(super) const FIX: &[u8] = b"fix";
 
-/// The branch of the name.
+/// The branch of this name.
 fn branch_of(history: &History, name: &[u8]) -> Option<BranchId>
     ensures { IfSome result (λ id. id < length history.now.tree.branches) }
 {
     history.find(name)
 }
 
-/// Why the call at the head of the branch of the name is refused, if it is.
+/// Why a call at the head of the branch of this name is refused, if it is.
 pub(super) fn refusal_on(history: &mut History, name: &[u8], call: &Call) -> Option<Refusal> {
     match branch_of(history, name) {
         Some(id) => history.call(id, ROOT_PROCESS, call).err(),
@@ -30,7 +31,7 @@ pub(super) fn answers(history: &mut History, call: &Call) -> bool {
     refusal_on(history, MAIN, call).is_none()
 }
 
-/// Whether the call on `main` is answered so many times.
+/// Whether the call on `main` is answered this many times.
 pub(super) fn answers_often(history: &mut History, call: &Call, times: u32) -> bool {
     for _ in 0..times {
         if !answers(history, call) {
@@ -48,7 +49,7 @@ pub(super) fn sends(alloc: Global, history: &mut History, through: u32, sent: u3
     }
 }
 
-/// The head of the branch of the name.
+/// The head of the branch of this name.
 pub(super) fn head_of(history: &History, name: &[u8]) -> Option<Moment> {
     match branch_of(history, name) {
         Some(id) => Some(history.head(id)),
@@ -56,7 +57,7 @@ pub(super) fn head_of(history: &History, name: &[u8]) -> Option<Moment> {
     }
 }
 
-/// The first handle of a reply, and the second or the koid that it has besides; 0 where it has none.
+/// The first handle of a reply, and its second handle or its koid; 0 if it has no second value.
 pub(super) fn values_of(reply: Option<&Reply>) -> Option<(u32, u64)> {
     match reply {
         Some(Reply::Handle(handle)) => Some((handle.0, 0)),
@@ -66,7 +67,7 @@ pub(super) fn values_of(reply: Option<&Reply>) -> Option<(u32, u64)> {
     }
 }
 
-/// Whether this is the last moment, and its call was told this status alone.
+/// Whether this is the last moment, and its call was answered with this status alone.
 pub(super) fn is_last_told(history: &History, moment: u32, told: Status) -> bool {
     let last = Moment(moment);
     match history.reply_of(last) {
@@ -81,7 +82,7 @@ pub(super) fn close(handle: u32) -> Call {
     }
 }
 
-/// A message without bytes, that sends one handle.
+/// A message that sends one handle and no bytes.
 pub(super) fn send(alloc: Global, through: u32, sent: u32) -> Result<Call, AllocError> {
     let mut handles = Vec::new(alloc);
     handles.push(HandleValue(sent))?;
@@ -92,12 +93,12 @@ pub(super) fn send(alloc: Global, through: u32, sent: u32) -> Result<Call, Alloc
     })
 }
 
-/// A wait for the signal that says that a task has ended.
+/// A wait for the signal that a task has ended.
 pub(super) fn wait(handle: u32, port: u32, key: u64) -> Call {
     wait_for(handle, port, key, 0x8, false)
 }
 
-/// A wait for any of the signals, or for the edge of one.
+/// A wait for any of these signals, or for the edge of one.
 pub(super) fn wait_for(handle: u32, port: u32, key: u64, signals: u32, edge: bool) -> Call {
     Call::ObjectWaitAsync {
         handle: HandleValue(handle),
@@ -116,7 +117,7 @@ pub(super) fn signal(handle: u32, clear: u32, set: u32) -> Call {
     }
 }
 
-/// A job under the one of this handle; 3 names the root job.
+/// A job under the job of this handle. Handle 3 names the root job.
 pub(super) fn make_job(job: u32) -> Call {
     Call::JobCreate {
         job: HandleValue(job),

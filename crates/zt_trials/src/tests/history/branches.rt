@@ -1,4 +1,5 @@
-//! A history of two branches, and calls at moments of both with each request for memory refused in turn.
+//! A history of two branches, and calls at moments of both, with each allocation failing in turn.
+
 use super::branch_calls::{
     FIX, MAIN, answers_often, close, head_of, is_last_told, refusal_on, values_of,
 };
@@ -17,7 +18,7 @@ fn is_fix_made(history: &mut History) -> bool {
         && refusal_on(history, FIX, &Call::ChannelCreate).is_none()
 }
 
-/// Makes three events on `main`, and from the opening the other branch.
+/// Makes three events on `main`, and the other branch from the opening.
 pub(super) fn are_branches_made(history: &mut History) -> bool {
     answers_often(history, &Call::EventCreate, 3) && is_fix_made(history)
 }
@@ -27,12 +28,12 @@ fn tells(history: &History, moment: u32, first: u32, second: u64) -> bool {
     values_of(history.reply_of(Moment(moment))) == Some((first, second))
 }
 
-/// Whether the replies of `main` are told.
+/// Whether the replies on `main` are right.
 fn tells_main(history: &History) -> bool {
     tells(history, 1, 7, 0) && tells(history, 2, 11, 0) && tells(history, 3, 15, 0)
 }
 
-/// Whether the replies of the other branch are told.
+/// Whether the replies on the other branch are right.
 fn tells_fix(history: &History) -> bool {
     tells(history, 4, 7, 0) && tells(history, 5, 11, 15)
 }
@@ -41,12 +42,12 @@ fn has_heads(history: &History) -> bool {
     head_of(history, MAIN) == Some(Moment(3)) && head_of(history, FIX) == Some(Moment(5))
 }
 
-/// Whether both branches are made and told.
+/// Whether both branches are made, and their replies and heads are right.
 pub(super) fn are_branches_told(history: &mut History) -> bool {
     are_branches_made(history) && tells_main(history) && tells_fix(history) && has_heads(history)
 }
 
-/// Makes calls in both: at the head of `main`, at that of the other branch, and at the opening.
+/// Makes calls in both histories: at the head of `main`, at that of the other branch, and at the opening.
 fn are_made_apart(tried: &mut History, other: &mut History) -> bool {
     make_both(tried, other, Moment(3), &close(7))
         && is_last_told(tried, 6, Status::Ok)

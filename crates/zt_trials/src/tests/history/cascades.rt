@@ -1,4 +1,5 @@
-//! Calls with much in their wake, with each request for memory refused in turn.
+//! Calls that change much, with each allocation failing in turn.
+
 use super::branch_calls::{
     answers, answers_often, close, is_last_told, kill, make_job, send, sends, set_critical, signal,
     spawn, wait, wait_for,
@@ -11,14 +12,14 @@ use zt_bits::Status;
 use zt_history::History;
 use zt_rows::{Call, Koid, Moment, ROOT_JOB, RowKey};
 
-/// Puts the far end of each of three channels into the queue of the next.
+/// Makes three channels, and puts the far end of each but the last into the queue of the next.
 fn nests_three(alloc: Global, history: &mut History) -> bool {
     answers_often(history, &Call::ChannelCreate, 3)
         && sends(alloc, history, 15, 11)
         && sends(alloc, history, 23, 19)
 }
 
-/// Whether the close that brings all three down is made whole or not at all.
+/// Whether the close that ends all three channels is made whole or not at all.
 pub(super) fn is_cascade_whole(alloc: Global, tried: &mut History, other: &mut History) -> bool {
     nests_three(alloc, tried)
         && nests_three(alloc, other)
@@ -34,7 +35,7 @@ fn loses_peer(history: &mut History) -> bool {
         && answers(history, &close(11))
 }
 
-/// Whether the write that fails, and closes the event's handle, is made whole or not at all.
+/// Whether a write that fails, and closes the event's handle, is made whole or not at all.
 pub(super) fn is_write_whole(alloc: Global, tried: &mut History, other: &mut History) -> bool {
     match send(alloc, 7, 15) {
         Ok(write) => {
@@ -56,8 +57,8 @@ fn spawns_forty(history: &mut History) -> bool {
         && answers_often(history, &spawn(7), 40)
 }
 
-/// What a kill changes: the root job, all objects that calls have made, so many with the root job, the packet of a wait
-/// for the port, and the wait.
+/// The `place`-th key that a kill changes. First come the root job and the objects that calls made, `objects` in all. Then
+/// come the packet of a wait for the port, and the wait.
 fn killed_key(place: u64, objects: u64, port: Koid) -> RowKey {
     if place == 0 {
         RowKey::Object(ROOT_JOB)
@@ -70,7 +71,7 @@ fn killed_key(place: u64, objects: u64, port: Koid) -> RowKey {
     }
 }
 
-/// Whether the keys are those, each once.
+/// Whether these are the keys that a kill changes, each once.
 fn are_killed(keys: &[RowKey], objects: u64, port: Koid) -> bool {
     let mut place: u64 = 0;
     for key in keys {
@@ -92,8 +93,8 @@ pub(super) fn is_kill_whole(alloc: Global, tried: &mut History, other: &mut Hist
         && are_killed(keys_of(tried, Moment(44)), 43, Koid(1027))
 }
 
-/// Makes three jobs, each under the one before, and under the last of them two processes, the first of which is critical
-/// to it.
+/// Makes three jobs, each under the last. Under the lowest job it makes two processes, and the first of them critical to
+/// that job.
 fn makes_lowest(history: &mut History) -> bool {
     answers(history, &make_job(3))
         && answers(history, &make_job(7))
@@ -102,7 +103,7 @@ fn makes_lowest(history: &mut History) -> bool {
         && answers(history, &set_critical(15, 19))
 }
 
-/// Makes the other of these critical to the job above, and a process under each of the two jobs above.
+/// Makes the second process critical to the middle job, and a process under each of the two higher jobs.
 fn makes_higher(history: &mut History) -> bool {
     answers(history, &set_critical(11, 23))
         && answers(history, &spawn(11))
@@ -118,7 +119,7 @@ fn makes_links(history: &mut History) -> bool {
     makes_lowest(history) && makes_higher(history) && waits_for_highest(history)
 }
 
-/// Whether a third link, and then the kill that goes through all three, are made whole or not at all, and the record of
+/// Whether a third link, and then the kill that goes through all three links, are made whole or not at all. The record of
 /// the kill has each key once.
 pub(super) fn are_links_whole(alloc: Global, tried: &mut History, other: &mut History) -> bool {
     makes_links(tried)
@@ -135,8 +136,8 @@ const EVENT: Koid = Koid(1026);
 
 const PORT: Koid = Koid(1027);
 
-/// What the call changes in which a signal rises, and another that stands is cleared and set: the event, the port, and
-/// three waits with their packets.
+/// The keys that change when one signal rises, and another that stands is cleared and set. They are the event, the port,
+/// and three waits with their packets.
 const FIRED: [RowKey; 8] = [
     RowKey::Object(EVENT),
     RowKey::Object(PORT),
@@ -148,10 +149,10 @@ const FIRED: [RowKey; 8] = [
     RowKey::Wait(3),
 ];
 
-/// What the call changes in which the other falls.
+/// The keys that change when the other signal falls.
 const FELL: [RowKey; 1] = [RowKey::Object(EVENT)];
 
-/// What the call changes in which it rises again: the same of the one wait that is left.
+/// The keys that change when the other signal rises again: the event, the port, and the wait that is left with its packet.
 const FIRED_LATER: [RowKey; 4] = [
     RowKey::Object(EVENT),
     RowKey::Object(PORT),
@@ -166,8 +167,8 @@ fn makes_signalled(history: &mut History) -> bool {
         && answers(history, &signal(7, 0, 0x8))
 }
 
-/// Makes waits on the event: two on edges, of which one is for the signal that stands and another, and the second for that
-/// which stands alone; and two for the other.
+/// Makes four waits on the event. The first two are on edges: one of the signal that stands or another, one of the signal
+/// that stands alone. The last two are for the other signal.
 fn makes_waits(history: &mut History) -> bool {
     answers(history, &wait_for(7, 11, 1, 0x100_0008, true))
         && answers(history, &wait_for(7, 11, 2, 0x8, true))
@@ -179,7 +180,7 @@ fn waits_on_edges(history: &mut History) -> bool {
     makes_signalled(history) && makes_waits(history)
 }
 
-/// Whether the call is made whole or not at all, is told ok, and its record has those keys.
+/// Whether a call is made whole or not at all and is ok, and its record has these keys.
 fn is_signal_whole(
     tried: &mut History,
     other: &mut History,
@@ -192,8 +193,8 @@ fn is_signal_whole(
         && keys_of(tried, Moment(moment)) == keys
 }
 
-/// Whether a call in which one wait on an edge and two others fire, and one in which the second wait on an edge does, are
-/// made whole or not at all.
+/// Whether two calls are made whole or not at all. In the first, one wait on an edge and two others fire. In the second,
+/// the other wait on an edge fires.
 pub(super) fn are_edges_whole(alloc: Global, tried: &mut History, other: &mut History) -> bool {
     waits_on_edges(tried)
         && waits_on_edges(other)

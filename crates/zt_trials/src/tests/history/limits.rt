@@ -1,4 +1,5 @@
 //! The last moment that a history can have.
+
 use super::branch_calls::{MAIN, answers_often, close, head_of, refusal_on};
 use zt_history::History;
 use zt_rows::{LAST_MOMENT, Moment, Refusal};
@@ -8,7 +9,7 @@ fn is_at_last(history: &History) -> bool {
     head_of(history, MAIN) == Some(Moment(LAST_MOMENT))
 }
 
-/// Whether one call more is refused as one too many.
+/// Whether one more call is refused as `Full`.
 fn refuses_more(history: &mut History) -> bool {
     refusal_on(history, MAIN, &close(0)) == Some(Refusal::Full)
 }

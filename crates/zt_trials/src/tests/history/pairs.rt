@@ -1,4 +1,5 @@
-//! Trials over two histories each, of which one is asked while memory is refused.
+//! Trials over two histories each. One is asked while allocations fail.
+
 use super::branches::are_calls_apart_whole;
 use super::cascades::{
     are_edges_whole, are_links_whole, is_cascade_whole, is_kill_whole, is_write_whole,
@@ -7,7 +8,7 @@ use super::moves::are_moves_whole;
 use std::alloc::Global;
 use zt_history::History;
 
-/// What is tried over two histories that begin at the opening.
+/// A trial over two histories at the opening.
 #[derive(Clone, Copy)]
 enum PairTrial {
     Cascade,
@@ -31,7 +32,7 @@ fn try_over(alloc: Global, tried: &mut History, other: &mut History, trial: Pair
     }
 }
 
-/// Whether it holds over this history and a new one.
+/// Whether the trial holds over this history and a new one.
 fn holds_beside(alloc: Global, tried: &mut History, trial: PairTrial) -> bool {
     match History::new(alloc) {
         Ok(mut other) => try_over(alloc, tried, &mut other, trial),
@@ -39,7 +40,7 @@ fn holds_beside(alloc: Global, tried: &mut History, trial: PairTrial) -> bool {
     }
 }
 
-/// Whether it holds over two new histories.
+/// Whether the trial holds over two new histories.
 fn holds(alloc: Global, trial: PairTrial) -> bool {
     match History::new(alloc) {
         Ok(mut tried) => holds_beside(alloc, &mut tried, trial),

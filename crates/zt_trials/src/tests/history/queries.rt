@@ -1,4 +1,6 @@
-//! Queries of a history where memory is ample, from each position, and over a long path with the third request refused.
+//! Questions to a history if no allocation fails, from each position, and over a long path with the third allocation
+//! failing.
+
 use super::branch_calls::{answers, answers_often, close, sends};
 use super::branches::are_branches_made;
 use crate::tests::commands::mark;
@@ -11,7 +13,7 @@ use zt_queries::{
 };
 use zt_rows::{Call, Happening, Items, Koid, Moment, Refusal, Support};
 
-/// The moment on the path to `at` at which it happened to the object.
+/// The moment on the path to `at` at which this happened to the object.
 fn when(
     alloc: Global,
     history: &History,
@@ -44,21 +46,21 @@ fn is_unknown(alloc: Global, history: &History, at: u32, koid: u64, what: Happen
     when(alloc, history, Moment(at), Koid(koid), what) == Err(Refusal::NoObject)
 }
 
-/// Whether the three objects of `main` are told.
+/// Whether the three objects on `main` were made at the right moments.
 fn tells_main(alloc: Global, history: &History) -> bool {
     is_made(alloc, history, 3, 1026, 1)
         && is_made(alloc, history, 3, 1027, 2)
         && is_made(alloc, history, 3, 1028, 3)
 }
 
-/// Whether the three objects of the other branch are told.
+/// Whether the three objects on the other branch were made at the right moments.
 fn tells_fix(alloc: Global, history: &History) -> bool {
     is_made(alloc, history, 5, 1026, 4)
         && is_made(alloc, history, 5, 1027, 5)
         && is_made(alloc, history, 5, 1028, 5)
 }
 
-/// Whether nothing but that it was made happened to the object.
+/// Whether nothing happened to the object after it was made.
 fn stays(alloc: Global, history: &History, at: u32, koid: u64) -> bool {
     never(alloc, history, at, koid, Happening::Ended)
         && never(alloc, history, at, koid, Happening::PeerClosed)
@@ -71,7 +73,7 @@ fn all_stay(alloc: Global, history: &History, at: u32) -> bool {
         && stays(alloc, history, at, 1028)
 }
 
-/// Whether there is no next object yet.
+/// Whether there is no further object yet.
 fn knows_no_more(alloc: Global, history: &History, at: u32) -> bool {
     is_unknown(alloc, history, at, 1029, Happening::Made)
         && is_unknown(alloc, history, at, 1029, Happening::Ended)
@@ -79,7 +81,7 @@ fn knows_no_more(alloc: Global, history: &History, at: u32) -> bool {
         && is_unknown(alloc, history, at, 1029, Happening::Leaked)
 }
 
-/// Whether all is told of both branches, wherever the history stands.
+/// Whether all answers about both branches are right, wherever the history stands.
 fn tells_all(alloc: Global, history: &History) -> bool {
     tells_main(alloc, history)
         && tells_fix(alloc, history)
@@ -93,7 +95,7 @@ fn tells_all_from(alloc: Global, history: &mut History, position: u32) -> bool {
     history.goto(Moment(position)).is_ok() && tells_all(alloc, history)
 }
 
-/// Whether the same is told from the opening and from the heads of both branches.
+/// Whether the answers are the same from the opening and from the heads of both branches.
 pub(super) fn do_positions_agree(alloc: Global, history: &mut History) -> bool {
     are_branches_made(history)
         && tells_all_from(alloc, history, 0)
@@ -101,19 +103,19 @@ pub(super) fn do_positions_agree(alloc: Global, history: &mut History) -> bool {
         && tells_all_from(alloc, history, 5)
 }
 
-/// Sends a channel's far end through its near one, which is then closed.
+/// Sends a channel's far end through its near end, which is then closed.
 fn leaks_one(alloc: Global, history: &mut History) -> bool {
     answers(history, &Call::ChannelCreate)
         && sends(alloc, history, 7, 11)
         && answers(history, &close(7))
 }
 
-/// Whether it happened to the object at this moment.
+/// Whether this happened to the object at this moment.
 fn turns(alloc: Global, history: &History, koid: u64, what: Happening, moment: u32) -> bool {
     when(alloc, history, Moment(3), Koid(koid), what) == Ok(Some(Moment(moment)))
 }
 
-/// Whether it is told when what happened.
+/// Whether each event is found at its moment.
 fn tells_when(alloc: Global, history: &History) -> bool {
     turns(alloc, history, 1027, Happening::Made, 1)
         && turns(alloc, history, 1027, Happening::Leaked, 2)
@@ -121,14 +123,14 @@ fn tells_when(alloc: Global, history: &History) -> bool {
         && turns(alloc, history, 1026, Happening::Ended, 3)
 }
 
-/// Whether what holds the far end is told, by the position and by the copy.
+/// Whether the holder of the far end is found, at the position and in the copy.
 fn tells_holders(alloc: Global, history: &History, copy: &Frozen) -> bool {
     let wanted = [Support::Message(Koid(1027), 0, 0)];
     are(&holders_at(alloc, history, Koid(1027)), wanted.as_slice())
         && are(&holders(alloc, copy, Koid(1027)), wanted.as_slice())
 }
 
-/// Whether the leak is told, by the position and by the copy.
+/// Whether the leak is found, at the position and in the copy.
 fn tells_leaks(alloc: Global, history: &History, copy: &Frozen) -> bool {
     let wanted = [(Koid(1027), Kind::Channel)];
     are(&leaks_at(alloc, history), wanted.as_slice()) && are(&leaks(alloc, copy), wanted.as_slice())
@@ -150,7 +152,7 @@ fn has_same_rows(alloc: Global, history: &History, copy: &Frozen) -> bool {
     }
 }
 
-/// Whether all is told of the position, and of a copy of it.
+/// Whether holders, leaks and rows are right at the position and in a copy of it.
 fn tells_what_is_there(alloc: Global, history: &History) -> bool {
     match Frozen::copy(alloc, history) {
         Ok(copy) => {
@@ -162,12 +164,12 @@ fn tells_what_is_there(alloc: Global, history: &History) -> bool {
     }
 }
 
-/// Whether a leak is told, and when it came about.
+/// Whether a leak is found, and when it happened.
 pub(super) fn is_leak_told(alloc: Global, history: &mut History) -> bool {
     leaks_one(alloc, history) && tells_when(alloc, history) && tells_what_is_there(alloc, history)
 }
 
-/// Whether a path of 1,000 moments is read, with the third request refused.
+/// Whether a path of 1,000 moments is read, with the third allocation failing.
 pub(super) fn is_long_path_read(alloc: Global, history: &mut History) -> bool {
     answers_often(history, &Call::EventCreate, 1_000)
         && mark(alloc)

@@ -1,4 +1,5 @@
-//! Whether anything tells two histories apart.
+//! Whether two histories are equal.
+
 use super::branch_calls::{FIX, MAIN, head_of, values_of};
 use zt_history::History;
 use zt_rows::{Koid, Moment, Row, RowKey};
@@ -24,7 +25,7 @@ fn has_same_rows(first: &Store, second: &Store) -> bool {
     false
 }
 
-/// Whether both stores have the same numbers of the koid.
+/// Whether both stores have the same numbers for the koid.
 fn agree_on(first: &Store, second: &Store, koid: Koid) -> bool {
     first.count(koid) == second.count(koid)
         && first.child_jobs(koid) == second.child_jobs(koid)
@@ -45,7 +46,7 @@ pub(super) fn keys_of(history: &History, moment: Moment) -> &[RowKey] {
     }
 }
 
-/// What the moment's record holds under the key: a row, or that there was none.
+/// The row that the moment's record holds under the key, or that there was none.
 fn held(history: &History, moment: Moment, key: RowKey) -> Option<Option<&Row>> {
     history.record_of(moment)?.held(key)
 }
@@ -65,7 +66,7 @@ fn caller_of(history: &History, moment: Moment) -> Option<Koid> {
     }
 }
 
-/// Whether both histories tell the same of the moment.
+/// Whether both histories have the same caller, reply and record for the moment.
 fn agree_about(first: &History, second: &History, moment: Moment) -> bool {
     caller_of(first, moment) == caller_of(second, moment)
         && values_of(first.reply_of(moment)) == values_of(second.reply_of(moment))
@@ -89,7 +90,7 @@ fn has_same_store(first: &History, second: &History) -> bool {
     has_same_rows(first.store(), second.store()) && has_same_numbers(first.store(), second.store())
 }
 
-/// Whether both are the same: position, rows, numbers of supports, moments with their records, heads.
+/// Whether both histories are equal: position, rows, numbers, moments with their records, and heads.
 pub(super) fn is_same(first: &History, second: &History) -> bool {
     first.position() == second.position()
         && has_same_tree(first, second)

@@ -1,4 +1,5 @@
 //! Trials over one history each.
+
 use super::branches::are_branches_told;
 use super::limits::is_last_moment_reached;
 use super::moves::is_long_move_made;
@@ -6,7 +7,7 @@ use super::queries::{do_positions_agree, is_leak_told, is_long_path_read};
 use std::alloc::Global;
 use zt_history::History;
 
-/// What is tried over a history that begins at the opening.
+/// A trial over a history at the opening.
 #[derive(Clone, Copy)]
 enum HistoryTrial {
     Branches,
@@ -28,7 +29,7 @@ fn try_over(alloc: Global, history: &mut History, trial: HistoryTrial) -> bool {
     }
 }
 
-/// Whether it holds over a new history.
+/// Whether the trial holds over a new history.
 fn holds(alloc: Global, trial: HistoryTrial) -> bool {
     match History::new(alloc) {
         Ok(mut history) => try_over(alloc, &mut history, trial),

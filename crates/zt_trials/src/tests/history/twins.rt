@@ -1,5 +1,6 @@
-//! Two histories that were made by the same calls. One is asked, and where memory is refused to it, it has to be as the
-//! other, and to answer when it is asked again.
+//! Two histories that were made by the same calls. If an allocation fails in one, it must be equal to the other, and answer
+//! when it is asked again.
+
 use super::branch_calls::{FIX, MAIN, answers, head_of};
 use super::same::is_same;
 use std::alloc::Global;
@@ -16,24 +17,25 @@ fn forks(history: &mut History) -> bool {
     history.branch(FIX, at).is_ok()
 }
 
-/// Whether a history that refused a call on `main` may stand at the moment: where it stood, as the other still does, or
-/// at the head.
+/// Whether a history that refused a call on `main` may stand at the moment. It may stand where it stood, as the other still
+/// does, or at the head.
 fn may_stand(other: &History, moment: Moment) -> bool {
     moment == other.position() || Some(moment) == head_of(other, MAIN)
 }
 
-/// Whether a history that refused a call is as the other, once that stands where this may stand.
+/// Whether a history that refused a call is equal to the other, once the other goes where it stands. It may stand only
+/// where `may_stand` says.
 fn is_followed(tried: &History, other: &mut History) -> bool {
     let stands = tried.position();
     may_stand(other, stands) && goes(other, stands) && is_same(tried, other)
 }
 
-/// Runs a call on `main` in the one that may be refused memory.
+/// Makes a call on `main` in the history in which an allocation may fail.
 fn is_answered(tried: &mut History, other: &mut History, call: &Call) -> bool {
     answers(tried, call) || (is_followed(tried, other) && answers(tried, call))
 }
 
-/// Runs a call on `main` in both. The other may be refused memory too, and then answers when it is asked again.
+/// Makes a call on `main` in both. An allocation may fail in the other too; it then answers when it is asked again.
 pub(super) fn call_both(tried: &mut History, other: &mut History, call: &Call) -> bool {
     is_answered(tried, other, call)
         && (answers(other, call) || answers(other, call))
@@ -65,7 +67,8 @@ fn makes(history: &mut History, at: Moment, call: &Call) -> bool {
     history.call_at(at, ROOT_PROCESS, call).is_ok()
 }
 
-/// Whether a history that refused a call at a moment is as the other, once that stands there or where it stood.
+/// Whether a history that refused a call at a moment is equal to the other, once the other goes where it stands. It may
+/// stand there or where it stood.
 fn is_followed_at(tried: &History, other: &mut History, at: Moment) -> bool {
     let stands = tried.position();
     (stands == other.position() || stands == at) && goes(other, stands) && is_same(tried, other)

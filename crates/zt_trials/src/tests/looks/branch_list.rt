@@ -1,10 +1,11 @@
-//! Branches of a history of few moments, where memory is ample.
+//! The branches of a history of few moments, if no allocation fails.
+
 use std::alloc::Global;
 use zt_history::{BranchId, History};
 use zt_look::{BranchLook, branches};
 use zt_rows::{Call, Moment, ROOT_PROCESS};
 
-/// Whether a branch of this name is made at the moment, and a call on it.
+/// Whether a branch of this name is made at the moment, with a call on it.
 fn is_branched(history: &mut History, name: &[u8], at: Moment) -> bool {
     if history.branch(name, at).is_err() {
         return false;
@@ -23,7 +24,8 @@ fn leaves_there(look: &BranchLook, id: BranchId, moment: Moment) -> bool {
     }
 }
 
-/// Whether these are `main` at the opening, a branch that leaves it there, and one that leaves that at its first moment.
+/// Whether these are three branches: `main` at the opening, one that leaves it there, and one that leaves that at its first
+/// moment.
 fn are_three(list: &[BranchLook]) -> bool {
     match list {
         [main, first, second] => {
@@ -36,7 +38,7 @@ fn are_three(list: &[BranchLook]) -> bool {
     }
 }
 
-/// Whether the branches of such a history are told.
+/// Whether the branches of such a history are found.
 fn are_told(alloc: Global) -> bool {
     let Ok(mut history) = History::new(alloc) else {
         return false;

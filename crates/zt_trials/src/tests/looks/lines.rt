@@ -1,4 +1,5 @@
-//! The lines of answers, where memory is ample.
+//! The lines of answers, if no allocation fails.
+
 use std::alloc::{AllocError, Global};
 use zt_bits::{Kind, Rights, Signals, Status};
 use zt_history::History;
@@ -27,7 +28,7 @@ fn closing() -> Call {
     }
 }
 
-/// Names, of signals of a job.
+/// Names in place of masks, for the signals of a job.
 fn of_a_job() -> Naming {
     Naming {
         names: true,
@@ -72,7 +73,7 @@ fn calls_are_printed(rt: HostRuntime) {
     );
 }
 
-/// A process as a row.
+/// The row of a process.
 fn process_row() -> ObjectRow {
     let mut row = ObjectRow::new(Kind::Process, ROOT_JOB);
     row.signals = Signals(0x8);
@@ -150,7 +151,7 @@ fn events_are_printed(rt: HostRuntime) {
     );
 }
 
-/// A message without bytes, and with a handle, and what became of it.
+/// A message with a handle and no bytes, and what became of it.
 fn queued(alloc: Global, ended: Option<(Moment, MessageEnd)>) -> Option<QueuedMessage> {
     let held = Held {
         koid: Koid(1027),
@@ -170,7 +171,7 @@ fn queued(alloc: Global, ended: Option<(Moment, MessageEnd)>) -> Option<QueuedMe
     }
 }
 
-/// Whether a message that was read is printed.
+/// Whether a message that was lost is printed.
 fn is_message_printed(alloc: Global) -> bool {
     let call = closing();
     match queued(alloc, Some((Moment(6), MessageEnd::Lost))) {
@@ -215,7 +216,7 @@ fn branches_are_printed(rt: HostRuntime) {
     );
 }
 
-/// Whether a process that keeps itself is printed.
+/// Whether a process that is its own holder is printed.
 fn is_object_printed(alloc: Global) -> bool {
     let Ok(holders) = Vec::from_slice(alloc, &[Support::Itself]) else {
         return false;

@@ -1,4 +1,5 @@
-//! Messages of a history of few calls, where memory is ample.
+//! The messages of a history of few calls, if no allocation fails.
+
 use std::alloc::Global;
 use zt_history::History;
 use zt_look::{MessageEnd, QueuedMessage, messages};
@@ -7,7 +8,7 @@ use zt_rows::{Call, HandleValue, Koid, Moment, Parcel, ROOT_PROCESS};
 /// The second end of the channel, at which the messages are queued.
 const END: Koid = Koid(1027);
 
-/// Whether the first process calls this on `main`.
+/// Whether the first process makes this call on `main`.
 fn is_called(history: &mut History, call: &Call) -> bool {
     match history.find(b"main") {
         Some(main) => history.call(main, ROOT_PROCESS, call).is_ok(),
@@ -15,7 +16,7 @@ fn is_called(history: &mut History, call: &Call) -> bool {
     }
 }
 
-/// Whether it writes an empty message by the handle.
+/// Whether the first process writes an empty message by the handle.
 fn is_written(alloc: Global, history: &mut History, handle: HandleValue) -> bool {
     match Parcel::new(Vec::new(alloc), Vec::new(alloc)) {
         Some(parcel) => is_called(history, &Call::ChannelWrite { handle, parcel }),
@@ -23,7 +24,7 @@ fn is_written(alloc: Global, history: &mut History, handle: HandleValue) -> bool
     }
 }
 
-/// Whether it reads a message by the handle.
+/// Whether the first process reads a message by the handle.
 fn is_read(history: &mut History, handle: HandleValue) -> bool {
     let call = Call::ChannelRead {
         handle,
@@ -34,7 +35,7 @@ fn is_read(history: &mut History, handle: HandleValue) -> bool {
     is_called(history, &call)
 }
 
-/// The history in which it makes a channel, writes twice, reads once, and closes the end at which both messages came.
+/// The history in which the first process makes a channel, writes twice, reads once, and closes the end with the messages.
 fn two_messages(alloc: Global) -> Option<History> {
     let Ok(mut history) = History::new(alloc) else {
         return None;
@@ -66,7 +67,7 @@ fn is_read_at(queued: &QueuedMessage, moment: Moment) -> bool {
     }
 }
 
-/// Whether it was lost at this moment.
+/// Whether the message was lost at this moment.
 fn is_lost_at(queued: &QueuedMessage, moment: Moment) -> bool {
     match queued.ended {
         Some((last, MessageEnd::Lost)) => last == moment,
@@ -74,7 +75,7 @@ fn is_lost_at(queued: &QueuedMessage, moment: Moment) -> bool {
     }
 }
 
-/// Whether these are both messages: the first was read, the second was lost, or still waits there.
+/// Whether these are both messages. The first was read. The second was lost if `closed` is set, and else still waits.
 fn are_both(list: &[QueuedMessage], closed: bool) -> bool {
     match list {
         [first, second] => {
@@ -87,7 +88,7 @@ fn are_both(list: &[QueuedMessage], closed: bool) -> bool {
     }
 }
 
-/// Whether they are told as of this moment.
+/// Whether both messages are found as of this moment.
 fn are_told(alloc: Global, at: Moment, closed: bool) -> bool {
     match two_messages(alloc) {
         Some(mut history) => match messages(alloc, &mut history, at, END) {
@@ -108,7 +109,7 @@ fn a_message_waits(rt: HostRuntime) {
     assert!(rt; are_told(rt.alloc(), Moment(4), false));
 }
 
-/// Whether messages are refused of what is not known at the moment.
+/// Whether messages of an object are refused at a moment at which it is not known.
 fn is_unknown(alloc: Global) -> bool {
     match two_messages(alloc) {
         Some(mut history) => messages(alloc, &mut history, Moment(0), END).is_err(),

@@ -1,23 +1,24 @@
-//! What is told of an event that is made, and closed in the third call.
+//! Looks at an event that is made, and closed in the third call.
+
 use super::three_calls;
 use std::alloc::Global;
 use zt_history::History;
 use zt_look::{ObjectLook, object_at};
 use zt_rows::{Koid, Moment};
 
-/// Whether it is there with one holder and no message, packet or wait, made at the first moment.
+/// Whether the event is there with one holder and no message, packet or wait, made at the first moment.
 fn is_there(look: &ObjectLook) -> bool {
     let holders = look.holders.len();
     let waiting = look.messages.len() == 0 && look.packets.len() == 0 && look.waits.len() == 0;
     look.row.is_some() && holders == 1 && waiting && look.made == Some(Moment(1))
 }
 
-/// Whether it is gone since the third moment, and nothing holds it.
+/// Whether the event is gone since the third moment, and nothing holds it.
 fn is_gone(look: &ObjectLook) -> bool {
     look.row.is_none() && look.holders.len() == 0 && look.ended == Some(Moment(3))
 }
 
-/// Whether the event is told so at the position.
+/// Whether this is what is known of the event at the position.
 fn is_told(alloc: Global, history: &History, gone: bool) -> bool {
     match object_at(alloc, history, Koid(1026)) {
         Ok(look) => {
@@ -31,7 +32,7 @@ fn is_told(alloc: Global, history: &History, gone: bool) -> bool {
     }
 }
 
-/// Whether it is told so before and after it is closed.
+/// Whether the event is known before and after it is closed.
 fn are_both_told(alloc: Global) -> bool {
     match three_calls(alloc) {
         Some(mut history) => {

@@ -1,11 +1,12 @@
-//! What is told of three calls in short: an event that is made, a handle that is not there, and the event's end.
+//! The summary of three calls: an event is made, a handle is not there, and the event ends.
+
 use super::three_calls;
 use std::alloc::Global;
 use zt_bits::Status;
 use zt_look::{CallCount, Fate, ObjectFate, summary};
 use zt_rows::{Koid, Moment, ROOT_PROCESS};
 
-/// Whether two calls went well and one had a bad handle.
+/// Whether two calls were ok and one had a bad handle.
 fn are_counted(calls: &[CallCount]) -> bool {
     match calls {
         [well, missed] => {
@@ -18,7 +19,7 @@ fn are_counted(calls: &[CallCount]) -> bool {
     }
 }
 
-/// Whether the root job and the process live since the opening, and the event is dead since the third call.
+/// Whether the root job and the root process are alive since the opening, and the event is dead since the third call.
 fn are_told(objects: &[ObjectFate]) -> bool {
     match objects {
         [job, process, event] => {
@@ -37,7 +38,7 @@ fn is_dead(fate: Fate) -> bool {
     matches!(fate, Fate::Dead)
 }
 
-/// Whether it is told so.
+/// Whether the summary of the three calls is right.
 fn is_summed(alloc: Global) -> bool {
     match three_calls(alloc) {
         Some(mut history) => match summary(alloc, &mut history, Moment(3)) {

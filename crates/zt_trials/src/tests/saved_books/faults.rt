@@ -1,4 +1,4 @@
-//! Trees that are not loaded, each with what is told of it.
+//! Trees that do not load, each with its fault.
 
 use crate::tests::checks::check;
 use std::alloc::Global;
@@ -9,7 +9,7 @@ use zt_text::read_saved;
 /// The lines of a tree behind the first, the number of the item at fault, and why it is refused.
 type Faulty = (&'static str, u64, Refusal);
 
-/// Moments that cannot be.
+/// Trees with moments that cannot be.
 const MOMENTS: [Faulty; 4] = [
     (
         "call 0 1025 event_create\ncall 2 1025 event_create\nbranch main 0\n",
@@ -33,7 +33,7 @@ const MOMENTS: [Faulty; 4] = [
     ),
 ];
 
-/// First branches that cannot be, or none.
+/// Trees whose first branch cannot be, or that have none.
 const FIRST_BRANCHES: [Faulty; 6] = [
     ("call 0 1025 event_create\n", 1, Refusal::NoBranch),
     (
@@ -55,7 +55,7 @@ const FIRST_BRANCHES: [Faulty; 6] = [
     ),
 ];
 
-/// Further branches that cannot be.
+/// Trees with further branches that cannot be.
 const BRANCHES: [Faulty; 6] = [
     ("branch main 0\nbranch main 0\n", 1, Refusal::NameTaken),
     (
@@ -81,7 +81,7 @@ const BRANCHES: [Faulty; 6] = [
     ),
 ];
 
-/// Cursors that cannot be, of which the last is of no client.
+/// Trees with cursors that cannot be. The last such cursor is of no client.
 const CURSORS: [Faulty; 4] = [
     ("branch main 0\ncursor 1 follow fix\n", 1, Refusal::NoBranch),
     (
@@ -101,7 +101,7 @@ const CURSORS: [Faulty; 4] = [
     ),
 ];
 
-// No clause tells what these give, so that who asks for them is proved without going over their bytes.
+// No clause tells what these functions return. So a proof of their callers does not go over the bytes.
 
 fn moments() -> &'static [Faulty] {
     MOMENTS.as_slice()
@@ -123,7 +123,7 @@ fn first_line() -> &'static [u8] {
     b"zxtt 2\n"
 }
 
-/// The text of these lines.
+/// The session text of these lines.
 fn text_of(alloc: Global, lines: &str) -> Option<Vec<u8>> {
     let mut text = Vec::new(alloc);
     if text.extend_from_slice(first_line()).is_ok()
@@ -135,7 +135,7 @@ fn text_of(alloc: Global, lines: &str) -> Option<Vec<u8>> {
     }
 }
 
-/// What is told of a tree that is not loaded for so many clients.
+/// The fault of a tree that does not load for this many clients.
 fn fault_for(alloc: Global, clients: u8, text: &[u8]) -> Option<(u64, Refusal)> {
     match read_saved(alloc, text) {
         Ok(saved) => match Book::load_saved(alloc, clients, &saved) {
@@ -146,7 +146,7 @@ fn fault_for(alloc: Global, clients: u8, text: &[u8]) -> Option<(u64, Refusal)> 
     }
 }
 
-/// Whether a tree is at fault so for one client, and for five whatever it is.
+/// Whether a tree has this fault for one client, and is refused for five clients.
 fn is_faulty(alloc: Global, faulty: Faulty) -> bool {
     let (lines, number, refusal) = faulty;
     match text_of(alloc, lines) {
@@ -158,7 +158,7 @@ fn is_faulty(alloc: Global, faulty: Faulty) -> bool {
     }
 }
 
-/// Whether each of the trees is at fault so.
+/// Whether each of the trees has its fault.
 fn are_faulty(alloc: Global, faults: &[Faulty]) -> bool {
     for faulty in faults {
         if !is_faulty(alloc, *faulty) {

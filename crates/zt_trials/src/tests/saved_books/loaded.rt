@@ -1,12 +1,12 @@
-//! Books that are loaded of trees, looked at, and saved again.
+//! Books that are loaded from trees, looked at, and saved again.
 
 use super::trees::{Told, are_told, is_saved_as, loaded};
 use crate::tests::checks::check;
 use std::alloc::Global;
 use zt_book::Book;
 
-/// What a book of so many clients over the tree of a text is saved as; and what its clients are told, and what it is
-/// saved as then.
+/// A book of this many clients over the tree of `text`. It is saved as `saved`, then its clients have the lines and answers
+/// of `talk`, and then it is saved as `saved_then`.
 #[derive(Clone, Copy)]
 struct Session {
     clients: u8,
@@ -20,15 +20,15 @@ struct Session {
 const OPENING: &str =
     "rows 0 4\ncounters 1026 0\nobject 1024 job 0x00000010 0 live 0\nobject 1025 process 0x00000000 1024 live 1\nentry 1025 3 1024 0x0003d203\n";
 
-/// The rows behind an event that is made at the opening.
+/// The rows after an event is made at the opening.
 const EVENT: &str =
     "rows 1 6\ncounters 1027 0\nobject 1024 job 0x00000010 0 live 0\nobject 1025 process 0x00000000 1024 live 2\nobject 1026 event 0x00000000 0 live 0\nentry 1025 3 1024 0x0003d203\nentry 1025 7 1026 0x0000d003\n";
 
-/// The rows behind a port that is made there.
+/// The rows after a port is made there.
 const PORT: &str =
     "rows 2 6\ncounters 1027 0\nobject 1024 job 0x00000010 0 live 0\nobject 1025 process 0x00000000 1024 live 2\nobject 1026 port 0x00000000 0 live 0\nentry 1025 3 1024 0x0003d203\nentry 1025 7 1026 0x0000800f\n";
 
-/// Looks of one client at a port on a branch of its own, and at the event on `main`.
+/// One client looks at a port on a branch of its own, and at the event on `main`.
 const LOOKS: [Told; 4] = [
     (1, "show", PORT),
     (1, "goto 1", "at 1\n"),
@@ -36,10 +36,10 @@ const LOOKS: [Told; 4] = [
     (1, "follow fix", "follow fix 2\n"),
 ];
 
-/// Looks of two clients, of whom the second follows `main`.
+/// Two clients look. The second follows `main`.
 const LOOKS_OF_TWO: [Told; 2] = [(2, "show", EVENT), (1, "show", PORT)];
 
-/// Calls and a branch of two clients.
+/// Two clients make calls and a branch.
 const CALLS_OF_TWO: [Told; 5] = [
     (1, "1025 handle_close 7", "3 ok\n"),
     (2, "pin", "pinned 1\n"),
@@ -48,42 +48,42 @@ const CALLS_OF_TWO: [Told; 5] = [
     (1, "1025 event_create", "4 ok 11\n"),
 ];
 
-/// Looks of two clients, of whom the second follows no branch.
+/// Two clients look. The second follows no branch.
 const LOOKS_AT_THE_OPENING: [Told; 2] = [(1, "show", PORT), (2, "show", OPENING)];
 
-// No clause tells what these give, so that who asks for them is proved without going over their bytes.
+// No clause tells what these functions return. So a proof of their callers does not go over the bytes.
 
-/// An event on `main`, a port on another branch, and a client who follows that.
+/// A tree with an event on `main`, a port on another branch, and a client that follows that branch.
 fn example() -> &'static [u8] {
     b"zxtt 2\ncall 0 1025 event_create\ncall 0 1025 port_create\nbranch main 1\nbranch fix 2\ncursor 1 follow fix\n"
 }
 
-/// The same with a second client, who follows `main`.
+/// The tree of `example` with a second client, which follows `main`.
 fn example_of_two() -> &'static [u8] {
     b"zxtt 2\ncall 0 1025 event_create\ncall 0 1025 port_create\nbranch main 1\nbranch fix 2\ncursor 1 follow fix\ncursor 2 follow main\n"
 }
 
-/// The same behind the calls.
+/// The tree of `example_of_two` after `CALLS_OF_TWO`.
 fn called_of_two() -> &'static [u8] {
     b"zxtt 2\ncall 0 1025 event_create\ncall 0 1025 port_create\ncall 2 1025 handle_close 7\ncall 3 1025 event_create\nbranch main 1\nbranch fix 3\nbranch more 4\ncursor 1 follow more\ncursor 2 at 0\n"
 }
 
-/// The same with three clients, of whom the second follows no branch.
+/// The tree of `example` with three clients. The second and the third follow no branch.
 fn example_of_three() -> &'static [u8] {
     b"zxtt 2\ncall 0 1025 event_create\ncall 0 1025 port_create\nbranch main 1\nbranch fix 2\ncursor 1 follow fix\ncursor 2 at 0\ncursor 3 at 2\n"
 }
 
-/// The same without the third.
+/// The tree of `example_of_three` without the third client.
 fn two_of_three() -> &'static [u8] {
     b"zxtt 2\ncall 0 1025 event_create\ncall 0 1025 port_create\nbranch main 1\nbranch fix 2\ncursor 1 follow fix\ncursor 2 at 0\n"
 }
 
-/// A tree of the opening alone, which `main` leads to.
+/// A tree with the opening alone, to which `main` leads.
 fn bare() -> &'static [u8] {
     b"zxtt 2\nbranch main 0\n"
 }
 
-/// The same with a client.
+/// The tree of `bare` with a client.
 fn bare_of_one() -> &'static [u8] {
     b"zxtt 2\nbranch main 0\ncursor 1 follow main\n"
 }
@@ -93,7 +93,7 @@ fn row() -> &'static [u8] {
     b"zxtt 1\n1025 event_create\n1025 port_create\n"
 }
 
-/// The same as a tree, with a client.
+/// The calls of `row` as a tree, with a client.
 fn row_of_one() -> &'static [u8] {
     b"zxtt 2\ncall 0 1025 event_create\ncall 1 1025 port_create\nbranch main 2\ncursor 1 follow main\n"
 }
@@ -119,14 +119,14 @@ fn looks_at_the_opening() -> &'static [Told] {
     LOOKS_AT_THE_OPENING.as_slice()
 }
 
-/// Whether the clients of this book are told so, and it is saved so before and then.
+/// Whether the clients of this book get these answers, and it is saved as expected before and after.
 fn goes_over(alloc: Global, book: &mut Book, session: &Session) -> bool {
     is_saved_as(alloc, book, session.saved)
         && are_told(alloc, book, session.talk)
         && is_saved_as(alloc, book, session.saved_then)
 }
 
-/// Whether it goes so over the book that is loaded.
+/// Whether the session goes as expected over the book that is loaded.
 fn goes(alloc: Global, session: &Session) -> bool {
     match loaded(alloc, session.clients, session.text) {
         Some(mut book) => goes_over(alloc, &mut book, session),
@@ -134,7 +134,7 @@ fn goes(alloc: Global, session: &Session) -> bool {
     }
 }
 
-/// Whether a book of so many clients over the tree of a text is saved as another text, and so again where that is loaded.
+/// Whether a book of this many clients over the tree of `text` is saved as `saved`, both times that it is saved.
 fn is_saved(alloc: Global, clients: u8, text: &'static [u8], saved: &'static [u8]) -> bool {
     goes(
         alloc,

@@ -1,5 +1,5 @@
-//! A tree of several branches loaded and saved with each request for memory refused in turn, beside a book that was loaded of
-//! it where memory was ample.
+//! A tree of several branches that is loaded and saved with each allocation failing in turn. Beside it stands a book that
+//! was loaded while none failed.
 
 use super::trees::{loaded, saved_text};
 use crate::tests::checks::check;
@@ -10,8 +10,8 @@ use zt_book::Book;
 use zt_rows::{Refusal, Saved};
 use zt_text::read_saved;
 
-/// What is looked at: where the clients stand, each moment with its rows, that there is no further moment, and where
-/// the branches lead.
+/// The lines that look at the book: where the clients stand, and each moment with its rows. Then that there is no further
+/// moment, and where the branches lead.
 const LOOKS: [(u8, &str); 22] = [
     (1, "show"),
     (1, "goto 0"),
@@ -37,14 +37,14 @@ const LOOKS: [(u8, &str); 22] = [
     (2, "show"),
 ];
 
-// No clause tells what these give, so that who asks for them is proved without going over their bytes.
+// No clause tells what these functions return. So a proof of their callers does not go over the bytes.
 
 fn looks() -> &'static [(u8, &'static str)] {
     LOOKS.as_slice()
 }
 
-/// A channel of which an end is sent through the other and then goes, on `main`; behind the channel a message on another
-/// branch; and at the opening a process on a third, in which that process makes a port.
+/// Three branches. On `main`, a channel's far end is sent through its near end, which is then closed. On another, a message
+/// is written behind the channel. On a third, from the opening, a process is made and makes a port.
 fn tree() -> &'static [u8] {
     b"zxtt 2\ncall 0 1025 channel_create\ncall 1 1025 channel_write 7 6869 11\ncall 2 1025 handle_close 7\ncall 0 1025 spawn 3 0\ncall 1 1025 channel_write 7 - -\ncall 4 1026 port_create\nbranch main 3\nbranch fix 5\nbranch more 6\ncursor 1 follow fix\ncursor 2 at 2\n"
 }
@@ -63,7 +63,7 @@ fn load(alloc: Global, saved: &Saved) -> Option<Book> {
     }
 }
 
-/// The book of the tree, if not at once then behind one refusal of memory.
+/// The book of the tree. If an allocation fails, it is loaded again.
 fn load_again(alloc: Global, saved: &Saved) -> Option<Book> {
     match Book::load_saved(alloc, 2, saved) {
         Ok(book) => Some(book),
@@ -77,12 +77,12 @@ fn load_again(alloc: Global, saved: &Saved) -> Option<Book> {
     }
 }
 
-/// Whether both are saved as one text, the first where memory was refused once at most.
+/// Whether both are saved as the same text. The first is saved again, since one allocation may fail.
 fn is_saved_as_twin(alloc: Global, tried: &Book, twin: &Option<Vec<u8>>) -> bool {
     is_one_text(&saved_text(alloc, tried), twin) || is_one_text(&saved_text(alloc, tried), twin)
 }
 
-/// Whether a book is loaded whole or not at all behind the mark, and nothing tells it from the twin then.
+/// Whether a book is loaded whole or not at all after the mark, and is then equal to the twin.
 fn is_load_whole(alloc: Global, saved: &Saved, twin: &mut Book) -> bool {
     let text = saved_text(alloc, twin);
     if !mark(alloc) {
@@ -97,7 +97,7 @@ fn is_load_whole(alloc: Global, saved: &Saved, twin: &mut Book) -> bool {
     }
 }
 
-/// Whether a book is saved whole or not at all behind the mark, and nothing tells it from the twin then.
+/// Whether a book is saved whole or not at all after the mark, and is then equal to the twin.
 fn is_save_whole(alloc: Global, saved: &Saved, twin: &mut Book) -> bool {
     match load(alloc, saved) {
         Some(mut tried) => {
@@ -110,7 +110,7 @@ fn is_save_whole(alloc: Global, saved: &Saved, twin: &mut Book) -> bool {
     }
 }
 
-/// What is tried beside a book of the tree.
+/// A trial beside a book of the tree.
 #[derive(Clone, Copy)]
 enum SavedTrial {
     Load,
@@ -124,7 +124,7 @@ fn try_beside(alloc: Global, saved: &Saved, twin: &mut Book, trial: SavedTrial) 
     }
 }
 
-/// Whether it holds beside a new book of the tree.
+/// Whether the trial holds beside a new book of the tree.
 fn holds(alloc: Global, trial: SavedTrial) -> bool {
     match (read(alloc), loaded(alloc, 2, tree())) {
         (Some(saved), Some(mut twin)) => try_beside(alloc, &saved, &mut twin, trial),

@@ -1,5 +1,5 @@
-//! A run of two branches, served to a book of one thread beside its twin, in which a branch is made and rows are shown with
-//! each request for memory refused in turn.
+//! A run of two branches, served to a book of one thread beside its twin. A branch is made and rows are shown with each
+//! allocation failing in turn.
 
 use super::same_logs::{Told, is_same_log, tells_last};
 use super::twins::{twin_refusal, twin_settled};
@@ -10,7 +10,7 @@ use zt_book::Book;
 /// A client with its line.
 type ClientLine = (u8, &'static str);
 
-/// Three events on `main`, and back to the opening.
+/// Makes three events on `main`, and goes back to the opening.
 const EVENTS: [ClientLine; 4] = [
     (1, "1025 event_create"),
     (1, "1025 event_create"),
@@ -18,7 +18,7 @@ const EVENTS: [ClientLine; 4] = [
     (1, "back 3"),
 ];
 
-/// A port and a channel on the new branch, and by way of `main` back to them.
+/// Makes a port and a channel on the new branch, and goes to `main` and back to them.
 const FIX: [ClientLine; 4] = [
     (1, "1025 port_create"),
     (1, "1025 channel_create"),
@@ -26,11 +26,12 @@ const FIX: [ClientLine; 4] = [
     (1, "goto 5"),
 ];
 
-/// Back to the events.
+/// Goes back to the events.
 const BACK: [ClientLine; 1] = [(1, "goto 3")];
 
-/// What is looked at: where client 1 stands, and by client 2 each moment with its rows, that there is no further moment, the
-/// parent of the last, what keeps the root job, and the heads of both branches.
+/// The lines that look at the book: where client 1 stands, and all that client 2 asks. Client 2 asks for each moment with
+/// its rows, for a further moment, and for the parent of the last. Then it asks what keeps the root job, and for the heads
+/// of both branches.
 const LOOKS: [ClientLine; 20] = [
     (1, "show"),
     (2, "goto 0"),
@@ -68,7 +69,7 @@ const SHOWN_MAIN: Told = (
     "rows 3 10\ncounters 1029 0\nobject 1024 job 0x00000010 0 live 0\nobject 1025 process 0x00000000 1024 live 4\nobject 1026 event 0x00000000 0 live 0\nobject 1027 event 0x00000000 0 live 0\nobject 1028 event 0x00000000 0 live 0\nentry 1025 3 1024 0x0003d203\nentry 1025 7 1026 0x0000d003\nentry 1025 11 1027 0x0000d003\nentry 1025 15 1028 0x0000d003\n",
 );
 
-// No clause tells what these give, so that who asks for them is proved without going over their bytes.
+// No clause tells what these functions return. So a proof of their callers does not go over the bytes.
 
 fn events() -> &'static [ClientLine] {
     EVENTS.as_slice()
@@ -98,7 +99,7 @@ fn shown_main() -> Told {
     SHOWN_MAIN
 }
 
-/// Whether both books answer each of the lines, or refuse it for one cause.
+/// Whether both books answer each of the lines, or refuse it for the same cause.
 fn serve_all(alloc: Global, tried: &mut Book, twin: &mut Book, lines: &[ClientLine]) -> bool {
     for (client, line) in lines {
         if twin_settled(alloc, tried, *client, line) != twin_settled(alloc, twin, *client, line) {
@@ -108,7 +109,7 @@ fn serve_all(alloc: Global, tried: &mut Book, twin: &mut Book, lines: &[ClientLi
     true
 }
 
-/// Whether nothing tells the books apart, neither what is looked at nor any row of the log.
+/// Whether the books are equal, in all that is looked at and in each row of the log.
 fn is_twin(alloc: Global, tried: &mut Book, twin: &mut Book) -> bool {
     serve_all(alloc, tried, twin, looks()) && is_same_log(alloc, tried.log(), twin.log())
 }
@@ -118,12 +119,12 @@ fn is_served(alloc: Global, tried: &mut Book, told: Told) -> bool {
     twin_refusal(alloc, tried, client, line).is_none()
 }
 
-/// Whether the line is answered, if not at once then after a refusal that nothing shows.
+/// Whether the line is answered. If it is refused first, nothing may show that.
 fn is_served_whole(alloc: Global, tried: &mut Book, twin: &mut Book, told: Told) -> bool {
     is_served(alloc, tried, told) || (is_twin(alloc, tried, twin) && is_served(alloc, tried, told))
 }
 
-/// Whether the line is answered whole or not at all, and as told.
+/// Whether the line is answered whole or not at all, and with this answer.
 fn is_told_whole(alloc: Global, tried: &mut Book, twin: &mut Book, told: Told) -> bool {
     mark(alloc)
         && is_served_whole(alloc, tried, twin, told)
@@ -132,7 +133,7 @@ fn is_told_whole(alloc: Global, tried: &mut Book, twin: &mut Book, told: Told) -
         && is_twin(alloc, tried, twin)
 }
 
-/// Whether the run goes so.
+/// Whether the whole run goes so.
 fn is_run_whole(alloc: Global, tried: &mut Book, twin: &mut Book) -> bool {
     serve_all(alloc, tried, twin, events())
         && is_told_whole(alloc, tried, twin, branch())
@@ -142,7 +143,7 @@ fn is_run_whole(alloc: Global, tried: &mut Book, twin: &mut Book) -> bool {
         && is_told_whole(alloc, tried, twin, shown_main())
 }
 
-/// Whether it does so over this book and a new one.
+/// Whether the run goes so over this book and a new one.
 fn holds_beside(alloc: Global, tried: &mut Book) -> bool {
     match Book::new(alloc, 2) {
         Ok(mut twin) => is_run_whole(alloc, tried, &mut twin),
@@ -150,7 +151,7 @@ fn holds_beside(alloc: Global, tried: &mut Book) -> bool {
     }
 }
 
-/// Whether it does so over two new books.
+/// Whether the run goes so over two new books.
 fn holds(alloc: Global) -> bool {
     match Book::new(alloc, 2) {
         Ok(mut tried) => holds_beside(alloc, &mut tried),

@@ -1,4 +1,5 @@
 //! Shared books of two clients, with their twins.
+
 ghost use Rattle.std.specs.Prelude.{◌≡◌, IfSome};
 ghost use Rattle.zt_shared.specs.OpenedBook.{IsNamed};
 ghost use Rattle.zt_shared.specs.Sharing.{IsFresh};
@@ -10,7 +11,7 @@ use zt_rows::{Call, HandleValue, ROOT_PROCESS};
 use zt_shared::account::Naming;
 use zt_shared::{Beginning, Blanks, OpenedBook, Pass, open, open_book};
 
-/// A book over an event that was made and closed again.
+/// A book over an event that was made and closed.
 fn loaded(alloc: Global) -> Option<Book>
     ensures { IfSome result (IsFresh 2) }
 {
@@ -29,10 +30,10 @@ fn loaded(alloc: Global) -> Option<Book>
     }
 }
 
-/// A shared book, with the passes of its two clients and a book like it.
+/// A shared book, with the passes of its two clients and an equal book.
 pub(super) type Opened<A, B, C, D> = (OpenedBook<A, B, C, D>, Twins<A, B, C, D>);
 
-/// The passes of two clients, and a book like theirs.
+/// The passes of two clients, and an equal book.
 fn twins_of<A: Naming + Beginning, B: Naming, C: Naming, D: Naming>(
     mut passes: Vec<Pass<A, B, C, D>>,
     twin: Option<Book>,
@@ -43,7 +44,7 @@ fn twins_of<A: Naming + Beginning, B: Naming, C: Naming, D: Naming>(
     Some(Twins { one, two, twin })
 }
 
-/// The shared book, where it has such twins.
+/// The shared book with its twins, if there are any.
 fn beside<A: Naming + Beginning, B: Naming, C: Naming, D: Naming>(
     opened: OpenedBook<A, B, C, D>,
     twins: Option<Twins<A, B, C, D>>,
@@ -54,7 +55,7 @@ fn beside<A: Naming + Beginning, B: Naming, C: Naming, D: Naming>(
     }
 }
 
-/// Twins at the opening.
+/// Twins at the opening. None if an allocation fails.
 pub(super) fn at_opening<A: Naming + Beginning, B: Naming, C: Naming, D: Naming>(
     alloc: Global,
     blanks: Blanks,
@@ -71,7 +72,7 @@ pub(super) fn at_opening<A: Naming + Beginning, B: Naming, C: Naming, D: Naming>
     }
 }
 
-/// Twins over a loaded book.
+/// Twins over a loaded book. None if an allocation fails.
 pub(super) fn over_loaded<A: Naming + Beginning, B: Naming, C: Naming, D: Naming>(
     alloc: Global,
     blanks: Blanks,

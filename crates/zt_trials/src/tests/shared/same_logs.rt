@@ -1,4 +1,4 @@
-//! Whether logs, their rows and answers are the same. What asks for memory here looks again where it was refused.
+//! Whether logs, their rows and their answers are equal. A comparison that may fail for want of memory is made again.
 
 use crate::tests::commands::command;
 use std::alloc::{AllocError, Global};
@@ -9,7 +9,7 @@ use zt_shared::account::Naming;
 use zt_shared::{Beginning, Pass};
 use zt_text::print_answer;
 
-/// What a client asks, and the lines that it is told.
+/// A client's line, and the lines of its answer.
 pub(super) type Told = (u8, &'static str, &'static str);
 
 /// All that a value has, as a text.
@@ -17,7 +17,7 @@ fn shown<T: Debug>(alloc: Global, value: &T) -> Result<String, AllocError> {
     format!(in alloc; "{value:?}")
 }
 
-/// Whether both have the same text, unless memory for the texts was refused.
+/// Whether both values have the same text. No if an allocation fails.
 pub(super) fn looks_same<T: Debug>(alloc: Global, first: &T, second: &T) -> bool {
     match (shown(alloc, first), shown(alloc, second)) {
         (Ok(first), Ok(second)) => first == second,
@@ -29,7 +29,7 @@ fn is_same<T: Debug>(alloc: Global, first: &T, second: &T) -> bool {
     looks_same(alloc, first, second) || looks_same(alloc, first, second)
 }
 
-/// Whether these are the command and the answer of the log's row.
+/// Whether these are the command and the answer of this row of the log.
 fn is_row(alloc: Global, said: Option<(&Command, &Answer)>, row: &Recorded) -> bool {
     match said {
         Some((asked, answered)) => {
@@ -39,7 +39,7 @@ fn is_row(alloc: Global, said: Option<(&Command, &Answer)>, row: &Recorded) -> b
     }
 }
 
-/// Whether the pass has just its client's rows of the log.
+/// Whether the pass has exactly its client's rows of the log.
 pub(super) fn has_rows_of<A: Naming + Beginning, B: Naming, C: Naming, D: Naming>(
     alloc: Global,
     pass: &Pass<A, B, C, D>,
@@ -97,7 +97,7 @@ pub(super) fn tells_last(alloc: Global, log: &Log, told: Told) -> bool {
     }
 }
 
-/// Whether the log has just these rows.
+/// Whether the log has exactly these rows.
 pub(super) fn tells(alloc: Global, log: &Log, told: &[Told]) -> bool {
     let mut number: usize = 0;
     for row in log.rows() {

@@ -7,7 +7,8 @@ use zt_book::Book;
 /// A client with its line.
 type ClientLine = (u8, &'static str);
 
-/// What is looked at: where each client stands, each moment with its rows, and that there is no further moment.
+/// The lines that look at the book: where each client stands, each moment with its rows, and that there is no further
+/// moment.
 const LOOKS: [ClientLine; 13] = [
     (1, "show"),
     (2, "show"),
@@ -24,13 +25,13 @@ const LOOKS: [ClientLine; 13] = [
     (2, "show"),
 ];
 
-// No clause tells what this gives, so that who asks for it is proved without going over its bytes.
+// No clause tells what this function returns. So a proof of its callers does not go over the bytes.
 
 fn looks() -> &'static [ClientLine] {
     LOOKS.as_slice()
 }
 
-/// A book of two clients over the tree as which this one is saved.
+/// A book of two clients over the tree as which this book is saved.
 fn loaded_again(alloc: Global, book: &Book) -> Option<Book> {
     match book.save() {
         Ok(saved) => match Book::load_saved(alloc, 2, &saved) {
@@ -41,7 +42,7 @@ fn loaded_again(alloc: Global, book: &Book) -> Option<Book> {
     }
 }
 
-/// Whether a book is saved and loaded for its two clients, and both books tell the same.
+/// Whether a book can be saved and loaded for its two clients, and both books give the same answers.
 pub(super) fn tells_the_same_loaded(alloc: Global, book: &mut Book) -> bool {
     match loaded_again(alloc, book) {
         Some(mut loaded) => {

@@ -8,10 +8,10 @@ use zt_rows::{Call, Command, ROOT_PROCESS};
 use zt_shared::account::Naming;
 use zt_shared::{Beginning, Pass, Shared};
 
-/// How often each client asks.
+/// How many commands each client asks.
 const TIMES: usize = 1_000;
 
-/// Whether so many events are made.
+/// Whether the client makes `TIMES` events.
 fn makes_events<A: Naming + Beginning, B: Naming, C: Naming, D: Naming, R: Wait>(
     rt: &R,
     shared: &Shared<A, B, C, D>,
@@ -26,7 +26,7 @@ fn makes_events<A: Naming + Beginning, B: Naming, C: Naming, D: Naming, R: Wait>
     pass.len() == TIMES
 }
 
-/// Whether each client, on a thread of its own, is answered all that it asks.
+/// Whether each client, on a thread of its own, gets all its answers.
 pub(super) fn asks_on_threads<
     A: Naming + Beginning + Send + Sync,
     B: Naming + Send + Sync,
@@ -51,7 +51,7 @@ fn serves(book: &mut Book, row: &Recorded) -> bool {
     book.serve(row.client, &row.asked).is_ok()
 }
 
-/// Whether the book answers all commands of both clients, in the log's order.
+/// Whether the book answers all commands of both clients, in the order of the log.
 pub(super) fn replays(book: &mut Book, log: &Log) -> bool {
     for row in log.rows() {
         if !serves(book, row) {

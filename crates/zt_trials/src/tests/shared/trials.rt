@@ -1,4 +1,5 @@
 //! Trials over a shared book of two clients each.
+
 ghost use Rattle.std.specs.Prelude.{◌≡◌};
 ghost use Rattle.zt_shared.specs.OpenedBook.{IsNamed};
 
@@ -17,7 +18,7 @@ use zt_rows::Refusal;
 use zt_shared::account::Naming;
 use zt_shared::{Beginning, Blanks, OpenedBook, Shared};
 
-/// A channel of which one client closes an end while the other writes to it, and asks who closed its peer.
+/// One client closes an end of a channel. The other writes to it, and asks who closed its peer.
 const CLOSED_END: [Told; 4] = [
     (1, "1025 channel_create", "1 ok 7 11\n"),
     (2, "1025 handle_close 11", "2 ok\n"),
@@ -32,7 +33,7 @@ const LOADED: [Told; 1] = [(
     "rows 2 4\ncounters 1027 0\nobject 1024 job 0x00000010 0 live 0\nobject 1025 process 0x00000000 1024 live 2\nentry 1025 3 1024 0x0003d203\n",
 )];
 
-/// What is tried over a shared book.
+/// A trial over a shared book.
 #[derive(Clone, Copy)]
 enum SharedTrial {
     ClosedEnd,
@@ -43,7 +44,7 @@ enum SharedTrial {
     Pin,
 }
 
-/// What is asked and told, where both is known beforehand.
+/// The lines with their answers, if a trial has some.
 fn told_in(trial: SharedTrial) -> &'static [Told] {
     match trial {
         SharedTrial::ClosedEnd | SharedTrial::Saved => CLOSED_END.as_slice(),
@@ -95,7 +96,7 @@ fn try_over<
     }
 }
 
-/// Whether the log has what was to be told.
+/// Whether the log has what the trial wants.
 fn is_told(alloc: Global, log: &Log, twin: &mut Book, trial: SharedTrial) -> bool {
     match trial {
         SharedTrial::ClosedEnd | SharedTrial::Loaded | SharedTrial::Saved => {
@@ -106,7 +107,7 @@ fn is_told(alloc: Global, log: &Log, twin: &mut Book, trial: SharedTrial) -> boo
     }
 }
 
-/// Whether the log that closing gives has what was to be told, and is the twin's.
+/// Whether the log that closing gives has what the trial wants, and is the twin's.
 fn closes_to_a_log<A: Naming + Beginning, B: Naming, C: Naming, D: Naming>(
     alloc: Global,
     opened: OpenedBook<A, B, C, D>,
@@ -124,7 +125,7 @@ fn closes_to_a_log<A: Naming + Beginning, B: Naming, C: Naming, D: Naming>(
     }
 }
 
-/// Whether the book that closing gives has such a log, and is saved and loaded again.
+/// Whether the book that closing gives has such a log, and can be saved and loaded again.
 fn closes_to_a_book<A: Naming + Beginning, B: Naming, C: Naming, D: Naming>(
     alloc: Global,
     opened: OpenedBook<A, B, C, D>,
@@ -144,7 +145,7 @@ fn closes_to_a_book<A: Naming + Beginning, B: Naming, C: Naming, D: Naming>(
     }
 }
 
-/// Whether closing gives what was to be told.
+/// Whether closing gives what the trial wants.
 fn closes<A: Naming + Beginning, B: Naming, C: Naming, D: Naming>(
     alloc: Global,
     opened: OpenedBook<A, B, C, D>,
@@ -200,7 +201,7 @@ fn holds_over<
     }
 }
 
-/// Whether it holds over a new shared book of two clients.
+/// Whether the trial holds over a new shared book of two clients.
 fn holds<R: Threads + Wait + Sync>(rt: &R, alloc: Global, trial: SharedTrial) -> bool {
     match Blanks::new(alloc, 2) {
         Ok(blanks) => holds_over::<Brand, Brand, Brand, Brand, R>(rt, alloc, blanks, trial),

@@ -1,5 +1,6 @@
-//! Two clients of a shared book, beside a book of one thread. Both books are asked the same, and where memory is refused to
-//! one of them it is asked again.
+//! Two clients of a shared book, beside a book of one thread. Both books are asked the same. If an allocation fails in one,
+//! it is asked again.
+
 ghost use Rattle.std.specs.Prelude.{◌≡◌, ◌≤◌, [], map, IfSome, IsPermutation, vec_capacity};
 ghost use Rattle.zt_shared.specs.Sharing.{numbers};
 
@@ -20,7 +21,7 @@ pub(super) struct Twins<A: Naming + Beginning, B: Naming, C: Naming, D: Naming> 
     pub(super) twin: Book,
 }
 
-/// Why a client's line is refused by the shared book, if it is.
+/// Why the shared book refuses a client's line, if it does.
 pub(super) fn refusal<A: Naming + Beginning, B: Naming, C: Naming, D: Naming, R: Wait>(
     rt: &R,
     alloc: Global,
@@ -34,7 +35,7 @@ pub(super) fn refusal<A: Naming + Beginning, B: Naming, C: Naming, D: Naming, R:
     }
 }
 
-/// As `refusal`, asked again where memory was refused.
+/// Why the shared book refuses a client's line, if it does. If an allocation fails, it is asked again.
 fn settled<A: Naming + Beginning, B: Naming, C: Naming, D: Naming, R: Wait>(
     rt: &R,
     alloc: Global,
@@ -48,7 +49,7 @@ fn settled<A: Naming + Beginning, B: Naming, C: Naming, D: Naming, R: Wait>(
     }
 }
 
-/// Why a client's line is refused by the other book, if it is.
+/// Why the other book refuses a client's line, if it does.
 pub(super) fn twin_refusal(
     alloc: Global,
     twin: &mut Book,
@@ -64,7 +65,7 @@ pub(super) fn twin_refusal(
     }
 }
 
-/// As `twin_refusal`, asked again where memory was refused.
+/// Why the other book refuses a client's line, if it does. If an allocation fails, it is asked again.
 pub(super) fn twin_settled(
     alloc: Global,
     twin: &mut Book,
@@ -78,7 +79,7 @@ pub(super) fn twin_settled(
 }
 
 impl<A: Naming + Beginning, B: Naming, C: Naming, D: Naming> Twins<A, B, C, D> {
-    /// As `settled`, of the client of this number.
+    /// Why the shared book refuses a line of the client of this number, as `settled` says.
     fn settled_of<R: Wait>(
         &mut self,
         rt: &R,
@@ -94,7 +95,7 @@ impl<A: Naming + Beginning, B: Naming, C: Naming, D: Naming> Twins<A, B, C, D> {
         }
     }
 
-    /// Whether both books answer a client's line, or refuse it for one cause.
+    /// Whether both books answer a client's line, or refuse it for the same cause.
     pub(super) fn asks_both<R: Wait>(
         &mut self,
         rt: &R,
@@ -107,14 +108,14 @@ impl<A: Naming + Beginning, B: Naming, C: Naming, D: Naming> Twins<A, B, C, D> {
         ours == twin_settled(alloc, &mut self.twin, client, line)
     }
 
-    /// Whether each pass has just its client's rows of the other book's log.
+    /// Whether each pass has exactly its client's rows of the other book's log.
     pub(super) fn have_same_rows(&self, alloc: Global) -> bool {
         has_rows_of(alloc, &self.one, self.twin.log())
             && has_rows_of(alloc, &self.two, self.twin.log())
     }
 }
 
-/// Room for the passes of two clients.
+/// A list with room for the passes of two clients.
 fn room<A: Naming + Beginning, B: Naming, C: Naming, D: Naming>(
     alloc: Global,
 ) -> Option<Vec<Pass<A, B, C, D>>>
@@ -127,7 +128,7 @@ fn room<A: Naming + Beginning, B: Naming, C: Naming, D: Naming>(
     }
 }
 
-/// The passes of two clients, the first one first.
+/// The passes of two clients, in order.
 fn in_a_row<A: Naming + Beginning, B: Naming, C: Naming, D: Naming>(
     alloc: Global,
     one: Pass<A, B, C, D>,

@@ -1,4 +1,4 @@
-//! Commands of which each is answered whole or not at all, with each request for memory refused in turn.
+//! Commands that are answered whole or not at all, with each allocation failing in turn.
 
 use super::same_logs::{Told, looks_same, tells_last};
 use super::twins::{Twins, refusal, twin_settled};
@@ -13,10 +13,10 @@ use zt_shared::{Beginning, Shared};
 /// A client with its line.
 type ClientLine = (u8, &'static str);
 
-/// A channel, of which client 2 closes an end.
+/// Makes a channel, of which client 2 later closes an end.
 const CHANNEL: [ClientLine; 1] = [(1, "1025 channel_create")];
 
-/// A channel and an event of client 2, and the clients stand apart.
+/// Client 2 makes a channel and an event, and the clients then stand at different moments.
 const APART: [ClientLine; 4] = [
     (2, "1025 channel_create"),
     (2, "1025 event_create"),
@@ -24,8 +24,9 @@ const APART: [ClientLine; 4] = [
     (1, "goto 1"),
 ];
 
-/// What is looked at: where each client stands, each moment with its rows, that there is no further moment, what keeps an
-/// end of the first channel, and the heads of both branches. In the end both clients follow `main`.
+/// The lines that look at the books: where each client stands, each moment with its rows, and that there is no further
+/// moment. Then what keeps an end of the first channel, and the heads of both branches. At the end both clients follow
+/// `main`.
 const LOOKS: [ClientLine; 18] = [
     (1, "show"),
     (2, "show"),
@@ -50,7 +51,7 @@ const LOOKS: [ClientLine; 18] = [
 /// Client 2 closes an end of the channel.
 const CLOSED: Told = (2, "1025 handle_close 11", "2 ok\n");
 
-/// Client 2 sends a message that takes its event along.
+/// Client 2 sends a message with a handle to its event.
 const SENT: Told = (2, "1025 channel_write 15 6869 23", "5 ok\n");
 
 /// Client 2 pins the moment of the channel.
@@ -59,7 +60,7 @@ const PINNED: Told = (2, "pin", "pinned 1\n");
 /// Client 2 pins the moment of its event.
 const PINNED_APART: Told = (2, "pin", "pinned 3\n");
 
-// No clause tells what these give, so that who asks for them is proved without going over their bytes.
+// No clause tells what these functions return. So a proof of their callers does not go over the bytes.
 
 fn channel() -> &'static [ClientLine] {
     CHANNEL.as_slice()
@@ -104,7 +105,7 @@ fn asks_all<A: Naming + Beginning, B: Naming, C: Naming, D: Naming, R: Wait>(
     true
 }
 
-/// Whether nothing tells the books apart.
+/// Whether the books are equal in all that is looked at.
 fn is_twin<A: Naming + Beginning, B: Naming, C: Naming, D: Naming, R: Wait>(
     rt: &R,
     alloc: Global,
@@ -116,7 +117,7 @@ fn is_twin<A: Naming + Beginning, B: Naming, C: Naming, D: Naming, R: Wait>(
         && twins.have_same_rows(alloc)
 }
 
-/// Whether client 2's line is answered by the shared book.
+/// Whether the shared book answers client 2's line.
 fn is_answered<A: Naming + Beginning, B: Naming, C: Naming, D: Naming, R: Wait>(
     rt: &R,
     alloc: Global,
@@ -127,7 +128,7 @@ fn is_answered<A: Naming + Beginning, B: Naming, C: Naming, D: Naming, R: Wait>(
     refusal(rt, alloc, shared, &mut twins.two, line).is_none()
 }
 
-/// Whether the line is answered, if not at once then after a refusal that nothing shows.
+/// Whether the line is answered. If it is refused first, nothing may show that.
 fn is_answered_whole<A: Naming + Beginning, B: Naming, C: Naming, D: Naming, R: Wait>(
     rt: &R,
     alloc: Global,
@@ -139,7 +140,7 @@ fn is_answered_whole<A: Naming + Beginning, B: Naming, C: Naming, D: Naming, R: 
         || (is_twin(rt, alloc, shared, twins) && is_answered(rt, alloc, shared, twins, line))
 }
 
-/// Whether client 2's command is answered whole or not at all, and as told.
+/// Whether client 2's command is answered whole or not at all, and with this answer.
 fn is_told_whole<A: Naming + Beginning, B: Naming, C: Naming, D: Naming, R: Wait>(
     rt: &R,
     alloc: Global,
@@ -155,8 +156,8 @@ fn is_told_whole<A: Naming + Beginning, B: Naming, C: Naming, D: Naming, R: Wait
         && is_twin(rt, alloc, shared, twins)
 }
 
-/// Whether two commands of client 2 are answered whole or not at all: one that closes an end of client 1's channel, and,
-/// where the clients stand apart, one that sends a message.
+/// Whether two commands of client 2 are answered whole or not at all. The first closes an end of client 1's channel. The
+/// second sends a message while the clients stand apart.
 pub(super) fn is_ask_whole<A: Naming + Beginning, B: Naming, C: Naming, D: Naming, R: Wait>(
     rt: &R,
     alloc: Global,
@@ -169,7 +170,7 @@ pub(super) fn is_ask_whole<A: Naming + Beginning, B: Naming, C: Naming, D: Namin
         && is_told_whole(rt, alloc, shared, twins, sent())
 }
 
-/// What client 2 pins, if not at once then after a refusal that nothing shows.
+/// The copy that client 2 pins. If the pin is refused first, nothing may show that.
 fn pinned<A: Naming + Beginning, B: Naming, C: Naming, D: Naming, R: Wait>(
     rt: &R,
     alloc: Global,
@@ -182,7 +183,7 @@ fn pinned<A: Naming + Beginning, B: Naming, C: Naming, D: Naming, R: Wait>(
     }
 }
 
-/// What client 2 pins after a refusal that nothing shows.
+/// The copy that client 2 pins after a refusal that nothing may show.
 fn pinned_again<A: Naming + Beginning, B: Naming, C: Naming, D: Naming, R: Wait>(
     rt: &R,
     alloc: Global,
@@ -198,7 +199,7 @@ fn pinned_again<A: Naming + Beginning, B: Naming, C: Naming, D: Naming, R: Wait>
     }
 }
 
-/// Whether both copies are of one moment and have the same calls and rows, unless memory was refused.
+/// Whether both copies are of the same moment, with the same calls and rows. It can be no if an allocation fails.
 fn looks_same_copy(alloc: Global, first: &Frozen, second: &Frozen) -> bool {
     first.moment() == second.moment()
         && looks_same(alloc, &first.calls(), &second.calls())
@@ -209,7 +210,7 @@ fn is_same_copy(alloc: Global, first: &Frozen, second: &Frozen) -> bool {
     looks_same_copy(alloc, first, second) || looks_same_copy(alloc, first, second)
 }
 
-/// Whether the twin pins the same for client 2.
+/// Whether the twin pins the same copy for client 2.
 fn twin_pins(alloc: Global, twin: &mut Book, copy: &Frozen) -> bool {
     match twin_pinned(twin) {
         Some(pinned) => is_same_copy(alloc, copy, &pinned),
@@ -217,7 +218,7 @@ fn twin_pins(alloc: Global, twin: &mut Book, copy: &Frozen) -> bool {
     }
 }
 
-/// What the twin pins for client 2.
+/// The copy that the twin pins for client 2.
 fn twin_pinned(twin: &mut Book) -> Option<Frozen> {
     if twin.clients() != 2 {
         return None;
@@ -231,7 +232,7 @@ fn twin_pinned(twin: &mut Book) -> Option<Frozen> {
     }
 }
 
-/// Whether two pins of client 2 are answered whole or not at all: that of a channel, and one where the clients stand apart.
+/// Whether two pins of client 2 are answered whole or not at all: one of a channel, and one while the clients stand apart.
 pub(super) fn is_pin_whole<A: Naming + Beginning, B: Naming, C: Naming, D: Naming, R: Wait>(
     rt: &R,
     alloc: Global,
@@ -244,7 +245,7 @@ pub(super) fn is_pin_whole<A: Naming + Beginning, B: Naming, C: Naming, D: Namin
         && is_pinned_whole(rt, alloc, shared, twins, pinned_apart())
 }
 
-/// Whether client 2's pin is answered whole or not at all, and as told.
+/// Whether client 2's pin is answered whole or not at all, and with this answer.
 fn is_pinned_whole<A: Naming + Beginning, B: Naming, C: Naming, D: Naming, R: Wait>(
     rt: &R,
     alloc: Global,
@@ -258,7 +259,7 @@ fn is_pinned_whole<A: Naming + Beginning, B: Naming, C: Naming, D: Naming, R: Wa
         && is_twin(rt, alloc, shared, twins)
 }
 
-/// Whether both books pin the same for client 2.
+/// Whether both books pin the same copy for client 2.
 fn pins_same<A: Naming + Beginning, B: Naming, C: Naming, D: Naming, R: Wait>(
     rt: &R,
     alloc: Global,
