@@ -131,25 +131,28 @@ fn koid_in(words: &ArgMatches<'_>, name: &str) -> Option<Koid>
 
 /// The description of `look`.
 pub fn look_about<'a>() -> &'a str {
-    "Answers one question about a session text, and ends"
+    "Answers one question about a trace, and exits"
 }
 
 /// The questions, after the help.
 fn questions<'a>() -> &'a str {
-    "Questions, each about the path to a moment, or to the head of a branch, `main` where none is named:
+    "Example:
+  zxtt look examples/job-dies.trace events ended    which call ended which object
+
+Questions, each about the path to a moment or to the head of a branch, by default `main`:
   calls [FROM [TO]]     the calls of the path, with their replies, between two moments;
-                        --failed, --process P and --object K ask for some of them
+                        --failed, --process P and --object K select some of them
   changed MOMENT        the rows that one call changed, before and after it
-  events [HAPPENING]..  what was made, ended, peer_closed and leaked, by which call
-  object KOID           one object: its row, what keeps it, its queue, and when what happened
+  events [HAPPENING]..  what was made, ended, peer_closed or leaked, by which call
+  object KOID           one object: its row, what keeps it, its queue, and what happened when
   handles PROCESS       the handles of a process
   messages KOID         the messages that were queued at a channel, and what became of each
-  branches              the branches, and where each leaves which
-  summary               how many calls were answered how, and what became of each object"
+  branches              the branches, and where each leaves another
+  summary               how many calls got which status, and what became of each object"
 }
 
 fn trace_help() -> &'static str {
-    "The session text that is looked at; `-` is standard input"
+    "The session file to look at; `-` is standard input"
 }
 
 fn question_help() -> &'static str {
@@ -161,11 +164,11 @@ fn words_help() -> &'static str {
 }
 
 fn at_help() -> &'static str {
-    "Looks at the path to this moment"
+    "Asks about the path to this moment"
 }
 
 fn branch_help() -> &'static str {
-    "Looks at the path to the head of this branch"
+    "Asks about the path to the head of this branch"
 }
 
 fn names_help() -> &'static str {
@@ -173,15 +176,15 @@ fn names_help() -> &'static str {
 }
 
 fn failed_help() -> &'static str {
-    "Of the calls, those alone that failed"
+    "Lists only the calls that failed"
 }
 
 fn process_help() -> &'static str {
-    "Of the calls, those alone that this process made"
+    "Lists only the calls of this process"
 }
 
 fn object_help() -> &'static str {
-    "Of the calls, those alone that changed this object or a handle of it"
+    "Lists only the calls that changed this object or a handle of it"
 }
 
 /// The argument `TRACE`: the session text.

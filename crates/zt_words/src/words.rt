@@ -16,69 +16,73 @@ use std::{env, fs};
 
 /// The description of the program.
 fn about() -> &'static str {
-    "A time-travel debugger for traces of Zircon's kernel objects.
+    "A time-travel debugger for traces of Zircon, the kernel of Fuchsia.
 
-It executes system calls of processes on handles and kernel objects by a written
-semantics. Each line of its input is a call, which makes the next moment of the
-history, or a command, which looks at the history or moves in it; each is answered
-at once. So one can go back to the call that leaked a handle, closed a peer or
-killed a job."
+It replays system calls on handles and kernel objects. Each line of its input is a call
+or a command, and gets an answer at once. A call makes the next moment of the history. A
+command looks at the history or moves in it. So you can step back to the call that
+leaked a handle, closed a peer or killed a job."
 }
 
 /// The description of `run`.
 fn run_about<'a>() -> &'a str {
-    "Answers the lines of a file; without any words the program does this"
+    "Answers the lines of a file or of standard input; `zxtt` alone does the latter"
 }
 
 /// The description of `serve`.
 fn serve_about<'a>() -> &'a str {
-    "Answers the lines of clients that connect to a port, over one history"
+    "Answers the lines of up to four clients on a port, over one history"
 }
 
 /// The help of `--from`.
 fn from_help() -> &'static str {
-    "Begins with the calls or the whole tree of a session text"
+    "Loads a trace first: the calls or the whole tree of a session file"
 }
 
 /// The help of `--save`.
 fn save_help() -> &'static str {
-    "Writes the calls on `main` as a session text, once the input has ended"
+    "Writes the calls on `main` as a session file when the input ends"
 }
 
 /// The help of `--save-tree`.
 fn save_tree_help() -> &'static str {
-    "Writes the whole tree as a session text, all branches and where each client stands, at the end"
+    "Writes the whole tree as a session file at the end: all branches, and where each client is"
 }
 
 /// The help of `--clients`.
 fn clients_help() -> &'static str {
-    "How many connections are accepted, 1 to 4; they are the clients 1 to N, in that order"
+    "How many connections to accept, 1 to 4; they become clients 1 to N, in that order"
 }
 
 /// The help of `--explain`.
 fn explain_help() -> &'static str {
-    "Says on standard error why lines were refused: number, line, caret and what is wanted there"
+    "Explains refused lines on standard error: number, line, caret and what is wanted there"
 }
 
 /// The text after the help.
 fn examples<'a>() -> &'a str {
-    "Lines, with what they do:
-  1025 event_create               process 1025, which is there from the start, makes an event
-  1025 handle_close 7             it closes its handle 7
-  back 1                          one moment back; `goto 4` goes to moment 4
-  branch fix                      a branch of that name, from where we are
-  follow main                     back to the branch `main`, where all calls begin
-  show                            all rows of the state; `holders 1026` what keeps an object
-  leaks                           the objects that no live process can reach any more
-  when leaked 1026                the call that leaked it; also made, ended, peer_closed
-  pin                             keeps a copy, which `pinned leaks` and the like ask
+    "Examples:
+  zxtt run --from examples/job-dies.trace           load a trace, then answer lines
+  zxtt serve 7000 --clients 2                       answer two clients on port 7000
+  zxtt look examples/job-dies.trace events ended    answer one question
+
+Lines:
+  1025 event_create      process 1025, which exists from the start, makes an event
+  1025 handle_close 7    it closes its handle 7
+  back 1                 go back one moment; `goto 4` goes to moment 4
+  branch fix             make a branch named fix here, and follow it
+  follow main            go to the head of `main`, the branch that exists from the start
+  show                   print all rows of the state; `holders 1026` what keeps an object
+  leaks                  print the objects that no live process can reach
+  when leaked 1026       print the call that leaked it; also made, ended, peer_closed
+  pin                    keep a copy of the state, which `pinned leaks` and the like ask
 
 Exit statuses:
-  0  the input or the question was answered to its end, refused lines included
-  2  the words were not accepted, or help was asked for
-  3  a file could not be opened, or the port not be listened on
+  0  the input or the question was answered; refused lines do not count
+  2  the command line was not accepted, or help was printed
+  3  a file could not be opened, or the port could not be listened on
   4  a read failed            5  a write failed
-  6  anything else was refused, as a line of a loaded trace"
+  6  something else was refused, such as a line of a loaded trace"
 }
 
 /// The words with which the program was started.

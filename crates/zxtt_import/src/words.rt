@@ -9,37 +9,40 @@ use std::env;
 
 /// The text that help prints first.
 fn about() -> &'static str {
-    "Makes a trace for zxtt of a log of calls of a real system.
+    "Makes a trace for zxtt from the log of a real system.
 
-Each line of the log is a JSON object: a call that returned, with what it answered. The
-calls are run by the written semantics of zxtt, and where it answers otherwise than the
-log says, that is told on standard error."
+Each line of the log is a JSON object: a call that returned, with its answer. The import
+replays the calls by zxtt's semantics. It lists on standard error the replies that
+differ from the log."
 }
 
 /// The help of the argument `LOG`.
 fn log_help() -> &'static str {
-    "The log; `-` is standard input"
+    "The log to read; `-` is standard input"
 }
 
 /// The help of the option `--to`.
 fn to_help() -> &'static str {
-    "Writes the trace to a file; `-`, as without it, is standard output"
+    "Writes the trace to a file; by default, or with `-`, to standard output"
 }
 
 /// The help of the option `--strict`.
 fn strict_help() -> &'static str {
-    "Ends where something is left out, or at the first reply that differs; writes nothing"
+    "Stops where something is left out, or at the first reply that differs; writes nothing then"
 }
 
 /// The text that help prints last.
 fn statuses<'a>() -> &'a str {
-    "Exit statuses:
-  0  the trace is written, where replies differ too
-  2  the words were not accepted, or help was asked for
+    "Example:
+  zxtt-import examples/import/frame-is-lost.log --to frame.trace
+
+Exit statuses:
+  0  the trace is written, even if replies differ
+  2  the command line was not accepted, or help was printed
   3  a file could not be opened
   4  the log could not be read        5  the trace could not be written
-  6  a line of the log is at fault, or memory was refused; with --strict, something is
-     left out
+  6  a line of the log is at fault, or memory ran out; with --strict, something is left
+     out
   7  with --strict, a reply differs, or a skipped call names a handle of the log"
 }
 

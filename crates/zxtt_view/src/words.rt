@@ -9,42 +9,45 @@ use std::env;
 
 /// The description of the program.
 fn about() -> &'static str {
-    "Shows the history of Zircon's kernel objects in a browser.
+    "Shows a history of Zircon's kernel objects in a browser.
 
-It listens on a port of 127.0.0.1, says there where the page is, and serves it until
-it is ended from the page. The page steps through the calls of a trace, back and
-forth, makes other futures on branches of their own, and shows what each call
-changed. `zxtt` answers the same lines without a browser."
+It listens on a port of 127.0.0.1, prints the address of its page, and serves the page
+until you end it there. On the page you step through the calls of a trace, back and
+forth, try other futures on branches, and see what each call changed. `zxtt` answers
+the same lines without a browser."
 }
 
 /// The help of `--from`.
 fn from_help() -> &'static str {
-    "Begins with the calls or the whole tree of a session text"
+    "Loads a trace first: the calls or the whole tree of a session file"
 }
 
 /// The help of `TRACE`.
 fn trace_help() -> &'static str {
-    "As --from TRACE"
+    "The same as --from TRACE"
 }
 
 /// The help of `--port`.
 fn port_help() -> &'static str {
-    "The port of 127.0.0.1 that is listened on; a free one where none is given"
+    "The port of 127.0.0.1 to listen on; by default a free one"
 }
 
 /// The help of `--save-tree`.
 fn save_tree_help() -> &'static str {
-    "Writes the whole tree as a session text, once the page has ended the program; an interrupt saves nothing"
+    "Writes the whole tree as a session file when you end the program from the page; an interrupt saves nothing"
 }
 
 /// The text after the help.
 fn statuses() -> &'static str {
-    "Exit statuses:
-  0  it was ended from the page
-  2  the words were not accepted, or help was asked for
+    "Example:
+  zxtt-view --from examples/job-dies.trace
+
+Exit statuses:
+  0  you ended it from the page
+  2  the command line was not accepted, or help was printed
   3  a file could not be opened, or the port could not be listened on
   4  a read failed            5  a write failed
-  6  anything else was refused, as a line of a loaded trace"
+  6  something else was refused, such as a line of a loaded trace"
 }
 
 /// The words with which the program was started.
