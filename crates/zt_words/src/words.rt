@@ -78,7 +78,7 @@ Lines:
   pin                    keep a copy of the state, which `pinned leaks` and the like ask
 
 Exit statuses:
-  0  the input or the question was answered; refused lines do not count
+  0  the input or the question was answered; refused lines do not change that
   2  the command line was not accepted, or help was printed
   3  a file could not be opened, or the port could not be listened on
   4  a read failed            5  a write failed
