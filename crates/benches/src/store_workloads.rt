@@ -84,7 +84,7 @@ fn record_of_two(step: &mut Step, koid: u64, number: u64) -> Result<Record, Allo
 {
     put_counters(step, number)?;
     put_event(step, koid, number)?;
-    Ok(step.take_record())
+    Ok(step.commit())
 }
 
 fn put_counters(step: &mut Step, number: u64) -> Result<(), AllocError> {

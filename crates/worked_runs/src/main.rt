@@ -296,17 +296,20 @@ fn how_it_went<'a>(case: &'a Case, came: &'a Came) -> Verdict<'a> {
     if let Some(difference) = first_difference(told, came.session.as_slice()) {
         return Verdict::Session(difference);
     }
-    if let Some(difference) = saved_otherwise(&case.saved, came.ran.saved.as_slice()) {
+    if let Some(difference) = difference_from_saved(&case.saved, came.ran.saved.as_slice()) {
         return Verdict::Saved(difference);
     }
-    match saved_otherwise(&case.tree, came.ran.tree.as_slice()) {
+    match difference_from_saved(&case.tree, came.ran.tree.as_slice()) {
         None => Verdict::AsTold,
         Some(difference) => Verdict::Tree(difference),
     }
 }
 
 /// Where a saved text differs from that of the case, if the case has one.
-fn saved_otherwise<'a>(told: &'a Option<Vec<u8>>, saved: &'a [u8]) -> Option<TextDifference<'a>> {
+fn difference_from_saved<'a>(
+    told: &'a Option<Vec<u8>>,
+    saved: &'a [u8],
+) -> Option<TextDifference<'a>> {
     match told {
         Some(told) => first_difference(told.as_slice(), saved),
         None => None,

@@ -23,7 +23,7 @@ use Rattle.zt_book.specs.declared.client.Cursor.{Cursor}
 use Rattle.zt_book.specs.declared.client.Cursor.TheVariants.{Follows, At}
 use Rattle.zt_book.specs.Session.{Session, first_client, branch_found}
 use Rattle.zt_book.specs.SavedSessions.{saved_call, saved_branch, saved_place, saved_of_session, ◌>>=◌, in_turn, place_on, with_cursor, loaded_tree, client_at, clients_at, seated, loaded_saved}
-use Rattle.zt_book.specs.ProofsOnly.Clients.{IsCursor}
+use Rattle.zt_book.specs.ProofsOnly.SessionState.{IsCursor}
 use Rattle.zt_book.proofs.ListLaws.{all-append}
 use Rattle.zt_book.proofs.BegunLaws.{IsLoadedOf, loaded-apart}
 use Rattle.zt_book.proofs.KeptLaws.{apart, same_Ok, turn-apart, HasBranches, tree-kept}

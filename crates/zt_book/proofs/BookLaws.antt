@@ -6,7 +6,7 @@ use Rattle.zt_book.specs.declared.client.Client.{Client}
 use Rattle.zt_book.specs.declared.log.Recorded.{Recorded}
 use Rattle.zt_book.specs.Session.{Session, client_of, serve}
 use Rattle.zt_book.specs.Log.{SessionLog, IsCounted, IsBegun, IsWholeLog, Replays}
-use Rattle.zt_book.specs.ProofsOnly.Clients.{ClientsView, Stand, IsOneMore, session_before, before_of, CanTakeBack, IsBook}
+use Rattle.zt_book.specs.ProofsOnly.SessionState.{SessionStateView, Stand, IsOneMore, session_before, before_of, CanTakeBack, IsBook}
 use Rattle.zt_book.proofs.ListLaws.{without_last-push}
 use Rattle.zt_book.proofs.ServedLaws.{one-more-length}
 use Rattle.zt_book.proofs.BegunLaws.{begun-few, begun-unanswered}
@@ -14,7 +14,7 @@ use Rattle.zt_book.proofs.CountLaws.{counted-begun, counted-row}
 use Rattle.zt_book.proofs.ReplayLaws.{replays-row}
 
 -- a book to whose clients nothing was answered yet
-pub book-begun : (d : ClientsView) (log : List Recorded) → IsBegun d.session → log ≡ [] → IsBook d log None
+pub book-begun : (d : SessionStateView) (log : List Recorded) → IsBegun d.session → log ≡ [] → IsBook d log None
 book-begun d log begun empty =
     let kept : IsBook d [] None = record {
       counted = counted-begun d.session (begun-few d.session begun) (begun-unanswered d.session begun);
@@ -23,7 +23,7 @@ book-begun d log begun empty =
     } in
     subst (λ l. IsBook d l None) (sym empty) kept
 
-module _ (d e : ClientsView) (log more : List Recorded) (row : Recorded) (client : ℕ) (was : Client) (written : more ≡ log ++ row ∷ [])
+module _ (d e : SessionStateView) (log more : List Recorded) (row : Recorded) (client : ℕ) (was : Client) (written : more ≡ log ++ row ∷ [])
     (back : session_before e client was ≡ d.session) where
   shorter : without_last more ≡ log
   shorter = ap without_last written ∙ without_last-push log row
@@ -60,7 +60,7 @@ module _ (d e : ClientsView) (log more : List Recorded) (row : Recorded) (client
       }
 
 -- with the same session and log it stays a book, whatever was answered last
-pub book-same : (d e : ClientsView) (log : List Recorded) (last : Option LastServed) → e.session ≡ d.session → IsBook d log last → IsBook e log None
+pub book-same : (d e : SessionStateView) (log : List Recorded) (last : Option LastServed) → e.session ≡ d.session → IsBook d log last → IsBook e log None
 book-same d e log last same kept = record {
   counted = subst (λ M. IsCounted M log) (sym same) kept.counted;
   whole = subst (λ M. IsWholeLog M log) (sym same) kept.whole;
@@ -68,7 +68,7 @@ book-same d e log last same kept = record {
 }
 
 -- the last command is taken back
-pub book-back : (d e : ClientsView) (log less : List Recorded) (was : Option LastServed) (last : LastServed) → was ≡ Some last
+pub book-back : (d e : SessionStateView) (log less : List Recorded) (was : Option LastServed) (last : LastServed) → was ≡ Some last
     → e.session ≡ session_before d last.client last.was → less ≡ without_last log → IsBook d log was → IsBook e less None
 book-back d e log less was last is same shorter kept =
     let known : IsBook d log (Some last) = subst (IsBook d log) is kept in

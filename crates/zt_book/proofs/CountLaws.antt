@@ -10,7 +10,7 @@ use Rattle.zt_book.specs.declared.log.Recorded.{Recorded}
 use Rattle.zt_book.specs.Session.{Session, first_client, client_of, most_rows}
 use Rattle.zt_book.specs.Log.{rows_of, IsOf, IsCounted}
 use Rattle.zt_book.proofs.ListLaws.{all-append}
-use Rattle.zt_book.specs.ProofsOnly.Clients.{IsOneMore}
+use Rattle.zt_book.specs.ProofsOnly.SessionState.{IsOneMore}
 use Rattle.zt_book.proofs.ServedLaws.{one-more-length}
 
 -- ---- no row yet

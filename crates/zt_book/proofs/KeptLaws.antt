@@ -12,7 +12,7 @@ use Rattle.zt_rows.specs.declared.refusals.Refusal.TheVariants as refusal
 use Rattle.zt_rows.specs.declared.saved.Saved.{Saved}
 use Rattle.zt_rows.specs.declared.saved.SavedCall.{SavedCall}
 use Rattle.zt_rows.specs.declared.saved.SavedBranch.{SavedBranch}
-use Rattle.zt_rows.specs.Reads.{runs}
+use Rattle.zt_rows.specs.Reads.{has_live_process}
 use Rattle.zt_history.specs.HistoryRefusals.{check, ◌>>=◌ as ◌then◌, call_under, most_moments}
 use Rattle.zt_history.specs.Tree.{Made, Branch, Tree, main_name, opening_tree, last_moment, state_at, branch_named, made_by, grown_at, head_moved, headed, branched}
 use Rattle.zt_history.specs.TreeInvariant.{AreBranches}
@@ -56,7 +56,7 @@ pub moment-apart : (t u : Tree) (s : SavedCall) → with_moment t s ≡ Ok u
     → (last_moment t < most_moments) × (s.parent ≤ last_moment t) × (u ≡ grown_at t s.parent s.process s.call)
 moment-apart t u s h =
     let e = apart (call_under t s.parent s.process s.call) (λ done. Ok done.1) u h in
-    let f = under-apart (nat_lt (last_moment t) most_moments) (nat_le s.parent (last_moment t)) (runs (state_at t.made s.parent) s.process) _ _ e.0 e.1 in
+    let f = under-apart (nat_lt (last_moment t) most_moments) (nat_le s.parent (last_moment t)) (has_live_process (state_at t.made s.parent) s.process) _ _ e.0 e.1 in
     (ltb-true (last_moment t) most_moments f.0, leb-true s.parent (last_moment t) f.1, sym (same_Ok e.0.1 u e.2) ∙ f.2)
 
 -- the moments that are loaded are those that are written down, behind those that there were

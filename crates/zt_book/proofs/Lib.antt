@@ -1,7 +1,7 @@
 pub mod ListLaws
 pub mod ServedLaws
 pub mod CountLaws
-pub mod ClientsLaws
+pub mod SessionStateLaws
 pub mod LoadLaws
 pub mod TurnLaws
 pub mod SeatLaws

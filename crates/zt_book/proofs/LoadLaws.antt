@@ -6,7 +6,7 @@ use Rattle.zt_rows.specs.declared.calls.Answer.{Answer}
 use Rattle.zt_rows.specs.declared.calls.Call.{Call}
 use Rattle.zt_rows.specs.declared.refusals.Refusal.{Refusal}
 use Rattle.zt_rows.specs.declared.refusals.Refusal.TheVariants as refusal
-use Rattle.zt_rows.specs.Reads.{runs}
+use Rattle.zt_rows.specs.Reads.{has_live_process}
 use Rattle.zt_history.specs.HistoryRefusals.{check, ◌>>=◌, call_on, most_moments, IsHistoryRefusal}
 use Rattle.zt_history.specs.Tree.{Tree, Branch, last_moment, state_at, head_at, headed, called, made_by}
 use Rattle.zt_rows.specs.declared.calls.Answer.TheVariants as answer
@@ -27,8 +27,8 @@ pub branches-called : (t : Tree) (b process : ℕ) (call : Call) (y : Answer × 
 branches-called t b process call y =
     let P : Answer × Tree → Type 0 = λ y. length y.1.branches ≡ length t.branches in
     let made : Answer × Tree = (answer.Called (suc (last_moment t)) (made_by t.made (head_at t.branches b) process call).reply, called t b process call) in
-    behind P (check (nat_lt (last_moment t) most_moments) refusal.Full) (λ _. check (runs (state_at t.made (head_at t.branches b)) process) refusal.NoProcess >>= λ _. Ok made) y
-    (λ _. last P (check (runs (state_at t.made (head_at t.branches b)) process) refusal.NoProcess) (λ _. made) y (λ _. headed-length t.branches b (suc (length t.made))))
+    behind P (check (nat_lt (last_moment t) most_moments) refusal.Full) (λ _. check (has_live_process (state_at t.made (head_at t.branches b)) process) refusal.NoProcess >>= λ _. Ok made) y
+    (λ _. last P (check (has_live_process (state_at t.made (head_at t.branches b)) process) refusal.NoProcess) (λ _. made) y (λ _. headed-length t.branches b (suc (length t.made))))
 
 -- and no fewer moments
 pub moments-called : (t : Tree) (b process : ℕ) (call : Call) (y : Answer × Tree) → call_on t b process call ≡ Ok y → length t.made ≤ length y.1.made
@@ -36,8 +36,8 @@ moments-called t b process call y =
     let P : Answer × Tree → Type 0 = λ y. length t.made ≤ length y.1.made in
     let made : Answer × Tree = (answer.Called (suc (last_moment t)) (made_by t.made (head_at t.branches b) process call).reply, called t b process call) in
     let more : P made = omega (arith, length-append t.made (made_by t.made (head_at t.branches b) process call ∷ [])) in
-    behind P (check (nat_lt (last_moment t) most_moments) refusal.Full) (λ _. check (runs (state_at t.made (head_at t.branches b)) process) refusal.NoProcess >>= λ _. Ok made) y
-    (λ _. last P (check (runs (state_at t.made (head_at t.branches b)) process) refusal.NoProcess) (λ _. made) y (λ _. more))
+    behind P (check (nat_lt (last_moment t) most_moments) refusal.Full) (λ _. check (has_live_process (state_at t.made (head_at t.branches b)) process) refusal.NoProcess >>= λ _. Ok made) y
+    (λ _. last P (check (has_live_process (state_at t.made (head_at t.branches b)) process) refusal.NoProcess) (λ _. made) y (λ _. more))
 
 -- the others are loaded behind it
 pub loaded-more : (i : ℕ) (t u : Tree) (process : ℕ) (call : Call) (said : Answer) (rest : List (ℕ × Call)) → call_on t 0 process call ≡ Ok (said, u)

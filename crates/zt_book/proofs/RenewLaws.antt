@@ -9,7 +9,7 @@ use Rattle.zt_book.specs.declared.log.Recorded.{Recorded}
 use Rattle.zt_book.specs.Session.{Session}
 use Rattle.zt_book.specs.SavedSessions.{client_at, loaded_saved, saved_of_session, unanswered}
 use Rattle.zt_book.specs.Log.{IsBegun, IsWholeLog}
-use Rattle.zt_book.specs.ProofsOnly.Clients.{ClientsView, IsClient, Stand, AreClients, IsBook}
+use Rattle.zt_book.specs.ProofsOnly.SessionState.{SessionStateView, IsClient, Stand, AreClients, IsBook}
 use Rattle.zt_book.proofs.BookLaws.{book-begun}
 use Rattle.zt_book.proofs.WrittenLaws.{written_law}
 
@@ -62,6 +62,6 @@ renewed-begun M N log whole is =
     } in
     subst IsBegun (sym is) kept
 
-pub book-renewed : (d e : ClientsView) (log less : List Recorded) (last : Option LastServed) → e.session ≡ unanswered d.session → less ≡ []
+pub book-renewed : (d e : SessionStateView) (log less : List Recorded) (last : Option LastServed) → e.session ≡ unanswered d.session → less ≡ []
     → IsBook d log last → IsBook e less None
 book-renewed d e log less last is empty kept = book-begun e less (renewed-begun d.session e.session log kept.whole is) empty

@@ -6,7 +6,7 @@ use Rattle.std.proofs.lemmas.List.{length-map, length-replicate, take_all}
 use Rattle.zt_rows.specs.CallsInARow.{as_moment, moments_from, in_a_row}
 use Rattle.zt_rows.specs.declared.calls.Call.{Call}
 use Rattle.zt_rows.specs.declared.refusals.Refusal.{Refusal}
-use Rattle.zt_rows.specs.Reads.{runs}
+use Rattle.zt_rows.specs.Reads.{has_live_process}
 use Rattle.zt_history.specs.HistoryRefusals.{most_moments}
 use Rattle.zt_history.specs.Tree.{Made, Branch, Tree, main_name, opening_tree, last_moment, state_at, made_by, grown, headed}
 use Rattle.zt_book.specs.declared.client.Client.{Client}
@@ -39,13 +39,13 @@ Agree made number parent head calls =
 -- one call more in front
 module _ (made : List Made) (process : ℕ) (call : Call) (calls : List (ℕ × Call))
     (rest : Agree (grown made (length made) process call) (suc (length made)) (length made + 1) (suc (length made)) calls) where
-  running-first : nat_lt (length made) most_moments ≡ true → (running : Bool) → runs (state_at made (length made)) process ≡ running
+  running-first : nat_lt (length made) most_moments ≡ true → (running : Bool) → has_live_process (state_at made (length made)) process ≡ running
       → Agree made (length made) (length made) (length made) ((process, call) ∷ calls)
-  running-first room true runs = rw (room, as_moment-small (length made) (omega (arith, ltb-true (length made) most_moments room)), le-leb (length made) (length made) (omega arith), runs) rest
-  running-first room false runs = rw (room, as_moment-small (length made) (omega (arith, ltb-true (length made) most_moments room)), le-leb (length made) (length made) (omega arith), runs) refl
+  running-first room true has_live_process = rw (room, as_moment-small (length made) (omega (arith, ltb-true (length made) most_moments room)), le-leb (length made) (length made) (omega arith), has_live_process) rest
+  running-first room false has_live_process = rw (room, as_moment-small (length made) (omega (arith, ltb-true (length made) most_moments room)), le-leb (length made) (length made) (omega arith), has_live_process) refl
 
   first : (room : Bool) → nat_lt (length made) most_moments ≡ room → Agree made (length made) (length made) (length made) ((process, call) ∷ calls)
-  first true room = running-first room (runs (state_at made (length made)) process) refl
+  first true room = running-first room (has_live_process (state_at made (length made)) process) refl
   first false full = rw full refl
 
 pub row-loaded : (calls : List (ℕ × Call)) (made : List Made) → Agree made (length made) (length made) (length made) calls

@@ -15,8 +15,8 @@ use Rattle.zt_book.specs.declared.client.Client.{Client}
 use Rattle.zt_book.specs.declared.client.Cursor.{Cursor}
 use Rattle.zt_book.specs.Session.{Session, first_client}
 use Rattle.zt_book.specs.SavedSessions.{◌>>=◌, client_at, clients_at, loaded_saved, loaded_tree, seated}
-use Rattle.zt_book.specs.ProofsOnly.Clients.{ClientsView, IsClient, IsCursor}
-use Rattle.zt_book.proofs.ClientsLaws.{first-stands}
+use Rattle.zt_book.specs.ProofsOnly.SessionState.{SessionStateView, IsClient, IsCursor}
+use Rattle.zt_book.proofs.SessionStateLaws.{first-stands}
 
 -- behind a list, as many of another as one likes
 padded-at : {A : Type 0} (xs : List A) (n i : ℕ) (d : A) → i < n → get_or (xs ++ replicate n d) i d ≡ get_or xs i d
@@ -70,7 +70,7 @@ loaded_of_parts clients moments branches cursors t M few tree seats =
     (ap (λ r. r >>= λ u. seated clients (length moments + length branches) u cursors) tree ∙ seats)
 
 -- the same of what is made of clients that are seated
-pub loaded_if_seated : {E : Type 0} (clients number : ℕ) (moments : List SavedCall) (branches : List SavedBranch) (cursors : List SavedCursor) (t : Tree) (r : Result ClientsView E) → clients ≤ 4
+pub loaded_if_seated : {E : Type 0} (clients number : ℕ) (moments : List SavedCall) (branches : List SavedBranch) (cursors : List SavedCursor) (t : Tree) (r : Result SessionStateView E) → clients ≤ 4
     → number ≡ length moments + length branches
     → loaded_tree (record { moments = moments; branches = branches; cursors = [] }) ≡ Ok t
     → IfOk r (λ d. seated clients number t cursors ≡ Ok d.session)

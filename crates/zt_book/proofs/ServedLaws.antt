@@ -18,7 +18,7 @@ use Rattle.zt_queries.specs.HappeningTimes.{when_on}
 use Rattle.zt_book.specs.declared.client.Client.{Client}
 use Rattle.zt_book.specs.declared.client.Cursor.TheVariants.{Follows, At}
 use Rattle.zt_book.specs.Session.{Session, first_client, most_rows, is_name, client_of, with_client, standing, position_of, state_of, followed, ancestor, branch_found, event_at, counted, asked, serve, call_by, goto_by, back_by, branch_by, follow_by, show_to, holders_to, leaks_to, when_to, pin_to, IsCommandRefusal}
-use Rattle.zt_book.specs.ProofsOnly.Clients.{ClientsView, IsOneMore, session_before}
+use Rattle.zt_book.specs.ProofsOnly.SessionState.{SessionStateView, IsOneMore, session_before}
 use Rattle.zt_book.proofs.ListLaws.{set-again}
 
 -- ---- checks in a row
@@ -182,7 +182,7 @@ serve-refused M client request given room h =
 
 -- ---- the clients after a command was served
 
-module _ (d e f : ClientsView) (client : ℕ) (request : Command) (said : Answer) (one : 1 ≤ client) (known : client ≤ length d.session.clients)
+module _ (d e f : SessionStateView) (client : ℕ) (request : Command) (said : Answer) (one : 1 ≤ client) (known : client ≤ length d.session.clients)
     (done : asked d.session client request ≡ Ok (said, e.session)) where
   stood : IsMoved d.session.clients e.session.clients client
   stood = moved d.session client request (said, e.session) done

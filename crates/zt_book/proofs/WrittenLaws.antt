@@ -20,7 +20,7 @@ use Rattle.zt_rows.specs.declared.refusals.Refusal.{Refusal}
 use Rattle.zt_rows.specs.declared.refusals.Refusal.TheVariants as refusal
 use Rattle.zt_rows.specs.declared.saved.Saved.{Saved}
 use Rattle.zt_rows.specs.declared.saved.SavedCall.{SavedCall}
-use Rattle.zt_rows.specs.Reads.{runs}
+use Rattle.zt_rows.specs.Reads.{has_live_process}
 use Rattle.zt_history.specs.HistoryRefusals.{check, ◌>>=◌ as ◌then◌, call_on, branch_on, most_moments}
 use Rattle.zt_history.specs.Tree.{Made, Branch, Tree, main_name, opening_tree, last_moment, path, state_at, head_at, headed, branch_named, made_by, called, branched}
 use Rattle.zt_history.specs.TreeInvariant.{Falls, names_of}
@@ -36,11 +36,11 @@ use Rattle.zt_book.specs.declared.log.Recorded.{Recorded}
 use Rattle.zt_book.specs.Session.{Session, first_client, is_name, client_of, with_client, standing, moment_of, position_of, state_of, followed, ancestor, branch_found, event_at, most_rows, counted, asked, serve, call_by, goto_by, back_by, branch_by, follow_by, show_to, holders_to, leaks_to, when_to, pin_to}
 use Rattle.zt_book.specs.SavedSessions.{saved_call, saved_branch, saved_of_session, ◌>>=◌, at_item, in_turn, with_moment, with_branch, with_branches, with_cursor, loaded_tree, client_at, clients_at, seated, loaded_saved, unanswered}
 use Rattle.zt_book.specs.Log.{Replays, IsBegun, IsWholeLog}
-use Rattle.zt_book.specs.ProofsOnly.Clients.{IsCursor}
+use Rattle.zt_book.specs.ProofsOnly.SessionState.{IsCursor}
 use Rattle.zt_book.proofs.AgainLaws.{cursors-again, cursors-stand, clients-stand}
 use Rattle.zt_book.proofs.BegunLaws.{loaded-apart, begun-few}
 use Rattle.zt_book.proofs.KeptLaws.{apart, same_Ok, turn-apart, moment-apart, HasBranches, has-branched, bare, tree-kept}
-use Rattle.zt_book.proofs.ClientsLaws.{ancestor-within}
+use Rattle.zt_book.proofs.SessionStateLaws.{ancestor-within}
 use Rattle.zt_book.proofs.ServedLaws.{last, moved, moved-length}
 use Rattle.zt_book.proofs.LoadLaws.{branches-called, moments-called}
 
@@ -95,7 +95,7 @@ named-headed (b ∷ bs) (suc i) m all = (all.0, named-headed bs i m all.1)
 
 writable-called : (t : Tree) (b process : ℕ) (call : Call) (y : Answer × Tree) → IsWritable t → call_on t b process call ≡ Ok y → IsWritable y.1
 writable-called t b process call y is h =
-    let e = called-parts (nat_lt (last_moment t) most_moments) (runs (state_at t.made (head_at t.branches b)) process) _ _ y h in
+    let e = called-parts (nat_lt (last_moment t) most_moments) (has_live_process (state_at t.made (head_at t.branches b)) process) _ _ y h in
     subst IsWritable (sym e.2) (record { falls = falls; moments = moments e.0 e.1; has = has })
   where
     head : ℕ
@@ -110,7 +110,7 @@ writable-called t b process call y is h =
     falls : Falls (t.made ++ one ∷ [])
     falls = falls-push t.made one is.falls there
 
-    moments : nat_lt (last_moment t) most_moments ≡ true → runs (state_at t.made head) process ≡ true
+    moments : nat_lt (last_moment t) most_moments ≡ true → has_live_process (state_at t.made head) process ≡ true
         → in_turn with_moment 0 opening_tree (map saved_call (t.made ++ one ∷ [])) ≡ Ok (bare (t.made ++ one ∷ []))
     moments room running =
         ap (in_turn with_moment 0 opening_tree) (map-append saved_call t.made (one ∷ []))

@@ -1,5 +1,5 @@
 -- Used by proofs only: no public clause depends on them.
 pub mod Log
-pub mod Clients
+pub mod SessionState
 pub mod SavedSessions
 pub mod CallsInARow

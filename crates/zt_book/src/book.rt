@@ -9,11 +9,11 @@ ghost use Rattle.zt_book.specs.SavedSessions.{loaded_saved, saved_of_session, un
 ghost use Rattle.zt_book.specs.Log.{IsBegun, IsCounted, IsWholeLog, standing_of, first_book, book_at, book_over, loaded, snapshot_at, IsUnloaded};
 
 use crate::client::Client;
-use crate::clients::Clients;
-use crate::load_progress::{LoadProgress, Untold};
+use crate::load_progress::{LoadProgress, NoProgress};
 use crate::loaded_clients::session_of;
 use crate::loaded_history::history_of;
 use crate::log::Log;
+use crate::session_state::SessionState;
 use crate::tree_look::TreeLook;
 use std::alloc::Global;
 use std::marker::Model;
@@ -30,7 +30,7 @@ struct LastServed {
 
 /// The tree of moments with the clients that stand in it, and the log of their answered commands. Clients are numbered from 1.
 pub struct Book {
-    all_clients: Clients,
+    all_clients: SessionState,
     log: Log,
     last: Option<LastServed>,
 }
@@ -48,7 +48,7 @@ impl Drop for Book {
 
 impl Model for Book {
     ghost use Rattle.zt_book.specs.Log.{BookView};
-    ghost use Rattle.zt_book.specs.ProofsOnly.Clients.{kept_of, IsBook};
+    ghost use Rattle.zt_book.specs.ProofsOnly.SessionState.{kept_of, IsBook};
 
     ghost Value = { BookView };
 
@@ -70,7 +70,7 @@ impl Book {
             return Err(Refusal::TooManyClients);
         }
         let history = History::new(alloc)?;
-        let all_clients = Clients::new(alloc, history, clients)?;
+        let all_clients = SessionState::new(alloc, history, clients)?;
         Ok(begin(alloc, all_clients))
     }
 
@@ -85,7 +85,7 @@ impl Book {
             return Err((0, Refusal::TooManyClients));
         }
         let history = history_of(alloc, calls)?;
-        match Clients::new(alloc, history, clients) {
+        match SessionState::new(alloc, history, clients) {
             Ok(all_clients) => Ok(begin(alloc, all_clients)),
             Err(_) => Err((0, Refusal::OutOfMemory)),
         }
@@ -108,7 +108,7 @@ impl Book {
             return Err((0, Refusal::TooManyClients));
         }
         match saved.copy() {
-            Ok(copied) => Book::take_saved(alloc, clients, copied, &Untold),
+            Ok(copied) => Book::take_saved(alloc, clients, copied, &NoProgress),
             Err(_) => Err((0, Refusal::OutOfMemory)),
         }
     }
@@ -343,7 +343,7 @@ impl Book {
 }
 
 /// Makes a book of clients that were answered nothing yet. Its log begins in their session.
-pub(crate) fn begin(alloc: Global, all_clients: Clients) -> Book
+pub(crate) fn begin(alloc: Global, all_clients: SessionState) -> Book
     requires { IsBegun all_clients.session }
     ensures { result ≡ book_at all_clients.session }
 {

@@ -10,8 +10,8 @@ ghost use Rattle.zt_book.specs.SavedSessions.{loaded_saved, with_moment};
 ghost use Rattle.zt_book.specs.Session.{most_clients};
 
 use crate::book::{Book, begin};
-use crate::clients::Clients;
 use crate::loaded_history::{MAIN, fault};
+use crate::session_state::SessionState;
 use std::alloc::{AllocError, Global};
 use std::marker::Model;
 use zt_history::History;
@@ -85,7 +85,7 @@ impl CallsInARow {
     {
         let CallsInARow { mut history } = self;
         lead_main_to_last(&mut history);
-        let all_clients = Clients::new(alloc, history, clients)?;
+        let all_clients = SessionState::new(alloc, history, clients)?;
         Ok(begin(alloc, all_clients))
     }
 }

@@ -13,9 +13,9 @@ pub trait LoadProgress {
 
 /// Ignores the progress.
 #[derive(Clone, Copy)]
-pub struct Untold;
+pub struct NoProgress;
 
-impl LoadProgress for Untold {
+impl LoadProgress for NoProgress {
     fn loaded(&self, _moments: usize, _of: usize) {}
 
     fn is_told(&self) -> bool {

@@ -4,13 +4,13 @@ ghost use Rattle.std.specs.Prelude.{◌≡◌, ◌+◌, ◌≤◌, ◌<◌, ◌^
 ghost use Rattle.zt_book.specs.Session.{first_client, most_clients};
 ghost use Rattle.zt_book.specs.SavedSessions.{clients_at, in_turn, loaded_saved, place_on, seated, with_cursor};
 ghost use Rattle.zt_book.specs.Log.{IsUnloadedBy};
-ghost use Rattle.zt_book.specs.ProofsOnly.Clients.{IsCursor};
+ghost use Rattle.zt_book.specs.ProofsOnly.SessionState.{IsCursor};
 
 use crate::client::{Client, Cursor};
-use crate::clients::Clients;
 use crate::load_progress::LoadProgress;
 use crate::loaded_history::{MAIN, fault};
 use crate::loaded_tree::tree_of;
+use crate::session_state::SessionState;
 use std::alloc::{AllocError, Global};
 use zt_history::History;
 use zt_rows::{Cursor as SavedCursor, Refusal, SavedBranch, SavedCall};
@@ -24,7 +24,7 @@ pub(crate) fn session_of<P: LoadProgress>(
     branches: &[SavedBranch],
     cursors: &[SavedCursor],
     told: &P,
-) -> Result<Clients, (u64, Refusal)>
+) -> Result<SessionState, (u64, Refusal)>
     requires { clients ≤ most_clients }
     ensures ok { IfOk result (λ all_clients. loaded_saved clients (record { moments = moments.items; branches = branches.now; cursors = cursors.now }) ≡ Ok all_clients.session) }
     ensures refused { IfErr result (IsUnloadedBy false (loaded_saved clients (record { moments = moments.items; branches = branches.now; cursors = cursors.now }))) }
@@ -42,7 +42,7 @@ fn seat(
     number: u64,
     history: History,
     cursors: &[SavedCursor],
-) -> Result<Clients, (u64, Refusal)>
+) -> Result<SessionState, (u64, Refusal)>
     requires few { clients ≤ most_clients }
     requires counted { number + length cursors.now < 2 ^ 64 }
     ensures ok { IfOk result (λ all_clients. seated clients number history.tree cursors.now ≡ Ok all_clients.session) }
@@ -51,7 +51,7 @@ fn seat(
     let _position = history.position();
     let found = cursors_in(alloc, number, &history, cursors)?;
     match clients_at(alloc, clients, found.as_slice()) {
-        Ok(standing) => Ok(Clients::over(history, standing)),
+        Ok(standing) => Ok(SessionState::over(history, standing)),
         Err(_) => Err((0, Refusal::OutOfMemory)),
     }
 }

@@ -10,7 +10,7 @@ use Rattle.zt_rows.specs.State.{State}
 use Rattle.zt_bits.specs.declared.statuses.Status.TheVariants as status
 use Rattle.zt_bits.specs.Tables.{asked_rights}
 use Rattle.std.specs.Prelude.{Some, Ok, ok_or}
-use Rattle.zt_rows.specs.Reads.{counters, object, entry, runs}
+use Rattle.zt_rows.specs.Reads.{counters, object, entry, has_live_process}
 use Rattle.zt_rows.specs.Tests.{next_at, is_endpoint}
 use Rattle.zt_rows.specs.Room.{HasRoom}
 use Rattle.zt_rows.specs.Handles.{◌>>=◌, answered, caller, value_of, whole, fresh, next_koid, install, make, make_pair, take_out}
@@ -29,7 +29,7 @@ installed_on s t u T p value held went same installed valued =
     (reached s u _ _ there (ap (λ me. install p me held T) (caller-same s.current T p same)), valued ∙ ap value_of at)
 
 -- the caller's next value fits in a state in which its row is the same
-fits_on : (s t : Stepping) (T : State) (p : ℕ) → Advanced s t T → object T p ≡ object s.current p → HasRoom s.current → runs s.current p ≡ true → next_at t.current p ≤ 2 ^ 30 - 64
+fits_on : (s t : Stepping) (T : State) (p : ℕ) → Advanced s t T → object T p ≡ object s.current p → HasRoom s.current → has_live_process s.current p ≡ true → next_at t.current p ≤ 2 ^ 30 - 64
 fits_on s t T p went same room live =
     let at : next_at t.current p ≡ next_at s.current p = ap (λ S. next_at S p) went.1 ∙ next-same s.current T p same in
     let n : next_at s.current p ≤ 2 ^ 30 - 64 = room-installs s.current p room live in
@@ -37,12 +37,12 @@ fits_on s t T p went same room live =
 
 -- ---- an object is made
 
-pub create-fits : (s t : Stepping) (p : ℕ) (k : Kind) → HasRoom s.current → IsSound s.current → runs s.current p ≡ true → Advanced s t (make (counters s.current) (fresh k 0) s.current) → next_at t.current p < 2 ^ 30
+pub create-fits : (s t : Stepping) (p : ℕ) (k : Kind) → HasRoom s.current → IsSound s.current → has_live_process s.current p ≡ true → Advanced s t (make (counters s.current) (fresh k 0) s.current) → next_at t.current p < 2 ^ 30
 create-fits s t p k room sound live made =
     let n : next_at t.current p ≤ 2 ^ 30 - 64 = fits_on s t (make (counters s.current) (fresh k 0) s.current) p made (object-of-made s.current p (fresh k 0) sound live) room live in
     omega arith
 
-pub create-does : (s t u : Stepping) (p value koid : ℕ) (k : Kind) (held : Held) → IsSound s.current → runs s.current p ≡ true → koid ≡ next_koid s.current → Advanced s t (make (counters s.current) (fresh k 0) s.current) → held ≡ whole koid k → Advanced t u (install p (caller t.current p) held t.current) → value ≡ value_of (next_at t.current p) → (Advanced s u (create k s.current p).0) × (reply.Handle value ≡ (create k s.current p).1)
+pub create-does : (s t u : Stepping) (p value koid : ℕ) (k : Kind) (held : Held) → IsSound s.current → has_live_process s.current p ≡ true → koid ≡ next_koid s.current → Advanced s t (make (counters s.current) (fresh k 0) s.current) → held ≡ whole koid k → Advanced t u (install p (caller t.current p) held t.current) → value ≡ value_of (next_at t.current p) → (Advanced s u (create k s.current p).0) × (reply.Handle value ≡ (create k s.current p).1)
 create-does s t u p value koid k held sound live named made is installed valued =
     let T : State = make (counters s.current) (fresh k 0) s.current in
     let w = installed_on s t u T p value held made (object-of-made s.current p (fresh k 0) sound live) installed valued in
@@ -50,7 +50,7 @@ create-does s t u p value koid k held sound live named made is installed valued 
 
 -- ---- a pair is made
 
-pub pair-fits : (s t : Stepping) (p : ℕ) (k : Kind) → HasRoom s.current → IsSound s.current → is_endpoint k ≡ true → runs s.current p ≡ true → Advanced s t (make_pair (counters s.current) k s.current) → next_at t.current p + 1 < 2 ^ 30
+pub pair-fits : (s t : Stepping) (p : ℕ) (k : Kind) → HasRoom s.current → IsSound s.current → is_endpoint k ≡ true → has_live_process s.current p ≡ true → Advanced s t (make_pair (counters s.current) k s.current) → next_at t.current p + 1 < 2 ^ 30
 pair-fits s t p k room sound ends live made =
     let n : next_at t.current p ≤ 2 ^ 30 - 64 = fits_on s t (make_pair (counters s.current) k s.current) p made (object-of-paired s.current p k sound ends live) room live in
     omega arith
@@ -59,7 +59,7 @@ pair-fits s t p k room sound ends live made =
 abbrev both_installed : ℕ → Held → Held → State → State
 both_installed p a b S = let T = install p (caller S p) a S in install p (caller T p) b T
 
-pub pair-does : (s t u : Stepping) (p near far : ℕ) (values : ℕ × ℕ) (k : Kind) (a b : Held) → IsSound s.current → is_endpoint k ≡ true → runs s.current p ≡ true → near ≡ next_koid s.current → far ≡ next_koid s.current + 1 → Advanced s t (make_pair (counters s.current) k s.current) → a ≡ whole near k → b ≡ whole far k → Advanced t u (both_installed p a b t.current) → values ≡ (value_of (next_at t.current p), value_of (next_at t.current p + 1)) → (Advanced s u (create_pair k s.current p).0) × (reply.Handles values.0 values.1 ≡ (create_pair k s.current p).1)
+pub pair-does : (s t u : Stepping) (p near far : ℕ) (values : ℕ × ℕ) (k : Kind) (a b : Held) → IsSound s.current → is_endpoint k ≡ true → has_live_process s.current p ≡ true → near ≡ next_koid s.current → far ≡ next_koid s.current + 1 → Advanced s t (make_pair (counters s.current) k s.current) → a ≡ whole near k → b ≡ whole far k → Advanced t u (both_installed p a b t.current) → values ≡ (value_of (next_at t.current p), value_of (next_at t.current p + 1)) → (Advanced s u (create_pair k s.current p).0) × (reply.Handles values.0 values.1 ≡ (create_pair k s.current p).1)
 pair-does s t u p near far values k a b sound ends live one two made is other installed valued =
     let S : State = s.current in
     let me : ObjectRow = caller S p in
@@ -80,7 +80,7 @@ pair-does s t u p near far values k a b sound ends live one two made is other in
 
 -- ---- a handle takes the place of another
 
-pub replace-fits : (s t : Stepping) (p h : ℕ) → HasRoom s.current → runs s.current p ≡ true → Advanced s t (take_out s.current p h) → next_at t.current p < 2 ^ 30
+pub replace-fits : (s t : Stepping) (p h : ℕ) → HasRoom s.current → has_live_process s.current p ≡ true → Advanced s t (take_out s.current p h) → next_at t.current p < 2 ^ 30
 replace-fits s t p h room live went =
     let n : next_at t.current p ≤ 2 ^ 30 - 64 = fits_on s t (take_out s.current p h) p went (object-of-rest s.current p h) room live in
     omega arith
@@ -99,5 +99,5 @@ replace-does s t u p h mask value held rights there granted went installed value
 
 -- ---- a second handle
 
-pub duplicate-fits : (S : State) (p : ℕ) → HasRoom S → runs S p ≡ true → next_at S p < 2 ^ 30
+pub duplicate-fits : (S : State) (p : ℕ) → HasRoom S → has_live_process S p ≡ true → next_at S p < 2 ^ 30
 duplicate-fits S p room live = let n : next_at S p ≤ 2 ^ 30 - 64 = room-installs S p room live in omega arith

@@ -9,7 +9,7 @@ use Rattle.zt_rows.specs.declared.keys.RowKey.TheVariants as key
 use Rattle.zt_rows.specs.declared.rows.Held.{Held}
 use Rattle.zt_rows.specs.declared.rows.Row.TheVariants as rows
 use Rattle.zt_rows.specs.State.{put}
-use Rattle.zt_rows.specs.Reads.{as_object, counters, object, runs, is_process, is_live}
+use Rattle.zt_rows.specs.Reads.{as_object, counters, object, has_live_process, is_process, is_live}
 use Rattle.zt_rows.specs.Tests.{next_at, object_next, is_endpoint, raised}
 use Rattle.zt_rows.specs.Handles.{as_caller, caller, value_of, install, make, make_pair, take_out}
 use Rattle.zt_rows.specs.declared.calls.Call.{Call}
@@ -18,7 +18,7 @@ use Rattle.zt_rows.specs.Step.{IsCall, step, direct, completed}
 use Rattle.zt_rows.specs.Consistent.{IsSound, IsConsistent}
 use Rattle.zt_rows.specs.Room.{HasRoom, NextFits}
 use Rattle.zt_rows.proofs.StateLaws.{row-put-same}
-use Rattle.zt_rows.proofs.SoundLaws.{runs-some}
+use Rattle.zt_rows.proofs.SoundLaws.{has_live_process-some}
 use Rattle.zt_rows.proofs.MakeLaws.{others-made}
 use Rattle.zt_rows.proofs.PairLaws.{others-paired}
 use Rattle.zt_rows.proofs.TakeLaws.{object-taken}
@@ -33,27 +33,27 @@ process_fits kind.EventPair lives n h r = cc
 process_fits kind.Port lives n h r = cc
 
 -- where there is room, the next handle of a process that runs has a value that fits
-pub caller_fits : (S : State) (p : ℕ) (o : ObjectRow) → object S p ≡ Some o → HasRoom S → runs S p ≡ true → o.next ≤ 2 ^ 30 - 64
+pub caller_fits : (S : State) (p : ℕ) (o : ObjectRow) → object S p ≡ Some o → HasRoom S → has_live_process S p ≡ true → o.next ≤ 2 ^ 30 - 64
 caller_fits S p o e room r = process_fits o.kind (is_live o.life) o.next (room.owners p o e) (rw e at r)
 
 -- the state that a call of a process that runs leaves is consistent, if the one before is: B is where its step
 -- begins, T where it ends
-pub consistent_after : (S B T U : State) (p : ℕ) (c : Call) (r : Reply) → B ≡ S → U ≡ T → ◌≡◌ {A = State × Reply} (T, r) (completed B (direct B p c)) → IsConsistent S → runs S p ≡ true → IsCall c → IsConsistent U
+pub consistent_after : (S B T U : State) (p : ℕ) (c : Call) (r : Reply) → B ≡ S → U ≡ T → ◌≡◌ {A = State × Reply} (T, r) (completed B (direct B p c)) → IsConsistent S → has_live_process S p ≡ true → IsCall c → IsConsistent U
 unfolding step
 consistent_after S B T U p c r from left e before running is_call =
     let is : U ≡ (step S p c).0 = left ∙ ap (λ d. d.0) e ∙ ap (λ b. (step b p c).0) from in rw is (step-consistent S p c before running is_call)
 
 -- the state T that the call itself leaves is sound
-pub sound_after : (S T : State) (p : ℕ) (c : Call) (r : Reply) → ◌≡◌ {A = State × Reply} (T, r) (direct S p c) → IsSound S → runs S p ≡ true → IsCall c → IsSound T
+pub sound_after : (S T : State) (p : ℕ) (c : Call) (r : Reply) → ◌≡◌ {A = State × Reply} (T, r) (direct S p c) → IsSound S → has_live_process S p ≡ true → IsCall c → IsSound T
 sound_after S T p c r e before running is_call =
     let is : T ≡ (direct S p c).0 = ap (λ d. d.0) e in rw is (sound-direct S p c before running is_call)
 
 -- ---- the caller's row while its call goes on
 
 -- the next handle of a process that runs has a value that fits
-pub room-installs : (S : State) (p : ℕ) → HasRoom S → runs S p ≡ true → next_at S p ≤ 2 ^ 30 - 64
+pub room-installs : (S : State) (p : ℕ) → HasRoom S → has_live_process S p ≡ true → next_at S p ≤ 2 ^ 30 - 64
 room-installs S p room live =
-    let w = runs-some S p live in
+    let w = has_live_process-some S p live in
     let e : next_at S p ≡ w.0.next = ap object_next w.1 in
     let fits : w.0.next ≤ 2 ^ 30 - 64 = caller_fits S p w.0 w.1 room live in
     omega arith
@@ -66,11 +66,11 @@ module _ (S T : State) (p : ℕ) (same : object T p ≡ object S p) where
   pub next-same : next_at T p ≡ next_at S p
   next-same = ap object_next same
 
-pub object-of-made : (S : State) (p : ℕ) (o : ObjectRow) → IsSound S → runs S p ≡ true → object (make (counters S) o S) p ≡ object S p
-object-of-made S p o sound live = let w = runs-some S p live in others-made S sound o p w.0 w.1 ∙ sym w.1
+pub object-of-made : (S : State) (p : ℕ) (o : ObjectRow) → IsSound S → has_live_process S p ≡ true → object (make (counters S) o S) p ≡ object S p
+object-of-made S p o sound live = let w = has_live_process-some S p live in others-made S sound o p w.0 w.1 ∙ sym w.1
 
-pub object-of-paired : (S : State) (p : ℕ) (made : Kind) → IsSound S → is_endpoint made ≡ true → runs S p ≡ true → object (make_pair (counters S) made S) p ≡ object S p
-object-of-paired S p made sound ends live = let w = runs-some S p live in others-paired S sound made ends p w.0 w.1 ∙ sym w.1
+pub object-of-paired : (S : State) (p : ℕ) (made : Kind) → IsSound S → is_endpoint made ≡ true → has_live_process S p ≡ true → object (make_pair (counters S) made S) p ≡ object S p
+object-of-paired S p made sound ends live = let w = has_live_process-some S p live in others-paired S sound made ends p w.0 w.1 ∙ sym w.1
 
 pub object-of-rest : (S : State) (p h : ℕ) → object (take_out S p h) p ≡ object S p
 object-of-rest S p h = object-taken p (λ g. g == h) S p

@@ -13,7 +13,7 @@ use Rattle.zt_rows.specs.declared.rows.Held.{Held}
 use Rattle.zt_rows.specs.declared.rows.ObjectRow.{ObjectRow}
 use Rattle.zt_rows.specs.declared.rows.Row.TheVariants as rows
 use Rattle.zt_rows.specs.State.{State}
-use Rattle.zt_rows.specs.Reads.{as_object, counters, object, entry, is_live, is_job, is_process, is_live_job, is_live_process, on_object, runs}
+use Rattle.zt_rows.specs.Reads.{as_object, counters, object, entry, is_live, is_job, is_process, is_live_job, is_live_process, on_object, has_live_process}
 use Rattle.zt_rows.specs.Tests.{has_all, is_task, link_at, next_at}
 use Rattle.zt_rows.specs.Room.{HasRoom}
 use Rattle.zt_rows.specs.Handles.{◌>>=◌, check, handle_else, answered, as_caller, caller, value_of, whole, fresh, next_koid, install, make}
@@ -21,17 +21,17 @@ use Rattle.zt_rows.specs.JobCalls.{argument, give_up, child, hand_over, spawn}
 use Rattle.zt_rows.specs.End.{upward, links, chain, depth, ends_with}
 use Rattle.zt_rows.specs.Consistent.{IsSound}
 use Rattle.zt_rows.proofs.RowLaws.{or_left, or_right}
-use Rattle.zt_rows.proofs.SoundLaws.{runs-some}
+use Rattle.zt_rows.proofs.SoundLaws.{has_live_process-some}
 use Rattle.zt_jobs.specs.EndingWalk.{IsWalkable}
 use Rattle.zt_jobs.proofs.EndingLaws.{sound-walkable}
 use Rattle.zt_rows.proofs.StateLaws.{row-put}
 use Rattle.zt_rows.proofs.TakeLaws.{object-taken, counters-taken, sound-taken}
 use Rattle.zt_store.specs.StepView.{Stepping, Advanced, begun}
-use Rattle.zt_calls.specs.declared.handle_arguments.WantedKind.TheVariants as want
+use Rattle.zt_calls.specs.declared.handle_arguments.ExpectedKind.TheVariants as want
 use Rattle.zt_calls.specs.declared.failure.Failure.{Failure}
 use Rattle.zt_calls.specs.declared.failure.Failure.TheVariants as failure
 use Rattle.zt_calls.specs.ProofsOnly.CallOutcomes.{Does}
-use Rattle.zt_calls.specs.ProofsOnly.WantedKinds.{handle_to}
+use Rattle.zt_calls.specs.ProofsOnly.ExpectedKinds.{handle_to}
 use Rattle.zt_calls.specs.ProofsOnly.NewTasks.{job_made, process_made}
 use Rattle.zt_calls.proofs.GoingOn.{reached}
 use Rattle.zt_calls.proofs.CallLaws.{installed_on}
@@ -110,8 +110,8 @@ named-walkable S sound wrong p h rights held o e live =
     (live_task o.kind (is_live o.life) (named-kind S wrong p h is_task rights held o e) live)
 
 -- and what ends with the caller
-pub caller-walkable : (S : State) → IsSound S → (p : ℕ) → runs S p ≡ true → IsWalkable S p (ends_with S p)
-caller-walkable S sound p live = let w = runs-some S p live in sound-walkable S sound p w.0 w.1 (or_right (is_live_job w.0) _ w.2)
+pub caller-walkable : (S : State) → IsSound S → (p : ℕ) → has_live_process S p ≡ true → IsWalkable S p (ends_with S p)
+caller-walkable S sound p live = let w = has_live_process-some S p live in sound-walkable S sound p w.0 w.1 (or_right (is_live_job w.0) _ w.2)
 
 -- the koid of an object leaves room for one more
 pub koid-fits : (S : State) (x : ℕ) (o : ObjectRow) → HasRoom S → IsSound S → object S x ≡ Some o → x + 1 < 2 ^ 64
@@ -140,7 +140,7 @@ depth-fits S x o room sound there =
 pub next-fits : (S : State) → HasRoom S → next_koid S + 1 < 2 ^ 64
 next-fits S room = let few : next_koid S ≤ 2 ^ 62 = room.koids in omega arith
 
-pub value-fits : (S : State) (p : ℕ) → HasRoom S → runs S p ≡ true → next_at S p < 2 ^ 30
+pub value-fits : (S : State) (p : ℕ) → HasRoom S → has_live_process S p ≡ true → next_at S p < 2 ^ 30
 value-fits S p room live = let n : next_at S p ≤ 2 ^ 30 - 64 = room-installs S p room live in omega arith
 
 -- the next value in a state in which the caller's row is the same
@@ -151,7 +151,7 @@ next-on s t T p went same fits =
 
 -- ---- a job
 
-module _ (s t : Stepping) (p parent : ℕ) (sound : IsSound s.current) (live : runs s.current p ≡ true) (made : Advanced s t (make (counters s.current) (fresh kind.Job parent) s.current)) where
+module _ (s t : Stepping) (p parent : ℕ) (sound : IsSound s.current) (live : has_live_process s.current p ≡ true) (made : Advanced s t (make (counters s.current) (fresh kind.Job parent) s.current)) where
   pub job-fits : next_at s.current p < 2 ^ 30 → next_at t.current p < 2 ^ 30
   job-fits fits = next-on s t (make (counters s.current) (fresh kind.Job parent) s.current) p made (object-of-made s.current p (fresh kind.Job parent) sound live) fits
 
@@ -167,7 +167,7 @@ object-of-handed : (S : State) (given : Option Held) (x p : ℕ) → object (han
 object-of-handed S (Some held) x p = ap as_object (row-put S (key.Entry x (value_of 0)) (Some (rows.Entry held)) (key.Object p))
 object-of-handed S None x p = refl
 
-module _ (s t : Stepping) (p job : ℕ) (given : Option Held) (sound : IsSound s.current) (live : runs s.current p ≡ true) (made : Advanced s t (hand_over given (next_koid s.current) (make (counters s.current) (child given job) s.current))) where
+module _ (s t : Stepping) (p job : ℕ) (given : Option Held) (sound : IsSound s.current) (live : has_live_process s.current p ≡ true) (made : Advanced s t (hand_over given (next_koid s.current) (make (counters s.current) (child given job) s.current))) where
   abbrev with_process : State
   with_process = hand_over given (next_koid s.current) (make (counters s.current) (child given job) s.current)
 
@@ -209,14 +209,14 @@ module _ (s t : Stepping) (p h : ℕ) (given : Option Held) (gave : Advanced s t
       let few : next_koid s.current ≤ 2 ^ 62 = room.koids in
       omega arith
 
-  pub gave-values : HasRoom s.current → runs s.current p ≡ true → next_at t.current p < 2 ^ 30
+  pub gave-values : HasRoom s.current → has_live_process s.current p ≡ true → next_at t.current p < 2 ^ 30
   gave-values room live = next-on s t (give_up given p h s.current) p gave (gave-object s.current p h given p) (value-fits s.current p room live)
 
   pub gave-still_sound : IsSound s.current → IsSound t.current
   gave-still_sound sound = subst IsSound (sym gave.1) (gave-sound s.current p h given sound)
 
-  pub gave-runs : runs s.current p ≡ true → runs t.current p ≡ true
-  gave-runs live = ap (on_object is_live_process) (ap (λ S. object S p) gave.1 ∙ gave-object s.current p h given p) ∙ live
+  pub gave-has_live_process : has_live_process s.current p ≡ true → has_live_process t.current p ≡ true
+  gave-has_live_process live = ap (on_object is_live_process) (ap (λ S. object S p) gave.1 ∙ gave-object s.current p h given p) ∙ live
 
 -- the call, once its checks passed
 pub spawned : (S : State) (p h arg : ℕ) (held : Held) (o : ObjectRow) (given : Option Held) → handle_to S p h want.Job 0x20000 ≡ Ok (held, o) → argument S p arg ≡ Ok given → is_live o.life ≡ true → spawn S p h arg ≡ process_made (give_up given p arg S) p held.koid given

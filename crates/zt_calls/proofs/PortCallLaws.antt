@@ -24,7 +24,7 @@ use Rattle.zt_calls.proofs.GoingOn.{reached}
 
 -- ---- a port by a handle
 
--- what a handle that passes its checks names is there, and of a wanted kind
+-- what a handle that passes its checks names is there, and of a expected kind
 module _ (wrong : Status) (S : State) (wanted : Kind → Bool) (rights : ℕ) (held : Held) (o : ObjectRow) where
   abbrev IsThere : Type 0
   IsThere = (object S held.koid ≡ Some o) × (wanted o.kind ≡ true)

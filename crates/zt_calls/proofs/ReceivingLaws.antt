@@ -8,7 +8,7 @@ use Rattle.zt_rows.specs.declared.keys.RowKey.TheVariants as key
 use Rattle.zt_rows.specs.declared.rows.Held.{Held}
 use Rattle.zt_rows.specs.Contents.{MessageContent, IsWithinMessage}
 use Rattle.zt_rows.specs.State.{State, put}
-use Rattle.zt_rows.specs.Reads.{as_object, object, queue, runs}
+use Rattle.zt_rows.specs.Reads.{as_object, object, queue, has_live_process}
 use Rattle.zt_rows.specs.Tests.{next_at, first}
 use Rattle.zt_rows.specs.Room.{HasRoom}
 use Rattle.zt_rows.specs.Handles.{caller, value_of, install, install_all, values_from}
@@ -72,7 +72,7 @@ module _ (S : State) (x p : ℕ) where
   object-popped = object-without_message (first (queue S x))
 
 -- the process has values for all handles of a message
-pub read-fits : (s t : Stepping) (p x : ℕ) (handles : List Held) → HasRoom s.current → runs s.current p ≡ true → Advanced s t (popped s.current x) → length handles ≤ 64 → next_at t.current p + length handles ≤ 2 ^ 30
+pub read-fits : (s t : Stepping) (p x : ℕ) (handles : List Held) → HasRoom s.current → has_live_process s.current p ≡ true → Advanced s t (popped s.current x) → length handles ≤ 64 → next_at t.current p + length handles ≤ 2 ^ 30
 read-fits s t p x handles room live went few =
     let n : next_at s.current p ≤ 2 ^ 30 - 64 = room-installs s.current p room live in
     let same : next_at t.current p ≡ next_at s.current p = ap (λ S. next_at S p) went.1 ∙ next-same s.current (popped s.current x) p (object-popped s.current x p) in

@@ -8,7 +8,7 @@ use Rattle.zt_rows.specs.declared.calls.Call.{Call}
 use Rattle.zt_rows.specs.declared.rows.Counters.{Counters}
 use Rattle.zt_rows.specs.declared.rows.ObjectRow.{ObjectRow}
 use Rattle.zt_rows.specs.State.{State}
-use Rattle.zt_rows.specs.Reads.{counters, object, objects, runs}
+use Rattle.zt_rows.specs.Reads.{counters, object, objects, has_live_process}
 use Rattle.zt_rows.specs.Tests.{next_at, object_next}
 use Rattle.zt_rows.specs.Room.{HasRoom, NextFits}
 use Rattle.zt_rows.specs.Collect.{without, goes, rounds, collect}
@@ -86,7 +86,7 @@ room_to_fire B S sound few fit n w e met =
     omega arith
 
 -- after a call of a live process and the removal of what nothing supports there is room for packets
-pub room_after : (S : State) (p : ℕ) (c : Call) → IsConsistent S → HasRoom S → runs S p ≡ true → IsCall c → HasRoomToFire S (collect (direct S p c).0)
+pub room_after : (S : State) (p : ℕ) (c : Call) → IsConsistent S → HasRoom S → has_live_process S p ≡ true → IsCall c → HasRoomToFire S (collect (direct S p c).0)
 room_after S p c consistent room live is =
     let T : State = (direct S p c).0 in
     let called : Called S T = called-direct S p c consistent.sound live in

@@ -1,5 +1,5 @@
 -- Used by proofs only: no public clause depends on them.
-pub mod WantedKinds
+pub mod ExpectedKinds
 pub mod CallOutcomes
 pub mod SentMessage
 pub mod ReceivedMessage

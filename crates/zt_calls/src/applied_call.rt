@@ -2,7 +2,7 @@
 
 ghost use Rattle.std.specs.Prelude.{◌≡◌, ◌↔◌, ◌⊎◌, true, false, IfOk, IfErr, OnOk, OnErr, IsErrOf};
 ghost use Rattle.zt_rows.specs.declared.calls.Reply.{Reply};
-ghost use Rattle.zt_rows.specs.Reads.{runs};
+ghost use Rattle.zt_rows.specs.Reads.{has_live_process};
 ghost use Rattle.zt_rows.specs.Room.{HasRoom};
 ghost use Rattle.zt_rows.specs.State.{State};
 ghost use Rattle.zt_rows.specs.Step.{direct, step};
@@ -26,8 +26,8 @@ use zt_rows::{Call, Held, Koid, Refusal, Reply};
 use zt_store::{Record, Step, Store};
 
 /// Whether the koid is that of a live process. Only a live process may call.
-pub fn runs(store: &Store, process: Koid) -> bool
-    ensures { result ≡ runs store.now.state process }
+pub fn has_live_process(store: &Store, process: Koid) -> bool
+    ensures { result ≡ has_live_process store.now.state process }
 {
     match store.object(process) {
         Some(object) => object.is_live_process(),
@@ -51,13 +51,13 @@ pub fn apply(
     ensures ok { IfOk result (λ answer. (store.new.state, answer.0) ≡ step store.old.state process call.now) }
     ensures recorded { IfOk result (λ answer. answer.1 ≡ before store.old.state store.new.state) }
     ensures fits { IfOk result (λ answer. fits store.new.places answer.1 ≡ true) }
-    ensures no_process { IsErrOf result Refusal.NoProcess ↔ (runs store.old.state process ≡ false) }
+    ensures no_process { IsErrOf result Refusal.NoProcess ↔ (has_live_process store.old.state process ≡ false) }
     ensures refusals { IfErr result (λ refusal. (refusal ≡ Refusal.NoProcess) ⊎ (refusal ≡ Refusal.OutOfMemory)) }
     ensures err { OnErr result (store.new.state ≡ store.old.state) }
     ensures consistent { IsConsistent store.new.state }
     ensures kept { Keeps store.old.places store.new.places }
 {
-    if !runs(store, process) {
+    if !has_live_process(store, process) {
         return Err(Refusal::NoProcess);
     }
     let mut step = Step::begin(mem::replace(store, Store::hollow(alloc)));
@@ -87,7 +87,7 @@ pub fn run_on(
     requires rest { IsAtRest resting.old }
     requires room { HasRoom resting.old.current }
     requires consistent { IsConsistent resting.old.current }
-    requires running { runs resting.old.current process ≡ true }
+    requires running { has_live_process resting.old.current process ≡ true }
     ensures rest { IsAtRest resting.new }
     ensures ok { OnOk result ((resting.new.current, reply.new) ≡ step resting.old.current process call.now) }
     ensures recorded { IfOk result (λ change. change ≡ before resting.old.current resting.new.current) }
@@ -102,7 +102,7 @@ pub fn run_on(
     leave(done, reply)?;
     release(resting, released.as_slice())?;
     settle(resting)?;
-    Ok(resting.take_record())
+    Ok(resting.commit())
 }
 
 /// Puts the store in the place of a hollow one. The hollow one has no memory to be given back.
@@ -139,7 +139,7 @@ fn direct(
 ) -> Result<Reply, Failure>
     requires room { HasRoom step.old.current }
     requires sound { IsSound step.old.current }
-    requires running { runs step.old.current process ≡ true }
+    requires running { has_live_process step.old.current process ≡ true }
     ensures does { Does (direct step.old.current process call.now) step.old step.new result }
     ensures kept { Keeps step.old.places step.new.places }
 {

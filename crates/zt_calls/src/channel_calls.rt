@@ -1,7 +1,7 @@
 //! The system calls on channels.
 
 ghost use Rattle.std.specs.Prelude.{◌≡◌, true};
-ghost use Rattle.zt_rows.specs.Reads.{runs};
+ghost use Rattle.zt_rows.specs.Reads.{has_live_process};
 ghost use Rattle.zt_rows.specs.Room.{HasRoom};
 ghost use Rattle.zt_rows.specs.ChannelCalls.{channel_create, channel_write, channel_read};
 ghost use Rattle.zt_rows.specs.Consistent.{IsSound};
@@ -9,7 +9,7 @@ ghost use Rattle.zt_store.specs.Places.{Keeps};
 ghost use Rattle.zt_calls.specs.ProofsOnly.CallOutcomes.{Does};
 
 use crate::failure::Failure;
-use crate::handle_arguments::{WantedKind, handle_to};
+use crate::handle_arguments::{ExpectedKind, handle_to};
 use crate::object_calls::create_pair;
 use crate::received_message::{has_room_for, take_message};
 use crate::sent_message::message_for;
@@ -24,7 +24,7 @@ use zt_store::Step;
 pub fn channel_create(step: &mut Step, process: Koid) -> Result<Reply, Failure>
     requires room { HasRoom step.old.current }
     requires sound { IsSound step.old.current }
-    requires running { runs step.old.current process ≡ true }
+    requires running { has_live_process step.old.current process ≡ true }
     ensures does { Does (channel_create step.old.current process) step.old step.new result }
     ensures kept { Keeps step.old.places step.new.places }
 {
@@ -82,11 +82,11 @@ pub fn channel_read(
 ) -> Result<Reply, Failure>
     requires room { HasRoom step.old.current }
     requires sound { IsSound step.old.current }
-    requires running { runs step.old.current process ≡ true }
+    requires running { has_live_process step.old.current process ≡ true }
     ensures does { Does (channel_read step.old.current process handle bytes handles discard) step.old step.new result }
     ensures kept { Keeps step.old.places step.new.places }
 {
-    let (held, object) = handle_to(step, process, handle, WantedKind::Channel, Rights::READ)?;
+    let (held, object) = handle_to(step, process, handle, ExpectedKind::Channel, Rights::READ)?;
     let Some((number, message)) = front(step, held.koid) else {
         let peer_is_gone = object.link == Koid(0);
         let empty = if peer_is_gone {

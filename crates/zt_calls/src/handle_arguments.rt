@@ -2,7 +2,7 @@
 
 ghost use Rattle.std.specs.Prelude.{◌≡◌};
 ghost use Rattle.zt_rows.specs.ObjectCalls.{may_set};
-ghost use Rattle.zt_calls.specs.ProofsOnly.WantedKinds.{takes, wrong_kind, handle_to};
+ghost use Rattle.zt_calls.specs.ProofsOnly.ExpectedKinds.{takes, wrong_kind, handle_to};
 
 use bitflags::Flags;
 use zt_bits::{Kind, Rights, Signals, Status, settable};
@@ -11,7 +11,7 @@ use zt_store::Step;
 
 /// The kind of object that a call takes by a handle.
 #[derive(Clone, Copy, Debug)]
-pub enum WantedKind {
+pub enum ExpectedKind {
     Any,
     Channel,
     Port,
@@ -23,19 +23,19 @@ pub enum WantedKind {
     Endpoint,
 }
 
-impl WantedKind {
+impl ExpectedKind {
     /// Whether the kind is among those that are wanted.
     pub fn takes(self, kind: Kind) -> bool
         ensures { result ≡ takes self kind }
     {
         match self {
-            WantedKind::Any => true,
-            WantedKind::Channel => kind == Kind::Channel,
-            WantedKind::Port => kind == Kind::Port,
-            WantedKind::Job => kind == Kind::Job,
-            WantedKind::Process => kind == Kind::Process,
-            WantedKind::Task => kind == Kind::Job || kind == Kind::Process,
-            WantedKind::Endpoint => kind == Kind::Channel || kind == Kind::EventPair,
+            ExpectedKind::Any => true,
+            ExpectedKind::Channel => kind == Kind::Channel,
+            ExpectedKind::Port => kind == Kind::Port,
+            ExpectedKind::Job => kind == Kind::Job,
+            ExpectedKind::Process => kind == Kind::Process,
+            ExpectedKind::Task => kind == Kind::Job || kind == Kind::Process,
+            ExpectedKind::Endpoint => kind == Kind::Channel || kind == Kind::EventPair,
         }
     }
 
@@ -45,7 +45,7 @@ impl WantedKind {
         ensures { result ≡ wrong_kind self }
     {
         match self {
-            WantedKind::Endpoint => Status::NotSupported,
+            ExpectedKind::Endpoint => Status::NotSupported,
             _ => Status::WrongType,
         }
     }
@@ -56,13 +56,13 @@ impl WantedKind {
 /// Errors, in the order of the checks:
 ///
 /// - `BadHandle`, if the handle is not valid;
-/// - `WrongType`, if its object is not of a wanted kind; `NotSupported` instead, if an endpoint is wanted;
+/// - `WrongType`, if its object is not of a expected kind; `NotSupported` instead, if an endpoint is wanted;
 /// - `AccessDenied`, if it lacks the right.
 pub fn handle_to(
     step: &Step,
     process: Koid,
     handle: HandleValue,
-    wanted: WantedKind,
+    wanted: ExpectedKind,
     right: Rights,
 ) -> Result<(Held, ObjectRow), Status>
     ensures { result ≡ handle_to step.now.current process handle wanted right.0 }

@@ -1,14 +1,14 @@
 //! The system calls on handles: close, duplicate, replace.
 
 ghost use Rattle.std.specs.Prelude.{◌≡◌, true};
-ghost use Rattle.zt_rows.specs.Reads.{runs};
+ghost use Rattle.zt_rows.specs.Reads.{has_live_process};
 ghost use Rattle.zt_rows.specs.Room.{HasRoom};
 ghost use Rattle.zt_rows.specs.ObjectCalls.{handle_close, handle_duplicate, handle_replace};
 ghost use Rattle.zt_store.specs.Places.{Keeps};
 ghost use Rattle.zt_calls.specs.ProofsOnly.CallOutcomes.{Does};
 
 use crate::failure::Failure;
-use crate::handle_arguments::{WantedKind, handle_to};
+use crate::handle_arguments::{ExpectedKind, handle_to};
 use crate::taken_handles::take_out;
 use zt_bits::{Rights, Status, asked};
 use zt_rows::{HandleValue, Koid, Reply};
@@ -38,11 +38,11 @@ pub fn handle_duplicate(
     rights: u32,
 ) -> Result<Reply, Failure>
     requires room { HasRoom step.old.current }
-    requires running { runs step.old.current process ≡ true }
+    requires running { has_live_process step.old.current process ≡ true }
     ensures does { Does (handle_duplicate step.old.current process handle rights) step.old step.new result }
     ensures kept { Keeps step.old.places step.new.places }
 {
-    let (held, _) = handle_to(step, process, handle, WantedKind::Any, Rights::DUPLICATE)?;
+    let (held, _) = handle_to(step, process, handle, ExpectedKind::Any, Rights::DUPLICATE)?;
     let rights = asked(rights, held.rights).ok_or(Status::InvalidArgs)?;
     let value = duplicate(step, process, held, rights)?;
     Ok(Reply::Handle(value))
@@ -57,7 +57,7 @@ pub fn handle_replace(
     rights: u32,
 ) -> Result<Reply, Failure>
     requires room { HasRoom step.old.current }
-    requires running { runs step.old.current process ≡ true }
+    requires running { has_live_process step.old.current process ≡ true }
     ensures does { Does (handle_replace step.old.current process handle rights) step.old step.new result }
     ensures kept { Keeps step.old.places step.new.places }
 {

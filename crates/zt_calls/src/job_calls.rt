@@ -4,7 +4,7 @@ ghost use Rattle.std.specs.Prelude.{◌≡◌, ◌<◌, ◌+◌, ◌^◌, true, 
 ghost use Rattle.zt_rows.specs.Consistent.{IsSound};
 ghost use Rattle.zt_rows.specs.Handles.{next_koid};
 ghost use Rattle.zt_rows.specs.JobCalls.{argument, give_up, job_create, job_set_critical, process_exit, spawn, task_kill};
-ghost use Rattle.zt_rows.specs.Reads.{entry, runs};
+ghost use Rattle.zt_rows.specs.Reads.{entry, has_live_process};
 ghost use Rattle.zt_rows.specs.Room.{HasRoom};
 ghost use Rattle.zt_rows.specs.Tests.{next_at};
 ghost use Rattle.zt_store.specs.Places.{Keeps};
@@ -13,7 +13,7 @@ ghost use Rattle.zt_calls.specs.ProofsOnly.CallOutcomes.{Does};
 ghost use Rattle.zt_calls.specs.ProofsOnly.NewTasks.{job_made, process_made};
 
 use crate::failure::Failure;
-use crate::handle_arguments::{WantedKind, handle_to};
+use crate::handle_arguments::{ExpectedKind, handle_to};
 use crate::new_objects::whole;
 use crate::taken_handles::take_out;
 use std::alloc::{AllocError, Global};
@@ -35,11 +35,11 @@ const MOST_DEPTH: u64 = 32;
 pub fn job_create(step: &mut Step, process: Koid, job: HandleValue) -> Result<Reply, Failure>
     requires room { HasRoom step.old.current }
     requires sound { IsSound step.old.current }
-    requires running { runs step.old.current process ≡ true }
+    requires running { has_live_process step.old.current process ≡ true }
     ensures does { Does (job_create step.old.current process job) step.old step.new result }
     ensures kept { Keeps step.old.places step.new.places }
 {
-    let (held, parent) = handle_to(step, process, job, WantedKind::Job, Rights::MANAGE_JOB)?;
+    let (held, parent) = handle_to(step, process, job, ExpectedKind::Job, Rights::MANAGE_JOB)?;
     if parent.life != Life::Live {
         return Err(Failure::Status(Status::BadState));
     }
@@ -54,7 +54,7 @@ fn add_job(step: &mut Step, process: Koid, parent: Koid) -> Result<Reply, Failur
     requires koids { next_koid step.old.current + 1 < 2 ^ 64 }
     requires values { next_at step.old.current process < 2 ^ 30 }
     requires sound { IsSound step.old.current }
-    requires running { runs step.old.current process ≡ true }
+    requires running { has_live_process step.old.current process ≡ true }
     ensures does { Does (job_made step.old.current process parent) step.old step.new result }
     ensures kept { Keeps step.old.places step.new.places }
 {
@@ -77,11 +77,17 @@ pub fn spawn(
 ) -> Result<Reply, Failure>
     requires room { HasRoom step.old.current }
     requires sound { IsSound step.old.current }
-    requires running { runs step.old.current process ≡ true }
+    requires running { has_live_process step.old.current process ≡ true }
     ensures does { Does (spawn step.old.current process job value) step.old step.new result }
     ensures kept { Keeps step.old.places step.new.places }
 {
-    let (held, parent) = handle_to(step, process, job, WantedKind::Job, Rights::MANAGE_PROCESS)?;
+    let (held, parent) = handle_to(
+        step,
+        process,
+        job,
+        ExpectedKind::Job,
+        Rights::MANAGE_PROCESS,
+    )?;
     let given = argument(step, process, value)?;
     if parent.life != Life::Live {
         return Err(Failure::Status(Status::BadState));
@@ -97,7 +103,7 @@ fn argument(step: &Step, process: Koid, value: HandleValue) -> Result<Option<Hel
     if value == HandleValue(0) {
         return Ok(None);
     }
-    let (held, _) = handle_to(step, process, value, WantedKind::Any, Rights::TRANSFER)?;
+    let (held, _) = handle_to(step, process, value, ExpectedKind::Any, Rights::TRANSFER)?;
     Ok(Some(held))
 }
 
@@ -130,7 +136,7 @@ fn add_process(
     requires koids { next_koid step.old.current + 1 < 2 ^ 64 }
     requires values { next_at step.old.current process < 2 ^ 30 }
     requires sound { IsSound step.old.current }
-    requires running { runs step.old.current process ≡ true }
+    requires running { has_live_process step.old.current process ≡ true }
     ensures does { Does (process_made step.old.current process job given) step.old step.new result }
     ensures kept { Keeps step.old.places step.new.places }
 {
@@ -157,8 +163,8 @@ pub fn job_set_critical(
     ensures does { Does (job_set_critical step.old.current process job critical) step.old step.new result }
     ensures kept { Keeps step.old.places step.new.places }
 {
-    let (above, _) = handle_to(step, process, job, WantedKind::Job, Rights::DESTROY)?;
-    let (held, object) = handle_to(step, process, critical, WantedKind::Process, Rights::WAIT)?;
+    let (above, _) = handle_to(step, process, job, ExpectedKind::Job, Rights::DESTROY)?;
+    let (held, object) = handle_to(step, process, critical, ExpectedKind::Process, Rights::WAIT)?;
     if object.critical != Koid(0) {
         return Err(Failure::Status(Status::AlreadyBound));
     }
@@ -182,7 +188,7 @@ pub fn task_kill(
     ensures does { Does (task_kill step.old.current process handle) step.old step.new result }
     ensures kept { Keeps step.old.places step.new.places }
 {
-    let (held, task) = handle_to(step, process, handle, WantedKind::Task, Rights::DESTROY)?;
+    let (held, task) = handle_to(step, process, handle, ExpectedKind::Task, Rights::DESTROY)?;
     if task.life == Life::Live {
         *released = end_subtree(alloc, step, held.koid, Life::Killed)?;
     }
@@ -199,7 +205,7 @@ pub fn process_exit(
     released: &mut Vec<Held>,
 ) -> Result<Reply, Failure>
     requires sound { IsSound step.old.current }
-    requires running { runs step.old.current process ≡ true }
+    requires running { has_live_process step.old.current process ≡ true }
     ensures does { Does (process_exit step.old.current process code) step.old step.new result }
     ensures kept { Keeps step.old.places step.new.places }
 {

@@ -14,4 +14,4 @@ mod received_message;
 mod sent_message;
 mod taken_handles;
 
-pub use applied_call::{apply, run_on, runs};
+pub use applied_call::{apply, has_live_process, run_on};

@@ -1,7 +1,7 @@
 //! The system calls that make events and event pairs, and those that set signals.
 
 ghost use Rattle.std.specs.Prelude.{◌≡◌, true};
-ghost use Rattle.zt_rows.specs.Reads.{runs};
+ghost use Rattle.zt_rows.specs.Reads.{has_live_process};
 ghost use Rattle.zt_rows.specs.Room.{HasRoom};
 ghost use Rattle.zt_rows.specs.Tests.{is_endpoint};
 ghost use Rattle.zt_rows.specs.ObjectCalls.{create, create_pair, event_create, eventpair_create, object_signal, object_signal_peer};
@@ -10,7 +10,7 @@ ghost use Rattle.zt_store.specs.Places.{Keeps};
 ghost use Rattle.zt_calls.specs.ProofsOnly.CallOutcomes.{Does};
 
 use crate::failure::Failure;
-use crate::handle_arguments::{WantedKind, handle_to, may_set};
+use crate::handle_arguments::{ExpectedKind, handle_to, may_set};
 use crate::new_objects::{new_object, new_pair, whole};
 use zt_bits::{Kind, Rights, Signals, Status};
 use zt_rows::{HandleValue, Koid, Reply};
@@ -22,7 +22,7 @@ use zt_tables::{install, install_pair};
 pub(crate) fn create(step: &mut Step, process: Koid, kind: Kind) -> Result<Reply, Failure>
     requires room { HasRoom step.old.current }
     requires sound { IsSound step.old.current }
-    requires running { runs step.old.current process ≡ true }
+    requires running { has_live_process step.old.current process ≡ true }
     ensures does { Does (create kind step.old.current process) step.old step.new result }
     ensures kept { Keeps step.old.places step.new.places }
 {
@@ -36,7 +36,7 @@ pub fn create_pair(step: &mut Step, process: Koid, kind: Kind) -> Result<Reply, 
     requires endpoint { is_endpoint kind ≡ true }
     requires room { HasRoom step.old.current }
     requires sound { IsSound step.old.current }
-    requires running { runs step.old.current process ≡ true }
+    requires running { has_live_process step.old.current process ≡ true }
     ensures does { Does (create_pair kind step.old.current process) step.old step.new result }
     ensures kept { Keeps step.old.places step.new.places }
 {
@@ -49,7 +49,7 @@ pub fn create_pair(step: &mut Step, process: Koid, kind: Kind) -> Result<Reply, 
 pub fn event_create(step: &mut Step, process: Koid) -> Result<Reply, Failure>
     requires room { HasRoom step.old.current }
     requires sound { IsSound step.old.current }
-    requires running { runs step.old.current process ≡ true }
+    requires running { has_live_process step.old.current process ≡ true }
     ensures does { Does (event_create step.old.current process) step.old step.new result }
     ensures kept { Keeps step.old.places step.new.places }
 {
@@ -60,7 +60,7 @@ pub fn event_create(step: &mut Step, process: Koid) -> Result<Reply, Failure>
 pub fn eventpair_create(step: &mut Step, process: Koid) -> Result<Reply, Failure>
     requires room { HasRoom step.old.current }
     requires sound { IsSound step.old.current }
-    requires running { runs step.old.current process ≡ true }
+    requires running { has_live_process step.old.current process ≡ true }
     ensures does { Does (eventpair_create step.old.current process) step.old step.new result }
     ensures kept { Keeps step.old.places step.new.places }
 {
@@ -79,7 +79,7 @@ pub fn object_signal(
     ensures does { Does (object_signal step.old.current process handle clear.0 set.0) step.old step.new result }
     ensures kept { Keeps step.old.places step.new.places }
 {
-    let (held, object) = handle_to(step, process, handle, WantedKind::Any, Rights::SIGNAL)?;
+    let (held, object) = handle_to(step, process, handle, ExpectedKind::Any, Rights::SIGNAL)?;
     if !may_set(object.kind, clear, set) {
         return Err(Failure::Status(Status::InvalidArgs));
     }
@@ -105,7 +105,7 @@ pub fn object_signal_peer(
         step,
         process,
         handle,
-        WantedKind::Endpoint,
+        ExpectedKind::Endpoint,
         Rights::SIGNAL_PEER,
     )?;
     if !may_set(object.kind, clear, set) {

@@ -1,7 +1,7 @@
 //! The system calls on ports, and the waits that send packets to them.
 
 ghost use Rattle.std.specs.Prelude.{◌≡◌, true};
-ghost use Rattle.zt_rows.specs.Reads.{runs};
+ghost use Rattle.zt_rows.specs.Reads.{has_live_process};
 ghost use Rattle.zt_rows.specs.Room.{HasRoom};
 ghost use Rattle.zt_rows.specs.Consistent.{IsSound};
 ghost use Rattle.zt_rows.specs.PortCalls.{object_wait_async, port_cancel, port_create, port_queue, port_wait};
@@ -9,7 +9,7 @@ ghost use Rattle.zt_store.specs.Places.{Keeps};
 ghost use Rattle.zt_calls.specs.ProofsOnly.CallOutcomes.{Does};
 
 use crate::failure::Failure;
-use crate::handle_arguments::{WantedKind, handle_to};
+use crate::handle_arguments::{ExpectedKind, handle_to};
 use crate::object_calls::create;
 use zt_bits::{Kind, Rights, Signals, Status};
 use zt_ports::{cancel, pending, queue, take_front};
@@ -24,7 +24,7 @@ const MOST_PENDING: u64 = 2048;
 pub fn port_create(step: &mut Step, process: Koid) -> Result<Reply, Failure>
     requires room { HasRoom step.old.current }
     requires sound { IsSound step.old.current }
-    requires running { runs step.old.current process ≡ true }
+    requires running { has_live_process step.old.current process ≡ true }
     ensures does { Does (port_create step.old.current process) step.old step.new result }
     ensures kept { Keeps step.old.places step.new.places }
 {
@@ -46,8 +46,8 @@ pub fn object_wait_async(
     ensures does { Does (object_wait_async step.old.current process handle port key signals.0 edge) step.old step.new result }
     ensures kept { Keeps step.old.places step.new.places }
 {
-    handle_to(step, process, handle, WantedKind::Any, Rights::WAIT)?;
-    let (held, _) = handle_to(step, process, port, WantedKind::Port, Rights::WRITE)?;
+    handle_to(step, process, handle, ExpectedKind::Any, Rights::WAIT)?;
+    let (held, _) = handle_to(step, process, port, ExpectedKind::Port, Rights::WRITE)?;
     let wait = Wait {
         process,
         handle,
@@ -74,7 +74,7 @@ pub fn port_queue(
     ensures does { Does (port_queue step.old.current process port key bytes) step.old step.new result }
     ensures kept { Keeps step.old.places step.new.places }
 {
-    let (held, _) = handle_to(step, process, port, WantedKind::Port, Rights::WRITE)?;
+    let (held, _) = handle_to(step, process, port, ExpectedKind::Port, Rights::WRITE)?;
     if pending(step, held.koid) >= MOST_PENDING {
         return Err(Failure::Status(Status::ShouldWait));
     }
@@ -88,7 +88,7 @@ pub fn port_wait(step: &mut Step, process: Koid, port: HandleValue) -> Result<Re
     ensures does { Does (port_wait step.old.current process port) step.old step.new result }
     ensures kept { Keeps step.old.places step.new.places }
 {
-    let (held, _) = handle_to(step, process, port, WantedKind::Port, Rights::READ)?;
+    let (held, _) = handle_to(step, process, port, ExpectedKind::Port, Rights::READ)?;
     let packet = take_front(step, held.koid)?.ok_or(Status::TimedOut)?;
     Ok(Reply::Packet(packet))
 }
@@ -107,8 +107,8 @@ pub fn port_cancel(
     ensures does { Does (port_cancel step.old.current process port source key) step.old step.new result }
     ensures kept { Keeps step.old.places step.new.places }
 {
-    let (held, _) = handle_to(step, process, port, WantedKind::Port, Rights::WRITE)?;
-    handle_to(step, process, source, WantedKind::Any, Rights::WAIT)?;
+    let (held, _) = handle_to(step, process, port, ExpectedKind::Port, Rights::WRITE)?;
+    handle_to(step, process, source, ExpectedKind::Any, Rights::WAIT)?;
     if !cancel(step, held.koid, process, source, key)? {
         return Err(Failure::Status(Status::NotFound));
     }

@@ -1,7 +1,7 @@
 //! Takes a message from a queue and gives its handles to the reader.
 
 ghost use Rattle.std.specs.Prelude.{◌≡◌, ◌≤◌, ◌+◌, ◌-◌, ◌^◌, true, length, IfOk, OnErr};
-ghost use Rattle.zt_rows.specs.Reads.{queue, runs};
+ghost use Rattle.zt_rows.specs.Reads.{queue, has_live_process};
 ghost use Rattle.zt_rows.specs.Tests.{first, next_at};
 ghost use Rattle.zt_rows.specs.Room.{HasRoom};
 ghost use Rattle.zt_rows.specs.Handles.{caller, install_all, values_from};
@@ -35,7 +35,7 @@ pub fn take_message(
     endpoint: Koid,
 ) -> Result<Reply, Failure>
     requires room { HasRoom step.old.current }
-    requires running { runs step.old.current process ≡ true }
+    requires running { has_live_process step.old.current process ≡ true }
     ensures does { let S = step.old.current in
         Does (received (first (queue S endpoint)) S process endpoint) step.old step.new result }
     ensures kept { Keeps step.old.places step.new.places }

@@ -5,7 +5,7 @@ ghost use Rattle.zt_rows.specs.ChannelCalls.{sent};
 ghost use Rattle.zt_calls.specs.ProofsOnly.SentMessage.{Finds, message_for, sendable};
 
 use crate::failure::Failure;
-use crate::handle_arguments::{WantedKind, handle_to};
+use crate::handle_arguments::{ExpectedKind, handle_to};
 use std::alloc::Global;
 use zt_bits::{Rights, Status};
 use zt_rows::{HandleValue, Held, Items, Koid, Message, Parcel};
@@ -25,7 +25,7 @@ pub fn message_for(
 ) -> Result<(Koid, Message), Failure>
     ensures { Finds (message_for step.now.current process handle parcel.now.bytes parcel.now.handles) result }
 {
-    let (_, object) = handle_to(step, process, handle, WantedKind::Channel, Rights::WRITE)?;
+    let (_, object) = handle_to(step, process, handle, ExpectedKind::Channel, Rights::WRITE)?;
     let handles = sent(alloc, step, process, handle, parcel.handles().as_slice())?;
     step.store().object(object.link).ok_or(Status::PeerClosed)?;
     parcel.limits();

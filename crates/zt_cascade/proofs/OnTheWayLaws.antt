@@ -18,7 +18,7 @@ use Rattle.zt_rows.proofs.SoundLaws.{task-not-endpoint, and_no_left, link-kept}
 use Rattle.zt_rows.proofs.CollectLaws.{goes-there, goes-free, stays-supported, without-none}
 use Rattle.zt_rows.proofs.WithoutLaws.{without-twice, collect-justified}
 use Rattle.zt_store.specs.KoidSets.{only}
-use Rattle.zt_cascade.specs.OneByOne.{IsOnTheWay, IsLetGo, by_message, by_link}
+use Rattle.zt_cascade.specs.OneByOne.{IsOnTheWay, IsReleased, by_message, by_link}
 
 -- ---- the way
 
@@ -47,17 +47,17 @@ on_the_way-end S T way none =
 -- ---- what newly goes
 
 -- either x may let y go, or what keeps y keeps it once x is gone
-still-kept : (S : State) (x y : ℕ) → (y == x) ≡ false → KeptBy S y → IsLetGo S x y ⊎ KeptBy (without S (only x)) y
+still-kept : (S : State) (x y : ℕ) → (y == x) ≡ false → KeptBy S y → IsReleased S x y ⊎ KeptBy (without S (only x)) y
 still-kept S x y apart (by_entry p h held e g) = inr (by_entry p h held (entry-without (only x) S p h ∙ e) g)
 still-kept S x y apart (support.by_message e n m held f l g) =
-    elim (e == x) as (λ b. (e == x) ≡ b → IsLetGo S x y ⊎ KeptBy (without S (only x)) y) [
+    elim (e == x) as (λ b. (e == x) ≡ b → IsReleased S x y ⊎ KeptBy (without S (only x)) y) [
       | true ↦ λ t.
           let here : message S x n ≡ Some m = ap (λ z. message S z n) (sym (eqb-true e x t)) ∙ f in
           inl (by_message n m here (list_any-in (λ (h : Held). h.koid == y) held m.handles l (eq-eqb held.koid y g)))
       | false ↦ λ t. inr (support.by_message e n m held (message-without (only x) S e n ∙ ap (λ b. cond b None (message S e n)) t ∙ f) l g)
     ] refl
 still-kept S x y apart (by_child o z c f live there task g) =
-    elim (z == x) as (λ b. (z == x) ≡ b → IsLetGo S x y ⊎ KeptBy (without S (only x)) y) [
+    elim (z == x) as (λ b. (z == x) ≡ b → IsReleased S x y ⊎ KeptBy (without S (only x)) y) [
       | true ↦ λ t. inl (by_link (ap (λ k. link_at S k) (sym (eqb-true z x t)) ∙ ap object_link there ∙ g))
       | false ↦ λ t.
           let plain : is_endpoint c.kind ≡ false = task-not-endpoint c task in
@@ -66,7 +66,7 @@ still-kept S x y apart (by_child o z c f live there task g) =
     ] refl
 still-kept S x y apart (by_itself o f t) = inr (by_itself (unlinked (only x) o) (stays (only x) S y o f apart) t)
 
-pub goes-newly : (S : State) (x y : ℕ) → goes (without S (only x)) y ≡ true → goes S y ≡ false → IsLetGo S x y
+pub goes-newly : (S : State) (x y : ℕ) → goes (without S (only x)) y ≡ true → goes S y ≡ false → IsReleased S x y
 goes-newly S x y g before =
     let w = some-exists (without S (only x)) y (goes-there (without S (only x)) y g) in
     let p = stayed (only x) S y w.0 w.1 in

@@ -13,7 +13,7 @@ use Rattle.zt_rows.proofs.RowLaws.{or_true, or_left, or_right, not_true, true≢
 use Rattle.zt_rows.proofs.ReadLaws.{some-exists, stayed}
 use Rattle.zt_rows.proofs.CollectLaws.{goes-there, free-goes, supported-stays}
 use Rattle.zt_store.specs.KoidSets.{only}
-use Rattle.zt_cascade.specs.OneByOne.{IsOnTheWay, IsLetGo}
+use Rattle.zt_cascade.specs.OneByOne.{IsOnTheWay, IsReleased}
 use Rattle.zt_cascade.specs.JoinedLinks.{IsJoined}
 use Rattle.zt_cascade.specs.ProofsOnly.LostObjects.{IsListedFree}
 use Rattle.zt_cascade.specs.ProofsOnly.RemovedObject.{Covers}
@@ -100,7 +100,7 @@ gone-itself S x g =
     let w = some-exists (without S (only x)) x (goes-there (without S (only x)) x g) in
     true≢false (x == x) (eq-eqb x x refl) (stayed (only x) S x w.0 w.1).3
 
-pub covers-gone : (x : ℕ) (S T : State) (list later : List ℕ) → T ≡ without S (only x) → ((y : ℕ) → IsLetGo S x y → among later y ≡ true) → ((y : ℕ) → among list y ≡ true → among later y ≡ true)
+pub covers-gone : (x : ℕ) (S T : State) (list later : List ℕ) → T ≡ without S (only x) → ((y : ℕ) → IsReleased S x y → among later y ≡ true) → ((y : ℕ) → among list y ≡ true → among later y ≡ true)
     → Covers (x ∷ list) S → Covers later T
 covers-gone x S T list later gone noted grown covers = subst (Covers later) (sym gone) (record { each = λ y g. before y g (goes S y) refl })
   where

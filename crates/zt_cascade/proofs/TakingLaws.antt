@@ -22,7 +22,7 @@ use Rattle.zt_rows.proofs.StateLaws.{row-put-other, row-put-same}
 use Rattle.zt_rows.proofs.RowLaws.{and_left, and_right, or_left, or_right, not_true, true≢false}
 use Rattle.zt_rows.proofs.ReadLaws.{some_one, object-row, message-row}
 use Rattle.zt_rows.proofs.SoundLaws.{and_no_right}
-use Rattle.zt_cascade.specs.OneByOne.{is_named, IsLetGo, by_message, by_link}
+use Rattle.zt_cascade.specs.OneByOne.{is_named, IsReleased, by_message, by_link}
 use Rattle.zt_cascade.specs.JoinedLinks.{IsJoined}
 use Rattle.zt_index.specs.Chains.{IsNext}
 use Rattle.zt_index.specs.Criteria.{is_for, waits_where}
@@ -240,7 +240,7 @@ taken-out x S A B C D a objects b messages c packets d waits =
 
 -- what the object may let go was noted
 pub taken-noted : (x : ℕ) (S A B : State) (o : ObjectRow) (list later : List ℕ) → object S x ≡ Some o → ((n : ℕ) → message A x n ≡ message S x n)
-    → AreHandlesListed x A list B later → ((n : ℕ) → row B (key.Msg x n) ≡ None) → (y : ℕ) → IsLetGo S x y → among (later ++ o.link ∷ []) y ≡ true
+    → AreHandlesListed x A list B later → ((n : ℕ) → row B (key.Msg x n) ≡ None) → (y : ℕ) → IsReleased S x y → among (later ++ o.link ∷ []) y ≡ true
 taken-noted x S A B o list later there same h gone y (by_message n m e g) = elim (h.noted n m (same n ∙ e) y g) [
   | inl still ↦ absurd (no_message (row B (key.Msg x n)) (gone n) still)
   | inr found ↦ among-left later (o.link ∷ []) y found

@@ -1,4 +1,4 @@
--- What a step can have woken: where it began consistent, a wait that is met was made in it, or is on an entry or at an
+-- What a step can have satisfied: where it began consistent, a wait that is met was made in it, or is on an entry or at an
 -- object that it changed.
 use Rattle.std.proofs.Common.{◌≡◌, ◌<◌, ◌≤◌, ◌-◌, ◌^◌, ℕ, ◌+◌, Bool, true, false, not, List, [], ◌∷◌, ◌++◌, refl, sym, ap, ◌∙◌, subst, arith, inl, inr, w32, min}
 use Rattle.std.specs.Prelude.{◌==◌, nat_le, if◌then◌else◌, Option, None, Some, is_some, bit_and}
@@ -22,7 +22,7 @@ use Rattle.zt_rows.proofs.RowLaws.{and_both, or_left, true≢false}
 use Rattle.zt_index.specs.Chains.{IsBehind, IsNext}
 use Rattle.zt_index.specs.Criteria.{is_at, is_on, names}
 use Rattle.zt_store.specs.StepView.{DiffersAtTouched, Stepping, listed}
-use Rattle.zt_cascade.specs.ProofsOnly.RaisedWaits.{HasMet, HasWoken, IsLonger}
+use Rattle.zt_cascade.specs.ProofsOnly.RaisedWaits.{HasMet, HasCandidates, IsLonger}
 use Rattle.zt_cascade.proofs.TakingLaws.{among-left, among-right}
 use Rattle.zt_cascade.proofs.TouchedLaws.{LastsLonger}
 
@@ -80,16 +80,16 @@ passed-end q low None list none last passed n there = by (is_passed low n) refl
 
 -- ---- the keys that were put
 
-pub woken-longer : (B T : State) → LastsLonger (HasWoken B T)
-woken-longer B T (key.Wait n) list later longer h = λ w there met. longer n (h w there met)
-woken-longer B T (key.Entry p g) list later longer (inl new) = inl new
-woken-longer B T (key.Entry p g) list later longer (inr h) = inr (λ n t. longer n (h n t))
-woken-longer B T (key.Object x) list later longer (inl new) = inl new
-woken-longer B T (key.Object x) list later longer (inr (inl stood)) = inr (inl stood)
-woken-longer B T (key.Object x) list later longer (inr (inr h)) = inr (inr (λ n t. longer n (h n t)))
-woken-longer B T key.Counters list later longer h = tt
-woken-longer B T (key.Msg e n) list later longer h = tt
-woken-longer B T (key.Packet p n) list later longer h = tt
+pub candidate_waits-longer : (B T : State) → LastsLonger (HasCandidates B T)
+candidate_waits-longer B T (key.Wait n) list later longer h = λ w there met. longer n (h w there met)
+candidate_waits-longer B T (key.Entry p g) list later longer (inl new) = inl new
+candidate_waits-longer B T (key.Entry p g) list later longer (inr h) = inr (λ n t. longer n (h n t))
+candidate_waits-longer B T (key.Object x) list later longer (inl new) = inl new
+candidate_waits-longer B T (key.Object x) list later longer (inr (inl stood)) = inr (inl stood)
+candidate_waits-longer B T (key.Object x) list later longer (inr (inr h)) = inr (inr (λ n t. longer n (h n t)))
+candidate_waits-longer B T key.Counters list later longer h = tt
+candidate_waits-longer B T (key.Msg e n) list later longer h = tt
+candidate_waits-longer B T (key.Packet p n) list later longer h = tt
 
 -- ---- signals that stood
 
@@ -128,7 +128,7 @@ unmet-among S T w stood plain = ap (λ s. not (s == 0)) (by w.edge refl)
 
 -- ---- what is met
 
-module _ (s : Stepping) (list : List ℕ) (began : IsConsistent s.beginning) (differs : DiffersAtTouched s) (all : (k : RowKey) → listed s.touched k ≡ true → HasWoken s.beginning s.current k list) where
+module _ (s : Stepping) (list : List ℕ) (began : IsConsistent s.beginning) (differs : DiffersAtTouched s) (all : (k : RowKey) → listed s.touched k ≡ true → HasCandidates s.beginning s.current k list) where
   module _ (n : ℕ) (w : Wait) (there : wait s.current n ≡ Some w) (met : is_met s.beginning s.current w ≡ true) where
     module _ (stood : wait s.beginning n ≡ Some w) (unmoved : entry s.current w.process w.handle ≡ entry s.beginning w.process w.handle) where
       -- a wait that was there, on an entry that was, whose object has no signal that it had not, is not met
@@ -145,7 +145,7 @@ module _ (s : Stepping) (list : List ℕ) (began : IsConsistent s.beginning) (di
           let names : exists s.beginning held.koid ≡ true = (began.sound.of_entries w.process w.handle held (sym unmoved ∙ is)).names in
           absurd (true≢false (exists s.beginning held.koid) names (ap is_some none))
 
-      at-object : (held : Held) → entry s.current w.process w.handle ≡ Some held → HasWoken s.beginning s.current (key.Object held.koid) list → among list n ≡ true
+      at-object : (held : Held) → entry s.current w.process w.handle ≡ Some held → HasCandidates s.beginning s.current (key.Object held.koid) list → among list n ≡ true
       at-object held is (inl none) = named_there held is none
       at-object held is (inr (inl stood)) = quiet (Some held) is (eqb-true _ _ stood)
       at-object held is (inr (inr lists)) = lists n (ap (λ o. option_map_or (is_at s.current held.koid) o false) there ∙ ap (names held.koid) is ∙ eq-eqb held.koid held.koid refl)
@@ -161,7 +161,7 @@ module _ (s : Stepping) (list : List ℕ) (began : IsConsistent s.beginning) (di
       by_held (Some held) is = by_object held is (listed s.touched (key.Object held.koid)) refl
 
     -- a wait of the beginning is on an entry of the beginning
-    on_entry : wait s.beginning n ≡ Some w → HasWoken s.beginning s.current (key.Entry w.process w.handle) list → among list n ≡ true
+    on_entry : wait s.beginning n ≡ Some w → HasCandidates s.beginning s.current (key.Entry w.process w.handle) list → among list n ≡ true
     on_entry stood (inl none) = let sound = began.sound.of_waits n w stood in absurd (no_held (entry s.beginning w.process w.handle) sound.held none sound.there)
       where
         no_held : (o : Option Held) (held : Held) → o ≡ None → o ≡ Some held → ⊥
@@ -178,5 +178,5 @@ module _ (s : Stepping) (list : List ℕ) (began : IsConsistent s.beginning) (di
     by_wait true t = all (key.Wait n) t w there met
     by_wait false t = by_entry (ap as_wait (sym (differs (key.Wait n) t)) ∙ there) (listed s.touched (key.Entry w.process w.handle)) refl
 
-  pub met-woken : HasMet s.beginning s.current list
-  met-woken = record { each = λ n w there met. by_wait n w there met (listed s.touched (key.Wait n)) refl }
+  pub met-candidate_waits : HasMet s.beginning s.current list
+  met-candidate_waits = record { each = λ n w there met. by_wait n w there met (listed s.touched (key.Wait n)) refl }

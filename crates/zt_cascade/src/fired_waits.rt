@@ -9,14 +9,14 @@ ghost use Rattle.zt_store.specs.ProofsOnly.StepView.{IsAhead};
 ghost use Rattle.zt_cascade.specs.PacketRoom.{FiresWithin};
 ghost use Rattle.zt_cascade.specs.ProofsOnly.RaisedWaits.{HasRoomFor, fire_number};
 
-use crate::raised_waits::woken;
+use crate::raised_waits::candidate_waits;
 use std::alloc::AllocError;
 use zt_ports::fire;
 use zt_store::Step;
 
 /// Fires the waits that are met, by rising number.
 ///
-/// The step began consistent, so only waits that this step may have woken can be met. No other wait is looked at. If
+/// The step began consistent, so only waits that this step may have satisfied can be met. No other wait is looked at. If
 /// there never was a wait, nothing is looked at. If an allocation fails, the step is left half done.
 pub(crate) fn fire_all(step: &mut Step) -> Result<(), AllocError>
     requires began { IsConsistent step.old.beginning }
@@ -28,7 +28,7 @@ pub(crate) fn fire_all(step: &mut Step) -> Result<(), AllocError>
         return Ok(());
     }
     let list = step.take_numbers();
-    let mut numbers = woken(step, list)?;
+    let mut numbers = candidate_waits(step, list)?;
     numbers.sort_unstable();
     for number in &numbers {
         fire_number(step, *number)?;

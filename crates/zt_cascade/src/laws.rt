@@ -13,7 +13,7 @@ ghost use Rattle.zt_rows.specs.Tests.{exists, next_at};
 ghost use Rattle.zt_store.specs.StepView.{Stepping};
 ghost use Rattle.zt_store.specs.KoidSets.{only};
 ghost use Rattle.zt_cascade.specs.ToldObjects.{IsCovered};
-ghost use Rattle.zt_cascade.specs.OneByOne.{IsLetGo, IsOnTheWay};
+ghost use Rattle.zt_cascade.specs.OneByOne.{IsReleased, IsOnTheWay};
 ghost use Rattle.zt_cascade.specs.JoinedLinks.{IsJoined};
 
 /// A state is on the way from itself. One more object that goes leads further on the way. If nothing goes any more, the
@@ -26,7 +26,7 @@ pub fn one_at_a_time_is_collecting()
 
 /// If an object goes only since another one is gone, a handle in that one's queue named it, or its link did.
 pub fn what_newly_goes_was_named()
-    ensures { (S : State) (x y : ℕ) → goes (without S (only x)) y ≡ true → goes S y ≡ false → IsLetGo S x y }
+    ensures { (S : State) (x y : ℕ) → goes (without S (only x)) y ≡ true → goes S y ≡ false → IsReleased S x y }
 {}
 
 /// Removing objects leaves the links of endpoints joined both ways.

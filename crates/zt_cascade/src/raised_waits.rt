@@ -1,4 +1,4 @@
-//! Lists the waits that a step may have woken.
+//! Lists the waits that a step may have satisfied.
 
 ghost use Rattle.std.specs.Prelude.{◌≡◌, IfOk, OnOk};
 ghost use Rattle.std.specs.Option.{option_copied};
@@ -7,7 +7,7 @@ ghost use Rattle.zt_rows.specs.Reads.{object};
 ghost use Rattle.zt_rows.specs.State.{row};
 ghost use Rattle.zt_rows.specs.Tests.{has_all, signals_at};
 ghost use Rattle.zt_index.specs.Criteria.{is_at, is_on};
-ghost use Rattle.zt_cascade.specs.ProofsOnly.RaisedWaits.{HasMet, HasWoken, HasWokenAt, IsLonger, Lists, ListsMet};
+ghost use Rattle.zt_cascade.specs.ProofsOnly.RaisedWaits.{HasMet, HasCandidates, HasCandidatesAt, IsLonger, Lists, ListsMet};
 
 use std::alloc::AllocError;
 use zt_ports::is_met;
@@ -16,13 +16,13 @@ use zt_store::Step;
 
 /// Adds to the list the numbers of the waits that can have come to be met in this step. All waits that are met are
 /// among them, since the step began consistent and none was met then.
-pub(crate) fn woken(step: &Step, mut list: Vec<u64>) -> Result<Vec<u64>, AllocError>
+pub(crate) fn candidate_waits(step: &Step, mut list: Vec<u64>) -> Result<Vec<u64>, AllocError>
     requires { IsConsistent step.now.beginning }
     ensures { IfOk result (λ list. HasMet step.now.beginning step.now.current list.items) }
 {
     for i in 0..step.touched_len() {
         let (key, first) = step.touched_at(i);
-        add_woken(step, key, first, &mut list)?;
+        add_candidates(step, key, first, &mut list)?;
     }
     Ok(list)
 }
@@ -32,14 +32,14 @@ pub(crate) fn woken(step: &Step, mut list: Vec<u64>) -> Result<Vec<u64>, AllocEr
 /// - the wait itself, if it is met;
 /// - the waits on an entry that was there;
 /// - the waits at an object that was there, if a signal rose on it.
-fn add_woken(
+fn add_candidates(
     step: &Step,
     key: RowKey,
     first: Option<&Row>,
     list: &mut Vec<u64>,
 ) -> Result<(), AllocError>
     requires { option_copied first ≡ row step.now.beginning key }
-    ensures woken { OnOk result (HasWoken step.now.beginning step.now.current key list.new.items) }
+    ensures candidates { OnOk result (HasCandidates step.now.beginning step.now.current key list.new.items) }
     ensures longer { OnOk result (IsLonger list.old.items list.new.items) }
 {
     match key {
@@ -95,7 +95,7 @@ fn add_waits_near(
     list: &mut Vec<u64>,
 ) -> Result<(), AllocError>
     requires { object step.now.beginning koid ≡ option_copied first }
-    ensures listed { OnOk result (HasWokenAt step.now.beginning step.now.current koid list.new.items) }
+    ensures listed { OnOk result (HasCandidatesAt step.now.beginning step.now.current koid list.new.items) }
     ensures longer { OnOk result (IsLonger list.old.items list.new.items) }
 {
     let Some(first) = first else {

@@ -12,7 +12,7 @@ ghost use Rattle.zt_store.specs.ProofsOnly.StepView.{IsAhead};
 ghost use Rattle.zt_store.specs.KoidSets.{only};
 ghost use Rattle.zt_cascade.specs.JoinedLinks.{IsJoined};
 ghost use Rattle.zt_cascade.specs.ProofsOnly.RemovedObject.{left_behind, IsLeft, AreHandlesListed, IsPartly, handles_in, koids, weight};
-ghost use Rattle.zt_cascade.specs.OneByOne.{IsLetGo};
+ghost use Rattle.zt_cascade.specs.OneByOne.{IsReleased};
 
 use std::alloc::AllocError;
 use zt_bits::Kind;
@@ -30,7 +30,7 @@ pub(crate) fn take_out(
     requires joined { IsJoined step.old.current }
     ensures ahead { IsAhead step.old step.new }
     ensures ok { OnOk result (step.new.current ≡ without step.old.current (only koid)) }
-    ensures noted { OnOk result ((y : ℕ) → IsLetGo step.old.current koid y → among list.new.items y ≡ true) }
+    ensures noted { OnOk result ((y : ℕ) → IsReleased step.old.current koid y → among list.new.items y ≡ true) }
     ensures grown { OnOk result ((y : ℕ) → among list.old.items y ≡ true → among list.new.items y ≡ true) }
     ensures lighter { OnOk result (weight step.new.current + length list.new.items ≤ weight step.old.current + length list.old.items) }
 {

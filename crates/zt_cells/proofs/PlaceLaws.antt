@@ -3,7 +3,7 @@ use Rattle.std.proofs.Common.{◌≡◌, Some, refl}
 use Rattle.zt_rows.specs.declared.rows.Row.{Row}
 use Rattle.zt_rows.specs.declared.rows.Row.TheVariants as rows
 use Rattle.zt_rows.specs.declared.rows.Counters.{Counters}
-use Rattle.zt_cells.specs.BareRows.{row_in}
+use Rattle.zt_cells.specs.RowSlots.{row_in}
 
 pub row_in-other : (row : Row) → ((counters : Counters) → row ≡ rows.Counters counters → ⊥) → row_in row ≡ Some row
 row_in-other (rows.Counters counters) other = absurd (other counters refl)

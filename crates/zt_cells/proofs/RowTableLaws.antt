@@ -10,7 +10,7 @@ use Rattle.zt_rows.specs.declared.rows.Row.{Row}
 use Rattle.zt_rows.specs.Keys.{rowkey_eq}
 use Rattle.zt_cells.specs.ProofsOnly.TablePlaces.{cell, table, cell_at, set_at, lengths, by_owner, entry, entry_table, set_entry, entry_places}
 use Rattle.zt_cells.specs.ProofsOnly.RowTables.{look, sizes_of, places_in, Exchanged, Widened, MadeFor}
-use Rattle.zt_cells.specs.BareRows.{row_in, row_under}
+use Rattle.zt_cells.specs.RowSlots.{row_in, decode_slot}
 use Rattle.zt_cells.specs.TableSizes.{TableSizes, place_of, length_at}
 use Rattle.zt_cells.specs.declared.cells.row_tables.RowTables.{RowTables}
 
@@ -207,21 +207,21 @@ looks-Counters c row (key.Msg z w) = refl
 looks-Counters c row (key.Packet z w) = refl
 looks-Counters c row (key.Wait z) = refl
 
-pub exchanged-Counters : (c : RowTables) (k : RowKey) (new row out : Row) → k ≡ key.Counters → new ≡ row → out ≡ c.counters → Exchanged c (record c { counters = new }) k (row_under k row) (row_under k out)
+pub exchanged-Counters : (c : RowTables) (k : RowKey) (new row out : Row) → k ≡ key.Counters → new ≡ row → out ≡ c.counters → Exchanged c (record c { counters = new }) k (decode_slot k row) (decode_slot k out)
 unfolding look sizes_of
 exchanged-Counters c k new row out is put was =
-    subst (λ z. Exchanged c (record c { counters = new }) z (row_under z row) (row_under z out)) (sym is) (subst (λ r. Exchanged c (record c { counters = r }) key.Counters (Some row) (Some out)) (sym put) (record {
+    subst (λ z. Exchanged c (record c { counters = new }) z (decode_slot z row) (decode_slot z out)) (sym is) (subst (λ r. Exchanged c (record c { counters = r }) key.Counters (Some row) (Some out)) (sym put) (record {
       out = ap Some was;
       looks = looks-Counters c row;
       sizes = refl;
     }))
 
 -- under another key than that of the counters, rows stand for what they stand for in a place
-pub exchanged-under : (c d : RowTables) (k : RowKey) (row out : Row) → ((r : Row) → row_in r ≡ row_under k r) → Exchanged c d k (row_in row) (row_in out) → Exchanged c d k (row_under k row) (row_under k out)
-exchanged-under c d k row out same x = subst (λ o. Exchanged c d k (row_under k row) o) (same out) (subst (λ r. Exchanged c d k r (row_in out)) (same row) x)
+pub exchanged-under : (c d : RowTables) (k : RowKey) (row out : Row) → ((r : Row) → row_in r ≡ decode_slot k r) → Exchanged c d k (row_in row) (row_in out) → Exchanged c d k (decode_slot k row) (decode_slot k out)
+exchanged-under c d k row out same x = subst (λ o. Exchanged c d k (decode_slot k row) o) (same out) (subst (λ r. Exchanged c d k r (row_in out)) (same row) x)
 
-pub under_same : (k q : RowKey) → k ≡ q → ((r : Row) → row_in r ≡ row_under q r) → (r : Row) → row_in r ≡ row_under k r
-under_same k q is same r = same r ∙ ap (λ z. row_under z r) (sym is)
+pub under_same : (k q : RowKey) → k ≡ q → ((r : Row) → row_in r ≡ decode_slot q r) → (r : Row) → row_in r ≡ decode_slot k r
+under_same k q is same r = same r ∙ ap (λ z. decode_slot z r) (sym is)
 
 -- ---- a growth of each table
 

@@ -1,6 +1,6 @@
 -- Definitions to believe: public clauses are stated in them.
 pub mod TableSizes
-pub mod BareRows
+pub mod RowSlots
 pub mod CellsView
 pub mod FirstNumber
 pub mod AlikeObjects

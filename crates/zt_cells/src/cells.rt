@@ -9,7 +9,7 @@ ghost use Rattle.zt_rows.specs.Reads.{counters, entry, message, object, packet, 
 ghost use Rattle.zt_rows.specs.Room.{SuitsKey};
 ghost use Rattle.zt_rows.specs.State.{row, put};
 ghost use Rattle.zt_cells.specs.AlikeObjects.{AlikeExchanged};
-ghost use Rattle.zt_cells.specs.BareRows.{row_under};
+ghost use Rattle.zt_cells.specs.RowSlots.{decode_slot};
 ghost use Rattle.zt_cells.specs.TableSizes.{most_places, objects_after, owners_in, packets_after, waits_after, has_place, no_sizes};
 ghost use Rattle.zt_cells.specs.CellsView.{CellsView};
 ghost use Rattle.zt_cells.specs.FirstNumber.{IsFirst, IsNextFrom};
@@ -181,13 +181,13 @@ impl Cells {
         Ok(())
     }
 
-    /// Exchanges the bare row with the one in the place of the key. Either may stand for none. Never allocates.
+    /// Exchanges the slot with the one in the place of the key. Either may stand for none. Never allocates.
     #[inline(always)]
     pub fn exchange(&mut self, key: RowKey, kept: &mut Row)
         requires placed { has_place self.old.sizes key ≡ true }
-        requires suited { SuitsKey key (row_under key kept.old) }
-        ensures put { self.new ≡ record { state = put self.old.state key (row_under key kept.old); sizes = self.old.sizes } }
-        ensures was { row_under key kept.new ≡ row self.old.state key }
+        requires suited { SuitsKey key (decode_slot key kept.old) }
+        ensures put { self.new ≡ record { state = put self.old.state key (decode_slot key kept.old); sizes = self.old.sizes } }
+        ensures was { decode_slot key kept.new ≡ row self.old.state key }
     {
         self.tables.exchange(key, kept);
     }

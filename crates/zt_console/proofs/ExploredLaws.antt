@@ -8,7 +8,7 @@ use Rattle.zt_rows.specs.declared.calls.Command.{Command}
 use Rattle.zt_rows.specs.declared.calls.Command.TheVariants as command
 use Rattle.zt_rows.specs.declared.refusals.Refusal.{Refusal}
 use Rattle.zt_rows.specs.declared.refusals.Refusal.TheVariants as refusal
-use Rattle.zt_rows.specs.Reads.{runs}
+use Rattle.zt_rows.specs.Reads.{has_live_process}
 use Rattle.zt_rows.specs.Tests.{exists}
 use Rattle.zt_history.specs.HistoryRefusals.{◌>>=◌, check, call_on, branch_on, moment_on, most_moments}
 use Rattle.zt_history.specs.Tree.{Tree, last_moment, path, state_at, head_at, branch_named}
@@ -77,7 +77,7 @@ other-moment t m = other-then (check (nat_le m (last_moment t)) refusal.NoMoment
 other-call : (t : Tree) (b process : ℕ) (call : Call) → IsOther (call_on t b process call)
 other-call t b process call =
     other-then (check (nat_lt (last_moment t) most_moments) refusal.Full) _ (other-check _ _ (λ e. cc e))
-    (λ _. other-then (check (runs (state_at t.made (head_at t.branches b)) process) refusal.NoProcess) _ (other-check _ _ (λ e. cc e)) (λ _. tt))
+    (λ _. other-then (check (has_live_process (state_at t.made (head_at t.branches b)) process) refusal.NoProcess) _ (other-check _ _ (λ e. cc e)) (λ _. tt))
 
 other-branch : (t : Tree) (name : List ℕ) (m : ℕ) → IsOther (branch_on t name m)
 other-branch t name m =

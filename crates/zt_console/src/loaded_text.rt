@@ -7,7 +7,7 @@ ghost use Rattle.zt_console.specs.LoadedText.{at_line, IsLoadedOf, IsNotLoaded};
 ghost use Rattle.zt_console.specs.ProofsOnly.LoadedText.{with_left, IsFirstOf, IsNotLoadedRow};
 
 use std::alloc::Global;
-use zt_book::{Book, CallsInARow, LoadProgress, Untold};
+use zt_book::{Book, CallsInARow, LoadProgress, NoProgress};
 use zt_rows::{CLIENTS, Refusal};
 use zt_text::laws::calls_one_by_one_are_those_of_the_text;
 use zt_text::{SessionCalls, line_of_call, read_saved};
@@ -20,7 +20,7 @@ pub fn load_text(alloc: Global, clients: u8, text: &[u8]) -> Result<Book, (u64, 
     ensures refused { IfErr result (IsNotLoaded clients text.now) }
     ensures few { OnOk result (clients ≤ 4) }
 {
-    load_text_told(alloc, clients, text, &Untold)
+    load_text_told(alloc, clients, text, &NoProgress)
 }
 
 /// Loads like `load_text`. After each moment it tells `told` how many of all moments are loaded.

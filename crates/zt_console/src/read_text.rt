@@ -8,7 +8,7 @@ ghost use Rattle.zt_console.specs.ProofsOnly.ReadText.{with_first, AreLoaded, Ar
 use crate::loaded_text::put_calls;
 use std::alloc::Global;
 use std::io::Read;
-use zt_book::{Book, CallsInARow, Untold};
+use zt_book::{Book, CallsInARow, NoProgress};
 use zt_rows::CLIENTS;
 use zt_text::SessionCalls;
 use zt_text::laws::calls_one_by_one_are_those_of_the_text;
@@ -230,5 +230,12 @@ fn whole_line(bytes: &[u8]) -> Option<(&[u8], &[u8])>
 fn put_lines(alloc: Global, row: &mut CallsInARow, lines: &[u8]) -> bool
     ensures { result ≡ true → AreLoaded lines.now row.old row.new }
 {
-    put_calls(alloc, lines, row, SessionCalls::of_lines(lines), &Untold).is_ok()
+    put_calls(
+        alloc,
+        lines,
+        row,
+        SessionCalls::of_lines(lines),
+        &NoProgress,
+    )
+    .is_ok()
 }

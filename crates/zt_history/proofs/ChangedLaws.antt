@@ -12,7 +12,7 @@ use Rattle.zt_rows.specs.declared.refusals.Refusal.TheVariants as refusal
 use Rattle.zt_rows.specs.Change.{before}
 use Rattle.zt_rows.specs.Consistent.{IsConsistent}
 use Rattle.zt_rows.specs.Handles.{next_koid}
-use Rattle.zt_rows.specs.Reads.{runs}
+use Rattle.zt_rows.specs.Reads.{has_live_process}
 use Rattle.zt_rows.specs.Room.{HasRoom}
 use Rattle.zt_rows.specs.State.{State}
 use Rattle.zt_rows.specs.Step.{IsCall, step}
@@ -46,14 +46,14 @@ module _ (store : Stored) (moments : Chronicle) (branches : List Branch) (p : �
   kept-room = subst HasRoom (sym is.history.here) (moment-room moments.made is.moments_stand p is.history.within)
 
   -- a call gives out few koids
-  pub kept-few : (process : ℕ) (call : Call) → length moments.made < most_moments → runs store.state process ≡ true → IsCall call → next_koid (step store.state process call).0 < four_byte_numbers
+  pub kept-few : (process : ℕ) (call : Call) → length moments.made < most_moments → has_live_process store.state process ≡ true → IsCall call → next_koid (step store.state process call).0 < four_byte_numbers
   kept-few process call few running limits =
       subst (λ S. next_koid (step S process call).0 < four_byte_numbers) (sym is.history.here)
-      (few-koids moments.made is.moments_stand p process call is.history.within few (subst (λ S. runs S process ≡ true) is.history.here running) limits)
+      (few-koids moments.made is.moments_stand p process call is.history.within few (subst (λ S. has_live_process S process ≡ true) is.history.here running) limits)
 
   -- a process that runs has a koid that four bytes hold
-  pub kept-small : (process : ℕ) → length moments.made < most_moments → runs store.state process ≡ true → process < four_byte_numbers
-  kept-small process few running = few-process moments.made is.moments_stand p process is.history.within few (subst (λ S. runs S process ≡ true) is.history.here running)
+  pub kept-small : (process : ℕ) → length moments.made < most_moments → has_live_process store.state process ≡ true → process < four_byte_numbers
+  kept-small process few running = few-process moments.made is.moments_stand p process is.history.within few (subst (λ S. has_live_process S process ≡ true) is.history.here running)
 
   -- a call that was refused left the rows and the moments
   pub kept-refused : (new : Stored) (same : Chronicle) → new.state ≡ store.state → same.made ≡ moments.made → same.records ≡ moments.records → Keeps store.places new.places → IsKept new same branches p undo.Nothing
@@ -97,7 +97,7 @@ module _ (store : Stored) (moments : Chronicle) (branches : List Branch) (p : �
   -- ---- a call that was answered
 
   module _ (process : ℕ) (call : Call) (reply : Reply) (new : Stored) (longer : Chronicle) (end : ℕ)
-      (few : length moments.made < most_moments) (running : runs store.state process ≡ true) (limits : IsCall call)
+      (few : length moments.made < most_moments) (running : has_live_process store.state process ≡ true) (limits : IsCall call)
       (ran : ◌≡◌ {A = State × Reply} (new.state, reply) (step store.state process call))
       (made : longer.made ≡ moments.made ++ run_at p store.state process call ∷ []) (recorded : longer.records ≡ moments.records ++ before store.state new.state ∷ [])
       (kept : Keeps store.places new.places) (fit : fits new.places (before store.state new.state) ≡ true)
@@ -111,7 +111,7 @@ module _ (store : Stored) (moments : Chronicle) (branches : List Branch) (p : �
     pub kept-grown : IsKept new longer branches end undo.Nothing
     kept-grown =
         let is_made : IsMade moments.made one = record {
-          running = ap (λ S. runs S process) (sym is.history.here) ∙ running;
+          running = ap (λ S. has_live_process S process) (sym is.history.here) ∙ running;
           limits = limits;
           answered = ap (λ S. (step S process call).1) is.history.here;
         } in
@@ -269,7 +269,7 @@ all_pass : (full there running : Bool) (made : Answer × Tree) → full ≡ true
 all_pass full there running made f t r = λ i. check (f i) refusal.Full >>= λ _. check (t i) refusal.NoMoment >>= λ _. check (r i) refusal.NoProcess >>= λ _. Ok made
 
 -- a call that was answered at this moment made the last one, which has its reply
-pub call-answered : (h : Timeline) (m process : ℕ) (call : Call) (new : Timeline) (moment : ℕ) (reply : Reply) → length h.tree.made < 1048576 → m ≤ length h.tree.made → runs (state_at h.tree.made m) process ≡ true
+pub call-answered : (h : Timeline) (m process : ℕ) (call : Call) (new : Timeline) (moment : ℕ) (reply : Reply) → length h.tree.made < 1048576 → m ≤ length h.tree.made → has_live_process (state_at h.tree.made m) process ≡ true
     → new ≡ after_call_at h m process call → moment ≡ length new.tree.made → Some reply ≡ reply_at new.tree.made new.position
     → call_under h.tree m process call ≡ Ok (answer.Called moment reply, new.tree)
 call-answered h m process call new moment reply few there running grown last replied =
@@ -277,5 +277,5 @@ call-answered h m process call new moment reply few there running grown last rep
     let within : nat_le m (length h.tree.made) ≡ true = grind (arith, nat_tests) in
     let same : reply ≡ (made_by h.tree.made m process call).reply = same_Some _ _ (replied ∙ ap (λ (h : Timeline). reply_at h.tree.made h.position) grown ∙ reply-grown h m process call) in
     let end : moment ≡ suc (length h.tree.made) = last ∙ ap (λ (h : Timeline). length h.tree.made) grown ∙ length-push h.tree.made (made_by h.tree.made m process call) in
-    all_pass (nat_lt (length h.tree.made) 1048576) (nat_le m (length h.tree.made)) (runs (state_at h.tree.made m) process) (answer.Called (suc (length h.tree.made)) (made_by h.tree.made m process call).reply, grown_at h.tree m process call) under within running
+    all_pass (nat_lt (length h.tree.made) 1048576) (nat_le m (length h.tree.made)) (has_live_process (state_at h.tree.made m) process) (answer.Called (suc (length h.tree.made)) (made_by h.tree.made m process call).reply, grown_at h.tree m process call) under within running
     ∙ (λ i. Ok (answer.Called (sym end i) (sym same i), (sym grown i).tree))

@@ -5,7 +5,7 @@ use Rattle.std.specs.Option.{option_map}
 use Rattle.std.proofs.lemmas.Bool.{cases_lt}
 use Rattle.std.proofs.lemmas.Option.{slice_get_past, slice_get_within, same_Some, none-some}
 use Rattle.zt_rows.specs.Change.{before}
-use Rattle.zt_rows.specs.Reads.{runs}
+use Rattle.zt_rows.specs.Reads.{has_live_process}
 use Rattle.zt_rows.specs.Step.{step}
 use Rattle.zt_rows.proofs.ChangeLaws.{Rows}
 use Rattle.zt_store.specs.Places.{Keeps, fits}
@@ -112,7 +112,7 @@ module _ (made : List Made) (e : Made) (falls : Falls made) (within : e.parent �
       let still = falls-push made e falls within in
       let kept : (m : ℕ) → m ≤ length made → state_at (made ++ e ∷ []) m ≡ state_at made m = state-more made (e ∷ []) falls still in
       let made_there : (d : Made) → d.parent ≤ length made → IsMade made d → IsMade (made ++ e ∷ []) d = λ d h i. record {
-        running = ap (λ S. runs S d.process) (kept d.parent h) ∙ i.running;
+        running = ap (λ S. has_live_process S d.process) (kept d.parent h) ∙ i.running;
         limits = i.limits;
         answered = i.answered ∙ ap (λ S. (step S d.process d.call).1) (sym (kept d.parent h));
       } in
@@ -146,7 +146,7 @@ moments-left made e are =
           let is = are.each i d (get-left made (e ∷ []) i there ∙ at) in
           let kept : state_at (made ++ e ∷ []) d.parent ≡ state_at made d.parent = state-more made (e ∷ []) falls are.falls d.parent h in
           record {
-            running = ap (λ S. runs S d.process) (sym kept) ∙ is.running;
+            running = ap (λ S. has_live_process S d.process) (sym kept) ∙ is.running;
             limits = is.limits;
             answered = is.answered ∙ ap (λ S. (step S d.process d.call).1) kept;
           };

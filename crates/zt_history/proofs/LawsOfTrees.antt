@@ -10,7 +10,7 @@ use Rattle.zt_rows.specs.declared.refusals.Refusal.{Refusal}
 use Rattle.zt_rows.specs.declared.refusals.Refusal.TheVariants as refusal
 use Rattle.zt_rows.specs.Consistent.{IsConsistent}
 use Rattle.zt_rows.specs.Opening.{opening}
-use Rattle.zt_rows.specs.Reads.{runs}
+use Rattle.zt_rows.specs.Reads.{has_live_process}
 use Rattle.zt_rows.specs.Room.{HasRoom}
 use Rattle.zt_rows.specs.State.{State}
 use Rattle.zt_rows.specs.Step.{IsCall, run}
@@ -45,7 +45,7 @@ tree-opening = record { moments = no_moments; branches = one_branch }
 -- ---- what a call or a branch makes of a tree
 
 -- one moment more
-tree-grown : (t : Tree) (m p : ℕ) (c : Call) → IsTree t → m ≤ last_moment t → IsCall c → last_moment t < most_moments → runs (state_at t.made m) p ≡ true → IsTree (grown_at t m p c)
+tree-grown : (t : Tree) (m p : ℕ) (c : Call) → IsTree t → m ≤ last_moment t → IsCall c → last_moment t < most_moments → has_live_process (state_at t.made m) p ≡ true → IsTree (grown_at t m p c)
 tree-grown t m p c is there limits few running =
     let e : Made = made_by t.made m p c in
     let size : length (t.made ++ e ∷ []) ≡ suc (length t.made) = omega (arith, length-append t.made (e ∷ [])) in
@@ -61,7 +61,7 @@ tree-headed t b m is there = record {
   branches = branches-headed (length t.made) (length t.made) m t.branches b (omega arith) there is.branches;
 }
 
-tree-called : (t : Tree) (b p : ℕ) (c : Call) → IsTree t → IsCall c → last_moment t < most_moments → runs (state_at t.made (head_at t.branches b)) p ≡ true → IsTree (called t b p c)
+tree-called : (t : Tree) (b p : ℕ) (c : Call) → IsTree t → IsCall c → last_moment t < most_moments → has_live_process (state_at t.made (head_at t.branches b)) p ≡ true → IsTree (called t b p c)
 tree-called t b p c is limits few running =
     let head : ℕ = head_at t.branches b in
     let more : IsTree (grown_at t head p c) = tree-grown t head p c is (head-within (length t.made) t.branches is.branches.heads b) limits few running in
@@ -83,7 +83,7 @@ made_tree (Err reason) = opening_tree
 pub tree-call : (t : Tree) (b p : ℕ) (c : Call) (said : Answer) (u : Tree) → IsTree t → b < length t.branches → IsCall c → call_on t b p c ≡ Ok (said, u) → IsTree u
 tree-call t b p c said u is within limits h =
     let made : Result (Answer × Tree) Refusal = Ok (answer.Called (suc (last_moment t)) (made_by t.made (head_at t.branches b) p c).reply, called t b p c) in
-    let running : Bool = runs (state_at t.made (head_at t.branches b)) p in
+    let running : Bool = has_live_process (state_at t.made (head_at t.branches b)) p in
     let first = passed (nat_lt (last_moment t) most_moments) refusal.Full (check running refusal.NoProcess >>= λ _. made) (said, u) h in
     let second = passed running refusal.NoProcess made (said, u) first.1 in
     subst IsTree (ap made_tree second.1) (tree-called t b p c is limits (ltb-true (last_moment t) most_moments first.0) second.0)
@@ -91,7 +91,7 @@ tree-call t b p c said u is within limits h =
 pub tree-under : (t : Tree) (m p : ℕ) (c : Call) (said : Answer) (u : Tree) → IsTree t → IsCall c → call_under t m p c ≡ Ok (said, u) → IsTree u
 tree-under t m p c said u is limits h =
     let made : Result (Answer × Tree) Refusal = Ok (answer.Called (suc (last_moment t)) (made_by t.made m p c).reply, grown_at t m p c) in
-    let running : Bool = runs (state_at t.made m) p in
+    let running : Bool = has_live_process (state_at t.made m) p in
     let late : Result (Answer × Tree) Refusal = check running refusal.NoProcess >>= λ _. made in
     let first = passed (nat_lt (last_moment t) most_moments) refusal.Full (check (nat_le m (last_moment t)) refusal.NoMoment >>= λ _. late) (said, u) h in
     let second = passed (nat_le m (last_moment t)) refusal.NoMoment late (said, u) first.1 in
@@ -124,7 +124,7 @@ module _ (t : Tree) (b p : ℕ) (c : Call) (is : IsTree t) where
   pub tree-followed : call_on t b p c ≡ followed b (call_under t (head_at t.branches b) p c)
   tree-followed =
       let head : ℕ = head_at t.branches b in
-      checks_followed (nat_lt (last_moment t) most_moments) (nat_le head (last_moment t)) (runs (state_at t.made head) p)
+      checks_followed (nat_lt (last_moment t) most_moments) (nat_le head (last_moment t)) (has_live_process (state_at t.made head) p)
       (answer.Called (suc (last_moment t)) (made_by t.made head p c).reply) (grown_at t head p c) (called t b p c) b (le-leb head (last_moment t) there)
       (ap (head_moved (grown_at t head p c) b) size)
 

@@ -22,7 +22,7 @@ use Rattle.zt_history.specs.declared.object_notes.Noted.{Noted}
 use Rattle.zt_history.specs.declared.object_notes.Noted.TheVariants as did
 use Rattle.zt_history.specs.Losses.{loses}
 use Rattle.zt_history.specs.LostChild.{is_child_row}
-use Rattle.zt_history.specs.ProofsOnly.ObjectNotes.{ChangeNote, gone_name, gone_names, gone_of, is_left, is_let_go, is_lost, loss_of, lost_by, lost_child, note_before, note_if, note_of, note_with}
+use Rattle.zt_history.specs.ProofsOnly.ObjectNotes.{ChangeNote, gone_name, gone_names, gone_of, is_left, is_released, is_lost, loss_of, lost_by, lost_child, note_before, note_if, note_of, note_with}
 use Rattle.zt_history.proofs.ListLaws.{either, get-left, get-right}
 
 -- each row is of its key's variant
@@ -89,36 +89,36 @@ module _ (stands : ℕ → Option Row → Bool) where
 
 module _ (m : ℕ) (s : Option Row) (T : State) where
   names-in : (handles : List Held) (i : ℕ) (n : ChangeNote) → slice_get (gone_names m s T handles) i ≡ Some n
-      → (x : ℕ) × (note_with m x did.LetGo ≡ n) × (is_let_go x s T ≡ true) × (list_any (λ (held : Held). held.koid == x) handles ≡ true)
+      → (x : ℕ) × (note_with m x did.Released ≡ n) × (is_released x s T ≡ true) × (list_any (λ (held : Held). held.koid == x) handles ≡ true)
   names-in [] i n at = absurd (none-some n at)
   names-in (h ∷ handles) i n at = elim (either (gone_name m s T h.koid) (gone_names m s T handles) i n at) [
     | inl here ↦
-        let its = if-in m h.koid did.LetGo (is_let_go h.koid s T) i n here in
+        let its = if-in m h.koid did.Released (is_released h.koid s T) i n here in
         (h.koid, its.0, its.1, or_left (h.koid == h.koid) (list_any (λ (held : Held). held.koid == h.koid) handles) (eq-eqb h.koid h.koid refl))
     | inr there ↦
         let rest = names-in handles (i - length (gone_name m s T h.koid)) n there in
         (rest.0, rest.1, rest.2, or_right (h.koid == rest.0) (list_any (λ (held : Held). held.koid == rest.0) handles) rest.3)
   ]
 
-  name-there : (x : ℕ) → is_let_go x s T ≡ true → slice_get (gone_name m s T x) 0 ≡ Some (note_with m x did.LetGo)
-  name-there x left = if-there m x did.LetGo (is_let_go x s T) left
+  name-there : (x : ℕ) → is_released x s T ≡ true → slice_get (gone_name m s T x) 0 ≡ Some (note_with m x did.Released)
+  name-there x left = if-there m x did.Released (is_released x s T) left
 
-  names-there : (handles : List Held) (x : ℕ) → is_let_go x s T ≡ true → list_any (λ (held : Held). held.koid == x) handles ≡ true
-      → (i : ℕ) × (slice_get (gone_names m s T handles) i ≡ Some (note_with m x did.LetGo))
+  names-there : (handles : List Held) (x : ℕ) → is_released x s T ≡ true → list_any (λ (held : Held). held.koid == x) handles ≡ true
+      → (i : ℕ) × (slice_get (gone_names m s T handles) i ≡ Some (note_with m x did.Released))
   names-there [] x left named = absurd (true≢false (sym named))
   names-there (h ∷ handles) x left named = elim (or_true (h.koid == x) (list_any (λ (held : Held). held.koid == x) handles) named) [
     | inl here ↦
         let same : x ≡ h.koid = sym (eqb-true h.koid x here) in
-        let at : slice_get (gone_name m s T h.koid) 0 ≡ Some (note_with m x did.LetGo) = ap (λ y. slice_get (gone_name m s T y) 0) (sym same) ∙ name-there x left in
-        (0, get-left (gone_name m s T h.koid) (gone_names m s T handles) 0 (slice_get_within (gone_name m s T h.koid) 0 (note_with m x did.LetGo) at) ∙ at)
+        let at : slice_get (gone_name m s T h.koid) 0 ≡ Some (note_with m x did.Released) = ap (λ y. slice_get (gone_name m s T y) 0) (sym same) ∙ name-there x left in
+        (0, get-left (gone_name m s T h.koid) (gone_names m s T handles) 0 (slice_get_within (gone_name m s T h.koid) 0 (note_with m x did.Released) at) ∙ at)
     | inr there ↦
         let rest = names-there handles x left there in
         (length (gone_name m s T h.koid) + rest.0, get-right (gone_name m s T h.koid) (gone_names m s T handles) rest.0 ∙ rest.1)
   ]
 
-  pub gone-in : (r : Option Row) (i : ℕ) (n : ChangeNote) → slice_get (gone_of m r s T) i ≡ Some n → IsLoss names did.LetGo m s T r n
+  pub gone-in : (r : Option Row) (i : ℕ) (n : ChangeNote) → slice_get (gone_of m r s T) i ≡ Some n → IsLoss names did.Released m s T r n
   gone-in (Some (rows.Entry held)) i n at =
-      let its = if-in m held.koid did.LetGo (is_let_go held.koid s T) i n at in
+      let its = if-in m held.koid did.Released (is_released held.koid s T) i n at in
       record { koid = held.koid; is = its.0; left = its.1; stood = eq-eqb held.koid held.koid refl }
   gone-in (Some (rows.Msg sent)) i n at =
       let its = names-in sent.handles i n at in
@@ -129,7 +129,7 @@ module _ (m : ℕ) (s : Option Row) (T : State) where
   gone-in (Some (rows.Wait _)) i n at = absurd (none-some n at)
   gone-in None i n at = absurd (none-some n at)
 
-  gone-there : (r : Option Row) (x : ℕ) → is_let_go x s T ≡ true → names x r ≡ true → (i : ℕ) × (slice_get (gone_of m r s T) i ≡ Some (note_with m x did.LetGo))
+  gone-there : (r : Option Row) (x : ℕ) → is_released x s T ≡ true → names x r ≡ true → (i : ℕ) × (slice_get (gone_of m r s T) i ≡ Some (note_with m x did.Released))
   gone-there (Some (rows.Entry held)) x left named =
       let same : x ≡ held.koid = sym (eqb-true held.koid x named) in
       (0, ap (λ y. slice_get (gone_name m s T y) 0) (sym same) ∙ name-there x left)
@@ -188,8 +188,8 @@ typed-object S typed x y = by (row S (key.Object y)) refl
     by (Some (rows.Wait _)) at = refl
 
 -- it is noted under the key where the name went
-pub before-there : (m : ℕ) (S T : State) → IsTyped S → (x : ℕ) (k : RowKey) → names x (row S k) ≡ true → is_let_go x (row T k) T ≡ true
-    → (i : ℕ) × (slice_get (note_before m (row S k) T k) i ≡ Some (note_with m x did.LetGo))
+pub before-there : (m : ℕ) (S T : State) → IsTyped S → (x : ℕ) (k : RowKey) → names x (row S k) ≡ true → is_released x (row T k) T ≡ true
+    → (i : ℕ) × (slice_get (note_before m (row S k) T k) i ≡ Some (note_with m x did.Released))
 before-there m S T typed x (key.Object y) named left = absurd (true≢false (sym named ∙ typed-object S typed x y))
 before-there m S T typed x key.Counters named left = gone-there m (row T key.Counters) T (row S key.Counters) x left named
 before-there m S T typed x (key.Entry p h) named left = gone-there m (row T (key.Entry p h)) T (row S (key.Entry p h)) x left named

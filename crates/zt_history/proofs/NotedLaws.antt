@@ -24,7 +24,7 @@ use Rattle.zt_history.specs.declared.object_notes.Sought.TheVariants as sought
 use Rattle.zt_history.specs.declared.row_happenings.RowHappening.{RowHappening}
 use Rattle.zt_history.specs.declared.row_happenings.RowHappening.TheVariants as happening
 use Rattle.zt_rows.specs.Reads.{names}
-use Rattle.zt_history.specs.LetGo.{last_let_go, lets_go}
+use Rattle.zt_history.specs.Released.{last_released, releases}
 use Rattle.zt_history.specs.LostChild.{is_child_row, last_lost_child, loses_child}
 use Rattle.zt_history.specs.RowHappenings.{is_alone, is_living, is_there, last_shown, shows}
 use Rattle.zt_history.specs.Tree.{Made, parent_of, parent_at, path, state_at}
@@ -65,7 +65,7 @@ module _ {A B : Type 0} (f : A → List B) where
 -- it happened to the object by a call that led from S to T
 abbrev pub happens : Sought → ℕ → State → State → Bool
 happens (sought.Shown what) x S T = shows what (row S (key.Object x)) (row T (key.Object x))
-happens sought.LetGo x S T = lets_go x S T
+happens sought.Released x S T = releases x S T
 happens sought.LostChild x S T = loses_child x S T
 
 -- the same by a moment's call
@@ -144,7 +144,7 @@ module _ (m : ℕ) (S T : State) where
     where
       told : (what : Sought) → tells what (one m x (row S (key.Object x)) (row T (key.Object x))) ≡ true → happens what x S T ≡ true
       told (sought.Shown what) e = sym (one-tells m x (row S (key.Object x)) (row T (key.Object x)) what) ∙ e
-      told sought.LetGo e = absurd (true≢false (sym e))
+      told sought.Released e = absurd (true≢false (sym e))
       told sought.LostChild e = absurd (true≢false (sym e))
 
   of-gone : (k : RowKey) (i : ℕ) (n : ChangeNote) → slice_get (gone_of m (row S k) (row T k) T) i ≡ Some n → IsNoteOf m S T n
@@ -152,9 +152,9 @@ module _ (m : ℕ) (S T : State) where
       let its = gone-in m (row T k) T (row S k) i n at in
       subst (IsNoteOf m S T) its.is (record { at = refl; true_of = told its.koid (loses-at names S T its.koid k refl its.stood its.left) })
     where
-      told : (x : ℕ) → lets_go x S T ≡ true → (what : Sought) → tells what (note_with m x did.LetGo) ≡ true → happens what x S T ≡ true
+      told : (x : ℕ) → releases x S T ≡ true → (what : Sought) → tells what (note_with m x did.Released) ≡ true → happens what x S T ≡ true
       told x gone (sought.Shown what) e = absurd (true≢false (sym e))
-      told x gone sought.LetGo e = gone
+      told x gone sought.Released e = gone
       told x gone sought.LostChild e = absurd (true≢false (sym e))
 
   of-lost : (y i : ℕ) (n : ChangeNote) → slice_get (loss_of m (row S (key.Object y)) (row T (key.Object y)) T) i ≡ Some n → IsNoteOf m S T n
@@ -164,7 +164,7 @@ module _ (m : ℕ) (S T : State) where
     where
       told : (x : ℕ) → loses_child x S T ≡ true → (what : Sought) → tells what (note_with m x did.LostChild) ≡ true → happens what x S T ≡ true
       told x lost (sought.Shown what) e = absurd (true≢false (sym e))
-      told x lost sought.LetGo e = absurd (true≢false (sym e))
+      told x lost sought.Released e = absurd (true≢false (sym e))
       told x lost sought.LostChild e = lost
 
   before-in : (k : RowKey) (i : ℕ) (n : ChangeNote) → slice_get (note_before m (row S k) T k) i ≡ Some n → IsNoteOf m S T n
@@ -238,11 +238,11 @@ module _ (m : ℕ) (S T : State) where
       let here = get-left (note_of m x r s) (loss_of m r s T) 0 (slice_get_within (note_of m x r s) 0 (one m x r s) there) ∙ there in
       let f = under-there (key.Object x) 0 (one m x r s) (differ-shown x what e) here in
       (f.0, one m x r s, f.1, refl, refl, one-tells m x r s what ∙ e)
-  notes-there typed x sought.LetGo e =
+  notes-there typed x sought.Released e =
       let where_named = at-loses names S T x e in
       let its = before-there m S T typed x where_named.0 where_named.1 where_named.2 in
-      let f = under-there where_named.0 its.0 (note_with m x did.LetGo) (differ-lost names S T x where_named.0 where_named.1 where_named.2) its.1 in
-      (f.0, note_with m x did.LetGo, f.1, refl, refl, refl)
+      let f = under-there where_named.0 its.0 (note_with m x did.Released) (differ-lost names S T x where_named.0 where_named.1 where_named.2) its.1 in
+      (f.0, note_with m x did.Released, f.1, refl, refl, refl)
   notes-there typed x sought.LostChild e =
       let where_child = at-loses is_child_row S T x e in
       let its = before-lost m S T typed x where_child.0 where_child.1 where_child.2 in
@@ -534,9 +534,9 @@ pub last-shown : (what : RowHappening) (x : ℕ) (made : List Made) (at : ℕ) �
 unfolding last_shown
 last-shown what x made at = refl
 
-pub last-let_go : (x : ℕ) (made : List Made) (at : ℕ) → last_happening sought.LetGo x made at ≡ last_let_go x made at
-unfolding last_let_go
-last-let_go x made at = refl
+pub last-released : (x : ℕ) (made : List Made) (at : ℕ) → last_happening sought.Released x made at ≡ last_released x made at
+unfolding last_released
+last-released x made at = refl
 
 pub last-lost_child : (x : ℕ) (made : List Made) (at : ℕ) → last_happening sought.LostChild x made at ≡ last_lost_child x made at
 unfolding last_lost_child

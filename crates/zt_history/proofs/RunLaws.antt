@@ -8,12 +8,12 @@ use Rattle.zt_rows.specs.declared.calls.Reply.{Reply}
 use Rattle.zt_rows.specs.Consistent.{IsConsistent}
 use Rattle.zt_rows.specs.Handles.{next_koid}
 use Rattle.zt_rows.specs.Opening.{opening}
-use Rattle.zt_rows.specs.Reads.{runs}
+use Rattle.zt_rows.specs.Reads.{has_live_process}
 use Rattle.zt_rows.specs.Room.{HasRoom, HasSpent}
 use Rattle.zt_rows.specs.State.{State}
 use Rattle.zt_rows.specs.Step.{IsCall, step, run}
 use Rattle.zt_rows.proofs.OpeningLaws.{opening-consistent}
-use Rattle.zt_rows.proofs.SoundLaws.{runs-some}
+use Rattle.zt_rows.proofs.SoundLaws.{has_live_process-some}
 use Rattle.zt_rows.proofs.SpentLaws.{spent-opening, spent-step, spent-room}
 use Rattle.zt_rows.proofs.CallLaws.{step-consistent}
 use Rattle.zt_history.specs.Tree.{Made, made_at, parent_of, parent_at, call_at, reply_at, path, calls_to, replies_to, state_at}
@@ -134,7 +134,7 @@ module _ (made : List Made) (are : AreMoments made) where
       spent-room (state_at made m) (length (path made m)) (omega (arith, short-path made are.falls m, h, are.few)) (at-rest m h).1
 
   -- a call more gives out no koid that four bytes cannot hold
-  pub few-koids : (m process : ℕ) (call : Call) → m ≤ length made → length made < most_moments → runs (state_at made m) process ≡ true → IsCall call
+  pub few-koids : (m process : ℕ) (call : Call) → m ≤ length made → length made < most_moments → has_live_process (state_at made m) process ≡ true → IsCall call
       → next_koid (step (state_at made m) process call).0 < four_byte_numbers
   few-koids m process call h few running limits =
       let rest : IsConsistent (state_at made m) × HasSpent (length (path made m)) (state_at made m) = at-rest m h in
@@ -144,9 +144,9 @@ module _ (made : List Made) (are : AreMoments made) where
       omega (arith, given.koids, less)
 
   -- nor has one that runs
-  pub few-process : (m process : ℕ) → m ≤ length made → length made < most_moments → runs (state_at made m) process ≡ true → process < four_byte_numbers
+  pub few-process : (m process : ℕ) → m ≤ length made → length made < most_moments → has_live_process (state_at made m) process ≡ true → process < four_byte_numbers
   few-process m process h few running =
       let rest : IsConsistent (state_at made m) × HasSpent (length (path made m)) (state_at made m) = at-rest m h in
-      let there = runs-some (state_at made m) process running in
+      let there = has_live_process-some (state_at made m) process running in
       let low : process < next_koid (state_at made m) = (rest.0.sound.of_objects process there.0 there.1).high in
       omega (arith, low, rest.1.koids, short-path made are.falls m, h, few)

@@ -6,7 +6,7 @@ use Rattle.zt_rows.specs.declared.calls.Answer.TheVariants as answer
 use Rattle.zt_rows.specs.declared.calls.Call.{Call}
 use Rattle.zt_rows.specs.declared.refusals.Refusal.{Refusal}
 use Rattle.zt_rows.specs.declared.refusals.Refusal.TheVariants as refusal
-use Rattle.zt_rows.specs.Reads.{runs}
+use Rattle.zt_rows.specs.Reads.{has_live_process}
 use Rattle.zt_history.specs.Tree.{Tree, last_moment, state_at, head_at, made_by, grown_at, head_moved, called, branched, branch_named}
 
 -- the most moments after the opening
@@ -38,7 +38,7 @@ IsHistoryRefusal (Err reason) given = given ≡ reason
 -- a call at a moment that is there: the new moment with the reply, and the tree after it
 abbrev pub answered_at : Tree → ℕ → ℕ → Call → Tree → Result (Answer × Tree) Refusal
 answered_at t m process call after = do
-  _ ← check (runs (state_at t.made m) process) refusal.NoProcess
+  _ ← check (has_live_process (state_at t.made m) process) refusal.NoProcess
   Ok (answer.Called (suc (last_moment t)) (made_by t.made m process call).reply, after)
 
 -- a call at a moment, where no head moves

@@ -5,7 +5,7 @@ pub mod Timeline
 pub mod TreeInvariant
 pub mod RowHappenings
 pub mod Losses
-pub mod LetGo
+pub mod Released
 pub mod LostChild
 -- Used by proofs only: no public clause depends on them.
 pub mod ProofsOnly

@@ -7,7 +7,7 @@ use Rattle.std.specs.Str.{bytes_eq}
 use Rattle.zt_rows.specs.declared.keys.RowKey.{RowKey}
 use Rattle.zt_rows.specs.declared.rows.Row.{Row}
 use Rattle.zt_rows.specs.Change.{before}
-use Rattle.zt_rows.specs.Reads.{runs}
+use Rattle.zt_rows.specs.Reads.{has_live_process}
 use Rattle.zt_rows.specs.Step.{IsCall, step}
 use Rattle.zt_rows.specs.Tests.{among}
 use Rattle.zt_history.specs.Tree.{Made, Branch, Tree, main_name, last_moment, made_at, parent_at, path, state_at}
@@ -22,7 +22,7 @@ Falls made = (i : ℕ) → parent_at made (suc i) ≤ i
 -- the moment was made as it says: by a process that runs in its parent's state, by a call that there can be, with the
 -- reply of that call there
 pub record IsMade (made : List Made) (e : Made) : Type 0 where
-  pub running : runs (state_at made e.parent) e.process ≡ true
+  pub running : has_live_process (state_at made e.parent) e.process ≡ true
   pub limits : IsCall e.call
   pub answered : e.reply ≡ (step (state_at made e.parent) e.process e.call).1
 

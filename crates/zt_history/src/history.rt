@@ -9,7 +9,7 @@ ghost use Rattle.zt_rows.specs.Step.{run};
 ghost use Rattle.zt_history.specs.Tree.{call_at, reply_at, parent_at, path, end_of, state_at, calls_to, replies_to, head_at, name_at, branch_named};
 ghost use Rattle.zt_history.specs.HistoryRefusals.{IsHistoryRefusal, moment_on, most_moments};
 ghost use Rattle.zt_history.specs.ProofsOnly.Forks.{IsAbove};
-ghost use Rattle.zt_history.specs.LetGo.{last_let_go};
+ghost use Rattle.zt_history.specs.Released.{last_released};
 ghost use Rattle.zt_history.specs.LostChild.{last_lost_child};
 ghost use Rattle.zt_history.specs.RowHappenings.{last_shown};
 ghost use Rattle.zt_history.specs.TreeInvariant.{recorded_at, Falls, IsTree};
@@ -21,8 +21,8 @@ mod tree_changes;
 use crate::branches::{BranchId, Branches};
 use crate::moments::Moments;
 use crate::object_notes::{ObjectNotes, Sought};
-use crate::resting_store::RestingStore;
 use crate::row_happenings::RowHappening;
+use crate::working_store::WorkingStore;
 use std::alloc::{AllocError, Global};
 use std::marker::Model;
 use zt_rows::{Call, Koid, Moment, Refusal, Reply};
@@ -43,7 +43,7 @@ enum Undo {
 /// Each moment has the record by which the store goes over the call that made it. The record leads back if the moment
 /// is on the path to the position, and forth if it is not.
 pub struct History {
-    store: RestingStore,
+    store: WorkingStore,
     moments: Moments,
     notes: ObjectNotes,
     branches: Branches,
@@ -82,7 +82,7 @@ impl History {
     pub fn new(alloc: Global) -> Result<History, AllocError>
         ensures { IfOk result (λ history. history ≡ at_opening) }
     {
-        let store = RestingStore::opening(alloc)?;
+        let store = WorkingStore::opening(alloc)?;
         let notes = ObjectNotes::new(alloc, store.store())?;
         let moments = Moments::new(alloc)?;
         let branches = Branches::new(alloc)?;
@@ -227,11 +227,11 @@ impl History {
 
     /// The last moment on the path to `at` at which an entry or a message lost a name of the object while the object
     /// stayed. Never allocates, and costs as much as `last_shown`.
-    pub fn last_let_go(&self, koid: Koid, at: Moment) -> Option<Moment>
+    pub fn last_released(&self, koid: Koid, at: Moment) -> Option<Moment>
         requires { at ≤ length self.now.tree.made }
-        ensures { result ≡ last_let_go koid self.now.tree.made at }
+        ensures { result ≡ last_released koid self.now.tree.made at }
     {
-        self.notes.find(&self.moments, Sought::LetGo, koid, at)
+        self.notes.find(&self.moments, Sought::Released, koid, at)
     }
 
     /// The last moment on the path to `at` at which the object lost a live child while the object stayed. A live
@@ -269,7 +269,7 @@ impl History {
     {
         let shared = self.back_to(way);
         for place in shared..way.len() {
-            self.forth(way[place]);
+            self.redo_moment(way[place]);
         }
     }
 
@@ -312,8 +312,8 @@ impl History {
     {
         self.forget();
         let mut depth = self.depth() as usize;
-        while depth > 0 && !stands_at(way, depth - 1, self.position()) {
-            self.back();
+        while depth > 0 && !is_at(way, depth - 1, self.position()) {
+            self.undo_moment();
             depth -= 1;
         }
         depth
@@ -326,7 +326,7 @@ impl History {
     {
         self.forget();
         while self.position() != moment {
-            self.back();
+            self.undo_moment();
         }
     }
 
@@ -338,7 +338,7 @@ impl History {
         self.moments.limits();
         self.forget();
         while let Some(next) = beyond.pop() {
-            self.forth(next);
+            self.redo_moment(next);
         }
     }
 
@@ -352,31 +352,31 @@ impl History {
     }
 
     /// Moves the store to the parent of the position.
-    fn back(&mut self)
+    fn undo_moment(&mut self)
         requires { 0 < self.old.position }
         ensures { self.new ≡ moved_to self.old (parent_at self.old.tree.made self.old.position) }
     {
         let position = self.position;
-        self.moments.turn(&mut self.store, position);
+        self.moments.exchange_record(&mut self.store, position);
         self.position = self.moments.parent(position);
         self.undo = Undo::Nothing;
     }
 
     /// Moves the store to a moment whose parent is the position.
-    fn forth(&mut self, moment: Moment)
+    fn redo_moment(&mut self, moment: Moment)
         requires some { 0 < moment }
         requires there { moment ≤ length self.old.tree.made }
         requires next { parent_at self.old.tree.made moment ≡ self.old.position }
         ensures { self.new ≡ moved_to self.old moment }
     {
-        self.moments.turn(&mut self.store, moment);
+        self.moments.exchange_record(&mut self.store, moment);
         self.position = moment;
         self.undo = Undo::Nothing;
     }
 }
 
 /// Whether the moment stands at the place of the list.
-fn stands_at(way: &[Moment], place: usize, moment: Moment) -> bool
+fn is_at(way: &[Moment], place: usize, moment: Moment) -> bool
     ensures { IsTrue result ↔ (slice_get way.now place ≡ Some moment) }
 {
     match way.get(place) {

@@ -9,9 +9,9 @@ pub mod laws;
 mod moment_nodes;
 mod moments;
 mod object_notes;
-mod resting_store;
 mod row_happenings;
 mod same_calls;
+mod working_store;
 
 pub use branches::BranchId;
 pub use copied_calls::push_call;

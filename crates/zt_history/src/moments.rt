@@ -13,7 +13,7 @@ ghost use Rattle.zt_history.specs.TreeInvariant.{Falls};
 ghost use Rattle.zt_history.specs.Tree.{call_at, parent_at, path, reply_at};
 
 use crate::moment_nodes::MomentNodes;
-use crate::resting_store::RestingStore;
+use crate::working_store::WorkingStore;
 use std::alloc::{AllocError, Global};
 use std::marker::Model;
 use zt_rows::{Call, Koid, Moment, Reply};
@@ -281,7 +281,7 @@ impl Moments {
     }
 
     /// Exchanges the rows of a moment's record with the store's. Never allocates.
-    pub(crate) fn turn(&mut self, store: &mut RestingStore, moment: Moment)
+    pub(crate) fn exchange_record(&mut self, store: &mut WorkingStore, moment: Moment)
         requires some { 0 < moment }
         requires there { moment ≤ length self.old.made }
         requires fit { all_fit store.old.places self.old.records ≡ true }

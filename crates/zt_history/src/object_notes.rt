@@ -24,7 +24,7 @@ pub(crate) enum Noted {
     /// This shows in its row.
     Shown(ShownChanges),
     /// It lost a name while it stayed.
-    LetGo,
+    Released,
     /// It lost a live child while it stayed.
     LostChild,
 }
@@ -35,7 +35,7 @@ pub(crate) enum Sought {
     /// This shows in its row.
     Shown(RowHappening),
     /// It lost a name while it stayed.
-    LetGo,
+    Released,
     /// It lost a live child while it stayed.
     LostChild,
 }

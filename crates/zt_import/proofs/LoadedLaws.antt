@@ -8,7 +8,7 @@ use Rattle.zt_rows.specs.declared.calls.Call.{Call}
 use Rattle.zt_rows.specs.declared.calls.Reply.{Reply}
 use Rattle.zt_rows.specs.declared.refusals.Refusal.{Refusal}
 use Rattle.zt_rows.specs.declared.refusals.Refusal.TheVariants as refusal
-use Rattle.zt_rows.specs.Reads.{runs}
+use Rattle.zt_rows.specs.Reads.{has_live_process}
 use Rattle.zt_history.specs.HistoryRefusals.{check, ◌>>=◌, call_on, most_moments}
 use Rattle.zt_history.specs.Tree.{Made, Tree, last_moment, state_at, head_at, called, made_by}
 use Rattle.zt_book.specs.Log.{loaded, loaded_behind, loaded_from}
@@ -27,8 +27,8 @@ given_is : (t : Tree) (process : ℕ) (call : Call) (y : Answer × Tree) → cal
 given_is t process call y =
     let P : Answer × Tree → Type 0 = λ y. y ≡ given_on t process call in
     behind P (check (nat_lt (last_moment t) most_moments) refusal.Full)
-    (λ _. check (runs (state_at t.made (head_at t.branches 0)) process) refusal.NoProcess >>= λ _. Ok (given_on t process call)) y
-    (λ _. last P (check (runs (state_at t.made (head_at t.branches 0)) process) refusal.NoProcess) (λ _. given_on t process call) y (λ _. refl))
+    (λ _. check (has_live_process (state_at t.made (head_at t.branches 0)) process) refusal.NoProcess >>= λ _. Ok (given_on t process call)) y
+    (λ _. last P (check (has_live_process (state_at t.made (head_at t.branches 0)) process) refusal.NoProcess) (λ _. given_on t process call) y (λ _. refl))
 
 moment_in : Answer → ℕ
 moment_in (answer.Called moment _) = moment

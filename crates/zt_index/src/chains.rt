@@ -33,7 +33,7 @@ pub(crate) struct BucketEnds {
 
 impl BucketLink {
     /// The link of an item that was in no bucket yet.
-    fn bare() -> BucketLink
+    fn unlinked() -> BucketLink
         ensures { result ≡ no_link }
     {
         BucketLink {
@@ -46,7 +46,7 @@ impl BucketLink {
 
 impl BucketEnds {
     /// The ends of a bucket without items.
-    fn bare() -> BucketEnds
+    fn unlinked() -> BucketEnds
         ensures { result ≡ no_ends }
     {
         BucketEnds {
@@ -122,10 +122,10 @@ impl Chains {
 
     /// Whether no item is in the bucket. It costs one look.
     #[inline(always)]
-    pub fn is_bare(&self, bucket: u64) -> bool
+    pub fn is_empty_bucket(&self, bucket: u64) -> bool
         ensures { IsTrue result → (n : ℕ) → is_in self.now bucket n ≡ false }
     {
-        is_bare(&self.links, &self.ends, bucket)
+        is_empty_bucket(&self.links, &self.ends, bucket)
     }
 
     /// The least item of the bucket above `low`, or the least of all if `low` is `None`. Never allocates. It costs one
@@ -167,7 +167,7 @@ fn add_ends(ends: &mut Vec<BucketEnds>) -> Result<(), AllocError>
     ensures longer { vec_len ends.old ≤ vec_len ends.new }
     ensures made { OnOk result (2 ^ 13 ≤ vec_len ends.new) }
 {
-    ends.resize(BUCKETS, BucketEnds::bare())
+    ends.resize(BUCKETS, BucketEnds::unlinked())
 }
 
 /// Adds items that are in no bucket, until there are so many.
@@ -183,7 +183,7 @@ fn make_links(links: &mut Vec<BucketLink>, len: usize) -> Result<(), AllocError>
         links.reserve(len - links.len())?;
     }
     while links.len() < len {
-        links.push_reserved(BucketLink::bare());
+        links.push_reserved(BucketLink::unlinked());
     }
     Ok(())
 }
@@ -226,7 +226,7 @@ fn move_to(links: &mut [BucketLink], ends: &mut [BucketEnds], item: u64, bucket:
 
 /// Whether no item is in the bucket.
 #[inline(always)]
-fn is_bare(links: &[BucketLink], ends: &[BucketEnds], bucket: u64) -> bool
+fn is_empty_bucket(links: &[BucketLink], ends: &[BucketEnds], bucket: u64) -> bool
     requires { IsChained links.now ends.now }
     ensures { IsTrue result → (n : ℕ) → is_in (buckets links.now) bucket n ≡ false }
 {

@@ -531,7 +531,7 @@ fn next_by_criterion(
     requires { (n : ℕ) → meets_criterion cells.now.state criterion n ≡ true → is_in chain.now bucket n ≡ true }
     ensures { IsNext (meets_criterion cells.now.state criterion) low result }
 {
-    if chain.is_bare(bucket) {
+    if chain.is_empty_bucket(bucket) {
         None
     } else {
         next_in_bucket(cells, chain, bucket, criterion, low)

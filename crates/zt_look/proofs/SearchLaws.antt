@@ -23,13 +23,13 @@ use Rattle.zt_rows.specs.Consistent.{IsConsistent, has_parent}
 use Rattle.zt_rows.specs.Contents.{MessageContent}
 use Rattle.zt_rows.specs.Keys.{first_number, rowkey_eq}
 use Rattle.zt_rows.specs.ProofsOnly.KeyOrder.{rowkey_eq-equal}
-use Rattle.zt_rows.specs.Reads.{counters, entry, message, object, is_live_process, runs}
+use Rattle.zt_rows.specs.Reads.{counters, entry, message, object, is_live_process, has_live_process}
 use Rattle.zt_rows.specs.State.{State, row}
 use Rattle.zt_rows.specs.Support.{root_job}
 use Rattle.zt_rows.specs.Tests.{among, exists, is_endpoint, is_task, next_at}
 use Rattle.zt_rows.proofs.ReadLaws.{exists-some, kind_at-some, message-row}
 use Rattle.zt_rows.proofs.RowLaws.{or_true, or_left, or_right, and_left, and_right, true≢false}
-use Rattle.zt_rows.proofs.SoundLaws.{runs-some, some-runs}
+use Rattle.zt_rows.proofs.SoundLaws.{has_live_process-some, some-has_live_process}
 use Rattle.zt_queries.proofs.FollowLaws.{low-koid}
 use Rattle.zt_look.specs.declared.unleaked_search.Search.{Search}
 use Rattle.zt_look.specs.ProofsOnly.UnleakedSearch.{Adds, AreBetween, AreThere, Grows, HasAllNamed, IsLeast, IsNamedAt, IsNamedBetween, IsNamedBy, IsNamedHere, IsOpen, IsOwned, IsSearched, IsSeeded, WaitInside, begun_by, has_key, in_set, in_found, is_there_after, itself, koid_of, koids, koids_in, named_by, parents, waits}
@@ -366,7 +366,7 @@ not_zero l e z = no (sym e ∙ ap not (eq-eqb l 0 z))
 -- what a set is closed under, one by one
 pub record Holds (S : State) (f : ℕ → Bool) : Type 0 where
   pub root : f root_job ≡ true
-  pub running : (x : ℕ) → runs S x ≡ true → f x ≡ true
+  pub running : (x : ℕ) → has_live_process S x ≡ true → f x ≡ true
   pub entries : (p h : ℕ) (held : Held) → entry S p h ≡ Some held → f held.koid ≡ true
   pub messages : (e n : ℕ) (m : MessageContent) → message S e n ≡ Some m → f e ≡ true → AllByRecursion (λ (h : Held). f h.koid ≡ true) m.handles
   pub above : (x : ℕ) (o : ObjectRow) → object S x ≡ Some o → is_task o.kind ≡ true → (o.link ≡ 0 → ⊥) → f x ≡ true → f o.link ≡ true
@@ -378,7 +378,7 @@ module _ (S : State) (f : ℕ → Bool) (holds : Holds S f) where
       let w = if-among ((y == root_job) || is_live_process o) y x e in
       subst (λ z. f z ≡ true) w.1 (elim (or_true (y == root_job) (is_live_process o) w.0) [
         | inl l ↦ subst (λ z. f z ≡ true) (sym (eqb-true y root_job l)) holds.root
-        | inr r ↦ holds.running y (some-runs S y o at r)
+        | inr r ↦ holds.running y (some-has_live_process S y o at r)
       ])
 
   entry_held : (p h x : ℕ) (o : Option Held) → entry S p h ≡ o → among (koid_of o) x ≡ true → f x ≡ true
@@ -433,7 +433,7 @@ linked-child S sound x o at task linked = by (has_parent x o) refl
 pub there-closed : (S : State) → IsConsistent S → HasAllNamed S (exists S)
 there-closed S sound = holds-closed S (exists S) (record {
   root = let w = kind_at-some S root_job kind.Job sound.sound.root in exists-some S root_job w.0 w.1;
-  running = λ x e. let w = runs-some S x e in exists-some S x w.0 w.1;
+  running = λ x e. let w = has_live_process-some S x e in exists-some S x w.0 w.1;
   entries = λ p h held at. (sound.sound.of_entries p h held at).names;
   messages = λ e n m at owner. (sound.sound.of_messages e n m at).names;
   above = λ x o at task linked owner. let c = (sound.sound.of_objects x o at).parents (linked-child S sound x o at task linked) in exists-some S o.link c.parent c.there;

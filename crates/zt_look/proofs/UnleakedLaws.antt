@@ -20,7 +20,7 @@ use Rattle.zt_rows.specs.Consistent.{IsChild, IsConsistent, has_parent}
 use Rattle.zt_rows.specs.Contents.{MessageContent}
 use Rattle.zt_rows.specs.End.{chain, links, upward}
 use Rattle.zt_rows.specs.Keys.{first_number, rowkey_eq}
-use Rattle.zt_rows.specs.Reads.{as_object, as_entry, as_message, is_job, is_live, is_live_job, is_live_process, is_process, message, object, runs}
+use Rattle.zt_rows.specs.Reads.{as_object, as_entry, as_message, is_job, is_live, is_live_job, is_live_process, is_process, message, object, has_live_process}
 use Rattle.zt_rows.specs.Room.{suits}
 use Rattle.zt_rows.specs.State.{State, row}
 use Rattle.zt_rows.specs.Support.{root_job}
@@ -29,7 +29,7 @@ use Rattle.zt_rows.proofs.AboveLaws.{Above, above, above-live, above-over, paren
 use Rattle.zt_rows.proofs.ChangeLaws.{among-changed, among-keys, find-before, same_where_not_differ}
 use Rattle.zt_rows.proofs.ReadLaws.{exists-some, kind_at-some, some-exists, some_one}
 use Rattle.zt_rows.proofs.RowLaws.{In, or_true, or_left, or_right, and_left, and_right, and_both, true≢false, same_test, not_true}
-use Rattle.zt_rows.proofs.SoundLaws.{runs-some, some-runs}
+use Rattle.zt_rows.proofs.SoundLaws.{has_live_process-some, some-has_live_process}
 use Rattle.zt_rows.proofs.SoundLaws as live
 use Rattle.zt_store.specs.RecordLook.{held}
 use Rattle.zt_history.specs.Tree.{Tree, made_at, parent_at, state_at}
@@ -137,8 +137,8 @@ module _ (S : State) (sound : IsConsistent S) where
         let w = kind_at-some S root_job kind.Job sound.sound.root in
         channel-no-job w.0.kind (channel-is w.0 (ap (object S) (eqb-true e root_job t) ∙ w.1)) (ap is_job w.2)
 
-    not_running : runs S e ≡ true → ⊥
-    not_running t = let w = runs-some S e t in channel-no-process w.0.kind (channel-is w.0 w.1) (and_left (is_process w.0.kind) (is_live w.0.life) w.2)
+    not_running : has_live_process S e ≡ true → ⊥
+    not_running t = let w = has_live_process-some S e t in channel-no-process w.0.kind (channel-is w.0 w.1) (and_left (is_process w.0.kind) (is_live w.0.life) w.2)
 
     not_above : (y : ℕ) (o : ObjectRow) → object S y ≡ Some o → keeps_above (reached S) (y, o) ≡ true → In e (chain S y) → ⊥
     not_above y o there keeps l =
@@ -156,7 +156,7 @@ module _ (S : State) (sound : IsConsistent S) where
           there = exists-some S e channel.0 channel.1;
           unreached = h;
           not_root = not_true (e == root_job) not_root;
-          not_running = not_true (runs S e) not_running;
+          not_running = not_true (has_live_process S e) not_running;
           not_above = not_above;
         }))
 
@@ -186,7 +186,7 @@ module _ (S : State) (sound : IsConsistent S) where
       there = exists-some S x o at;
       unreached = not_true (among (reached S) x) (λ r. elim which [ inl p ↦ no_process p | inr j ↦ no_job (and_left (is_live_job o) (not (x == root_job)) j) r ]);
       not_root = elim which [ inl p ↦ absurd (no_process p) | inr j ↦ off (x == root_job) (and_right (is_live_job o) (not (x == root_job)) j) ];
-      not_running = not_true (runs S x) (λ t. let w = runs-some S x t in no_process (ap is_live_process (some_one o w.0 (sym at ∙ w.1)) ∙ w.2));
+      not_running = not_true (has_live_process S x) (λ t. let w = has_live_process-some S x t in no_process (ap is_live_process (some_one o w.0 (sym at ∙ w.1)) ∙ w.2));
       not_above = λ y q there keeps l.
           let over : among (chain S y) x ≡ true = in-among x (chain S y) l in
           lost.not_above y q there keeps (among-in o.link (chain S y) (above-over S sound.sound y q there (keeper-live y q (reached S) there keeps x over) x o.link over up));
@@ -204,7 +204,7 @@ module _ (S : State) (sound : IsConsistent S) where
     root =
         let w = kind_at-some S root_job kind.Job sound.sound.root in
         unleaked-by root_job (exists-some S root_job w.0 w.1) (λ lost. true≢false (root_job == root_job) (eq-eqb root_job root_job refl) lost.not_root);
-    running = λ x e. let w = runs-some S x e in unleaked-by x (exists-some S x w.0 w.1) (λ lost. true≢false (runs S x) e lost.not_running);
+    running = λ x e. let w = has_live_process-some S x e in unleaked-by x (exists-some S x w.0 w.1) (λ lost. true≢false (has_live_process S x) e lost.not_running);
     entries = λ p h one at. reached-unleaked one.koid (sound.sound.of_entries p h one at).names (entry-reached S p h one at);
     messages = λ e n m at kept. in-all (λ (h : Held). is_unleaked S h.koid ≡ true) m.handles (messages-unleaked e n m at kept);
     above = parent-unleaked;
@@ -264,8 +264,8 @@ module _ (S : State) (sound : IsConsistent S) (f : ℕ → Bool) (closed : HasAl
       root_in : (x == root_job) ≡ true → f x ≡ true
       root_in t = let w = some-exists S x there in itself-in x w.0 w.1 (or_left (x == root_job) (is_live_process w.0) t)
 
-      running_in : runs S x ≡ true → f x ≡ true
-      running_in t = let w = runs-some S x t in itself-in x w.0 w.1 (or_right (x == root_job) (is_live_process w.0) w.2)
+      running_in : has_live_process S x ≡ true → f x ≡ true
+      running_in t = let w = has_live_process-some S x t in itself-in x w.0 w.1 (or_right (x == root_job) (is_live_process w.0) w.2)
 
       above_in : (y : ℕ) (o : ObjectRow) → object S y ≡ Some o → keeps_above (reached S) (y, o) ≡ true → In x (chain S y) → f x ≡ true
       above_in y o at keeps l =
@@ -278,7 +278,7 @@ module _ (S : State) (sound : IsConsistent S) (f : ℕ → Bool) (closed : HasAl
         there = there;
         unreached = not_true (among (reached S) x) (λ r. true≢false (f x) (reached-in x r) h);
         not_root = not_true (x == root_job) (λ t. true≢false (f x) (root_in t) h);
-        not_running = not_true (runs S x) (λ t. true≢false (f x) (running_in t) h);
+        not_running = not_true (has_live_process S x) (λ t. true≢false (f x) (running_in t) h);
         not_above = λ y o at keeps l. true≢false (f x) (above_in y o at keeps l) h;
       }))
 

@@ -2,7 +2,7 @@
 
 ghost use Rattle.std.specs.Prelude.{◌≡◌, ◌++◌, true, Some, IfOk, IfErr, OnOk};
 ghost use Rattle.zt_rows.specs.declared.refusals.Refusal.TheVariants as refusal;
-ghost use Rattle.zt_rows.specs.Reads.{runs};
+ghost use Rattle.zt_rows.specs.Reads.{has_live_process};
 ghost use Rattle.zt_rows.specs.Tests.{exists, kind_at};
 ghost use Rattle.zt_history.specs.HistoryRefusals.{IsHistoryRefusal, check};
 ghost use Rattle.zt_history.specs.Tree.{state_at};
@@ -29,13 +29,13 @@ pub struct Handle {
 /// Errors: `NoProcess` if the process is not live there, `OutOfMemory` if an allocation fails.
 pub fn handles_at(alloc: Global, history: &History, process: Koid) -> Result<Vec<Handle>, Refusal>
     ensures ok { IfOk result (λ list. AreHandles (state_at history.now.tree.made history.now.position) process list.items) }
-    ensures running { OnOk result (runs (state_at history.now.tree.made history.now.position) process ≡ true) }
+    ensures running { OnOk result (has_live_process (state_at history.now.tree.made history.now.position) process ≡ true) }
     ensures refused { IfErr result
-        (IsHistoryRefusal (check (runs (state_at history.now.tree.made history.now.position) process) refusal.NoProcess)) }
+        (IsHistoryRefusal (check (has_live_process (state_at history.now.tree.made history.now.position) process) refusal.NoProcess)) }
 {
     limits(history);
     let kept = history.store();
-    if !runs(kept, process) {
+    if !has_live_process(kept, process) {
         return Err(Refusal::NoProcess);
     }
     let list = handles_of(alloc, kept, process)?;
@@ -43,8 +43,8 @@ pub fn handles_at(alloc: Global, history: &History, process: Koid) -> Result<Vec
 }
 
 /// Whether the koid is that of a live process.
-fn runs(store: &Store, process: Koid) -> bool
-    ensures { result ≡ runs store.now.state process }
+fn has_live_process(store: &Store, process: Koid) -> bool
+    ensures { result ≡ has_live_process store.now.state process }
 {
     match store.object(process) {
         Some(object) => object.is_live_process(),

@@ -271,13 +271,13 @@ pub fn print_branch(
     let mut text = Vec::from_slice(alloc, b"branch ")?;
     text.extend_from_slice(name)?;
     push_moment(&mut text, head)?;
-    push_leaves(&mut text, leaves)?;
+    push_fork(&mut text, leaves)?;
     text.push(b'\n')?;
     Ok(text)
 }
 
 /// If a branch leaves another one, appends which one and at which moment, behind a space.
-fn push_leaves(text: &mut Vec<u8>, leaves: &Option<(&[u8], Moment)>) -> Result<(), AllocError>
+fn push_fork(text: &mut Vec<u8>, leaves: &Option<(&[u8], Moment)>) -> Result<(), AllocError>
     ensures { OnOk result (text.new.items ≡ text.old.items ++ behind_spaces (leaves_words (option_map (λ e. (e.0.now, e.1)) leaves.now))) }
 {
     match leaves {

@@ -21,7 +21,7 @@ use Rattle.zt_rows.specs.declared.rows.Row.TheVariants as rows
 use Rattle.zt_rows.specs.declared.rows.Wait.{Wait}
 use Rattle.zt_rows.specs.Contents.{MessageContent}
 use Rattle.zt_rows.specs.State.{State, put}
-use Rattle.zt_rows.specs.Reads.{as_counters, as_object, as_entry, as_message, counters, object, entry, message, queue, packets, is_job, is_process, is_live, runs}
+use Rattle.zt_rows.specs.Reads.{as_counters, as_object, as_entry, as_message, counters, object, entry, message, queue, packets, is_job, is_process, is_live, has_live_process}
 use Rattle.zt_rows.specs.Tests.{any_kind, is_channel, is_port, is_endpoint, is_task, among, first, raised, next_at, object_next, without_bits, any_row}
 use Rattle.zt_rows.specs.Settle.{push_packet}
 use Rattle.zt_rows.specs.End.{depth, is_under, ends_with, end}
@@ -72,7 +72,7 @@ direct-push_packet S T d x o was k =
 
 -- ---- the calls of one process
 
-module _ (S : State) (sound : IsSound S) (p : ℕ) (live : runs S p ≡ true) where
+module _ (S : State) (sound : IsSound S) (p : ℕ) (live : has_live_process S p ≡ true) where
   begun : Direct S S
   begun = direct-itself S sound
 

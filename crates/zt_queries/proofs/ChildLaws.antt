@@ -25,7 +25,7 @@ use Rattle.zt_rows.specs.declared.rows.Row.TheVariants as rows
 use Rattle.zt_rows.specs.declared.rows.Wait.{Wait}
 use Rattle.zt_rows.specs.Contents.{MessageContent}
 use Rattle.zt_rows.specs.State.{State, row, put}
-use Rattle.zt_rows.specs.Reads.{as_object, counters, object, entry, message, queue, packets, is_job, is_process, is_live, is_live_job, is_live_process, on_object, runs}
+use Rattle.zt_rows.specs.Reads.{as_object, counters, object, entry, message, queue, packets, is_job, is_process, is_live, is_live_job, is_live_process, on_object, has_live_process}
 use Rattle.zt_rows.specs.Support.{root_job, is_supported}
 use Rattle.zt_rows.specs.Tests.{any_kind, is_channel, is_port, is_endpoint, is_task, among, exists, first, raised, without_bits, any_row}
 use Rattle.zt_rows.specs.Collect.{unlinked, without, collect}
@@ -47,7 +47,7 @@ use Rattle.zt_rows.proofs.FramedLaws.{Framed, shaped-there, turned}
 use Rattle.zt_rows.proofs.ReadLaws.{some_one, exists-some, some-exists, kind_at-some, object-put, message-without, stayed, stays}
 use Rattle.zt_rows.proofs.RowLaws.{In, or_true, or_left, or_right, and_left, and_right, and_both, true≢false, not_true}
 use Rattle.zt_rows.proofs.SettleLaws.{framed-settle}
-use Rattle.zt_rows.proofs.SoundLaws.{task-not-endpoint, runs-some, some-runs, and_no_left, link-kept}
+use Rattle.zt_rows.proofs.SoundLaws.{task-not-endpoint, has_live_process-some, some-has_live_process, and_no_left, link-kept}
 use Rattle.zt_rows.proofs.StateLaws.{row-put, row-change}
 use Rattle.zt_rows.proofs.StepLaws.{Found, chained, after_check, after_some, after_result, after_handle_of, after_handle, caller-is}
 use Rattle.zt_rows.proofs.SupportLaws.{KeptBy, by_entry, by_message, by_child, by_itself, supported-kept, kept-supported}
@@ -122,7 +122,7 @@ child-leaked S c y z q leaks there task link = (lost-leaked S z lost_child, job)
         | inl p ↦ absurd (no-process p)
         | inr j ↦ off (z == root_job) (and_right (is_live_job q) _ j)
       ];
-      not_running = not_true (runs S z) (λ t. let w = runs-some S z t in no-process (ap is_live_process (some_one q w.0 (sym there ∙ w.1)) ∙ w.2));
+      not_running = not_true (has_live_process S z) (λ t. let w = has_live_process-some S z t in no-process (ap is_live_process (some_one q w.0 (sym there ∙ w.1)) ∙ w.2));
       not_above = λ x o at keeps l.
           let lives : (is_live_job o || is_live_process o) ≡ true = above-lives S c.sound x o at (keeps-task o.kind (is_live o.life) (among (reached S) x) keeps) z l in
           lost.not_above x o at keeps (among-in y (chain S x) (above-over S c.sound x o at lives z y (in-among z (chain S x) l) under));
@@ -243,7 +243,7 @@ lasts-paired S T l c made =
     let two : Lasts S V = lasts-object S U one (c.next_koid + 1) (fresh made c.next_koid) (λ e. refl) in
     lasts-counters S V two (Some (rows.Counters (record c { next_koid = c.next_koid + 2 })))
 
-module _ (S : State) (p : ℕ) (live : runs S p ≡ true) where
+module _ (S : State) (p : ℕ) (live : has_live_process S p ≡ true) where
   begun : Lasts S S
   begun x e = e
 
@@ -491,7 +491,7 @@ module _ (S : State) (c : IsConsistent S) (y : ℕ) (leaks : is_leaked S y ≡ t
 
 -- ---- a child of a leaked job, through the call itself
 
-module _ (S : State) (c : IsConsistent S) (p : ℕ) (live : runs S p ≡ true) (y : ℕ) (leaks : is_leaked S y ≡ true) (z : ℕ) (q : ObjectRow) (there : object S z ≡ Some q) (task : (is_live_job q || is_live_process q) ≡ true) (link : q.link ≡ y) where
+module _ (S : State) (c : IsConsistent S) (p : ℕ) (live : has_live_process S p ≡ true) (y : ℕ) (leaks : is_leaked S y ≡ true) (z : ℕ) (q : ObjectRow) (there : object S z ≡ Some q) (task : (is_live_job q || is_live_process q) ≡ true) (link : q.link ≡ y) where
   abbrev Stays : State → Type 0
   Stays T = lives T y ≡ true → lives T z ≡ true
 
@@ -524,7 +524,7 @@ module _ (S : State) (c : IsConsistent S) (p : ℕ) (live : runs S p ≡ true) (
 
   stays-process_exit : (code : ℤ) → Stays (process_exit S p code).0
   stays-process_exit code e =
-      let me = runs-some S p live in
+      let me = has_live_process-some S p live in
       let task_me : (is_live_job me.0 || is_live_process me.0) ≡ true = or_right (is_live_job me.0) _ me.2 in
       let T : State = end S (λ x. x == p) (life.Exited code) in
       let late = end-lived (others S p) life.Killed refl T y e in
@@ -577,7 +577,7 @@ module _ (S : State) (c : IsConsistent S) (p : ℕ) (live : runs S p ≡ true) (
 
 -- ---- and through the removal of what nothing supports
 
-module _ (S : State) (c : IsConsistent S) (p : ℕ) (live : runs S p ≡ true) (k : Call) (is : IsCall k) where
+module _ (S : State) (c : IsConsistent S) (p : ℕ) (live : has_live_process S p ≡ true) (k : Call) (is : IsCall k) where
   abbrev after : State
   after = (direct S p k).0
 
@@ -626,7 +626,7 @@ module _ (S : State) (c : IsConsistent S) (p : ℕ) (live : runs S p ≡ true) (
           task_r
           (link-kept leaving r.0 (and_no_left (is_endpoint r.0.kind) (leaving r.0.link) (task-not-endpoint r.0 task_r)) ∙ r.3))
       by_support (by_itself was there t) = elim (or_true (is_live_process was) _ t) [
-        | inl l ↦ absurd (true≢false (runs S x) (some-runs S x was there l) lost.not_running)
+        | inl l ↦ absurd (true≢false (has_live_process S x) (some-has_live_process S x was there l) lost.not_running)
         | inr r ↦ absurd (true≢false (x == root_job) r lost.not_root)
       ]
 

@@ -15,7 +15,7 @@ use Rattle.zt_rows.specs.declared.rows.Held.{Held}
 use Rattle.zt_rows.specs.declared.rows.ObjectRow.{ObjectRow}
 use Rattle.zt_rows.specs.declared.rows.Row.{Row}
 use Rattle.zt_rows.specs.Opening.{opening}
-use Rattle.zt_rows.specs.Reads.{on_object, is_live_process, object, entry, runs}
+use Rattle.zt_rows.specs.Reads.{on_object, is_live_process, object, entry, has_live_process}
 use Rattle.zt_rows.specs.State.{State, row, put}
 use Rattle.zt_rows.specs.Support.{root_job}
 use Rattle.zt_rows.specs.Tests.{among, exists}
@@ -83,7 +83,7 @@ at-opening : (x : ℕ) (o : ObjectRow) → object opening x ≡ Some o → is_le
 unfolding row put
 at-opening x o there = of_both (λ y p. is_leaked opening y ≡ true → ⊥)
     (λ t. true≢false (1024 == root_job) refl (leaked-lost opening 1024 t).not_root)
-    (λ t. true≢false (runs opening 1025) refl (leaked-lost opening 1025 t).not_running) x o there
+    (λ t. true≢false (has_live_process opening 1025) refl (leaked-lost opening 1025 t).not_running) x o there
 
 pub opening-unleaked : (x : ℕ) → is_leaked opening x ≡ false
 opening-unleaked x = not_true (is_leaked opening x) (λ t. let w = some-exists opening x (leaked-exists opening x t) in at-opening x w.0 w.1 t)

@@ -15,7 +15,7 @@ use Rattle.zt_rows.specs.declared.rows.Row.{Row}
 use Rattle.zt_rows.specs.declared.rows.Row.TheVariants as rows
 use Rattle.zt_rows.specs.Contents.{MessageContent}
 use Rattle.zt_rows.specs.State.{State, row}
-use Rattle.zt_rows.specs.Reads.{as_object, object, object_at, objects, message, is_live, is_job, is_process, is_live_process, is_live_job, on_object, runs}
+use Rattle.zt_rows.specs.Reads.{as_object, object, object_at, objects, message, is_live, is_job, is_process, is_live_process, is_live_job, on_object, has_live_process}
 use Rattle.zt_rows.specs.Tests.{exists, among, is_task, is_endpoint, link_at, object_link}
 use Rattle.zt_rows.specs.Support.{root_job}
 use Rattle.zt_rows.specs.Collect.{unlinked, without, collect}
@@ -27,7 +27,7 @@ use Rattle.zt_rows.specs.Consistent.{IsChild, has_parent, SoundObject, IsSound, 
 use Rattle.zt_rows.proofs.RowLaws.{In, row-in, in-row, filter_map-in, in-filter_map, list_any-in, in-list_any, or_true, or_left, or_right, and_left, and_right, and_both, true≢false, same_test, not_true}
 use Rattle.zt_rows.proofs.ReadLaws.{some_one, exists-some, some-exists, kind_at-some, object-row, message-without, message-stayed, stayed, stays}
 use Rattle.zt_rows.proofs.SupportLaws.{KeptBy, by_entry, by_message, by_child, by_itself, supported-kept, kept-supported}
-use Rattle.zt_rows.proofs.SoundLaws.{runs-some, some-runs}
+use Rattle.zt_rows.proofs.SoundLaws.{has_live_process-some, some-has_live_process}
 use Rattle.zt_rows.proofs.CollectLaws.{sound-collect, supported-stays}
 use Rattle.zt_rows.proofs.FramedLaws.{Framed, exists-shaped}
 use Rattle.zt_rows.proofs.SettleLaws.{framed-settle}
@@ -43,7 +43,7 @@ use Rattle.zt_queries.proofs.CallsFollow.{direct-call}
 -- ---- the whole call
 
 -- the state after a call follows from the one before it
-pub follows-step : (S : State) → IsSound S → (p : ℕ) → runs S p ≡ true → (c : Call) → IsCall c → Follows S (step S p c).0
+pub follows-step : (S : State) → IsSound S → (p : ℕ) → has_live_process S p ≡ true → (c : Call) → IsCall c → Follows S (step S p c).0
 unfolding step
 follows-step S sound p live c is =
     let T : State = (direct S p c).0 in
@@ -53,7 +53,7 @@ follows-step S sound p live c is =
     follows-framed S (collect T) (settle S (collect T)) (framed-settle S (collect T) (sound-collect T (sound-direct S p c sound live is))) left
 
 -- a message after a call was there before it, or names what was reached
-pub step-added : (S : State) → IsSound S → (p : ℕ) → runs S p ≡ true → (c : Call) → IsCall c → (e n : ℕ) (m : MessageContent) → message (step S p c).0 e n ≡ Some m
+pub step-added : (S : State) → IsSound S → (p : ℕ) → has_live_process S p ≡ true → (c : Call) → IsCall c → (e n : ℕ) (m : MessageContent) → message (step S p c).0 e n ≡ Some m
     → (message S e n ≡ Some m) ⊎ AllReached S m.handles
 unfolding step
 step-added S sound p live c is e n m there =
@@ -85,7 +85,7 @@ pub record Lost (S : State) (x : ℕ) : Type 0 where
   pub there : exists S x ≡ true
   pub unreached : among (reached S) x ≡ false
   pub not_root : (x == root_job) ≡ false
-  pub not_running : runs S x ≡ false
+  pub not_running : has_live_process S x ≡ false
   pub not_above : (y : ℕ) (o : ObjectRow) → object S y ≡ Some o → keeps_above (reached S) (y, o) ≡ true → In x (chain S y) → ⊥
 
 not_or_left : (a b : Bool) → not (a || b) ≡ true → a ≡ false
@@ -115,7 +115,7 @@ leaked-lost S x e =
     let known : List ℕ = reached S in
     let out : not (among known x || is_kept S known x) ≡ true = and_right (exists S x) _ e in
     let kept : is_kept S known x ≡ false = not_or_right (among known x) _ out in
-    let first : ((x == root_job) || runs S x) ≡ false = or_no_left ((x == root_job) || runs S x) _ kept in
+    let first : ((x == root_job) || has_live_process S x) ≡ false = or_no_left ((x == root_job) || has_live_process S x) _ kept in
     record {
       there = and_left (exists S x) _ e;
       unreached = not_or_left (among known x) _ out;
@@ -124,7 +124,7 @@ leaked-lost S x e =
       not_above = λ y o h keeps l.
           true≢false (is_above S known x)
           (list_any-in (λ (w : ℕ × ObjectRow). keeps_above known w && among (chain S w.0) x) (y, o) (objects S) (object-in S y o h) (and_both (keeps_above known (y, o)) _ keeps (in-among x (chain S y) l)))
-          (or_no_right ((x == root_job) || runs S x) _ kept);
+          (or_no_right ((x == root_job) || has_live_process S x) _ kept);
     }
 
 pub lost-leaked : (S : State) (x : ℕ) → Lost S x → is_leaked S x ≡ true
@@ -135,7 +135,7 @@ lost-leaked S x lost =
     let w = in-list_any (λ (w : ℕ × ObjectRow). keeps_above known w && among (chain S w.0) x) (objects S) t in
     let keeps : keeps_above known w.0 ≡ true = and_left (keeps_above known w.0) _ w.2 in
     lost.not_above w.0.0 w.0.1 (in-object S w.0.0 w.0.1 w.1) keeps (among-in x (chain S w.0.0) (and_right (keeps_above known w.0) _ w.2))) in
-    let kept : is_kept S known x ≡ false = neither ((x == root_job) || runs S x) _ (neither (x == root_job) _ lost.not_root lost.not_running) above in
+    let kept : is_kept S known x ≡ false = neither ((x == root_job) || has_live_process S x) _ (neither (x == root_job) _ lost.not_root lost.not_running) above in
     and_both (exists S x) _ lost.there (ap not (neither (among known x) _ lost.unreached kept))
 
 -- ---- the list of what is leaked
@@ -302,13 +302,13 @@ module _ (S U : State) (sound : IsSound S) (f : Follows S U) where
         there = there;
         unreached = not_true (among (reached U) x) (λ t. true≢false (among (reached S) x) (later-reached x low t) lost.unreached);
         not_root = lost.not_root;
-        not_running = not_true (runs U x) (λ t. let w = runs-some U x t in by_was w.0 w.2 (f.objects x w.0 w.1));
+        not_running = not_true (has_live_process U x) (λ t. let w = has_live_process-some U x t in by_was w.0 w.2 (f.objects x w.0 w.1));
         not_above = λ y q e keeps m. above y q e keeps m (f.objects y q e);
       }
     where
       by_was : (q : ObjectRow) → is_live_process q ≡ true → Was S x q → ⊥
       by_was q l (is_new above fresh) = not-new x lost.there above
-      by_was q l (is_old o e a) = true≢false (runs S x) (some-runs S x o e (aged-process o q a l)) lost.not_running
+      by_was q l (is_old o e a) = true≢false (has_live_process S x) (some-has_live_process S x o e (aged-process o q a l)) lost.not_running
 
       above : (y : ℕ) (q : ObjectRow) → object U y ≡ Some q → keeps_above (reached U) (y, q) ≡ true → In x (chain U y) → Was S y q → ⊥
       above y q e keeps m (is_new high fresh) = new-keeps x y q lost e high (kind-task q.kind (is_live q.life) (among (reached U) y) keeps) fresh m
@@ -415,7 +415,7 @@ module _ (S : State) (consistent : IsConsistent S) where
       message-without rest T n.endpoint n.number ∙ ap (λ b. cond (not b) None (message T n.endpoint n.number)) n.out ∙ still in
       kept-supported (without T rest) x (by_message n.endpoint n.number n.content n.held left n.among_handles n.names))
 
-  strayed-stays : (p : ℕ) → runs S p ≡ true → (c : Call) → IsCall c → (x : ℕ) → strayed S x ≡ true → exists (step S p c).0 x ≡ true
+  strayed-stays : (p : ℕ) → has_live_process S p ≡ true → (c : Call) → IsCall c → (x : ℕ) → strayed S x ≡ true → exists (step S p c).0 x ≡ true
   unfolding step
   strayed-stays p live c is x e =
       let T : State = (direct S p c).0 in
@@ -429,7 +429,7 @@ module _ (S : State) (consistent : IsConsistent S) where
       exists-shaped (collect T) (settle S (collect T)) f.of_shapes x ∙ ap (λ Z. exists Z x) w.1 ∙ left
 
   -- no message at a strayed endpoint goes
-  pub strayed-reads : (p : ℕ) → runs S p ≡ true → (c : Call) → IsCall c → (e : ℕ) (o : ObjectRow) → object S e ≡ Some o → o.kind ≡ kind.Channel → among (reached S) e ≡ false
+  pub strayed-reads : (p : ℕ) → has_live_process S p ≡ true → (c : Call) → IsCall c → (e : ℕ) (o : ObjectRow) → object S e ≡ Some o → o.kind ≡ kind.Channel → among (reached S) e ≡ false
       → (n : ℕ) (m : MessageContent) → message S e n ≡ Some m → message (step S p c).0 e n ≡ Some m
   unfolding step
   strayed-reads p live c is e o at made out n m there =
@@ -446,10 +446,10 @@ module _ (S : State) (consistent : IsConsistent S) where
 
   -- ---- the laws
 
-  pub leaked-stays : (p : ℕ) → runs S p ≡ true → (c : Call) → IsCall c → (x : ℕ) → is_leaked S x ≡ true → exists (step S p c).0 x ≡ true → is_leaked (step S p c).0 x ≡ true
+  pub leaked-stays : (p : ℕ) → has_live_process S p ≡ true → (c : Call) → IsCall c → (x : ℕ) → is_leaked S x ≡ true → exists (step S p c).0 x ≡ true → is_leaked (step S p c).0 x ≡ true
   leaked-stays p live c is x e there =
       lost-leaked (step S p c).0 x (lost-follows S (step S p c).0 consistent.sound (follows-step S consistent.sound p live c is) x (leaked-lost S x e) there)
 
-  pub leaked-endpoint : (p : ℕ) → runs S p ≡ true → (c : Call) → IsCall c → (x : ℕ) → is_leaked S x ≡ true → on_object (λ o. is_endpoint o.kind) (object S x) ≡ true → is_leaked (step S p c).0 x ≡ true
+  pub leaked-endpoint : (p : ℕ) → has_live_process S p ≡ true → (c : Call) → IsCall c → (x : ℕ) → is_leaked S x ≡ true → on_object (λ o. is_endpoint o.kind) (object S x) ≡ true → is_leaked (step S p c).0 x ≡ true
   leaked-endpoint p live c is x e ends =
       leaked-stays p live c is x e (strayed-stays p live c is x (and_both (on_object (λ (o : ObjectRow). is_endpoint o.kind) (object S x)) _ ends (ap not (leaked-lost S x e).unreached)))

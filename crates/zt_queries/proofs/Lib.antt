@@ -22,7 +22,7 @@ pub mod NeverLaws
 pub mod NameLaws
 pub mod JobLaws
 pub mod ChildLaws
-pub mod LetGoLaws
+pub mod ReleasedLaws
 pub mod LostChildLaws
 pub mod NameSearchLaws
 pub mod RecordReachLaws

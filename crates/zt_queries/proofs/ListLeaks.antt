@@ -11,7 +11,7 @@ use Rattle.zt_rows.specs.declared.rows.Row.{Row}
 use Rattle.zt_rows.specs.declared.rows.Row.TheVariants as rows
 use Rattle.zt_rows.specs.Change.{keys}
 use Rattle.zt_rows.specs.State.{State, row}
-use Rattle.zt_rows.specs.Reads.{as_object, object_at, objects, on_object, is_live_process, runs}
+use Rattle.zt_rows.specs.Reads.{as_object, object_at, objects, on_object, is_live_process, has_live_process}
 use Rattle.zt_rows.specs.Tests.{among, exists}
 use Rattle.zt_rows.specs.Support.{root_job}
 use Rattle.zt_rows.proofs.RowLaws.{In, in-row}
@@ -38,8 +38,8 @@ module _ (graph : BTreeMap RowKey GraphRow) (S : State) (drawn : IsGraph graph S
   left_lost x =
       ap (λ o. is_left reach above x (node_at o)) (drawn.draws (key.Object x))
       ∙ left_of (row S (key.Object x)) x reach above
-      ∙ ap (λ b. exists S x && not (b || ((x == root_job) || runs S x || above x))) (of_reached x)
-      ∙ ap (λ b. exists S x && not (among (reached S) x || ((x == root_job) || runs S x || b))) (of_above x)
+      ∙ ap (λ b. exists S x && not (b || ((x == root_job) || has_live_process S x || above x))) (of_reached x)
+      ∙ ap (λ b. exists S x && not (among (reached S) x || ((x == root_job) || has_live_process S x || b))) (of_above x)
 
   pub left_leaked : (x : ℕ) → is_left reach above x (node graph x) ≡ is_leaked S x
   unfolding is_leaked

@@ -17,7 +17,7 @@ use Rattle.zt_rows.specs.Consistent.{IsSound, IsConsistent}
 use Rattle.zt_rows.specs.Contents.{MessageContent}
 use Rattle.zt_rows.specs.End.{chain}
 use Rattle.zt_rows.specs.Handles.{next_koid}
-use Rattle.zt_rows.specs.Reads.{object, message, is_job, is_process, is_live, is_live_job, is_live_process, on_object, runs}
+use Rattle.zt_rows.specs.Reads.{object, message, is_job, is_process, is_live, is_live_job, is_live_process, on_object, has_live_process}
 use Rattle.zt_rows.specs.Room.{suits}
 use Rattle.zt_rows.specs.Settle.{is_child_process_of}
 use Rattle.zt_rows.specs.State.{State, row}
@@ -26,9 +26,9 @@ use Rattle.zt_rows.specs.Tests.{among, count_row, exists, is_task, link_at, obje
 use Rattle.zt_rows.proofs.AboveLaws.{above}
 use Rattle.zt_rows.proofs.ReadLaws.{some_one, exists-some, kind_at-some, object-row}
 use Rattle.zt_rows.proofs.RowLaws.{In, row-in, in-row, list_any-in, in-list_any, count-cons, or_true, or_right, and_left, and_right, and_both, true≢false, not_true}
-use Rattle.zt_rows.proofs.SoundLaws.{runs-some, some-runs}
+use Rattle.zt_rows.proofs.SoundLaws.{has_live_process-some, some-has_live_process}
 use Rattle.zt_rows.proofs.SupportLaws.{KeptBy, by_entry, by_message, by_child, by_itself, supported-kept}
-use Rattle.zt_history.specs.LetGo.{lets_go_at, last_let_go}
+use Rattle.zt_history.specs.Released.{releases_at, last_released}
 use Rattle.zt_history.specs.LostChild.{is_child_row, loses_child, loses_child_at, last_lost_child}
 use Rattle.zt_history.specs.TreeInvariant.{AreMoments}
 use Rattle.zt_history.specs.Tree.{Made, parent_at, path, state_at}
@@ -43,7 +43,7 @@ use Rattle.zt_queries.proofs.FirstLeakLaws.{one-last}
 use Rattle.zt_queries.proofs.FollowLaws.{AllReached, low-koid}
 use Rattle.zt_queries.proofs.JobLaws.{job-no-process}
 use Rattle.zt_queries.proofs.LeakLaws.{Lost, leaked-lost, lost-leaked, linked-there, step-added}
-use Rattle.zt_queries.proofs.LetGoLaws as let_go
+use Rattle.zt_queries.proofs.ReleasedLaws as released
 use Rattle.zt_queries.proofs.NameLaws.{NamedBy, in_entry, in_message, named-by, child-object, object-child, keeps-task}
 use Rattle.zt_queries.proofs.NeverLaws.{passing-lives, passes}
 use Rattle.zt_queries.proofs.OnceLaws.{given-stays, has_leaked, leaked-begins, leaked-exists, leaked-goes-on, lived, lives-exists, next-consistent, next-follows, of_object, off, reached-there, was-old}
@@ -117,8 +117,8 @@ held-leaked S sound set below calm out x member o at job no_root =
       there = exists-some S x o at;
       unreached = out x member;
       not_root = no_root;
-      not_running = not_true (runs S x) (λ t.
-          let w = runs-some S x t in
+      not_running = not_true (has_live_process S x) (λ t.
+          let w = has_live_process-some S x t in
           let same : w.0 ≡ o = some_one w.0 o (sym w.1 ∙ at) in
           job-no-process o.kind job (ap (λ (q : ObjectRow). is_process q.kind) (sym same) ∙ and_left (is_process w.0.kind) _ w.2));
       not_above = λ w q there keeps l. elim (or_true (is_live_process q) _ keeps) [
@@ -165,7 +165,7 @@ leaked-was S T c n y some leaks out = by (supported-kept T y ((next-consistent S
         let up : link_at S z ≡ y = ap object_link w.1 ∙ w.3 in
         subst (λ v. exists S v ≡ true) up (linked-there S c.sound z (omega (arith, up, some)))
     by (by_itself o there t) = elim (or_true (is_live_process o) _ t) [
-      | inl l ↦ absurd (true≢false (runs T y) (some-runs T y o there l) lost.not_running)
+      | inl l ↦ absurd (true≢false (has_live_process T y) (some-has_live_process T y o there l) lost.not_running)
       | inr r ↦ absurd (true≢false (y == root_job) r lost.not_root)
     ]
 
@@ -262,10 +262,10 @@ module _ (made : List Made) (are : AreMoments made) (at x : ℕ) (within : at �
     T = state_at made (suc i)
 
     leaked-at : (m : ℕ) → among (path made at) m ≡ true → among (path made m) (suc i) ≡ true → (y : ℕ) → among ends y ≡ true → is_leaked (state_at made m) y ≡ true
-    leaked-at = let_go.all-leaked made are at x within ends s there_now i on leaks
+    leaked-at = released.all-leaked made are at x within ends s there_now i on leaks
 
     consistent-at : (m : ℕ) → among (path made at) m ≡ true → IsConsistent (state_at made m)
-    consistent-at = let_go.consistent made are at x within ends s there_now
+    consistent-at = released.consistent made are at x within ends s there_now
 
     lived-at : (m : ℕ) → among (path made at) m ≡ true → among (path made m) (suc i) ≡ true → (y : ℕ) → among ends y ≡ true → lives (state_at made m) y ≡ true
     lived-at m on_m later y h =
@@ -286,16 +286,16 @@ module _ (made : List Made) (are : AreMoments made) (at x : ℕ) (within : at �
       up = parent_at made (suc j)
 
       on_up : among (path made at) up ≡ true
-      on_up = let_go.on_up made are at x within ends s there_now i on leaks j low on_r
+      on_up = released.on_up made are at x within ends s there_now i on leaks j low on_r
 
       later_up : among (path made up) (suc i) ≡ true
-      later_up = let_go.later_up made are at x within ends s there_now i on leaks j low on_r
+      later_up = released.later_up made are at x within ends s there_now i on leaks j low on_r
 
       later_on : among (path made (suc j)) (suc i) ≡ true
-      later_on = let_go.later_on made are at x within ends s there_now i on leaks j low on_r
+      later_on = released.later_on made are at x within ends s there_now i on leaks j low on_r
 
       steps_up : IsCallStep (state_at made up) (state_at made (suc j))
-      steps_up = let_go.steps_up made are at x within ends s there_now i on leaks j low on_r
+      steps_up = released.steps_up made are at x within ends s there_now i on leaks j low on_r
 
       -- none of them loses a child then
       none-lost : (y : ℕ) → among ends y ≡ true → loses_child_at y made (suc j) ≡ false
@@ -312,21 +312,21 @@ module _ (made : List Made) (are : AreMoments made) (at x : ℕ) (within : at �
     -- ---- one of them lost something then
 
     itself : among (path made (suc i)) (suc i) ≡ true
-    itself = let_go.itself made are at x within ends s there_now i on leaks
+    itself = released.itself made are at x within ends s there_now i on leaks
 
     before : IsConsistent P
-    before = let_go.before made are at x within ends s there_now i on leaks
+    before = released.before made are at x within ends s there_now i on leaks
 
     after : IsConsistent T
     after = consistent-at (suc i) on
 
     steps : IsCallStep P T
-    steps = let_go.steps made are at x within ends s there_now i on leaks
+    steps = released.steps made are at x within ends s there_now i on leaks
 
     leaked-then : (y : ℕ) → among ends y ≡ true → is_leaked T y ≡ true
     leaked-then = leaked-at (suc i) on itself
 
-    module _ (no_name : (y : ℕ) → among ends y ≡ true → lets_go_at y made (suc i) ≡ false) (no_child : (y : ℕ) → among ends y ≡ true → loses_child_at y made (suc i) ≡ false) where
+    module _ (no_name : (y : ℕ) → among ends y ≡ true → releases_at y made (suc i) ≡ false) (no_child : (y : ℕ) → among ends y ≡ true → loses_child_at y made (suc i) ≡ false) where
       child-then : (y : ℕ) → among ends y ≡ true → (z : ℕ) (q : ObjectRow) → object P z ≡ Some q → (is_live_job q || is_live_process q) ≡ true → q.link ≡ y → is_child_row y (row T (key.Object z)) ≡ true
       child-then y h z q there live link = none-loses y P T (no_child y h) (leaked-exists T y (leaked-then y h)) z (object-child P y z q there live link)
 
@@ -343,32 +343,32 @@ module _ (made : List Made) (are : AreMoments made) (at x : ℕ) (within : at �
 
       out : (y : ℕ) → among ends y ≡ true → among (reached P) y ≡ false
       out y h = not_true (among (reached P) y) (λ t. true≢false (among ends y) h
-          (off (among ends y) (reached-least P (λ z. not (among ends z)) (let_go.closed made are at x within ends s there_now i on leaks no_name) y t)))
+          (off (among ends y) (reached-least P (λ z. not (among ends z)) (released.closed made are at x within ends s there_now i on leaks no_name) y t)))
 
       leaked-before : is_leaked P x ≡ true
       leaked-before =
-          let some : 0 < x = let_go.some-koid S consistent x there_now in
+          let some : 0 < x = released.some-koid S consistent x there_now in
           let there : exists P x ≡ true = leaked-was P T before steps x some (leaked-then x s.itself) (out x s.itself) in
           let job : on_object a_job (object T x) ≡ true = (kept-on made are (was_job T x) (was_job-goes-on T x) (suc i) (low-koid T after.sound x (leaked-exists T x (leaked-then x s.itself)), λ j. j) at within on).1 job_now in
           let w = of_object a_job (object P x) (job-before P T before steps x (low-koid P before.sound x there) job) in
           held-leaked P before.sound (λ y. among ends y) below calm out x s.itself w.0 w.1 w.2 no_root
 
     abbrev OneThen : Type 0
-    OneThen = ((y : ℕ) × In y ends × (lets_go_at y made (suc i) ≡ true)) ⊎ ((y : ℕ) × In y ends × (loses_child_at y made (suc i) ≡ true))
+    OneThen = ((y : ℕ) × In y ends × (releases_at y made (suc i) ≡ true)) ⊎ ((y : ℕ) × In y ends × (loses_child_at y made (suc i) ≡ true))
 
     one-then : OneThen
-    one-then = by (list_any (λ y. lets_go_at y made (suc i)) ends) refl (list_any (λ y. loses_child_at y made (suc i)) ends) refl
+    one-then = by (list_any (λ y. releases_at y made (suc i)) ends) refl (list_any (λ y. loses_child_at y made (suc i)) ends) refl
       where
         none : (P : ℕ → Bool) → list_any P ends ≡ false → (y : ℕ) → among ends y ≡ true → P y ≡ false
         none P f y h = not_true (P y) (λ t. true≢false (list_any P ends) (list_any-in P y ends (among-in y ends h) t) f)
 
-        by : (a : Bool) → list_any (λ y. lets_go_at y made (suc i)) ends ≡ a → (b : Bool) → list_any (λ y. loses_child_at y made (suc i)) ends ≡ b → OneThen
-        by true t b g = inl (in-list_any (λ y. lets_go_at y made (suc i)) ends t)
+        by : (a : Bool) → list_any (λ y. releases_at y made (suc i)) ends ≡ a → (b : Bool) → list_any (λ y. loses_child_at y made (suc i)) ends ≡ b → OneThen
+        by true t b g = inl (in-list_any (λ y. releases_at y made (suc i)) ends t)
         by false f true t = inr (in-list_any (λ y. loses_child_at y made (suc i)) ends t)
         by false f false g =
             absurd (true≢false (is_leaked P x)
-            (leaked-before (none (λ y. lets_go_at y made (suc i)) f) (none (λ y. loses_child_at y made (suc i)) g))
-            (let_go.unleaked-before made are at x within ends s there_now i on leaks))
+            (leaked-before (none (λ y. releases_at y made (suc i)) f) (none (λ y. loses_child_at y made (suc i)) g))
+            (released.unleaked-before made are at x within ends s there_now i on leaks))
 
     -- ---- what was found
 
@@ -381,23 +381,23 @@ module _ (made : List Made) (are : AreMoments made) (at x : ℕ) (within : at �
     children-low : (y : ℕ) → In y ends → (r : ℕ) → last_lost_child y made at ≡ Some r → r ≤ suc i
     unfolding last_lost_child
     children-low y h r e =
-        let w = filter-among (loses_child_at y made) (path made at) r (let_go.last-among (filter (loses_child_at y made) (path made at)) r e) in
+        let w = filter-among (loses_child_at y made) (path made at) r (released.last-among (filter (loses_child_at y made) (path made at)) r e) in
         no-later y (in-among y ends h) r w.0 w.1
 
-    names-low : (y : ℕ) → In y ends → (r : ℕ) → last_let_go y made at ≡ Some r → r ≤ suc i
-    names-low = let_go.names-low made are at x within ends s there_now i on leaks
+    names-low : (y : ℕ) → In y ends → (r : ℕ) → last_released y made at ≡ Some r → r ≤ suc i
+    names-low = released.names-low made are at x within ends s there_now i on leaks
 
     found-then : later (last_of_children made at ends) (last_of_names made at ends) ≡ Some (suc i)
-    unfolding last_let_go last_lost_child
+    unfolding last_released last_lost_child
     found-then = elim one-then [
-      | inl goes ↦ let_go.later-second (suc i) (last_of_children made at ends) (last_of_names made at ends)
-          (let_go.latest (λ y. last_let_go y made at) (suc i) ends names-low None (λ r e. let_go.none_is r e)
-          (inr (goes.0, goes.1, let_go.last-found made are.falls (lets_go_at goes.0 made) (suc i) goes.2 at on (let_go.no-later made are at x within ends s there_now i on leaks goes.0 (in-among goes.0 ends goes.1)))))
-          (let_go.all-low (λ y. last_lost_child y made at) (suc i) ends children-low None (λ r e. let_go.none_is r e))
-      | inr loses ↦ let_go.later-first (suc i) (last_of_children made at ends) (last_of_names made at ends)
-          (let_go.latest (λ y. last_lost_child y made at) (suc i) ends children-low None (λ r e. let_go.none_is r e)
-          (inr (loses.0, loses.1, let_go.last-found made are.falls (loses_child_at loses.0 made) (suc i) loses.2 at on (no-later loses.0 (in-among loses.0 ends loses.1)))))
-          (let_go.all-low (λ y. last_let_go y made at) (suc i) ends names-low None (λ r e. let_go.none_is r e))
+      | inl goes ↦ released.later-second (suc i) (last_of_children made at ends) (last_of_names made at ends)
+          (released.latest (λ y. last_released y made at) (suc i) ends names-low None (λ r e. released.none_is r e)
+          (inr (goes.0, goes.1, released.last-found made are.falls (releases_at goes.0 made) (suc i) goes.2 at on (released.no-later made are at x within ends s there_now i on leaks goes.0 (in-among goes.0 ends goes.1)))))
+          (released.all-low (λ y. last_lost_child y made at) (suc i) ends children-low None (λ r e. released.none_is r e))
+      | inr loses ↦ released.later-first (suc i) (last_of_children made at ends) (last_of_names made at ends)
+          (released.latest (λ y. last_lost_child y made at) (suc i) ends children-low None (λ r e. released.none_is r e)
+          (inr (loses.0, loses.1, released.last-found made are.falls (loses_child_at loses.0 made) (suc i) loses.2 at on (no-later loses.0 (in-among loses.0 ends loses.1)))))
+          (released.all-low (λ y. last_released y made at) (suc i) ends names-low None (λ r e. released.none_is r e))
     ]
 
   -- ---- the moment at which it was leaked
@@ -409,7 +409,7 @@ module _ (made : List Made) (are : AreMoments made) (at x : ℕ) (within : at �
   calm-now w o there p h = no-process S o.link w o (s.held o.link h).calm there p refl
 
   out-now : (y : ℕ) → among ends y ≡ true → among (reached S) y ≡ false
-  out-now y h = not_true (among (reached S) y) (λ t. true≢false (among ends y) h (off (among ends y) (reached-least S (λ z. not (among ends z)) (let_go.others_of made are at x within ends s there_now) y t)))
+  out-now y h = not_true (among (reached S) y) (λ t. true≢false (among ends y) h (off (among ends y) (reached-least S (λ z. not (among ends z)) (released.others_of made are at x within ends s there_now) y t)))
 
   now-leaked : is_leaked S x ≡ true
   now-leaked = held-leaked S consistent.sound (λ y. among ends y) below-now calm-now out-now x s.itself x_now.0 x_now.1 (and_left (is_job x_now.0.kind) _ x_now.2) no_root

@@ -15,7 +15,7 @@ use Rattle.zt_rows.specs.declared.rows.Row.{Row}
 use Rattle.zt_rows.specs.declared.rows.Row.TheVariants as rows
 use Rattle.zt_rows.specs.Contents.{MessageContent}
 use Rattle.zt_rows.specs.State.{State, row}
-use Rattle.zt_rows.specs.Reads.{as_entry, as_message, as_object, entry, is_job, is_live, is_live_job, is_live_process, is_process, message, names, object, on_object, runs}
+use Rattle.zt_rows.specs.Reads.{as_entry, as_message, as_object, entry, is_job, is_live, is_live_job, is_live_process, is_process, message, names, object, on_object, has_live_process}
 use Rattle.zt_rows.specs.Tests.{among, exists, is_endpoint, is_task, link_at, object_link}
 use Rattle.zt_rows.specs.Room.{suits}
 use Rattle.zt_rows.specs.Support.{root_job}
@@ -25,12 +25,12 @@ use Rattle.zt_rows.specs.Consistent.{IsSound, IsConsistent}
 use Rattle.zt_rows.proofs.RowLaws.{In, row-in, in-row, list_any-in, in-list_any, or_true, and_left, and_right, and_both, true≢false, not_true}
 use Rattle.zt_rows.proofs.ReadLaws.{some_one, exists-some, kind_at-some, message-row, object-row}
 use Rattle.zt_rows.proofs.SupportLaws.{KeptBy, by_entry, by_message, by_child, by_itself, supported-kept}
-use Rattle.zt_rows.proofs.SoundLaws.{runs-some, some-runs}
+use Rattle.zt_rows.proofs.SoundLaws.{has_live_process-some, some-has_live_process}
 use Rattle.zt_rows.proofs.AboveLaws.{above-live}
 use Rattle.zt_queries.specs.Happenings.{lives, ended, IsCallStep}
 use Rattle.zt_queries.specs.Leaks.{is_leaked}
 use Rattle.zt_queries.specs.Reachability.{reached}
-use Rattle.zt_history.specs.LetGo.{lets_go}
+use Rattle.zt_history.specs.Released.{releases}
 use Rattle.zt_history.specs.LostChild.{is_child_row}
 use Rattle.zt_queries.specs.ProofsOnly.NameSearch.{is_passive, stands_passive}
 use Rattle.zt_queries.specs.ProofsOnly.FirstLeak.{is_passing_kind}
@@ -96,22 +96,22 @@ abbrev goes_at : ℕ → State → RowKey × Row → Bool
 goes_at y T e = names y (Some e.1) && not (names y (row T e.0))
 
 -- where no row that names it goes, it is not let go
-pub lets-none : (y : ℕ) (S T : State) → ((k : RowKey) → names y (row S k) ≡ true → names y (row T k) ≡ true) → lets_go y S T ≡ false
+pub lets-none : (y : ℕ) (S T : State) → ((k : RowKey) → names y (row S k) ≡ true → names y (row T k) ≡ true) → releases y S T ≡ false
 lets-none y S T stays =
-    not_true (lets_go y S T) (λ t.
+    not_true (releases y S T) (λ t.
     let w = in-list_any (goes_at y T) S.rows (and_right (exists T y) _ t) in
     let there : row S w.0.0 ≡ Some w.0.1 = in-row S w.0.0 w.0.1 w.1 in
     let still : names y (row T w.0.0) ≡ true = stays w.0.0 (ap (names y) there ∙ and_left (names y (Some w.0.1)) _ w.2) in
     true≢false (not (names y (row T w.0.0))) (and_right (names y (Some w.0.1)) _ w.2) (ap not still))
 
 -- and the other way about
-pub none-lets : (y : ℕ) (S T : State) → lets_go y S T ≡ false → exists T y ≡ true → (k : RowKey) → names y (row S k) ≡ true → names y (row T k) ≡ true
+pub none-lets : (y : ℕ) (S T : State) → releases y S T ≡ false → exists T y ≡ true → (k : RowKey) → names y (row S k) ≡ true → names y (row T k) ≡ true
 none-lets y S T none there k e = by (row S k) refl e
   where
     still : (b : Bool) → names y (row T k) ≡ b → (r : Row) → row S k ≡ Some r → names y (Some r) ≡ true → names y (row T k) ≡ true
     still true t r at named = t
     still false t r at named =
-        absurd (true≢false (lets_go y S T)
+        absurd (true≢false (releases y S T)
         (and_both (exists T y) _ there (list_any-in (goes_at y T) (k, r) S.rows (row-in S k r at) (and_both (names y (Some r)) _ named (ap not t))))
         none)
 
@@ -174,8 +174,8 @@ passive-leaked S c x p out =
       there = exists-some S x at.0 at.1;
       unreached = out;
       not_root = not_true (x == root_job) (λ t. let w = kind_at-some S root_job kind.Job c.sound.root in no-job w.0 (ap (object S) (eqb-true x root_job t) ∙ w.1) (ap is_job w.2));
-      not_running = not_true (runs S x) (λ t.
-          let w = runs-some S x t in
+      not_running = not_true (has_live_process S x) (λ t.
+          let w = has_live_process-some S x t in
           true≢false (is_live_process w.0) w.2 (off (is_live_process w.0) (and_right (not (is_job w.0.kind)) _ (passive w.0 w.1))));
       not_above = λ y o there keeps l.
           let w = above-job S c.sound y o there (keeps-task o.kind (is_live o.life) (among (reached S) y) keeps) x l in
@@ -300,7 +300,7 @@ module _ (S T : State) (c : IsConsistent S) (n : IsCallStep S T) where
           let none : no_job o ≡ true = ap (λ (u : ObjectRow). no_job u) (some_one o at.0 (sym there ∙ at.1)) ∙ at.2 in
           absurd (true≢false (is_job o.kind) (and_left (is_job o.kind) _ live) (off (is_job o.kind) none))
       by (by_itself o there t) = elim (or_true (is_live_process o) _ t) [
-        | inl l ↦ absurd (true≢false (runs T y) (some-runs T y o there l) lost.not_running)
+        | inl l ↦ absurd (true≢false (has_live_process T y) (some-has_live_process T y o there l) lost.not_running)
         | inr r ↦ absurd (true≢false (y == root_job) r lost.not_root)
       ]
 
@@ -320,7 +320,7 @@ module _ (S T : State) (c : IsConsistent S) (n : IsCallStep S T) where
           let o = was-old S T y follows low q.0 q.1 in
           let same : o.0 ≡ at.0 = some_one o.0 at.0 (sym o.1 ∙ at.1) in
           let process : is_process q.0.kind ≡ true = ap is_process (o.2.kind ∙ ap (λ (z : ObjectRow). z.kind) same) ∙ and_left (is_process at.0.kind) _ t in
-          true≢false (runs T y) (some-runs T y q.0 q.1 (and_both (is_process q.0.kind) _ process q.2)) (leaked-lost T y leaks).not_running
+          true≢false (has_live_process T y) (some-has_live_process T y q.0 q.1 (and_both (is_process q.0.kind) _ process q.2)) (leaked-lost T y leaks).not_running
 
       by : (b : Bool) → is_live_process at.0 ≡ b → (is_leaked S y ≡ true) ⊎ (ended y S T ≡ true)
       by true t = inr (and_both (lives S y) _ (ap (on_object living) at.1 ∙ and_right (is_process at.0.kind) _ t) (ap not (not_true (lives T y) (over t))))
@@ -342,7 +342,7 @@ module _ (S T : State) (c : IsConsistent S) (n : IsCallStep S T) where
       by : (b : Bool) → is_process at.0.kind ≡ b → lives S y ≡ true → not (lives T y) ≡ true → ⊥
       by true t l gone =
           let life : is_live was.0.life ≡ true = sym (ap (on_object living) was.1) ∙ l in
-          true≢false (runs S y) (some-runs S y was.0 was.1 (and_both (is_process was.0.kind) _ (ap is_process (sym was.2.kind) ∙ t) life)) (leaked-lost S y leaks).not_running
+          true≢false (has_live_process S y) (some-has_live_process S y was.0 was.1 (and_both (is_process was.0.kind) _ (ap is_process (sym was.2.kind) ∙ t) life)) (leaked-lost S y leaks).not_running
       by false f l gone =
           let passing : is_passing_kind at.0.kind ≡ true = passing-kind at.0.kind (off (is_job at.0.kind) at.2) f in
           true≢false (lives T y) (passing-lives T y after (ap (on_object passes) at.1 ∙ passing)) (off (lives T y) gone)

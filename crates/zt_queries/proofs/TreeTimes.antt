@@ -11,7 +11,7 @@ use Rattle.zt_rows.specs.declared.calls.Happening.TheVariants as happening
 use Rattle.zt_rows.specs.declared.refusals.Refusal.{Refusal}
 use Rattle.zt_rows.specs.declared.refusals.Refusal.TheVariants as refusal
 use Rattle.zt_rows.specs.Opening.{opening}
-use Rattle.zt_rows.specs.Reads.{runs}
+use Rattle.zt_rows.specs.Reads.{has_live_process}
 use Rattle.zt_rows.specs.State.{State}
 use Rattle.zt_rows.specs.Step.{step}
 use Rattle.zt_rows.specs.Tests.{among}
@@ -69,7 +69,7 @@ module _ (made : List Made) (are : AreMoments made) (test : State → State → 
       record {
         process = e.process;
         call = e.call;
-        live = ap (λ p. runs (state_at made p) e.process) up ∙ is.running;
+        live = ap (λ p. has_live_process (state_at made p) e.process) up ∙ is.running;
         is = is.limits;
         gives = state-step made are.falls i e at ∙ ap (λ p. (step (state_at made p) e.process e.call).0) (sym up);
       }

@@ -5,7 +5,7 @@ use Rattle.std.specs.Prelude.{◌≡◌, ℕ, Bool, true, not, ◌&&◌, if◌th
 use Rattle.std.specs.List.{last_or}
 use Rattle.zt_rows.specs.declared.calls.Call.{Call}
 use Rattle.zt_rows.specs.State.{State}
-use Rattle.zt_rows.specs.Reads.{object, is_live, on_object, runs}
+use Rattle.zt_rows.specs.Reads.{object, is_live, on_object, has_live_process}
 use Rattle.zt_rows.specs.Tests.{exists}
 use Rattle.zt_rows.specs.Step.{IsCall, step}
 use Rattle.zt_history.specs.RowHappenings.{is_cut_off}
@@ -45,7 +45,7 @@ leaked x S T = not (is_leaked S x) && is_leaked T x
 pub record IsCallStep (S T : State) : Type 0 where
   pub process : ℕ
   pub call : Call
-  pub live : runs S process ≡ true
+  pub live : has_live_process S process ≡ true
   pub is : IsCall call
   pub gives : T ≡ (step S process call).0
 

@@ -5,7 +5,7 @@ use Rattle.std.specs.List.{filter_map, list_any}
 use Rattle.zt_bits.specs.declared.kinds.Kind.{Kind}
 use Rattle.zt_rows.specs.declared.rows.ObjectRow.{ObjectRow}
 use Rattle.zt_rows.specs.State.{State}
-use Rattle.zt_rows.specs.Reads.{objects, is_job, is_live_process, runs}
+use Rattle.zt_rows.specs.Reads.{objects, is_job, is_live_process, has_live_process}
 use Rattle.zt_rows.specs.Tests.{among, exists}
 use Rattle.zt_rows.specs.Support.{root_job}
 use Rattle.zt_rows.specs.End.{chain}
@@ -23,7 +23,7 @@ is_above S known x = list_any (λ e. keeps_above known e && among (chain S e.0) 
 
 -- the root job, live processes, and the jobs above
 abbrev pub is_kept : State → List ℕ → ℕ → Bool
-is_kept S known x = (x == root_job) || runs S x || is_above S known x
+is_kept S known x = (x == root_job) || has_live_process S x || is_above S known x
 
 -- ---- what is leaked
 

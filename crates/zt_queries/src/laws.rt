@@ -7,7 +7,7 @@ ghost use Rattle.zt_rows.specs.declared.calls.Call.{Call};
 ghost use Rattle.zt_rows.specs.declared.calls.Happening.{Happening};
 ghost use Rattle.zt_rows.specs.declared.rows.ObjectRow.{ObjectRow};
 ghost use Rattle.zt_rows.specs.State.{State};
-ghost use Rattle.zt_rows.specs.Reads.{object, on_object, runs};
+ghost use Rattle.zt_rows.specs.Reads.{object, on_object, has_live_process};
 ghost use Rattle.zt_rows.specs.Tests.{among, exists, is_endpoint};
 ghost use Rattle.zt_rows.specs.Step.{IsCall, step};
 ghost use Rattle.zt_rows.specs.Consistent.{IsConsistent};
@@ -42,9 +42,9 @@ pub fn the_signal_tells_of_the_peer()
 /// A leaked object is leaked or gone after any call of a live process, and a leaked endpoint is never gone. On the
 /// paths that lead on, no process reaches the object again.
 pub fn what_leaked_stays_leaked()
-    ensures leaked_or_gone { (S : State) (p : ℕ) (c : Call) (x : ℕ) → IsConsistent S → runs S p ≡ true → IsCall c
+    ensures leaked_or_gone { (S : State) (p : ℕ) (c : Call) (x : ℕ) → IsConsistent S → has_live_process S p ≡ true → IsCall c
         → is_leaked S x ≡ true → exists (step S p c).0 x ≡ true → is_leaked (step S p c).0 x ≡ true }
-    ensures endpoint { (S : State) (p : ℕ) (c : Call) (x : ℕ) → IsConsistent S → runs S p ≡ true → IsCall c
+    ensures endpoint { (S : State) (p : ℕ) (c : Call) (x : ℕ) → IsConsistent S → has_live_process S p ≡ true → IsCall c
         → is_leaked S x ≡ true → on_object (λ o. is_endpoint o.kind) (object S x) ≡ true
         → is_leaked (step S p c).0 x ≡ true }
     ensures out_of_reach { (S : State) (path : List (ℕ × State)) (x : ℕ) → IsConsistent S → IsCallPath S path

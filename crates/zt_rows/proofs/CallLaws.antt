@@ -5,7 +5,7 @@ use Rattle.zt_bits.specs.declared.kinds.Kind.TheVariants as kind
 use Rattle.zt_rows.specs.declared.calls.Call.{Call}
 use Rattle.zt_rows.specs.declared.calls.Call.TheVariants as call
 use Rattle.zt_rows.specs.State.{State}
-use Rattle.zt_rows.specs.Reads.{runs}
+use Rattle.zt_rows.specs.Reads.{has_live_process}
 use Rattle.zt_rows.specs.Step.{IsCall, direct, step}
 use Rattle.zt_rows.specs.Consistent.{IsSound, IsConsistent}
 use Rattle.zt_rows.proofs.StepLaws.{consistent-completed, sound-create_call, sound-create_pair, sound-handle_close, sound-handle_duplicate, sound-handle_replace, sound-object_signal, sound-object_signal_peer}
@@ -14,7 +14,7 @@ use Rattle.zt_rows.proofs.ReceivedLaws.{sound-channel_read}
 use Rattle.zt_rows.proofs.PortSteps.{sound-object_wait_async, sound-port_queue, sound-port_wait, sound-port_cancel}
 use Rattle.zt_rows.proofs.JobSteps.{sound-job_create, sound-spawn, sound-job_set_critical, sound-task_kill, sound-process_exit}
 
-pub sound-direct : (S : State) (p : ℕ) (c : Call) → IsSound S → runs S p ≡ true → IsCall c → IsSound (direct S p c).0
+pub sound-direct : (S : State) (p : ℕ) (c : Call) → IsSound S → has_live_process S p ≡ true → IsCall c → IsSound (direct S p c).0
 unfolding direct
 sound-direct S p call.EventCreate sound live is = sound-create_call S p kind.Event sound live refl
 sound-direct S p call.EventPairCreate sound live is = sound-create_pair S p kind.EventPair sound live refl
@@ -38,6 +38,6 @@ sound-direct S p (call.TaskKill h) sound live is = sound-task_kill S p h sound
 sound-direct S p (call.ProcessExit code) sound live is = sound-process_exit S p code sound live
 
 -- a call of a live process leaves a consistent state consistent
-pub step-consistent : (S : State) (p : ℕ) (c : Call) → IsConsistent S → runs S p ≡ true → IsCall c → IsConsistent (step S p c).0
+pub step-consistent : (S : State) (p : ℕ) (c : Call) → IsConsistent S → has_live_process S p ≡ true → IsCall c → IsConsistent (step S p c).0
 unfolding step
 step-consistent S p c consistent live is = consistent-completed S (direct S p c).0 (sound-direct S p c consistent.sound live is)

@@ -18,7 +18,7 @@ use Rattle.zt_rows.specs.declared.rows.Row.{Row}
 use Rattle.zt_rows.specs.declared.rows.Row.TheVariants as rows
 use Rattle.zt_rows.specs.Contents.{MessageContent}
 use Rattle.zt_rows.specs.State.{State, row}
-use Rattle.zt_rows.specs.Reads.{as_counters, as_object, as_entry, as_message, as_packet, as_wait, counters, object, entry, message, packet, wait, is_live, is_job, is_process, is_live_process, is_live_job, runs}
+use Rattle.zt_rows.specs.Reads.{as_counters, as_object, as_entry, as_message, as_packet, as_wait, counters, object, entry, message, packet, wait, is_live, is_job, is_process, is_live_process, is_live_job, has_live_process}
 use Rattle.zt_rows.specs.Tests.{exists, kind_at, next_at, object_link, object_next, is_endpoint, count_row}
 use Rattle.zt_rows.specs.Room.{suits, is_wait}
 use Rattle.zt_rows.specs.Support.{root_job}
@@ -30,7 +30,7 @@ use Rattle.zt_rows.specs.Consistent.{IsPeer, IsChild, has_parent, may_be, SoundO
 use Rattle.zt_rows.proofs.StateLaws.{row-change}
 use Rattle.zt_rows.proofs.RowLaws.{or_left, or_right, true≢false, not_true, count_row-change}
 use Rattle.zt_rows.proofs.ReadLaws.{some_one, only_if, none_either, if_none}
-use Rattle.zt_rows.proofs.SoundLaws.{is_task, task-not-endpoint, process-not-job, has_parent-task, runs-some, some-runs, all_map, SameLinks, same_chain, same_depth, same_critical, sound-above, changed-suits}
+use Rattle.zt_rows.proofs.SoundLaws.{is_task, task-not-endpoint, process-not-job, has_parent-task, has_live_process-some, some-has_live_process, all_map, SameLinks, same_chain, same_depth, same_critical, sound-above, changed-suits}
 use Rattle.zt_rows.proofs.GivenLaws.{growth, OfKind, as_it_was, Spends}
 
 module _ (ending : ℕ → Bool) (how : Life) where
@@ -248,9 +248,9 @@ module _ (ending : ℕ → Bool) (how : Life) where
       entries-end p h held e =
           let was = only_if (ending p) (entry S p h) held (sym (entry-end p h) ∙ e) in
           let s : SoundEntry S p h held = sound.of_entries p h held was.1 in
-          let w = runs-some S p s.owner in
+          let w = has_live_process-some S p s.owner in
           record {
-            owner = some-runs rest p w.0 (stays p w.0 was.0 w.1) w.2;
+            owner = some-has_live_process rest p w.0 (stays p w.0 was.0 w.1) w.2;
             value = (s.value.0, s.value.1, subst (λ m. s.value.0 < m) (sym (next-end p)) s.value.2);
             names = exists-end held.koid ∙ s.names;
           }
@@ -333,9 +333,9 @@ module _ (ending : ℕ → Bool) (how : Life) where
 -- ---- a process alone
 
 -- a live process may end, as nothing is under it
-pub sound-end_process : (S : State) → IsSound S → (p : ℕ) → runs S p ≡ true → (how : Life) → is_live how ≡ false → IsSound (end S (λ x. x == p) how)
+pub sound-end_process : (S : State) → IsSound S → (p : ℕ) → has_live_process S p ≡ true → (how : Life) → is_live how ≡ false → IsSound (end S (λ x. x == p) how)
 sound-end_process S sound p live how over =
-    let w = runs-some S p live in
+    let w = has_live_process-some S p live in
     let here : (x : ℕ) (o : ObjectRow) → object S x ≡ Some o → (x == p) ≡ true → o ≡ w.0 = λ x o e t. some_one o w.0 (sym e ∙ ap (object S) (eqb-true x p t) ∙ w.1) in
     sound-end (λ x. x == p) how S sound
     (λ x o e t.

@@ -16,7 +16,7 @@ use Rattle.zt_rows.specs.declared.rows.Row.{Row}
 use Rattle.zt_rows.specs.declared.rows.Row.TheVariants as rows
 use Rattle.zt_rows.specs.Contents.{MessageContent}
 use Rattle.zt_rows.specs.State.{State, row}
-use Rattle.zt_rows.specs.Reads.{as_object, as_message, counters, object, entry, message, packet, wait, is_live_process, is_live_job, on_object, runs}
+use Rattle.zt_rows.specs.Reads.{as_object, as_message, counters, object, entry, message, packet, wait, is_live_process, is_live_job, on_object, has_live_process}
 use Rattle.zt_rows.specs.Tests.{exists, kind_at, link_at, next_at, object_link, is_endpoint, without_bits, any_row}
 use Rattle.zt_rows.specs.Room.{suits}
 use Rattle.zt_rows.specs.Support.{root_job, is_supported}
@@ -72,8 +72,8 @@ kind_at-shaped S T same x = through (λ r. option_map (λ (o : ObjectRow). o.kin
 pub link_at-shaped : (S T : State) → SameShapes S T → (x : ℕ) → link_at T x ≡ link_at S x
 link_at-shaped S T same x = through object_link (λ o. refl) (object T x) (object S x) (same x)
 
-pub runs-shaped : (S T : State) → SameShapes S T → (x : ℕ) → runs T x ≡ runs S x
-runs-shaped S T same x = through (on_object is_live_process) (λ o. refl) (object T x) (object S x) (same x)
+pub has_live_process-shaped : (S T : State) → SameShapes S T → (x : ℕ) → has_live_process T x ≡ has_live_process S x
+has_live_process-shaped S T same x = through (on_object is_live_process) (λ o. refl) (object T x) (object S x) (same x)
 
 shaped-some : (r s : Option ObjectRow) (q : ObjectRow) → option_map shaped r ≡ option_map shaped s → s ≡ Some q → (o : ObjectRow) × (r ≡ Some o) × (shaped o ≡ shaped q)
 shaped-some (Some o) s q e h = (o, refl, some_one (shaped o) (shaped q) (e ∙ ap (option_map shaped) h))
@@ -215,7 +215,7 @@ module _ (S T : State) (sound : IsSound S) (f : Framed S T) where
       let a : s.value.0 < next_at S p = s.value.2 in
       let b : next_at S p ≤ next_at T p = f.of_nexts p in
       record {
-        owner = runs-shaped S T f.of_shapes p ∙ s.owner;
+        owner = has_live_process-shaped S T f.of_shapes p ∙ s.owner;
         value = (s.value.0, s.value.1, omega arith);
         names = exists-shaped S T f.of_shapes held.koid ∙ s.names;
       }

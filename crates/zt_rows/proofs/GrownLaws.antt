@@ -17,7 +17,7 @@ use Rattle.zt_rows.specs.declared.rows.Row.{Row}
 use Rattle.zt_rows.specs.declared.rows.Row.TheVariants as rows
 use Rattle.zt_rows.specs.Contents.{MessageContent}
 use Rattle.zt_rows.specs.State.{State, row, put}
-use Rattle.zt_rows.specs.Reads.{as_counters, as_object, as_entry, as_message, as_packet, as_wait, counters, object, entry, message, packet, wait, is_live_process, is_live_job, runs}
+use Rattle.zt_rows.specs.Reads.{as_counters, as_object, as_entry, as_message, as_packet, as_wait, counters, object, entry, message, packet, wait, is_live_process, is_live_job, has_live_process}
 use Rattle.zt_rows.specs.Tests.{exists, kind_at, next_at, object_link, object_next, is_endpoint, without_bits, raised}
 use Rattle.zt_rows.specs.Room.{suits}
 use Rattle.zt_rows.specs.Support.{root_job}
@@ -29,7 +29,7 @@ use Rattle.zt_rows.specs.Consistent.{IsPeer, IsChild, has_parent, may_be, possib
 use Rattle.zt_rows.proofs.StateLaws.{row-put}
 use Rattle.zt_rows.proofs.RowLaws.{and_left, and_right, or_right, count_row-put-out}
 use Rattle.zt_rows.proofs.ReadLaws.{some_one, exists-some, some-exists, kind_at-some, chosen, object-put, typed-put}
-use Rattle.zt_rows.proofs.SoundLaws.{is_task, all_map, SameLinks, same_chain, same_depth, same_critical, sound-above, runs-some, some-runs}
+use Rattle.zt_rows.proofs.SoundLaws.{is_task, all_map, SameLinks, same_chain, same_depth, same_critical, sound-above, has_live_process-some, some-has_live_process}
 use Rattle.zt_rows.proofs.FramedLaws.{shaped}
 
 -- an object but for its signals, its next number and what it is critical to
@@ -88,11 +88,11 @@ module _ (S T : State) (keeps : KeepsObjects S T) where
       let c : w.0.next ≤ k.0.next = k.2.next in
       omega arith
 
-  pub runs-kept : (p : ℕ) → runs S p ≡ true → runs T p ≡ true
-  runs-kept p e =
-      let w = runs-some S p e in
+  pub has_live_process-kept : (p : ℕ) → has_live_process S p ≡ true → has_live_process T p ≡ true
+  has_live_process-kept p e =
+      let w = has_live_process-some S p e in
       let k = keeps p w.0 w.1 in
-      some-runs T p k.0 k.1 (ap is_live_process k.2.same ∙ w.2)
+      some-has_live_process T p k.0 k.1 (ap is_live_process k.2.same ∙ w.2)
 
   pub links-kept : SameLinks S T
   links-kept x o h t = let k = keeps x o h in ap object_link k.1 ∙ ap (λ (q : ObjectRow). q.link) k.2.same
@@ -138,8 +138,8 @@ module _ (S T : State) (keeps : KeepsObjects S T) where
         signals = signals;
       }
 
-  runs-exists : (p : ℕ) → runs S p ≡ true → exists S p ≡ true
-  runs-exists p e = let w = runs-some S p e in exists-some S p w.0 w.1
+  has_live_process-exists : (p : ℕ) → has_live_process S p ≡ true → exists S p ≡ true
+  has_live_process-exists p e = let w = has_live_process-some S p e in exists-some S p w.0 w.1
 
   kind-exists : (p : ℕ) (made : Kind) → kind_at S p ≡ Some made → exists S p ≡ true
   kind-exists p made e = let w = kind_at-some S p made e in exists-some S p w.0 w.1
@@ -147,8 +147,8 @@ module _ (S T : State) (keeps : KeepsObjects S T) where
   pub entry-kept : (p h : ℕ) (held : Held) → SoundEntry S p h held → SoundEntry T p h held
   entry-kept p h held s =
       let a : s.value.0 < next_at S p = s.value.2 in
-      let b : next_at S p ≤ next_at T p = next-kept p (runs-exists p s.owner) in
-      record { owner = runs-kept p s.owner; value = (s.value.0, s.value.1, omega arith); names = exists-kept held.koid s.names }
+      let b : next_at S p ≤ next_at T p = next-kept p (has_live_process-exists p s.owner) in
+      record { owner = has_live_process-kept p s.owner; value = (s.value.0, s.value.1, omega arith); names = exists-kept held.koid s.names }
 
   pub message-kept : (e n : ℕ) (m : MessageContent) → SoundMessage S e n m → SoundMessage T e n m
   message-kept e n m s =
@@ -282,7 +282,7 @@ module _ (S : State) (sound : IsSound S) (p : ℕ) (me : ObjectRow) (here : obje
   sound-new-entry =
       let next : next_at installed p ≡ me.next + 1 = ap object_next (has-object S installed p (raised me) has-installed) in
       record {
-        owner = runs-kept S installed keeps-installed p (some-runs S p me here live);
+        owner = has_live_process-kept S installed keeps-installed p (some-has_live_process S p me here live);
         value = (me.next, refl, omega arith);
         names = exists-kept S installed keeps-installed held.koid names;
       }

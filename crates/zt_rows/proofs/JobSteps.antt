@@ -15,7 +15,7 @@ use Rattle.zt_rows.specs.declared.rows.Life.TheVariants as life
 use Rattle.zt_rows.specs.declared.rows.Row.TheVariants as rows
 use Rattle.zt_rows.specs.declared.rows.ObjectRow.{ObjectRow}
 use Rattle.zt_rows.specs.State.{State, put}
-use Rattle.zt_rows.specs.Reads.{counters, object, is_job, is_process, is_live, is_live_job, is_live_process, runs}
+use Rattle.zt_rows.specs.Reads.{counters, object, is_job, is_process, is_live, is_live_job, is_live_process, has_live_process}
 use Rattle.zt_rows.specs.Tests.{any_kind, is_task as is_task_kind, next_at, object_next, among}
 use Rattle.zt_rows.specs.End.{chain, depth, is_live_task, is_under, ends_with, end}
 use Rattle.zt_rows.specs.Handles.{◌>>=◌, handle, answered, take_out, install, whole, fresh, next_koid, make}
@@ -36,7 +36,7 @@ use Rattle.zt_rows.proofs.KillLaws.{sound-kill, sound-exit}
 
 -- ---- a job under a job
 
-pub sound-job_create : (S : State) (p h : ℕ) → IsSound S → runs S p ≡ true → IsSound (job_create S p h).0
+pub sound-job_create : (S : State) (p h : ℕ) → IsSound S → has_live_process S p ≡ true → IsSound (job_create S p h).0
 sound-job_create S p h sound live =
     let w = caller-is S p live in
     after_handle IsSound S status.WrongType p h is_job 0x10000 _ sound (λ held job found.
@@ -49,7 +49,7 @@ sound-job_create S p h sound live =
     subst (λ me. IsSound (install p me (whole (next_koid S) kind.Job) T)) (sym w.3)
     (sound-install T made p w.0 (others-made S sound o p w.0 w.1) w.2 (whole (next_koid S) kind.Job) (exists-some T (next_koid S) o (object-made S sound o))))))
 
-pub called-job_create : (S : State) (p h : ℕ) → IsSound S → runs S p ≡ true → Called S (job_create S p h).0
+pub called-job_create : (S : State) (p h : ℕ) → IsSound S → has_live_process S p ≡ true → Called S (job_create S p h).0
 called-job_create S p h sound live =
     let w = caller-is S p live in
     after_handle (Called S) S status.WrongType p h is_job 0x10000 _ (called-nothing S) (λ held job found.
@@ -76,7 +76,7 @@ after_argument P S p arg f base none some =
 abbrev spawned : ℕ → ObjectRow → ℕ → Option Held → Counters → State → State
 spawned p me l given c T = install p me (whole c.next_koid kind.Process) (hand_over given c.next_koid (make c (child given l) T))
 
-pub sound-spawn : (S : State) (p h arg : ℕ) → IsSound S → runs S p ≡ true → IsSound (spawn S p h arg).0
+pub sound-spawn : (S : State) (p h arg : ℕ) → IsSound S → has_live_process S p ≡ true → IsSound (spawn S p h arg).0
 sound-spawn S p h arg sound live =
     let w = caller-is S p live in
     after_handle IsSound S status.WrongType p h is_job 0x20000 _ sound (λ held job found.
@@ -92,7 +92,7 @@ sound-spawn S p h arg sound live =
     (sound-spawn_given T (sound-taken p (λ g. g == arg) S sound) p w.0 (same p ∙ w.1) w.2 held.koid job (same held.koid ∙ found.object_there) (and_both (is_job job.kind) _ found.of_kind lives) given
     (exists-some T given.koid o (same given.koid ∙ handed.object_there)))))))
 
-pub called-spawn : (S : State) (p h arg : ℕ) → IsSound S → runs S p ≡ true → Called S (spawn S p h arg).0
+pub called-spawn : (S : State) (p h arg : ℕ) → IsSound S → has_live_process S p ≡ true → Called S (spawn S p h arg).0
 called-spawn S p h arg sound live =
     let w = caller-is S p live in
     after_handle (Called S) S status.WrongType p h is_job 0x20000 _ (called-nothing S) (λ held job found.
@@ -181,7 +181,7 @@ called-task_kill S p h =
       | false ↦ called-nothing S
     ])
 
-pub sound-process_exit : (S : State) (p : ℕ) (code : ℤ) → IsSound S → runs S p ≡ true → IsSound (process_exit S p code).0
+pub sound-process_exit : (S : State) (p : ℕ) (code : ℤ) → IsSound S → has_live_process S p ≡ true → IsSound (process_exit S p code).0
 sound-process_exit S p code sound live =
     let w = caller-is S p live in
     sound-exit S sound p w.0 w.1 w.2 code

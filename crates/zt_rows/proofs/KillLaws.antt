@@ -12,7 +12,7 @@ use Rattle.zt_rows.specs.End.{ends_with, end}
 use Rattle.zt_rows.specs.Consistent.{has_parent, may_be, IsSound}
 use Rattle.zt_rows.proofs.RowLaws.{or_right, and_left, and_right, and_both, true≢false, not_true}
 use Rattle.zt_rows.proofs.ReadLaws.{some_one}
-use Rattle.zt_rows.proofs.SoundLaws.{is_task, has_parent-task, some-runs}
+use Rattle.zt_rows.proofs.SoundLaws.{is_task, has_parent-task, some-has_live_process}
 use Rattle.zt_rows.proofs.EndLaws.{not_live_after, ended-was, outside-is, sound-end, sound-end_process}
 use Rattle.zt_rows.proofs.AboveLaws.{parent-above, under-above}
 use Rattle.zt_rows.proofs.ClosedLaws.{ends-closed, ends-live}
@@ -69,7 +69,7 @@ module _ (S : State) (sound : IsSound S) (p : ℕ) (me : ObjectRow) (here : obje
   -- the process may exit, and what else ends with it be killed
   pub sound-exit : IsSound (end (end S (λ x. x == p) (life.Exited code)) (λ x. ends_with S p x && not (x == p)) life.Killed)
   sound-exit =
-      sound-end beside life.Killed left (sound-end_process S sound p (some-runs S p me here live) (life.Exited code) refl)
+      sound-end beside life.Killed left (sound-end_process S sound p (some-has_live_process S p me here live) (life.Exited code) refl)
       (λ y q e t. ends-killed S sound p me here task y q (was-there y q e (is_not (y == p) (and_right (ends_with S p y) _ t))) (and_left (ends_with S p y) _ t))
       (λ y q e h t.
       let out : (y == p) ≡ false = other y q e (has_parent-task y q h) in

@@ -12,7 +12,7 @@ use Rattle.zt_rows.specs.declared.rows.Held.{Held}
 use Rattle.zt_rows.specs.declared.rows.ObjectRow.{ObjectRow}
 use Rattle.zt_rows.specs.declared.rows.Row.TheVariants as rows
 use Rattle.zt_rows.specs.State.{State, row, put}
-use Rattle.zt_rows.specs.Reads.{as_counters, as_object, as_entry, as_message, as_packet, as_wait, counters, object, entry, is_live_process, is_live_job, runs}
+use Rattle.zt_rows.specs.Reads.{as_counters, as_object, as_entry, as_message, as_packet, as_wait, counters, object, entry, is_live_process, is_live_job, has_live_process}
 use Rattle.zt_rows.specs.Tests.{exists, link_at, next_at, object_link, object_next, is_task as is_task_kind, is_endpoint}
 use Rattle.zt_rows.specs.Room.{suits}
 use Rattle.zt_rows.specs.Support.{root_job}
@@ -24,7 +24,7 @@ use Rattle.zt_rows.specs.Consistent.{has_parent, possible_signals, SoundObject, 
 use Rattle.zt_rows.proofs.StateLaws.{row-put}
 use Rattle.zt_rows.proofs.RowLaws.{true≢false, or_left, and_left, and_right, count_row-put-out}
 use Rattle.zt_rows.proofs.ReadLaws.{some_one, exists-some, some-exists, typed-put, chosen}
-use Rattle.zt_rows.proofs.SoundLaws.{some-runs, runs-some, same_links, sound-above}
+use Rattle.zt_rows.proofs.SoundLaws.{some-has_live_process, has_live_process-some, same_links, sound-above}
 use Rattle.zt_rows.proofs.GrownLaws.{KeepsObjects, Grown, kept_itself, links-kept, exists-kept, sound-grown, sound-install}
 use Rattle.zt_rows.proofs.MakeLaws.{fresh-koid, entry-made, koids-made, object-made, others-made, sound-make, may_be-live}
 use Rattle.zt_rows.proofs.ChainLaws.{chain-from, links-chain}
@@ -98,7 +98,7 @@ module _ (S : State) (sound : IsSound S) (l : ℕ) (job : ObjectRow) (there : ob
 
 -- ---- a first entry
 
-module _ (S : State) (sound : IsSound S) (p h : ℕ) (held : Held) (free : (old : Held) → entry S p h ≡ Some old → ⊥) (owner : runs S p ≡ true) (n : ℕ) (value : h ≡ 4 * n + 3) (given : n < next_at S p) (names : exists S held.koid ≡ true) where
+module _ (S : State) (sound : IsSound S) (p h : ℕ) (held : Held) (free : (old : Held) → entry S p h ≡ Some old → ⊥) (owner : has_live_process S p ≡ true) (n : ℕ) (value : h ≡ 4 * n + 3) (given : n < next_at S p) (names : exists S held.koid ≡ true) where
   abbrev handed : State
   handed = put S (key.Entry p h) (Some (rows.Entry held))
 
@@ -116,10 +116,10 @@ module _ (S : State) (sound : IsSound S) (p h : ℕ) (held : Held) (free : (old 
 
   sound-handed-entry : SoundEntry handed p h held
   sound-handed-entry =
-      let w = runs-some S p owner in
+      let w = has_live_process-some S p owner in
       let next : next_at handed p ≡ next_at S p = ap object_next (object-handed p) in
       record {
-        owner = some-runs handed p w.0 (object-handed p ∙ w.1) w.2;
+        owner = some-has_live_process handed p w.0 (object-handed p ∙ w.1) w.2;
         value = (n, value, omega arith);
         names = exists-kept S handed keeps-handed held.koid names;
       }
@@ -208,7 +208,7 @@ module _ (S : State) (sound : IsSound S) (p : ℕ) (me : ObjectRow) (here : obje
     -- a process that is not there yet holds nothing
     nothing-yet : (h : ℕ) (old : Held) → entry ready (next_koid S) h ≡ Some old → ⊥
     nothing-yet h old e =
-        let w = runs-some S (next_koid S) (sound.of_entries (next_koid S) h old (sym (entry-made S sound receiver (next_koid S) h) ∙ e)).owner in
+        let w = has_live_process-some S (next_koid S) (sound.of_entries (next_koid S) h old (sym (entry-made S sound receiver (next_koid S) h) ∙ e)).owner in
         fresh-koid S sound w.0 w.1
 
     sound-supplied : IsSound supplied
@@ -216,7 +216,7 @@ module _ (S : State) (sound : IsSound S) (p : ℕ) (me : ObjectRow) (here : obje
         let made : IsSound ready = sound-task S sound l job there lives kind.Process refl 1 (λ e. cc) in
         let next : next_at ready (next_koid S) ≡ 1 = ap object_next ready-there in
         let named = some-exists S held.koid names in
-        sound-hand ready made (next_koid S) (value_of 0) held (nothing-yet (value_of 0)) (some-runs ready (next_koid S) receiver ready-there refl) 0 refl (omega arith)
+        sound-hand ready made (next_koid S) (value_of 0) held (nothing-yet (value_of 0)) (some-has_live_process ready (next_koid S) receiver ready-there refl) 0 refl (omega arith)
         (exists-some ready held.koid named.0 (others-made S sound receiver held.koid named.0 named.1))
 
     pub sound-spawn_given : IsSound (install p me (whole (next_koid S) kind.Process) (put (make (counters S) (new_task kind.Process l 1) S) (key.Entry (next_koid S) (value_of 0)) (Some (rows.Entry held))))

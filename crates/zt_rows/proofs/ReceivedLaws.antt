@@ -13,7 +13,7 @@ use Rattle.zt_rows.specs.declared.rows.Row.{Row}
 use Rattle.zt_rows.specs.declared.rows.Row.TheVariants as rows
 use Rattle.zt_rows.specs.Contents.{MessageContent}
 use Rattle.zt_rows.specs.State.{State, row, put}
-use Rattle.zt_rows.specs.Reads.{as_message, object, message, queued, queue, is_live_process, runs}
+use Rattle.zt_rows.specs.Reads.{as_message, object, message, queued, queue, is_live_process, has_live_process}
 use Rattle.zt_rows.specs.Tests.{exists, is_channel, first, raised}
 use Rattle.zt_rows.specs.Handles.{answered, caller, install, install_all}
 use Rattle.zt_rows.specs.ChannelCalls.{has_room_for, take_message, refuse_message, channel_read}
@@ -83,7 +83,7 @@ read-cases P S p h bytes handles discard base next =
       ]
     ]))
 
-pub sound-channel_read : (S : State) (p h bytes handles : ℕ) (discard : Bool) → IsSound S → runs S p ≡ true → IsSound (channel_read S p h bytes handles discard).0
+pub sound-channel_read : (S : State) (p h bytes handles : ℕ) (discard : Bool) → IsSound S → has_live_process S p ≡ true → IsSound (channel_read S p h bytes handles discard).0
 sound-channel_read S p h bytes handles discard sound live =
     let w = caller-is S p live in
     read-cases IsSound S p h bytes handles discard sound (λ x n m there.
@@ -93,7 +93,7 @@ sound-channel_read S p h bytes handles discard sound live =
     let names : AllByRecursion (λ held. exists T held.koid ≡ true) m.handles = all_map m.handles (λ held l e. ap (λ r. is_some r) (object-message S x n None held.koid) ∙ e) s.names in
     (gone, subst (λ me. IsSound (install_all p me m.handles T)) (sym w.3) (sound-install_all m.handles T gone p w.0 (object-message S x n None p ∙ w.1) w.2 names)))
 
-pub called-channel_read : (S : State) (p h bytes handles : ℕ) (discard : Bool) → IsSound S → runs S p ≡ true → Called S (channel_read S p h bytes handles discard).0
+pub called-channel_read : (S : State) (p h bytes handles : ℕ) (discard : Bool) → IsSound S → has_live_process S p ≡ true → Called S (channel_read S p h bytes handles discard).0
 called-channel_read S p h bytes handles discard sound live =
     let w = caller-is S p live in
     read-cases (Called S) S p h bytes handles discard (called-nothing S) (λ x n m there.

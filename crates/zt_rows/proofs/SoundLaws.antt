@@ -16,7 +16,7 @@ use Rattle.zt_rows.specs.declared.rows.Row.{Row}
 use Rattle.zt_rows.specs.declared.rows.Row.TheVariants as rows
 use Rattle.zt_rows.specs.Contents.{MessageContent}
 use Rattle.zt_rows.specs.State.{State, row}
-use Rattle.zt_rows.specs.Reads.{counters, object, entry, message, packet, wait, is_live, is_job, is_process, is_live_process, is_live_job, on_object, runs}
+use Rattle.zt_rows.specs.Reads.{counters, object, entry, message, packet, wait, is_live, is_job, is_process, is_live_process, is_live_job, on_object, has_live_process}
 use Rattle.zt_rows.specs.Tests.{exists, kind_at, link_at, next_at, object_link, object_next, is_endpoint, among}
 use Rattle.zt_rows.specs.Room.{suits}
 use Rattle.zt_rows.specs.Support.{root_job, is_supported}
@@ -69,11 +69,11 @@ on_object-some : (p : ObjectRow → Bool) (r : Option ObjectRow) → on_object p
 on_object-some p (Some o) e = (o, refl, e)
 on_object-some p None e = cc
 
-pub runs-some : (S : State) (p : ℕ) → runs S p ≡ true → (o : ObjectRow) × (object S p ≡ Some o) × (is_live_process o ≡ true)
-runs-some S p e = on_object-some is_live_process (object S p) e
+pub has_live_process-some : (S : State) (p : ℕ) → has_live_process S p ≡ true → (o : ObjectRow) × (object S p ≡ Some o) × (is_live_process o ≡ true)
+has_live_process-some S p e = on_object-some is_live_process (object S p) e
 
-pub some-runs : (S : State) (p : ℕ) (o : ObjectRow) → object S p ≡ Some o → is_live_process o ≡ true → runs S p ≡ true
-some-runs S p o e live = ap (on_object is_live_process) e ∙ live
+pub some-has_live_process : (S : State) (p : ℕ) (o : ObjectRow) → object S p ≡ Some o → is_live_process o ≡ true → has_live_process S p ≡ true
+some-has_live_process S p o e live = ap (on_object is_live_process) e ∙ live
 
 -- ---- what each element of a list has
 
@@ -246,10 +246,10 @@ module _ (S : State) (sound : IsSound S) (going : ℕ → Bool) (free : (x : ℕ
   left-entries p h held e =
       let was : entry S p h ≡ Some held = sym (entry-without going S p h) ∙ e in
       let s : SoundEntry S p h held = sound.of_entries p h held was in
-      let w = runs-some S p s.owner in
+      let w = has_live_process-some S p s.owner in
       let g : going p ≡ false = not_going p (by_itself w.0 w.1 (or_left _ _ w.2)) in
       record {
-        owner = some-runs rest p (unlinked going w.0) (stays going S p w.0 w.1 g) w.2;
+        owner = some-has_live_process rest p (unlinked going w.0) (stays going S p w.0 w.1 g) w.2;
         value = (s.value.0, s.value.1, subst (λ m. s.value.0 < m) (sym (next-left p w.0 w.1 g)) s.value.2);
         names = exists-left held.koid s.names (not_going held.koid (by_entry p h held was refl));
       }

@@ -17,7 +17,7 @@ use Rattle.zt_rows.specs.declared.rows.Wait.{Wait}
 use Rattle.zt_rows.specs.declared.rows.Row.{Row}
 use Rattle.zt_rows.specs.declared.rows.Row.TheVariants as rows
 use Rattle.zt_rows.specs.State.{State, row, put}
-use Rattle.zt_rows.specs.Reads.{as_counters, counters, object, objects, entry, wait_at, waits, runs}
+use Rattle.zt_rows.specs.Reads.{as_counters, counters, object, objects, entry, wait_at, waits, has_live_process}
 use Rattle.zt_rows.specs.Tests.{any_kind, is_endpoint, kind_at, next_at, object_next, count_row, raised}
 use Rattle.zt_rows.specs.Room.{HasRoom, NextFits, is_wait, NextBy, HasGiven, HasSpent}
 use Rattle.zt_rows.specs.Opening.{opening}
@@ -98,14 +98,14 @@ spent-opening = record {
 
 -- ---- the calls
 
-called-received : (rights : ℕ) (S T : State) (p : ℕ) (held : Held) → runs S p ≡ true → Spends 0 0 0 S T → object T p ≡ object S p → Called S (received rights S p held T).0
+called-received : (rights : ℕ) (S T : State) (p : ℕ) (held : Held) → has_live_process S p ≡ true → Spends 0 0 0 S T → object T p ≡ object S p → Called S (received rights S p held T).0
 called-received rights S T p held live s same =
     let w = caller-is S p live in
     subst (λ me. Called S (install p me (record held { rights = record { 0 = rights } }) T)) (sym w.3)
     (spends-called 0 1 0 S (install p w.0 (record held { rights = record { 0 = rights } }) T) (omega arith) (omega arith) (omega arith)
     (spends-spends 0 0 0 0 1 0 S T (install p w.0 (record held { rights = record { 0 = rights } }) T) s (spends-install T p w.0 (record held { rights = record { 0 = rights } }) (same ∙ w.1) w.2)))
 
-called-create : (S : State) (p : ℕ) (k : Kind) → IsSound S → runs S p ≡ true → Called S (create k S p).0
+called-create : (S : State) (p : ℕ) (k : Kind) → IsSound S → has_live_process S p ≡ true → Called S (create k S p).0
 called-create S p k sound live =
     let w = caller-is S p live in
     let T : State = make (counters S) (fresh k 0) S in
@@ -114,7 +114,7 @@ called-create S p k sound live =
     (spends-called 1 1 0 S (install p w.0 (whole (next_koid S) k) T) (omega arith) (omega arith) (omega arith)
     (spends-spends 1 0 0 0 1 0 S T (install p w.0 (whole (next_koid S) k) T) (spends-make S sound (fresh k 0) refl) (spends-install T p w.0 (whole (next_koid S) k) here w.2)))
 
-called-create_pair : (S : State) (p : ℕ) (k : Kind) → IsSound S → runs S p ≡ true → is_endpoint k ≡ true → Called S (create_pair k S p).0
+called-create_pair : (S : State) (p : ℕ) (k : Kind) → IsSound S → has_live_process S p ≡ true → is_endpoint k ≡ true → Called S (create_pair k S p).0
 called-create_pair S p k sound live ends =
     let w = caller-is S p live in
     let T : State = make_pair (counters S) k S in
@@ -138,13 +138,13 @@ called-handle_close S p h =
       | false ↦ after_some (Called S) S (entry S p h) status.BadHandle _ (called-nothing S) (λ held e. called-take_out S p h)
     ]
 
-called-handle_duplicate : (S : State) (p h mask : ℕ) → runs S p ≡ true → Called S (handle_duplicate S p h mask).0
+called-handle_duplicate : (S : State) (p h mask : ℕ) → has_live_process S p ≡ true → Called S (handle_duplicate S p h mask).0
 called-handle_duplicate S p h mask live =
     after_handle (Called S) S status.WrongType p h any_kind 0x1 _ (called-nothing S) (λ held o found.
     after_some (Called S) S (asked_rights mask held.rights.0) status.InvalidArgs _ (called-nothing S) (λ rights e.
     called-received rights S S p held live (spends-itself S) refl))
 
-called-handle_replace : (S : State) (p h mask : ℕ) → runs S p ≡ true → Called S (handle_replace S p h mask).0
+called-handle_replace : (S : State) (p h mask : ℕ) → has_live_process S p ≡ true → Called S (handle_replace S p h mask).0
 called-handle_replace S p h mask live =
     after_some (Called S) S (entry S p h) status.BadHandle _ (called-nothing S) (λ held there.
     after_some (Called S) (take_out S p h) (asked_rights mask held.rights.0) status.InvalidArgs _ (called-take_out S p h) (λ rights e.
@@ -166,7 +166,7 @@ called-object_signal_peer S p h clear set =
     after_some (Called S) S (object S o.link) status.PeerClosed _ (called-nothing S) (λ peer there.
     called-signals S o.link peer clear set there)))
 
-pub called-direct : (S : State) (p : ℕ) (c : Call) → IsSound S → runs S p ≡ true → Called S (direct S p c).0
+pub called-direct : (S : State) (p : ℕ) (c : Call) → IsSound S → has_live_process S p ≡ true → Called S (direct S p c).0
 unfolding direct
 called-direct S p call.EventCreate sound live = called-create S p kind.Event sound live
 called-direct S p call.EventPairCreate sound live = called-create_pair S p kind.EventPair sound live refl
@@ -332,7 +332,7 @@ given-settle B S calls packets sound given =
     given-more (fold (fire B) R (waits R)) calls (packets + length (waits R)) (packets + calls) (omega arith) (given-fold B (waits R) R calls packets s (ports-sound R s) g)
 
 -- one call more gives out no more than a call gives
-pub spent-step : (S : State) (p : ℕ) (c : Call) (calls : ℕ) → calls < 1048576 → IsSound S → runs S p ≡ true → IsCall c → HasSpent calls S → HasSpent (calls + 1) (step S p c).0
+pub spent-step : (S : State) (p : ℕ) (c : Call) (calls : ℕ) → calls < 1048576 → IsSound S → has_live_process S p ≡ true → IsCall c → HasSpent calls S → HasSpent (calls + 1) (step S p c).0
 unfolding step
 spent-step S p c calls few sound live is given =
     let T : State = (direct S p c).0 in

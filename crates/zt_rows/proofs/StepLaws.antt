@@ -10,7 +10,7 @@ use Rattle.zt_rows.specs.declared.calls.Reply.{Reply}
 use Rattle.zt_rows.specs.declared.rows.Held.{Held}
 use Rattle.zt_rows.specs.declared.rows.ObjectRow.{ObjectRow}
 use Rattle.zt_rows.specs.State.{State}
-use Rattle.zt_rows.specs.Reads.{counters, object, entry, runs, is_live_process}
+use Rattle.zt_rows.specs.Reads.{counters, object, entry, has_live_process, is_live_process}
 use Rattle.zt_rows.specs.Tests.{exists, is_task as is_task_kind, is_endpoint, any_kind, has_all, raised}
 use Rattle.zt_rows.specs.Support.{root_job}
 use Rattle.zt_rows.specs.Collect.{collect}
@@ -20,7 +20,7 @@ use Rattle.zt_rows.specs.ObjectCalls.{create, create_pair, received, handle_clos
 use Rattle.zt_rows.specs.Consistent.{SoundObject, IsSound, IsConsistent}
 use Rattle.zt_rows.proofs.RowLaws.{and_right}
 use Rattle.zt_rows.proofs.ReadLaws.{some_one, exists-some}
-use Rattle.zt_rows.proofs.SoundLaws.{runs-some}
+use Rattle.zt_rows.proofs.SoundLaws.{has_live_process-some}
 use Rattle.zt_rows.proofs.CollectLaws.{sound-collect, collect-supported, stays-supported}
 use Rattle.zt_rows.proofs.SettleLaws.{consistent_settled}
 use Rattle.zt_rows.proofs.GrownLaws.{sound-install, object-installed, exists-installed}
@@ -84,12 +84,12 @@ pub after_handle : (P : State → Type 0) (S : State) (wrong : Status) (p h : �
 after_handle P S wrong p h wanted rights f base next = after_handle_of P S S wrong p h wanted rights f base next
 
 -- the row of a process that runs is the caller's
-pub caller-is : (S : State) (p : ℕ) → runs S p ≡ true → (me : ObjectRow) × (object S p ≡ Some me) × (is_live_process me ≡ true) × (caller S p ≡ me)
-caller-is S p e = let w = runs-some S p e in (w.0, w.1, w.2, ap as_caller w.1)
+pub caller-is : (S : State) (p : ℕ) → has_live_process S p ≡ true → (me : ObjectRow) × (object S p ≡ Some me) × (is_live_process me ≡ true) × (caller S p ≡ me)
+caller-is S p e = let w = has_live_process-some S p e in (w.0, w.1, w.2, ap as_caller w.1)
 
 -- ---- the calls
 
-pub sound-create_call : (S : State) (p : ℕ) (k : Kind) → IsSound S → runs S p ≡ true → is_task_kind k ≡ false → IsSound (create k S p).0
+pub sound-create_call : (S : State) (p : ℕ) (k : Kind) → IsSound S → has_live_process S p ≡ true → is_task_kind k ≡ false → IsSound (create k S p).0
 sound-create_call S p k sound live plain =
     let w = caller-is S p live in
     let T : State = make (counters S) (fresh k 0) S in
@@ -98,7 +98,7 @@ sound-create_call S p k sound live plain =
     subst (λ me. IsSound (install p me (whole (next_koid S) k) T)) (sym w.3)
     (sound-install T made p w.0 (others-made S sound (fresh k 0) p w.0 w.1) w.2 (whole (next_koid S) k) there)
 
-pub sound-create_pair : (S : State) (p : ℕ) (k : Kind) → IsSound S → runs S p ≡ true → is_endpoint k ≡ true → IsSound (create_pair k S p).0
+pub sound-create_pair : (S : State) (p : ℕ) (k : Kind) → IsSound S → has_live_process S p ≡ true → is_endpoint k ≡ true → IsSound (create_pair k S p).0
 sound-create_pair S p k sound live ends =
     let w = caller-is S p live in
     let T : State = make_pair (counters S) k S in
@@ -113,7 +113,7 @@ sound-create_pair S p k sound live ends =
     (sound-install U one p (raised w.0) (object-installed T made p w.0 here w.2 (whole (next_koid S) k) near) w.2 (whole (next_koid S + 1) k) still)
 
 -- a process that runs may receive what another of its handles names, also when entries of it were taken out
-sound-received : (rights : ℕ) (S T : State) (p : ℕ) (held : Held) → runs S p ≡ true → IsSound T → ((x : ℕ) → object T x ≡ object S x) → exists S held.koid ≡ true → IsSound (received rights S p held T).0
+sound-received : (rights : ℕ) (S T : State) (p : ℕ) (held : Held) → has_live_process S p ≡ true → IsSound T → ((x : ℕ) → object T x ≡ object S x) → exists S held.koid ≡ true → IsSound (received rights S p held T).0
 sound-received rights S T p held live sound same names =
     let w = caller-is S p live in
     let there : exists T held.koid ≡ true = ap (λ r. is_some r) (same held.koid) ∙ names in
@@ -127,13 +127,13 @@ sound-handle_close S p h sound =
       | false ↦ after_some IsSound S (entry S p h) status.BadHandle _ sound (λ held e. sound-taken p (λ g. g == h) S sound)
     ]
 
-pub sound-handle_duplicate : (S : State) (p h mask : ℕ) → IsSound S → runs S p ≡ true → IsSound (handle_duplicate S p h mask).0
+pub sound-handle_duplicate : (S : State) (p h mask : ℕ) → IsSound S → has_live_process S p ≡ true → IsSound (handle_duplicate S p h mask).0
 sound-handle_duplicate S p h mask sound live =
     after_handle IsSound S status.WrongType p h any_kind 0x1 _ sound (λ held o found.
     after_some IsSound S (asked_rights mask held.rights.0) status.InvalidArgs _ sound (λ rights e.
     sound-received rights S S p held live sound (λ x. refl) (sound.of_entries p h held found.entry_there).names))
 
-pub sound-handle_replace : (S : State) (p h mask : ℕ) → IsSound S → runs S p ≡ true → IsSound (handle_replace S p h mask).0
+pub sound-handle_replace : (S : State) (p h mask : ℕ) → IsSound S → has_live_process S p ≡ true → IsSound (handle_replace S p h mask).0
 sound-handle_replace S p h mask sound live =
     let rest : IsSound (take_out S p h) = sound-taken p (λ g. g == h) S sound in
     after_some IsSound S (entry S p h) status.BadHandle _ sound (λ held there.

@@ -16,7 +16,7 @@ use Rattle.zt_rows.specs.declared.rows.Row.{Row}
 use Rattle.zt_rows.specs.declared.rows.Wait.{Wait}
 use Rattle.zt_rows.specs.Contents.{MessageContent, IsWithinMessage}
 use Rattle.zt_rows.specs.State.{State, row}
-use Rattle.zt_rows.specs.Reads.{counters, object, entry, message, packet as packet_at, wait, runs, is_live_job, is_live_process}
+use Rattle.zt_rows.specs.Reads.{counters, object, entry, message, packet as packet_at, wait, has_live_process, is_live_job, is_live_process}
 use Rattle.zt_rows.specs.Tests.{is_endpoint, exists, kind_at, next_at, without_bits, among}
 use Rattle.zt_rows.specs.Room.{suits}
 use Rattle.zt_rows.specs.Support.{root_job, is_supported}
@@ -75,7 +75,7 @@ SoundCritical S x o = (o.critical ≡ 0) ⊎ ((is_live_process o ≡ true) × (a
 
 -- a live process holds it, by a value that it was given, and what it names exists
 pub record SoundEntry (S : State) (p h : ℕ) (held : Held) : Type 0 where
-  pub owner : runs S p ≡ true
+  pub owner : has_live_process S p ≡ true
   pub value : (n : ℕ) × (h ≡ 4 * n + 3) × (n < next_at S p)
   pub names : exists S held.koid ≡ true
 

@@ -144,5 +144,5 @@ abbrev pub on_object : (ObjectRow → Bool) → Option ObjectRow → Bool
 on_object p (Some o) = p o
 on_object p None = false
 
-abbrev pub runs : State → ℕ → Bool
-runs S p = on_object is_live_process (object S p)
+abbrev pub has_live_process : State → ℕ → Bool
+has_live_process S p = on_object is_live_process (object S p)

@@ -17,7 +17,7 @@ ghost use Rattle.zt_rows.specs.Settle.{settle};
 ghost use Rattle.zt_rows.specs.Consistent.{IsSound, IsConsistent};
 ghost use Rattle.zt_rows.specs.declared.rows.ObjectRow.{ObjectRow};
 ghost use Rattle.zt_rows.specs.End.{IsClosed, ends_with, is_live_task};
-ghost use Rattle.zt_rows.specs.Reads.{object, runs};
+ghost use Rattle.zt_rows.specs.Reads.{object, has_live_process};
 ghost use Rattle.zt_rows.specs.Room.{HasRoom, HasSpent, most_calls};
 ghost use Rattle.zt_rows.specs.Opening.{opening};
 ghost use Rattle.zt_rows.specs.Step.{IsCall, step};
@@ -101,7 +101,7 @@ pub fn sound_becomes_consistent()
 
 /// A call of a live process leaves a consistent state consistent.
 pub fn calls_keep_consistency()
-    ensures { (S : State) (p : ℕ) (c : Call) → IsConsistent S → runs S p ≡ true → IsCall c
+    ensures { (S : State) (p : ℕ) (c : Call) → IsConsistent S → has_live_process S p ≡ true → IsCall c
         → IsConsistent (step S p c).0 }
 {}
 
@@ -116,7 +116,7 @@ pub fn opening_is_consistent()
 pub fn few_calls_leave_room()
     ensures opening { HasSpent 0 opening }
     ensures call { (S : State) (p : ℕ) (c : Call) (calls : ℕ) → calls < most_calls → IsConsistent S
-        → runs S p ≡ true → IsCall c → HasSpent calls S → HasSpent (calls + 1) (step S p c).0 }
+        → has_live_process S p ≡ true → IsCall c → HasSpent calls S → HasSpent (calls + 1) (step S p c).0 }
     ensures room { (S : State) (calls : ℕ) → calls ≤ most_calls → HasSpent calls S → HasRoom S }
 {}
 

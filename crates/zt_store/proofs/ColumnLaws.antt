@@ -55,8 +55,8 @@ pair_within a x b y c e l = (grind (arith, nat_tests), grind (arith, nat_tests),
 -- ---- the keys of a column
 
 -- no row stands in the column from the number on
-abbrev pub IsBare : State → KeyColumn → ℕ → Type 0
-IsBare S c from = (n : ℕ) → from ≤ n → row S (key_in c n) ≡ None
+abbrev pub IsSlot : State → KeyColumn → ℕ → Type 0
+IsSlot S c from = (n : ℕ) → from ≤ n → row S (key_in c n) ≡ None
 
 -- a row that stands is not where none stands
 apart : (S : State) (k q : RowKey) → is_some (row S k) ≡ true → k ≡ q → row S q ≡ None → ⊥
@@ -116,12 +116,12 @@ pub record OwnersEnd (S : State) (owners : ℕ) : Type 0 where
   pub messages : (x n : ℕ) → owners ≤ x → row S (key.Msg x n) ≡ None
   pub packets : (x n : ℕ) → owners ≤ x → row S (key.Packet x n) ≡ None
 
-objects-next : (S : State) (from : ℕ) → IsBare S column.Objects from → (k : RowKey) → is_some (row S k) ≡ true → is_from (key.Object from) k ≡ is_from (key.Entry 0 0) k
+objects-next : (S : State) (from : ℕ) → IsSlot S column.Objects from → (k : RowKey) → is_some (row S k) ≡ true → is_from (key.Object from) k ≡ is_from (key.Entry 0 0) k
 objects-next S from bare (key.Object y) stands = one_none from y (λ h. apart S (key.Object y) (key.Object y) stands refl (bare y h))
 objects-next S from bare (key.Entry x y) stands = sym (pair_zero x y)
 objects-next S from bare _ stands = refl
 
-entries-next : (S : State) (p from : ℕ) → IsBare S (column.Entries p) from → (k : RowKey) → is_some (row S k) ≡ true → is_from (key.Entry p from) k ≡ is_from (key.Entry (p + 1) 0) k
+entries-next : (S : State) (p from : ℕ) → IsSlot S (column.Entries p) from → (k : RowKey) → is_some (row S k) ≡ true → is_from (key.Entry p from) k ≡ is_from (key.Entry (p + 1) 0) k
 entries-next S p from bare (key.Entry x y) stands =
     pair_step p x from y (λ e h. apart S (key.Entry x y) (key.Entry p y) stands (ap (λ z. key.Entry z y) e) (bare y h))
 entries-next S p from bare _ stands = refl
@@ -131,7 +131,7 @@ entries-last S p from bare (key.Entry x y) stands = pair_none p x from y (λ h. 
 entries-last S p from bare (key.Msg x y) stands = sym (pair_zero x y)
 entries-last S p from bare _ stands = refl
 
-messages-next : (S : State) (p from : ℕ) → IsBare S (column.Messages p) from → (k : RowKey) → is_some (row S k) ≡ true → is_from (key.Msg p from) k ≡ is_from (key.Msg (p + 1) 0) k
+messages-next : (S : State) (p from : ℕ) → IsSlot S (column.Messages p) from → (k : RowKey) → is_some (row S k) ≡ true → is_from (key.Msg p from) k ≡ is_from (key.Msg (p + 1) 0) k
 messages-next S p from bare (key.Msg x y) stands =
     pair_step p x from y (λ e h. apart S (key.Msg x y) (key.Msg p y) stands (ap (λ z. key.Msg z y) e) (bare y h))
 messages-next S p from bare _ stands = refl
@@ -141,7 +141,7 @@ messages-last S p from bare (key.Msg x y) stands = pair_none p x from y (λ h. a
 messages-last S p from bare (key.Packet x y) stands = sym (pair_zero x y)
 messages-last S p from bare _ stands = refl
 
-packets-next : (S : State) (p from : ℕ) → IsBare S (column.Packets p) from → (k : RowKey) → is_some (row S k) ≡ true → is_from (key.Packet p from) k ≡ is_from (key.Packet (p + 1) 0) k
+packets-next : (S : State) (p from : ℕ) → IsSlot S (column.Packets p) from → (k : RowKey) → is_some (row S k) ≡ true → is_from (key.Packet p from) k ≡ is_from (key.Packet (p + 1) 0) k
 packets-next S p from bare (key.Packet x y) stands =
     pair_step p x from y (λ e h. apart S (key.Packet x y) (key.Packet p y) stands (ap (λ z. key.Packet z y) e) (bare y h))
 packets-next S p from bare _ stands = refl
@@ -151,7 +151,7 @@ packets-last S p from bare (key.Packet x y) stands = pair_none p x from y (λ h.
 packets-last S p from bare (key.Wait y) stands = sym (one_from 0 y (omega arith))
 packets-last S p from bare _ stands = refl
 
-waits-last : (S : State) (from : ℕ) → IsBare S column.Waits from → (k : RowKey) → is_some (row S k) ≡ true → is_from (key.Wait from) k ≡ false
+waits-last : (S : State) (from : ℕ) → IsSlot S column.Waits from → (k : RowKey) → is_some (row S k) ≡ true → is_from (key.Wait from) k ≡ false
 waits-last S from bare (key.Wait y) stands = one_none from y (λ h. apart S (key.Wait y) (key.Wait y) stands refl (bare y h))
 waits-last S from bare _ stands = refl
 
@@ -163,7 +163,7 @@ chosen p owners P a b at_a at_b =
 abbrev GoesOn : State → KeyColumn → ℕ → KeyColumn → Type 0
 GoesOn S c from d = (k : RowKey) → is_some (row S k) ≡ true → is_from (key_in c from) k ≡ is_from (key_in d 0) k
 
-goes_on : (S : State) (owners : ℕ) (c d : KeyColumn) (from : ℕ) → OwnersEnd S owners → IsBare S c from → next_column owners c ≡ Some d → GoesOn S c from d
+goes_on : (S : State) (owners : ℕ) (c d : KeyColumn) (from : ℕ) → OwnersEnd S owners → IsSlot S c from → next_column owners c ≡ Some d → GoesOn S c from d
 goes_on S owners column.Objects d from ends bare is =
     let same : column.Entries 0 ≡ d = cc in subst (GoesOn S column.Objects from) same (objects-next S from bare)
 goes_on S owners (column.Entries p) d from ends bare is =
@@ -183,10 +183,10 @@ goes_on S owners (column.Packets p) d from ends bare is =
     (λ past. packets-last S p from (λ x n above. ends.packets x n (omega arith))))
 goes_on S owners column.Waits d from ends bare is = cc
 
-pub next-found : (S : State) (owners : ℕ) (c d : KeyColumn) (from : ℕ) → OwnersEnd S owners → IsBare S c from → next_column owners c ≡ Some d → find (is_from (key_in c from)) (keys S) ≡ find (is_from (key_in d 0)) (keys S)
+pub next-found : (S : State) (owners : ℕ) (c d : KeyColumn) (from : ℕ) → OwnersEnd S owners → IsSlot S c from → next_column owners c ≡ Some d → find (is_from (key_in c from)) (keys S) ≡ find (is_from (key_in d 0)) (keys S)
 next-found S owners c d from ends bare is = find-alike S _ _ (goes_on S owners c d from ends bare is)
 
-pub last-found : (S : State) (owners : ℕ) (c : KeyColumn) (from : ℕ) → IsBare S c from → next_column owners c ≡ None → find (is_from (key_in c from)) (keys S) ≡ None
+pub last-found : (S : State) (owners : ℕ) (c : KeyColumn) (from : ℕ) → IsSlot S c from → next_column owners c ≡ None → find (is_from (key_in c from)) (keys S) ≡ None
 last-found S owners column.Waits from bare is = find-none S _ (waits-last S from bare)
 last-found S owners column.Objects from bare is = cc
 last-found S owners (column.Entries p) from bare is = cc

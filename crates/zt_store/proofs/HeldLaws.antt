@@ -19,10 +19,10 @@ use Rattle.zt_rows.specs.declared.rows.Row.{Row}
 use Rattle.zt_rows.specs.Keys.{rowkey_cmp, rowkey_eq}
 use Rattle.zt_rows.specs.ProofsOnly.KeyOrder.{rowkey_cmp_total, rowkey_cmp-equal, rowkey_eq-equal}
 use Rattle.zt_store.specs.RecordLook.{held}
-use Rattle.zt_cells.specs.BareRows.{row_under}
+use Rattle.zt_cells.specs.RowSlots.{decode_slot}
 use Rattle.zt_store.specs.ProofsOnly.KeptRows.{pairs_of, under_keys}
-use Rattle.zt_store.specs.ProofsOnly.RecordRows.{IsBareRecord, IsRecord}
-use Rattle.zt_store.proofs.BareLaws.{under_keys-at}
+use Rattle.zt_store.specs.ProofsOnly.RecordRows.{IsSlotRecord, IsRecord}
+use Rattle.zt_store.proofs.SlotLaws.{under_keys-at}
 use Rattle.zt_store.proofs.Fitting.{Rows}
 use Rattle.zt_store.proofs.Exchanges.{keys_of, key_equality, find-lookup}
 use Rattle.zt_store.proofs.RecordLaws.{distinct-record, listed-record}
@@ -57,11 +57,11 @@ held-found ks rs k i v is within tied at =
     let there : ◌≡◌ {A = RowKey × Option Row} (get_or (zip ks rs) i (k, v)) (k, v) = get_or-zip ks rs i (k, v) within h ∙ (λ j. (same j, sym at j)) in
     sym (find-lookup k (zip ks rs) ∙ lookup-from_Contains key_equality k v (zip ks rs) (distinct-record ks rs is) (i, z, there))
 
--- the same of bare rows
-pub bare-found : (ks : List RowKey) (rs : List Row) (k : RowKey) (i : ℕ) (r : Row) → IsBareRecord ks rs → i < length ks
-    → HoldsAt (λ y. rowkey_cmp y k ≡ Equal) ks i → r ≡ get_or rs i r → Some (row_under k r) ≡ held (pairs_of ks rs) k
-bare-found ks rs k i r is within tied at =
-    held-found ks (under_keys ks rs) k i (row_under k r) is.recorded within tied
+-- the same of slots
+pub slot-found : (ks : List RowKey) (rs : List Row) (k : RowKey) (i : ℕ) (r : Row) → IsSlotRecord ks rs → i < length ks
+    → HoldsAt (λ y. rowkey_cmp y k ≡ Equal) ks i → r ≡ get_or rs i r → Some (decode_slot k r) ≡ held (pairs_of ks rs) k
+slot-found ks rs k i r is within tied at =
+    held-found ks (under_keys ks rs) k i (decode_slot k r) is.recorded within tied
     (under_keys-at ks rs i k r is.even within (sym (rowkey_cmp-equal (get_or ks i k) k (tied k))) at)
 
 both_there : (R : Rows) (i : ℕ) (k : RowKey) (v : Option Row) → option_map (λ e. e.0) (slice_get R i) ≡ Some k → option_map (λ e. e.1) (slice_get R i) ≡ Some v

@@ -4,11 +4,11 @@ pub mod KeyWalks
 pub mod Fitting
 pub mod Exchanges
 pub mod Undoing
-pub mod KeyPlaceLaws
+pub mod TouchedIndexLaws
 pub mod Touches
 pub mod RecordLaws
 pub mod SideBySide
-pub mod BareLaws
+pub mod SlotLaws
 pub mod ChangedLaws
 pub mod InsertLaws
 pub mod Endings

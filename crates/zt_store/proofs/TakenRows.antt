@@ -9,70 +9,70 @@ use Rattle.zt_rows.specs.declared.keys.RowKey.{RowKey}
 use Rattle.zt_rows.specs.declared.rows.Row.{Row}
 use Rattle.zt_store.specs.ProofsOnly.ChangedRows.{IsOrder, first_at, no_first, picked}
 use Rattle.zt_store.specs.ProofsOnly.KeptRows.{AreOf}
-use Rattle.zt_store.proofs.BareLaws.{Bares}
+use Rattle.zt_store.proofs.SlotLaws.{Slots}
 
 -- the rows at the first i of the places are taken, those at the others stand as they were
-pub record IsTaking (F : Bares) (order : List ℕ) (i : ℕ) (R : Bares) : Type 0 where
+pub record IsTaking (F : Slots) (order : List ℕ) (i : ℕ) (R : Slots) : Type 0 where
   pub even : length R ≡ length F
   pub left : (j : ℕ) → i ≤ j → j < length order → first_at R (get_or order j 0) ≡ first_at F (get_or order j 0)
 
-pub taking-within : (F : Bares) (order : List ℕ) (i : ℕ) (R : Bares) → IsOrder order (length F) → IsTaking F order i R → i < length order → get_or order i 0 < length R
+pub taking-within : (F : Slots) (order : List ℕ) (i : ℕ) (R : Slots) → IsOrder order (length F) → IsTaking F order i R → i < length order → get_or order i 0 < length R
 taking-within F order i R places is within = omega (arith, is.even, All-get_or (λ j. j < length F) order i 0 within places.within)
 
-pub taking-start : (F : Bares) (order : List ℕ) → IsTaking F order 0 F
+pub taking-start : (F : Slots) (order : List ℕ) → IsTaking F order 0 F
 taking-start F order = record { even = refl; left = λ j low within. refl }
 
 -- the same, and they stand in their places
-pub record IsFilling (F : Bares) (order : List ℕ) (i : ℕ) (ks : List RowKey) (rs : List Row) (R : Bares) : Type 0 where
+pub record IsFilling (F : Slots) (order : List ℕ) (i : ℕ) (ks : List RowKey) (rs : List Row) (R : Slots) : Type 0 where
   pub keys : take i ks ≡ map (λ e. e.0) (picked F (take i order))
   pub rows : take i rs ≡ map (λ e. e.1) (picked F (take i order))
   pub taking : IsTaking F order i R
-  pub key_places : length ks ≡ length order
+  pub touched_index : length ks ≡ length order
   pub row_places : length rs ≡ length order
 
-pub filling-start : (F : Bares) (order : List ℕ) (ks : List RowKey) (rs : List Row) → length ks ≡ length order → length rs ≡ length order → IsFilling F order 0 ks rs F
-filling-start F order ks rs keys rows = record { keys = refl; rows = refl; taking = taking-start F order; key_places = keys; row_places = rows }
+pub filling-start : (F : Slots) (order : List ℕ) (ks : List RowKey) (rs : List Row) → length ks ≡ length order → length rs ≡ length order → IsFilling F order 0 ks rs F
+filling-start F order ks rs keys rows = record { keys = refl; rows = refl; taking = taking-start F order; touched_index = keys; row_places = rows }
 
-pub filling-end : (F : Bares) (order : List ℕ) (i : ℕ) (ks : List RowKey) (rs : List Row) (R : Bares) → IsFilling F order i ks rs R → length order ≤ i → AreOf ks rs (picked F order)
+pub filling-end : (F : Slots) (order : List ℕ) (i : ℕ) (ks : List RowKey) (rs : List Row) (R : Slots) → IsFilling F order i ks rs R → length order ≤ i → AreOf ks rs (picked F order)
 filling-end F order i ks rs R is over = record {
-  keys = sym (take_all i ks (omega (arith, over, is.key_places))) ∙ is.keys ∙ ap (λ places. map (λ (e : RowKey × Row). e.0) (picked F places)) (take_all i order over);
+  keys = sym (take_all i ks (omega (arith, over, is.touched_index))) ∙ is.keys ∙ ap (λ places. map (λ (e : RowKey × Row). e.0) (picked F places)) (take_all i order over);
   rows = sym (take_all i rs (omega (arith, over, is.row_places))) ∙ is.rows ∙ ap (λ places. map (λ (e : RowKey × Row). e.1) (picked F places)) (take_all i order over);
 }
 
 -- the same, and they stand in two lists
-pub record IsPushing (F : Bares) (order : List ℕ) (i : ℕ) (ks : List RowKey) (rs : List Row) (R : Bares) : Type 0 where
+pub record IsPushing (F : Slots) (order : List ℕ) (i : ℕ) (ks : List RowKey) (rs : List Row) (R : Slots) : Type 0 where
   pub keys : ks ≡ map (λ e. e.0) (picked F (take i order))
   pub rows : rs ≡ map (λ e. e.1) (picked F (take i order))
   pub taking : IsTaking F order i R
 
-pub pushing-start : (F : Bares) (order : List ℕ) (ks : List RowKey) (rs : List Row) → ks ≡ [] → rs ≡ [] → IsPushing F order 0 ks rs F
+pub pushing-start : (F : Slots) (order : List ℕ) (ks : List RowKey) (rs : List Row) → ks ≡ [] → rs ≡ [] → IsPushing F order 0 ks rs F
 pushing-start F order ks rs keys rows = record { keys = keys; rows = rows; taking = taking-start F order }
 
-pub pushing-end : (F : Bares) (order : List ℕ) (i : ℕ) (ks : List RowKey) (rs : List Row) (R : Bares) → IsPushing F order i ks rs R → length order ≤ i → AreOf ks rs (picked F order)
+pub pushing-end : (F : Slots) (order : List ℕ) (i : ℕ) (ks : List RowKey) (rs : List Row) (R : Slots) → IsPushing F order i ks rs R → length order ≤ i → AreOf ks rs (picked F order)
 pushing-end F order i ks rs R is over = record {
   keys = is.keys ∙ ap (λ places. map (λ (e : RowKey × Row). e.0) (picked F places)) (take_all i order over);
   rows = is.rows ∙ ap (λ places. map (λ (e : RowKey × Row). e.1) (picked F places)) (take_all i order over);
 }
 
-pushed-count : {X : Type 0} (f : RowKey × Row → X) (F : Bares) (order : List ℕ) (i : ℕ) (xs : List X) → xs ≡ map f (picked F (take i order)) → i ≤ length order → length xs ≡ i
+pushed-count : {X : Type 0} (f : RowKey × Row → X) (F : Slots) (order : List ℕ) (i : ℕ) (xs : List X) → xs ≡ map f (picked F (take i order)) → i ≤ length order → length xs ≡ i
 pushed-count f F order i xs is low =
     ap length is ∙ length-map (picked F (take i order)) f ∙ length-map (take i order) (first_at F) ∙ omega (arith, length-take i order, low)
 
-pub pushing-keys : (F : Bares) (order : List ℕ) (i : ℕ) (ks : List RowKey) (rs : List Row) (R : Bares) → IsPushing F order i ks rs R → i ≤ length order → length ks ≡ i
+pub pushing-keys : (F : Slots) (order : List ℕ) (i : ℕ) (ks : List RowKey) (rs : List Row) (R : Slots) → IsPushing F order i ks rs R → i ≤ length order → length ks ≡ i
 pushing-keys F order i ks rs R is low = pushed-count (λ (e : RowKey × Row). e.0) F order i ks is.keys low
 
-pub pushing-rows : (F : Bares) (order : List ℕ) (i : ℕ) (ks : List RowKey) (rs : List Row) (R : Bares) → IsPushing F order i ks rs R → i ≤ length order → length rs ≡ i
+pub pushing-rows : (F : Slots) (order : List ℕ) (i : ℕ) (ks : List RowKey) (rs : List Row) (R : Slots) → IsPushing F order i ks rs R → i ≤ length order → length rs ≡ i
 pushing-rows F order i ks rs R is low = pushed-count (λ (e : RowKey × Row). e.1) F order i rs is.rows low
 
 -- with one more row of those taken so far
-picked-next : {X : Type 0} (f : RowKey × Row → X) (F : Bares) (order : List ℕ) (i : ℕ) (xs : List X) (x : X) → xs ≡ map f (picked F (take i order)) → x ≡ f (first_at F (get_or order i 0)) → i < length order
+picked-next : {X : Type 0} (f : RowKey × Row → X) (F : Slots) (order : List ℕ) (i : ℕ) (xs : List X) (x : X) → xs ≡ map f (picked F (take i order)) → x ≡ f (first_at F (get_or order i 0)) → i < length order
     → xs ++ x ∷ [] ≡ map f (picked F (take (i + 1) order))
 picked-next f F order i xs x so_far came within =
     (λ j. so_far j ++ came j ∷ []) ∙ sym (map-append f (picked F (take i order)) (first_at F (get_or order i 0) ∷ []))
     ∙ ap (map f) (sym (map-append (first_at F) (take i order) (get_or order i 0 ∷ []))) ∙ ap (λ places. map f (picked F places)) (sym (take_more order i 0 within))
 
 -- where k and x are taken, v is left in the place, and Q are the rows then
-module _ (F : Bares) (order : List ℕ) (i : ℕ) (R Q : Bares) (k : RowKey) (x v : Row) (places : IsOrder order (length F)) (is : IsTaking F order i R) (within : i < length order)
+module _ (F : Slots) (order : List ℕ) (i : ℕ) (R Q : Slots) (k : RowKey) (x v : Row) (places : IsOrder order (length F)) (is : IsTaking F order i R) (within : i < length order)
     (was : ◌≡◌ {A = RowKey × Row} (k, x) (first_at R (get_or order i 0))) (put : Q ≡ set R (get_or order i 0) (k, v)) where
   taking-next : IsTaking F order (i + 1) Q
   taking-next = record {
@@ -97,10 +97,10 @@ module _ (F : Bares) (order : List ℕ) (i : ℕ) (R Q : Bares) (k : RowKey) (x 
     -- into as many places
     pub filling-next : IsFilling F order i ks rs R → IsFilling F order (i + 1) (set ks i k) (set rs i x) Q
     filling-next filling = record {
-      keys = take_more_set ks i k (omega (arith, within, filling.key_places)) ∙ picked-next (λ (e : RowKey × Row). e.0) F order i (take i ks) _ filling.keys key within;
+      keys = take_more_set ks i k (omega (arith, within, filling.touched_index)) ∙ picked-next (λ (e : RowKey × Row). e.0) F order i (take i ks) _ filling.keys key within;
       rows = take_more_set rs i x (omega (arith, within, filling.row_places)) ∙ picked-next (λ (e : RowKey × Row). e.1) F order i (take i rs) _ filling.rows row within;
       taking = taking-next;
-      key_places = length-set ks i k ∙ filling.key_places;
+      touched_index = length-set ks i k ∙ filling.touched_index;
       row_places = length-set rs i x ∙ filling.row_places;
     }
 

@@ -21,22 +21,22 @@ use Rattle.zt_store.specs.StoreView.{Stored}
 use Rattle.zt_store.specs.ProofsOnly.StoreView.{standing, AllSuit}
 use Rattle.zt_store.specs.StepView.{Stepping, listed, with_key, put_on, DiffersAtTouched}
 use Rattle.zt_store.specs.ProofsOnly.StepRows.{IsTouching, IsPlaceOf}
-use Rattle.zt_store.specs.ProofsOnly.KeyPlaces.{AreNoted}
-use Rattle.zt_store.specs.declared.key_places.KeyPlaces.{KeyPlaces}
-use Rattle.zt_store.proofs.KeyPlaceLaws.{alone}
+use Rattle.zt_store.specs.ProofsOnly.TouchedIndex.{AreNoted}
+use Rattle.zt_store.specs.declared.touched_index.TouchedIndex.{TouchedIndex}
+use Rattle.zt_store.proofs.TouchedIndexLaws.{alone}
 use Rattle.zt_store.proofs.Fitting.{Rows, fits-nil, fits-push, suits-push}
 use Rattle.zt_store.proofs.Exchanges.{keys_of, key_equality, find-lookup, row-unlisted, with_rows-put_listed, with_rows-push}
 
--- how a step over the store with these first rows is seen
+-- how a step over the store with these before-images is seen
 abbrev pub stepping_of : Stored → Rows → Stepping
 stepping_of store firsts = record { beginning = with_rows store.state firsts; current = store.state; touched = keys_of firsts; places = store.places }
 
 -- ---- nothing put yet
 
-pub noted-none : (places : KeyPlaces) (ks : List RowKey) → places.last.items ≡ [] → AreNoted places ks
+pub noted-none : (places : TouchedIndex) (ks : List RowKey) → places.last.items ≡ [] → AreNoted places ks
 noted-none places ks bare = record { chained = λ some. absurd (omega (arith, some, ap length bare)) }
 
-pub touching-none : (store : Stored) (firsts : Rows) (places : KeyPlaces) (room : ℕ) → firsts ≡ [] → places.last.items ≡ [] → IsTouching store firsts places room
+pub touching-none : (store : Stored) (firsts : Rows) (places : TouchedIndex) (room : ℕ) → firsts ≡ [] → places.last.items ≡ [] → IsTouching store firsts places room
 unfolding IsDistinct
 touching-none store firsts places room f bare = record {
   distinct = subst (λ es. IsDistinct rowkey_eq (keys_of es)) (sym f) tt;
@@ -62,7 +62,7 @@ among-next ks i x k b within read out test apart =
 pub among-none : (ks : List RowKey) (i : ℕ) (k : RowKey) → length ks ≤ i → listed (take i ks) k ≡ false → listed ks k ≡ false
 among-none ks i k over out = ap (λ xs. listed xs k) (sym (take_all i ks over)) ∙ out
 
-module _ (store : Stored) (firsts : Rows) (places : KeyPlaces) (room : ℕ) (step : Stepping) (is : IsTouching store firsts places room) (seen : stepping_of store firsts ≡ step) where
+module _ (store : Stored) (firsts : Rows) (places : TouchedIndex) (room : ℕ) (step : Stepping) (is : IsTouching store firsts places room) (seen : stepping_of store firsts ≡ step) where
   pub is_touched : (k : RowKey) (found : Option ℕ) (b : Bool) → b ≡ is_some found → IsPlaceOf step.touched k found → b ≡ listed step.touched k
   is_touched k found b test at = test ∙ place-listed step.touched k found at
 
@@ -109,7 +109,7 @@ with_key-there ks k here = sym (ap (λ b. cond b ks (ks ++ k ∷ [])) here)
 with_key-new : (ks : List RowKey) (k : RowKey) → listed ks k ≡ false → ks ++ k ∷ [] ≡ with_key ks k
 with_key-new ks k out = sym (ap (λ b. cond b ks (ks ++ k ∷ [])) out)
 
-module _ (old made new : Stored) (firsts : Rows) (places : KeyPlaces) (room : ℕ) (k : RowKey) (r : Option Row) (is : IsTouching old firsts places room)
+module _ (old made new : Stored) (firsts : Rows) (places : TouchedIndex) (room : ℕ) (k : RowKey) (r : Option Row) (is : IsTouching old firsts places room)
     (same : made.state ≡ old.state) (stands : new ≡ standing made (put made.state k r)) where
   state_after : new.state ≡ put old.state k r
   state_after = ap (λ s. s.state) stands ∙ ap (λ S. put S k r) same
@@ -125,7 +125,7 @@ module _ (old made new : Stored) (firsts : Rows) (places : KeyPlaces) (room : �
   put_again-seen step seen here =
       put_again-here (ap (λ s. listed s.touched k) seen ∙ here) ∙ ap (λ s. put_on s new.places k r) seen
 
-  -- under a new key, whose old row comes to the first rows
+  -- under a new key, whose old row comes to the before-images
   module _ (v : Option Row) (more : Rows) (was : v ≡ row made.state k) (pushed : more ≡ firsts ++ (k, v) ∷ []) where
     put_first-here : listed (keys_of firsts) k ≡ false → stepping_of new more ≡ put_on (stepping_of old firsts) new.places k r
     put_first-here out =
@@ -141,10 +141,10 @@ module _ (old made new : Stored) (firsts : Rows) (places : KeyPlaces) (room : �
     put_first-seen step seen out =
         put_first-here (ap (λ s. listed s.touched k) seen ∙ out) ∙ ap (λ s. put_on s new.places k r) seen
 
--- ---- the first rows with one more
+-- ---- the before-images with one more
 
 -- the same rows, found as before
-pub touching-still : (old new : Stored) (firsts same : Rows) (places other : KeyPlaces) (room more_room : ℕ) → IsTouching old firsts places room
+pub touching-still : (old new : Stored) (firsts same : Rows) (places other : TouchedIndex) (room more_room : ℕ) → IsTouching old firsts places room
     → Keeps old.places new.places → same ≡ firsts → AreNoted other (keys_of same) → room ≤ more_room → IsTouching new same other more_room
 touching-still old new firsts same places other room more_room is kept e noted more = record {
   distinct = subst (λ es. IsDistinct rowkey_eq (keys_of es)) (sym e) is.distinct;
@@ -154,7 +154,7 @@ touching-still old new firsts same places other room more_room is kept e noted m
   roomy = omega (arith, is.roomy, ap length e, more);
 }
 
-pub touching-push : (old new : Stored) (firsts more : Rows) (places more_places : KeyPlaces) (room more_room : ℕ) (k : RowKey) (v : Option Row) (n : ℕ) → IsTouching old firsts places room
+pub touching-push : (old new : Stored) (firsts more : Rows) (places more_places : TouchedIndex) (room more_room : ℕ) (k : RowKey) (v : Option Row) (n : ℕ) → IsTouching old firsts places room
     → Keeps old.places new.places → listed (keys_of firsts) k ≡ false → SuitsKey k v → fits_row new.places k v ≡ true
     → more ≡ firsts ++ (k, v) ∷ [] → n ≡ length firsts → n + 1 ≤ more_room → AreNoted more_places (keys_of firsts ++ k ∷ []) → IsTouching new more more_places more_room
 touching-push old new firsts more places more_places room more_room k v n is kept out suits fit pushed counted roomy noted =

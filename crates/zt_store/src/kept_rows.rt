@@ -4,7 +4,7 @@ ghost use Rattle.std.specs.Prelude.{◌≡◌, ◌≤◌, [], length, vec_capaci
 ghost use Rattle.zt_store.specs.ProofsOnly.ChangedRows.{IsOrder, picked};
 ghost use Rattle.zt_store.specs.ProofsOnly.KeptRows.{AreOf, keys_in, rows_in, room_of};
 
-use crate::first_rows::FirstRows;
+use crate::before_images::BeforeImages;
 use std::alloc::{AllocError, Global};
 use std::array;
 use std::mem::{forget, replace};
@@ -15,21 +15,21 @@ use zt_rows::{Row, RowKey};
 /// more use for it.
 const MANY: usize = 512;
 
-/// Some keys and as many bare rows in one block of memory of just their size.
+/// Some keys and as many slots in one block of memory of just their size.
 #[derive(Drop)]
 pub(crate) struct RowBlock<const N: usize> {
     pub(crate) keys: [RowKey; N],
     pub(crate) rows: [Row; N],
 }
 
-/// Any number of keys, and as many bare rows.
+/// Any number of keys, and as many slots.
 #[derive(Drop)]
 pub(crate) struct RowLists {
     pub(crate) keys: Vec<RowKey>,
     pub(crate) rows: Vec<Row>,
 }
 
-/// Some keys and as many bare rows, behind one pointer. `Many` also has those of fewer rows, if the allocation of their
+/// Some keys and as many slots, behind one pointer. `Many` also has those of fewer rows, if the allocation of their
 /// block failed.
 #[derive(Drop)]
 pub(crate) enum KeptRows {
@@ -49,7 +49,7 @@ impl KeptRows {
     /// are dropped. If an allocation fails, nothing changes.
     pub fn take(
         alloc: Global,
-        firsts: &mut FirstRows,
+        firsts: &mut BeforeImages,
         order: &[usize],
     ) -> Result<KeptRows, AllocError>
         requires { IsOrder order.now (length firsts.old.rows) }
@@ -76,7 +76,7 @@ impl KeptRows {
         keys
     }
 
-    /// The keys, and the bare row at the place of each.
+    /// The keys, and the slot at the place of each.
     #[inline(always)]
     pub fn keys_and_rows(&self) -> (&[RowKey], &[Row])
         ensures keys { result.0.now ≡ keys_in self.now }
@@ -94,7 +94,7 @@ impl KeptRows {
         }
     }
 
-    /// The bare rows, each at the place of its key.
+    /// The slots, each at the place of its key.
     pub fn rows(&self) -> &[Row]
         ensures { result.now ≡ rows_in self.now }
     {
@@ -107,7 +107,7 @@ impl KeptRows {
 /// nothing changes.
 fn take_many(
     alloc: Global,
-    firsts: &mut FirstRows,
+    firsts: &mut BeforeImages,
     order: &[usize],
 ) -> Result<Box<RowLists>, AllocError>
     requires { IsOrder order.now (length firsts.old.rows) }
@@ -130,7 +130,7 @@ impl<const N: usize> RowBlock<N> {
     /// fails, nothing changes.
     fn take(
         alloc: Global,
-        firsts: &mut FirstRows,
+        firsts: &mut BeforeImages,
         order: &[usize],
     ) -> Result<Box<RowBlock<N>>, AllocError>
         requires order { IsOrder order.now (length firsts.old.rows) }
@@ -151,7 +151,7 @@ impl<const N: usize> RowBlock<N> {
 
 /// Takes the rows at these places, in this order and with copies of their keys, into as many places without rows.
 #[inline(always)]
-fn take_into(keys: &mut [RowKey], rows: &mut [Row], firsts: &mut FirstRows, order: &[usize])
+fn take_into(keys: &mut [RowKey], rows: &mut [Row], firsts: &mut BeforeImages, order: &[usize])
     requires order { IsOrder order.now (length firsts.old.rows) }
     requires keys { length keys.old ≡ length order.now }
     requires rows { length rows.old ≡ length order.now }
@@ -208,7 +208,7 @@ impl RowLists {
 
     /// Takes the rows at these places, in this order and with copies of their keys, and gives back the room for more.
     /// It cannot fail: without a smaller block, a list keeps the one that it has.
-    pub fn take(&mut self, firsts: &mut FirstRows, order: &[usize])
+    pub fn take(&mut self, firsts: &mut BeforeImages, order: &[usize])
         requires order { IsOrder order.now (length firsts.old.rows) }
         requires room { length order.now ≤ room_of self.old }
         ensures { AreOf self.new.keys.items self.new.rows.items (picked firsts.old.rows order.now) }
@@ -220,7 +220,12 @@ impl RowLists {
 }
 
 /// Leaves in the lists just the rows at these places, in this order, and their keys.
-fn push_rows(keys: &mut Vec<RowKey>, rows: &mut Vec<Row>, firsts: &mut FirstRows, order: &[usize])
+fn push_rows(
+    keys: &mut Vec<RowKey>,
+    rows: &mut Vec<Row>,
+    firsts: &mut BeforeImages,
+    order: &[usize],
+)
     requires order { IsOrder order.now (length firsts.old.rows) }
     requires keys { length order.now ≤ vec_capacity keys.old }
     requires rows { length order.now ≤ vec_capacity rows.old }

@@ -91,7 +91,7 @@ fn values_end(cells: &Cells, process: Koid) -> u64
 }
 
 /// Whether a row stands under the key.
-fn stands(cells: &Cells, key: &RowKey) -> bool
+fn has_row(cells: &Cells, key: &RowKey) -> bool
     ensures { result ≡ is_some (row cells.now.state key.now) }
 {
     cells.row(*key).is_some()
@@ -150,7 +150,7 @@ fn first_in(cells: &Cells, column: &KeyColumn, from: u64) -> Option<RowKey>
     let end = column.end(cells);
     for number in from..end {
         let key = column.key(number);
-        if stands(cells, &key) {
+        if has_row(cells, &key) {
             return Some(key);
         }
     }

@@ -2,15 +2,15 @@
 #![tactic(auto)]
 
 mod arranged_rows;
+mod before_images;
 mod changed_rows;
 mod exchanged_rows;
-mod first_rows;
 mod kept_rows;
 mod key_columns;
-mod key_places;
 mod record;
 mod step;
 mod store;
+mod touched_index;
 
 pub use exchanged_rows::{swap, undo};
 pub use record::{Record, RecordRows};

@@ -11,13 +11,13 @@ ghost use Rattle.zt_store.specs.ProofsOnly.ChangedRows.{IsOrder, picked};
 ghost use Rattle.zt_store.specs.ProofsOnly.KeptRows.{AreOf, keys_in, room_in, rows_in, rows_of};
 ghost use Rattle.zt_store.specs.ProofsOnly.StoreView.{AllSuit};
 
+use crate::before_images::BeforeImages;
 use crate::changed_rows::find_changed;
-use crate::first_rows::FirstRows;
 use crate::kept_rows::{KeptRows, RowLists};
 use crate::store::Store;
 use std::alloc::{AllocError, Global};
 use std::marker::Model;
-use zt_cells::row_under;
+use zt_cells::decode_slot;
 use zt_rows::{Row, RowKey};
 
 /// An undo record: the rows under some keys at another moment, or that there was none. They are in the order of the
@@ -31,14 +31,14 @@ impl Model for Record {
     ghost use Rattle.std.specs.Prelude.{List, Option};
     ghost use Rattle.zt_rows.specs.declared.keys.RowKey.{RowKey};
     ghost use Rattle.zt_rows.specs.declared.rows.Row.{Row};
-    ghost use Rattle.zt_store.specs.ProofsOnly.RecordRows.{IsBareRecord};
+    ghost use Rattle.zt_store.specs.ProofsOnly.RecordRows.{IsSlotRecord};
     ghost use Rattle.zt_store.specs.ProofsOnly.KeptRows.{keys_in, rows_in, pairs_of};
 
     ghost Value = { List (RowKey × Option Row) };
 
     ghost view = { λ r. pairs_of (keys_in r.rows) (rows_in r.rows) };
 
-    ghost invariant = { λ r. IsBareRecord (keys_in r.rows) (rows_in r.rows) };
+    ghost invariant = { λ r. IsSlotRecord (keys_in r.rows) (rows_in r.rows) };
 }
 
 impl Record {
@@ -63,7 +63,7 @@ impl Record {
         ensures { option_map option_copied result ≡ held self.now key }
     {
         match self.rows.keys().binary_search(&key) {
-            Ok(place) => Some(row_under(key, &self.rows.rows()[place])),
+            Ok(place) => Some(decode_slot(key, &self.rows.rows()[place])),
             Err(_) => None,
         }
     }
@@ -81,14 +81,14 @@ impl<'a> Model for RecordRows<'a> {
     ghost use Rattle.std.specs.Prelude.{List, Option};
     ghost use Rattle.zt_rows.specs.declared.keys.RowKey.{RowKey};
     ghost use Rattle.zt_rows.specs.declared.rows.Row.{Row};
-    ghost use Rattle.zt_store.specs.ProofsOnly.RecordRows.{IsBareRecord};
+    ghost use Rattle.zt_store.specs.ProofsOnly.RecordRows.{IsSlotRecord};
     ghost use Rattle.zt_store.specs.ProofsOnly.KeptRows.{pairs_of};
 
     ghost Value = { List (RowKey × Option Row) };
 
     ghost view = { λ r. pairs_of r.keys.now r.rows.now };
 
-    ghost invariant = { λ r. IsBareRecord r.keys.now r.rows.now };
+    ghost invariant = { λ r. IsSlotRecord r.keys.now r.rows.now };
 }
 
 impl<'a> RecordRows<'a> {
@@ -117,7 +117,7 @@ impl<'a> RecordRows<'a> {
         ensures held { (key : RowKey) → option_map (λ e. e.0) (slice_get self.now place) ≡ Some key → held self.now key ≡ Some (option_copied result) }
     {
         let (keys, rows) = (self.keys, self.rows);
-        row_under(keys[place], &rows[place])
+        decode_slot(keys[place], &rows[place])
     }
 }
 
@@ -182,9 +182,9 @@ impl RecordLists {
         Ok(())
     }
 
-    /// Makes the record of those first rows of a step that differ from the rows now, in memory of just their size. It
+    /// Makes the record of those before-images of a step that differ from the rows now, in memory of just their size. It
     /// cannot fail: if an allocation for the record fails, it takes the memory of these lists.
-    pub(crate) fn record_of(&mut self, store: &Store, firsts: &mut FirstRows) -> Record
+    pub(crate) fn record_of(&mut self, store: &Store, firsts: &mut BeforeImages) -> Record
         requires room { length firsts.old.rows ≤ self.old }
         requires distinct { IsDistinct rowkey_eq (map (λ e. e.0) (rows_of firsts.old.rows)) }
         requires suited { AllSuit (rows_of firsts.old.rows) }
@@ -228,7 +228,7 @@ fn grow_lists(
 }
 
 /// Takes the rows at these places into the lists, and gives the lists away.
-fn give(lists: &mut Option<Box<RowLists>>, firsts: &mut FirstRows, order: &[usize]) -> KeptRows
+fn give(lists: &mut Option<Box<RowLists>>, firsts: &mut BeforeImages, order: &[usize]) -> KeptRows
     requires order { IsOrder order.now (length firsts.old.rows) }
     requires room { length order.now ≤ room_in lists.old }
     ensures { AreOf (keys_in result) (rows_in result) (picked firsts.old.rows order.now) }

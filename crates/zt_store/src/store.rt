@@ -12,7 +12,7 @@ ghost use Rattle.zt_rows.specs.Settle.{is_child_job_of, is_child_process_of};
 ghost use Rattle.zt_rows.specs.State.{row, put};
 ghost use Rattle.zt_rows.specs.Support.{support_count};
 ghost use Rattle.zt_rows.specs.Tests.{count_row};
-ghost use Rattle.zt_cells.specs.BareRows.{row_under};
+ghost use Rattle.zt_cells.specs.RowSlots.{decode_slot};
 ghost use Rattle.zt_cells.specs.FirstNumber.{IsFirst};
 ghost use Rattle.zt_cells.specs.TableSizes.{has_place};
 ghost use Rattle.zt_index.specs.Chains.{IsNext};
@@ -27,7 +27,7 @@ use crate::record::Record;
 use std::alloc::{AllocError, Global};
 use std::marker::Model;
 use zt_bits::{Kind, Rights, Signals};
-use zt_cells::{Cells, bare, row_under};
+use zt_cells::{Cells, decode_slot, encode_slot};
 use zt_index::{Index, KoidCounts, PacketCounts, SupportCounts, is_user_packet};
 use zt_rows::{
     Counters, FIRST_HANDLE, HandleValue, Held, Koid, Life, Message, ObjectRow, Packet, ROOT_JOB,
@@ -346,9 +346,9 @@ impl Store {
 
     /// Whether the key, and each koid that the row counts for, has a place in the store. Never allocates.
     fn fits_row(&self, key: &RowKey, row: &Row) -> bool
-        ensures { result ≡ fits_row self.now.places key.now (row_under key.now row.now) }
+        ensures { result ≡ fits_row self.now.places key.now (decode_slot key.now row.now) }
     {
-        let held = row_under(*key, row);
+        let held = decode_slot(*key, row);
         self.cells.has_place(*key) && self.support_counts.covers_if(*key, held)
     }
 
@@ -443,7 +443,7 @@ impl Store {
         self.cells.make_place(*key)
     }
 
-    /// Exchanges the bare row with the one under the key. Either may stand for none. Never allocates.
+    /// Exchanges the slot with the one under the key. Either may stand for none. Never allocates.
     #[inline(always)]
     pub(crate) fn exchange(&mut self, key: &RowKey, kept: &mut Row)
         requires { IsExchangeable self.old key.now kept.old }
@@ -504,7 +504,7 @@ impl Store {
         self.exchange_under(&RowKey::Wait(number), kept);
     }
 
-    /// Exchanges the bare row with the one under the key. It is inlined, so a caller that knows the key's variant has
+    /// Exchanges the slot with the one under the key. It is inlined, so a caller that knows the key's variant has
     /// the key taken apart once.
     #[inline(always)]
     fn exchange_under(&mut self, key: &RowKey, kept: &mut Row)
@@ -512,12 +512,12 @@ impl Store {
         ensures { Exchanges self.old self.new key.now kept.old kept.new }
     {
         self.cells.limits();
-        let inward = row_under(*key, kept);
+        let inward = decode_slot(*key, kept);
         self.index.follow(&self.cells, *key, inward);
         self.support_counts.raise_if(*key, inward);
         let user_came = is_user_packet(inward);
         self.cells.exchange(*key, kept);
-        let outward = row_under(*key, kept);
+        let outward = decode_slot(*key, kept);
         self.support_counts.lower_if(*key, outward);
         self.packet_counts
             .follow(*key, user_came, is_user_packet(outward));
@@ -554,7 +554,7 @@ impl Store {
         ensures { OnOk result (self.new.state ≡ put self.old.state key (Option.Some row)) }
     {
         self.make_room(&key, Some(&row))?;
-        let mut kept = bare(Some(row));
+        let mut kept = encode_slot(Some(row));
         self.exchange(&key, &mut kept);
         drop(kept);
         Ok(())

@@ -15,20 +15,20 @@ abbrev pub Lists : State → (Wait → Bool) → List ℕ → Type 0
 Lists S test list = (n : ℕ) → waits_where S test n ≡ true → among list n ≡ true
 
 -- the waits at an object that was there are in the list, unless no signal rose on it
-abbrev pub HasWokenAt : State → State → ℕ → List ℕ → Type 0
-HasWokenAt B T x list = (object B x ≡ None) ⊎ ((has_all (signals_at B x) (signals_at T x) ≡ true) ⊎ Lists T (is_at T x) list)
+abbrev pub HasCandidatesAt : State → State → ℕ → List ℕ → Type 0
+HasCandidatesAt B T x list = (object B x ≡ None) ⊎ ((has_all (signals_at B x) (signals_at T x) ≡ true) ⊎ Lists T (is_at T x) list)
 
 -- the wait of this number is in the list, if it is met in T, after B
 abbrev pub ListsMet : State → State → ℕ → List ℕ → Type 0
 ListsMet B T n list = (w : Wait) → wait T n ≡ Some w → is_met B T w ≡ true → among list n ≡ true
 
--- for a row that was in B and is in T as it may be, the waits that it can have woken are in the list: the wait itself,
+-- for a row that was in B and is in T as it may be, the waits that it can have satisfied are in the list: the wait itself,
 -- those on an entry that was there, and those at an object that was there, unless no signal rose on it
-abbrev pub HasWoken : State → State → RowKey → List ℕ → Type 0
-HasWoken B T (key.Wait n) list = ListsMet B T n list
-HasWoken B T (key.Entry p h) list = (entry B p h ≡ None) ⊎ Lists T (is_on p h) list
-HasWoken B T (key.Object x) list = HasWokenAt B T x list
-HasWoken B T _ list = ⊤
+abbrev pub HasCandidates : State → State → RowKey → List ℕ → Type 0
+HasCandidates B T (key.Wait n) list = ListsMet B T n list
+HasCandidates B T (key.Entry p h) list = (entry B p h ≡ None) ⊎ Lists T (is_on p h) list
+HasCandidates B T (key.Object x) list = HasCandidatesAt B T x list
+HasCandidates B T _ list = ⊤
 
 -- each wait that is met in T, after B, is in the list
 pub record HasMet (B T : State) (list : List ℕ) : Type 0 where

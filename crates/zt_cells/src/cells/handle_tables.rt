@@ -2,7 +2,7 @@
 
 ghost use Rattle.std.specs.Prelude.{◌≡◌, ◌≤◌, ◌<◌, ◌↔◌, ◌+◌, ◌-◌, ◌/◌, ◌%◌, ◌*◌, ◌^◌, ℕ, List, [], ◌∷◌, length, map, IfOk, OnOk, OnErr, None, nat_lt};
 ghost use Rattle.std.specs.Option.{option_copied};
-ghost use Rattle.zt_cells.specs.BareRows.{row_in};
+ghost use Rattle.zt_cells.specs.RowSlots.{row_in};
 ghost use Rattle.zt_cells.specs.ProofsOnly.NextValues.{lesser_of, IsNextValue};
 ghost use Rattle.zt_cells.specs.ProofsOnly.TablePlaces.{entry, entry_places, entry_table, lengths, set_entry, by_owner, table};
 ghost use Rattle.zt_cells.specs.TableSizes.{most_owners, most_places};
@@ -55,7 +55,7 @@ impl Entries {
         by_owner.row(process.0 as usize, quotient(value))
     }
 
-    /// Exchanges the bare row with the one under the process's handle value. Either may stand for none. Never allocates.
+    /// Exchanges the slot with the one under the process's handle value. Either may stand for none. Never allocates.
     pub fn exchange(&mut self, process: Koid, value: HandleValue, kept: &mut Row)
         requires { value / 4 < length (entry_table self.old process value) }
         ensures put { self.new ≡ set_entry self.old process value (row_in kept.old) }

@@ -2,7 +2,7 @@
 
 ghost use Rattle.std.specs.Prelude.{◌≡◌, ◌≤◌, ◌<◌, ℕ, [], length, IfOk, OnOk, OnErr, slice_set};
 ghost use Rattle.std.specs.Option.{option_copied};
-ghost use Rattle.zt_cells.specs.BareRows.{row_in};
+ghost use Rattle.zt_cells.specs.RowSlots.{row_in};
 ghost use Rattle.zt_cells.specs.ProofsOnly.TablePlaces.{cell, IsNextCell};
 
 use crate::cells::marks::Marks;
@@ -73,7 +73,7 @@ impl MarkedTable {
         self.table.grow(len)
     }
 
-    /// Exchanges the bare row with the one at the place. Either may stand for none. Never allocates.
+    /// Exchanges the slot with the one at the place. Either may stand for none. Never allocates.
     pub fn exchange(&mut self, index: usize, kept: &mut Row)
         requires { index < length self.old }
         ensures put { self.new ≡ slice_set self.old index (row_in kept.old) }

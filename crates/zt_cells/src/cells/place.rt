@@ -3,16 +3,16 @@
 ghost use Rattle.std.specs.Prelude.{◌≡◌, IfOk, IsTrue, None, false};
 ghost use Rattle.std.specs.Option.{option_copied, is_none};
 ghost use Rattle.zt_cells.specs.ProofsOnly.AlikeRows.{AlikePlaces};
-ghost use Rattle.zt_cells.specs.BareRows.{row_in};
+ghost use Rattle.zt_cells.specs.RowSlots.{row_in};
 
-use crate::bare_rows::{NO_ROW, row_in};
 use crate::cells::alike_objects::exchange_alike;
+use crate::row_slots::{NO_ROW, row_in};
 use std::alloc::AllocError;
 use std::marker::Model;
 use std::mem;
 use zt_rows::{ObjectRow, Row};
 
-/// A row or none, kept as a bare row. The counters have no place in a table.
+/// A row or none, kept as a slot. The counters have no place in a table.
 #[derive(Drop)]
 pub(crate) struct Place {
     held: Row,
@@ -21,7 +21,7 @@ pub(crate) struct Place {
 impl Model for Place {
     ghost use Rattle.std.specs.Prelude.{Option};
     ghost use Rattle.zt_rows.specs.declared.rows.Row.{Row};
-    ghost use Rattle.zt_cells.specs.BareRows.{row_in};
+    ghost use Rattle.zt_cells.specs.RowSlots.{row_in};
 
     ghost Value = { Option Row };
 
@@ -52,7 +52,7 @@ impl Place {
         row_in(&self.held)
     }
 
-    /// Exchanges the row, or none, with what this bare row stands for.
+    /// Exchanges the row, or none, with what this slot stands for.
     #[inline(always)]
     pub fn exchange(&mut self, kept: &mut Row)
         ensures put { self.new ≡ row_in kept.old }

@@ -5,7 +5,7 @@ ghost use Rattle.std.specs.Option.{option_copied};
 ghost use Rattle.zt_rows.specs.declared.keys.RowKey.TheVariants as key_variant;
 ghost use Rattle.zt_rows.specs.declared.rows.Row.TheVariants as rows;
 ghost use Rattle.zt_cells.specs.AlikeObjects.{AreAlike};
-ghost use Rattle.zt_cells.specs.BareRows.{row_under};
+ghost use Rattle.zt_cells.specs.RowSlots.{decode_slot};
 ghost use Rattle.zt_cells.specs.ProofsOnly.RowTables.{row_tables_of, look, places_in, sizes_of, Exchanged, MadeFor, Widened};
 ghost use Rattle.zt_cells.specs.ProofsOnly.TablePlaces.{table};
 ghost use Rattle.zt_cells.specs.TableSizes.{objects_after, packets_after, waits_after, has_place, length_at, place_of};
@@ -122,12 +122,12 @@ impl RowTables {
         }
     }
 
-    /// Exchanges the bare row with the one in the place of the key. Either may stand for none. Never allocates.
+    /// Exchanges the slot with the one in the place of the key. Either may stand for none. Never allocates.
     #[inline(always)]
     #[tactic(auto, using(crate::proofs::RowTableLaws::length_laws), unfolding(crate::specs::ProofsOnly::RowTables::sizes_of))]
     pub fn exchange(&mut self, key: RowKey, kept: &mut Row)
         requires { place_of key < length_at (sizes_of self.old) key }
-        ensures { Exchanged self.old self.new key (row_under key kept.old) (row_under key kept.new) }
+        ensures { Exchanged self.old self.new key (decode_slot key kept.old) (decode_slot key kept.new) }
     {
         match key {
             RowKey::Counters => mem::swap(&mut self.counters, kept),

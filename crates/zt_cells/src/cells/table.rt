@@ -3,7 +3,7 @@
 ghost use Rattle.std.specs.Prelude.{◌≡◌, ◌≤◌, ◌<◌, ◌-◌, ◌^◌, ℕ, length, vec_len, IfOk, OnOk, OnErr, slice_set, IsSome, IsTrue, None, [], false};
 ghost use Rattle.std.specs.Vec.{vec_capacity};
 ghost use Rattle.std.specs.Option.{option_copied};
-ghost use Rattle.zt_cells.specs.BareRows.{row_in};
+ghost use Rattle.zt_cells.specs.RowSlots.{row_in};
 ghost use Rattle.zt_cells.specs.ProofsOnly.AlikeRows.{AlikeCells};
 ghost use Rattle.zt_cells.specs.ProofsOnly.TablePlaces.{cell};
 
@@ -93,7 +93,7 @@ impl Table {
         Ok(())
     }
 
-    /// Exchanges the bare row with the one at the place. Either may stand for none. Never allocates.
+    /// Exchanges the slot with the one at the place. Either may stand for none. Never allocates.
     #[inline(always)]
     pub fn exchange(&mut self, index: usize, kept: &mut Row)
         requires { index < length self.old }

@@ -3,7 +3,7 @@
 ghost use Rattle.std.specs.Prelude.{◌≡◌, ◌≤◌, ◌<◌, ◌≢◌, ◌+◌, ◌-◌, ◌^◌, ℕ, List, [], length, vec_len, IfOk, OnOk, OnErr};
 ghost use Rattle.std.specs.List.{sum};
 ghost use Rattle.std.specs.Option.{option_copied, unwrap_or};
-ghost use Rattle.zt_cells.specs.BareRows.{row_in};
+ghost use Rattle.zt_cells.specs.RowSlots.{row_in};
 ghost use Rattle.zt_cells.specs.ProofsOnly.NumberedTables.{AreNumbers, numbered, number_of};
 ghost use Rattle.zt_cells.specs.ProofsOnly.TablePlaces.{cell_at, lengths, set_at, table, IsNextCell};
 
@@ -99,7 +99,7 @@ impl TablesByOwner {
         }
     }
 
-    /// Exchanges the bare row with the one at the owner's place. Either may stand for none. Never allocates.
+    /// Exchanges the slot with the one at the owner's place. Either may stand for none. Never allocates.
     #[inline(always)]
     pub fn exchange(&mut self, owner: usize, index: usize, kept: &mut Row)
         requires { index < length (table self.old owner) }

@@ -51,8 +51,8 @@ has_shown happening.PeerClosed shown = shown.peer_closed
 abbrev pub is_told : Sought → Noted → Bool
 is_told (sought.Shown what) (did.Shown shown) = has_shown what shown
 is_told (sought.Shown what) _ = false
-is_told sought.LetGo did.LetGo = true
-is_told sought.LetGo _ = false
+is_told sought.Released did.Released = true
+is_told sought.Released _ = false
 is_told sought.LostChild did.LostChild = true
 is_told sought.LostChild _ = false
 
@@ -86,12 +86,12 @@ abbrev pub is_left : (ℕ → Option Row → Bool) → ℕ → Option Row → St
 is_left stands x s T = exists T x && not (stands x s)
 
 -- the same of a name of it
-abbrev pub is_let_go : ℕ → Option Row → State → Bool
-is_let_go x s T = is_left names x s T
+abbrev pub is_released : ℕ → Option Row → State → Bool
+is_released x s T = is_left names x s T
 
 -- that a name of an object went, by the row s after it; nothing where it did not
 abbrev pub gone_name : ℕ → Option Row → State → ℕ → List ChangeNote
-gone_name m s T x = note_if (is_let_go x s T) m x did.LetGo
+gone_name m s T x = note_if (is_released x s T) m x did.Released
 
 -- the same of the handles of a message
 abbrev pub gone_names : ℕ → Option Row → State → List Held → List ChangeNote

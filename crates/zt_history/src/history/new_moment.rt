@@ -1,7 +1,7 @@
 //! The private steps by which a history changes: go to a moment, run a call there, add or drop a moment, add a branch.
 
 ghost use Rattle.std.specs.Prelude.{◌≡◌, ◌<◌, ◌≤◌, ◌-◌, true, Some, None, IsSome, IfOk, IfErr, OnOk, OnErr, length};
-ghost use Rattle.zt_rows.specs.Reads.{runs};
+ghost use Rattle.zt_rows.specs.Reads.{has_live_process};
 ghost use Rattle.zt_rows.specs.declared.calls.Call.{Call};
 ghost use Rattle.zt_history.specs.HistoryRefusals.{IsHistoryRefusal, call_under, most_moments};
 ghost use Rattle.zt_history.specs.Timeline.{IsMovedAtMost, after_branch, after_call_at, moved_to, unmoved};
@@ -13,7 +13,7 @@ use crate::branches::BranchId;
 use crate::history::{History, Undo};
 use std::alloc::AllocError;
 use zt_bits::Status;
-use zt_calls::runs;
+use zt_calls::has_live_process;
 use zt_rows::{Call, Koid, LAST_MOMENT, Moment, Refusal, Reply};
 
 impl History {
@@ -48,7 +48,7 @@ impl History {
         ensures ok { OnOk result (self.new ≡ moved_to self.old parent) }
         ensures few { OnOk result (length self.old.tree.made < most_moments) }
         ensures there { OnOk result (parent ≤ length self.old.tree.made) }
-        ensures running { OnOk result (runs (state_at self.old.tree.made parent) process ≡ true) }
+        ensures running { OnOk result (has_live_process (state_at self.old.tree.made parent) process ≡ true) }
         ensures refused { IfErr result (λ given. (call : Call) → IsHistoryRefusal (call_under self.old.tree parent process call) given) }
         ensures err { OnErr result (IsMovedAtMost self.old self.new parent) }
     {
@@ -60,7 +60,7 @@ impl History {
             return Err(Refusal::NoMoment);
         }
         self.stand_at(parent)?;
-        if !runs(self.store(), process) {
+        if !has_live_process(self.store(), process) {
             return Err(Refusal::NoProcess);
         }
         Ok(())
@@ -73,7 +73,7 @@ impl History {
     /// notes too, nothing changes.
     pub(super) fn grow(&mut self, process: Koid, call: &mut Call) -> Result<(), AllocError>
         requires few { length self.old.tree.made < most_moments }
-        requires running { runs (state_at self.old.tree.made self.old.position) process ≡ true }
+        requires running { has_live_process (state_at self.old.tree.made self.old.position) process ≡ true }
         ensures grown { OnOk result (self.new ≡ after_call_at self.old self.old.position process call.old) }
         ensures err { OnErr result (self.new ≡ unmoved self.old) }
     {
@@ -146,7 +146,7 @@ impl History {
     {
         let last = self.position;
         let parent = self.moments.parent(last);
-        self.moments.turn(&mut self.store, last);
+        self.moments.exchange_record(&mut self.store, last);
         self.moments.drop_last();
         self.notes.drop_last(last);
         self.position = parent;

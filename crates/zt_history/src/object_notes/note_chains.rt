@@ -7,7 +7,7 @@ ghost use Rattle.zt_history.specs.ProofsOnly.Branches.{without_last};
 ghost use Rattle.zt_history.specs.ProofsOnly.ObjectNotes.{AreChained, AreRising, IsCut, IsLonger, IsSameEnd, TellsLast, end_at, ends_at, gone_name, gone_names, has_shown, loss_of, note_as, note_before, note_if, note_object, note_of, note_with, notes_in, notes_of, tells};
 
 use crate::moments::Moments;
-use crate::object_notes::row_losses::{is_let_go, is_lost, parent_in};
+use crate::object_notes::row_losses::{is_lost, is_released, parent_in};
 use crate::object_notes::{Noted, Sought};
 use crate::row_happenings::{RowHappening, ShownChanges, shown_changes};
 use std::alloc::{AllocError, Global};
@@ -197,8 +197,8 @@ impl NoteChains {
         ensures ok { OnOk result (self.new ≡ self.old ++ gone_name moment (row store.now.state key.now) store.now.state koid) }
         ensures kept { IsLonger self.old self.new }
     {
-        let gone = is_let_go(koid, key, store);
-        self.push_if(gone, moment, koid, Noted::LetGo)
+        let gone = is_released(koid, key, store);
+        self.push_if(gone, moment, koid, Noted::Released)
     }
 
     /// Adds a note of an object as its last one, if this happened. On an allocation failure none is added.
@@ -356,7 +356,7 @@ fn tells(what: Sought, note: &ObjectNote) -> bool
 {
     match (what, note.what) {
         (Sought::Shown(happening), Noted::Shown(shown)) => has_shown(happening, shown),
-        (Sought::LetGo, Noted::LetGo) => true,
+        (Sought::Released, Noted::Released) => true,
         (Sought::LostChild, Noted::LostChild) => true,
         _ => false,
     }

@@ -4,14 +4,14 @@ ghost use Rattle.std.specs.Prelude.{◌≡◌};
 ghost use Rattle.std.specs.Option.{option_copied};
 ghost use Rattle.zt_rows.specs.State.{row};
 ghost use Rattle.zt_history.specs.LostChild.{is_child_row};
-ghost use Rattle.zt_history.specs.ProofsOnly.ObjectNotes.{is_let_go, is_lost, parent_in, parent_of};
+ghost use Rattle.zt_history.specs.ProofsOnly.ObjectNotes.{is_released, is_lost, parent_in, parent_of};
 
 use zt_rows::{Koid, ObjectRow, Row, RowKey};
 use zt_store::Store;
 
 /// Whether the object is there and the row under the key, if any, does not name it.
-pub(super) fn is_let_go(koid: Koid, key: &RowKey, store: &Store) -> bool
-    ensures { result ≡ is_let_go koid (row store.now.state key.now) store.now.state }
+pub(super) fn is_released(koid: Koid, key: &RowKey, store: &Store) -> bool
+    ensures { result ≡ is_released koid (row store.now.state key.now) store.now.state }
 {
     store.object(koid).is_some() && !Row::names(store.row(*key), koid)
 }

@@ -24,7 +24,7 @@ use Rattle.zt_queries.specs.declared.leak_graph.name_search.LeakTime.TheVariants
 use Rattle.zt_queries.specs.declared.leak_graph.name_search.FoundNames.{FoundNames}
 use Rattle.zt_queries.specs.declared.leak_graph.name_search.FoundNames.TheVariants as found_names
 use Rattle.zt_queries.specs.HappeningTimes.{happens, last_on}
-use Rattle.zt_history.specs.LetGo.{last_let_go}
+use Rattle.zt_history.specs.Released.{last_released}
 use Rattle.zt_history.specs.LostChild.{is_child_row, last_lost_child}
 
 -- the object is there, and is neither a job nor a process that runs: nothing keeps it but what names it
@@ -83,7 +83,7 @@ later (Some a) (Some b) = Some (max a b)
 
 -- the last moment on the path to m at which one of these lost a name
 abbrev pub last_of_names : List Made → ℕ → List ℕ → Option ℕ
-last_of_names made m ys = fold (λ best y. later best (last_let_go y made m)) None ys
+last_of_names made m ys = fold (λ best y. later best (last_released y made m)) None ys
 
 -- or a live child
 abbrev pub last_of_children : List Made → ℕ → List ℕ → Option ℕ

@@ -185,7 +185,7 @@ fn search_names(alloc: Global, history: &History, koid: Koid) -> Result<FoundNam
         if !whole {
             return Ok(FoundNames::Told(told_by_entries(history, koid, named)));
         }
-        names = later(names, history.last_let_go(named, position));
+        names = later(names, history.last_released(named, position));
         children = later(children, history.last_lost_child(named, position));
     }
     Ok(FoundNames::Told(LeakTime::Unknown))
@@ -257,7 +257,7 @@ impl NameSearch {
         let store = history.store();
         self.messages.clear();
         self.left = names_of(store, koid);
-        let mut next = history.last_let_go(koid, history.position());
+        let mut next = history.last_released(koid, history.position());
         for _ in 0..MOST_LOOKS {
             if self.left == 0 {
                 return Ok(true);
@@ -266,7 +266,7 @@ impl NameSearch {
                 return Ok(false);
             };
             self.look_into(history.record_of(moment), store, koid)?;
-            next = history.last_let_go(koid, history.parent_of(moment));
+            next = history.last_released(koid, history.parent_of(moment));
         }
         Ok(false)
     }

@@ -55,7 +55,7 @@ fn is_entered_here(history: &History, koid: Koid) -> bool
         history,
         history.last_shown(RowHappening::Made, koid, position),
         koid,
-    ) || is_entered_by(history, history.last_let_go(koid, position), koid)
+    ) || is_entered_by(history, history.last_released(koid, position), koid)
 }
 
 /// Whether an entry at the position names the object and was put by the call of this moment, if there is a moment.

@@ -4,20 +4,20 @@ use Rattle.std.specs.Global.{Box}
 use Rattle.std.specs.List.{zip}
 use Rattle.zt_rows.specs.declared.keys.RowKey.{RowKey}
 use Rattle.zt_rows.specs.declared.rows.Row.{Row}
-use Rattle.zt_cells.specs.BareRows.{row_under}
+use Rattle.zt_cells.specs.RowSlots.{decode_slot}
 use Rattle.zt_store.specs.declared.kept_rows.KeptRows.{KeptRows}
 use Rattle.zt_store.specs.declared.kept_rows.KeptRows.TheVariants as kept
 use Rattle.zt_store.specs.declared.kept_rows.RowLists.{RowLists}
 
 -- what the rows stand for, each under its key
 abbrev pub rows_of : List (RowKey × Row) → List (RowKey × Option Row)
-rows_of R = map (λ e. (e.0, row_under e.0 e.1)) R
+rows_of R = map (λ e. (e.0, decode_slot e.0 e.1)) R
 
 -- the same of keys and rows in two lists, each row under the key at its place
 abbrev pub under_keys : List RowKey → List Row → List (Option Row)
 under_keys [] rs = []
 under_keys (k ∷ ks) [] = []
-under_keys (k ∷ ks) (r ∷ rs) = row_under k r ∷ under_keys ks rs
+under_keys (k ∷ ks) (r ∷ rs) = decode_slot k r ∷ under_keys ks rs
 
 abbrev pub pairs_of : List RowKey → List Row → List (RowKey × Option Row)
 pairs_of ks rs = zip ks (under_keys ks rs)

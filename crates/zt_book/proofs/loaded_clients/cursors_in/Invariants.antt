@@ -2,7 +2,7 @@
 use Rattle.std.proofs.Common.{◌≡◌, ◌+◌, [], drop}
 use Rattle.std.specs.Prelude.{All}
 use Rattle.zt_book.specs.SavedSessions.{in_turn, with_cursor}
-use Rattle.zt_book.specs.ProofsOnly.Clients.{IsCursor}
+use Rattle.zt_book.specs.ProofsOnly.SessionState.{IsCursor}
 use Rattle.zt_book.proofs.loaded_clients.cursors_in.Given as goal
 
 abbrev pub invariant-loop-place : goal.invariant-loop-place

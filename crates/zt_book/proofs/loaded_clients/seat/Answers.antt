@@ -3,7 +3,7 @@ use Rattle.std.proofs.Common.{List, subst, sym}
 use Rattle.std.specs.Prelude.{All}
 use Rattle.zt_book.specs.declared.client.Client.{Client}
 use Rattle.zt_book.specs.declared.client.Cursor.{Cursor}
-use Rattle.zt_book.specs.ProofsOnly.Clients.{IsClient, IsCursor}
+use Rattle.zt_book.specs.ProofsOnly.SessionState.{IsClient, IsCursor}
 use Rattle.zt_book.proofs.SeatLaws.{clients-stand}
 use Rattle.zt_book.proofs.loaded_clients.seat.Goals as goal
 

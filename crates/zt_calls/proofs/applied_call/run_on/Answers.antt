@@ -134,7 +134,7 @@ returns-clause-ok c =
     let began : c.direct-done.new.step.beginning ≡ S = went.0 ∙ ap (λ (s : Stepping). s.beginning) c.requires.rest in
     let carried_through = carried S (direct S c.args.process c.args.call.now) c.direct-done.new.step c.release.new.step c.settle.new.step c.leave.new.place began went.1
     (c.in_ok-leave.ensures.ok (direct S c.args.process c.args.call.now) c.args.resting.now c.direct-done.new.step c.direct-done.ensures.does).1 c.in_ok-release.ensures.ok c.in_ok-settle.ensures.ok in
-    let last : c.take_record.new.self.current ≡ c.settle.new.step.current = ap (λ (s : Stepping). s.current) c.take_record.ensures.next in
+    let last : c.commit.new.self.current ≡ c.settle.new.step.current = ap (λ (s : Stepping). s.current) c.commit.ensures.next in
     (λ i. (last i, c.leave.new.place)) ∙ carried_through
 
 pub returns-clause-recorded : goal.returns-clause-recorded
@@ -143,8 +143,8 @@ returns-clause-recorded c =
     let went = (c.in_ok-leave.ensures.ok (direct S c.args.process c.args.call.now) c.args.resting.now c.direct-done.new.step c.direct-done.ensures.does).0 in
     let began : c.direct-done.new.step.beginning ≡ S = went.0 ∙ ap (λ (s : Stepping). s.beginning) c.requires.rest in
     let first : c.settle.new.step.beginning ≡ S = c.in_ok-settle.ensures.ok.0 ∙ c.in_ok-release.ensures.ok.0 ∙ began in
-    let last : c.take_record.new.self.current ≡ c.settle.new.step.current = ap (λ (s : Stepping). s.current) c.take_record.ensures.next in
-    c.take_record.ensures.recorded ∙ (λ i. before (first i) (sym last i))
+    let last : c.commit.new.self.current ≡ c.settle.new.step.current = ap (λ (s : Stepping). s.current) c.commit.ensures.next in
+    c.commit.ensures.recorded ∙ (λ i. before (first i) (sym last i))
 
 pub returns-clause-consistent : goal.returns-clause-consistent
 returns-clause-consistent c =
@@ -153,5 +153,5 @@ returns-clause-consistent c =
     let began : c.direct-done.new.step.beginning ≡ S = went.0 ∙ ap (λ (s : Stepping). s.beginning) c.requires.rest in
     let carried_through = carried S (direct S c.args.process c.args.call.now) c.direct-done.new.step c.release.new.step c.settle.new.step c.leave.new.place began went.1
     (c.in_ok-leave.ensures.ok (direct S c.args.process c.args.call.now) c.args.resting.now c.direct-done.new.step c.direct-done.ensures.does).1 c.in_ok-release.ensures.ok c.in_ok-settle.ensures.ok in
-    let last : c.take_record.new.self.current ≡ c.settle.new.step.current = ap (λ (s : Stepping). s.current) c.take_record.ensures.next in
-    consistent_after S S c.settle.new.step.current c.take_record.new.self.current c.args.process c.args.call.now _ refl last carried_through c.requires.consistent c.requires.running c.limits.ensures
+    let last : c.commit.new.self.current ≡ c.settle.new.step.current = ap (λ (s : Stepping). s.current) c.commit.ensures.next in
+    consistent_after S S c.settle.new.step.current c.commit.new.self.current c.args.process c.args.call.now _ refl last carried_through c.requires.consistent c.requires.running c.limits.ensures

@@ -2,7 +2,7 @@ use Rattle.std.proofs.Common.{◌≡◌, true, rules, sym, ap, ◌∙◌}
 use Rattle.zt_rows.specs.State.{State}
 use Rattle.zt_rows.specs.Reads.{is_live}
 use Rattle.zt_calls.specs.ProofsOnly.NewTasks.{process_made}
-use Rattle.zt_calls.proofs.JobCallLaws.{gave-koids, gave-values, gave-still_sound, gave-runs, spawned, does-from}
+use Rattle.zt_calls.proofs.JobCallLaws.{gave-koids, gave-values, gave-still_sound, gave-has_live_process, spawned, does-from}
 use Rattle.zt_calls.proofs.job_calls.spawn.Goals as goal
 
 pub add_process-requires-clause-koids : goal.add_process-requires-clause-koids
@@ -19,7 +19,7 @@ add_process-requires-clause-sound c =
 
 pub add_process-requires-clause-running : goal.add_process-requires-clause-running
 add_process-requires-clause-running c =
-    gave-runs c.args.step.now c.give_up.new.step c.args.process c.args.value c.in_ok-given.given c.in_ok-give_up.ensures.ok c.requires.running
+    gave-has_live_process c.args.step.now c.give_up.new.step c.args.process c.args.value c.in_ok-given.given c.in_ok-give_up.ensures.ok c.requires.running
 
 pub returns-clause-does : goal.returns-clause-does
 returns-clause-does c =

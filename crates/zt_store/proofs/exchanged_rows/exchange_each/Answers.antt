@@ -1,7 +1,7 @@
 use Rattle.std.proofs.Common.{arith, refl, ◌∙◌}
 use Rattle.std.proofs.lemmas.List.{length-set}
 use Rattle.zt_store.proofs.Exchanges.{swapping-start}
-use Rattle.zt_store.proofs.BareLaws.{pairs-fits, pairs-suits, pairs-step, pairs-end}
+use Rattle.zt_store.proofs.SlotLaws.{pairs-fits, pairs-suits, pairs-step, pairs-end}
 use Rattle.zt_store.proofs.exchanged_rows.exchange_each.Goals as goal
 
 pub loop-place-init : goal.loop-place-init

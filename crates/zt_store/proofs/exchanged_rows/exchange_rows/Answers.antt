@@ -6,7 +6,7 @@ use Rattle.zt_rows.specs.Keys.{rowkey_eq}
 use Rattle.zt_store.specs.Places.{fits}
 use Rattle.zt_store.specs.ProofsOnly.KeptRows.{pairs_of, rows_of}
 use Rattle.zt_store.specs.ProofsOnly.StoreView.{AllSuit}
-use Rattle.zt_store.proofs.BareLaws.{rows_of-lent, rows_of-written}
+use Rattle.zt_store.proofs.SlotLaws.{rows_of-lent, rows_of-written}
 use Rattle.zt_store.proofs.Exchanges.{keys_of}
 use Rattle.zt_store.proofs.exchanged_rows.exchange_rows.Goals as goal
 

@@ -1,4 +1,4 @@
-use Rattle.zt_store.proofs.BareLaws.{distinct-pairs, pairs-record, suited-pairs}
+use Rattle.zt_store.proofs.SlotLaws.{distinct-pairs, pairs-record, suited-pairs}
 use Rattle.zt_store.proofs.exchanged_rows.exchange_under.Goals as goal
 
 pub exchange_each-requires-clause-distinct : goal.exchange_each-requires-clause-distinct

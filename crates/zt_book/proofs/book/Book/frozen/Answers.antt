@@ -3,7 +3,7 @@ use Rattle.std.proofs.Common.{◌≤◌, ◌<◌, ◌∙◌, subst}
 use Rattle.zt_rows.specs.declared.calls.Command.TheVariants as command
 use Rattle.zt_book.specs.declared.client.Client.{Client}
 use Rattle.zt_book.specs.Session.{client_of, serve, IsCommandRefusal}
-use Rattle.zt_book.proofs.ClientsLaws.{serve-full, pin-memory, memory-alone}
+use Rattle.zt_book.proofs.SessionStateLaws.{serve-full, pin-memory, memory-alone}
 use Rattle.zt_book.proofs.book.Book.frozen.Goals as goal
 
 pub returns-then-client-ge-CLIENT_ROWS-clause-refused : goal.returns-then-client-ge-CLIENT_ROWS-clause-refused

@@ -3,7 +3,7 @@ use Rattle.std.proofs.Common.{◌≡◌, ◌≤◌, length, refl, sym, subst}
 use Rattle.zt_book.specs.declared.client.Client.{Client}
 use Rattle.zt_book.specs.declared.log.Recorded.{Recorded}
 use Rattle.zt_book.specs.Log.{BookView}
-use Rattle.zt_book.specs.ProofsOnly.Clients.{session_before}
+use Rattle.zt_book.specs.ProofsOnly.SessionState.{session_before}
 use Rattle.zt_book.proofs.BookLaws.{book-answered}
 use Rattle.zt_book.proofs.book.Book.serve.Goals as goal
 

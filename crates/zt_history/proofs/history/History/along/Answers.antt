@@ -10,20 +10,20 @@ use Rattle.zt_history.proofs.history.History.along.Goals as goal
 next_there : (c : goal.After-index-way-place) → slice_get c.args.way.now c.loop-place.place ≡ Some c.index-way-place.result
 next_there c = slice_get_read c.args.way.now (length c.args.way.now) c.loop-place.place c.index-way-place.result refl c.loop-place-test.true c.index-way-place.is
 
-pub forth-requires-clause-some : goal.forth-requires-clause-some
-forth-requires-clause-some c =
+pub redo_moment-requires-clause-some : goal.redo_moment-requires-clause-some
+redo_moment-requires-clause-some c =
     way-later c.args.self.now.tree.made c.back_to-shared.ensures.falls c.args.way.now c.requires c.loop-place.place c.index-way-place.result (next_there c)
 
-pub forth-requires-clause-there : goal.forth-requires-clause-there
-forth-requires-clause-there c =
+pub redo_moment-requires-clause-there : goal.redo_moment-requires-clause-there
+redo_moment-requires-clause-there c =
     omega (
       arith,
       way-within c.args.self.now.tree.made c.back_to-shared.ensures.falls c.args.way.now c.requires c.loop-place.place c.index-way-place.result (next_there c),
       ap (λ (h : Timeline). length h.tree.made) c.loop-place.invariant.moved,
     )
 
-pub forth-requires-clause-next : goal.forth-requires-clause-next
-forth-requires-clause-next c =
+pub redo_moment-requires-clause-next : goal.redo_moment-requires-clause-next
+redo_moment-requires-clause-next c =
     ap (λ (h : Timeline). parent_at h.tree.made c.index-way-place.result) c.loop-place.invariant.moved
     ∙ way-next c.args.self.now.tree.made c.back_to-shared.ensures.falls c.args.way.now c.requires c.loop-place.place c.index-way-place.result c.loop-place.self.position (next_there c) c.loop-place.invariant.so_far
 
@@ -33,9 +33,9 @@ loop-place-preserved c =
     slice_get_read c.args.way.now (length c.args.way.now) c.loop-place.place c.index-way-place.result refl c.loop-place-test.true c.index-way-place.is in
     let more : suc c.loop-place.place ≡ c.loop-place.place + 1 = omega arith in
     record {
-      moved = moved-again c.args.self.now c.loop-place.self c.forth.new.self c.index-way-place.result c.loop-place.invariant.moved c.forth.ensures;
+      moved = moved-again c.args.self.now c.loop-place.self c.redo_moment.new.self c.index-way-place.result c.loop-place.invariant.moved c.redo_moment.ensures;
       so_far =
-          ap (λ (h : Timeline). path c.args.self.now.tree.made h.position) c.forth.ensures
+          ap (λ (h : Timeline). path c.args.self.now.tree.made h.position) c.redo_moment.ensures
           ∙ way-at c.args.self.now.tree.made c.back_to-shared.ensures.falls c.args.way.now c.requires c.loop-place.place c.index-way-place.result there
           ∙ ap (λ n. take n c.args.way.now) more;
     }

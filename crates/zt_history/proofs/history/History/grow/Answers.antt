@@ -4,7 +4,7 @@ use Rattle.std.specs.Prelude.{OnErr, Result, Ok, Err}
 use Rattle.zt_rows.specs.declared.calls.Reply.{Reply}
 use Rattle.zt_rows.specs.Change.{before, with_rows}
 use Rattle.zt_rows.specs.Handles.{next_koid}
-use Rattle.zt_rows.specs.Reads.{runs}
+use Rattle.zt_rows.specs.Reads.{has_live_process}
 use Rattle.zt_rows.specs.State.{State}
 use Rattle.zt_rows.specs.Step.{step}
 use Rattle.zt_rows.proofs.ChangeLaws.{Rows, with_rows-before}
@@ -46,7 +46,7 @@ note-requires c =
           (kept-few c.self.inside.store c.self.inside.moments c.self.inside.branches c.self.inside.position c.self.inside.undo c.self.invariant.kept
           c.args.process c.args.call.now
           (omega (arith, c.requires.few, ap (λ (h : Timeline). length h.tree.made) c.self.view_is))
-          (ap (λ S. runs S c.args.process) (c.self.invariant.kept.history.here ∙ ap (λ (h : Timeline). state_at h.tree.made h.position) c.self.view_is) ∙ c.requires.running)
+          (ap (λ S. has_live_process S c.args.process) (c.self.invariant.kept.history.here ∙ ap (λ (h : Timeline). state_at h.tree.made h.position) c.self.view_is) ∙ c.requires.running)
           c.limits.ensures);
     }
 
@@ -61,7 +61,7 @@ push-requires-clause-small c =
     kept-small c.self.inside.store c.self.inside.moments c.self.inside.branches c.self.inside.position c.self.inside.undo c.self.invariant.kept
     c.args.process
     (omega (arith, c.requires.few, ap (λ (h : Timeline). length h.tree.made) c.self.view_is))
-    (ap (λ S. runs S c.args.process) (c.self.invariant.kept.history.here ∙ ap (λ (h : Timeline). state_at h.tree.made h.position) c.self.view_is) ∙ c.requires.running)
+    (ap (λ S. has_live_process S c.args.process) (c.self.invariant.kept.history.here ∙ ap (λ (h : Timeline). state_at h.tree.made h.position) c.self.view_is) ∙ c.requires.running)
 
 pub invariant_of-self : goal.invariant_of-self
 invariant_of-self c = record {
@@ -98,7 +98,7 @@ invariant_of-self-in-Ok c =
           kept-grown c.self.inside.store c.self.inside.moments c.self.inside.branches c.self.inside.position c.self.inside.undo c.self.invariant.kept
           c.args.process c.args.call.now c.apply.new.reply c.apply.new.self c.push.new.self c.next_moment-moment.result
           (omega (arith, c.requires.few, ap (λ (h : Timeline). length h.tree.made) c.self.view_is))
-          (ap (λ S. runs S c.args.process) (c.self.invariant.kept.history.here ∙ ap (λ (h : Timeline). state_at h.tree.made h.position) c.self.view_is) ∙ c.requires.running)
+          (ap (λ S. has_live_process S c.args.process) (c.self.invariant.kept.history.here ∙ ap (λ (h : Timeline). state_at h.tree.made h.position) c.self.view_is) ∙ c.requires.running)
           c.limits.ensures c.in_ok-change.ensures.ok made recorded c.apply.ensures.kept fit end;
       noted =
           noted-grown c.self.inside.store c.apply.new.self c.self.inside.moments c.push.new.self c.self.inside.notes c.note.new.self c.self.inside.branches c.self.inside.position c.args.process _ c.self.inside.undo c.args.call.now c.apply.new.reply
@@ -140,6 +140,6 @@ returns-in-Ok-clause-grown c =
     grown-seen c.self.inside.store c.self.inside.moments c.self.inside.branches c.self.inside.position c.self.inside.undo c.self.invariant.kept
     c.args.process c.args.call.now c.apply.new.reply c.apply.new.self c.push.new.self c.next_moment-moment.result
     (omega (arith, c.requires.few, ap (λ (h : Timeline). length h.tree.made) c.self.view_is))
-    (ap (λ S. runs S c.args.process) (c.self.invariant.kept.history.here ∙ ap (λ (h : Timeline). state_at h.tree.made h.position) c.self.view_is) ∙ c.requires.running)
+    (ap (λ S. has_live_process S c.args.process) (c.self.invariant.kept.history.here ∙ ap (λ (h : Timeline). state_at h.tree.made h.position) c.self.view_is) ∙ c.requires.running)
     c.limits.ensures c.in_ok-change.ensures.ok made recorded c.apply.ensures.kept fit end
     ∙ ap (λ (h : Timeline). after_call_at h h.position c.args.process c.args.call.now) c.self.view_is

@@ -4,12 +4,12 @@ use Rattle.std.proofs.Common.{◌≡◌, ◌≤◌, ◌<◌, Some, length, get_o
 use Rattle.std.specs.List.{slice_get}
 use Rattle.std.specs.Option.{option_copied}
 use Rattle.std.proofs.lemmas.Option.{slice_get_within}
-use Rattle.zt_history.specs.LetGo.{last_let_go}
+use Rattle.zt_history.specs.Released.{last_released}
 use Rattle.zt_history.specs.LostChild.{last_lost_child}
 use Rattle.zt_history.specs.Tree.{state_at}
 use Rattle.zt_history.proofs.RunLaws.{moment-consistent}
 use Rattle.zt_queries.specs.ProofsOnly.NameSearch.{later}
-use Rattle.zt_queries.proofs.LetGoLaws.{above-leaked}
+use Rattle.zt_queries.proofs.ReleasedLaws.{above-leaked}
 use Rattle.zt_queries.proofs.NameSearchLaws.{at-place, past-end, read-at, part-goes, part-ends, latest-goes, latest-ends}
 use Rattle.zt_queries.proofs.leak_graph.name_search.search_names.Goals as goal
 
@@ -22,7 +22,7 @@ returns-in_default c =
     record {
       ends = c.loop-place.search.ends.keys;
       search = part-ends (state_at made at) c.args.koid c.loop-place.search.ends.keys c.loop-place.place past c.loop-place.invariant.part;
-      names = latest-ends (λ y. last_let_go y made at) c.loop-place.search.ends.keys c.loop-place.place c.loop-place.names past c.loop-place.invariant.names;
+      names = latest-ends (λ y. last_released y made at) c.loop-place.search.ends.keys c.loop-place.place c.loop-place.names past c.loop-place.invariant.names;
       children = latest-ends (λ y. last_lost_child y made at) c.loop-place.search.ends.keys c.loop-place.place c.loop-place.children past c.loop-place.invariant.children;
     }
 
@@ -50,8 +50,8 @@ loop-place-preserved c =
           low is c.in_ok-whole.ensures.wider c.loop-place.invariant.part
           (c.in_ok-whole.ensures.held c.if-not-whole.false);
       names = latest-goes (state_at made at) c.args.koid c.loop-place.search.ends.keys c.find_all.new.self.ends.keys c.loop-place.place c.in-Some.end.now
-          low is c.in_ok-whole.ensures.wider (λ y. last_let_go y made at) c.loop-place.names c.later-names.result c.loop-place.invariant.names
-          (c.later-names.ensures ∙ ap (λ o. later c.loop-place.names o) (c.last_let_go.ensures ∙ ap (last_let_go c.in-Some.end.now made) c.position-position.ensures.position));
+          low is c.in_ok-whole.ensures.wider (λ y. last_released y made at) c.loop-place.names c.later-names.result c.loop-place.invariant.names
+          (c.later-names.ensures ∙ ap (λ o. later c.loop-place.names o) (c.last_released.ensures ∙ ap (last_released c.in-Some.end.now made) c.position-position.ensures.position));
       children = latest-goes (state_at made at) c.args.koid c.loop-place.search.ends.keys c.find_all.new.self.ends.keys c.loop-place.place c.in-Some.end.now
           low is c.in_ok-whole.ensures.wider (λ y. last_lost_child y made at) c.loop-place.children c.later-children.result c.loop-place.invariant.children
           (c.later-children.ensures ∙ ap (λ o. later c.loop-place.children o) (c.last_lost_child.ensures ∙ ap (last_lost_child c.in-Some.end.now made) c.position-position.ensures.position));

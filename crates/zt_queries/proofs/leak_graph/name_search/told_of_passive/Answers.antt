@@ -4,7 +4,7 @@ use Rattle.zt_history.specs.declared.row_happenings.RowHappening.TheVariants as 
 use Rattle.zt_history.specs.RowHappenings.{last_shown}
 use Rattle.zt_history.specs.Tree.{Made}
 use Rattle.zt_queries.specs.ProofsOnly.NameSearch.{AreFound}
-use Rattle.zt_queries.proofs.LetGoLaws.{told-by}
+use Rattle.zt_queries.proofs.ReleasedLaws.{told-by}
 use Rattle.zt_queries.proofs.LostChildLaws.{names-of-both}
 use Rattle.zt_queries.proofs.leak_graph.name_search.told_of_passive.Goals as goal
 

@@ -3,8 +3,8 @@ use Rattle.std.proofs.Common.{ap, ◌∙◌, subst, sym, arith, get_or, length, 
 use Rattle.zt_rows.specs.declared.keys.RowKey.{RowKey}
 use Rattle.zt_store.specs.RecordLook.{held}
 use Rattle.zt_store.specs.ProofsOnly.KeptRows.{pairs_of, rows_in, under_keys}
-use Rattle.zt_store.specs.ProofsOnly.RecordRows.{IsBareRecord}
-use Rattle.zt_store.proofs.HeldLaws.{bare-found, held-missing}
+use Rattle.zt_store.specs.ProofsOnly.RecordRows.{IsSlotRecord}
+use Rattle.zt_store.proofs.HeldLaws.{slot-found, held-missing}
 use Rattle.zt_store.proofs.record.Record.held.Goals as goal
 
 pub bounds-rows-place : goal.bounds-rows-place
@@ -12,9 +12,9 @@ bounds-rows-place c = omega (arith, c.in-Ok.ensures.bound, ap length c.keys.ensu
 
 pub returns-in-Ok : goal.returns-in-Ok
 returns-in-Ok c =
-    let P : List RowKey → Type 0 = λ ks. IsBareRecord ks (rows_in c.self.inside.rows) in
-    ap Some c.row_under.ensures
-    ∙ bare-found c.keys.result.now (rows_in c.self.inside.rows) c.args.key c.in-Ok.place c.index-rows-place.result
+    let P : List RowKey → Type 0 = λ ks. IsSlotRecord ks (rows_in c.self.inside.rows) in
+    ap Some c.decode_slot.ensures
+    ∙ slot-found c.keys.result.now (rows_in c.self.inside.rows) c.args.key c.in-Ok.place c.index-rows-place.result
     (subst P (sym c.keys.ensures) c.self.invariant) c.in-Ok.ensures.bound c.in-Ok.ensures.ok
     (c.index-rows-place.is ∙ ap (λ rs. get_or rs c.in-Ok.place c.index-rows-place.result) c.rows.ensures)
     ∙ ap (λ ks. held (pairs_of ks (rows_in c.self.inside.rows)) c.args.key) c.keys.ensures
@@ -22,7 +22,7 @@ returns-in-Ok c =
 
 pub returns-in-Err : goal.returns-in-Err
 returns-in-Err c =
-    let P : List RowKey → Type 0 = λ ks. IsBareRecord ks (rows_in c.self.inside.rows) in
+    let P : List RowKey → Type 0 = λ ks. IsSlotRecord ks (rows_in c.self.inside.rows) in
     let is : P c.keys.result.now = subst P (sym c.keys.ensures) c.self.invariant in
     held-missing c.keys.result.now (under_keys c.keys.result.now (rows_in c.self.inside.rows)) c.args.key c.in-Err.field-0 is.recorded
     c.in-Err.ensures.position

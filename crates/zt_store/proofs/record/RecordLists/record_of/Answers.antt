@@ -1,15 +1,15 @@
 use Rattle.std.proofs.Common.{◌≡◌, ℕ, List, refl, ap, subst, sym, ◌∙◌}
 use Rattle.zt_store.specs.Places.{fits}
 use Rattle.zt_store.specs.ProofsOnly.ChangedRows.{picked}
-use Rattle.zt_store.specs.ProofsOnly.FirstRows.{Firsts}
+use Rattle.zt_store.specs.ProofsOnly.BeforeImages.{Firsts}
 use Rattle.zt_store.specs.ProofsOnly.KeptRows.{AreOf, keys_in, rows_in}
 use Rattle.zt_store.specs.declared.kept_rows.KeptRows.{KeptRows}
-use Rattle.zt_store.proofs.BareLaws.{Bares, filled-bare, pairs-filled}
+use Rattle.zt_store.proofs.SlotLaws.{Slots, filled-slots, pairs-filled}
 use Rattle.zt_store.proofs.record.RecordLists.record_of.Goals.{in-Ok, in-Err}
 use Rattle.zt_store.proofs.record.RecordLists.record_of.Goals as goal
 
 -- the same rows, from the same places
-same_are : (rows kept : KeptRows) (F G : Bares) (order places : List ℕ) → kept ≡ rows → F ≡ G → order ≡ places → AreOf (keys_in rows) (rows_in rows) (picked F order) → AreOf (keys_in kept) (rows_in kept) (picked G places)
+same_are : (rows kept : KeptRows) (F G : Slots) (order places : List ℕ) → kept ≡ rows → F ≡ G → order ≡ places → AreOf (keys_in rows) (rows_in rows) (picked F order) → AreOf (keys_in kept) (rows_in kept) (picked G places)
 same_are rows kept F G order places rows_is firsts_are places_are is =
     subst (λ k. AreOf (keys_in k) (rows_in k) (picked G places)) (sym rows_is)
     (subst (λ H. AreOf (keys_in rows) (rows_in rows) (picked H places)) firsts_are (subst (λ p. AreOf (keys_in rows) (rows_in rows) (picked F p)) places_are is))
@@ -22,7 +22,7 @@ are_of c =
     ]
 
 pub invariant_of-result : goal.invariant_of-result
-invariant_of-result c = filled-bare _ _ _ _ _ (are_of c) c.find_changed.ensures.rows c.find_changed.ensures.suited
+invariant_of-result c = filled-slots _ _ _ _ _ (are_of c) c.find_changed.ensures.rows c.find_changed.ensures.suited
 
 pub returns-clause-recorded : goal.returns-clause-recorded
 returns-clause-recorded c = pairs-filled _ _ _ (are_of c) ∙ c.find_changed.ensures.rows

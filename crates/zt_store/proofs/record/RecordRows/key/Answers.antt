@@ -1,5 +1,5 @@
 use Rattle.std.proofs.Common.{arith}
-use Rattle.zt_store.proofs.BareLaws.{length-under_keys}
+use Rattle.zt_store.proofs.SlotLaws.{length-under_keys}
 use Rattle.zt_store.proofs.HeldLaws.{key-at-place, place-rows}
 use Rattle.zt_store.proofs.record.RecordRows.key.Goals as goal
 

@@ -1,5 +1,5 @@
 use Rattle.std.proofs.Common.{ap, length, sym, ◌∙◌}
-use Rattle.zt_store.proofs.BareLaws.{length-pairs}
+use Rattle.zt_store.proofs.SlotLaws.{length-pairs}
 use Rattle.zt_store.proofs.record.RecordRows.len.Goals as goal
 
 pub returns : goal.returns

@@ -1,5 +1,5 @@
 use Rattle.std.proofs.Common.{◌≡◌, length}
-use Rattle.zt_store.proofs.BareLaws.{length-under_keys, under_keys-at}
+use Rattle.zt_store.proofs.SlotLaws.{length-under_keys, under_keys-at}
 use Rattle.zt_store.proofs.SideBySide.{beside-not, beside-next, beside-all, even-slices}
 use Rattle.zt_store.proofs.store.Store.fits.Goals as goal
 

@@ -1,6 +1,6 @@
 use Rattle.std.proofs.Common.{◌<◌, List, [], Option, length, set, sym, ap, ◌∙◌, arith, subst}
 use Rattle.zt_rows.specs.declared.rows.Row.{Row}
-use Rattle.zt_cells.specs.BareRows.{row_in}
+use Rattle.zt_cells.specs.RowSlots.{row_in}
 use Rattle.zt_cells.specs.ProofsOnly.TablePlaces.{cell, table}
 use Rattle.zt_cells.proofs.NumberLaws.{number-read, number-seen, owner-numbered, put-there, was-old}
 use Rattle.zt_cells.proofs.cells.tables_by_owner.TablesByOwner.exchange.Goals as goal

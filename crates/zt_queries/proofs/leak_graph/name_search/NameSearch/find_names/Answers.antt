@@ -22,8 +22,8 @@ returns-then-self-eq0-clause-guarded c = λ all.
     (moment-consistent c.args.history.now.tree.made c.position.ensures.tree.moments c.args.history.now.position (omega (arith, c.position.ensures.within, c.position.ensures.position))).sound
     (omega (arith, c.if-self-eq0.true)) c.loop.invariant.counted
 
-pub last_let_go-next-requires-in-loop : goal.last_let_go-next-requires-in-loop
-last_let_go-next-requires-in-loop c =
+pub last_released-next-requires-in-loop : goal.last_released-next-requires-in-loop
+last_released-next-requires-in-loop c =
     subst (λ m. m ≤ length c.args.history.now.tree.made) (sym c.parent_of.ensures) (parent-inside c.args.history.now.tree.made c.position.ensures.tree.moments c.in-Some.moment)
 
 pub loop-preserved : goal.loop-preserved

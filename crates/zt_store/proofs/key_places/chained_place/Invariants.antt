@@ -1,9 +1,0 @@
-use Rattle.std.proofs.Common.{length}
-use Rattle.zt_store.proofs.KeyPlaceLaws.{IsLookingBack}
-use Rattle.zt_store.proofs.key_places.chained_place.Given as goal
-
-abbrev pub invariant-chain : goal.invariant-chain
-invariant-chain l = IsLookingBack (length l.last) l.keys l.key l.number
-
-abbrev pub decreases-chain : goal.decreases-chain
-decreases-chain l = l.number
