@@ -238,7 +238,7 @@ taken-out x S A B C D a objects b messages c packets d waits =
     (all-left x D (λ y. left-stays x A D (key.Object y) ad (objects y)) (λ n. left-stays x B D (key.Msg x n) bd (left-none x B (key.Msg x n) (messages n)))
     (λ n. left-stays x C D (key.Packet x n) d (left-none x C (key.Packet x n) (packets n))) waits)
 
--- what the object may let go was noted
+-- what the object may release is listed
 pub taken-noted : (x : ℕ) (S A B : State) (o : ObjectRow) (list later : List ℕ) → object S x ≡ Some o → ((n : ℕ) → message A x n ≡ message S x n)
     → AreHandlesListed x A list B later → ((n : ℕ) → row B (key.Msg x n) ≡ None) → (y : ℕ) → IsReleased S x y → among (later ++ o.link ∷ []) y ≡ true
 taken-noted x S A B o list later there same h gone y (by_message n m e g) = elim (h.noted n m (same n ∙ e) y g) [

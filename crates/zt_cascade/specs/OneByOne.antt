@@ -18,7 +18,7 @@ IsOnTheWay S T = (gone : ℕ → Bool) × (T ≡ without S gone) × Justified S 
 abbrev pub is_named : List Held → ℕ → Bool
 is_named handles x = list_any (λ held. held.koid == x) handles
 
--- what x may let go when it goes: what a handle in its queue names, and what its link names
+-- what x may release when it goes: what a handle in its queue names, and what its link names
 pub data IsReleased (S : State) (x y : ℕ) : Type 0 where
   by_message : (n : ℕ) (m : MessageContent) → message S x n ≡ Some m → is_named m.handles y ≡ true → IsReleased S x y
   by_link : link_at S x ≡ y → IsReleased S x y

@@ -19,7 +19,7 @@ use zt_bits::Kind;
 use zt_rows::{Held, Koid, ObjectRow, Row, RowKey};
 use zt_store::Step;
 
-/// Removes the object with what it owns, and adds to the list the objects that it may let go.
+/// Removes the object with what it owns, and adds to the list the objects that it may release.
 pub(crate) fn take_out(
     step: &mut Step,
     koid: Koid,

@@ -68,7 +68,7 @@ fn follow(step: &mut Step, list: &mut Vec<Koid>) -> Result<(), AllocError>
     Ok(())
 }
 
-/// Removes the object if nothing supports it, and adds to the list the objects that it may let go.
+/// Removes the object if nothing supports it, and adds to the list the objects that it may release.
 fn look_at(step: &mut Step, koid: Koid, list: &mut Vec<Koid>) -> Result<(), AllocError>
     requires joined { IsJoined step.old.current }
     ensures ahead { IsAhead step.old step.new }

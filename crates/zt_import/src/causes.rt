@@ -90,7 +90,7 @@ fn gives_packets_of_users(waited: &LoggedCall) -> bool {
     matches!(waited.recorded.packet, Some(LoggedPacket::User { .. }))
 }
 
-/// Whether a call may end an object, let go of a handle, or take a message, a packet or a wait.
+/// Whether a call may end an object, release a handle, or take a message, a packet or a wait.
 fn ends_something(cause: &LoggedCall) -> bool {
     matches!(
         cause.call,

@@ -90,12 +90,12 @@ out-named S sound y out k e = by (named-by S sound y k e)
           exists-some S f w.0 w.1,
         )
 
--- ---- what is let go
+-- ---- what is released
 
 abbrev goes_at : ℕ → State → RowKey × Row → Bool
 goes_at y T e = names y (Some e.1) && not (names y (row T e.0))
 
--- where no row that names it goes, it is not let go
+-- where no row that names it goes, it is not released
 pub lets-none : (y : ℕ) (S T : State) → ((k : RowKey) → names y (row S k) ≡ true → names y (row T k) ≡ true) → releases y S T ≡ false
 lets-none y S T stays =
     not_true (releases y S T) (λ t.

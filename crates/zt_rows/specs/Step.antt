@@ -46,7 +46,7 @@ direct S p (call.ProcessExit code) = process_exit S p code
 abbrev pub completed : State → State × Reply → State × Reply
 completed S d = (settle S (collect d.0), d.1)
 
--- one call of a process; `runs S p`, that p is a live process of S, is the premise under which it is a call
+-- one call of a process; that p is a live process of S, `has_live_process S p`, is the premise under which it is a call
 unfoldable pub step : State → ℕ → Call → State × Reply
 step S p c = completed S (direct S p c)
 

@@ -133,7 +133,7 @@ loss_of m r s T = lost_by m s T (parent_in r)
 abbrev pub note_object : ℕ → ℕ → Option Row → State → List ChangeNote
 note_object m x r T = note_of m x r (row T (key.Object x)) ++ loss_of m r (row T (key.Object x)) T
 
--- of what stands under a key: of an object what shows and what its parent lost, else what is let go
+-- of what stands under a key: of an object what shows and what its parent lost, else what is released
 abbrev pub note_before : ℕ → Option Row → State → RowKey → List ChangeNote
 note_before m r T (key.Object x) = note_object m x r T
 note_before m r T k = gone_of m r (row T k) T

@@ -84,7 +84,7 @@ impl NoteChains {
     }
 
     /// Notes what a moment's call did under one key. For an object's key, notes the changes of the object, and that its
-    /// parent lost it. For any other key, notes that the call let go of what the row before it named. On an allocation
+    /// parent lost it. For any other key, notes that the call released what the row before it named. On an allocation
     /// failure some of these notes may be there.
     fn note_under(
         &mut self,
@@ -166,7 +166,7 @@ impl NoteChains {
         }
     }
 
-    /// Notes which names among the handles of a message a moment's call let go. The message stood under the key before.
+    /// Notes which names among the handles of a message a moment's call released. The message stood under the key before.
     /// On an allocation failure some of these notes may be there.
     fn note_names(
         &mut self,
@@ -184,7 +184,7 @@ impl NoteChains {
         Ok(())
     }
 
-    /// Notes that a moment's call let go of a name of an object, if it did. The name stood under the key before. On an
+    /// Notes that a moment's call released a name of an object, if it did. The name stood under the key before. On an
     /// allocation failure nothing is noted.
     #[inline(always)]
     fn note_name(

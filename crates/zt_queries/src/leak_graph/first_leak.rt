@@ -52,17 +52,17 @@ use zt_rows::{Koid, Moment, ROOT_JOB, Refusal};
 /// The cost depends on what tells:
 ///
 /// - An object that went and is no job or process was never leaked, if the call took away an entry that names it. Nor
-///   was one that an entry at the position names, if the entry was put when the object was made or last let go. Both
+///   was one that an entry at the position names, if the entry was put when the object was made or last released. Both
 ///   cost a look at the notes of the object and at the rows of up to two calls. They never allocate.
 /// - An object may go together with the endpoint of a message that names it. This endpoint may go with the next one, up
 ///   to an entry. Then the object was never leaked either. This takes up to 16 passes over the rows of the call, and
 ///   never allocates.
 /// - An object at the position may be neither a job nor a running process. Then the notes tell when it and the
-///   endpoints above it were let go. These moments lead to the messages that name them. This costs a look at each of
+///   endpoints above it were released. These moments lead to the messages that name them. This costs a look at each of
 ///   the moments, and memory for the endpoints and messages. If an entry turns up among the names, it also costs a walk
 ///   over the entries up to the first such one.
 /// - A live job is treated in the same way. The notes also tell when it and the live jobs below it lost their children.
-/// - All other cases need the lists of two paths. Examples are an object that is gone or was let go very often, a job
+/// - All other cases need the lists of two paths. Examples are an object that is gone or was released very often, a job
 ///   that has ended, and a moment other than the position. The object's own row or a record may tell, from the last
 ///   moment at which the object is there.
 /// - If they do not tell, a graph does, which the records of the path move without a store. A leaked object stays

@@ -74,7 +74,7 @@ impl Drop for NameSearch {
 #[derive(Clone, Copy)]
 enum FoundNames {
     /// All names stand in messages, and all live children are jobs of which the same holds. `names` is the last moment
-    /// at which one of the names was let go. `children` is that at which one of the jobs lost a child.
+    /// at which one of the names was released. `children` is that at which one of the jobs lost a child.
     All {
         names: Option<Moment>,
         children: Option<Moment>,
@@ -121,7 +121,7 @@ fn is_passive(object: &ObjectRow) -> bool
 /// The moment at which an object that is neither a job nor a running process was leaked. This is the last of these
 /// moments:
 ///
-/// - those at which the object or an endpoint above it was let go;
+/// - those at which the object or an endpoint above it was released;
 /// - that at which the object ended, if it is a process.
 fn told_of_passive(alloc: Global, history: &History, koid: Koid) -> Result<LeakTime, AllocError>
     requires { stands_passive (state_at history.now.tree.made history.now.position) koid ≡ true }
@@ -136,7 +136,7 @@ fn told_of_passive(alloc: Global, history: &History, koid: Koid) -> Result<LeakT
 
 /// The moment at which a live job other than the root job was leaked. This is the last of these moments:
 ///
-/// - those at which it, a job below it or an endpoint above these was let go;
+/// - those at which it, a job below it or an endpoint above these was released;
 /// - those at which it or a job below it lost a child.
 fn told_of_job(alloc: Global, history: &History, koid: Koid) -> Result<LeakTime, AllocError>
     requires live { on_object is_live_job (object (state_at history.now.tree.made history.now.position) koid) ≡ true }
@@ -248,7 +248,7 @@ impl NameSearch {
     /// Adds the endpoints at which messages wait that name this object. Returns whether this shows that nothing else at
     /// the position names it.
     ///
-    /// Looks at the moments at which it was let go, from the last one on, until all its names are found.
+    /// Looks at the moments at which it was released, from the last one on, until all its names are found.
     fn find_names(&mut self, history: &History, koid: Koid) -> Result<bool, AllocError>
         ensures wider { OnOk result (Widens (state_at history.now.tree.made history.now.position) koid self.old.ends.keys self.new.ends.keys) }
         ensures guarded { IfOk result (λ whole. whole ≡ true

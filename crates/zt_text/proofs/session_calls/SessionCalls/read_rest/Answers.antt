@@ -1,4 +1,4 @@
--- A call more is let go.
+-- A further call is dropped.
 use Rattle.std.proofs.lemmas.Result.{err_from_is_err_and}
 use Rattle.zt_text.specs.Session.{has_call}
 use Rattle.zt_text.specs.SessionCalls.{calls_left}

@@ -1,4 +1,4 @@
--- So far what was let go of the handles that were gone over is noted.
+-- The released names among the handles looked at so far are noted.
 use Rattle.std.proofs.Common.{◌≡◌, ◌++◌, take}
 use Rattle.zt_rows.specs.State.{row}
 use Rattle.zt_history.specs.ProofsOnly.ObjectNotes.{IsLonger, gone_names}
