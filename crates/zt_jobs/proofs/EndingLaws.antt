@@ -9,7 +9,7 @@ use Rattle.zt_rows.specs.Tests.{link_at, object_link, among}
 use Rattle.zt_rows.specs.End.{chain, is_live_task, is_under, IsClosed, ends_with}
 use Rattle.zt_rows.specs.Consistent.{IsChild, has_parent, IsSound}
 use Rattle.zt_rows.proofs.RowLaws.{and_left, and_right, and_both, or_left, or_right, or_true, not_true}
-use Rattle.zt_rows.proofs.SoundLaws.{is_task, task-not-endpoint}
+use Rattle.zt_rows.proofs.SoundLaws.{is_running_task, task-not-endpoint}
 use Rattle.zt_rows.proofs.AboveLaws.{Above, above, parent-above, live_task-some, under-cases, under-above}
 use Rattle.zt_rows.proofs.ClosedLaws.{ends-has, ends-closed, ends-inside}
 use Rattle.zt_store.specs.KoidSets.{only}
@@ -27,7 +27,7 @@ critical-some None h = absurd (h refl)
 
 module _ (S : State) (sound : IsSound S) where
   -- a live process or job with a link has it as its parent
-  has-parent : (x : ℕ) (o : ObjectRow) → object S x ≡ Some o → is_task o ≡ true → (o.link ≡ 0 → ⊥) → has_parent x o ≡ true
+  has-parent : (x : ℕ) (o : ObjectRow) → object S x ≡ Some o → is_running_task o ≡ true → (o.link ≡ 0 → ⊥) → has_parent x o ≡ true
   has-parent x o e t linked = elim (has_parent x o) as (λ b. has_parent x o ≡ b → b ≡ true) [
     | true ↦ λ _. refl
     | false ↦ λ f. absurd (linked ((sound.of_objects x o e).alone (task-not-endpoint o t) f))
@@ -56,7 +56,7 @@ module _ (S : State) (sound : IsSound S) where
 
   module _ (found : ℕ → Bool) (closed : (y x : ℕ) → found y ≡ true → ends_next S y x ≡ true → found x ≡ true) where
     -- all under a member is found, from parent to child
-    found-under : (n x : ℕ) (o : ObjectRow) → object S x ≡ Some o → is_task o ≡ true → x < n → (j : ℕ) → among (chain S x) j ≡ true → found j ≡ true → found x ≡ true
+    found-under : (n x : ℕ) (o : ObjectRow) → object S x ≡ Some o → is_running_task o ≡ true → x < n → (j : ℕ) → among (chain S x) j ≡ true → found j ≡ true → found x ≡ true
     found-under zero x o e t few j h member = absurd (omega arith)
     found-under (suc n) x o e t few j h member =
         let w : Above S x o j = above S sound x o e t j h in

@@ -10,7 +10,7 @@ use Rattle.zt_rows.specs.Tests.{link_at, object_link, among}
 use Rattle.zt_rows.specs.End.{upward, links, chain, is_live_task, is_under}
 use Rattle.zt_rows.specs.Consistent.{IsChild, has_parent, IsSound}
 use Rattle.zt_rows.proofs.RowLaws.{or_true, or_left, or_right, and_left, and_right, and_both}
-use Rattle.zt_rows.proofs.SoundLaws.{is_task, task-not-endpoint}
+use Rattle.zt_rows.proofs.SoundLaws.{is_running_task, task-not-endpoint}
 use Rattle.zt_rows.proofs.ChainLaws.{chain-child}
 
 -- ---- one step upwards
@@ -25,7 +25,7 @@ pub record Above (S : State) (x : ℕ) (o : ObjectRow) (j : ℕ) : Type 0 where
   pub chained : chain S x ≡ o.link ∷ chain S o.link
   pub near : (o.link ≡ j) ⊎ (among (chain S o.link) j ≡ true)
 
-pub above : (S : State) → IsSound S → (x : ℕ) (o : ObjectRow) → object S x ≡ Some o → is_task o ≡ true → (j : ℕ) → among (chain S x) j ≡ true → Above S x o j
+pub above : (S : State) → IsSound S → (x : ℕ) (o : ObjectRow) → object S x ≡ Some o → is_running_task o ≡ true → (j : ℕ) → among (chain S x) j ≡ true → Above S x o j
 above S sound x o e t j h =
     elim (has_parent x o) as (λ b. has_parent x o ≡ b → Above S x o j) [
       | true ↦ λ p.
@@ -57,7 +57,7 @@ parent-above S sound x o e h = nearest S x o.link o.link (chain-child S sound x 
 -- ---- all steps
 
 -- each job above is live, and has a smaller koid
-above-live_of : (S : State) → IsSound S → (n x : ℕ) (o : ObjectRow) → object S x ≡ Some o → is_task o ≡ true → x < n → (j : ℕ) → among (chain S x) j ≡ true → (q : ObjectRow) × (object S j ≡ Some q) × (is_live_job q ≡ true) × (j < x)
+above-live_of : (S : State) → IsSound S → (n x : ℕ) (o : ObjectRow) → object S x ≡ Some o → is_running_task o ≡ true → x < n → (j : ℕ) → among (chain S x) j ≡ true → (q : ObjectRow) × (object S j ≡ Some q) × (is_live_job q ≡ true) × (j < x)
 above-live_of S sound zero x o e t few j h = absurd (omega arith)
 above-live_of S sound (suc n) x o e t few j h =
     let w : Above S x o j = above S sound x o e t j h in
@@ -71,10 +71,10 @@ above-live_of S sound (suc n) x o e t few j h =
           (r.0, r.1, r.2, omega arith)
     ]
 
-pub above-live : (S : State) → IsSound S → (x : ℕ) (o : ObjectRow) → object S x ≡ Some o → is_task o ≡ true → (j : ℕ) → among (chain S x) j ≡ true → (q : ObjectRow) × (object S j ≡ Some q) × (is_live_job q ≡ true) × (j < x)
+pub above-live : (S : State) → IsSound S → (x : ℕ) (o : ObjectRow) → object S x ≡ Some o → is_running_task o ≡ true → (j : ℕ) → among (chain S x) j ≡ true → (q : ObjectRow) × (object S j ≡ Some q) × (is_live_job q ≡ true) × (j < x)
 above-live S sound x o e t j h = above-live_of S sound (suc x) x o e t (omega arith) j h
 
-above-over_of : (S : State) → IsSound S → (n x : ℕ) (o : ObjectRow) → object S x ≡ Some o → is_task o ≡ true → x < n → (j k : ℕ) → among (chain S x) j ≡ true → among (chain S j) k ≡ true → among (chain S x) k ≡ true
+above-over_of : (S : State) → IsSound S → (n x : ℕ) (o : ObjectRow) → object S x ≡ Some o → is_running_task o ≡ true → x < n → (j k : ℕ) → among (chain S x) j ≡ true → among (chain S j) k ≡ true → among (chain S x) k ≡ true
 above-over_of S sound zero x o e t few j k h g = absurd (omega arith)
 above-over_of S sound (suc n) x o e t few j k h g =
     let w : Above S x o j = above S sound x o e t j h in
@@ -86,16 +86,16 @@ above-over_of S sound (suc n) x o e t few j k h g =
     ]
 
 -- what is above a job above is above
-pub above-over : (S : State) → IsSound S → (x : ℕ) (o : ObjectRow) → object S x ≡ Some o → is_task o ≡ true → (j k : ℕ) → among (chain S x) j ≡ true → among (chain S j) k ≡ true → among (chain S x) k ≡ true
+pub above-over : (S : State) → IsSound S → (x : ℕ) (o : ObjectRow) → object S x ≡ Some o → is_running_task o ≡ true → (j k : ℕ) → among (chain S x) j ≡ true → among (chain S j) k ≡ true → among (chain S x) k ≡ true
 above-over S sound x o e t j k h g = above-over_of S sound (suc x) x o e t (omega arith) j k h g
 
-above-order_of : (S : State) → IsSound S → (n x : ℕ) (o : ObjectRow) → object S x ≡ Some o → is_task o ≡ true → x < n → (j k : ℕ) → among (chain S x) j ≡ true → among (chain S x) k ≡ true → k ≤ j → (j ≡ k) ⊎ (among (chain S j) k ≡ true)
+above-order_of : (S : State) → IsSound S → (n x : ℕ) (o : ObjectRow) → object S x ≡ Some o → is_running_task o ≡ true → x < n → (j k : ℕ) → among (chain S x) j ≡ true → among (chain S x) k ≡ true → k ≤ j → (j ≡ k) ⊎ (among (chain S j) k ≡ true)
 above-order_of S sound zero x o e t few j k h g low = absurd (omega arith)
 above-order_of S sound (suc n) x o e t few j k h g low =
     let w : Above S x o j = above S sound x o e t j h in
     let v : Above S x o k = above S sound x o e t k g in
     let c : IsChild S x o = w.child in
-    let task : is_task c.parent ≡ true = or_left _ _ c.live in
+    let task : is_running_task c.parent ≡ true = or_left _ _ c.live in
     let less : o.link < x = c.smaller in
     elim w.near [
       | inl isj ↦ elim v.near [
@@ -109,17 +109,17 @@ above-order_of S sound (suc n) x o e t few j k h g low =
     ]
 
 -- of two jobs above, the one with the smaller koid is above the other
-pub above-order : (S : State) → IsSound S → (x : ℕ) (o : ObjectRow) → object S x ≡ Some o → is_task o ≡ true → (j k : ℕ) → among (chain S x) j ≡ true → among (chain S x) k ≡ true → k ≤ j → (j ≡ k) ⊎ (among (chain S j) k ≡ true)
+pub above-order : (S : State) → IsSound S → (x : ℕ) (o : ObjectRow) → object S x ≡ Some o → is_running_task o ≡ true → (j k : ℕ) → among (chain S x) j ≡ true → among (chain S x) k ≡ true → k ≤ j → (j ≡ k) ⊎ (among (chain S j) k ≡ true)
 above-order S sound x o e t j k h g low = above-order_of S sound (suc x) x o e t (omega arith) j k h g low
 
 -- ---- under a job
 
-pub live_task-some : (r : Option ObjectRow) → is_live_task r ≡ true → (o : ObjectRow) × (r ≡ Some o) × (is_task o ≡ true)
+pub live_task-some : (r : Option ObjectRow) → is_live_task r ≡ true → (o : ObjectRow) × (r ≡ Some o) × (is_running_task o ≡ true)
 live_task-some (Some o) h = (o, refl, h)
 live_task-some None h = cc
 
 -- it is the job itself, or a live process or job that has it above
-pub under-cases : (S : State) (j x : ℕ) → is_under S j x ≡ true → (x ≡ j) ⊎ ((o : ObjectRow) × (object S x ≡ Some o) × (is_task o ≡ true) × (among (chain S x) j ≡ true))
+pub under-cases : (S : State) (j x : ℕ) → is_under S j x ≡ true → (x ≡ j) ⊎ ((o : ObjectRow) × (object S x ≡ Some o) × (is_running_task o ≡ true) × (among (chain S x) j ≡ true))
 under-cases S j x h = elim (or_true (x == j) _ h) [
   | inl is ↦ inl (eqb-true x j is)
   | inr far ↦
@@ -130,7 +130,7 @@ under-cases S j x h = elim (or_true (x == j) _ h) [
 pub under-itself : (S : State) (j x : ℕ) → x ≡ j → is_under S j x ≡ true
 under-itself S j x is = or_left (x == j) _ (eq-eqb x j is)
 
-pub under-above : (S : State) (j x : ℕ) (o : ObjectRow) → object S x ≡ Some o → is_task o ≡ true → among (chain S x) j ≡ true → is_under S j x ≡ true
+pub under-above : (S : State) (j x : ℕ) (o : ObjectRow) → object S x ≡ Some o → is_running_task o ≡ true → among (chain S x) j ≡ true → is_under S j x ≡ true
 under-above S j x o e t h = or_right (x == j) _ (and_both (is_live_task (object S x)) _ (ap is_live_task e ∙ t) h)
 
 -- what is under a job under a job is under that

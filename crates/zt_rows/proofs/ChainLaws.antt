@@ -10,19 +10,19 @@ use Rattle.zt_rows.specs.Support.{root_job}
 use Rattle.zt_rows.specs.End.{upward, links, chain}
 use Rattle.zt_rows.specs.Consistent.{IsChild, has_parent, SoundObject, IsSound}
 use Rattle.zt_rows.proofs.RowLaws.{or_left}
-use Rattle.zt_rows.proofs.SoundLaws.{is_task, task-not-endpoint, upward-same}
+use Rattle.zt_rows.proofs.SoundLaws.{is_running_task, task-not-endpoint, upward-same}
 
 -- a live process or job has no link, or its parent is a live job with a smaller koid
-pub smaller-above : (S : State) → IsSound S → (x : ℕ) (o : ObjectRow) → object S x ≡ Some o → is_task o ≡ true → (o.link ≡ 0) ⊎ ((q : ObjectRow) × (object S o.link ≡ Some q) × (is_task q ≡ true) × (o.link < x))
+pub smaller-above : (S : State) → IsSound S → (x : ℕ) (o : ObjectRow) → object S x ≡ Some o → is_running_task o ≡ true → (o.link ≡ 0) ⊎ ((q : ObjectRow) × (object S o.link ≡ Some q) × (is_running_task q ≡ true) × (o.link < x))
 smaller-above S sound x o e t =
     let s : SoundObject S x o = sound.of_objects x o e in
-    elim (has_parent x o) as (λ b. has_parent x o ≡ b → (o.link ≡ 0) ⊎ ((q : ObjectRow) × (object S o.link ≡ Some q) × (is_task q ≡ true) × (o.link < x))) [
+    elim (has_parent x o) as (λ b. has_parent x o ≡ b → (o.link ≡ 0) ⊎ ((q : ObjectRow) × (object S o.link ≡ Some q) × (is_running_task q ≡ true) × (o.link < x))) [
       | true ↦ λ h. let c : IsChild S x o = s.parents h in inr (c.parent, c.there, or_left _ _ c.live, c.smaller)
       | false ↦ λ h. inl (s.alone (task-not-endpoint o t) h)
     ] refl
 
 -- any two bounds above the koid give the same walk
-pub links-enough : (S : State) → IsSound S → (n m x : ℕ) (o : ObjectRow) → object S x ≡ Some o → is_task o ≡ true → x < n → x < m → links n S x ≡ links m S x
+pub links-enough : (S : State) → IsSound S → (n m x : ℕ) (o : ObjectRow) → object S x ≡ Some o → is_running_task o ≡ true → x < n → x < m → links n S x ≡ links m S x
 unfolding links
 links-enough S sound zero m x o e t few more = absurd (omega arith)
 links-enough S sound (suc n) zero x o e t few more = absurd (omega arith)
@@ -49,7 +49,7 @@ unfolding chain
 chain-from S x l e above = let one : x + 1 ≡ suc x = omega arith in ap (λ n. links n S x) one ∙ links-from x S x l e above
 
 -- the walk from a smaller koid is its whole chain
-pub links-chain : (S : State) → IsSound S → (x l : ℕ) (q : ObjectRow) → object S l ≡ Some q → is_task q ≡ true → l < x → links x S l ≡ chain S l
+pub links-chain : (S : State) → IsSound S → (x l : ℕ) (q : ObjectRow) → object S l ≡ Some q → is_running_task q ≡ true → l < x → links x S l ≡ chain S l
 unfolding chain
 links-chain S sound x l q e t less = links-enough S sound x (l + 1) l q e t less (omega arith)
 

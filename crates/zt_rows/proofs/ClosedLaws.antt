@@ -17,7 +17,7 @@ use Rattle.zt_rows.specs.End.{chain, is_under, IsClosed, critical_of, criticals,
 use Rattle.zt_rows.specs.Consistent.{IsSound}
 use Rattle.zt_rows.proofs.RowLaws.{In, or_left, or_right, and_left, and_right, and_both, true≢false, not_true, in-filter_map, filter_map-in, row-in, in-row}
 use Rattle.zt_rows.proofs.ReadLaws.{some_one, object-row}
-use Rattle.zt_rows.proofs.SoundLaws.{is_task, process-not-job}
+use Rattle.zt_rows.proofs.SoundLaws.{is_running_task, process-not-job}
 use Rattle.zt_rows.proofs.AboveLaws.{above-live, above-order, under-cases, under-itself, under-above, under-under}
 
 -- ---- the smallest number
@@ -220,7 +220,7 @@ module _ (S : State) (sound : IsSound S) where
 
   -- ---- what ends with a process or job
 
-  module _ (x : ℕ) (o : ObjectRow) (here : object S x ≡ Some o) (task : is_task o ≡ true) where
+  module _ (x : ℕ) (o : ObjectRow) (here : object S x ≡ Some o) (task : is_running_task o ≡ true) where
     -- it is a live job, or a live process
     by_kind : (P : ℕ → Type 0) → (is_live_job o ≡ true → P x) → (is_live_process o ≡ true → P o.critical) → P (job_ending S x)
     by_kind P job process = subst P (sym (ap (job_or_critical x) here)) (elim (is_job o.kind) as (λ b. is_job o.kind ≡ b → P (if b then x else o.critical)) [
@@ -291,8 +291,8 @@ module _ (S : State) (sound : IsSound S) where
     ] refl
 
     -- all that ends with it is live
-    pub ends-live : (y : ℕ) → ends_with S x y ≡ true → (q : ObjectRow) × (object S y ≡ Some q) × (is_task q ≡ true)
-    ends-live y = elim (job_ending S x == 0) as (λ b. (job_ending S x == 0) ≡ b → (if b then y == x else is_under S (top S (job_ending S x)) y) ≡ true → (q : ObjectRow) × (object S y ≡ Some q) × (is_task q ≡ true)) [
+    pub ends-live : (y : ℕ) → ends_with S x y ≡ true → (q : ObjectRow) × (object S y ≡ Some q) × (is_running_task q ≡ true)
+    ends-live y = elim (job_ending S x == 0) as (λ b. (job_ending S x == 0) ≡ b → (if b then y == x else is_under S (top S (job_ending S x)) y) ≡ true → (q : ObjectRow) × (object S y ≡ Some q) × (is_running_task q ≡ true)) [
       | true ↦ λ t g. (o, ap (object S) (eqb-true y x g) ∙ here, task)
       | false ↦ λ f g.
           let t : IsTop (job_ending S x) (top S (job_ending S x)) = found-top f in

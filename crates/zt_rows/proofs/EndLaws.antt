@@ -30,7 +30,7 @@ use Rattle.zt_rows.specs.Consistent.{IsPeer, IsChild, has_parent, may_be, SoundO
 use Rattle.zt_rows.proofs.StateLaws.{row-change}
 use Rattle.zt_rows.proofs.RowLaws.{or_left, or_right, true≢false, not_true, count_row-change}
 use Rattle.zt_rows.proofs.ReadLaws.{some_one, only_if, none_either, if_none}
-use Rattle.zt_rows.proofs.SoundLaws.{is_task, task-not-endpoint, process-not-job, has_parent-task, has_live_process-some, some-has_live_process, all_map, SameLinks, same_chain, same_depth, same_critical, sound-above, changed-suits}
+use Rattle.zt_rows.proofs.SoundLaws.{is_running_task, task-not-endpoint, process-not-job, has_parent-task, has_live_process-some, some-has_live_process, all_map, SameLinks, same_chain, same_depth, same_critical, sound-above, changed-suits}
 use Rattle.zt_rows.proofs.GivenLaws.{growth, OfKind, as_it_was, Spends}
 
 module _ (ending : ℕ → Bool) (how : Life) where
@@ -41,7 +41,7 @@ module _ (ending : ℕ → Bool) (how : Life) where
   ended x o = record o { link = if ending x then 0 else o.link; life = if ending x then how else o.life; critical = if ending x then 0 else o.critical }
 
   -- what has ended is not live
-  pub not_live_after : is_live how ≡ false → (x : ℕ) (o : ObjectRow) → ending x ≡ true → is_task (ended x o) ≡ false
+  pub not_live_after : is_live how ≡ false → (x : ℕ) (o : ObjectRow) → ending x ≡ true → is_running_task (ended x o) ≡ false
   not_live_after over x o t =
       let dead : is_live (ended x o).life ≡ false = ap (λ b. is_live (if b then how else o.life)) t ∙ over in
       (λ i. (is_job o.kind && dead i) || (is_process o.kind && dead i)) ∙ neither (is_job o.kind) (is_process o.kind)
@@ -183,14 +183,14 @@ module _ (ending : ℕ → Bool) (how : Life) where
 
     -- ---- a set of tasks with all that is under them
 
-    module _ (sound : IsSound S) (tasks : (x : ℕ) (o : ObjectRow) → object S x ≡ Some o → ending x ≡ true → (is_task o ≡ true) × (may_be o.kind how ≡ true)) (down : (x : ℕ) (o : ObjectRow) → object S x ≡ Some o → has_parent x o ≡ true → ending o.link ≡ true → ending x ≡ true) (over : is_live how ≡ false) where
+    module _ (sound : IsSound S) (tasks : (x : ℕ) (o : ObjectRow) → object S x ≡ Some o → ending x ≡ true → (is_running_task o ≡ true) × (may_be o.kind how ≡ true)) (down : (x : ℕ) (o : ObjectRow) → object S x ≡ Some o → has_parent x o ≡ true → ending o.link ≡ true → ending x ≡ true) (over : is_live how ≡ false) where
       -- no end of a pair is of the set
       plain : (x : ℕ) (o : ObjectRow) → object S x ≡ Some o → is_endpoint o.kind ≡ true → ending x ≡ false
       plain x o e ends = not_true (ending x) (λ t. true≢false (is_endpoint o.kind) ends (task-not-endpoint o (tasks x o e t).0))
 
       -- what is live afterwards is outside the set
-      live-out : (x : ℕ) (o : ObjectRow) → is_task (ended x o) ≡ true → ending x ≡ false
-      live-out x o t = not_true (ending x) (λ e. true≢false (is_task (ended x o)) t (not_live_after over x o e))
+      live-out : (x : ℕ) (o : ObjectRow) → is_running_task (ended x o) ≡ true → ending x ≡ false
+      live-out x o t = not_true (ending x) (λ e. true≢false (is_running_task (ended x o)) t (not_live_after over x o e))
 
       peer-end : (x : ℕ) (o : ObjectRow) → ending x ≡ false → is_endpoint o.kind ≡ true → IsPeer S x o → IsPeer rest x o
       peer-end x o out ends p = record {
@@ -229,7 +229,7 @@ module _ (ending : ℕ → Bool) (how : Life) where
             low = s.low;
             high = subst (λ (c : Counters). x < c.next_koid) (sym counters-end) s.high;
             peers = λ ends. absurd (true≢false (ending x) t (plain x o e ends));
-            parents = λ h. absurd (true≢false (is_task (ended x o)) (has_parent-task x (ended x o) h) (not_live_after over x o t));
+            parents = λ h. absurd (true≢false (is_running_task (ended x o)) (has_parent-task x (ended x o) h) (not_live_after over x o t));
             alone = λ a b. ap (λ b. if b then 0 else o.link) t;
             lives = ap (λ b. may_be o.kind (if b then how else o.life)) t ∙ (tasks x o e t).1;
             signals = s.signals;
@@ -292,13 +292,13 @@ module _ (ending : ℕ → Bool) (how : Life) where
       links-end : SameLinks rest S
       links-end x o e t =
           let w = ended-was x o e in
-          let out : ending x ≡ false = live-out x w.0 (ap is_task (sym w.2) ∙ t) in
+          let out : ending x ≡ false = live-out x w.0 (ap is_running_task (sym w.2) ∙ t) in
           ap object_link w.1 ∙ sym (ap (λ (q : ObjectRow). q.link) (w.2 ∙ outside-is x w.0 out))
 
       depths-end : (x : ℕ) (o : ObjectRow) → object rest x ≡ Some o → is_live_job o ≡ true → depth rest x ≤ most_depth
       depths-end x o e job =
           let w = ended-was x o e in
-          let out : ending x ≡ false = live-out x w.0 (ap is_task (sym w.2) ∙ or_left _ _ job) in
+          let out : ending x ≡ false = live-out x w.0 (ap is_running_task (sym w.2) ∙ or_left _ _ job) in
           let is : o ≡ w.0 = w.2 ∙ outside-is x w.0 out in
           let same : depth rest x ≡ depth S x = same_depth rest S (sound-above rest objects-end) links-end x o e (or_left _ _ job) in
           subst (λ d. d ≤ most_depth) (sym same) (sound.depths x w.0 w.1 (ap is_live_job (sym is) ∙ job))
@@ -340,7 +340,7 @@ sound-end_process S sound p live how over =
     sound-end (λ x. x == p) how S sound
     (λ x o e t.
     let same : o ≡ w.0 = here x o e t in
-    (ap is_task same ∙ or_right (is_live_job w.0) _ w.2, ap (λ (z : ObjectRow). may_be z.kind how) same ∙ any_end w.0.kind (is_live w.0.life) w.2))
+    (ap is_running_task same ∙ or_right (is_live_job w.0) _ w.2, ap (λ (z : ObjectRow). may_be z.kind how) same ∙ any_end w.0.kind (is_live w.0.life) w.2))
     (λ x o e h t.
     let c : IsChild S x o = (sound.of_objects x o e).parents h in
     absurd (process-not-job c.parent (ap is_live_process (here o.link c.parent c.there t) ∙ w.2) c.live))

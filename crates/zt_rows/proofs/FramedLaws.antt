@@ -28,7 +28,7 @@ use Rattle.zt_rows.specs.Consistent.{IsPeer, IsChild, has_parent, may_be, possib
 use Rattle.zt_rows.proofs.RowLaws.{same_test, or_right, any_row-at, at-any_row}
 use Rattle.zt_rows.proofs.ReadLaws.{some_one, object-row, message-row}
 use Rattle.zt_rows.proofs.SupportLaws.{KeptBy, by_entry, by_message, by_child, by_itself, supported-kept, kept-supported}
-use Rattle.zt_rows.proofs.SoundLaws.{is_task, all_map, SameLinks, same_chain, same_depth, same_critical, sound-above}
+use Rattle.zt_rows.proofs.SoundLaws.{is_running_task, all_map, SameLinks, same_chain, same_depth, same_critical, sound-above}
 
 -- an object but for its signals and its next number
 abbrev pub shaped : ObjectRow → ObjectRow
@@ -94,7 +94,7 @@ kept-shaped S T same entries messages x (by_message e n m held h l g) = by_messa
 kept-shaped S T same entries messages x (by_child o y c h live d task g) =
     let a = shaped-there S T same x o h in
     let b = shaped-there S T same y c d in
-    by_child a.0 y b.0 a.1 (ap is_live_job a.2 ∙ live) b.1 (ap is_task b.2 ∙ task) (ap (λ (q : ObjectRow). q.link) b.2 ∙ g)
+    by_child a.0 y b.0 a.1 (ap is_live_job a.2 ∙ live) b.1 (ap is_running_task b.2 ∙ task) (ap (λ (q : ObjectRow). q.link) b.2 ∙ g)
 kept-shaped S T same entries messages x (by_itself o h t) =
     let a = shaped-there S T same x o h in
     by_itself a.0 a.1 (ap (λ (q : ObjectRow). is_live_process q || (x == root_job)) a.2 ∙ t)
@@ -251,7 +251,7 @@ module _ (S T : State) (sound : IsSound S) (f : Framed S T) where
       let same : depth T x ≡ depth S x = same_depth T S (sound-above T objects-framed) links-framed x o h (live_task o live) in
       subst (λ d. d ≤ most_depth) (sym same) (sound.depths x w.0 w.1 (ap is_live_job w.2 ∙ live))
     where
-      live_task : (o : ObjectRow) → is_live_job o ≡ true → is_task o ≡ true
+      live_task : (o : ObjectRow) → is_live_job o ≡ true → is_running_task o ≡ true
       live_task o e = ap (λ b. b || is_live_process o) e
 
   criticals-framed : (x : ℕ) (o : ObjectRow) → object T x ≡ Some o → SoundCritical T x o

@@ -29,7 +29,7 @@ use Rattle.zt_rows.specs.Consistent.{IsPeer, IsChild, has_parent, may_be, possib
 use Rattle.zt_rows.proofs.StateLaws.{row-put}
 use Rattle.zt_rows.proofs.RowLaws.{and_left, and_right, or_right, count_row-put-out}
 use Rattle.zt_rows.proofs.ReadLaws.{some_one, exists-some, some-exists, kind_at-some, chosen, object-put, typed-put}
-use Rattle.zt_rows.proofs.SoundLaws.{is_task, all_map, SameLinks, same_chain, same_depth, same_critical, sound-above, has_live_process-some, some-has_live_process}
+use Rattle.zt_rows.proofs.SoundLaws.{is_running_task, all_map, SameLinks, same_chain, same_depth, same_critical, sound-above, has_live_process-some, some-has_live_process}
 use Rattle.zt_rows.proofs.FramedLaws.{shaped}
 
 -- an object but for its signals, its next number and what it is critical to
@@ -189,7 +189,7 @@ sound-grown S T sound g =
       criticals = λ x o h. elim (g.new_criticals x o h) [ inl w ↦ criticals-kept x o h w.0 w.1 w.2 | inr s ↦ s ];
     }
   where
-    live_task : (o : ObjectRow) → is_live_job o ≡ true → is_task o ≡ true
+    live_task : (o : ObjectRow) → is_live_job o ≡ true → is_running_task o ≡ true
     live_task o e = ap (λ b. b || is_live_process o) e
 
     depths-kept : (x : ℕ) (q : ObjectRow) → object T x ≡ Some q → is_live_job q ≡ true → exists S x ≡ true → depth T x ≤ most_depth

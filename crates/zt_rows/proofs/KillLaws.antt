@@ -12,7 +12,7 @@ use Rattle.zt_rows.specs.End.{ends_with, end}
 use Rattle.zt_rows.specs.Consistent.{has_parent, may_be, IsSound}
 use Rattle.zt_rows.proofs.RowLaws.{or_right, and_left, and_right, and_both, true≢false, not_true}
 use Rattle.zt_rows.proofs.ReadLaws.{some_one}
-use Rattle.zt_rows.proofs.SoundLaws.{is_task, has_parent-task, some-has_live_process}
+use Rattle.zt_rows.proofs.SoundLaws.{is_running_task, has_parent-task, some-has_live_process}
 use Rattle.zt_rows.proofs.EndLaws.{not_live_after, ended-was, outside-is, sound-end, sound-end_process}
 use Rattle.zt_rows.proofs.AboveLaws.{parent-above, under-above}
 use Rattle.zt_rows.proofs.ClosedLaws.{ends-closed, ends-live}
@@ -29,12 +29,12 @@ is_not : (b : Bool) → not b ≡ true → b ≡ false
 is_not true e = cc
 is_not false e = refl
 
-module _ (S : State) (sound : IsSound S) (x : ℕ) (o : ObjectRow) (here : object S x ≡ Some o) (task : is_task o ≡ true) where
+module _ (S : State) (sound : IsSound S) (x : ℕ) (o : ObjectRow) (here : object S x ≡ Some o) (task : is_running_task o ≡ true) where
   -- what ends is a live process or job, and may be killed
-  ends-killed : (y : ℕ) (q : ObjectRow) → object S y ≡ Some q → ends_with S x y ≡ true → (is_task q ≡ true) × (may_be q.kind life.Killed ≡ true)
+  ends-killed : (y : ℕ) (q : ObjectRow) → object S y ≡ Some q → ends_with S x y ≡ true → (is_running_task q ≡ true) × (may_be q.kind life.Killed ≡ true)
   ends-killed y q e g =
       let w = ends-live S sound x o here task y g in
-      let live : is_task q ≡ true = ap is_task (some_one q w.0 (sym e ∙ w.1)) ∙ w.2 in
+      let live : is_running_task q ≡ true = ap is_running_task (some_one q w.0 (sym e ∙ w.1)) ∙ w.2 in
       (live, may_be_killed q.kind (is_live q.life) live)
 
   -- with a parent its children end
@@ -46,7 +46,7 @@ module _ (S : State) (sound : IsSound S) (x : ℕ) (o : ObjectRow) (here : objec
   sound-kill = sound-end (ends_with S x) life.Killed S sound ends-killed ends-down refl
 
 module _ (S : State) (sound : IsSound S) (p : ℕ) (me : ObjectRow) (here : object S p ≡ Some me) (live : is_live_process me ≡ true) (code : ℤ) where
-  task : is_task me ≡ true
+  task : is_running_task me ≡ true
   task = or_right (is_live_job me) _ live
 
   abbrev left : State
@@ -61,10 +61,10 @@ module _ (S : State) (sound : IsSound S) (p : ℕ) (me : ObjectRow) (here : obje
       w.1 ∙ ap Some (sym (w.2 ∙ outside-is (λ x. x == p) (life.Exited code) S y w.0 out))
 
   -- a live process or job that is left is another
-  other : (y : ℕ) (q : ObjectRow) → object left y ≡ Some q → is_task q ≡ true → (y == p) ≡ false
+  other : (y : ℕ) (q : ObjectRow) → object left y ≡ Some q → is_running_task q ≡ true → (y == p) ≡ false
   other y q e t = not_true (y == p) (λ same.
       let w = ended-was (λ x. x == p) (life.Exited code) S y q e in
-      true≢false (is_task q) t (ap is_task w.2 ∙ not_live_after (λ x. x == p) (life.Exited code) refl y w.0 same))
+      true≢false (is_running_task q) t (ap is_running_task w.2 ∙ not_live_after (λ x. x == p) (life.Exited code) refl y w.0 same))
 
   -- the process may exit, and what else ends with it be killed
   pub sound-exit : IsSound (end (end S (λ x. x == p) (life.Exited code)) (λ x. ends_with S p x && not (x == p)) life.Killed)

@@ -28,7 +28,7 @@ use Rattle.zt_rows.specs.Consistent.{possible_signals, SoundCritical, SoundMessa
 use Rattle.zt_rows.proofs.StateLaws.{row-put, same_state}
 use Rattle.zt_rows.proofs.RowLaws.{true≢false, and_left, and_right, count_row-put-out, count_row-take}
 use Rattle.zt_rows.proofs.ReadLaws.{some_one, exists-some, chosen, object-put, typed-put}
-use Rattle.zt_rows.proofs.SoundLaws.{is_task, same_chain, sound-above}
+use Rattle.zt_rows.proofs.SoundLaws.{is_running_task, same_chain, sound-above}
 use Rattle.zt_rows.proofs.GrownLaws.{Kept, KeepsObjects, kept_itself, CriticalAsIn, Grown, links-kept, object-kept, message-kept, packet-kept, sound-grown, HasObject, keeps-with, new-with, has-object}
 
 -- ---- two puts
@@ -77,7 +77,7 @@ module _ (S : State) (sound : IsSound S) (x : ℕ) (o : ObjectRow) (here : objec
   koids-shaped = ap (λ (c : Counters). c.next_koid) counters-shaped
 
   -- the jobs above it are as before
-  pub chain-shaped : is_task o ≡ true → chain (put S (key.Object x) (Some (rows.Object q))) x ≡ chain S x
+  pub chain-shaped : is_running_task o ≡ true → chain (put S (key.Object x) (Some (rows.Object q))) x ≡ chain S x
   chain-shaped task = sym (same_chain S shaped_anew (sound-above S sound.of_objects) (links-kept S shaped_anew keeps-shaped) x o here task)
 
   -- it is critical to what it was critical to, or soundly

@@ -31,15 +31,15 @@ use Rattle.zt_rows.proofs.SupportLaws.{KeptBy, by_entry, by_message, by_child, b
 -- ---- kinds and lives
 
 -- a live job or process
-abbrev pub is_task : ObjectRow → Bool
-is_task o = is_live_job o || is_live_process o
+abbrev pub is_running_task : ObjectRow → Bool
+is_running_task o = is_live_job o || is_live_process o
 
 task-not-endpoint_of : (k : Kind) (how : Bool) → ((is_job k && how) || (is_process k && how)) ≡ true → is_endpoint k ≡ false
 task-not-endpoint_of kind.Channel how e = cc
 task-not-endpoint_of kind.EventPair how e = cc
 task-not-endpoint_of _ how e = refl
 
-pub task-not-endpoint : (o : ObjectRow) → is_task o ≡ true → is_endpoint o.kind ≡ false
+pub task-not-endpoint : (o : ObjectRow) → is_running_task o ≡ true → is_endpoint o.kind ≡ false
 task-not-endpoint o e = task-not-endpoint_of o.kind (is_live o.life) e
 
 one_kind : (k : Kind) (lives : Bool) → (is_process k && lives) ≡ true → (is_job k && lives) ≡ true → ⊥
@@ -54,7 +54,7 @@ one_kind kind.Port lives e f = cc
 pub process-not-job : (o : ObjectRow) → is_live_process o ≡ true → is_live_job o ≡ true → ⊥
 process-not-job o e f = one_kind o.kind (is_live o.life) e f
 
-pub has_parent-task : (x : ℕ) (o : ObjectRow) → has_parent x o ≡ true → is_task o ≡ true
+pub has_parent-task : (x : ℕ) (o : ObjectRow) → has_parent x o ≡ true → is_running_task o ≡ true
 has_parent-task x o e = elim (or_true (is_live_process o) _ e) [
   | inl p ↦ or_right (is_live_job o) _ p
   | inr j ↦ or_left (is_live_job o) _ (and_left (is_live_job o) _ j)
@@ -89,13 +89,13 @@ upward-same (suc y) f g (inl e) = absurd (omega arith)
 upward-same (suc y) f g (inr e) = ap (λ z. (suc y) ∷ z) e
 
 abbrev pub HasTaskAbove : State → Type 0
-HasTaskAbove A = (x : ℕ) (o : ObjectRow) → object A x ≡ Some o → is_task o ≡ true → (o.link ≡ 0) ⊎ ((q : ObjectRow) × (object A o.link ≡ Some q) × (is_task q ≡ true))
+HasTaskAbove A = (x : ℕ) (o : ObjectRow) → object A x ≡ Some o → is_running_task o ≡ true → (o.link ≡ 0) ⊎ ((q : ObjectRow) × (object A o.link ≡ Some q) × (is_running_task q ≡ true))
 
 -- live jobs and processes of A have the same link in B
 abbrev pub SameLinks : State → State → Type 0
-SameLinks A B = (x : ℕ) (o : ObjectRow) → object A x ≡ Some o → is_task o ≡ true → link_at B x ≡ o.link
+SameLinks A B = (x : ℕ) (o : ObjectRow) → object A x ≡ Some o → is_running_task o ≡ true → link_at B x ≡ o.link
 
-pub same_links : (A B : State) → HasTaskAbove A → SameLinks A B → (n x : ℕ) (o : ObjectRow) → object A x ≡ Some o → is_task o ≡ true → links n A x ≡ links n B x
+pub same_links : (A B : State) → HasTaskAbove A → SameLinks A B → (n x : ℕ) (o : ObjectRow) → object A x ≡ Some o → is_running_task o ≡ true → links n A x ≡ links n B x
 unfolding links
 same_links A B above same zero x o e t = refl
 same_links A B above same (suc n) x o e t =
@@ -104,11 +104,11 @@ same_links A B above same (suc n) x o e t =
     let next : (o.link ≡ 0) ⊎ (links n A o.link ≡ links n B o.link) = elim (above x o e t) [ inl z ↦ inl z | inr q ↦ inr (same_links A B above same n o.link q.0 q.1 q.2) ] in
     ap (λ l. upward l (λ y. links n A y)) here ∙ upward-same o.link (λ y. links n A y) (λ y. links n B y) next ∙ ap (λ l. upward l (λ y. links n B y)) (sym there)
 
-pub same_chain : (A B : State) → HasTaskAbove A → SameLinks A B → (x : ℕ) (o : ObjectRow) → object A x ≡ Some o → is_task o ≡ true → chain A x ≡ chain B x
+pub same_chain : (A B : State) → HasTaskAbove A → SameLinks A B → (x : ℕ) (o : ObjectRow) → object A x ≡ Some o → is_running_task o ≡ true → chain A x ≡ chain B x
 unfolding chain
 same_chain A B above same x o e t = same_links A B above same (x + 1) x o e t
 
-pub same_depth : (A B : State) → HasTaskAbove A → SameLinks A B → (x : ℕ) (o : ObjectRow) → object A x ≡ Some o → is_task o ≡ true → depth A x ≡ depth B x
+pub same_depth : (A B : State) → HasTaskAbove A → SameLinks A B → (x : ℕ) (o : ObjectRow) → object A x ≡ Some o → is_running_task o ≡ true → depth A x ≡ depth B x
 same_depth A B above same x o e t = ap (λ l. length l) (same_chain A B above same x o e t)
 
 -- what is soundly critical stays so where the same jobs are above it
@@ -121,7 +121,7 @@ same_critical A B x q o to lives above s = elim s [
 pub sound-above : (A : State) → ((x : ℕ) (o : ObjectRow) → object A x ≡ Some o → SoundObject A x o) → HasTaskAbove A
 sound-above A sound x o e t =
     let s : SoundObject A x o = sound x o e in
-    elim (has_parent x o) as (λ b. has_parent x o ≡ b → (o.link ≡ 0) ⊎ ((q : ObjectRow) × (object A o.link ≡ Some q) × (is_task q ≡ true))) [
+    elim (has_parent x o) as (λ b. has_parent x o ≡ b → (o.link ≡ 0) ⊎ ((q : ObjectRow) × (object A o.link ≡ Some q) × (is_running_task q ≡ true))) [
       | true ↦ λ h. let c : IsChild A x o = s.parents h in inr (c.parent, c.there, or_left _ _ c.live)
       | false ↦ λ h. inl (s.alone (task-not-endpoint o t) h)
     ] refl
@@ -292,7 +292,7 @@ module _ (S : State) (sound : IsSound S) (going : ℕ → Bool) (free : (x : ℕ
   left-links : SameLinks rest S
   left-links x o e t =
       let w = stayed going S x o e in
-      let task : is_task w.0 ≡ true = ap is_task (sym w.2) ∙ t in
+      let task : is_running_task w.0 ≡ true = ap is_running_task (sym w.2) ∙ t in
       ap object_link w.1 ∙ sym (link-kept going w.0 (and_no_left _ (going w.0.link) (task-not-endpoint w.0 task))) ∙ ap (λ (q : ObjectRow). q.link) (sym w.2)
 
   left-depths : (x : ℕ) (o : ObjectRow) → object rest x ≡ Some o → is_live_job o ≡ true → depth rest x ≤ 32

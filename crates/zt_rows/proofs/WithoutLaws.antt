@@ -18,7 +18,7 @@ use Rattle.zt_rows.proofs.StateLaws.{same_state}
 use Rattle.zt_rows.proofs.RowLaws.{or_true, true≢false, not_true, same_test}
 use Rattle.zt_rows.proofs.ReadLaws.{exists-some, some-exists, row-without, message-without, entry-without, stayed, stays, message-stayed}
 use Rattle.zt_rows.proofs.SupportLaws.{KeptBy, by_entry, by_message, by_child, by_itself, supported-kept, kept-supported}
-use Rattle.zt_rows.proofs.SoundLaws.{is_task, task-not-endpoint, and_no_left, link-kept}
+use Rattle.zt_rows.proofs.SoundLaws.{is_running_task, task-not-endpoint, and_no_left, link-kept}
 use Rattle.zt_rows.proofs.CollectLaws.{goes-there, goes-free, stays-supported, without-none, collect-supported}
 
 -- what is in one of two sets
@@ -81,7 +81,7 @@ kept-more S b c h x (by_child o y d f live there task g) =
     let p = stayed c S x o f in
     let q = stayed c S y d there in
     let job : is_live_job p.0 ≡ true = ap is_live_job (sym p.2) ∙ live in
-    let runs : is_task q.0 ≡ true = ap is_task (sym q.2) ∙ task in
+    let runs : is_running_task q.0 ≡ true = ap is_running_task (sym q.2) ∙ task in
     let plain : is_endpoint q.0.kind ≡ false = task-not-endpoint q.0 runs in
     let old : q.0.link ≡ x = sym (link-kept c q.0 (and_no_left (is_endpoint q.0.kind) (c q.0.link) plain)) ∙ ap (λ (z : ObjectRow). z.link) (sym q.2) ∙ g in
     by_child (unlinked b p.0) y (unlinked b q.0) (stays b S x p.0 p.1 (outside b c h x p.3)) job (stays b S y q.0 q.1 (outside b c h y q.3)) runs (link-kept b q.0 (and_no_left (is_endpoint q.0.kind) (b q.0.link) plain) ∙ old)
