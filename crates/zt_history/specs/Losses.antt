@@ -1,4 +1,4 @@
--- What an object loses by a call while it stays. A test says by which rows it had that: a name of the object (LetGo), or a live
+-- What an object loses by a call while it stays. A test says by which rows it had that: a name of the object (Released), or a live
 -- child of it (LostChild). This project's own.
 use Rattle.std.specs.Prelude.{ℕ, Bool, not, ◌&&◌, List, Option, Some}
 use Rattle.std.specs.List.{list_any}

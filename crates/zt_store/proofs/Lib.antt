@@ -15,7 +15,7 @@ pub mod Endings
 pub mod HeldLaws
 pub mod TakenRows
 pub mod ArrangedRows
-pub mod FirstRowLaws
+pub mod BeforeImageLaws
 pub mod StoreLaws
 pub mod AheadLaws
 pub mod AlikeLaws

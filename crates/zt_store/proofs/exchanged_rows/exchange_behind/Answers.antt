@@ -2,7 +2,7 @@ use Rattle.std.proofs.Common.{◌∷◌, ◌++◌, [], length, ap, ◌∙◌, ar
 use Rattle.zt_rows.specs.State.{row}
 use Rattle.zt_store.specs.ProofsOnly.KeptRows.{rows_of}
 use Rattle.zt_store.proofs.SlotLaws.{rows_of-last}
-use Rattle.zt_store.proofs.FirstRowLaws.{length-firsts}
+use Rattle.zt_store.proofs.BeforeImageLaws.{length-firsts}
 use Rattle.zt_store.proofs.exchanged_rows.exchange_behind.Goals as goal
 
 pub push_reserved-requires : goal.push_reserved-requires

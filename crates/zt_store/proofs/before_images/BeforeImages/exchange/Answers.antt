@@ -2,7 +2,7 @@ use Rattle.std.proofs.Common.{◌<◌, length, set, ap, ◌∙◌, arith}
 use Rattle.std.specs.List.{zip}
 use Rattle.std.proofs.lemmas.List.{get_or_default}
 use Rattle.zt_store.specs.ProofsOnly.ChangedRows.{first_at, no_first}
-use Rattle.zt_store.proofs.FirstRowLaws.{first-pair, firsts-set, length-firsts}
+use Rattle.zt_store.proofs.BeforeImageLaws.{first-pair, firsts-set, length-firsts}
 use Rattle.zt_store.proofs.before_images.BeforeImages.exchange.Goals as goal
 
 pub index_mut-requires : goal.index_mut-requires

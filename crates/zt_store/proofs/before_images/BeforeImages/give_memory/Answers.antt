@@ -1,7 +1,7 @@
 use Rattle.std.proofs.Common.{length, map, sym, ap, subst, ◌∙◌}
 use Rattle.zt_store.specs.ProofsOnly.ChangedRows.{IsOrder, key_at, picked, row_at}
 use Rattle.zt_store.specs.ProofsOnly.KeptRows.{AreOf}
-use Rattle.zt_store.proofs.FirstRowLaws.{arranged-are, front-written, length-firsts}
+use Rattle.zt_store.proofs.BeforeImageLaws.{arranged-are, front-written, length-firsts}
 use Rattle.zt_store.proofs.before_images.BeforeImages.give_memory.Goals as goal
 
 pub arrange-requires-clause-order : goal.arrange-requires-clause-order

@@ -1,5 +1,5 @@
 use Rattle.std.proofs.Common.{length, ap, arith}
-use Rattle.zt_store.proofs.FirstRowLaws.{length-firsts}
+use Rattle.zt_store.proofs.BeforeImageLaws.{length-firsts}
 use Rattle.zt_store.proofs.before_images.BeforeImages.len.Goals as goal
 
 pub returns-clause-count : goal.returns-clause-count

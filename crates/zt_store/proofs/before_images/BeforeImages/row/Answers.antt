@@ -1,7 +1,7 @@
 use Rattle.std.proofs.Common.{◌<◌, length, sym, ap, ◌∙◌, arith}
 use Rattle.std.proofs.lemmas.List.{get_or_default}
 use Rattle.zt_store.specs.ProofsOnly.ChangedRows.{first_at, no_first}
-use Rattle.zt_store.proofs.FirstRowLaws.{first-row, length-firsts}
+use Rattle.zt_store.proofs.BeforeImageLaws.{first-row, length-firsts}
 use Rattle.zt_store.proofs.before_images.BeforeImages.row.Goals as goal
 
 pub index-requires : goal.index-requires

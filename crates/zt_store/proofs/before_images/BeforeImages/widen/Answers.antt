@@ -1,5 +1,5 @@
 use Rattle.std.proofs.Common.{length, ap, sym, ◌∙◌, arith}
-use Rattle.zt_store.proofs.FirstRowLaws.{length-firsts}
+use Rattle.zt_store.proofs.BeforeImageLaws.{length-firsts}
 use Rattle.zt_store.proofs.before_images.BeforeImages.widen.Goals as goal
 
 pub returns-clause-ok : goal.returns-clause-ok
