@@ -3,9 +3,9 @@ use Rattle.zt_rows.specs.State.{row}
 use Rattle.zt_store.proofs.ColumnLaws.{first-found}
 use Rattle.zt_store.proofs.key_columns.first_in.Goals as goal
 
-pub returns-then-stands : goal.returns-then-stands
-returns-then-stands c =
+pub returns-then-has_row : goal.returns-then-has_row
+returns-then-has_row c =
     ap Some c.key-key.ensures
     ∙ first-found c.args.cells.now.state c.args.column.now c.args.from c.loop-number.number c.loop-number.auto.number
-    (ap (λ k. is_some (row c.args.cells.now.state k)) (sym c.key-key.ensures) ∙ sym c.stands.ensures ∙ c.if-stands.true)
+    (ap (λ k. is_some (row c.args.cells.now.state k)) (sym c.key-key.ensures) ∙ sym c.has_row.ensures ∙ c.if-has_row.true)
     c.loop-number.invariant
