@@ -27,20 +27,20 @@ const CALLS = {
   channel_create: {asks: '', answers: 'handle handle'},
   port_create: {asks: '', answers: 'handle'},
   handle_close: {asks: 'handle', hint: '<handle>'},
-  handle_duplicate: {asks: 'handle rights', answers: 'handle', hint: '<handle> <rights>, as 7 0x80000000'},
-  handle_replace: {asks: 'handle rights', answers: 'handle', hint: '<handle> <rights>, as 7 0x80000000'},
-  object_signal: {asks: 'handle signals signals', hint: '<handle> <clear> <set>, as 7 0x00000000 0x00000008'},
-  object_signal_peer: {asks: 'handle signals signals', hint: '<handle> <clear> <set>, as 7 0x00000000 0x00000008'},
+  handle_duplicate: {asks: 'handle rights', answers: 'handle', hint: '<handle> <rights>, e.g. 7 0x80000000'},
+  handle_replace: {asks: 'handle rights', answers: 'handle', hint: '<handle> <rights>, e.g. 7 0x80000000'},
+  object_signal: {asks: 'handle signals signals', hint: '<handle> <clear> <set>, masks like 0x00000008'},
+  object_signal_peer: {asks: 'handle signals signals', hint: '<handle> <clear> <set>, masks like 0x00000008'},
   object_wait_async: {asks: 'handle handle key signals word', hint: '<handle> <port> <key> <signals> [edge]'},
-  channel_write: {asks: 'handle bytes handles', hint: '<handle> <bytes> <handles>, as 7 6869 11,15 (- for none)'},
+  channel_write: {asks: 'handle bytes handles', hint: '<handle> <bytes|-> <handles|->, e.g. 7 6869 11,15'},
   channel_read: {
-    asks: 'handle amount amount word', answers: 'bytes handles', hint: '<handle> <bytes> <handles> [discard], as 7 64 4',
+    asks: 'handle amount amount word', answers: 'bytes handles', hint: '<handle> <max bytes> <max handles> [discard]',
   },
-  port_queue: {asks: 'handle key bytes', hint: '<port> <key> <packet of 64 digits>'},
+  port_queue: {asks: 'handle key bytes', hint: '<port> <key> <packet, 64 hex digits>'},
   port_wait: {asks: 'handle', hint: '<port>'},
   port_cancel: {asks: 'handle handle key', hint: '<port> <source> <key>'},
   job_create: {asks: 'handle', answers: 'handle', hint: '<job>'},
-  spawn: {asks: 'handle handle', answers: 'handle koid', hint: '<job> <handle to give, or 0>'},
+  spawn: {asks: 'handle handle', answers: 'handle koid', hint: '<job> <handle to transfer, or 0>'},
   job_set_critical: {asks: 'handle handle', hint: '<job> <process>'},
   task_kill: {asks: 'handle', hint: '<job or process>'},
   process_exit: {asks: 'code', hint: '<code>'},
@@ -108,7 +108,7 @@ function bitsOf(mask) {
   const value = Number(mask);
   const bits = [];
   for (let bit = 0; bit < 32; bit += 1) if ((value >>> bit) & 1) bits.push(bit);
-  return bits.length ? `${mask}: bit${bits.length > 1 ? 's' : ''} ${bits.join(', ')}` : `${mask}: no bit`;
+  return bits.length ? `${mask}: bit${bits.length > 1 ? 's' : ''} ${bits.join(', ')}` : `${mask}: no bits`;
 }
 
 /** Bytes as text, where all of them are visible characters. */
@@ -189,7 +189,7 @@ function beginAnew() {
 function tellBegunAnew() {
   if (!sessionStorage.getItem(BEGUN_ANEW)) return;
   sessionStorage.removeItem(BEGUN_ANEW);
-  showTrouble(new Trouble('zxtt-view was started again. This is the history that it shows now.', false));
+  showTrouble(new Trouble('zxtt-view was restarted. This page now shows its new history.', false));
 }
 
 /** What the server answers to a path; to a body that is posted, where there is one. */
@@ -200,11 +200,11 @@ async function ask(path, body) {
     response = await fetch(path, body === undefined ? {cache: 'no-store'} : {method: 'POST', body});
     text = await response.text();
   } catch (fault) {
-    throw new Trouble('The server does not answer. What is shown stays as it is.', true);
+    throw new Trouble('The server does not answer. This page shows what it loaded last.', true);
   }
   if (!isShownStart(response)) return beginAnew();
   if (isToldGone) hideTrouble();
-  if (!response.ok) throw new Trouble(text.trim() || `The server answered with the status ${response.status}.`, false);
+  if (!response.ok) throw new Trouble(text.trim() || `The server answered with status ${response.status}.`, false);
   return text;
 }
 
@@ -235,7 +235,7 @@ function showTrouble(fault) {
     console.error(fault);
   }
   isToldGone = Boolean(fault.isGone);
-  part('trouble-text').textContent = fault instanceof Trouble ? fault.message : `The page has a fault: ${fault.message}`;
+  part('trouble-text').textContent = fault instanceof Trouble ? fault.message : `Error in the page: ${fault.message}`;
   part('trouble-again').hidden = !isToldGone;
   part('trouble').hidden = false;
 }
@@ -676,8 +676,8 @@ function readPlace() {
 
 function noMoment(moment) {
   const last = tree.parents.length - 1;
-  const words = isNumber(String(moment)) && Number(moment) < last ? `No branch leads to the moment ${moment}.`
-    : `There is no moment ${moment}; the last is ${last}.`;
+  const words = isNumber(String(moment)) && Number(moment) < last ? `Moment ${moment} is on no branch.`
+    : `There is no moment ${moment}. The last moment is ${last}.`;
   return new Trouble(words, false);
 }
 
@@ -938,7 +938,7 @@ function rowOf(moment) {
 
 function makeRow(moment) {
   const number = make('span', 'number', String(moment));
-  if (moment === 0) return make('div', 'row', number, make('span', ''), make('span', 'call dim', 'the opening'));
+  if (moment === 0) return make('div', 'row', number, make('span', ''), make('span', 'call dim', 'start'));
   const call = readCall(calls[moment]);
   const happened = marks[moment] || [];
   const process = koidLink(call.process, 'process');
@@ -979,11 +979,11 @@ function markHere() {
 
 function drawTimelineNote() {
   const count = view.path.length - 1;
-  const words = view.found ? `${counted(view.found.length, 'call')} of ${grouped(count)}` : counted(count, 'call');
+  const words = view.found ? `${grouped(view.found.length)} of ${counted(count, 'call')}` : counted(count, 'call');
   part('timeline-note').textContent = isSearching ? `${words}, searching...` : words;
   const isNone = Boolean(view.found) && !view.found.length && !isSearching;
   part('timeline-none').hidden = !isNone;
-  if (isNone) part('timeline-none').textContent = part('search').value.trim() ? 'No call is found.' : 'No call failed.';
+  if (isNone) part('timeline-none').textContent = part('search').value.trim() ? 'No call matches.' : 'No call failed.';
 }
 
 /** The parts of a list of moments between two places, each with its first and its last moment, that are asked for one by one. */
@@ -1258,7 +1258,7 @@ function knotRow(knot, width) {
   row.classList.toggle('here', knot.moment === view.wanted);
   for (const branch of knot.heads) row.append(branchButton(branch));
   if (knot.moment === view.wanted) row.append(make('span', 'dim', 'you are here'));
-  else if (knot.moment === 0) row.append(make('span', 'dim', 'the opening'));
+  else if (knot.moment === 0) row.append(make('span', 'dim', 'start'));
   else if (!knot.heads.length) row.append(make('span', 'dim', 'fork'));
   return row;
 }
@@ -1267,7 +1267,8 @@ function branchButton(branch) {
   const button = make('button', branch.name === view.branch ? 'branch on' : 'branch', branch.name);
   button.type = 'button';
   button.dataset.branch = branch.name;
-  button.title = `Follow ${branch.name}` + (branch.leaves ? `, which leaves ${branch.leaves} at ${branch.at}` : '');
+  const fork = branch.leaves ? `, which forks from ${branch.leaves} at moment ${branch.at}` : '';
+  button.title = `Go to the head of ${branch.name}${fork}`;
   return button;
 }
 
@@ -1284,7 +1285,7 @@ function keepHereInSight() {
 async function followBranch(name) {
   if (await refreshTree()) showGrowth();
   const branch = branchNamed(name);
-  if (!branch) throw new Trouble(`There is no branch ${name} any more.`, false);
+  if (!branch) throw new Trouble(`Branch ${name} no longer exists.`, false);
   stand(branch.head, name);
   keepPlace();
   search();
@@ -1308,11 +1309,11 @@ async function makeBranch() {
 }
 
 const REFUSALS = {
-  OutOfMemory: 'the server has no memory left', NoProcess: 'this process does not run at the head of the branch',
+  OutOfMemory: 'an allocation failed in the server', NoProcess: 'this process is not running at the head of the branch',
   Full: 'the history is full', NoMoment: 'there is no such moment', NoBranch: 'there is no such branch',
-  NameTaken: 'there is a branch of this name', NoObject: 'there was no such object up to this moment',
-  BadLine: 'this has not the form that is wanted', LineTooLong: 'the line is too long',
-  BadName: 'a name has 1 to 32 of a to z, 0 to 9, _ and -, and begins with a letter',
+  NameTaken: 'a branch with this name already exists', NoObject: 'this object does not exist yet at this moment',
+  BadLine: 'parse error in the arguments', LineTooLong: 'the line is too long',
+  BadName: 'a branch name has 1 to 32 characters (a to z, 0 to 9, _ and -) and begins with a letter',
 };
 
 /** A refusal with what it means. */
@@ -1337,13 +1338,13 @@ function drawCallForm() {
   }
   part('call-run').disabled = !isAtHead();
   part('call-run').title = isAtHead() ? `Make the call at the head of ${view.branch}`
-    : 'Calls are made at the head of a branch: make a branch here, or go to the head';
+    : 'You can make calls only at the head of a branch. Make a branch here, or go to the head.';
   drawHint();
 }
 
 function drawHint() {
   const call = CALLS[part('call-name').value];
-  part('call-arguments').placeholder = isAtHead() ? call.hint || 'no arguments' : 'to call from here, make a branch here';
+  part('call-arguments').placeholder = isAtHead() ? call.hint || 'no arguments' : 'to make a call here, make a branch first';
 }
 
 /** Makes the call of the form, once, however often it is pressed meanwhile. */
@@ -1361,7 +1362,7 @@ async function callAtHead() {
   const {branch, wanted} = view;
   if (await refreshTree()) showGrowth();
   if (branch !== view.branch || wanted !== view.wanted || !isAtHead()) {
-    throw new Trouble(`The head of ${branch} is elsewhere by now: go there, or make a branch here.`, false);
+    throw new Trouble(`The head of ${branch} has moved. Go to the head, or make a branch here.`, false);
   }
   const words = [part('call-process').value, part('call-name').value, part('call-arguments').value.trim()];
   const line = words.filter((word) => word).join(' ');
@@ -1399,12 +1400,12 @@ function drawChange() {
   box.dataset.moment = moment;
   part('change-note').textContent = moment ? counted(change.length, 'row') : '';
   if (moment === 0) {
-    box.replaceChildren(make('p', 'empty', 'The opening: the root job 1024 and the root process 1025. No call was made yet.'));
+    box.replaceChildren(make('p', 'empty', 'The start: root job 1024 and root process 1025. No process has made a call yet.'));
     return;
   }
-  box.replaceChildren(make('div', 'said'), change.length ? sidesOf(change) : make('p', 'empty', 'It changed no row.'));
+  box.replaceChildren(make('div', 'said'), change.length ? sidesOf(change) : make('p', 'empty', 'This call changed no rows.'));
   const left = change.length - MOST_CHANGES;
-  if (left > 0) box.append(make('p', 'empty', `and ${counted(left, 'row')} more`));
+  if (left > 0) box.append(make('p', 'empty', `and ${counted(left, 'more row')}`));
   later('said', 0, drawSaid);
 }
 
@@ -1495,7 +1496,7 @@ function fieldsOf(row) {
 }
 
 const LINK_LABELS = {job: 'parent', process: 'parent', channel: 'peer', eventpair: 'peer'};
-const NEXT_LABELS = {process: 'handles given', channel: 'messages came', port: 'packets came'};
+const NEXT_LABELS = {process: 'handles so far', channel: 'messages so far', port: 'packets so far'};
 
 function fieldsOfObject(row) {
   const fields = [['signals', 'signals', signalsOf(row.signals, row.kind)]];
@@ -1521,19 +1522,19 @@ function packetFields(row) {
   if (row.source === 'user') return [['source', '', 'user'], ['key', 'key', row.key], ['bytes', '', bytesOf(row.bytes, 24)]];
   const kind = kindNamed(row.process, row.handle);
   return [
-    ['source', '', 'signal'], ['key', 'key', row.key], ['trigger', 'waited for', signalsOf(row.trigger, kind)],
-    ['observed', 'stood', signalsOf(row.observed, kind)],
-    ['process', 'of', koidLink(row.process, 'process')],
+    ['source', '', 'signal'], ['key', 'key', row.key], ['trigger', 'trigger', signalsOf(row.trigger, kind)],
+    ['observed', 'observed', signalsOf(row.observed, kind)],
     ['handle', 'handle', handleLink(row.process, row.handle, shown.moment)],
+    ['process', 'of', koidLink(row.process, 'process')],
   ];
 }
 
 function waitFields(row) {
   return [
-    ['signals', 'for', signalsOf(row.signals, kindNamed(row.process, row.handle))],
+    ['signals', 'waits for', signalsOf(row.signals, kindNamed(row.process, row.handle))],
+    ['handle', 'on handle', handleLink(row.process, row.handle, shown.moment)],
     ['process', 'of', koidLink(row.process, 'process')],
-    ['handle', 'handle', handleLink(row.process, row.handle, shown.moment)],
-    ['port', 'to', koidLink(row.port, 'port')], ['key', 'key', row.key], ['edge', '', row.edge ? 'on an edge' : ''],
+    ['port', 'port', koidLink(row.port, 'port')], ['key', 'key', row.key], ['edge', '', row.edge ? 'edge-triggered' : ''],
   ];
 }
 
@@ -1588,8 +1589,8 @@ function drawState() {
   part('state-note').textContent = `${counted(state.objects.size, 'object')}, ${counted(state.size, 'row')}`;
   box.replaceChildren(...[
     group('tasks', 'group', ['Jobs and processes'], true, (place) => putTasks(place, kinds, changed)),
-    groupOf('channel', 'Ends of channels', kinds.channel, (pair) => pairBox(pair, changed), pairsOf),
-    groupOf('eventpair', 'Ends of event pairs', kinds.eventpair, (pair) => pairBox(pair, changed), pairsOf),
+    groupOf('channel', 'Channel endpoints', kinds.channel, (pair) => pairBox(pair, changed), pairsOf),
+    groupOf('eventpair', 'Event pair endpoints', kinds.eventpair, (pair) => pairBox(pair, changed), pairsOf),
     groupOf('event', 'Events', kinds.event, (object) => make('div', 'one', objectBox(object, changed))),
     groupOf('port', 'Ports', kinds.port, (object) => make('div', 'one', objectBox(object, changed))),
   ].filter((it) => it));
@@ -1625,7 +1626,7 @@ function putTasks(place, kinds, changed) {
   putSome(place, below.get('0') || [], (task) => taskBox(task, below, changed));
   if (below.has('ended')) {
     const ended = below.get('ended');
-    place.append(group('ended', 'task', [make('span', 'dim', `ended, and still held: ${ended.length}`)], ended.length <= FEW,
+    place.append(group('ended', 'task', [make('span', 'dim', `ended but still held: ${ended.length}`)], ended.length <= FEW,
       (inside) => putSome(inside, ended, (task) => taskBox(task, below, changed))));
   }
 }
@@ -1677,7 +1678,7 @@ function pairsOf(ends) {
 }
 
 function pairBox([end, peer], changed) {
-  if (!peer) return make('div', 'pair alone', objectBox(end, changed), make('div', 'side gone', 'peer gone'));
+  if (!peer) return make('div', 'pair alone', objectBox(end, changed), make('div', 'side gone', 'peer closed'));
   return make('div', 'pair', objectBox(end, changed), objectBox(peer, changed));
 }
 
@@ -1731,15 +1732,15 @@ function drawLeaks() {
   const leaks = [...shown.leaks.keys()].sort(byNumber);
   box.classList.toggle('some', shown.isLeaksKnown && leaks.length > 0);
   if (!shown.isLeaksKnown) {
-    if (!leaks.length) box.textContent = 'Leaked here: ...';
+    if (!leaks.length) box.textContent = 'Looking for leaks...';
     return;
   }
   box.dataset.count = leaks.length;
   if (!leaks.length) {
-    box.textContent = 'Nothing is leaked at this moment.';
+    box.textContent = 'No leaks at this moment.';
     return;
   }
-  box.replaceChildren(make('b', '', `${grouped(leaks.length)} leaked here:`),
+  box.replaceChildren(make('b', '', `${counted(leaks.length, 'leaked object')}:`),
     ...leaks.slice(0, 40).map((koid) => koidLink(koid, shown.leaks.get(koid), true)));
   if (leaks.length > 40) box.append(make('span', 'dim', ` and ${grouped(leaks.length - 40)} more`));
 }
@@ -1927,7 +1928,7 @@ function drawGraph() {
   part('graph-note').textContent = center ? `${koids.size} of ${grouped(state.objects.size)} objects, around ${center}` : '';
   const drawing = makeDrawn('svg', {
     viewBox: `0 0 ${width} ${height}`, width: width * scale, height: height * scale, role: 'group',
-    'aria-label': 'Objects and what holds them',
+    'aria-label': 'Objects and their holders',
   });
   drawing.append(arrow(), ...edges.map((edge) => drawEdge(edge, spots)));
   drawing.append(...drawLabels(edges, spots));
@@ -1985,8 +1986,9 @@ function drawEdge(edge, spots) {
     class: `edge ${edge.sort}${isLit ? ' lit' : ''}`, d: `M ${start.join(' ')} C ${bends.map((it) => it.join(' ')).join(', ')}`,
   });
   if (edge.sort === 'handle' || edge.sort === 'message') path.setAttribute('marker-end', 'url(#arrow)');
-  const words = {handle: 'has the handle', message: 'holds, in message', child: 'is the parent of', peer: 'is the peer of'};
-  path.append(makeDrawn('title', {}, `${edge.from} ${words[edge.sort]} ${edge.label ? `${edge.label}: ` : ''}${edge.to}`));
+  const words = {handle: 'holds', message: 'holds', child: 'is the parent of', peer: 'is the peer of'}[edge.sort];
+  const by = {handle: ` by handle ${edge.label}`, message: ` in message ${edge.label}`}[edge.sort] || '';
+  path.append(makeDrawn('title', {}, `${edge.from} ${words} ${edge.to}${by}`));
   return path;
 }
 
@@ -2067,7 +2069,7 @@ function fateOf(fate, x, y) {
 function graphKey() {
   const line = (sort) => makeDrawn('path', {class: `edge ${sort}`, d: 'M 0 3 H 22'});
   const sample = (sort) => makeDrawn('svg', {width: 22, height: 6}, line(sort));
-  const words = [['handle', 'handle'], ['message', 'in a message'], ['peer', 'peers'], ['child', 'parent']];
+  const words = [['handle', 'handle'], ['message', 'in a message'], ['peer', 'peer'], ['child', 'parent']];
   return make('div', 'key', ...words.map(([sort, text]) => make('span', '', sample(sort), text)));
 }
 
@@ -2084,7 +2086,7 @@ async function loadObject() {
   if (moment < 0) return;
   if (!object) {
     part('object-note').textContent = '';
-    box.replaceChildren(make('p', 'dim', 'Click a koid, a handle or a node of the graph.'));
+    box.replaceChildren(make('p', 'dim', 'Click a koid, handle or graph node to select an object.'));
     return;
   }
   if (!box.querySelector('.koid')) box.replaceChildren(make('p', 'dim', `${object} ...`));
@@ -2102,7 +2104,7 @@ async function loadObject() {
 
 function drawUnmade(object) {
   part('object-note').textContent = object;
-  part('object').replaceChildren(make('p', 'dim', `There was no object ${object} up to this moment.`));
+  part('object').replaceChildren(make('p', 'dim', `Object ${object} does not exist yet at this moment.`));
 }
 
 /** The lines of an object: its row, what holds it, its messages, packets and waits, and when each of the four happened. */
@@ -2154,7 +2156,7 @@ function listOf(title, lines, words) {
 
 function holderWords([sort, first, second, third]) {
   if (sort === 'entry') return ['handle ', handleLink(first, second, shown.moment), ' of ', objectLink(first, true)];
-  if (sort === 'message') return [`message ${second} at `, objectLink(first, true), `, place ${third}`];
+  if (sort === 'message') return [`message ${second} at `, objectLink(first, true), `, handle index ${third}`];
   if (sort === 'child') return ['child ', objectLink(first, true)];
   return ['itself'];
 }
@@ -2166,7 +2168,7 @@ function ownedWords(fields) {
 }
 
 function callsButton(koid) {
-  const button = make('button', 'more', 'Calls that changed it');
+  const button = make('button', 'more', 'Find calls that changed it');
   button.type = 'button';
   button.addEventListener('click', () => {
     part('search-kind').value = 'koid';
@@ -2258,7 +2260,7 @@ function jump() {
   field.value = '';
   if (!text) return;
   if (isNumber(text)) go(Number(text));
-  else showTrouble(new Trouble(`'${text}' is no moment: a moment is a number.`, false));
+  else showTrouble(new Trouble(`'${text}' is not a moment. Type a number.`, false));
   part('timeline').focus();
 }
 
@@ -2287,7 +2289,7 @@ function showGrowth() {
 async function endProgram() {
   if (part('end-dialog').returnValue !== 'end') return;
   await ask('/end', '');
-  showTrouble(new Trouble('The program has ended. What is shown stays until this page is closed.', false));
+  showTrouble(new Trouble('zxtt-view has ended. This page shows what it loaded last.', false));
   hasEnded = true;
   for (const button of document.querySelectorAll('header button, form button')) button.disabled = true;
 }

@@ -15,18 +15,18 @@ pub fn index() -> &'static str {
 <body>
   <header>
     <h1>zxtt<span>view</span></h1>
-    <p id="trace" title="The file of the trace"></p>
+    <p id="trace" title="Trace file"></p>
     <div class="steps" role="group" aria-label="Step through the calls">
-      <button type="button" id="step-first" title="To the opening (Home)" aria-label="To the opening">
+      <button type="button" id="step-first" title="Go to the start (Home)" aria-label="Go to the start">
         <svg viewBox="0 0 16 16" aria-hidden="true"><path d="M3 3h2v10H3zM13 3v10L6 8z"></path></svg>
       </button>
-      <button type="button" id="step-back" title="One call back (Left)" aria-label="One call back">
+      <button type="button" id="step-back" title="Step back (Left)" aria-label="Step back">
         <svg viewBox="0 0 16 16" aria-hidden="true"><path d="M11 3v10L4 8z"></path></svg>
       </button>
-      <button type="button" id="step-forth" title="One call forth (Right)" aria-label="One call forth">
+      <button type="button" id="step-forth" title="Step forward (Right)" aria-label="Step forward">
         <svg viewBox="0 0 16 16" aria-hidden="true"><path d="M5 3v10l7-5z"></path></svg>
       </button>
-      <button type="button" id="step-last" title="To the head of the branch (End)" aria-label="To the head of the branch">
+      <button type="button" id="step-last" title="Go to the head of the branch (End)" aria-label="Go to the head of the branch">
         <svg viewBox="0 0 16 16" aria-hidden="true"><path d="M3 3v10l7-5zM11 3h2v10h-2z"></path></svg>
       </button>
     </div>
@@ -36,9 +36,9 @@ pub fn index() -> &'static str {
       <input id="jump" inputmode="numeric" autocomplete="off" placeholder="moment" aria-label="Go to a moment">
     </form>
     <span class="space"></span>
-    <a class="button" id="download" href="/tree" download="tree.trace" title="The session text of all branches">Download tree</a>
-    <button type="button" id="help" title="Keys and words (?)">Help</button>
-    <button type="button" id="end" title="End the program">End</button>
+    <a class="button" id="download" href="/tree" download="tree.trace" title="Download all branches as a session file">Download tree</a>
+    <button type="button" id="help" title="Keys and terms (?)">Help</button>
+    <button type="button" id="end" title="Quit zxtt-view">Quit</button>
   </header>
 
   <div id="trouble" role="alert" hidden>
@@ -55,18 +55,18 @@ pub fn index() -> &'static str {
           <span class="note" id="timeline-note"></span>
         </div>
         <form id="search-form" role="search">
-          <select id="search-kind" aria-label="What is searched for">
+          <select id="search-kind" aria-label="Search by">
             <option value="any">anything</option>
             <option value="process">process</option>
             <option value="call">call</option>
             <option value="handle">handle</option>
             <option value="koid">koid</option>
           </select>
-          <input id="search" type="search" autocomplete="off" spellcheck="false" placeholder="Search the calls (/)"
-            aria-label="Search the calls">
+          <input id="search" type="search" autocomplete="off" spellcheck="false" placeholder="Search calls (/)"
+            aria-label="Search calls">
           <label class="check"><input type="checkbox" id="failed-only"> failed only</label>
         </form>
-        <div id="timeline" role="listbox" tabindex="0" aria-label="Calls of the branch">
+        <div id="timeline" role="listbox" tabindex="0" aria-label="Calls on the branch">
           <p id="timeline-none" class="dim" hidden></p>
           <div id="timeline-rows"></div>
         </div>
@@ -76,15 +76,15 @@ pub fn index() -> &'static str {
         <div class="head">
           <h2 id="tree-title">Branches</h2>
           <form id="branch-form">
-            <input id="branch-name" autocomplete="off" spellcheck="false" maxlength="32" placeholder="name"
+            <input id="branch-name" autocomplete="off" spellcheck="false" maxlength="32" placeholder="branch name"
               aria-label="Name of a new branch">
-            <button id="branch-make" title="A new branch with its head at this moment">Branch here</button>
+            <button id="branch-make" title="Make a branch at this moment">Branch here</button>
           </form>
         </div>
         <div id="tree"></div>
         <form id="call-form" aria-label="Make a call at the head of the branch">
           <div class="line">
-            <select id="call-process" aria-label="Process that calls"></select>
+            <select id="call-process" aria-label="Calling process"></select>
             <select id="call-name" aria-label="Call"></select>
             <button id="call-run">Call</button>
           </div>
@@ -97,7 +97,7 @@ pub fn index() -> &'static str {
     <div class="column">
       <section class="panel" id="change-panel" aria-labelledby="change-title">
         <div class="head">
-          <h2 id="change-title">What this call changed</h2>
+          <h2 id="change-title">Changes by this call</h2>
           <span class="note" id="change-note"></span>
         </div>
         <div id="change" tabindex="0" role="region" aria-labelledby="change-title"></div>
@@ -114,7 +114,7 @@ pub fn index() -> &'static str {
     <div class="column">
       <section class="panel grow" aria-labelledby="graph-title">
         <div class="head">
-          <h2 id="graph-title">Who holds whom</h2>
+          <h2 id="graph-title">Object graph</h2>
           <span class="note" id="graph-note"></span>
         </div>
         <div id="leaks" role="status"></div>
@@ -131,34 +131,35 @@ pub fn index() -> &'static str {
   </main>
 
   <dialog id="end-dialog" aria-labelledby="end-title">
-    <h2 id="end-title">End zxtt-view?</h2>
-    <p>The program ends, and this page answers no more. It writes the tree only where it was started with
-      <code>--save-tree</code>; you can download it first.</p>
+    <h2 id="end-title">Quit zxtt-view?</h2>
+    <p>The server stops, and this page can load nothing more. zxtt-view writes the tree only if you started it with
+      <code>--save-tree</code>. You can download the tree first.</p>
     <form method="dialog">
       <a class="button" href="/tree" download="tree.trace">Download tree</a>
       <span class="space"></span>
-      <button value="stay" id="end-cancel">Stay</button>
-      <button value="end" id="end-confirm" class="danger">End</button>
+      <button value="stay" id="end-cancel">Cancel</button>
+      <button value="end" id="end-confirm" class="danger">Quit</button>
     </form>
   </dialog>
 
   <dialog id="help-dialog" aria-labelledby="help-title">
-    <h2 id="help-title">Keys and words</h2>
+    <h2 id="help-title">Keys and terms</h2>
     <dl>
-      <dt><kbd>Left</kbd> <kbd>Right</kbd></dt><dd>one call back, one call forth</dd>
-      <dt><kbd>Up</kbd> <kbd>Down</kbd></dt><dd>to the row above, to the row below</dd>
-      <dt><kbd>Page Up</kbd> <kbd>Page Down</kbd></dt><dd>twenty rows at once</dd>
-      <dt><kbd>Home</kbd> <kbd>End</kbd></dt><dd>to the opening, to the head of the branch</dd>
-      <dt><kbd>/</kbd></dt><dd>search; <kbd>Enter</kbd> goes to the next call found, with <kbd>Shift</kbd> to the one before,
-        <kbd>Escape</kbd> ends the search</dd>
+      <dt><kbd>Left</kbd> <kbd>Right</kbd></dt><dd>one call back, one call forward</dd>
+      <dt><kbd>Up</kbd> <kbd>Down</kbd></dt><dd>one row up, one row down</dd>
+      <dt><kbd>Page Up</kbd> <kbd>Page Down</kbd></dt><dd>20 rows up, 20 rows down</dd>
+      <dt><kbd>Home</kbd> <kbd>End</kbd></dt><dd>to the start, to the head of the branch</dd>
+      <dt><kbd>/</kbd></dt><dd>search; <kbd>Enter</kbd> goes to the next match, <kbd>Shift+Enter</kbd> to the previous one,
+        <kbd>Escape</kbd> clears the search</dd>
       <dt><kbd>g</kbd></dt><dd>go to a moment</dd>
-      <dt><kbd>Escape</kbd></dt><dd>no object is picked any more</dd>
+      <dt><kbd>Escape</kbd></dt><dd>deselect the object</dd>
       <dt><kbd>?</kbd></dt><dd>this help</dd>
     </dl>
-    <p><b>Moment</b> n stands behind the n-th call that was answered, over all branches; moment 0 is the opening. Calls are
-      made at the head of a branch; to try another future, go to a moment and make a branch there. Nothing is lost by it.</p>
-    <p>An object is <b>leaked</b> where it exists and no process can reach it any more. Each koid and each handle can be
-      clicked; hover over rights, signals and bytes for more.</p>
+    <p><b>Moment</b> n is the state after the n-th answered call, counted over all branches. Moment 0 is the start. You can make
+      calls only at the head of a branch. To try another future, go to a moment and make a branch there. Other branches
+      stay as they are.</p>
+    <p>An object is <b>leaked</b> if it exists but no process can reach it. Click a koid or a handle to select its object. Hover
+      over rights, signals and bytes for details.</p>
     <form method="dialog"><span class="space"></span><button id="help-close">Close</button></form>
   </dialog>
 </body>
