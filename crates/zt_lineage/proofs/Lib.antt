@@ -1,0 +1,3 @@
+pub mod OriginLaws
+pub mod WayLaws
+pub mod LifeLaws

@@ -1,0 +1,11 @@
+-- So far the steps at the earlier moments are listed.
+use Rattle.std.proofs.Common.{◌≡◌, ◌++◌, drop}
+use Rattle.zt_lineage.specs.Lives.{onward}
+use Rattle.zt_lineage.proofs.handle_life.push_onward.Given as goal
+
+abbrev pub invariant-loop-n : goal.invariant-loop-n
+invariant-loop-n l = record {
+  steps : l.steps.items ++ (onward l.fn.history.tree.made (drop l.n l.way) l.place).steps ≡ l.fn.steps.items ++ (onward l.fn.history.tree.made (drop l.fn.n l.way) l.fn.place).steps;
+  ended : (onward l.fn.history.tree.made (drop l.n l.way) l.place).ended ≡ (onward l.fn.history.tree.made (drop l.fn.n l.way) l.fn.place).ended;
+  tree : l.history.tree ≡ l.fn.history.tree;
+}

@@ -1,0 +1,4 @@
+-- Definitions to believe: public clauses are stated in them.
+pub mod Places
+pub mod Origins
+pub mod Lives

@@ -1,0 +1,14 @@
+//! Where the handle of a place came from: a place is an entry of a process, or a handle in a queued message.
+#![tactic(auto)]
+
+mod endings;
+mod handle_life;
+pub mod laws;
+mod limits;
+mod origins;
+mod places;
+
+pub use endings::Ending;
+pub use handle_life::{HandleLife, LifeStep, life};
+pub use origins::{Origin, origin_of};
+pub use places::{Place, held_at};
