@@ -272,7 +272,7 @@ fn talk_command<'a>(alloc: Global) -> Result<Command<'a>, Error>
 {
     Ok(
         Command::new(alloc, "zxtt")
-            .version("0.1")
+            .version("1.0.0")
             .about(about())
             .after_help(examples())
             .subcommand_required(true)

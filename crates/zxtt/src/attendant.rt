@@ -137,8 +137,8 @@ impl Host for Attendant<'_> {
 
 /// The first text for a person.
 fn greeting() -> &'static str {
-    "zxtt 0.1: type a call, as `1025 event_create`, or a command, as `show`; each is answered.
-`help` lists what may be typed; `quit` or Ctrl-D ends the run.
+    "zxtt 1.0.0: type a call such as `1025 event_create`, or a command such as `show`.
+`help` lists all calls and commands; `quit` or Ctrl-D ends the run.
 "
 }
 

@@ -103,7 +103,7 @@ fn asked_of<'a>(matches: &ArgMatches<'a>) -> Asked<'a> {
 fn command<'a>(alloc: Global) -> Result<Command<'a>, Error> {
     Ok(
         Command::new(alloc, "zxtt-import")
-            .version("0.1")
+            .version("1.0.0")
             .about(about())
             .after_help(statuses())
             .arg(log_word(alloc))?
