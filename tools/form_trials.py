@@ -127,7 +127,7 @@ def processes_may_have_names(program, room):
     expect('adopted', True, b'# adopted: process lease-mgr.cm\n' in done.trace)
     came = {line.split()[0] for line in calls_alone(done.trace).decode().split('\n')[1:] if line}
     expect('processes', 1 + 12 + 1, len(came))
-    said = 'process child is spawned and was there before'
+    said = 'process child is spawned, but already exists'
     is_refused(program, room, text_of([*log[-3:], log[-3]]), f'line 4: {said}')
 
 
@@ -140,7 +140,7 @@ def log_may_begin_with_a_mark(program, room):
         done.expect_well()
         expect('trace', plain, done.trace)
     expect('a mark alone', b'zxtt 1\n', Import(program, b'\xef\xbb\xbf').trace)
-    is_refused(program, room, b'\xef\xbb\xbf\xef\xbb\xbf' + log, 'line 1: no JSON object')
+    is_refused(program, room, b'\xef\xbb\xbf\xef\xbb\xbf' + log, 'line 1: not a JSON object')
 
 
 def last_line_may_be_cut_off(program, room):
@@ -149,14 +149,14 @@ def last_line_may_be_cut_off(program, room):
     last = json.dumps(PLAIN[3] | {'more': '\u00e4"', 'yes': True, 'no': None}, ensure_ascii=False).encode()
     whole = Import(program, log)
     for end in range(1, len(last)):
-        said = 'line 4: cut off in the middle, left out'
+        said = 'line 4: cut off, so it is left out'
         done = Import(program, log + last[:end])
         expect(f'{last[:end]}: status, what is said and the trace', (0, [said], whole.trace), (done.status, done.told(), done.trace))
         expect('counts', (3, 4, 0), done.counts()[:3])
     done = Import(program, log + last[:end], '--strict')
     expect('with --strict', (6, [f'zxtt-import: {said}'], b''), (done.status, done.said, done.trace))
-    is_refused(program, room, log + last[:end] + b'\n', 'line 4: no JSON object')
-    is_refused(program, room, log + b'[7', 'line 4: no JSON object')
+    is_refused(program, room, log + last[:end] + b'\n', 'line 4: not a JSON object')
+    is_refused(program, room, log + b'[7', 'line 4: not a JSON object')
     expect('a line alone', b'zxtt 1\n', Import(program, b'{').trace)
     replies(program, whole.trace, room)
 
@@ -207,15 +207,15 @@ def options_that_are_left_out_are_told(program, room):
     for number, it, options, said in (
         (2, PLAIN[1], 1, ['ZX_PORT_BIND_TO_INTERRUPT is left out']),
         (2, PLAIN[1], 'ZX_PORT_BIND_TO_INTERRUPT', ['ZX_PORT_BIND_TO_INTERRUPT is left out']),
-        (2, PLAIN[1], 9, ['ZX_PORT_BIND_TO_INTERRUPT is left out', '0x8 is not known, left out']),
+        (2, PLAIN[1], 9, ['ZX_PORT_BIND_TO_INTERRUPT is left out', 'unknown option 0x8 is left out']),
         (14, PLAIN[13], 'ZX_CHANNEL_WRITE_USE_IOVEC', ['ZX_CHANNEL_WRITE_USE_IOVEC is left out']),
         (14, PLAIN[13], 2, ['ZX_CHANNEL_WRITE_USE_IOVEC is left out']),
-        (15, PLAIN[14], 'ZX_WAIT_ASYNC_EDGE', ['ZX_WAIT_ASYNC_EDGE is not known, left out']),
-        (15, PLAIN[14], '0x100000000', ['0x100000000 is not known, left out']),
+        (15, PLAIN[14], 'ZX_WAIT_ASYNC_EDGE', ['unknown option ZX_WAIT_ASYNC_EDGE is left out']),
+        (15, PLAIN[14], '0x100000000', ['unknown option 0x100000000 is left out']),
         (18, PLAIN[17], 1, ['ZX_JOB_CRITICAL_PROCESS_RETCODE_NONZERO is left out']),
-        (3, PLAIN[2], 'A|0x10|B\u00e4', ['A is not known, left out', 'B?? is not known, left out', '0x10 is not known, left out']),
-        (16, PLAIN[15], 70 * 'N', [64 * 'N' + '.. is not known, left out']),
-        (9, entry(7, 'object_wait_async', **wait), 'ZX_WAIT_ASYNC_REPEATING', ['ZX_WAIT_ASYNC_REPEATING is not known, left out']),
+        (3, PLAIN[2], 'A|0x10|B\u00e4', ['unknown option A is left out', 'unknown option B?? is left out', 'unknown option 0x10 is left out']),
+        (16, PLAIN[15], 70 * 'N', ['unknown option ' + 64 * 'N' + '.. is left out']),
+        (9, entry(7, 'object_wait_async', **wait), 'ZX_WAIT_ASYNC_REPEATING', ['unknown option ZX_WAIT_ASYNC_REPEATING is left out']),
     ):
         log = [*PLAIN[:number - 1], it | {'args': it['args'] | {'options': options}}, *PLAIN[number:]]
         done = Import(program, text_of(log))
@@ -227,7 +227,7 @@ def options_that_are_left_out_are_told(program, room):
         expect('with --strict', strict, (done.status, done.said, done.trace))
     log = [entry(7, 'event_create', options=8, out={'handles': [4 * n + 3]}) for n in range(130)]
     done = Import(program, text_of(log))
-    expect('notes', [options_of(n + 1, '0x8 is not known, left out') for n in range(100)], done.told())
+    expect('notes', [options_of(n + 1, 'unknown option 0x8 is left out') for n in range(100)], done.told())
     expect('behind them', 'and 30 more left out', done.said[100])
 
 
@@ -278,7 +278,7 @@ def close_many_has_one_reply(program, room):
     told_of(program, room, log, ['line 3: moment 6: recorded ok handles=0, by the semantics bad_handle handles=0'], 2)
     log = [*made, entry(7, 'handle_close_many', 'ZX_ERR_BAD_HANDLE', handles=[47, 35])]
     told_of(program, room, log, ['line 3: moment 6: recorded bad_handle handles=0, by the semantics ok handles=0'], 2)
-    said = 'line 1: args.handles[1]: a number to 4294967295 is wanted'
+    said = 'line 1: args.handles[1]: expected a number up to 4294967295'
     is_refused(program, room, text_of([entry(7, 'handle_close_many', handles=[35, 'x'])]), said)
     log = [entry('a', 'event_create', out={'out': 35}), entry('a', 'handle_close_many', handles=[35, 35, 35], status='bad_handle'),
            entry(7, 'event_create', out={'out': 35})]
@@ -351,11 +351,11 @@ def write_etc_has_one_reply(program, room):
 
 def write_etc_of_other_forms_is_refused(program, room):
     for given, said in (
-        ([7], 'handles[0]: an object is wanted'), ([sent(0, 7), sent('MOVE', 7)], 'handles[1].operation: ZX_HANDLE_OP_MOVE or ZX_HANDLE_OP_DUPLICATE is wanted'),
-        ([sent(2, 7)], 'handles[0].operation: ZX_HANDLE_OP_MOVE or ZX_HANDLE_OP_DUPLICATE is wanted'), ([sent(None, 7)], 'handles[0].operation: missing'),
-        ([sent(0, None)], 'handles[0].handle: missing'), ([sent(0, -1)], 'handles[0].handle: a number to 4294967295 is wanted'),
-        ([sent(0, 7, 'X')], 'handles[0].rights: a number to 4294967295 or known names with | between them are wanted'),
-        ([sent(0, 7)] * 65, 'handles: at most 64 are wanted'), (7, 'handles: a list is wanted'),
+        ([7], 'handles[0]: expected an object'), ([sent(0, 7), sent('MOVE', 7)], 'handles[1].operation: expected ZX_HANDLE_OP_MOVE or ZX_HANDLE_OP_DUPLICATE'),
+        ([sent(2, 7)], 'handles[0].operation: expected ZX_HANDLE_OP_MOVE or ZX_HANDLE_OP_DUPLICATE'), ([sent(None, 7)], 'handles[0].operation: missing'),
+        ([sent(0, None)], 'handles[0].handle: missing'), ([sent(0, -1)], 'handles[0].handle: expected a number up to 4294967295'),
+        ([sent(0, 7, 'X')], 'handles[0].rights: expected a number up to 4294967295 or known names separated by |'),
+        ([sent(0, 7)] * 65, 'handles: expected at most 64'), (7, 'handles: expected an array'),
     ):
         is_refused(program, room, text_of([entry(7, 'channel_write_etc', handle=35, handles=given)]), f'line 1: args.{said}')
 
@@ -457,7 +457,7 @@ def create_and_start_are_one_spawn(program, room):
     expect('not started', trace_of(program, [PLAIN[0], SPACE, spawned(0)]), calls_alone(alone.trace))
     log = [entry(7, 'process_create', 'bad_handle', job=99), start(), entry(7, 'process_create', 'wrong_type', job=35)]
     done = Import(program, text_of([PLAIN[0], *log]))
-    expect('told', ['line 3: no line made its process, left out'], done.told())
+    expect('told', ['line 3: left out, because no line created its process'], done.told())
     expect('with --strict', 6, Import(program, text_of([PLAIN[0], *log]), '--strict').status)
     names = [PLAIN[0], create(process='child'), start(), entry('child', 'channel_read', 'should_wait', handle=99, bytes=9, handles=9)]
     told_of(program, room, names, [], 5)
@@ -474,7 +474,7 @@ def process_that_is_used_before_its_start_is_made_there(program, room):
     late = entry(7, 'object_signal', handle=39, clear=0, set=0)
     log = [PLAIN[0], create(process=8), use, late, start(), entry(8, 'event_create', out={'out': 3})]
     done = Import(program, text_of(log))
-    expect('told', ['line 5: args.arg1: its process was needed before, and arg1 is used since, left out'], done.told())
+    expect('told', ['line 5: args.arg1: left out, because its process was used before, and arg1 after'], done.told())
     expect('trace', trace_of(program, [PLAIN[0], SPACE, spawned(0), use, late, log[5]]), calls_alone(done.trace))
     expect('with --strict', 6, Import(program, text_of(log), '--strict').status)
 

@@ -54,12 +54,12 @@ def a_child_may_return_before_its_spawn(program, room):
         [child, OWN, late(spawned(7, 8, 15), began=2)],
     ):
         done = Import(program, text_of(log))
-        said = f'zxtt-import: line {len(log)}: process 8 is spawned and was there before'
+        said = f'zxtt-import: line {len(log)}: process 8 is spawned, but already exists'
         expect('said', (6, [said]), (done.status, done.said))
     is_moved(program, [child, OWN, late(spawned(7, 8, 15), began=1)], [(3, 1)])
     own = entry(7, 'event_create', out={'handles': [3]})
     is_moved(program, [child, own, spawned(7, 8, 15)], [(2, 1), (3, 1)])
-    told = 'zxtt-import: line 3: process 8 is spawned and was there before'
+    told = 'zxtt-import: line 3: process 8 is spawned, but already exists'
     expect('said', [told], Import(program, text_of([child, late(own, began=2), spawned(7, 8, 15)])).said)
 
 
@@ -70,7 +70,7 @@ def a_spawn_began_when_its_start_did(program, room):
     log = [late(made, began=9, time=10), late(child, time=12), late(entry(7, 'process_start', handle=15), time=20)]
     is_moved(program, [*log[:2], late(log[2], began=11)], [(3, 2)])
     done = Import(program, text_of([*log[:2], late(log[2], began=14)]))
-    expect('said', (6, ['zxtt-import: line 3: process 8 is spawned and was there before']), (done.status, done.said))
+    expect('said', (6, ['zxtt-import: line 3: process 8 is spawned, but already exists']), (done.status, done.said))
 
 
 def channel(*ends):

@@ -100,13 +100,13 @@ impl fmt::Display for Cause {
     fn fmt<W: fmt::Write>(&self, f: &mut fmt::Formatter<W>) -> fmt::Result {
         match self {
             Cause::OutOfMemory => write!(f, "out of memory"),
-            Cause::Full => write!(f, "no more than {} calls", zt_rows::LAST_MOMENT),
+            Cause::Full => write!(f, "a trace has at most {} calls", zt_rows::LAST_MOMENT),
             Cause::TooLong => write!(f, "longer than {} bytes", crate::json_lines::LINE_BYTES),
-            Cause::NoObject => write!(f, "no JSON object"),
+            Cause::NoObject => write!(f, "not a JSON object"),
             Cause::Missing(place) => print_missing(place, f),
             Cause::Member { place, wanted } => write!(f, "{place}: {wanted}"),
             Cause::SpawnedTwice(process) => {
-                write!(f, "process {process} is spawned and was there before")
+                write!(f, "process {process} is spawned, but already exists")
             }
         }
     }
@@ -123,34 +123,32 @@ fn print_missing<W: fmt::Write>(place: &Place, f: &mut fmt::Formatter<W>) -> fmt
 impl fmt::Display for WantedValue {
     fn fmt<W: fmt::Write>(&self, f: &mut fmt::Formatter<W>) -> fmt::Result {
         match self {
-            WantedValue::Number(most) => write!(f, "a number to {most} is wanted"),
-            WantedValue::SignedNumber => write!(f, "a signed number of 64 bits is wanted"),
+            WantedValue::Number(most) => write!(f, "expected a number up to {most}"),
+            WantedValue::SignedNumber => write!(f, "expected a signed 64-bit number"),
             WantedValue::Process => write!(
                 f,
-                "a number to {} or a name of 1 to 64 bytes is wanted",
+                "expected a number up to {} or a name of 1 to 64 bytes",
                 u64::MAX
             ),
             WantedValue::Mask => write!(
                 f,
-                "a number to {} or known names with | between them are wanted",
+                "expected a number up to {} or known names separated by |",
                 u32::MAX
             ),
-            WantedValue::Options => {
-                write!(f, "a number or names with | between them are wanted")
-            }
-            WantedValue::Text => write!(f, "a text is wanted"),
-            WantedValue::Object => write!(f, "an object is wanted"),
-            WantedValue::List => write!(f, "a list is wanted"),
-            WantedValue::Flag => write!(f, "true or false is wanted"),
-            WantedValue::Digits => write!(f, "an even number of hexadecimal digits is wanted"),
-            WantedValue::PacketDigits => write!(f, "64 hexadecimal digits are wanted"),
-            WantedValue::PacketType => write!(f, "user or signal is wanted"),
-            WantedValue::UserPacket => write!(f, "user is wanted"),
+            WantedValue::Options => { write!(f, "expected a number or names separated by |") }
+            WantedValue::Text => write!(f, "expected a string"),
+            WantedValue::Object => write!(f, "expected an object"),
+            WantedValue::List => write!(f, "expected an array"),
+            WantedValue::Flag => write!(f, "expected true or false"),
+            WantedValue::Digits => write!(f, "expected an even number of hexadecimal digits"),
+            WantedValue::PacketDigits => write!(f, "expected 64 hexadecimal digits"),
+            WantedValue::PacketType => write!(f, "expected user or signal"),
+            WantedValue::UserPacket => write!(f, "expected user"),
             WantedValue::Operation => write!(
                 f,
-                "ZX_HANDLE_OP_MOVE or ZX_HANDLE_OP_DUPLICATE is wanted"
+                "expected ZX_HANDLE_OP_MOVE or ZX_HANDLE_OP_DUPLICATE"
             ),
-            WantedValue::AtMost(most) => write!(f, "at most {most} are wanted"),
+            WantedValue::AtMost(most) => write!(f, "expected at most {most}"),
         }
     }
 }

@@ -33,9 +33,9 @@ pub enum StartNote {
 impl StartNote {
     fn words(self) -> &'static str {
         match self {
-            StartNote::Unknown => "no line made its process, left out",
+            StartNote::Unknown => "left out, because no line created its process",
             StartNote::LateArgument => {
-                "args.arg1: its process was needed before, and arg1 is used since, left out"
+                "args.arg1: left out, because its process was used before, and arg1 after"
             }
         }
     }
@@ -44,7 +44,7 @@ impl StartNote {
 impl fmt::Display for LogNote {
     fn fmt<W: fmt::Write>(&self, f: &mut fmt::Formatter<W>) -> fmt::Result {
         match self {
-            LogNote::CutOff { line } => write!(f, "line {line}: cut off in the middle, left out"),
+            LogNote::CutOff { line } => write!(f, "line {line}: cut off, so it is left out"),
             LogNote::LeftOption { line, name } => {
                 write!(f, "line {line}: args.options: {name} is left out")
             }
@@ -55,13 +55,13 @@ impl fmt::Display for LogNote {
             LogNote::UnknownOptions { line, options } => {
                 write!(
                     f,
-                    "line {line}: args.options: 0x{options:x} is not known, left out"
+                    "line {line}: args.options: unknown option 0x{options:x} is left out"
                 )
             }
             LogNote::UnknownOption { line, name } => {
                 write!(
                     f,
-                    "line {line}: args.options: {name} is not known, left out"
+                    "line {line}: args.options: unknown option {name} is left out"
                 )
             }
         }

@@ -14,25 +14,25 @@ pub enum Fault {
     #[error("{0}")]
     Words(clap::Error),
     /// The words are no text.
-    #[error("zxtt-import: the words cannot be read: {0}")]
+    #[error("zxtt-import: cannot read the command line: {0}")]
     Unread(io::Error),
     /// A file could not be opened.
     #[error("zxtt-import: {path}: {error}")]
     Unopened { path: String, error: io::Error },
     /// The log could not be read.
-    #[error("zxtt-import: the log cannot be read")]
+    #[error("zxtt-import: cannot read the log")]
     Read,
     /// The trace could not be written.
-    #[error("zxtt-import: the trace cannot be written")]
+    #[error("zxtt-import: cannot write the trace")]
     Write,
     /// A write failed in the midst of a trace that had to be written through. The whole trace lies in the file `part`.
-    #[error("zxtt-import: the trace cannot be written\nzxtt-import: it lies whole in {part}")]
+    #[error("zxtt-import: cannot write the trace\nzxtt-import: the whole text is in {part}")]
     Unwritten { part: String },
     /// The log is not taken.
     #[error("zxtt-import: {0}")]
     Log(LogFault),
     /// A process that the log has by a name is spawned, and was there before.
-    #[error("zxtt-import: line {line}: process {name} is spawned and was there before")]
+    #[error("zxtt-import: line {line}: process {name} is spawned, but already exists")]
     SpawnedTwice { line: u64, name: String },
     /// The import is strict, and something of the log is left out.
     #[error("zxtt-import: {0}")]
