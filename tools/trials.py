@@ -76,7 +76,7 @@ def counted(passed, failed):
 
 
 # what the program says on standard error of who listens, is waited for, comes and goes
-NOTICE = re.compile(r'zxtt: (?:listening on|waiting for \d+ clients?|client \d+ (?:came from|went)).*')
+NOTICE = re.compile(r'zxtt: (?:listening on|waiting for \d+ clients?|client \d+ (?:connected from|disconnected)).*')
 
 
 def lines_of(text):

@@ -90,13 +90,13 @@ fn push_spaces(text: &mut String, count: usize) -> Result<(), AllocError> {
 fn push_advice(text: &mut String, advice: Advice, field: &[u8]) -> Result<(), AllocError> {
     match advice {
         Advice::Wanted(wanted) => {
-            text.push_str("wanted here: ")?;
+            text.push_str("expected ")?;
             text.push_str(wanted.text())
         }
         Advice::NoName => text.push_str(no_name()),
         Advice::Question(name, like) => push_question(text, name, like),
         Advice::NoCall => text.push_str("no call has this name"),
-        Advice::NothingMore => text.push_str("nothing more is wanted here"),
+        Advice::NothingMore => text.push_str("expected the end of the line"),
         Advice::CarriageReturn => text.push_str(carriage_return()),
         Advice::Refused(reason) => push_reason(text, reason, field),
     }
@@ -109,7 +109,7 @@ fn no_name() -> &'static str {
 
 /// The advice on a line that ends in CRLF.
 fn carriage_return() -> &'static str {
-    "the line ends in CRLF: a line ends in LF alone, and CR is a byte of it"
+    "the line ends in CRLF; end it in LF only"
 }
 
 /// Appends the advice on a word that is the name of a question.
@@ -119,14 +119,14 @@ fn push_question(
     like: Option<&'static str>,
 ) -> Result<(), AllocError> {
     text.push_str(no_name())?;
-    text.push_str(": `")?;
+    text.push_str("; `")?;
     text.push_str(name)?;
     text.push_str("` is a question of `zxtt look`")?;
     match like {
         Some(command) => {
-            text.push_str("; here `")?;
+            text.push_str("; use `")?;
             text.push_str(command)?;
-            text.push_str("` asks the like")
+            text.push_str("` here")
         }
         None => Ok(()),
     }

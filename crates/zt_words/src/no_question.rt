@@ -40,16 +40,15 @@ impl fmt::Display for NoQuestion {
                 write_unnamed(f, None)?;
                 f.write_str(of_run())?;
                 f.write_str(question)?;
-                f.write_str("` asks the like here")?;
+                f.write_str("` here")?;
             }
             NoQuestion::Lacks(about) => {
-                f.write_str("the word ")?;
+                f.write_str("the question needs the argument ")?;
                 f.write_str(word_of(*about).unwrap_or(""))?;
-                f.write_str(" of the question is missing")?;
                 write_form(f, *about)?;
             }
             NoQuestion::Otherwise(about) => {
-                f.write_str("the question is asked in other words")?;
+                f.write_str("the question does not take these arguments or options")?;
                 write_form(f, *about)?;
             }
         }
@@ -157,13 +156,13 @@ fn last_in_common(name: &[u8], other: &[u8]) -> usize {
 
 /// The list of all questions.
 fn known_questions() -> &'static str {
-    "no question has the name that was given for '<QUESTION>'
+    "unknown question
   [questions: calls, changed, events, object, handles, messages, branches, summary]"
 }
 
 /// What is said about a word of `run`, up to the name of the similar question.
 fn of_run() -> &'static str {
-    "\n\n  tip: this is a word of `zxtt run`; the question `"
+    "\n\n  tip: this word belongs to `zxtt run`; ask `"
 }
 
 /// Returns how a question is asked.

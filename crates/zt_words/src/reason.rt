@@ -30,20 +30,20 @@ impl Reason {
     /// Returns the reason in words. Some reasons need the wrong field after these words.
     pub fn text(self) -> &'static str {
         match self {
-            Reason::NoProcess => "no live process here has the koid ",
+            Reason::NoProcess => "no live process at this moment has koid ",
             Reason::NoMoment => "there is no moment ",
-            Reason::NothingPinned => "nothing is pinned yet: `pin` does",
+            Reason::NothingPinned => "nothing is pinned yet; use `pin` first",
             Reason::NoBranch => "there is no branch ",
-            Reason::NotMain => "the first branch has to be main",
-            Reason::NoBranches => "a branch has to stand above",
+            Reason::NotMain => "the first branch must be main",
+            Reason::NoBranches => "a branch line must come first",
             Reason::NameTaken => "there is already a branch ",
             Reason::BadName => {
-                "wanted here: 1 to 32 bytes of a to z, 0 to 9, _ and -, the first a letter"
+                "a branch name has 1 to 32 of a to z, 0 to 9, _ and -, and begins with a letter"
             }
             Reason::NoObject => "there is no object ",
-            Reason::AtStart => "fewer moments are above than ",
+            Reason::AtStart => "fewer moments come before this one than ",
             Reason::Detached =>
-                "no branch is followed here: `branch` makes one, `follow` goes to one",
+                "calls need a branch; make one here with `branch`, or go to one with `follow`",
             _ => self.text_of_limit(),
         }
     }
@@ -51,10 +51,10 @@ impl Reason {
     /// Returns the reason in words, if it is a limit that was reached.
     fn text_of_limit(self) -> &'static str {
         match self {
-            Reason::Full => "there are as many moments as can be, 1048576",
-            Reason::ClientFull => "as many commands were answered to this client as can be, 4096",
+            Reason::Full => "the history is full; it has at most 1048576 moments",
+            Reason::ClientFull => "this client has reached its limit of 4096 commands",
             Reason::LineTooLong => "the line has more than 140000 bytes",
-            _ => "memory was refused",
+            _ => "allocation failed",
         }
     }
 

@@ -13,7 +13,7 @@ pub enum WordsFault {
     #[error("{0}")]
     Refused(clap::Error),
     /// They are no text.
-    #[error("zxtt: the words cannot be read: {0}")]
+    #[error("zxtt: cannot read the command line: {0}")]
     Unread(io::Error),
     /// They ask no question.
     #[error("{0}")]

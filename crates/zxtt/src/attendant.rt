@@ -144,12 +144,12 @@ fn greeting() -> &'static str {
 
 /// The answer to `where` if the client's place is not known.
 fn no_place() -> &'static str {
-    "no answer has told where this is: `show` does\n"
+    "the moment is not known, because an allocation failed; `show` prints it\n"
 }
 
 /// The answer to `help`.
 fn help() -> &'static str {
-    "Calls, each behind the process that makes it, as `1025 event_create`:
+    "Calls. Each begins with the process that makes it, such as `1025 event_create`:
   event_create    eventpair_create    channel_create    port_create
   handle_close HANDLE    handle_duplicate HANDLE RIGHTS    handle_replace HANDLE RIGHTS
   object_signal HANDLE CLEAR SET    object_signal_peer HANDLE CLEAR SET
@@ -162,7 +162,7 @@ Commands:
   goto MOMENT    back COUNT    branch NAME    follow NAME
   show    holders KOID    leaks    when made|ended|peer_closed|leaked KOID
   pin    pinned show    pinned holders KOID    pinned leaks
-At a terminal alone:
+Only at a terminal:
   help    where    quit
 "
 }

@@ -57,7 +57,7 @@ impl<'a, R: AllocGlobal + Eprint> Connections<'a, R> {
             Err(error) => return Err(Fault::Unconnected(error)),
         };
         let directions = self.keep(connection)?;
-        let _ = eprintln!(self.rt; "zxtt: client {client} came from {address}");
+        let _ = eprintln!(self.rt; "zxtt: client {client} connected from {address}");
         Ok(directions)
     }
 
@@ -129,6 +129,6 @@ impl<R: AllocGlobal + Eprint> Gate for Connections<'_, R> {
             // A client that closed its connection has nothing to shut.
             let _ = connection.end.shutdown(Shutdown::Write);
         }
-        let _ = eprintln!(self.rt; "zxtt: client {client} went");
+        let _ = eprintln!(self.rt; "zxtt: client {client} disconnected");
     }
 }

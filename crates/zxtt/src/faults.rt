@@ -26,12 +26,12 @@ pub enum Fault {
         error: io::Error,
     },
     /// A write failed in the midst of a file that had to be written through. The whole text lies in the file `part`.
-    #[error("zxtt: {}\nzxtt: what was to be saved lies whole in {part}", RefusalLine(Refusal::WriteFault))]
+    #[error("zxtt: {}\nzxtt: the whole text is in {part}", RefusalLine(Refusal::WriteFault))]
     Unwritten {
         part: String,
     },
     /// The port could not be listened on.
-    #[error("zxtt: port {port} of 127.0.0.1: {error}")]
+    #[error("zxtt: cannot listen on 127.0.0.1:{port}: {error}")]
     Unlistened {
         port: u16,
         error: io::Error,

@@ -136,7 +136,7 @@ fn book_of(
 pub fn look_ahead(rt: &HostRuntime, to: Option<&str>) {
     if let Some(path) = to {
         if let Err(FileFault::Unopened { path, error }) = zt_files::look_ahead(rt, path) {
-            let _ = eprintln!(rt; "zxtt: {path} cannot be written as it stands: {error}");
+            let _ = eprintln!(rt; "zxtt: warning: cannot write {path}: {error}");
         }
     }
 }

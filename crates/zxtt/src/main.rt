@@ -86,7 +86,7 @@ fn say_where_traces_stand(rt: &HostRuntime, words: &Words, done: &Result<(), Fau
 
 /// The first line of that hint.
 fn traces_stand() -> &'static str {
-    "A trace stands behind `look` or `run --from`:"
+    "To use a trace, pass it to `look` or `run --from`:"
 }
 
 /// Runs the lines of a file. Then it saves the history of `main` and the whole tree, if files are named.

@@ -59,7 +59,7 @@ impl Place {
         let moment = self.moment.as_str();
         match &self.branch {
             Some(branch) => format!(in alloc; "at moment {moment}, the head of branch {branch}\n"),
-            None => format!(in alloc; "at moment {moment}, on no branch\n"),
+            None => format!(in alloc; "at moment {moment}, following no branch\n"),
         }
     }
 }

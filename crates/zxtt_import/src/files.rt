@@ -21,9 +21,7 @@ fn look_ahead(rt: &HostRuntime, to: Option<&str>) {
     match to {
         Some(path) if path != "-" => {
             if let Err(FileFault::Unopened { path, error }) = zt_files::look_ahead(rt, path) {
-                let _ = eprintln!(rt;
-                    "zxtt-import: {path} cannot be written as it stands: {error}"
-                );
+                let _ = eprintln!(rt; "zxtt-import: warning: cannot write {path}: {error}");
             }
         }
         _ => {}

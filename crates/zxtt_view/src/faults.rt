@@ -13,16 +13,16 @@ pub enum Fault {
     #[error("{0}")]
     Words(clap::Error),
     /// The words are no text.
-    #[error("zxtt-view: the words cannot be read: {0}")]
+    #[error("zxtt-view: cannot read the command line: {0}")]
     Unread(io::Error),
     /// A file could not be opened.
     #[error("zxtt-view: {path}: {error}")]
     Unopened { path: String, error: io::Error },
     /// A write failed in the midst of a file that had to be written through. The whole text lies in the file `part`.
-    #[error("zxtt-view: {}\nzxtt-view: what was to be saved lies whole in {part}", RefusalLine(Refusal::WriteFault))]
+    #[error("zxtt-view: {}\nzxtt-view: the whole text is in {part}", RefusalLine(Refusal::WriteFault))]
     Unwritten { part: String },
     /// The port could not be listened on.
-    #[error("zxtt-view: port {port} of 127.0.0.1: {error}")]
+    #[error("zxtt-view: cannot listen on 127.0.0.1:{port}: {error}")]
     Unlistened { port: u16, error: io::Error },
     /// The sockets could not be waited for.
     #[error("zxtt-view: {0}")]

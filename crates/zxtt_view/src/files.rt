@@ -38,7 +38,7 @@ fn book_of(alloc: Global, text: &[u8], told: &Progress<'_>) -> Result<Book, Faul
 pub fn look_ahead(rt: &HostRuntime, to: Option<&str>) {
     if let Some(path) = to {
         if let Err(FileFault::Unopened { path, error }) = zt_files::look_ahead(rt, path) {
-            let _ = eprintln!(rt; "zxtt-view: {path} cannot be written as it stands: {error}");
+            let _ = eprintln!(rt; "zxtt-view: warning: cannot write {path}: {error}");
         }
     }
 }
