@@ -143,11 +143,11 @@ Questions, each about the path to a moment or to the head of a branch, by defaul
   calls [FROM [TO]]     the calls of the path, with their replies, between two moments;
                         --failed, --process P and --object K select some of them
   changed MOMENT        the rows that one call changed, before and after it
-  events [HAPPENING]..  what was made, ended, peer_closed or leaked, by which call
+  events [HAPPENING]..  which objects were made, ended, peer_closed or leaked, by which call
   object KOID           one object: its row, what keeps it, its queue, and what happened when
   handles PROCESS       the handles of a process
   messages KOID         the messages that were queued at a channel, and what became of each
-  branches              the branches, and where each leaves another
+  branches              the branches, and where each one leaves another
   summary               how many calls got which status, and what became of each object"
 }
 
@@ -160,7 +160,7 @@ fn question_help() -> &'static str {
 }
 
 fn words_help() -> &'static str {
-    "The words of the question"
+    "The arguments of the question"
 }
 
 fn at_help() -> &'static str {
@@ -184,7 +184,7 @@ fn process_help() -> &'static str {
 }
 
 fn object_help() -> &'static str {
-    "Lists only the calls that changed this object or a handle of it"
+    "Lists only the calls that changed this object or a handle to it"
 }
 
 /// The argument `TRACE`: the session text.

@@ -26,12 +26,12 @@ leaked a handle, closed a peer or killed a job."
 
 /// The description of `run`.
 fn run_about<'a>() -> &'a str {
-    "Answers the lines of a file or of standard input; `zxtt` alone does the latter"
+    "Answers the lines of a file or of standard input; `zxtt` alone reads standard input"
 }
 
 /// The description of `serve`.
 fn serve_about<'a>() -> &'a str {
-    "Answers the lines of up to four clients on a port, over one history"
+    "Answers the lines of up to four clients, who share one history"
 }
 
 /// The help of `--from`.
@@ -56,7 +56,7 @@ fn clients_help() -> &'static str {
 
 /// The help of `--explain`.
 fn explain_help() -> &'static str {
-    "Explains refused lines on standard error: number, line, caret and what is wanted there"
+    "Explains each refused line on standard error: its number, the line, a caret and the cause"
 }
 
 /// The text after the help.
@@ -72,17 +72,17 @@ Lines:
   back 1                 go back one moment; `goto 4` goes to moment 4
   branch fix             make a branch named fix here, and follow it
   follow main            go to the head of `main`, the branch that exists from the start
-  show                   print all rows of the state; `holders 1026` what keeps an object
+  show                   print all rows of the state; `holders 1026` prints what keeps 1026
   leaks                  print the objects that no live process can reach
   when leaked 1026       print the call that leaked it; also made, ended, peer_closed
-  pin                    keep a copy of the state, which `pinned leaks` and the like ask
+  pin                    keep a copy of the state; `pinned leaks` asks the copy
 
 Exit statuses:
-  0  the input or the question was answered; refused lines do not change that
-  2  the command line was not accepted, or help was printed
-  3  a file could not be opened, or the port could not be listened on
+  0  the input ended or the question was answered, even if lines were refused
+  2  the command line is invalid, or help or the version was printed
+  3  a file could not be opened, or the program could not listen on the port
   4  a read failed            5  a write failed
-  6  something else was refused, such as a line of a loaded trace"
+  6  anything else was refused, such as a line of a loaded trace"
 }
 
 /// The words with which the program was started.
@@ -336,7 +336,7 @@ fn file_word<'a>(alloc: Global) -> Arg<'a>
     Arg::new(alloc, "FILE")
         .action(ArgAction::Set)
         .default_value("-")
-        .help("The lines; `-` is standard input")
+        .help("The file to read lines from; `-` is standard input")
 }
 
 /// The argument `PORT`: the port to listen on.
@@ -348,7 +348,7 @@ fn port_word<'a>(alloc: Global) -> Arg<'a>
         .action(ArgAction::Set)
         .required(true)
         .value_parser(value_parser!(u16).range(1..=65_535))
-        .help("The port of 127.0.0.1 that is listened on")
+        .help("The port of 127.0.0.1 to listen on")
 }
 
 /// The option `--clients`: how many clients are served.

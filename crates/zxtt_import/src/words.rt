@@ -28,7 +28,7 @@ fn to_help() -> &'static str {
 
 /// The help of the option `--strict`.
 fn strict_help() -> &'static str {
-    "Stops where something is left out, or at the first reply that differs; writes nothing then"
+    "Stops if something is left out, or at the first reply that differs, and then writes nothing"
 }
 
 /// The text that help prints last.
@@ -38,11 +38,11 @@ fn statuses<'a>() -> &'a str {
 
 Exit statuses:
   0  the trace is written, even if replies differ
-  2  the command line was not accepted, or help was printed
+  2  the command line is invalid, or help or the version was printed
   3  a file could not be opened
-  4  the log could not be read        5  the trace could not be written
-  6  a line of the log is at fault, or memory ran out; with --strict, something is left
-     out
+  4  a read failed            5  a write failed
+  6  a line of the log is invalid, or an allocation failed; with --strict, something was
+     left out
   7  with --strict, a reply differs, or a skipped call names a handle of the log"
 }
 

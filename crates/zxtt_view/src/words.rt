@@ -24,7 +24,7 @@ fn from_help() -> &'static str {
 
 /// The help of `TRACE`.
 fn trace_help() -> &'static str {
-    "The same as --from TRACE"
+    "Same as --from TRACE"
 }
 
 /// The help of `--port`.
@@ -44,10 +44,10 @@ fn statuses() -> &'static str {
 
 Exit statuses:
   0  you ended it from the page
-  2  the command line was not accepted, or help was printed
-  3  a file could not be opened, or the port could not be listened on
+  2  the command line is invalid, or help or the version was printed
+  3  a file could not be opened, or the program could not listen on the port
   4  a read failed            5  a write failed
-  6  something else was refused, such as a line of a loaded trace"
+  6  anything else was refused, such as a line of a loaded trace"
 }
 
 /// The words with which the program was started.
