@@ -1,11 +1,12 @@
 //! Writes a file as a whole: replaces it at once where the system allows that, and overwrites it otherwise.
 
-use crate::fault::{FileFault, unopened};
+use crate::read_file::unopened;
 use std::alloc::{AllocError, Global};
 use std::fs::{File, Permissions};
 use std::io::Write;
 use std::{fs, io, process};
 use zt_rows::Refusal;
+use zt_words::Fault;
 
 /// The part's name is the file's name, this, the process id, and the part's number.
 const PART: &str = ".zxtt-part";
@@ -26,7 +27,7 @@ const MOST_PARTS: u32 = 1000;
 /// `Unopened` if the file cannot be opened for writing. `Refused` with `WriteFault` or `OutOfMemory` if a write or an allocation
 /// fails. After both, the old file is unchanged unless it had to be overwritten. `Unwritten` if overwriting failed after a part
 /// could not be renamed. The part has the whole text, and stays.
-pub fn write_whole(rt: &HostRuntime, path: &str, text: &[u8]) -> Result<(), FileFault> {
+pub fn write_whole(rt: &HostRuntime, path: &str, text: &[u8]) -> Result<(), Fault> {
     match place_of(rt, path)? {
         Some(place) => replace(rt, path, place.as_str(), text),
         None => write_through(rt, path, text),
@@ -35,7 +36,7 @@ pub fn write_whole(rt: &HostRuntime, path: &str, text: &[u8]) -> Result<(), File
 
 /// Returns the path of a regular file behind all links, or this path if nothing is there. Returns `None` for anything else and
 /// for an empty path.
-fn place_of(rt: &HostRuntime, path: &str) -> Result<Option<String>, FileFault> {
+fn place_of(rt: &HostRuntime, path: &str) -> Result<Option<String>, Fault> {
     match fs::canonicalize(rt, path) {
         Ok(place) => {
             if is_file(rt, place.as_str()) {
@@ -44,9 +45,7 @@ fn place_of(rt: &HostRuntime, path: &str) -> Result<Option<String>, FileFault> {
                 Ok(None)
             }
         }
-        Err(error) if error.kind() == io::ErrorKind::OutOfMemory => Err(FileFault::Refused(
-            Refusal::OutOfMemory,
-        )),
+        Err(error) if error.kind() == io::ErrorKind::OutOfMemory => Err(Fault::of_memory()),
         Err(_) => {
             if path.is_empty() || fs::symlink_metadata(rt, path).is_ok() {
                 Ok(None)
@@ -64,15 +63,15 @@ fn is_file(rt: &HostRuntime, place: &str) -> bool {
     }
 }
 
-fn owned(alloc: Global, path: &str) -> Result<Option<String>, FileFault> {
+fn owned(alloc: Global, path: &str) -> Result<Option<String>, Fault> {
     match String::from_str(alloc, path) {
         Ok(path) => Ok(Some(path)),
-        Err(_) => Err(FileFault::Refused(Refusal::OutOfMemory)),
+        Err(_) => Err(Fault::of_memory()),
     }
 }
 
 /// Writes the text to a part beside the file, and renames the part to the file.
-fn replace(rt: &HostRuntime, path: &str, place: &str, text: &[u8]) -> Result<(), FileFault> {
+fn replace(rt: &HostRuntime, path: &str, place: &str, text: &[u8]) -> Result<(), Fault> {
     let old = match old_permissions(rt, place) {
         Ok(old) => old,
         Err(error) => return Err(unopened(rt.alloc(), path, error)),
@@ -82,7 +81,7 @@ fn replace(rt: &HostRuntime, path: &str, place: &str, text: &[u8]) -> Result<(),
     };
     if fill(file, old, text).is_err() {
         let _ = fs::remove_file(rt, part.as_str());
-        return Err(FileFault::Refused(Refusal::WriteFault));
+        return Err(Fault::Refused(Refusal::WriteFault));
     }
     if fs::rename(rt, part.as_str(), place).is_err() {
         return write_behind(rt, path, part, text);
@@ -102,11 +101,11 @@ fn old_permissions(rt: &HostRuntime, place: &str) -> io::Result<Option<Permissio
 
 /// Makes a new file beside this one, and returns its path. It takes this process's first free name. Returns `None` if no part can
 /// be made.
-fn new_part(rt: &HostRuntime, place: &str) -> Result<Option<(String, File)>, FileFault> {
+fn new_part(rt: &HostRuntime, place: &str) -> Result<Option<(String, File)>, Fault> {
     let process = process::id(rt.process());
     for number in 0..MOST_PARTS {
         let Ok(part) = part_of(rt.alloc(), place, process, number) else {
-            return Err(FileFault::Refused(Refusal::OutOfMemory));
+            return Err(Fault::of_memory());
         };
         match File::create_new(rt, part.as_str()) {
             Ok(file) => return Ok(Some((part, file))),
@@ -133,9 +132,9 @@ fn fill(file: File, permissions: Option<Permissions>, text: &[u8]) -> io::Result
 }
 
 /// Overwrites the file after its part could not be renamed. If that succeeds, the part is removed.
-fn write_behind(rt: &HostRuntime, path: &str, part: String, text: &[u8]) -> Result<(), FileFault> {
+fn write_behind(rt: &HostRuntime, path: &str, part: String, text: &[u8]) -> Result<(), Fault> {
     if write_through(rt, path, text).is_err() {
-        return Err(FileFault::Unwritten { part });
+        return Err(Fault::Unwritten { part });
     }
     let _ = fs::remove_file(rt, part.as_str());
     Ok(())
@@ -159,14 +158,14 @@ pub(crate) fn folder_of(path: &str) -> &str {
 }
 
 /// Overwrites the file, and syncs it if it is a regular file.
-fn write_through(rt: &HostRuntime, path: &str, text: &[u8]) -> Result<(), FileFault> {
+fn write_through(rt: &HostRuntime, path: &str, text: &[u8]) -> Result<(), Fault> {
     let file = match fs::create(rt, path) {
         Ok(file) => file,
         Err(error) => return Err(unopened(rt.alloc(), path, error)),
     };
     match flow(file, text) {
         Ok(()) => Ok(()),
-        Err(_) => Err(FileFault::Refused(Refusal::WriteFault)),
+        Err(_) => Err(Fault::Refused(Refusal::WriteFault)),
     }
 }
 

@@ -1,6 +1,5 @@
 //! Checks whether a file could be written, before there is anything to write.
 
-use crate::fault::{FileFault, unopened};
 use crate::whole_file::folder_of;
 use std::fs::{File, Metadata};
 use std::os::unix::fs::MetadataExt;
@@ -9,19 +8,17 @@ use std::{fs, io};
 /// The system's error `EACCES`: permission denied.
 const DENIED: i32 = 13;
 
-/// Reports that `write_whole` could not open this file, as far as that shows without trying.
+/// Warns on standard error, behind the name of the program, that `write_whole` could not open this file, if one is named and that
+/// shows without trying.
 ///
 /// It makes and truncates nothing, and never waits. A file that exists is opened for writing, and closed. If the file does not
 /// exist, its folder is checked: whether it exists, and whether this user may make a file there. Anything that is not a file or
 /// directory, such as a pipe or a device, is not tried. Neither is a dangling link.
-///
-/// # Errors
-///
-/// `Unopened`, as `write_whole` would report it, or `Refused` with `OutOfMemory`.
-pub fn look_ahead(rt: &HostRuntime, path: &str) -> Result<(), FileFault> {
-    match obstacle(rt, path) {
-        Some(error) => Err(unopened(rt.alloc(), path, error)),
-        None => Ok(()),
+pub fn warn_ahead(rt: &HostRuntime, program: &str, to: Option<&str>) {
+    if let Some(path) = to {
+        if let Some(error) = obstacle(rt, path) {
+            let _ = eprintln!(rt; "{program}: warning: cannot write {path}: {error}");
+        }
     }
 }
 

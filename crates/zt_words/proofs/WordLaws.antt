@@ -10,11 +10,11 @@ use Rattle.clap.specs.declared.parser.matches.Found.{Found}
 use Rattle.clap.specs.declared.parser.matches.ArgMatches.{ArgMatches}
 use Rattle.clap.proofs.WalkLemmas.{first_value-rows, one_text-rows, raw_values-rows}
 use Rattle.clap.proofs.OnLiterals.{clap_on_literals}
+use Rattle.zt_words.specs.declared.fault.Fault.{Fault}
 use Rattle.zt_words.specs.declared.no_question.NoQuestion.{NoQuestion}
 use Rattle.zt_words.specs.declared.question.Options.{Options}
 use Rattle.zt_words.specs.declared.question.Question.{Question}
 use Rattle.zt_words.specs.declared.words.Asked.{Asked}
-use Rattle.zt_words.specs.declared.words_fault.WordsFault.{WordsFault}
 use Rattle.zt_words.specs.LookWords.{AreOptionsOf, IsQuestionIn}
 use Rattle.zt_words.specs.Questions.{question_of}
 use Rattle.zt_words.specs.Rules.{IsFlagOf, IsNumberOf, IsOptionalNumberOf}
@@ -113,7 +113,7 @@ unfolding clap_on_literals
 line_is_simple = refl
 
 -- what is asked for by what was met, by the words
-pub asked_if_met : (words : List Text) (m : ArgMatches) (r : Result Asked WordsFault) → HasMatchesOf command_line words m
+pub asked_if_met : (words : List Text) (m : ArgMatches) (r : Result Asked Fault) → HasMatchesOf command_line words m
     → IfOk r (IsAskedBy (subcommand_rows_of m)) → IfOk r (IsAskedBy (subcommand_of command_line words))
 asked_if_met words m r has h = subst (λ met. IfOk r (IsAskedBy met)) (has line_is_simple).1 h
 

@@ -3,3 +3,4 @@ pub mod Rules
 pub mod Questions
 pub mod LookWords
 pub mod Words
+pub mod Statuses

@@ -1,4 +1,4 @@
-//! Reads the command line of `zxtt`.
+//! Reads the words of a command line, and those of `zxtt`.
 
 ghost use Rattle.std.specs.Prelude.{◌≡◌, IfOk, codes, false, map, string_bytes};
 ghost use Rattle.clap.specs.Words.{HasMatchesOf, app_of, found_of, new_app, rows_of, rule_of, subcommand_of, subcommand_rows_of, with_rule};
@@ -6,8 +6,8 @@ ghost use Rattle.clap.specs.declared.builder.command.Command.TheViews.{out-Comma
 ghost use Rattle.zt_words.specs.Rules.{flag, valued};
 ghost use Rattle.zt_words.specs.Words.{IsAskedBy, IsAskedWith, IsRunOf, IsStandardInput, IsServeOf, IsLookedFor, clients_word, command_line, file_word, port_word, run_line, serve_line, talk_line};
 
+use crate::fault::Fault;
 use crate::look_words::{Look, flag_in, look_command, look_of};
-use crate::words_fault::WordsFault;
 use clap::{Arg, ArgAction, ArgMatches, Command, Error, value_parser};
 use std::alloc::Global;
 use std::{env, fs};
@@ -131,21 +131,21 @@ pub enum Asked<'a> {
 }
 
 impl Words {
-    /// Reads the words, with the program's own name first. Fails with `Unread` or `OutOfMemory`.
-    pub fn of(rt: &HostRuntime) -> Result<Words, WordsFault> {
+    /// Reads the words, with the program's own name first. Fails with `Unread`, or with `Refused` and `OutOfMemory`.
+    pub fn of(rt: &HostRuntime) -> Result<Words, Fault> {
         let words = match env::args(rt) {
             Ok(words) => words,
-            Err(error) => return Err(WordsFault::Unread(error)),
+            Err(error) => return Err(Fault::Unread(error)),
         };
         match words.collect(rt.alloc()) {
             Ok(words) => Ok(Words { words }),
-            Err(_) => Err(WordsFault::OutOfMemory),
+            Err(_) => Err(Fault::of_memory()),
         }
     }
 
-    /// Returns what the words ask for. Without words, the program runs standard input. Fails with `Refused` if the words are not
+    /// Returns what the words ask for. Without words, the program runs standard input. Fails with `Words` if the words are not
     /// accepted or ask for help, and with `Unasked` if they ask `look` no question.
-    pub fn asked(&self, alloc: Global) -> Result<Asked<'_>, WordsFault>
+    pub fn asked(&self, alloc: Global) -> Result<Asked<'_>, Fault>
         ensures { IfOk result (IsAskedWith (map string_bytes self.now.words.items)) }
     {
         if self.words.len() <= 1 {
@@ -176,21 +176,23 @@ impl Words {
     }
 
     /// Returns what the words ask for, by the declared command line.
-    fn parsed(&self, alloc: Global) -> Result<Asked<'_>, WordsFault>
+    fn parsed(&self, alloc: Global) -> Result<Asked<'_>, Fault>
         ensures { IfOk result (IsAskedBy (subcommand_of command_line (map string_bytes self.now.words.items))) }
     {
-        match self.met(alloc) {
+        match self.met(command(alloc)?) {
             Ok(matches) => asked_of(&matches),
-            Err(error) => Err(WordsFault::Refused(error)),
+            Err(fault) => Err(fault),
         }
     }
 
-    /// Parses the words with clap.
-    fn met(&self, alloc: Global) -> Result<ArgMatches<'_>, Error>
-        ensures { IfOk result (HasMatchesOf command_line (map string_bytes self.now.words.items)) }
+    /// Parses the words by a declared command line. Fails with `Words` if they are not accepted or ask for help.
+    pub fn met<'a>(&'a self, line: Command<'a>) -> Result<ArgMatches<'a>, Fault>
+        ensures { IfOk result (HasMatchesOf (app_of line.entry) (map string_bytes self.now.words.items)) }
     {
-        let matches = command(alloc)?.try_get_matches_from(self.words.as_slice())?;
-        Ok(matches)
+        match line.try_get_matches_from(self.words.as_slice()) {
+            Ok(matches) => Ok(matches),
+            Err(error) => Err(Fault::Words(error)),
+        }
     }
 }
 
@@ -208,7 +210,7 @@ fn unasked<'a>() -> Asked<'a>
 }
 
 /// Returns what the parsed words ask for.
-fn asked_of<'a>(matches: &ArgMatches<'a>) -> Result<Asked<'a>, WordsFault>
+fn asked_of<'a>(matches: &ArgMatches<'a>) -> Result<Asked<'a>, Fault>
     ensures { IfOk result (IsAskedBy (subcommand_rows_of matches.now)) }
 {
     if let Some(run) = matches.subcommand_matches("run") {
@@ -223,12 +225,12 @@ fn asked_of<'a>(matches: &ArgMatches<'a>) -> Result<Asked<'a>, WordsFault>
 }
 
 /// Returns what the parsed words after `look` ask for.
-fn looked_for<'a>(words: &ArgMatches<'a>) -> Result<Asked<'a>, WordsFault>
+fn looked_for<'a>(words: &ArgMatches<'a>) -> Result<Asked<'a>, Fault>
     ensures { IfOk result (IsLookedFor (rows_of (found_of words.now))) }
 {
     match look_of(words) {
         Ok(look) => Ok(Asked::Look(look)),
-        Err(reason) => Err(WordsFault::Unasked(reason)),
+        Err(reason) => Err(Fault::Unasked(reason)),
     }
 }
 
@@ -282,7 +284,7 @@ fn talk_command<'a>(alloc: Global) -> Result<Command<'a>, Error>
 }
 
 /// The option `--from`: the session text with which the history begins.
-fn from_word<'a>(alloc: Global) -> Arg<'a>
+pub fn from_word<'a>(alloc: Global) -> Arg<'a>
     ensures rule { rule_of result ≡ valued (codes "from") }
     ensures global { result.global ≡ false }
 {
@@ -306,7 +308,7 @@ fn save_word<'a>(alloc: Global) -> Arg<'a>
 }
 
 /// The option `--save-tree`: the session text of the whole tree that the program writes.
-fn save_tree_word<'a>(alloc: Global) -> Arg<'a>
+pub fn save_tree_word<'a>(alloc: Global) -> Arg<'a>
     ensures rule { rule_of result ≡ valued (codes "save-tree") }
     ensures global { result.global ≡ false }
 {

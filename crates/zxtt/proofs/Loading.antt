@@ -6,8 +6,9 @@ use Rattle.zt_book.specs.Log.{BookView, first_book}
 use Rattle.zt_book.specs.Session.{first_client}
 use Rattle.zt_shared.specs.Sharing.{IsFresh}
 use Rattle.zt_console.specs.LoadedText.{IsLoadedOf, IsLoadedOfRead}
-use Rattle.zxtt.specs.declared.faults.Fault.{Fault}
-use Rattle.zxtt.specs.declared.faults.Fault.TheVariants as fault
+use Rattle.zt_words.specs.declared.fault.Fault.{Fault}
+use Rattle.zt_words.specs.declared.fault.Fault.TheVariants as fault
+use Rattle.zt_words.specs.Statuses.{TellsOfNoLine}
 use Rattle.zxtt.specs.Traces.{IsFaultOfText, TellsOfSomeText}
 
 pub first_clients : (b : BookView) (n : ℕ) → b ≡ first_book n → length b.session.clients ≡ n
@@ -25,6 +26,8 @@ some_loaded (Err reason) clients text h = tt
 told : (reason : Fault) (clients : ℕ) (text : List ℕ) → IsFaultOfText clients text reason → TellsOfSomeText clients reason
 told (fault.Trace line reason place) clients text h = (text, h)
 told (fault.Words error) clients text h = absurd h
+told (fault.Unread error) clients text h = absurd h
+told (fault.Unasked reason) clients text h = absurd h
 told (fault.Unopened path error) clients text h = absurd h
 told (fault.Unwritten part) clients text h = absurd h
 told (fault.Unlistened port error) clients text h = absurd h
@@ -34,6 +37,18 @@ told (fault.Refused reason) clients text h = absurd h
 pub some_fault : (r : Result BookView Fault) (clients : ℕ) (text : List ℕ) → IfErr r (IsFaultOfText clients text) → IfErr r (TellsOfSomeText clients)
 some_fault (Ok book) clients text h = tt
 some_fault (Err reason) clients text h = told reason clients text h
+
+-- A fault that tells of no line tells of one only where a text has it.
+pub no_line : (reason : Fault) (clients : ℕ) → TellsOfNoLine reason → TellsOfSomeText clients reason
+no_line (fault.Trace line why place) clients h = absurd h
+no_line (fault.Words error) clients h = tt
+no_line (fault.Unread error) clients h = tt
+no_line (fault.Unasked why) clients h = tt
+no_line (fault.Unopened path error) clients h = tt
+no_line (fault.Unwritten part) clients h = tt
+no_line (fault.Unlistened port error) clients h = tt
+no_line (fault.Unconnected error) clients h = tt
+no_line (fault.Refused why) clients h = tt
 
 -- So is what is loaded.
 pub fresh_loaded : (r : Result BookView Fault) (clients : ℕ) (text : List ℕ) → IfOk r (λ book. length book.session.clients ≡ clients) → IfOk r (IsLoadedOf clients text) → IfOk r (IsFresh clients)

@@ -3,8 +3,8 @@ use Rattle.std.specs.Prelude.{◌≡◌, ℕ, List, Option, Some, None, ⊤}
 use Rattle.std.specs.Borrow.{Bor}
 use Rattle.zt_book.specs.Log.{BookView, first_book}
 use Rattle.zt_console.specs.LoadedText.{IsLoadedOf, IsNotLoaded}
-use Rattle.zxtt.specs.declared.faults.Fault.{Fault}
-use Rattle.zxtt.specs.declared.faults.Fault.TheVariants as fault
+use Rattle.zt_words.specs.declared.fault.Fault.{Fault}
+use Rattle.zt_words.specs.declared.fault.Fault.TheVariants as fault
 
 -- the fault of a session text that is not loaded, with its line
 abbrev pub IsFaultOfText : ℕ → List ℕ → Fault → Type 0

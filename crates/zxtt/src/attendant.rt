@@ -1,6 +1,5 @@
 //! The attendant of a person who runs lines: it greets, prompts, answers asides, and explains refused lines.
 
-use crate::faults::Fault;
 use crate::place::Place;
 use std::alloc::AllocError;
 use std::cell::Cell;
@@ -165,22 +164,4 @@ Commands:
 Only at a terminal:
   help    where    quit
 "
-}
-
-/// Shows the wrong line of a session text, if one ended the program. It does so only if that is asked for, or if standard error
-/// is a terminal.
-pub fn show_trace_line(rt: &HostRuntime, fault: &Fault, is_asked: bool) {
-    let Fault::Trace {
-        line,
-        refusal,
-        place: Some(place),
-    } = fault
-    else {
-        return;
-    };
-    if is_asked || rt.stderr().is_terminal() {
-        if let Ok(text) = place.explained(rt.alloc(), *line, *refusal) {
-            let _ = eprint!(rt; "{text}");
-        }
-    }
 }

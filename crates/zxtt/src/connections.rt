@@ -2,13 +2,12 @@
 
 ghost use Rattle.std.specs.Prelude.{◌≡◌, IfOk};
 
-use crate::faults::Fault;
 use std::io;
 use std::net::{Shutdown, TcpListener, TcpStream};
 use std::sync::atomic::{AtomicU64, Ordering};
 use zt_console::Counted;
 use zt_shared::Gate;
-use zt_words::{Heading, said_of};
+use zt_words::{Fault, Heading, said_of};
 
 /// The two directions of a client's connection: its reader and its writer.
 pub type Directions = (Counted<TcpStream>, Counted<TcpStream>);

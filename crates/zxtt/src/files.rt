@@ -5,23 +5,10 @@ ghost use Rattle.zt_shared.specs.Sharing.{IsFresh};
 ghost use Rattle.zt_console.specs.LoadedText.{IsLoadedOf};
 ghost use Rattle.zxtt.specs.Traces.{IsFaultOfText, TellsOfSomeText};
 
-use crate::faults::Fault;
 use std::alloc::Global;
-use std::fs::File;
-use std::io::Read;
 use zt_console::{Book, LoadProgress, load_read, load_text_told, main_text, tree_text};
-use zt_files::{FileFault, Progress, is_regular, read_rest, rewind, write_whole};
-use zt_words::TraceLine;
-
-/// Opens a file for reading. Fails with `Unopened`, or with `Refused` and `OutOfMemory`.
-pub fn open(rt: &HostRuntime, path: &str) -> Result<File, Fault>
-    ensures { (clients : ℕ) → IfErr result (TellsOfSomeText clients) }
-{
-    match zt_files::open(rt, path) {
-        Ok(file) => Ok(file),
-        Err(fault) => Err(Fault::of_file(fault)),
-    }
-}
+use zt_files::{Progress, is_regular, open, read_rest, rewind, write_whole};
+use zt_words::{Fault, TraceLine};
 
 /// Loads a session text from a file into a book with this many clients. A person at a terminal sees the progress.
 ///
@@ -43,11 +30,11 @@ pub fn load(rt: &HostRuntime, clients: u8, path: &str) -> Result<Book, Fault>
         if let Some(book) = load_read(rt.alloc(), clients, &mut file) {
             return Ok(book);
         }
-        if let Err(fault) = go_back(&mut file) {
+        if let Err(fault) = rewind(&mut file) {
             return Err(fault);
         }
     }
-    let text = match rest(rt.alloc(), &mut file) {
+    let text = match read_rest(rt.alloc(), &mut file) {
         Ok(text) => text,
         Err(fault) => return Err(fault),
     };
@@ -67,12 +54,13 @@ pub fn load_looked(rt: &HostRuntime, file: &str) -> Result<Book, Fault>
 }
 
 /// Loads a session text from standard input into a book with this many clients.
+#[tactic(auto, using(crate::proofs::Loading::no_line))]
 fn load_input(rt: &HostRuntime, clients: u8) -> Result<Book, Fault>
     ensures loaded { IfOk result (λ book. (text : List ℕ) × IsLoadedOf clients text book) }
     ensures refused { IfErr result (TellsOfSomeText clients) }
 {
     let told = Progress::new(rt, "zxtt");
-    let text = match rest(rt.alloc(), &mut rt.stdin()) {
+    let text = match read_rest(rt.alloc(), &mut rt.stdin()) {
         Ok(text) => text,
         Err(fault) => return Err(fault),
     };
@@ -83,26 +71,6 @@ fn load_input(rt: &HostRuntime, clients: u8) -> Result<Book, Fault>
         text.as_slice(),
         &told,
     )
-}
-
-/// Goes back to the beginning of a file.
-fn go_back(file: &mut File) -> Result<(), Fault>
-    ensures { (clients : ℕ) → IfErr result (TellsOfSomeText clients) }
-{
-    match rewind(file) {
-        Ok(()) => Ok(()),
-        Err(fault) => Err(Fault::of_file(fault)),
-    }
-}
-
-/// Reads all bytes that are left of a file or of standard input.
-fn rest<R: Read>(alloc: Global, reader: &mut R) -> Result<Vec<u8>, Fault>
-    ensures { (clients : ℕ) → IfErr result (TellsOfSomeText clients) }
-{
-    match read_rest(alloc, reader) {
-        Ok(text) => Ok(text),
-        Err(fault) => Err(Fault::of_file(fault)),
-    }
 }
 
 /// Loads a session text, which was read from `path`, into a book with this many clients. Erases the line of progress at the end.
@@ -132,15 +100,6 @@ fn book_of(
     }
 }
 
-/// Says on standard error that a file cannot be written, if one is named and that shows before there is anything to write.
-pub fn look_ahead(rt: &HostRuntime, to: Option<&str>) {
-    if let Some(path) = to {
-        if let Err(FileFault::Unopened { path, error }) = zt_files::look_ahead(rt, path) {
-            let _ = eprintln!(rt; "zxtt: warning: cannot write {path}: {error}");
-        }
-    }
-}
-
 /// Writes the session text of the path to the head of `main`, if a file is named. `write_whole` says what an existing file has
 /// after a failure.
 pub fn save(rt: &HostRuntime, book: &Book, to: Option<&str>) -> Result<(), Fault> {
@@ -148,7 +107,7 @@ pub fn save(rt: &HostRuntime, book: &Book, to: Option<&str>) -> Result<(), Fault
         return Ok(());
     };
     let text = main_text(rt.alloc(), book)?;
-    written(write_whole(rt, path, text.as_slice()))
+    write_whole(rt, path, text.as_slice())
 }
 
 /// Writes the session text of the whole tree, if a file is named. `write_whole` says what an existing file has after a failure.
@@ -157,13 +116,5 @@ pub fn save_tree(rt: &HostRuntime, book: &Book, to: Option<&str>) -> Result<(), 
         return Ok(());
     };
     let text = tree_text(rt.alloc(), book)?;
-    written(write_whole(rt, path, text.as_slice()))
-}
-
-/// Converts the error of a file that was not written.
-fn written(done: Result<(), FileFault>) -> Result<(), Fault> {
-    match done {
-        Ok(()) => Ok(()),
-        Err(fault) => Err(Fault::of_file(fault)),
-    }
+    write_whole(rt, path, text.as_slice())
 }

@@ -5,7 +5,6 @@ ghost use Rattle.zt_history.specs.HistoryRefusals.{moment_on};
 ghost use Rattle.zxtt.specs.LookedAt.{head_named, path_end};
 
 use crate::answer_lines::{AnswerLines, Stopped};
-use crate::faults::Fault;
 use crate::files::load_looked;
 use crate::leave;
 use std::alloc::Global;
@@ -17,7 +16,7 @@ use zt_look::{
     print_event, print_fate, print_handle, print_object, print_queued_message, print_when, summary,
 };
 use zt_rows::{Call, Happening, Koid, Moment, Refusal};
-use zt_words::{Look, Question};
+use zt_words::{Fault, Look, Question};
 
 /// Answers a question on standard output. If nobody reads the output any more, it ends at once without an error.
 pub fn look(rt: &HostRuntime, asked: &Look<'_>) -> Result<(), Fault> {

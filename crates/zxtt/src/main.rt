@@ -2,18 +2,15 @@
 #![tactic(auto)]
 
 ghost use Rattle.std.specs.Prelude.{◌≡◌, ◌≤◌, length, IfErr, IfOk};
-ghost use Rattle.std.specs.Process.{exit_status};
 ghost use Rattle.zt_rows.specs.declared.refusals.Refusal.{Refusal};
 ghost use Rattle.zt_console.specs.declared.run_loop.End.TheVariants.{Finished, Stopped};
 ghost use Rattle.zt_shared.specs.Sharing.{IsFresh};
-ghost use Rattle.zxtt.specs.declared.faults.Fault.TheVariants.{Refused};
-ghost use Rattle.zxtt.specs.Statuses.{end_status};
+ghost use Rattle.zt_words.specs.declared.fault.Fault.TheVariants.{Refused};
 ghost use Rattle.zxtt.specs.Traces.{BeginsFrom};
 
 mod answer_lines;
 mod attendant;
 mod connections;
-mod faults;
 mod files;
 mod look;
 mod place;
@@ -21,9 +18,8 @@ mod service;
 mod terminal;
 mod typed_reader;
 
-use attendant::{Attendant, show_trace_line};
-use faults::Fault;
-use files::{load, look_ahead, open, save, save_tree};
+use attendant::Attendant;
+use files::{load, save, save_tree};
 use look::look;
 use service::serve;
 use std::io::Read;
@@ -32,12 +28,13 @@ use std::process::ExitCode;
 use terminal::Attended;
 use typed_reader::TypedLines;
 use zt_console::{Book, Counted, End, run_heard};
-use zt_words::{Asked, RunWords, ServeWords, Words, WordsFault};
+use zt_files::{open, warn_ahead};
+use zt_words::{Asked, Fault, RunWords, ServeWords, Words, ended};
 
 fn main(rt: HostRuntime) -> ExitCode {
     let words = match Words::of(&rt) {
         Ok(words) => words,
-        Err(fault) => return ended(&rt, &Err(Fault::Words(fault)), false),
+        Err(fault) => return ended(&rt, "zxtt", &Err(fault), false),
     };
     let done = match words.asked(rt.alloc()) {
         Ok(Asked::Run(asked)) => run_asked(&rt, &asked),
@@ -50,31 +47,16 @@ fn main(rt: HostRuntime) -> ExitCode {
             Err(fault) => Err(fault),
         },
         Ok(Asked::Look(asked)) => look(&rt, &asked),
-        Err(fault) => Err(Fault::Words(fault)),
+        Err(fault) => Err(fault),
     };
-    let status = ended(&rt, &done, words.ask_to_explain());
+    let status = ended(&rt, "zxtt", &done, words.ask_to_explain());
     say_where_traces_stand(&rt, &words, &done);
     status
 }
 
-/// Reports why the program ended early, if it did, and returns its exit status. If asked for, it also explains the wrong line of
-/// a session text.
-fn ended(rt: &HostRuntime, done: &Result<(), Fault>, explains: bool) -> ExitCode
-    ensures { exit_status result ≡ end_status done.now }
-{
-    match done {
-        Ok(()) => ExitCode::SUCCESS,
-        Err(fault) => {
-            let _ = eprintln!(rt; "{fault}");
-            show_trace_line(rt, fault, explains);
-            ExitCode::from(fault.status())
-        }
-    }
-}
-
 /// Says where the path of a trace must be, if the words were not accepted and a file is in the place of a subcommand.
 fn say_where_traces_stand(rt: &HostRuntime, words: &Words, done: &Result<(), Fault>) {
-    if !matches!(done, Err(Fault::Words(WordsFault::Refused(_)))) {
+    if !matches!(done, Err(Fault::Words(_))) {
         return;
     }
     if let Some(file) = words.file_alone(rt) {
@@ -103,7 +85,7 @@ fn begin_to_serve(rt: &HostRuntime, words: &ServeWords<'_>) -> Result<Book, Faul
     ensures { IfOk result (IsFresh words.now.clients) }
 {
     let book = begin(rt, words.clients, words.from)?;
-    look_ahead(rt, words.save_tree);
+    warn_ahead(rt, "zxtt", words.save_tree);
     Ok(book)
 }
 
@@ -168,8 +150,8 @@ fn run_file(rt: &HostRuntime, book: Book, words: &RunWords<'_>) -> Result<Book, 
 
 /// Says which files could not be saved at the end, as far as that shows before any line is read.
 fn tell_ahead(rt: &HostRuntime, words: &RunWords<'_>) {
-    look_ahead(rt, words.save);
-    look_ahead(rt, words.save_tree);
+    warn_ahead(rt, "zxtt", words.save);
+    warn_ahead(rt, "zxtt", words.save_tree);
 }
 
 /// Runs the lines of standard input, which a person may type.

@@ -6,7 +6,6 @@ ghost use Rattle.zt_shared.specs.Sharing.{IsFresh};
 ghost use Rattle.zt_console.specs.Sessions.{IsCountable};
 
 use crate::connections::Connections;
-use crate::faults::Fault;
 use std::alloc::Global;
 use std::io;
 use std::marker::Brand;
@@ -17,6 +16,7 @@ use zt_console::{Book, Caller, Counted, sessions};
 use zt_rows::Refusal;
 use zt_shared::account::Naming;
 use zt_shared::{Beginning, Blanks, Pass, open_book};
+use zt_words::Fault;
 
 /// Serves this many clients that connect to a port of 127.0.0.1 over the book, and returns the book. When all of them have gone,
 /// it prints how many rows the log has. If asked for, it explains refused lines.

@@ -9,21 +9,22 @@ use faults::Fault;
 use files::{read, write};
 use std::alloc::AllocError;
 use std::process::ExitCode;
-use words::{Asked, Words};
+use words::{Asked, asked};
 use zt_import::{
     Imported, LeftCalls, adopted_in, calls_in, import, join_starts, leave_out, moved_in, pairs_in,
     place_requests, print_difference, print_left, print_skipped, skips_handles, trace_text,
 };
 use zt_logs::{CallLog, Cause, LogFault, read_log};
+use zt_words::Words;
 
 fn main(rt: HostRuntime) -> ExitCode {
     let words = match Words::of(&rt) {
         Ok(words) => words,
-        Err(fault) => return ended(&rt, &Err(fault)),
+        Err(fault) => return ended(&rt, &Err(Fault::from(fault))),
     };
-    let done = match words.asked(rt.alloc()) {
+    let done = match asked(&words, rt.alloc()) {
         Ok(asked) => make_trace(&rt, &asked),
-        Err(fault) => Err(fault),
+        Err(fault) => Err(Fault::from(fault)),
     };
     ended(&rt, &done)
 }

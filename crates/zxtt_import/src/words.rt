@@ -1,9 +1,8 @@
 //! The command line: its arguments, and its help.
 
-use crate::faults::Fault;
 use clap::{Arg, ArgAction, ArgMatches, Command, Error};
 use std::alloc::Global;
-use std::env;
+use zt_words::{Fault, Words};
 
 // No clause tells the texts that these functions return. So a proof of their callers does not go over the bytes.
 
@@ -46,47 +45,21 @@ Exit statuses:
   7  with --strict, a reply differs, or a skipped call names a handle of the log"
 }
 
-/// The arguments of the program.
-#[derive(Drop)]
-pub struct Words {
-    words: Vec<String>,
-}
-
 /// What the arguments ask for.
 #[derive(Clone, Copy)]
 pub struct Asked<'a> {
     /// The path of the log, or `-`.
     pub log: &'a str,
-    /// The path of the trace. None, or `-`, is standard output.
+    /// The path of the trace. None is standard output.
     pub to: Option<&'a str>,
     pub is_strict: bool,
 }
 
-impl Words {
-    /// The arguments, with the program's own name. The error is `Unread` if they are not text, or `OutOfMemory`.
-    pub fn of(rt: &HostRuntime) -> Result<Words, Fault> {
-        let words = match env::args(rt) {
-            Ok(words) => words,
-            Err(error) => return Err(Fault::Unread(error)),
-        };
-        match words.collect(rt.alloc()) {
-            Ok(words) => Ok(Words { words }),
-            Err(_) => Err(Fault::OutOfMemory),
-        }
-    }
-
-    /// What the arguments ask for. The error is `Words`, also if they ask for help or the version.
-    pub fn asked(&self, alloc: Global) -> Result<Asked<'_>, Fault> {
-        match self.met(alloc) {
-            Ok(matches) => Ok(asked_of(&matches)),
-            Err(error) => Err(Fault::Words(error)),
-        }
-    }
-
-    /// Matches the arguments.
-    fn met(&self, alloc: Global) -> Result<ArgMatches<'_>, Error> {
-        let matches = command(alloc)?.try_get_matches_from(self.words.as_slice())?;
-        Ok(matches)
+/// What the words ask for. The error is `Words` if they are not accepted or ask for help or the version.
+pub fn asked<'a>(words: &'a Words, alloc: Global) -> Result<Asked<'a>, Fault> {
+    match words.met(command(alloc)?) {
+        Ok(matches) => Ok(asked_of(&matches)),
+        Err(fault) => Err(fault),
     }
 }
 
@@ -94,7 +67,10 @@ impl Words {
 fn asked_of<'a>(matches: &ArgMatches<'a>) -> Asked<'a> {
     Asked {
         log: matches.get_str("LOG").unwrap_or("-"),
-        to: matches.get_str("to"),
+        to: match matches.get_str("to") {
+            Some("-") => None,
+            to => to,
+        },
         is_strict: matches.get_flag("strict"),
     }
 }

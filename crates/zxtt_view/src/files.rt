@@ -3,12 +3,12 @@
 ghost use Rattle.std.specs.Prelude.{◌≡◌, IfOk, List, length, ℕ};
 ghost use Rattle.zt_console.specs.LoadedText.{IsLoadedOf};
 
-use crate::faults::Fault;
 use std::alloc::Global;
 use std::io::Write;
 use zt_console::{Book, load_text_told, tree_text};
-use zt_files::{FileFault, Progress, read_whole, write_whole};
+use zt_files::{Progress, read_whole, write_whole};
 use zt_view::View;
+use zt_words::{Fault, TraceLine};
 
 /// Loads a session text from a file into a book with one client. A person at a terminal sees the progress.
 pub fn load(rt: &HostRuntime, path: &str) -> Result<Book, Fault>
@@ -16,13 +16,18 @@ pub fn load(rt: &HostRuntime, path: &str) -> Result<Book, Fault>
     ensures clients { IfOk result (λ book. length book.session.clients ≡ 1) }
 {
     match read_whole(rt, path) {
-        Ok(text) => book_of(rt.alloc(), text.as_slice(), &Progress::new(rt, "zxtt-view")),
-        Err(fault) => Err(Fault::from(fault)),
+        Ok(text) => book_of(
+            rt.alloc(),
+            path,
+            text.as_slice(),
+            &Progress::new(rt, "zxtt-view"),
+        ),
+        Err(fault) => Err(fault),
     }
 }
 
-/// Loads a session text into a book with one client. Erases the line of progress at the end.
-fn book_of(alloc: Global, text: &[u8], told: &Progress<'_>) -> Result<Book, Fault>
+/// Loads a session text, which was read from `path`, into a book with one client. Erases the line of progress at the end.
+fn book_of(alloc: Global, path: &str, text: &[u8], told: &Progress<'_>) -> Result<Book, Fault>
     ensures loaded { IfOk result (IsLoadedOf 1 text.now) }
     ensures clients { IfOk result (λ book. length book.session.clients ≡ 1) }
 {
@@ -30,16 +35,11 @@ fn book_of(alloc: Global, text: &[u8], told: &Progress<'_>) -> Result<Book, Faul
     told.wipe();
     match loaded {
         Ok(book) => Ok(book),
-        Err((line, refusal)) => Err(Fault::Trace { line, refusal }),
-    }
-}
-
-/// Says on standard error that a file cannot be written, if one is named and that shows before there is anything to write.
-pub fn look_ahead(rt: &HostRuntime, to: Option<&str>) {
-    if let Some(path) = to {
-        if let Err(FileFault::Unopened { path, error }) = zt_files::look_ahead(rt, path) {
-            let _ = eprintln!(rt; "zxtt-view: warning: cannot write {path}: {error}");
-        }
+        Err((line, refusal)) => Err(Fault::Trace {
+            line,
+            refusal,
+            place: TraceLine::of(alloc, path, text, line),
+        }),
     }
 }
 
@@ -57,6 +57,5 @@ pub fn save_tree(rt: &HostRuntime, view: &View, to: Option<&str>) -> Result<(), 
 /// Writes the session text of the whole tree of a book.
 fn save_book(rt: &HostRuntime, book: &Book, path: &str) -> Result<(), Fault> {
     let text = tree_text(rt.alloc(), book)?;
-    write_whole(rt, path, text.as_slice())?;
-    Ok(())
+    write_whole(rt, path, text.as_slice())
 }

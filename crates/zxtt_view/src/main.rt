@@ -3,55 +3,44 @@
 
 ghost use Rattle.std.specs.Prelude.{◌≤◌, IfOk, length};
 
-mod faults;
 mod files;
 mod server;
 mod socket;
 mod words;
 
-use faults::Fault;
-use files::{load, look_ahead, save_tree};
+use files::{load, save_tree};
 use mio::net::TcpListener;
 use server::{listen, serve};
 use std::io::Write;
 use std::process::{self, ExitCode};
 use std::time::SystemTime;
-use words::{Asked, Words};
+use words::{Asked, asked};
 use zt_console::Book;
+use zt_files::warn_ahead;
 use zt_rows::Refusal;
 use zt_view::View;
+use zt_words::{Fault, Words, ended};
 
 fn main(rt: HostRuntime) -> ExitCode {
     let words = match Words::of(&rt) {
         Ok(words) => words,
-        Err(fault) => return ended(&rt, &Err(fault)),
+        Err(fault) => return ended(&rt, "zxtt-view", &Err(fault), false),
     };
-    let done = match words.asked(rt.alloc()) {
+    let done = match asked(&words, rt.alloc()) {
         Ok(asked) => match begin(&rt, &asked) {
             Ok((listener, view)) => save_viewed(&rt, serve(&rt, listener, view), asked.save_tree),
             Err(fault) => Err(fault),
         },
         Err(fault) => Err(fault),
     };
-    ended(&rt, &done)
-}
-
-/// Reports why the program ended early, if it did, and returns its exit status.
-fn ended(rt: &HostRuntime, done: &Result<(), Fault>) -> ExitCode {
-    match done {
-        Ok(()) => ExitCode::SUCCESS,
-        Err(fault) => {
-            let _ = eprintln!(rt; "{fault}");
-            ExitCode::from(fault.status())
-        }
-    }
+    ended(&rt, "zxtt-view", &done, false)
 }
 
 /// Loads the book, listens on a port, and says where the page is.
 fn begin(rt: &HostRuntime, asked: &Asked<'_>) -> Result<(TcpListener, View), Fault> {
     let book = begun(rt, asked.from)?;
     let (listener, port) = listen(rt, asked.port)?;
-    look_ahead(rt, asked.save_tree);
+    warn_ahead(rt, "zxtt-view", asked.save_tree);
     let trace = file_name(asked.from.unwrap_or(""));
     let view = match View::new(rt.alloc(), port, start_number(rt), trace, book) {
         Ok(view) => view,

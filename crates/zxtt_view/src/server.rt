@@ -1,6 +1,5 @@
 //! Serves all sockets on one thread.
 
-use crate::faults::Fault;
 use crate::socket::{Socket, Turn};
 use http_server::{Config, Connection};
 use mio::net::{TcpListener, TcpStream};
@@ -14,6 +13,7 @@ use std::random::RandomSource;
 use std::sync::Wait;
 use std::time::{Clock, Duration, Instant};
 use zt_view::View;
+use zt_words::Fault;
 
 /// How many connections there are at most. One more takes the place of the connection that was idle the longest.
 const SOCKETS: usize = 64;

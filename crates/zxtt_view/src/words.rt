@@ -1,9 +1,8 @@
 //! Reads the command line of `zxtt-view`.
 
-use crate::faults::Fault;
 use clap::{Arg, ArgAction, ArgMatches, Command, Error, value_parser};
 use std::alloc::Global;
-use std::env;
+use zt_words::{Fault, Words, from_word, save_tree_word};
 
 // The contracts do not say which texts these functions return, so proofs of their callers need not go over the bytes.
 
@@ -15,11 +14,6 @@ It listens on a port of 127.0.0.1, prints the address of its page, and serves th
 until you end it there. On the page you step through the calls of a trace, back and
 forth, try other futures on branches, and see what each call changed. `zxtt` answers
 the same lines without a browser."
-}
-
-/// The help of `--from`.
-fn from_help() -> &'static str {
-    "Loads a trace first: the calls or the whole tree of a session file"
 }
 
 /// The help of `TRACE`.
@@ -50,12 +44,6 @@ Exit statuses:
   6  anything else was refused, such as a line of a loaded trace"
 }
 
-/// The words with which the program was started.
-#[derive(Drop)]
-pub struct Words {
-    pub words: Vec<String>,
-}
-
 /// What the words ask for. `port` is 0 for a free one. The history begins with `from`, and its tree is saved to `save_tree`.
 #[derive(Clone, Copy)]
 pub struct Asked<'a> {
@@ -64,31 +52,11 @@ pub struct Asked<'a> {
     pub save_tree: Option<&'a str>,
 }
 
-impl Words {
-    /// Reads the words, with the program's own name first. Fails with `Unread`, or with `Refused` and `OutOfMemory`.
-    pub fn of(rt: &HostRuntime) -> Result<Words, Fault> {
-        let words = match env::args(rt) {
-            Ok(words) => words,
-            Err(error) => return Err(Fault::Unread(error)),
-        };
-        match words.collect(rt.alloc()) {
-            Ok(words) => Ok(Words { words }),
-            Err(_) => Err(Fault::of_memory()),
-        }
-    }
-
-    /// Returns what the words ask for. Fails with `Words` if they are not accepted or ask for help.
-    pub fn asked(&self, alloc: Global) -> Result<Asked<'_>, Fault> {
-        match self.met(alloc) {
-            Ok(matches) => Ok(asked_of(&matches)),
-            Err(error) => Err(Fault::Words(error)),
-        }
-    }
-
-    /// Parses the words with clap.
-    fn met(&self, alloc: Global) -> Result<ArgMatches<'_>, Error> {
-        let matches = command(alloc)?.try_get_matches_from(self.words.as_slice())?;
-        Ok(matches)
+/// Returns what the words ask for. Fails with `Words` if they are not accepted or ask for help.
+pub fn asked<'a>(words: &'a Words, alloc: Global) -> Result<Asked<'a>, Fault> {
+    match words.met(command(alloc)?) {
+        Ok(matches) => Ok(asked_of(&matches)),
+        Err(fault) => Err(fault),
     }
 }
 
@@ -114,7 +82,7 @@ fn command<'a>(alloc: Global) -> Result<Command<'a>, Error> {
             .arg(trace_word(alloc)?)?
             .arg(from_word(alloc))?
             .arg(port_word(alloc))?
-            .arg(save_tree_word(alloc))?,
+            .arg(save_tree_word(alloc).help(save_tree_help()))?,
     )
 }
 
@@ -126,15 +94,6 @@ fn trace_word<'a>(alloc: Global) -> Result<Arg<'a>, Error> {
     Ok(trace.conflicts_with("from")?)
 }
 
-/// The option `--from`: the session text with which the history begins.
-fn from_word<'a>(alloc: Global) -> Arg<'a> {
-    Arg::new(alloc, "from")
-        .long("from")
-        .value_name("TRACE")
-        .action(ArgAction::Set)
-        .help(from_help())
-}
-
 /// The option `--port`: the port to listen on.
 fn port_word<'a>(alloc: Global) -> Arg<'a> {
     Arg::new(alloc, "port")
@@ -143,13 +102,4 @@ fn port_word<'a>(alloc: Global) -> Arg<'a> {
         .action(ArgAction::Set)
         .value_parser(value_parser!(u16).range(1..=65_535))
         .help(port_help())
-}
-
-/// The option `--save-tree`: the session text of the whole tree that the program writes.
-fn save_tree_word<'a>(alloc: Global) -> Arg<'a> {
-    Arg::new(alloc, "save-tree")
-        .long("save-tree")
-        .value_name("OUT")
-        .action(ArgAction::Set)
-        .help(save_tree_help())
 }
