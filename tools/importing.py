@@ -8,7 +8,7 @@ from random_log import Answered
 from trials import LIMIT, Trouble, expect, lines_of, run, run_well
 
 LAST = re.compile(
-    r'zxtt-import: (\d+) calls from (\d+) lines, (\d+) skipped, (\d+) adopted, (\d+) pairs joined, (\d+) moved; '
+    r'zxtt-import: (\d+) calls of (\d+) lines, (\d+) skipped, (\d+) adopted, (\d+) pairs by their messages, (\d+) moved; '
     r'(\d+) differences, (\d+) of them by the schedule'
 )
 NOTHING = 4294967292  # the handle of a trace by which nothing is named

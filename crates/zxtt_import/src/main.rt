@@ -147,6 +147,6 @@ fn tell_counts(rt: &HostRuntime, log: &CallLog, imported: &Imported) {
     let differing = imported.count();
     let scheduled = imported.by_schedule();
     let _ = eprintln!(rt;
-        "zxtt-import: {calls} calls from {lines} lines, {skipped} skipped, {adopted} adopted, {pairs} pairs joined, {moved} moved; {differing} differences, {scheduled} of them by the schedule"
+        "zxtt-import: {calls} calls of {lines} lines, {skipped} skipped, {adopted} adopted, {pairs} pairs by their messages, {moved} moved; {differing} differences, {scheduled} of them by the schedule"
     );
 }
