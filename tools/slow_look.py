@@ -258,12 +258,22 @@ class Trace:
 
 
 def changed(trace, moment, names=False):
+    return change_lines(trace.changes[moment], trace.before(moment) if moment else trace.states[0], trace.states[moment], names)
+
+
+def changed_between(trace, first, second, names=False):
+    before, after = trace.states[first], trace.states[second]
+    return change_lines(changes(before, after), before, after, names)
+
+
+def change_lines(rows, before, after, names):
+    """The lines of rows that differ between two states."""
     lines = []
-    for _, before, after in trace.changes[moment]:
-        kind = trace.states[moment].kind_of_row(after) or (moment and trace.before(moment).kind_of_row(before)) or None
+    for _, one, other in rows:
+        kind = after.kind_of_row(other) or before.kind_of_row(one)
         shown = (lambda row: named_row(row, kind)) if names else str
-        lines += [f'- {shown(before)}'] if before else []
-        lines += [f'+ {shown(after)}'] if after else []
+        lines += [f'- {shown(one)}'] if one else []
+        lines += [f'+ {shown(other)}'] if other else []
     return lines
 
 

@@ -48,18 +48,6 @@ refused-on t m y given h = by (nat_le m (last_moment t)) h
 pub memory-on : {A : Type 0} (t : Tree) (m : ℕ) (y : A) (given : Refusal) → moment_on t m ≡ Ok m → given ≡ refusal.OutOfMemory → IsHistoryRefusal (moment_on t m >>= λ _. Ok y) given
 memory-on t m y given e h = subst (λ r. IsHistoryRefusal (r >>= λ _. Ok y) given) (sym e) h
 
--- the moment before one that is there is there too
-parent-there : (t : Tree) → Falls t.made → (m : ℕ) → m ≤ last_moment t → parent_at t.made m ≤ last_moment t
-parent-there t falls zero h = omega arith
-parent-there t falls (suc i) h = omega (arith, h, falls i)
-
--- so that it is refused for want of memory alone, as the one that is there
-pub parent_memory : (t : Tree) → Falls t.made → (m : ℕ) (given : Refusal) → moment_on t m ≡ Ok m → IsHistoryRefusal (moment_on t (parent_at t.made m)) given → IsHistoryRefusal (moment_on t m) given
-parent_memory t falls m given e h =
-    let there : parent_at t.made m ≤ last_moment t = parent-there t falls m (moment-there t m e) in
-    let yes : nat_le (parent_at t.made m) (last_moment t) ≡ true = grind (arith, nat_tests) in
-    subst (λ r. IsHistoryRefusal r given) (sym e) (subst (λ b. IsHistoryRefusal (check b refusal.NoMoment >>= λ _. Ok (parent_at t.made m)) given) yes h)
-
 -- ---- along a path
 
 pub prefix-path : (made : List Made) → Falls made → (way : List ℕ) → IsPath made way → (i : ℕ) → i < length way → IsPath made (take (i + 1) way)

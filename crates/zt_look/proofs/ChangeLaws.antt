@@ -36,7 +36,7 @@ changes-same S = ap (map (pair_at S S)) (changed-same S)
 pub row-turned : (S T : State) (k : RowKey) → row_before (before S T) k (row T k) ≡ row S k
 row-turned S T k = sym (row-with_rows T (before S T) k) ∙ ap (λ U. row U k) (with_rows-before S T)
 
-keys-before : (S T : State) → map (λ e. e.0) (before S T) ≡ changed S T
+pub keys-before : (S T : State) → map (λ e. e.0) (before S T) ≡ changed S T
 unfolding before
 keys-before S T = all (changed S T)
   where
@@ -58,7 +58,7 @@ changes-before S T = under-before S T (map (λ e. e.0) (before S T)) ∙ ap (map
 some_same : {A : Type 0} (x y : A) → Some x ≡ Some y → x ≡ y
 some_same x y e = cc
 
-none_there : {A B : Type 0} (f : A → B) (o : Option A) (x : A) → o ≡ Some x → option_map f o ≡ None → ⊥
+pub none_there : {A B : Type 0} (f : A → B) (o : Option A) (x : A) → o ≡ Some x → option_map f o ≡ None → ⊥
 none_there f o x e n = cc
 
 -- where there is no record there is no call, and nothing changed
@@ -73,7 +73,7 @@ unfolding record_of
 turned made falls i =
     ap (λ b. if b then before (state_at made (parent_at made (suc i))) (state_at made (suc i)) else before (state_at made (suc i)) (state_at made (parent_at made (suc i)))) (among-self made falls i)
 
-given_record : {A B : Type 0} (o : Option A) (x y : B) → option_map (λ _. x) o ≡ Some y → x ≡ y
+pub given_record : {A B : Type 0} (o : Option A) (x y : B) → option_map (λ _. x) o ≡ Some y → x ≡ y
 given_record (Some a) x y e = some_same x y e
 given_record None x y e = cc
 

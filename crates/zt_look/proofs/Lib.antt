@@ -1,4 +1,5 @@
 pub mod ChangeLaws
+pub mod TwoStateLaws
 pub mod HandleLaws
 pub mod CallLaws
 pub mod SearchLaws

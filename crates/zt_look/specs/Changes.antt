@@ -1,4 +1,5 @@
--- What a call changed: the rows in which the state of its moment and that of the moment before it differ. This project's own.
+-- What a call changed: the rows in which the state of its moment and that of the moment before it differ. And the rows in which
+-- the states of any two moments differ. This project's own.
 use Rattle.std.specs.Prelude.{ℕ, List, map, Result, Ok}
 use Rattle.zt_rows.specs.declared.refusals.Refusal.{Refusal}
 use Rattle.zt_rows.specs.Change.{changed}
@@ -20,3 +21,17 @@ abbrev pub changed_on : Tree → ℕ → Result (List Change) Refusal
 changed_on t m = do
   _ ← moment_on t m
   Ok (changes_at t.made m)
+
+-- ---- between two moments
+
+-- both are moments of the tree
+abbrev pub both_on : Tree → ℕ → ℕ → Result ℕ Refusal
+both_on t a b = do
+  _ ← moment_on t a
+  moment_on t b
+
+-- the rows in which the states of two moments differ, of whatever branches: as they are at the first, and at the second
+abbrev pub changed_between : Tree → ℕ → ℕ → Result (List Change) Refusal
+changed_between t a b = do
+  _ ← both_on t a b
+  Ok (changes (state_at t.made a) (state_at t.made b))

@@ -11,3 +11,4 @@ pub mod CountedCalls
 pub mod FatesSoFar
 pub mod BitsLeft
 pub mod SpacedWords
+pub mod TwoStates

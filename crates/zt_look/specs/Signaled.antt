@@ -13,7 +13,7 @@ use Rattle.zt_rows.specs.declared.rows.Row.TheVariants as rows
 use Rattle.zt_rows.specs.Reads.{entry}
 use Rattle.zt_rows.specs.State.{State}
 use Rattle.zt_rows.specs.Tests.{kind_at}
-use Rattle.zt_history.specs.Tree.{Made, parent_at, state_at}
+use Rattle.zt_history.specs.Tree.{Made, state_at}
 use Rattle.zt_look.specs.declared.call_list.CallMade.{CallMade}
 use Rattle.zt_look.specs.declared.changes.Change.{Change}
 use Rattle.zt_look.specs.EventList.{kind_or}
@@ -65,6 +65,7 @@ kind_in S (Some row) = kind_of_row S row
 abbrev pub kind_of_call : List Made → CallMade → Option Kind
 kind_of_call made call = kind_named (state_at made call.moment) (in_answered call.process call.call call.reply)
 
--- by the row as it is after the call of a moment, or else by the row before it
-abbrev pub kind_of_change : List Made → ℕ → Change → Option Kind
-kind_of_change made m change = kind_or (kind_in (state_at made m) change.after) (kind_in (state_at made (parent_at made m)) change.before)
+-- by the row as it is at the second of two moments, or else by the row at the first; for what a call changed, these are the
+-- moment before the call and its own
+abbrev pub kind_between : List Made → ℕ → ℕ → Change → Option Kind
+kind_between made a b change = kind_or (kind_in (state_at made b) change.after) (kind_in (state_at made a) change.before)

@@ -13,7 +13,8 @@ use zt_history::History;
 use zt_rows::{Moment, Refusal, Row, RowKey};
 use zt_store::{Record, Store};
 
-/// A row that a call changed: the row under the key before the call, and the row there after it.
+/// A row that a call changed: the row under the key before the call, and the row there after it. Between two moments, it
+/// is the row at the first, and the row at the second.
 #[derive(Drop)]
 pub struct Change {
     pub key: RowKey,
@@ -97,7 +98,7 @@ pub(crate) fn row_before<'a>(
 }
 
 /// A copy of the row in memory of its own, if there is a row.
-fn copied(row: Option<&Row>) -> Result<Option<Row>, AllocError>
+pub(crate) fn copied(row: Option<&Row>) -> Result<Option<Row>, AllocError>
     ensures { IfOk result (λ copied. copied ≡ option_copied row.entry) }
 {
     match row {

@@ -1,6 +1,6 @@
 //! The questions that people ask of a trace, and the lines that show the answers.
 //!
-//! - The calls of a path with their replies, and the rows that a call changed.
+//! - The calls of a path with their replies, and the rows that a call changed, or that differ between two moments.
 //! - What happened to objects, and everything that is known of one object.
 //! - The handles of a process, and the messages of an endpoint.
 //! - Where branches leave one another, and the summary of a path.
@@ -10,6 +10,7 @@ mod branch_list;
 mod call_counts;
 mod call_list;
 mod changes;
+mod changes_between;
 mod event_list;
 mod fates;
 mod handle_list;
@@ -29,6 +30,7 @@ pub use branch_list::{BranchLook, branches};
 pub use call_counts::CallCount;
 pub use call_list::{CallFilter, CallMade, calls};
 pub use changes::{Change, changed};
+pub use changes_between::changed_between;
 pub use event_list::{EventFilter, HappeningSet, ObjectEvent, events, events_between};
 pub use fates::{Fate, ObjectFate};
 pub use handle_list::{Handle, handles_at};
@@ -39,4 +41,4 @@ pub use lines::{
 pub use message_list::{MessageEnd, QueuedMessage, messages};
 pub use object_look::{ObjectLook, object_at};
 pub use path_summary::{PathSummary, summary};
-pub use signaled::{kind_of_call, kinds_of_changes};
+pub use signaled::{kind_of_call, kinds_between};

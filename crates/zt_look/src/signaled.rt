@@ -4,11 +4,13 @@
 ghost use Rattle.std.specs.Prelude.{◌≡◌, ◌++◌, ◌∷◌, [], map, IfErr, IfOk, OnOk};
 ghost use Rattle.zt_history.specs.HistoryRefusals.{IsHistoryRefusal, moment_on};
 ghost use Rattle.zt_history.specs.Timeline.{moved_to};
-ghost use Rattle.zt_history.specs.Tree.{parent_at, state_at};
-ghost use Rattle.zt_look.specs.Signaled.{in_answered, in_call, in_packet, in_row, kind_in, kind_named, kind_of_call, kind_of_change, kind_of_row};
+ghost use Rattle.zt_history.specs.Tree.{state_at};
+ghost use Rattle.zt_look.specs.Changes.{both_on};
+ghost use Rattle.zt_look.specs.Signaled.{in_answered, in_call, in_packet, in_row, kind_between, kind_in, kind_named, kind_of_call, kind_of_row};
 
 use crate::call_list::CallMade;
 use crate::changes::Change;
+use crate::changes_between::check_both;
 use crate::limits::limits;
 use std::alloc::{AllocError, Global};
 use zt_bits::Kind;
@@ -32,28 +34,28 @@ pub fn kind_of_call(history: &mut History, made: &CallMade) -> Result<Option<Kin
     Ok(kind_named(history.store(), named))
 }
 
-/// The kinds of the objects whose signals the rows tell that the call of a moment changed, one for each change. A kind
-/// is read in the state after the call, or else in the state before it.
+/// The kinds of the objects whose signals the rows tell that differ between two moments, one for each change. A kind is
+/// read in the state of `to`, or else in the state of `from`. For what a call changed, these are its moment and the
+/// parent of that.
 ///
-/// The history goes to the parent of the moment. Errors: `NoMoment` if there is no such moment, `OutOfMemory` if an
-/// allocation fails.
-#[tactic(auto, using(crate::proofs::CallLaws::parent_memory))]
-pub fn kinds_of_changes(
+/// The history goes to `to` and then to `from`. Errors: `NoMoment` if one of both is beyond the last moment,
+/// `OutOfMemory` if an allocation fails.
+pub fn kinds_between(
     alloc: Global,
     history: &mut History,
-    moment: Moment,
+    from: Moment,
+    to: Moment,
     changes: &[Change],
 ) -> Result<Vec<Option<Kind>>, Refusal>
-    ensures ok { IfOk result (λ kinds. kinds.items ≡ map (kind_of_change history.old.tree.made moment) changes.now) }
-    ensures refused { IfErr result (IsHistoryRefusal (moment_on history.old.tree moment)) }
-    ensures moved { OnOk result (history.new ≡ moved_to history.old (parent_at history.old.tree.made moment)) }
+    ensures ok { IfOk result (λ kinds. kinds.items ≡ map (kind_between history.old.tree.made from to) changes.now) }
+    ensures refused { IfErr result (IsHistoryRefusal (both_on history.old.tree from to)) }
+    ensures moved { OnOk result (history.new ≡ moved_to history.old from) }
     ensures tree { history.new.tree ≡ history.old.tree }
 {
-    limits(history);
-    history.goto(moment)?;
+    check_both(history, from, to)?;
+    history.goto(to)?;
     let after = kinds_after(alloc, history.store(), changes)?;
-    let parent = history.parent_of(moment);
-    history.goto(parent)?;
+    history.goto(from)?;
     let mut kinds = Vec::new(alloc);
     for place in 0..changes.len() {
         let before = kind_in(history.store(), &changes[place].before);

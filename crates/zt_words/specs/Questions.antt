@@ -31,9 +31,6 @@ abbrev pub one_word : List Text → Option Text
 one_word (word ∷ []) = Some word
 one_word _ = None
 
-abbrev pub one_moment : List Text → Option ℕ
-one_moment words = option_and_then moment_word (one_word words)
-
 abbrev pub one_koid : List Text → Option ℕ
 one_koid words = option_and_then koid_word (one_word words)
 
@@ -56,6 +53,16 @@ filter_from o first last =
 abbrev pub calls_question : List Text → Options → Option Question
 calls_question words o =
     option_and_then (λ first. option_map (filter_from o first) (last_of_calls words)) (first_of_calls words)
+
+-- ---- changed rows: by the call of a moment, or between two moments
+
+abbrev pub between_question : Text → Text → Option Question
+between_question from to = option_and_then (λ first. option_map (question.ChangedBetween first) (moment_word to)) (moment_word from)
+
+abbrev pub changed_question : List Text → Option Question
+changed_question (word ∷ []) = option_map question.Changed (moment_word word)
+changed_question (from ∷ to ∷ []) = between_question from to
+changed_question _ = None
 
 -- ---- happenings: those that are named, or all
 
@@ -115,7 +122,7 @@ without_words words asked = if length words == 0 then Some asked else None
 -- the question of no option that these words ask; `calls` has one for each option
 abbrev pub plain_question : Topic → List Text → Option Question
 plain_question topic.Calls words = None
-plain_question topic.Changed words = option_map question.Changed (one_moment words)
+plain_question topic.Changed words = changed_question words
 plain_question topic.Events words = option_map question.Events (happenings_of words)
 plain_question topic.Object words = option_map question.Object (one_koid words)
 plain_question topic.Handles words = option_map question.Handles (one_koid words)

@@ -143,6 +143,7 @@ Questions, each about the path to a moment or to the head of a branch, by defaul
   calls [FROM [TO]]     the calls of the path, with their replies, between two moments;
                         --failed, --process P and --object K select some of them
   changed MOMENT        the rows that one call changed, before and after it
+  changed MOMENT OTHER  the rows that differ between two moments, at the one and at the other
   events [HAPPENING]..  which objects were made, ended, peer_closed or leaked, by which call
   object KOID           one object: its row, what keeps it, its queue, and what happened when
   handles PROCESS       the handles of a process

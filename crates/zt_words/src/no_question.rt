@@ -169,7 +169,7 @@ fn of_run() -> &'static str {
 fn form_of(about: Topic) -> &'static str {
     match about {
         Topic::Calls => calls_form(),
-        Topic::Changed => "[--names] changed <MOMENT>",
+        Topic::Changed => "[--names] changed <MOMENT> [OTHER]",
         Topic::Branches => "[--names] branches",
         _ => form_on_path(about),
     }

@@ -5,7 +5,7 @@ ghost use Rattle.std.specs.List.{list_all, list_any};
 ghost use Rattle.std.specs.Option.{option_map};
 ghost use Rattle.std.specs.Result.{result_ok};
 ghost use Rattle.std.specs.Str.{bytes_eq};
-ghost use Rattle.zt_words.specs.Questions.{all_happenings, calls_question, first_of_calls, happenings_of, has_other_option, is_happening, is_named, is_of_path, koid_word, last_of_calls, moment_word, named_happenings, number_up_to, one_koid, one_moment, one_word, other_topic_named, plain_question, question_of, question_on, topic_named, without_words};
+ghost use Rattle.zt_words.specs.Questions.{all_happenings, between_question, calls_question, changed_question, first_of_calls, happenings_of, has_other_option, is_happening, is_named, is_of_path, koid_word, last_of_calls, moment_word, named_happenings, number_up_to, one_koid, one_word, other_topic_named, plain_question, question_of, question_on, topic_named, without_words};
 
 use zt_look::{CallFilter, HappeningSet};
 use zt_rows::{Koid, LAST_MOMENT, Moment};
@@ -30,6 +30,8 @@ pub enum Question {
     Calls(CallFilter),
     /// The rows that the call of a moment changed.
     Changed(Moment),
+    /// The rows that differ between the states of two moments.
+    ChangedBetween(Moment, Moment),
     /// The happenings to objects on the path, as the set says.
     Events(HappeningSet),
     /// An object at the end of the path.
@@ -139,7 +141,7 @@ fn plain_question(about: Topic, words: &[&str]) -> Option<Question>
 {
     match about {
         Topic::Calls => None,
-        Topic::Changed => Some(Question::Changed(one_moment(words)?)),
+        Topic::Changed => changed_question(words),
         Topic::Events => Some(Question::Events(happenings_of(words)?)),
         Topic::Object => Some(Question::Object(one_koid(words)?)),
         Topic::Handles => Some(Question::Handles(one_koid(words)?)),
@@ -169,6 +171,26 @@ fn calls_question(words: &[&str], options: &Options) -> Option<Question>
         process: options.process,
         object: options.object,
     }))
+}
+
+/// Returns the question about changed rows that one moment or two ask.
+fn changed_question(words: &[&str]) -> Option<Question>
+    ensures { result ≡ changed_question (map (λ s. s.now) words.now) }
+{
+    match words {
+        [word] => Some(Question::Changed(moment_word(word)?)),
+        [from, to] => between_question(from, to),
+        _ => None,
+    }
+}
+
+/// Returns the question about the rows that differ between two moments.
+fn between_question(from: &str, to: &str) -> Option<Question>
+    ensures { result ≡ between_question from.now to.now }
+{
+    let first = moment_word(from)?;
+    let second = moment_word(to)?;
+    Some(Question::ChangedBetween(first, second))
 }
 
 /// Returns the first moment of the calls: the first word, or 1 without words.
@@ -272,13 +294,6 @@ fn is_among(words: &[&str], name: &str) -> bool
         }
     }
     false
-}
-
-/// Reads the only word as a moment.
-fn one_moment(words: &[&str]) -> Option<Moment>
-    ensures { result ≡ one_moment (map (λ s. s.now) words.now) }
-{
-    moment_word(one_word(words)?)
 }
 
 /// Reads the only word as a koid.

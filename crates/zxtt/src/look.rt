@@ -11,9 +11,10 @@ use std::alloc::Global;
 use zt_history::{BranchId, History};
 use zt_look::{
     BranchLook, CallFilter, CallMade, Change, HappeningSet, Naming, ObjectEvent, ObjectLook,
-    QueuedMessage, branches, calls, changed, events, handles_at, kind_of_call, kinds_of_changes,
-    messages, object_at, print_branch, print_call_count, print_call_made, print_change,
-    print_event, print_fate, print_handle, print_object, print_queued_message, print_when, summary,
+    QueuedMessage, branches, calls, changed, changed_between, events, handles_at, kind_of_call,
+    kinds_between, messages, object_at, print_branch, print_call_count, print_call_made,
+    print_change, print_event, print_fate, print_handle, print_object, print_queued_message,
+    print_when, summary,
 };
 use zt_rows::{Call, Happening, Koid, Moment, Refusal};
 use zt_words::{Fault, Look, Question};
@@ -84,6 +85,9 @@ fn answer_at(
     match asked.question {
         Question::Calls(filter) => write_calls(alloc, lines, history, at, &filter, names),
         Question::Changed(moment) => write_changes(alloc, lines, history, moment, names),
+        Question::ChangedBetween(from, to) => {
+            write_changes_between(alloc, lines, history, from, to, names)
+        }
         Question::Events(wanted) => write_events(alloc, lines, history, at, &wanted, names),
         Question::Object(koid) => write_object(alloc, lines, history, at, koid, names),
         Question::Handles(process) => write_handles(alloc, lines, history, at, process, names),
@@ -129,23 +133,50 @@ fn write_changes(
 ) -> Result<(), Stopped> {
     let list = changed(alloc, history, moment)?;
     if names {
-        return write_named_changes(alloc, lines, history, moment, list.as_slice());
+        let parent = history.parent_of(moment);
+        return write_named_changes(alloc, lines, history, parent, moment, list.as_slice());
     }
-    for change in &list {
+    write_masked_changes(alloc, lines, list.as_slice())
+}
+
+/// Writes the rows that differ between the states of two moments.
+fn write_changes_between(
+    alloc: Global,
+    lines: &mut AnswerLines,
+    history: &mut History,
+    from: Moment,
+    to: Moment,
+    names: bool,
+) -> Result<(), Stopped> {
+    let list = changed_between(alloc, history, from, to)?;
+    if names {
+        return write_named_changes(alloc, lines, history, from, to, list.as_slice());
+    }
+    write_masked_changes(alloc, lines, list.as_slice())
+}
+
+/// Writes rows that differ, with masks.
+fn write_masked_changes(
+    alloc: Global,
+    lines: &mut AnswerLines,
+    list: &[Change],
+) -> Result<(), Stopped> {
+    for change in list {
         lines.write(print_change(alloc, change, Naming::masks())?)?;
     }
     Ok(())
 }
 
-/// Writes the rows that the call of a moment changed, with names.
+/// Writes the rows that differ between two moments, with names.
 fn write_named_changes(
     alloc: Global,
     lines: &mut AnswerLines,
     history: &mut History,
-    moment: Moment,
+    from: Moment,
+    to: Moment,
     list: &[Change],
 ) -> Result<(), Stopped> {
-    let kinds = kinds_of_changes(alloc, history, moment, list)?;
+    let kinds = kinds_between(alloc, history, from, to, list)?;
     for (change, kind) in list.iter().zip(kinds.iter()) {
         let naming = Naming {
             names: true,
