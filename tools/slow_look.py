@@ -315,6 +315,20 @@ def events(trace, at, asked=(), names=False):
     ]
 
 
+def holders_of(trace, at, koids):
+    """Of each koid how many supports it has, as the talk counts them."""
+    told = answers(trace.program, trace.path, [line for koid in koids for line in (f'goto {at}', f'holders {koid}')])
+    return {koid: int(first.split(' ')[2]) for koid, (first, _) in zip(koids, told[1::2])}
+
+
+def alive(trace, at, since=0, names=False):
+    state = trace.states[at]
+    made = {koid: moment for moment in trace.way(at) for koid, _, what in trace.happenings[moment] if what == 'made'}
+    koids = [koid for koid in made if made[koid] > since and state.lives(koid)]
+    counts = holders_of(trace, at, koids)
+    return [f'{koid} {state.objects[koid][2]} {counts[koid]} {made[koid]} {trace.call(made[koid], names)}' for koid in koids]
+
+
 def rows_of(trace, at, koid):
     """The rows of the messages in its queue, of the packets in it, and of the waits for it, or on it."""
     state = trace.states[at]

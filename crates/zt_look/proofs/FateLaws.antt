@@ -37,8 +37,8 @@ use Rattle.zt_look.specs.declared.fates.ObjectFate.{ObjectFate}
 use Rattle.zt_look.specs.declared.fates.FateTimes.{FateTimes}
 use Rattle.zt_look.specs.EventList.{AreEvents, IsEvent, happening_number, is_asked, is_told, kind_by, kind_or}
 use Rattle.zt_look.specs.Fates.{AreFates, IsFate, fate_by, koids, happening_since}
-use Rattle.zt_look.specs.ProofsOnly.FatesSoFar.{AreFatesUpTo, AreFateTimes, fate_shown, fate_told, fates_below, is_at, is_turn, kind_told, latest, moment_in, no_fate_times, of_fates, shown, told, fate_times, turned, turned_by}
-use Rattle.zt_look.proofs.HandleLaws.{rising-push}
+use Rattle.zt_look.specs.ProofsOnly.FatesSoFar.{AreFatesUpTo, AreFateTimes, fate_shown, fate_told, is_at, is_turn, kind_told, latest, moment_in, no_fate_times, of_fates, shown, told, fate_times, turned, turned_by}
+use Rattle.zt_look.proofs.BelowLaws.{below-all, below-each, below-rising}
 
 -- ---- the last event that passes
 
@@ -237,68 +237,6 @@ module _ (made : List Made) (falls : Falls made) where
 
     begun-on : (at m : ℕ) → leads_to made m at ≡ true → P (state_at made m) ≡ true → Begun at
     begun-on at m leads e = let b = begun m e in (b.0, among-later at m b.0 leads b.1, b.2, b.3)
-
--- ---- one number behind another
-
-all-more : {A : Type 0} (P : A → Type 0) (xs ys : List A) → AllByRecursion P xs → AllByRecursion P ys → AllByRecursion P (xs ++ ys)
-all-more P [] ys all more = more
-all-more P (x ∷ xs) ys all more = (all.0, all-more P xs ys all.1 more)
-
-all-wider : (n : ℕ) (xs : List ℕ) → AllByRecursion (λ y. y < n) xs → AllByRecursion (λ y. y < suc n) xs
-all-wider n [] all = tt
-all-wider n (x ∷ xs) all = (omega (arith, all.0), all-wider n xs all.1)
-
-module _ (f : ℕ → Option ObjectFate) where
-  below-each : (P : ObjectFate → Type 0) → ((x : ℕ) (g : ObjectFate) → f x ≡ Some g → P g) → (n : ℕ) → AllByRecursion P (fates_below f n)
-  below-each P h zero = tt
-  below-each P h (suc n) = all-more P (fates_below f n) (cons_option (f n) []) (below-each P h n) (one (f n) refl)
-    where
-      one : (o : Option ObjectFate) → f n ≡ o → AllByRecursion P (cons_option o [])
-      one (Some g) e = (h n g e, tt)
-      one None e = tt
-
-  module _ (koid : (x : ℕ) (g : ObjectFate) → f x ≡ Some g → g.koid ≡ x) where
-    -- with one more, the koids have its number
-    koids-push : (n : ℕ) (g : ObjectFate) → f n ≡ Some g → koids (fates_below f (suc n)) ≡ koids (fates_below f n) ++ n ∷ []
-    koids-push n g e =
-        ap (λ o. koids (fates_below f n ++ cons_option o [])) e ∙ map-append (λ (g : ObjectFate). g.koid) (fates_below f n) (g ∷ []) ∙ ap (λ k. koids (fates_below f n) ++ k ∷ []) (koid n g e)
-
-    koids-same : (n : ℕ) → f n ≡ None → koids (fates_below f (suc n)) ≡ koids (fates_below f n)
-    koids-same n e = ap (λ o. koids (fates_below f n ++ cons_option o [])) e ∙ ap koids (append-nil (fates_below f n))
-
-    below-short : (n : ℕ) → AllByRecursion (λ y. y < n) (koids (fates_below f n))
-    below-short zero = tt
-    below-short (suc n) = by (f n) refl (below-short n)
-      where
-        by : (o : Option ObjectFate) → f n ≡ o → AllByRecursion (λ y. y < n) (koids (fates_below f n)) → AllByRecursion (λ y. y < suc n) (koids (fates_below f (suc n)))
-        by (Some g) e rest =
-            subst (AllByRecursion (λ y. y < suc n)) (sym (koids-push n g e))
-            (all-more (λ y. y < suc n) (koids (fates_below f n)) (n ∷ []) (all-wider n (koids (fates_below f n)) rest) (omega arith, tt))
-        by None e rest = subst (AllByRecursion (λ y. y < suc n)) (sym (koids-same n e)) (all-wider n (koids (fates_below f n)) rest)
-
-    below-rising : (n : ℕ) → IsStrictlyIncreasing (koids (fates_below f n))
-    below-rising zero = λ k h. absurd (omega (arith, h))
-    below-rising (suc n) = by (f n) refl (below-rising n)
-      where
-        by : (o : Option ObjectFate) → f n ≡ o → IsStrictlyIncreasing (koids (fates_below f n)) → IsStrictlyIncreasing (koids (fates_below f (suc n)))
-        by (Some g) e rest = subst IsStrictlyIncreasing (sym (koids-push n g e)) (rising-push (koids (fates_below f n)) n rest (below-short n))
-        by None e rest = subst IsStrictlyIncreasing (sym (koids-same n e)) rest
-
-    below-all : (n x : ℕ) (g : ObjectFate) → x < n → f x ≡ Some g → among (koids (fates_below f n)) x ≡ true
-    below-all zero x g l e = absurd (omega (arith, l))
-    below-all (suc n) x g l e = by (cases_lt x n) (λ h. below-all n x g h e)
-      where
-        kept : (o : Option ObjectFate) → f n ≡ o → among (koids (fates_below f n)) x ≡ true → among (koids (fates_below f (suc n))) x ≡ true
-        kept (Some q) h on =
-            ap (λ l. among l x) (koids-push n q h) ∙ list_any-append (λ m. m == x) (koids (fates_below f n)) (n ∷ []) ∙ or_first (among (koids (fates_below f n)) x) (among (n ∷ []) x) on
-        kept None h on = ap (λ l. among l x) (koids-same n h) ∙ on
-
-        by : (x < n) ⊎ (n ≤ x) → (x < n → among (koids (fates_below f n)) x ≡ true) → among (koids (fates_below f (suc n))) x ≡ true
-        by (inl h) rest = kept (f n) refl (rest h)
-        by (inr h) rest =
-            let same : n ≡ x = omega (arith, l, h) in
-            ap (λ l. among l x) (koids-push n g (ap f same ∙ e)) ∙ list_any-append (λ m. m == x) (koids (fates_below f n)) (n ∷ [])
-            ∙ or_second (among (koids (fates_below f n)) x) (among (n ∷ []) x) (or_first (n == x) false (eq-eqb n x same))
 
 -- ---- the events of a path
 
@@ -547,8 +485,8 @@ module _ (t : Tree) (tree : IsTree t) (at : ℕ) (within : at ≤ last_moment t)
     pub fates-told : (list : List ObjectFate) → AreFatesUpTo S ts list → AreFates t.made at list
     fates-told list upto = subst (AreFates t.made at) (sym upto.is) (record {
       each = below-each (shown S ts) (IsFate t.made at) (λ x f h. (fate-shown x f h).0) upto.end;
-      rising = below-rising (shown S ts) (λ x f h. (fate-shown x f h).1) upto.end;
+      rising = below-rising (shown S ts) (λ (g : ObjectFate). g.koid) (λ x f h. (fate-shown x f h).1) upto.end;
       all = λ m x leads there.
           let found = fate-of upto.end m x upto.known upto.timed leads there in
-          below-all (shown S ts) (λ x f h. (fate-shown x f h).1) upto.end x found.1.0 found.0 found.1.1;
+          below-all (shown S ts) (λ (g : ObjectFate). g.koid) (λ x f h. (fate-shown x f h).1) upto.end x found.1.0 found.0 found.1.1;
     })

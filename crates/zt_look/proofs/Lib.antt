@@ -10,7 +10,9 @@ pub mod MessageLaws
 pub mod RowWalkLaws
 pub mod ObjectRowLaws
 pub mod CountLaws
+pub mod BelowLaws
 pub mod FateLaws
+pub mod AliveLaws
 pub mod NameLaws
 pub mod MaskLaws
 mod WorkedLines

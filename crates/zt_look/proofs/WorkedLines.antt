@@ -24,7 +24,7 @@ use Rattle.zt_look.specs.declared.fates.Fate.TheVariants as fate
 use Rattle.zt_look.specs.declared.lines.names.Naming.{Naming}
 use Rattle.zt_look.specs.Names.{masks, shown_bits, shown_rights, shown_signals}
 use Rattle.zt_look.specs.NamedTexts.{object_text, packet_text, row_text, call_text, reply_text}
-use Rattle.zt_look.specs.Lines.{of_any, call_made_line, change_lines, handle_line, event_line, when_line, content_line, written_line, end_line, branch_line, object_line, holder_lines, call_count_line, fate_line}
+use Rattle.zt_look.specs.Lines.{of_any, alive_line, call_made_line, change_lines, handle_line, event_line, when_line, content_line, written_line, end_line, branch_line, object_line, holder_lines, call_count_line, fate_line}
 
 abbrev of_kind : Kind → Naming
 of_kind kind = record { names = true; kind = Some kind }
@@ -82,6 +82,7 @@ record Calls : Type 0 where
   handle : handle_line false (record { value = 7; koid = 1026; kind = kind.Job; rights = record { 0 = 0xf } }) ≡ codes "7 1026 job 0x0000000f" ++ (10 ∷ [])
   named : handle_line true (record { value = 7; koid = 1026; kind = kind.Job; rights = record { 0 = 0xf } }) ≡ codes "7 1026 job DUPLICATE|TRANSFER|READ|WRITE" ++ (10 ∷ [])
   event : event_line false (record { moment = 8; koid = 1030; what = happening.Made; kind = kind.Process }) 1025 (calls.Spawn 3 23) ≡ codes "8 made 1030 process 1025 spawn 3 23" ++ (10 ∷ [])
+  left : alive_line false (record { koid = 1030; kind = kind.Process; holders = 2; made = 8 }) 1025 (calls.Spawn 3 23) ≡ codes "1030 process 2 8 1025 spawn 3 23" ++ (10 ∷ [])
   never : when_line false happening.PeerClosed None ≡ codes "peer_closed never" ++ (10 ∷ [])
   when : when_line true happening.Ended (Some (6, 1030, calls.ProcessExit (pos 5))) ≡ codes "ended 6 1030 process_exit 5" ++ (10 ∷ [])
 
@@ -99,6 +100,7 @@ lines_of_calls = record {
   handle = refl;
   named = refl;
   event = refl;
+  left = refl;
   never = refl;
   when = refl;
 }

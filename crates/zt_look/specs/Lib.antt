@@ -8,6 +8,7 @@ pub mod MessageList
 pub mod ObjectLook
 pub mod CallCounts
 pub mod Fates
+pub mod AliveList
 pub mod Names
 pub mod Signaled
 pub mod NamedTexts

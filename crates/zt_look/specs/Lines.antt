@@ -16,6 +16,7 @@ use Rattle.zt_rows.specs.declared.supports.Support.{Support}
 use Rattle.zt_rows.specs.State.{State}
 use Rattle.zt_text.specs.Answers.{as_line, heading, support_line}
 use Rattle.zt_text.specs.ShownNumbers.{words, shown_bytes, shown_list}
+use Rattle.zt_look.specs.declared.alive_list.AliveObject.{AliveObject}
 use Rattle.zt_look.specs.declared.call_list.CallMade.{CallMade}
 use Rattle.zt_look.specs.declared.changes.Change.{Change}
 use Rattle.zt_look.specs.declared.event_list.ObjectEvent.{ObjectEvent}
@@ -89,6 +90,11 @@ handle_line names handle =
 abbrev pub event_line : Bool → ObjectEvent → ℕ → Call → List ℕ
 event_line names event process made =
     line (decimal event.moment ∷ happening_word event.what ∷ decimal event.koid ∷ kind_word event.kind ∷ call_text (of_any names) process made ∷ [])
+
+-- what is alive, with the call that made it
+abbrev pub alive_line : Bool → AliveObject → ℕ → Call → List ℕ
+alive_line names object process made =
+    line (decimal object.koid ∷ kind_word object.kind ∷ decimal object.holders ∷ decimal object.made ∷ call_text (of_any names) process made ∷ [])
 
 -- when it happened, with the call of the moment, or that it did not
 abbrev pub when_words : Bool → Option (ℕ × ℕ × Call) → List (List ℕ)

@@ -8,7 +8,9 @@ pub mod BranchMarks
 pub mod MessageEnds
 pub mod RowWalk
 pub mod CountedCalls
+pub mod NumbersBelow
 pub mod FatesSoFar
 pub mod BitsLeft
 pub mod SpacedWords
 pub mod TwoStates
+pub mod AliveSoFar

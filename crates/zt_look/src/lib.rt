@@ -2,10 +2,12 @@
 //!
 //! - The calls of a path with their replies, and the rows that a call changed, or that differ between two moments.
 //! - What happened to objects, and everything that is known of one object.
+//! - What was made on a path and is there at its end.
 //! - The handles of a process, and the messages of an endpoint.
 //! - Where branches leave one another, and the summary of a path.
 #![tactic(auto)]
 
+mod alive_list;
 mod branch_list;
 mod call_counts;
 mod call_list;
@@ -26,6 +28,7 @@ mod signaled;
 mod unleaked_search;
 mod unleaked_set;
 
+pub use alive_list::{AliveObject, alive};
 pub use branch_list::{BranchLook, branches};
 pub use call_counts::CallCount;
 pub use call_list::{CallFilter, CallMade, calls};
@@ -35,8 +38,8 @@ pub use event_list::{EventFilter, HappeningSet, ObjectEvent, events, events_betw
 pub use fates::{Fate, ObjectFate};
 pub use handle_list::{Handle, handles_at};
 pub use lines::{
-    Naming, print_branch, print_call_count, print_call_made, print_change, print_event, print_fate,
-    print_handle, print_object, print_queued_message, print_when,
+    Naming, print_alive, print_branch, print_call_count, print_call_made, print_change,
+    print_event, print_fate, print_handle, print_object, print_queued_message, print_when,
 };
 pub use message_list::{MessageEnd, QueuedMessage, messages};
 pub use object_look::{ObjectLook, object_at};

@@ -7,12 +7,13 @@ ghost use Rattle.std.specs.Fmt.{decimal};
 ghost use Rattle.std.specs.List.{flat_map};
 ghost use Rattle.zt_text.specs.ShownNumbers.{words};
 ghost use Rattle.zt_look.specs.ProofsOnly.SpacedWords.{behind_spaces};
-ghost use Rattle.zt_look.specs.Lines.{call_made_line, marked_line, change_lines, handle_line, event_line, when_line, content_line, written_line, end_line, message_lines, branch_line, line_in, object_line, holder_lines, object_lines, call_count_line, fate_line, happening_word, end_word, fate_word, when_words, call_words, leaves_words};
+ghost use Rattle.zt_look.specs.Lines.{alive_line, call_made_line, marked_line, change_lines, handle_line, event_line, when_line, content_line, written_line, end_line, message_lines, branch_line, line_in, object_line, holder_lines, object_lines, call_count_line, fate_line, happening_word, end_word, fate_word, when_words, call_words, leaves_words};
 
 mod calls;
 mod names;
 mod rows;
 
+use crate::alive_list::AliveObject;
 use crate::call_counts::CallCount;
 use crate::call_list::CallMade;
 use crate::changes::Change;
@@ -112,6 +113,31 @@ pub fn print_event(
         happening_word(event.what),
         event.koid.0,
         event.kind.word()
+    )?;
+    put_call(&mut text, process, call, Naming::of_any(names))?;
+    text.push_str("\n")?;
+    Ok(text.into_bytes())
+}
+
+/// The line of an object that is alive at the end of a path: the object with its kind, how many supports it has, and
+/// the moment with the call that made it.
+pub fn print_alive(
+    alloc: Global,
+    object: &AliveObject,
+    process: Koid,
+    call: &Call,
+    names: bool,
+) -> Result<Vec<u8>, AllocError>
+    ensures { IfOk result (λ text. text.items ≡ alive_line names object.now process call.now) }
+{
+    let mut text = String::new(alloc);
+    write!(
+        text,
+        "{} {} {} {} ",
+        object.koid.0,
+        object.kind.word(),
+        object.holders,
+        object.made.0
     )?;
     put_call(&mut text, process, call, Naming::of_any(names))?;
     text.push_str("\n")?;

@@ -20,12 +20,12 @@ words_word = record (new_rule (codes "WORD")) {
   range = Some (record { start_inclusive = 1; end_inclusive = usize_max });
 }
 
-abbrev pub moment_word : Rule
-moment_word = record (valued (codes "at")) { parser = Some (parser.Signed (pos 0) (pos most_calls)) }
+abbrev pub moment_word : Text → Rule
+moment_word name = record (valued name) { parser = Some (parser.Signed (pos 0) (pos most_calls)) }
 
 -- not beside `--branch`
 abbrev pub at_word : Rule
-at_word = record moment_word { is_free = false }
+at_word = record (moment_word (codes "at")) { is_free = false }
 
 abbrev pub koid_word : Text → Rule
 koid_word name = record (valued name) { parser = Some (parser.Unsigned 0 18446744073709551615) }
@@ -38,9 +38,11 @@ question_line = with_rule (with_rule (with_rule (new_app (codes "look")) (needed
 abbrev pub path_line : App
 path_line = with_rule (with_rule (with_rule question_line at_word) (valued (codes "branch"))) (flag (codes "names"))
 
--- .. `[--failed] [--process P] [--object K]`
+-- .. `[--failed] [--process P] [--object K] [--since M]`
 abbrev pub look_line : App
-look_line = with_rule (with_rule (with_rule path_line (flag (codes "failed"))) (koid_word (codes "process"))) (koid_word (codes "object"))
+look_line =
+    with_rule (with_rule (with_rule (with_rule path_line (flag (codes "failed"))) (koid_word (codes "process"))) (koid_word (codes "object")))
+    (moment_word (codes "since"))
 
 -- ---- what is asked for, by the values of the words
 
@@ -49,6 +51,7 @@ pub record AreOptionsOf (rows : List Row) (options : Options) : Type 0 where
   pub failed : IsFlagOf (one_of (codes "failed") rows) options.failed
   pub process : IsOptionalNumberOf 64 (one_of (codes "process") rows) options.process
   pub object : IsOptionalNumberOf 64 (one_of (codes "object") rows) options.object
+  pub since : IsOptionalNumberOf 32 (one_of (codes "since") rows) options.since
 
 -- the question that its name, the words behind it and the options ask
 pub record IsQuestionIn (rows : List Row) (question : Question) : Type 0 where

@@ -1,5 +1,5 @@
 -- The questions of `look`: which words ask them.
-use Rattle.std.specs.Prelude.{ℕ, ◌==◌, ◌||◌, ◌&&◌, Bool, true, false, not, if◌then◌else◌, length, List, [], ◌∷◌, Option, Some, None, is_some, codes, option_map}
+use Rattle.std.specs.Prelude.{ℕ, ◌==◌, ◌||◌, ◌&&◌, Bool, true, false, not, if◌then◌else◌, length, List, [], ◌∷◌, Option, Some, None, is_some, codes, option_map, unwrap_or}
 use Rattle.std.specs.List.{list_all, list_any}
 use Rattle.std.specs.Option.{option_and_then}
 use Rattle.std.specs.Str.{bytes_eq}
@@ -52,7 +52,8 @@ filter_from o first last =
 
 abbrev pub calls_question : List Text → Options → Option Question
 calls_question words o =
-    option_and_then (λ first. option_map (filter_from o first) (last_of_calls words)) (first_of_calls words)
+    if is_some o.since then None
+    else option_and_then (λ first. option_map (filter_from o first) (last_of_calls words)) (first_of_calls words)
 
 -- ---- changed rows: by the call of a moment, or between two moments
 
@@ -96,7 +97,8 @@ other_topic_named name =
     if bytes_eq name (codes "handles") then Some topic.Handles
     else (if bytes_eq name (codes "messages") then Some topic.Messages
     else (if bytes_eq name (codes "branches") then Some topic.Branches
-    else (if bytes_eq name (codes "summary") then Some topic.Summary else None)))
+    else (if bytes_eq name (codes "summary") then Some topic.Summary
+    else (if bytes_eq name (codes "alive") then Some topic.Alive else None))))
 
 -- what a question with this name asks about
 abbrev pub topic_named : Text → Option Topic
@@ -112,16 +114,25 @@ is_of_path topic.Changed = false
 is_of_path topic.Branches = false
 is_of_path _ = true
 
+-- an option is given that only questions about calls have
+abbrev pub has_option_of_calls : Options → Bool
+has_option_of_calls o = o.failed || (is_some o.process || is_some o.object)
+
 -- an option is given that such a question has not
 abbrev pub has_other_option : Topic → Options → Bool
-has_other_option about o = o.failed || (is_some o.process || (is_some o.object || (o.placed && not (is_of_path about))))
+has_other_option about o = has_option_of_calls o || (is_some o.since || (o.placed && not (is_of_path about)))
 
 abbrev pub without_words : List Text → Question → Option Question
 without_words words asked = if length words == 0 then Some asked else None
 
--- the question of no option that these words ask; `calls` has one for each option
+-- what is alive, of what was made behind a moment or at all
+abbrev pub alive_question : List Text → Options → Option Question
+alive_question words o = if has_option_of_calls o then None else without_words words (question.Alive (unwrap_or o.since 0))
+
+-- the question of no option that these words ask; `calls` and `alive` have one for each of theirs
 abbrev pub plain_question : Topic → List Text → Option Question
 plain_question topic.Calls words = None
+plain_question topic.Alive words = None
 plain_question topic.Changed words = changed_question words
 plain_question topic.Events words = option_map question.Events (happenings_of words)
 plain_question topic.Object words = option_map question.Object (one_koid words)
@@ -133,6 +144,7 @@ plain_question topic.Summary words = without_words words question.Summary
 -- the question about this that the words and options ask; none, where one of them is not the question's
 abbrev pub question_on : Topic → List Text → Options → Option Question
 question_on topic.Calls words o = calls_question words o
+question_on topic.Alive words o = alive_question words o
 question_on about words o = if has_other_option about o then None else plain_question about words
 
 -- the question with this name

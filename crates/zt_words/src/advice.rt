@@ -167,6 +167,7 @@ fn of_other_name(name: &[u8]) -> Advice {
         b"messages" => Advice::Question("messages", None),
         b"branches" => Advice::Question("branches", None),
         b"summary" => Advice::Question("summary", None),
+        b"alive" => Advice::Question("alive", None),
         _ => Advice::NoName,
     }
 }

@@ -36,7 +36,7 @@ pub fn look_of<'a>(words: &ArgMatches<'a>) -> Result<Look<'a>, NoQuestion>
     match question_in(words) {
         Ok(question) => Ok(Look {
             file: text_in(words, "TRACE"),
-            at: moment_in(words),
+            at: moment_in(words, "at"),
             branch: branch_in(words),
             names: flag_in(words, "names"),
             question,
@@ -76,6 +76,7 @@ fn options_in(words: &ArgMatches<'_>) -> Options
         failed: flag_in(words, "failed"),
         process: koid_in(words, "process"),
         object: koid_in(words, "object"),
+        since: moment_in(words, "since"),
     }
 }
 
@@ -107,11 +108,11 @@ fn branch_in<'a>(words: &ArgMatches<'a>) -> Option<&'a str>
     words.get_str("branch")
 }
 
-/// Returns the moment at the end of the path, if it is given.
-fn moment_in(words: &ArgMatches<'_>) -> Option<Moment>
-    ensures { IsOptionalNumberOf 32 (one_of (codes "at") (rows_of (found_of words.now))) result }
+/// Returns the moment of this option, if it is given.
+fn moment_in(words: &ArgMatches<'_>, name: &str) -> Option<Moment>
+    ensures { IsOptionalNumberOf 32 (one_of name.now (rows_of (found_of words.now))) result }
 {
-    match words.get_one::<u32>("at") {
+    match words.get_one::<u32>(name) {
         Some(moment) => Some(Moment(moment)),
         None => None,
     }
@@ -149,7 +150,9 @@ Questions, each about the path to a moment or to the head of a branch, by defaul
   handles PROCESS       the handles of a process
   messages KOID         the messages that were queued at a channel, and what became of each
   branches              the branches, and where each one leaves another
-  summary               how many calls got which status, and what became of each object"
+  summary               how many calls got which status, and what became of each object
+  alive [--since M]     what was made, behind M or at all, and is there at the end: for tests
+                        that want nothing left"
 }
 
 fn trace_help() -> &'static str {
@@ -157,7 +160,7 @@ fn trace_help() -> &'static str {
 }
 
 fn question_help() -> &'static str {
-    "calls, changed, events, object, handles, messages, branches or summary"
+    "calls, changed, events, object, handles, messages, branches, summary or alive"
 }
 
 fn words_help() -> &'static str {
@@ -186,6 +189,10 @@ fn process_help() -> &'static str {
 
 fn object_help() -> &'static str {
     "Lists only the calls that changed this object or a handle to it"
+}
+
+fn since_help() -> &'static str {
+    "Lists only what is alive of the objects made after this moment"
 }
 
 /// The argument `TRACE`: the session text.
@@ -232,7 +239,7 @@ fn at_word<'a>(alloc: Global) -> Result<Arg<'a>, Error>
 
 /// The option `--at`, which does not exclude another option yet.
 fn moment_word<'a>(alloc: Global) -> Arg<'a>
-    ensures rule { rule_of result ≡ moment_word }
+    ensures rule { rule_of result ≡ moment_word (codes "at") }
     ensures global { result.global ≡ false }
     ensures alone { result.conflicts.items ≡ [] }
 {
@@ -242,6 +249,19 @@ fn moment_word<'a>(alloc: Global) -> Arg<'a>
         .action(ArgAction::Set)
         .value_parser(value_parser!(u32).range(0..=i64::from(LAST_MOMENT)))
         .help(at_help())
+}
+
+/// The option `--since`: only what was made behind this moment.
+fn since_word<'a>(alloc: Global) -> Arg<'a>
+    ensures rule { rule_of result ≡ moment_word (codes "since") }
+    ensures global { result.global ≡ false }
+{
+    Arg::new(alloc, "since")
+        .long("since")
+        .value_name("M")
+        .action(ArgAction::Set)
+        .value_parser(value_parser!(u32).range(0..=i64::from(LAST_MOMENT)))
+        .help(since_help())
 }
 
 /// The option `--branch`: the branch whose head is at the end of the path.
@@ -313,7 +333,8 @@ pub fn look_command<'a>(alloc: Global) -> Result<Command<'a>, Error>
         path_command(alloc)?
             .arg(failed_word(alloc))?
             .arg(process_word(alloc))?
-            .arg(object_word(alloc))?,
+            .arg(object_word(alloc))?
+            .arg(since_word(alloc))?,
     )
 }
 
@@ -330,7 +351,7 @@ fn question_command<'a>(alloc: Global) -> Result<Command<'a>, Error>
     )
 }
 
-/// Declares `look` without the options that only `calls` has.
+/// Declares `look` without the options that only `calls` or `alive` has.
 fn path_command<'a>(alloc: Global) -> Result<Command<'a>, Error>
     ensures line { IfOk result (λ command. app_of command ≡ path_line) }
     ensures globals { IfOk result (λ command. (fields_of command).has_globals ≡ false) }

@@ -109,9 +109,10 @@ fn nearest(name: &str) -> Option<&'static str> {
 }
 
 /// Returns the names of all questions.
-fn questions() -> [&'static str; 8] {
+fn questions() -> [&'static str; 9] {
     [
         "calls", "changed", "events", "object", "handles", "messages", "branches", "summary",
+        "alive",
     ]
 }
 
@@ -157,7 +158,7 @@ fn last_in_common(name: &[u8], other: &[u8]) -> usize {
 /// The list of all questions.
 fn known_questions() -> &'static str {
     "unknown question
-  [questions: calls, changed, events, object, handles, messages, branches, summary]"
+  [questions: calls, changed, events, object, handles, messages, branches, summary, alive]"
 }
 
 /// What is said about a word of `run`, up to the name of the similar question.
@@ -189,6 +190,7 @@ fn form_on_path(about: Topic) -> &'static str {
         Topic::Object => "[--at <MOMENT> | --branch <NAME>] [--names] object <KOID>",
         Topic::Handles => "[--at <MOMENT> | --branch <NAME>] [--names] handles <PROCESS>",
         Topic::Messages => "[--at <MOMENT> | --branch <NAME>] [--names] messages <KOID>",
+        Topic::Alive => "[--at <MOMENT> | --branch <NAME>] [--names] alive [--since <M>]",
         _ => "[--at <MOMENT> | --branch <NAME>] [--names] summary",
     }
 }

@@ -5,7 +5,7 @@ ghost use Rattle.std.specs.List.{list_all, list_any};
 ghost use Rattle.std.specs.Option.{option_map};
 ghost use Rattle.std.specs.Result.{result_ok};
 ghost use Rattle.std.specs.Str.{bytes_eq};
-ghost use Rattle.zt_words.specs.Questions.{all_happenings, between_question, calls_question, changed_question, first_of_calls, happenings_of, has_other_option, is_happening, is_named, is_of_path, koid_word, last_of_calls, moment_word, named_happenings, number_up_to, one_koid, one_word, other_topic_named, plain_question, question_of, question_on, topic_named, without_words};
+ghost use Rattle.zt_words.specs.Questions.{alive_question, all_happenings, between_question, calls_question, changed_question, first_of_calls, happenings_of, has_option_of_calls, has_other_option, is_happening, is_named, is_of_path, koid_word, last_of_calls, moment_word, named_happenings, number_up_to, one_koid, one_word, other_topic_named, plain_question, question_of, question_on, topic_named, without_words};
 
 use zt_look::{CallFilter, HappeningSet};
 use zt_rows::{Koid, LAST_MOMENT, Moment};
@@ -21,6 +21,7 @@ pub enum Topic {
     Messages,
     Branches,
     Summary,
+    Alive,
 }
 
 /// A question with its values.
@@ -44,6 +45,8 @@ pub enum Question {
     Branches,
     /// How the calls of the path were answered, and what became of the objects.
     Summary,
+    /// What was made behind a moment of the path and is there at its end.
+    Alive(Moment),
 }
 
 /// The options that only some questions have.
@@ -54,6 +57,7 @@ pub struct Options {
     pub failed: bool,
     pub process: Option<Koid>,
     pub object: Option<Koid>,
+    pub since: Option<Moment>,
 }
 
 /// Returns the question of this name, with the words after it and these options. Fails with the topic of this name if the words
@@ -87,7 +91,7 @@ fn topic_named(name: &str) -> Option<Topic>
     }
 }
 
-/// Returns the topic of the question with this name, among the other four.
+/// Returns the topic of the question with this name, among the other five.
 fn other_topic_named(name: &str) -> Option<Topic>
     ensures { result ≡ other_topic_named name.now }
 {
@@ -99,6 +103,8 @@ fn other_topic_named(name: &str) -> Option<Topic>
         Some(Topic::Branches)
     } else if name == "summary" {
         Some(Topic::Summary)
+    } else if name == "alive" {
+        Some(Topic::Alive)
     } else {
         None
     }
@@ -110,6 +116,7 @@ fn question_on(about: Topic, words: &[&str], options: &Options) -> Option<Questi
 {
     match about {
         Topic::Calls => calls_question(words, options),
+        Topic::Alive => alive_question(words, options),
         _ if has_other_option(about, options) => None,
         _ => plain_question(about, words),
     }
@@ -119,10 +126,16 @@ fn question_on(about: Topic, words: &[&str], options: &Options) -> Option<Questi
 fn has_other_option(about: Topic, options: &Options) -> bool
     ensures { result ≡ has_other_option about options.now }
 {
-    options.failed
-        || options.process.is_some()
-        || options.object.is_some()
+    has_option_of_calls(options)
+        || options.since.is_some()
         || (options.placed && !is_of_path(about))
+}
+
+/// Whether an option is given that only questions about calls have.
+fn has_option_of_calls(options: &Options) -> bool
+    ensures { result ≡ has_option_of_calls options.now }
+{
+    options.failed || options.process.is_some() || options.object.is_some()
 }
 
 /// Whether questions about this topic are asked of a path.
@@ -140,7 +153,7 @@ fn plain_question(about: Topic, words: &[&str]) -> Option<Question>
     ensures { result ≡ plain_question about (map (λ s. s.now) words.now) }
 {
     match about {
-        Topic::Calls => None,
+        Topic::Calls | Topic::Alive => None,
         Topic::Changed => changed_question(words),
         Topic::Events => Some(Question::Events(happenings_of(words)?)),
         Topic::Object => Some(Question::Object(one_koid(words)?)),
@@ -162,6 +175,9 @@ fn without_words(words: &[&str], asked: Question) -> Option<Question>
 fn calls_question(words: &[&str], options: &Options) -> Option<Question>
     ensures { result ≡ calls_question (map (λ s. s.now) words.now) options.now }
 {
+    if options.since.is_some() {
+        return None;
+    }
     let first = first_of_calls(words)?;
     let last = last_of_calls(words)?;
     Some(Question::Calls(CallFilter {
@@ -171,6 +187,17 @@ fn calls_question(words: &[&str], options: &Options) -> Option<Question>
         process: options.process,
         object: options.object,
     }))
+}
+
+/// Returns the question about what is alive that the words and options ask. Without `--since` it is about all that a
+/// call made.
+fn alive_question(words: &[&str], options: &Options) -> Option<Question>
+    ensures { result ≡ alive_question (map (λ s. s.now) words.now) options.now }
+{
+    if has_option_of_calls(options) {
+        return None;
+    }
+    without_words(words, Question::Alive(options.since.unwrap_or(Moment(0))))
 }
 
 /// Returns the question about changed rows that one moment or two ask.

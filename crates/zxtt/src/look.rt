@@ -10,11 +10,11 @@ use crate::leave;
 use std::alloc::Global;
 use zt_history::{BranchId, History};
 use zt_look::{
-    BranchLook, CallFilter, CallMade, Change, HappeningSet, Naming, ObjectEvent, ObjectLook,
-    QueuedMessage, branches, calls, changed, changed_between, events, handles_at, kind_of_call,
-    kinds_between, messages, object_at, print_branch, print_call_count, print_call_made,
-    print_change, print_event, print_fate, print_handle, print_object, print_queued_message,
-    print_when, summary,
+    AliveObject, BranchLook, CallFilter, CallMade, Change, HappeningSet, Naming, ObjectEvent,
+    ObjectLook, QueuedMessage, alive, branches, calls, changed, changed_between, events,
+    handles_at, kind_of_call, kinds_between, messages, object_at, print_alive, print_branch,
+    print_call_count, print_call_made, print_change, print_event, print_fate, print_handle,
+    print_object, print_queued_message, print_when, summary,
 };
 use zt_rows::{Call, Happening, Koid, Moment, Refusal};
 use zt_words::{Fault, Look, Question};
@@ -94,6 +94,7 @@ fn answer_at(
         Question::Messages(koid) => write_messages(alloc, lines, history, at, koid, names),
         Question::Branches => write_branches(alloc, lines, history),
         Question::Summary => write_summary(alloc, lines, history, at),
+        Question::Alive(since) => write_alive(alloc, lines, history, at, since, names),
     }
 }
 
@@ -388,4 +389,34 @@ fn write_summary(
         lines.write(print_fate(alloc, object)?)?;
     }
     Ok(())
+}
+
+/// Writes what was made behind a moment of the path and is alive at its end, with the calls that made it.
+fn write_alive(
+    alloc: Global,
+    lines: &mut AnswerLines,
+    history: &mut History,
+    at: Moment,
+    since: Moment,
+    names: bool,
+) -> Result<(), Stopped> {
+    let list = alive(alloc, history, at, since)?;
+    for object in &list {
+        write_alive_object(alloc, lines, history, object, names)?;
+    }
+    Ok(())
+}
+
+/// Writes one object that is alive, with the call that made it.
+fn write_alive_object(
+    alloc: Global,
+    lines: &mut AnswerLines,
+    history: &History,
+    object: &AliveObject,
+    names: bool,
+) -> Result<(), Stopped> {
+    match history.call_of(object.made) {
+        Some((process, call)) => lines.write(print_alive(alloc, object, process, call, names)?),
+        None => Ok(()),
+    }
 }

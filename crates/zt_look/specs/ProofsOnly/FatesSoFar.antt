@@ -1,6 +1,5 @@
 -- What the events of a path tell of each object, and what became of it by that.
-use Rattle.std.specs.Prelude.{◌≡◌, ℕ, zero, suc, ◌≤◌, Bool, true, false, ◌==◌, ◌&&◌, if◌then◌else◌, List, [], ◌∷◌, ◌++◌, length, Option, None, Some, is_some, slice_index_or}
-use Rattle.std.specs.List.{cons_option}
+use Rattle.std.specs.Prelude.{◌≡◌, ℕ, ◌≤◌, Bool, true, false, ◌==◌, ◌&&◌, if◌then◌else◌, List, [], ◌∷◌, length, Option, None, Some, is_some, slice_index_or}
 use Rattle.std.specs.Option.{option_map, unwrap_or}
 use Rattle.zt_bits.specs.declared.kinds.Kind.{Kind}
 use Rattle.zt_rows.specs.declared.calls.Happening.{Happening}
@@ -16,6 +15,7 @@ use Rattle.zt_look.specs.declared.fates.ObjectFate.{ObjectFate}
 use Rattle.zt_look.specs.declared.fates.FateTimes.{FateTimes}
 use Rattle.zt_look.specs.EventList.{happening_number}
 use Rattle.zt_look.specs.Fates.{fate_by, happening_since}
+use Rattle.zt_look.specs.ProofsOnly.NumbersBelow.{told_below}
 
 -- the happenings that fates are told by
 abbrev pub of_fates : HappeningSet
@@ -79,14 +79,9 @@ fate_shown x None t = option_map (λ k. fate_told x k fates.Dead t) t.kind
 abbrev pub shown : State → List FateTimes → ℕ → Option ObjectFate
 shown S ts x = fate_shown x (object S x) (slice_index_or ts x no_fate_times)
 
--- those of the numbers below n, in order
-abbrev pub fates_below : (ℕ → Option ObjectFate) → ℕ → List ObjectFate
-fates_below f zero = []
-fates_below f (suc n) = fates_below f n ++ cons_option (f n) []
-
 -- the list tells of all koids that were given out or that events tell of
 pub record AreFatesUpTo (S : State) (ts : List FateTimes) (list : List ObjectFate) : Type 0 where
   pub end : ℕ
   pub known : (counters S).next_koid ≤ end
   pub timed : length ts ≤ end
-  pub is : list ≡ fates_below (shown S ts) end
+  pub is : list ≡ told_below (shown S ts) end
