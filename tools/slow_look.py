@@ -329,6 +329,108 @@ def alive(trace, at, since=0, names=False):
     return [f'{koid} {state.objects[koid][2]} {counts[koid]} {made[koid]} {trace.call(made[koid], names)}' for koid in koids]
 
 
+# The lives of handles: they are followed from the opening on, call by call, from one place to the next.
+
+
+class Life:
+    """The steps of a handle, each with its moment, its word, and the place with the handle's object and rights there; and its end."""
+
+    def __init__(self, steps=()):
+        self.steps, self.end = list(steps), None
+
+
+def places(state):
+    """The handles of a state: for each place, the words for it, the koid and the mask of rights."""
+    found = {}
+    for row in state.rows.values():
+        fields = row.split(' ')
+        if fields[0] == 'entry':
+            found['entry', int(fields[1]), int(fields[2])] = int(fields[3]), fields[4]
+        elif fields[0] == 'msg' and fields[4] != '-':
+            for index, held in enumerate(fields[4].split(',')):
+                koid, rights = held.split(':')
+                found['message', int(fields[1]), int(fields[2]), index] = int(koid), rights
+    return found
+
+
+def listed(word):
+    return [] if word == '-' else [int(value) for value in word.split(',')]
+
+
+def came_from(trace, moment, gone, new):
+    """Of each new place the word for how its handle came, and from which place; the rows before and after the call tell."""
+    process, name, *asked = trace.calls[moment].split(' ')
+    if name in ('handle_duplicate', 'handle_replace'):
+        word = {'handle_duplicate': 'duplicated', 'handle_replace': 'replaced'}[name]
+        return {place: (word, ('entry', int(process), int(asked[0]))) for place in new}
+    if name == 'channel_write':
+        sent = [('entry', int(process), value) for value in listed(asked[2])]
+        return {place: ('sent', sent[place[3]]) for place in new}
+    if name == 'channel_read':
+        taken = zip(sorted(new), sorted(gone))  # the values of a process rise in the order in which it gets them
+        return {place: ('taken', source) for place, source in taken}
+    if name == 'spawn':
+        given = ('entry', int(process), int(asked[1]))
+        return {place: ('made', None) if place[1] == int(process) else ('given', given) for place in new}
+    return {place: ('made', None) for place in new}
+
+
+def how_ended(trace, moment, place):
+    """The word for how a handle ended at a place by the call, which brought it to no other place."""
+    process, name, *asked = trace.calls[moment].split(' ')
+    before, after = trace.before(moment), trace.states[moment]
+    if place[0] == 'message':
+        reads = name == 'channel_read' and before.handles.get((process, asked[0])) == place[1]
+        return 'discarded' if reads and after.is_there(place[1]) else 'queue_gone'
+    if not after.lives(place[1]):
+        return 'process_ended'
+    return 'closed' if name == 'handle_close' else 'failed'
+
+
+def follow(trace, moment, lives, ever):
+    """Carries the lives of the handles at their places over a call. `ever` is the last life of each place."""
+    before, after = places(trace.before(moment)), places(trace.states[moment])
+    gone, new = [place for place in before if place not in after], [place for place in after if place not in before]
+    sources = came_from(trace, moment, gone, new)
+    leaving = {place: lives[place] for place in gone}
+    for place in new:
+        word, source = sources[place]
+        steps = lives[source].steps if source else []
+        if source and (before[source][0] != after[place][0] or int(after[place][1], 16) & ~int(before[source][1], 16)):
+            raise Trouble(f'moment {moment}: {place} holds {after[place]}, and {source} held {before[source]}')
+        life = leaving.pop(source) if source in leaving else Life(steps)
+        life.steps.append((moment, word, place, after[place][1]))
+        ever[place] = lives[place] = life
+    for place, life in leaving.items():
+        life.end = moment, how_ended(trace, moment, place)
+    for place in gone:
+        del lives[place]
+
+
+def all_lives(trace, at):
+    """The life of each handle value that a process ever had on the path to a moment, as it is there."""
+    lives = {place: Life([(0, 'opening', place, held[1])]) for place, held in places(trace.states[0]).items()}
+    ever = dict(lives)
+    for moment in trace.way(at):
+        follow(trace, moment, lives, ever)
+    return {place[1:]: life for place, life in ever.items() if place[0] == 'entry'}
+
+
+def life_lines(trace, life, names=False):
+    def shown(place, rights):
+        return f"{' '.join(map(str, place))} {named(rights, RIGHTS) if names else rights}"
+
+    lines, last = [], None
+    for moment, word, place, rights in life.steps:
+        source = '' if word in ('opening', 'made') else f' from {last}'
+        last = shown(place, rights)
+        lines.append(f'{moment} {word} {last}{source}' + (f' {trace.call(moment, names)}' if moment else ''))
+    if life.end:
+        moment, word = life.end
+        return [*lines, f'{moment} {word} {last} {trace.call(moment, names)}', 'gone']
+    return [*lines, f'held {last}']
+
+
 def rows_of(trace, at, koid):
     """The rows of the messages in its queue, of the packets in it, and of the waits for it, or on it."""
     state = trace.states[at]

@@ -16,4 +16,5 @@ pub mod AliveLaws
 pub mod NameLaws
 pub mod MaskLaws
 mod WorkedLines
+mod WorkedLives
 pub mod QueuedLaws

@@ -13,6 +13,7 @@ pub mod Names
 pub mod Signaled
 pub mod NamedTexts
 pub mod Lines
+pub mod LifeLines
 pub mod QueuedMessages
 -- Used by proofs only: no public clause depends on them.
 pub mod ProofsOnly

@@ -3,7 +3,7 @@
 //! - The calls of a path with their replies, and the rows that a call changed, or that differ between two moments.
 //! - What happened to objects, and everything that is known of one object.
 //! - What was made on a path and is there at its end.
-//! - The handles of a process, and the messages of an endpoint.
+//! - The handles of a process, and the messages of an endpoint; the lines of the life of a handle.
 //! - Where branches leave one another, and the summary of a path.
 #![tactic(auto)]
 
@@ -39,7 +39,8 @@ pub use fates::{Fate, ObjectFate};
 pub use handle_list::{Handle, handles_at};
 pub use lines::{
     Naming, print_alive, print_branch, print_call_count, print_call_made, print_change,
-    print_event, print_fate, print_handle, print_object, print_queued_message, print_when,
+    print_event, print_fate, print_handle, print_life_end, print_life_step, print_object,
+    print_queued_message, print_when, print_whereabouts,
 };
 pub use message_list::{MessageEnd, QueuedMessage, messages};
 pub use object_look::{ObjectLook, object_at};

@@ -10,6 +10,7 @@ ghost use Rattle.zt_look.specs.ProofsOnly.SpacedWords.{behind_spaces};
 ghost use Rattle.zt_look.specs.Lines.{alive_line, call_made_line, marked_line, change_lines, handle_line, event_line, when_line, content_line, written_line, end_line, message_lines, branch_line, line_in, object_line, holder_lines, object_lines, call_count_line, fate_line, happening_word, end_word, fate_word, when_words, call_words, leaves_words};
 
 mod calls;
+mod lives;
 mod names;
 mod rows;
 
@@ -24,6 +25,7 @@ use crate::message_list::{MessageEnd, QueuedMessage};
 use crate::object_look::ObjectLook;
 use crate::signaled::kind_of_row;
 use calls::{put_call, put_reply};
+pub use lives::{print_life_end, print_life_step, print_whereabouts};
 pub use names::Naming;
 use names::put_rights;
 use rows::{put_content, put_row};
@@ -261,7 +263,11 @@ fn put_end(
 }
 
 /// Appends a call behind a space, if there is one.
-fn put_by(text: &mut String, by: &Option<(Koid, &Call)>, names: bool) -> Result<(), AllocError>
+pub(crate) fn put_by(
+    text: &mut String,
+    by: &Option<(Koid, &Call)>,
+    names: bool,
+) -> Result<(), AllocError>
     ensures { OnOk result (string_bytes text.new ≡ string_bytes text.old ++ behind_spaces (call_words names (option_map (λ e. (e.0, e.1.now)) by.now))) }
 {
     match by {

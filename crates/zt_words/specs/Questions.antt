@@ -26,6 +26,9 @@ moment_word = number_up_to most_calls
 abbrev pub koid_word : Text → Option ℕ
 koid_word = number_up_to 18446744073709551615
 
+abbrev pub handle_word : Text → Option ℕ
+handle_word = number_up_to 4294967295
+
 -- the word that stands alone
 abbrev pub one_word : List Text → Option Text
 one_word (word ∷ []) = Some word
@@ -65,6 +68,15 @@ changed_question (word ∷ []) = option_map question.Changed (moment_word word)
 changed_question (from ∷ to ∷ []) = between_question from to
 changed_question _ = None
 
+-- ---- a handle: its process and its value
+
+abbrev pub handle_of : Text → Text → Option Question
+handle_of process value = option_and_then (λ p. option_map (question.Handle p) (handle_word value)) (koid_word process)
+
+abbrev pub handle_question : List Text → Option Question
+handle_question (process ∷ value ∷ []) = handle_of process value
+handle_question _ = None
+
 -- ---- happenings: those that are named, or all
 
 abbrev pub is_happening : Text → Bool
@@ -92,13 +104,17 @@ happenings_of words =
 
 -- ---- questions
 
+abbrev pub late_topic_named : Text → Option Topic
+late_topic_named name =
+    if bytes_eq name (codes "alive") then Some topic.Alive
+    else (if bytes_eq name (codes "handle") then Some topic.Handle else None)
+
 abbrev pub other_topic_named : Text → Option Topic
 other_topic_named name =
     if bytes_eq name (codes "handles") then Some topic.Handles
     else (if bytes_eq name (codes "messages") then Some topic.Messages
     else (if bytes_eq name (codes "branches") then Some topic.Branches
-    else (if bytes_eq name (codes "summary") then Some topic.Summary
-    else (if bytes_eq name (codes "alive") then Some topic.Alive else None))))
+    else (if bytes_eq name (codes "summary") then Some topic.Summary else late_topic_named name)))
 
 -- what a question with this name asks about
 abbrev pub topic_named : Text → Option Topic
@@ -140,6 +156,7 @@ plain_question topic.Handles words = option_map question.Handles (one_koid words
 plain_question topic.Messages words = option_map question.Messages (one_koid words)
 plain_question topic.Branches words = without_words words question.Branches
 plain_question topic.Summary words = without_words words question.Summary
+plain_question topic.Handle words = handle_question words
 
 -- the question about this that the words and options ask; none, where one of them is not the question's
 abbrev pub question_on : Topic → List Text → Options → Option Question

@@ -168,6 +168,7 @@ fn of_other_name(name: &[u8]) -> Advice {
         b"branches" => Advice::Question("branches", None),
         b"summary" => Advice::Question("summary", None),
         b"alive" => Advice::Question("alive", None),
+        b"handle" => Advice::Question("handle", None),
         _ => Advice::NoName,
     }
 }

@@ -152,7 +152,8 @@ Questions, each about the path to a moment or to the head of a branch, by defaul
   branches              the branches, and where each one leaves another
   summary               how many calls got which status, and what became of each object
   alive [--since M]     what was made, behind M or at all, and is there at the end: for tests
-                        that want nothing left"
+                        that want nothing left
+  handle PROCESS VALUE  the life of a handle: how it came there, step by step, and where it went"
 }
 
 fn trace_help() -> &'static str {
@@ -160,7 +161,7 @@ fn trace_help() -> &'static str {
 }
 
 fn question_help() -> &'static str {
-    "calls, changed, events, object, handles, messages, branches, summary or alive"
+    "calls, changed, events, object, handles, messages, branches, summary, alive or handle"
 }
 
 fn words_help() -> &'static str {

@@ -80,7 +80,7 @@ fn word_of(about: Topic) -> Option<&'static str> {
     match about {
         Topic::Changed => Some("<MOMENT>"),
         Topic::Object | Topic::Messages => Some("<KOID>"),
-        Topic::Handles => Some("<PROCESS>"),
+        Topic::Handles | Topic::Handle => Some("<PROCESS>"),
         _ => None,
     }
 }
@@ -109,10 +109,10 @@ fn nearest(name: &str) -> Option<&'static str> {
 }
 
 /// Returns the names of all questions.
-fn questions() -> [&'static str; 9] {
+fn questions() -> [&'static str; 10] {
     [
         "calls", "changed", "events", "object", "handles", "messages", "branches", "summary",
-        "alive",
+        "alive", "handle",
     ]
 }
 
@@ -158,7 +158,7 @@ fn last_in_common(name: &[u8], other: &[u8]) -> usize {
 /// The list of all questions.
 fn known_questions() -> &'static str {
     "unknown question
-  [questions: calls, changed, events, object, handles, messages, branches, summary, alive]"
+  [questions: calls, changed, events, object, handles, messages, branches, summary, alive, handle]"
 }
 
 /// What is said about a word of `run`, up to the name of the similar question.
@@ -191,6 +191,7 @@ fn form_on_path(about: Topic) -> &'static str {
         Topic::Handles => "[--at <MOMENT> | --branch <NAME>] [--names] handles <PROCESS>",
         Topic::Messages => "[--at <MOMENT> | --branch <NAME>] [--names] messages <KOID>",
         Topic::Alive => "[--at <MOMENT> | --branch <NAME>] [--names] alive [--since <M>]",
+        Topic::Handle => "[--at <MOMENT> | --branch <NAME>] [--names] handle <PROCESS> <VALUE>",
         _ => "[--at <MOMENT> | --branch <NAME>] [--names] summary",
     }
 }

@@ -5,10 +5,10 @@ ghost use Rattle.std.specs.List.{list_all, list_any};
 ghost use Rattle.std.specs.Option.{option_map};
 ghost use Rattle.std.specs.Result.{result_ok};
 ghost use Rattle.std.specs.Str.{bytes_eq};
-ghost use Rattle.zt_words.specs.Questions.{alive_question, all_happenings, between_question, calls_question, changed_question, first_of_calls, happenings_of, has_option_of_calls, has_other_option, is_happening, is_named, is_of_path, koid_word, last_of_calls, moment_word, named_happenings, number_up_to, one_koid, one_word, other_topic_named, plain_question, question_of, question_on, topic_named, without_words};
+ghost use Rattle.zt_words.specs.Questions.{alive_question, all_happenings, between_question, calls_question, changed_question, first_of_calls, handle_of, handle_question, handle_word, happenings_of, has_option_of_calls, has_other_option, is_happening, is_named, is_of_path, koid_word, last_of_calls, late_topic_named, moment_word, named_happenings, number_up_to, one_koid, one_word, other_topic_named, plain_question, question_of, question_on, topic_named, without_words};
 
 use zt_look::{CallFilter, HappeningSet};
-use zt_rows::{Koid, LAST_MOMENT, Moment};
+use zt_rows::{HandleValue, Koid, LAST_MOMENT, Moment};
 
 /// The topic of a question.
 #[derive(Clone, Copy, Debug, PartialEq, Eq)]
@@ -22,6 +22,7 @@ pub enum Topic {
     Branches,
     Summary,
     Alive,
+    Handle,
 }
 
 /// A question with its values.
@@ -47,6 +48,8 @@ pub enum Question {
     Summary,
     /// What was made behind a moment of the path and is there at its end.
     Alive(Moment),
+    /// The life of a handle of a process.
+    Handle(Koid, HandleValue),
 }
 
 /// The options that only some questions have.
@@ -91,7 +94,7 @@ fn topic_named(name: &str) -> Option<Topic>
     }
 }
 
-/// Returns the topic of the question with this name, among the other five.
+/// Returns the topic of the question with this name, among the others.
 fn other_topic_named(name: &str) -> Option<Topic>
     ensures { result ≡ other_topic_named name.now }
 {
@@ -103,8 +106,19 @@ fn other_topic_named(name: &str) -> Option<Topic>
         Some(Topic::Branches)
     } else if name == "summary" {
         Some(Topic::Summary)
-    } else if name == "alive" {
+    } else {
+        late_topic_named(name)
+    }
+}
+
+/// Returns the topic of the question with this name, among the last two.
+fn late_topic_named(name: &str) -> Option<Topic>
+    ensures { result ≡ late_topic_named name.now }
+{
+    if name == "alive" {
         Some(Topic::Alive)
+    } else if name == "handle" {
+        Some(Topic::Handle)
     } else {
         None
     }
@@ -161,6 +175,7 @@ fn plain_question(about: Topic, words: &[&str]) -> Option<Question>
         Topic::Messages => Some(Question::Messages(one_koid(words)?)),
         Topic::Branches => without_words(words, Question::Branches),
         Topic::Summary => without_words(words, Question::Summary),
+        Topic::Handle => handle_question(words),
     }
 }
 
@@ -218,6 +233,25 @@ fn between_question(from: &str, to: &str) -> Option<Question>
     let first = moment_word(from)?;
     let second = moment_word(to)?;
     Some(Question::ChangedBetween(first, second))
+}
+
+/// Returns the question about the handle that a process and a handle value name.
+fn handle_question(words: &[&str]) -> Option<Question>
+    ensures { result ≡ handle_question (map (λ s. s.now) words.now) }
+{
+    match words {
+        [process, value] => handle_of(process, value),
+        _ => None,
+    }
+}
+
+/// Returns the question about the handle of this process with this value.
+fn handle_of(process: &str, value: &str) -> Option<Question>
+    ensures { result ≡ handle_of process.now value.now }
+{
+    let process = koid_word(process)?;
+    let value = handle_word(value)?;
+    Some(Question::Handle(process, value))
 }
 
 /// Returns the first moment of the calls: the first word, or 1 without words.
@@ -356,6 +390,16 @@ fn koid_word(word: &str) -> Option<Koid>
 {
     match number_up_to(u64::MAX, word) {
         Some(number) => Some(Koid(number)),
+        None => None,
+    }
+}
+
+/// Reads a word as a handle value.
+fn handle_word(word: &str) -> Option<HandleValue>
+    ensures { result ≡ handle_word word.now }
+{
+    match number_up_to(u32::MAX as u64, word) {
+        Some(number) => Some(HandleValue(number as u32)),
         None => None,
     }
 }

@@ -9,14 +9,16 @@ use crate::files::load_looked;
 use crate::leave;
 use std::alloc::Global;
 use zt_history::{BranchId, History};
+use zt_lineage::{Ending, LifeStep, Place, life};
 use zt_look::{
     AliveObject, BranchLook, CallFilter, CallMade, Change, HappeningSet, Naming, ObjectEvent,
     ObjectLook, QueuedMessage, alive, branches, calls, changed, changed_between, events,
     handles_at, kind_of_call, kinds_between, messages, object_at, print_alive, print_branch,
     print_call_count, print_call_made, print_change, print_event, print_fate, print_handle,
-    print_object, print_queued_message, print_when, summary,
+    print_life_end, print_life_step, print_object, print_queued_message, print_when,
+    print_whereabouts, summary,
 };
-use zt_rows::{Call, Happening, Koid, Moment, Refusal};
+use zt_rows::{Call, HandleValue, Happening, Koid, Moment, Refusal};
 use zt_words::{Fault, Look, Question};
 
 /// Answers a question on standard output. If nobody reads the output any more, it ends at once without an error.
@@ -95,6 +97,9 @@ fn answer_at(
         Question::Branches => write_branches(alloc, lines, history),
         Question::Summary => write_summary(alloc, lines, history, at),
         Question::Alive(since) => write_alive(alloc, lines, history, at, since, names),
+        Question::Handle(process, value) => {
+            write_life(alloc, lines, history, at, process, value, names)
+        }
     }
 }
 
@@ -417,6 +422,78 @@ fn write_alive_object(
 ) -> Result<(), Stopped> {
     match history.call_of(object.made) {
         Some((process, call)) => lines.write(print_alive(alloc, object, process, call, names)?),
+        None => Ok(()),
+    }
+}
+
+/// Writes the life of a handle on the path: its steps, how it ended, if it did, and where it is at the end of the path.
+fn write_life(
+    alloc: Global,
+    lines: &mut AnswerLines,
+    history: &mut History,
+    at: Moment,
+    process: Koid,
+    value: HandleValue,
+    names: bool,
+) -> Result<(), Stopped> {
+    let told = life(alloc, history, at, Place::Entry(process, value))?;
+    let mut last = None;
+    for step in told.steps.as_slice() {
+        write_step(alloc, lines, history, step, last, names)?;
+        last = Some(*step);
+    }
+    write_whereabouts(alloc, lines, history, last, told.ended, names)
+}
+
+/// Writes one step of a handle's life, with the call of its moment. `before` is the step before it, if there is one.
+fn write_step(
+    alloc: Global,
+    lines: &mut AnswerLines,
+    history: &History,
+    step: &LifeStep,
+    before: Option<LifeStep>,
+    names: bool,
+) -> Result<(), Stopped> {
+    let before = match before {
+        Some(before) => before.held.rights,
+        None => step.held.rights,
+    };
+    let by = history.call_of(step.moment);
+    lines.write(print_life_step(alloc, step, before, &by, names)?)
+}
+
+/// Writes how a handle ended after its last step, if it did, and where it is.
+fn write_whereabouts(
+    alloc: Global,
+    lines: &mut AnswerLines,
+    history: &History,
+    last: Option<LifeStep>,
+    ended: Option<(Moment, Ending)>,
+    names: bool,
+) -> Result<(), Stopped> {
+    match (last, ended) {
+        (Some(last), Some((moment, how))) => {
+            write_end(alloc, lines, history, &last, moment, how, names)?;
+            lines.write(print_whereabouts(alloc, &None, names)?)
+        }
+        _ => lines.write(print_whereabouts(alloc, &last, names)?),
+    }
+}
+
+/// Writes how a handle ended after its last step, with the call of the moment.
+fn write_end(
+    alloc: Global,
+    lines: &mut AnswerLines,
+    history: &History,
+    last: &LifeStep,
+    moment: Moment,
+    how: Ending,
+    names: bool,
+) -> Result<(), Stopped> {
+    match history.call_of(moment) {
+        Some((process, call)) => {
+            lines.write(print_life_end(alloc, moment, how, last, process, call, names)?)
+        }
         None => Ok(()),
     }
 }
