@@ -333,7 +333,7 @@ def alive(trace, at, since=0, names=False):
 
 
 class Life:
-    """The steps of a handle, each with its moment, its word, and the place with the handle's object and rights there; and its end."""
+    """The steps of a handle, each with its moment, its word, its place and the rights there; and its end."""
 
     def __init__(self, steps=()):
         self.steps, self.end = list(steps), None

@@ -1,5 +1,5 @@
 -- The lines of the life of a handle. The first argument of most says whether rights are shown by their names.
-use Rattle.std.specs.Prelude.{ℕ, Bool, List, [], ◌∷◌, ◌++◌, Option, None, Some, codes}
+use Rattle.std.specs.Prelude.{ℕ, Bool, List, [], ◌∷◌, Option, None, Some, codes}
 use Rattle.std.specs.Fmt.{decimal}
 use Rattle.zt_bits.specs.declared.right_bits.Rights.{Rights}
 use Rattle.zt_rows.specs.declared.calls.Call.{Call}
@@ -54,16 +54,16 @@ ending_word ending.QueueGone = codes "queue_gone"
 
 -- ---- steps
 
--- where it came from, with the rights that it had there
-abbrev pub from_words : Bool → Origin → Rights → List (List ℕ)
-from_words names (From other) before = codes "from" ∷ rights_at names other before ∷ []
-from_words names _ before = []
+-- the place from which it came, if it did, with the rights that it had there; and the call, if there is one
+abbrev pub origin_words : Bool → Origin → Rights → Option (ℕ × Call) → List (List ℕ)
+origin_words names (From other) before by = codes "from" ∷ rights_at names other before ∷ call_words names by
+origin_words names _ before by = call_words names by
 
 -- a step, with the rights of the step before and the call of its moment; one from the opening on has no call
 abbrev pub life_step_line : Bool → LifeStep → Rights → Option (ℕ × Call) → List ℕ
 life_step_line names step before by =
     line (decimal step.moment ∷ coming_word step.origin by ∷ rights_at names step.place step.held.rights
-    ∷ (from_words names step.origin before ++ call_words names by))
+    ∷ origin_words names step.origin before by)
 
 -- ---- the end
 

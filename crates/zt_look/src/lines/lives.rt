@@ -3,7 +3,7 @@
 ghost use Rattle.std.specs.Prelude.{◌≡◌, ◌++◌, IfOk, OnOk, string_bytes};
 ghost use Rattle.std.specs.Option.{option_map};
 ghost use Rattle.zt_look.specs.ProofsOnly.SpacedWords.{behind_spaces};
-ghost use Rattle.zt_look.specs.LifeLines.{coming_word, ending_word, from_words, life_end_line, life_step_line, passing_word, place_text, rights_at, whereabouts_line};
+ghost use Rattle.zt_look.specs.LifeLines.{coming_word, ending_word, life_end_line, life_step_line, origin_words, passing_word, place_text, rights_at, whereabouts_line};
 
 use crate::lines::calls::put_call;
 use crate::lines::names::{Naming, put_rights};
@@ -33,8 +33,7 @@ pub fn print_life_step(
         coming_word(step.origin, by)
     )?;
     put_rights_at(&mut text, step.place, step.held.rights, names)?;
-    put_from(&mut text, step.origin, before, names)?;
-    put_by(&mut text, by, names)?;
+    put_origin(&mut text, step.origin, before, by, names)?;
     text.push_str("\n")?;
     Ok(text.into_bytes())
 }
@@ -107,22 +106,25 @@ fn put_place(text: &mut String, place: Place) -> Result<(), AllocError>
     }
 }
 
-/// Appends the place that a handle came from, with the rights that it had there, behind a space; nothing if it came from
-/// no other place.
-fn put_from(
+/// Appends the place that a handle came from, if it came from another, with the rights that it had there, and the call, if
+/// there is one. Each has a space ahead.
+fn put_origin(
     text: &mut String,
     origin: Origin,
     before: Rights,
+    by: &Option<(Koid, &Call)>,
     names: bool,
 ) -> Result<(), AllocError>
-    ensures { OnOk result (string_bytes text.new ≡ string_bytes text.old ++ behind_spaces (from_words names origin before)) }
+    ensures { OnOk result (string_bytes text.new ≡ string_bytes text.old
+        ++ behind_spaces (origin_words names origin before (option_map (λ e. (e.0, e.1.now)) by.now))) }
 {
     match origin {
         Origin::From(place) => {
             text.push_str(" from ")?;
-            put_rights_at(text, place, before, names)
+            put_rights_at(text, place, before, names)?;
+            put_by(text, by, names)
         }
-        _ => Ok(()),
+        _ => put_by(text, by, names),
     }
 }
 

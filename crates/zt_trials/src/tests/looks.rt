@@ -2,6 +2,7 @@
 
 mod branch_list;
 mod lines;
+mod lives;
 mod message_list;
 mod objects;
 mod summaries;
