@@ -13,25 +13,25 @@ use Rattle.zt_look.specs.Names.{shown_bits, shown_rights}
 use Rattle.zt_look.specs.NamedTexts.{call_text}
 use Rattle.zt_look.specs.LifeLines.{life_end_line, life_step_line, whereabouts_line}
 
-all : Rights
+abbrev all : Rights
 all = record { 0 = 0xd003 }
 
-few : Rights
+abbrev few : Rights
 few = record { 0 = 0x3 }
 
-step_at_opening : LifeStep
+abbrev step_at_opening : LifeStep
 step_at_opening = record { moment = 0; place = place.Entry 1025 3; held = record { koid = 1024; rights = all }; origin = origin.Stayed }
 
-step_made : LifeStep
+abbrev step_made : LifeStep
 step_made = record { moment = 2; place = place.Entry 1025 15; held = record { koid = 1028; rights = all }; origin = origin.Made }
 
-step_copied : LifeStep
+abbrev step_copied : LifeStep
 step_copied = record { moment = 3; place = place.Entry 1025 19; held = record { koid = 1028; rights = few }; origin = origin.From (place.Entry 1025 15) }
 
-step_sent : LifeStep
+abbrev step_sent : LifeStep
 step_sent = record { moment = 4; place = place.Message 1027 0 1; held = record { koid = 1028; rights = few }; origin = origin.From (place.Entry 1025 19) }
 
-step_taken : LifeStep
+abbrev step_taken : LifeStep
 step_taken = record { moment = 6; place = place.Entry 1030 7; held = record { koid = 1028; rights = few }; origin = origin.From (place.Message 1027 0 1) }
 
 record Lives : Type 0 where
