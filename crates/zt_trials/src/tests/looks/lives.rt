@@ -62,6 +62,7 @@ fn sent() -> LifeStep {
 
 #[test]
 fn steps_are_printed(rt: HostRuntime) {
+    let step = sent();
     let call = Call::Spawn {
         job: HandleValue(3),
         argument: HandleValue(19),
@@ -70,7 +71,7 @@ fn steps_are_printed(rt: HostRuntime) {
         is_text(
             print_life_step(
                 rt.alloc(),
-                &sent(),
+                &step,
                 Rights(0xd003),
                 &Some((ROOT_PROCESS, &call)),
                 false
@@ -82,6 +83,7 @@ fn steps_are_printed(rt: HostRuntime) {
 
 #[test]
 fn ends_of_handles_are_printed(rt: HostRuntime) {
+    let step = sent();
     let call = Call::HandleClose {
         handle: HandleValue(11),
     };
@@ -91,7 +93,7 @@ fn ends_of_handles_are_printed(rt: HostRuntime) {
                 rt.alloc(),
                 Moment(8),
                 Ending::QueueGone,
-                &sent(),
+                &step,
                 ROOT_PROCESS,
                 &call,
                 true
@@ -101,7 +103,7 @@ fn ends_of_handles_are_printed(rt: HostRuntime) {
     );
     assert!(rt;
         is_text(
-            print_whereabouts(rt.alloc(), &Some(sent()), false),
+            print_whereabouts(rt.alloc(), &Some(step), false),
             b"held message 1027 0 1 0x00000003\n"
         )
     );
