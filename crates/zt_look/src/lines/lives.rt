@@ -26,12 +26,7 @@ pub fn print_life_step(
         ≡ life_step_line names step.now before (option_map (λ e. (e.0, e.1.now)) by.now)) }
 {
     let mut text = String::new(alloc);
-    write!(
-        text,
-        "{} {} ",
-        step.moment.0,
-        coming_word(step.origin, by)
-    )?;
+    write!(text, "{} {} ", step.moment.0, coming_word(step.origin, by))?;
     put_rights_at(&mut text, step.place, step.held.rights, names)?;
     put_origin(&mut text, step.origin, before, by, names)?;
     text.push_str("\n")?;
