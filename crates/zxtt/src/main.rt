@@ -9,7 +9,7 @@ ghost use Rattle.zt_words.specs.declared.fault.Fault.TheVariants.{Refused};
 ghost use Rattle.zxtt.specs.Traces.{BeginsFrom};
 
 mod answer_lines;
-mod attendant;
+mod attended_reader;
 mod connections;
 mod files;
 mod look;
@@ -18,14 +18,14 @@ mod service;
 mod terminal;
 mod typed_reader;
 
-use attendant::Attendant;
+use attended_reader::Attended;
 use files::{load, save, save_tree};
 use look::look;
 use service::serve;
 use std::io::Read;
 use std::mem::forget;
 use std::process::ExitCode;
-use terminal::Attended;
+use terminal::Attendant;
 use typed_reader::TypedLines;
 use zt_console::{Book, Counted, End, run_heard};
 use zt_files::{open, warn_ahead};

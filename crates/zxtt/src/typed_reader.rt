@@ -5,7 +5,7 @@ ghost use Rattle.std.specs.Io.{ReadsAtMost};
 ghost use Rattle.std.specs.Io.KnownBytes.{ReadConsumes};
 ghost use Rattle.zt_console.specs.Typed.{IsGiven};
 
-use crate::attendant::Attendant;
+use crate::terminal::Attendant;
 use std::io;
 use std::io::Read;
 use std::marker::Model;
