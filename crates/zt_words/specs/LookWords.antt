@@ -38,11 +38,13 @@ question_line = with_rule (with_rule (with_rule (new_app (codes "look")) (needed
 abbrev pub path_line : App
 path_line = with_rule (with_rule (with_rule question_line at_word) (valued (codes "branch"))) (flag (codes "names"))
 
--- .. `[--failed] [--process P] [--object K] [--since M]`
+-- .. `[--failed] [--process P] [--object K]`
+abbrev pub calls_line : App
+calls_line = with_rule (with_rule (with_rule path_line (flag (codes "failed"))) (koid_word (codes "process"))) (koid_word (codes "object"))
+
+-- .. `[--since M]`
 abbrev pub look_line : App
-look_line =
-    with_rule (with_rule (with_rule (with_rule path_line (flag (codes "failed"))) (koid_word (codes "process"))) (koid_word (codes "object")))
-    (moment_word (codes "since"))
+look_line = with_rule calls_line (moment_word (codes "since"))
 
 -- ---- what is asked for, by the values of the words
 

@@ -4,7 +4,7 @@ ghost use Rattle.std.specs.Prelude.{◌≡◌, IfOk, Some, [], codes, false, is_
 ghost use Rattle.std.specs.Option.{option_map};
 ghost use Rattle.clap.specs.Words.{all_of, app_of, first_of, found_of, one_of, rows_of, rule_of};
 ghost use Rattle.clap.specs.declared.builder.command.Command.TheViews.{out-Command as fields_of};
-ghost use Rattle.zt_words.specs.LookWords.{AreOptionsOf, IsLookOf, IsQuestionIn, at_word, koid_word, look_line, moment_word, path_line, question_line, words_word};
+ghost use Rattle.zt_words.specs.LookWords.{AreOptionsOf, IsLookOf, IsQuestionIn, at_word, calls_line, koid_word, look_line, moment_word, path_line, question_line, words_word};
 ghost use Rattle.zt_words.specs.Questions.{question_of};
 ghost use Rattle.zt_words.specs.Rules.{IsFlagOf, IsOptionalNumberOf, flag, needed, valued};
 
@@ -330,12 +330,19 @@ pub fn look_command<'a>(alloc: Global) -> Result<Command<'a>, Error>
     ensures line { IfOk result (λ command. app_of command ≡ look_line) }
     ensures globals { IfOk result (λ command. (fields_of command).has_globals ≡ false) }
 {
+    Ok(calls_command(alloc)?.arg(since_word(alloc))?)
+}
+
+/// Declares `look` without the option that only `alive` has.
+fn calls_command<'a>(alloc: Global) -> Result<Command<'a>, Error>
+    ensures line { IfOk result (λ command. app_of command ≡ calls_line) }
+    ensures globals { IfOk result (λ command. (fields_of command).has_globals ≡ false) }
+{
     Ok(
         path_command(alloc)?
             .arg(failed_word(alloc))?
             .arg(process_word(alloc))?
-            .arg(object_word(alloc))?
-            .arg(since_word(alloc))?,
+            .arg(object_word(alloc))?,
     )
 }
 
