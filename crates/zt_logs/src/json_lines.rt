@@ -19,8 +19,9 @@ use crate::members::Members;
 use crate::notes::{LogNote, LogNotes};
 use crate::options::options_of;
 use crate::places::{LineObject, Member};
-use crate::process_names::{NamedPlace, Naming, ProcessNames, ProcessWord};
+use crate::process_names::{NamedPlace, Naming, ProcessNames, ProcessWord, process_in};
 use crate::recorded::recorded_of;
+use crate::side_members::SideMembers;
 use crate::skipped::{SkippedCall, skipped_of};
 use crate::times::times_of;
 use json::{Error, Scratch, Value};
@@ -266,7 +267,8 @@ fn take_call(
     ensures lines { log.new.lines ≡ log.old.lines }
     ensures calls { OnOk result (AddsCalls name log.old.lines (data_at line.now.value) log.old.calls.items log.new.calls.items) }
 {
-    let caller = line.process(Member::Process)?;
+    let side = line.side_members();
+    let caller = caller_of(line, &side)?;
     let args = line.object(Member::Args, LineObject::Args)?;
     let options = options_of(alloc, &mut log.notes, log.lines, name, &args)?;
     let parts = calls_of(alloc, name, line, &args, options)?;
@@ -280,10 +282,23 @@ fn take_call(
         process,
         form: form_of(name),
         count,
-        times: times_of(line),
+        times: times_of(&side),
     };
-    let koids = koids_of(alloc, line)?;
+    let koids = koids_of(alloc, &side)?;
     push_parts(alloc, &mut log.calls, head, parts, recorded, koids)
+}
+
+/// The process that makes the calls of a line with these members. The error is `Missing` or `Member`.
+fn caller_of<'text>(
+    line: &Members<'_, 'text>,
+    side: &SideMembers<'_, 'text>,
+) -> Result<ProcessWord<'text>, Cause> {
+    if let Some(value) = side.process {
+        if let Some(process) = process_in(value) {
+            return Ok(process);
+        }
+    }
+    line.process(Member::Process)
 }
 
 /// The number of the caller of a line that has `count` calls, the first of them at `place` in the log's calls.

@@ -1,8 +1,7 @@
 //! Reads the koids that a tracer tells of the objects of handles.
 
-use crate::members::Members;
 use crate::numbers::{narrow, number_in, number_of};
-use crate::places::Member;
+use crate::side_members::SideMembers;
 use json::Value;
 use std::alloc::{AllocError, Global};
 use zt_rows::HandleValue;
@@ -18,11 +17,11 @@ pub struct HandleKoid {
 /// The koids that a line tells in `koids` and `related_koids`. A member of another form is ignored.
 pub(crate) fn koids_of(
     alloc: Global,
-    line: &Members<'_, '_>,
+    side: &SideMembers<'_, '_>,
 ) -> Result<Vec<HandleKoid>, AllocError> {
     let mut koids = Vec::new(alloc);
-    push_koids(&mut koids, line.member(Member::Koids), false)?;
-    push_koids(&mut koids, line.member(Member::RelatedKoids), true)?;
+    push_koids(&mut koids, side.koids, false)?;
+    push_koids(&mut koids, side.related_koids, true)?;
     Ok(koids)
 }
 

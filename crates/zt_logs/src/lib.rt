@@ -20,6 +20,7 @@ mod other_kinds;
 mod places;
 mod process_names;
 mod recorded;
+mod side_members;
 mod skipped;
 mod times;
 

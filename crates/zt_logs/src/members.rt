@@ -16,6 +16,7 @@ use crate::faults::{Cause, WantedValue};
 use crate::numbers::{narrow_in, number_in, signed_in};
 use crate::places::{LineObject, Member, Place};
 use crate::process_names::{ProcessWord, process_in};
+use crate::side_members::SideMembers;
 use hex::{FromHex, FromHexError};
 use json::Value;
 use std::alloc::Global;
@@ -73,6 +74,17 @@ impl<'a, 'text> Members<'a, 'text> {
             Some(value) => is_object(value),
             None => false,
         }
+    }
+
+    /// The process of a line, and its members that few lines have.
+    pub(crate) fn side_members(&self) -> SideMembers<'a, 'text> {
+        let mut side = SideMembers::none();
+        if let Some(Value::Object(members)) = self.value {
+            for member in members {
+                side.see(member.0, &member.1);
+            }
+        }
+        side
     }
 
     /// The value of a member, by its name or else by its second name.

@@ -17,18 +17,24 @@ const NAME_BYTES: usize = 64;
 #[derive(Drop)]
 pub struct ProcessNames {
     shown: HashMap<u64, String>,
+    /// No name has a number below this one.
+    lowest: u64,
 }
 
 impl ProcessNames {
     pub(crate) fn new(alloc: Global) -> ProcessNames {
         ProcessNames {
             shown: HashMap::new(alloc),
+            lowest: u64::MAX,
         }
     }
 
     /// The name of the process with this number, if the log has it by a name. A `?` stands for each byte that is not
     /// printable.
     pub fn shown(&self, process: u64) -> Option<&str> {
+        if process < self.lowest {
+            return None;
+        }
         match self.shown.get(&process) {
             Some(name) => Some(name.as_str()),
             None => None,
@@ -137,7 +143,12 @@ impl Naming {
         if self.uses.is_empty() {
             return Ok(names);
         }
-        let taken = numbers_of(alloc, log.calls.as_slice(), log.skipped.as_slice())?;
+        let taken = numbers_of(
+            alloc,
+            log.calls.as_slice(),
+            log.skipped.as_slice(),
+            self.shown.len(),
+        )?;
         let numbers = free_numbers(alloc, &taken, self.shown.len())?;
         for used in self.uses.as_slice() {
             if let Some(number) = numbers.get(used.name) {
@@ -152,6 +163,7 @@ impl Naming {
 }
 
 fn put_name(names: &mut ProcessNames, number: u64, shown: String) -> Result<(), AllocError> {
+    names.lowest = names.lowest.min(number);
     match names.shown.insert(number, shown) {
         Ok(_) => Ok(()),
         Err(_) => Err(AllocError),
@@ -183,34 +195,48 @@ fn last_free(taken: &HashMap<u64, ()>, most: u64) -> u64 {
     number
 }
 
-/// The numbers that the processes of calls have.
+/// The numbers that the processes of calls have and that `free_numbers` passes when it looks for `count` numbers. It goes
+/// down from the largest number, and a call has at most two processes.
 fn numbers_of(
     alloc: Global,
     calls: &[LoggedCall],
     skipped: &[SkippedCall],
+    count: usize,
 ) -> Result<HashMap<u64, ()>, AllocError> {
     let mut taken = HashMap::new(alloc);
+    let passed = count
+        .saturating_add(calls.len().saturating_mul(2))
+        .saturating_add(skipped.len());
+    let lowest = u64::MAX.saturating_sub(passed as u64);
     for logged in calls {
-        take_number(&mut taken, logged.process)?;
+        take_number(&mut taken, logged.process, lowest)?;
         if let Some(made) = logged.recorded.process {
-            take_number(&mut taken, made)?;
+            take_number(&mut taken, made, lowest)?;
         }
     }
-    take_skipped(&mut taken, skipped)?;
+    take_skipped(&mut taken, skipped, lowest)?;
     Ok(taken)
 }
 
-/// Adds the numbers of the processes of skipped calls.
-fn take_skipped(taken: &mut HashMap<u64, ()>, skipped: &[SkippedCall]) -> Result<(), AllocError> {
+/// Adds the numbers of the processes of skipped calls, from `lowest` up.
+fn take_skipped(
+    taken: &mut HashMap<u64, ()>,
+    skipped: &[SkippedCall],
+    lowest: u64,
+) -> Result<(), AllocError> {
     for call in skipped {
         if let Some(process) = call.process {
-            take_number(taken, process)?;
+            take_number(taken, process, lowest)?;
         }
     }
     Ok(())
 }
 
-fn take_number(taken: &mut HashMap<u64, ()>, number: u64) -> Result<(), AllocError> {
+/// Adds a number, unless it is below `lowest`.
+fn take_number(taken: &mut HashMap<u64, ()>, number: u64, lowest: u64) -> Result<(), AllocError> {
+    if number < lowest {
+        return Ok(());
+    }
     match taken.insert(number, ()) {
         Ok(_) => Ok(()),
         Err(_) => Err(AllocError),

@@ -1,8 +1,7 @@
 //! Reads when the calls of a log began and returned.
 
-use crate::members::Members;
 use crate::numbers::number_in;
-use crate::places::Member;
+use crate::side_members::SideMembers;
 use json::Value;
 use std::num::{nearest_u64_to_f64, saturating_f64_to_u64};
 
@@ -21,16 +20,24 @@ pub struct CallTimes {
     pub ended: Option<LogTime>,
 }
 
-/// When the call of a line began and returned. A time of another form counts as left out.
-pub(crate) fn times_of(line: &Members<'_, '_>) -> CallTimes {
+/// When the call of a line with these members began and returned. A time of another form counts as left out.
+pub(crate) fn times_of(side: &SideMembers<'_, '_>) -> CallTimes {
+    let time = match side.time {
+        Some(time) => Some(time),
+        None => side.timestamp,
+    };
+    let ended = match time_in(time) {
+        Some(ended) => Some(ended),
+        None => time_in(side.short_time),
+    };
     CallTimes {
-        began: time_at(line, Member::Began),
-        ended: time_at(line, Member::Time).or(time_at(line, Member::TimeStamp)),
+        began: time_in(side.began),
+        ended,
     }
 }
 
-fn time_at(line: &Members<'_, '_>, name: Member) -> Option<LogTime> {
-    let value = line.member(name)?;
+fn time_in(value: Option<&Value<'_>>) -> Option<LogTime> {
+    let value = value?;
     if let Some(whole) = number_in(value) {
         return Some(LogTime { whole, part: 0 });
     }
