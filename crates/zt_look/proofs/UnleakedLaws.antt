@@ -79,7 +79,7 @@ live-kind_of kind.Event b e = never (sym e)
 live-kind_of kind.EventPair b e = never (sym e)
 live-kind_of kind.Port b e = never (sym e)
 
-live-kind : (o : ObjectRow) → live.is_task o ≡ true → is_task o.kind ≡ true
+live-kind : (o : ObjectRow) → live.is_running_task o ≡ true → is_task o.kind ≡ true
 live-kind o e = live-kind_of o.kind (is_live o.life) e
 
 channel-no-job : (k : Kind) → k ≡ kind.Channel → is_job k ≡ true → ⊥
@@ -115,13 +115,13 @@ module _ (S : State) (sound : IsConsistent S) where
       ap object_link at ∙ (sound.sound.of_objects y o at).alone (task-no-endpoint o.kind (job-task o.kind job)) none
 
   -- what keeps something above it is live
-  pub keeper-live : (y : ℕ) (o : ObjectRow) (known : List ℕ) → object S y ≡ Some o → keeps_above known (y, o) ≡ true → (x : ℕ) → among (chain S y) x ≡ true → live.is_task o ≡ true
+  pub keeper-live : (y : ℕ) (o : ObjectRow) (known : List ℕ) → object S y ≡ Some o → keeps_above known (y, o) ≡ true → (x : ℕ) → among (chain S y) x ≡ true → live.is_running_task o ≡ true
   keeper-live y o known at keeps x up = elim (or_true (is_live_process o) (is_job o.kind && among known y) keeps) [
     | inl p ↦ or_right (is_live_job o) (is_live_process o) p
     | inr j ↦ by (is_live o.life) refl (and_left (is_job o.kind) (among known y) j)
   ]
     where
-      by : (b : Bool) → is_live o.life ≡ b → is_job o.kind ≡ true → live.is_task o ≡ true
+      by : (b : Bool) → is_live o.life ≡ b → is_job o.kind ≡ true → live.is_running_task o ≡ true
       by true l job = or_left (is_live_job o) (is_live_process o) (and_both (is_job o.kind) (is_live o.life) job l)
       by false l job = absurd (chain-linked S y x (dead-link y o at job l) up)
 
@@ -236,7 +236,7 @@ module _ (S : State) (sound : IsConsistent S) (f : ℕ → Bool) (closed : HasAl
       ∙ ap (λ b. among (if b then o.link ∷ [] else []) o.link) (and_both (is_task o.kind) (not (o.link == 0)) task (ap not (ne_eqb o.link 0 linked)))
       ∙ self o.link)
 
-  above-in : (n y : ℕ) (o : ObjectRow) → y < n → object S y ≡ Some o → live.is_task o ≡ true → f y ≡ true → (x : ℕ) → among (chain S y) x ≡ true → f x ≡ true
+  above-in : (n y : ℕ) (o : ObjectRow) → y < n → object S y ≡ Some o → live.is_running_task o ≡ true → f y ≡ true → (x : ℕ) → among (chain S y) x ≡ true → f x ≡ true
   above-in zero y o few at lives kept x h = absurd (omega (arith, few))
   above-in (suc n) y o few at lives kept x h =
       let w : Above S y o x = above S sound.sound y o at lives x h in
