@@ -437,29 +437,27 @@ fn write_life(
     names: bool,
 ) -> Result<(), Stopped> {
     let told = life(alloc, history, at, Place::Entry(process, value))?;
-    let mut last = None;
-    for step in told.steps.as_slice() {
-        write_step(alloc, lines, history, step, last, names)?;
-        last = Some(*step);
-    }
-    write_whereabouts(alloc, lines, history, last, told.ended, names)
+    let steps = told.steps.as_slice();
+    write_steps(alloc, lines, history, steps, names)?;
+    let last = steps.last().copied();
+    write_whereabouts(alloc, lines, history, &last, &told.ended, names)
 }
 
-/// Writes one step of a handle's life, with the call of its moment. `before` is the step before it, if there is one.
-fn write_step(
+/// Writes the steps of a handle's life, each with the call of its moment.
+fn write_steps(
     alloc: Global,
     lines: &mut AnswerLines,
     history: &History,
-    step: &LifeStep,
-    before: Option<LifeStep>,
+    steps: &[LifeStep],
     names: bool,
 ) -> Result<(), Stopped> {
-    let before = match before {
-        Some(before) => before.held.rights,
-        None => step.held.rights,
-    };
-    let by = history.call_of(step.moment);
-    lines.write(print_life_step(alloc, step, before, &by, names)?)
+    for place in 0..steps.len() {
+        let step = &steps[place];
+        let before = &steps[place.saturating_sub(1)];
+        let by = history.call_of(step.moment);
+        lines.write(print_life_step(alloc, step, before.held.rights, &by, names)?)?;
+    }
+    Ok(())
 }
 
 /// Writes how a handle ended after its last step, if it did, and where it is.
@@ -467,16 +465,16 @@ fn write_whereabouts(
     alloc: Global,
     lines: &mut AnswerLines,
     history: &History,
-    last: Option<LifeStep>,
-    ended: Option<(Moment, Ending)>,
+    last: &Option<LifeStep>,
+    ended: &Option<(Moment, Ending)>,
     names: bool,
 ) -> Result<(), Stopped> {
     match (last, ended) {
         (Some(last), Some((moment, how))) => {
-            write_end(alloc, lines, history, &last, moment, how, names)?;
+            write_end(alloc, lines, history, last, *moment, *how, names)?;
             lines.write(print_whereabouts(alloc, &None, names)?)
         }
-        _ => lines.write(print_whereabouts(alloc, &last, names)?),
+        _ => lines.write(print_whereabouts(alloc, last, names)?),
     }
 }
 
