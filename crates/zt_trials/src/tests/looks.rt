@@ -2,7 +2,6 @@
 
 mod branch_list;
 mod lines;
-mod lives;
 mod message_list;
 mod objects;
 mod summaries;
