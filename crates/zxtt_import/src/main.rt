@@ -9,7 +9,7 @@ use faults::Fault;
 use files::{read, write};
 use std::alloc::AllocError;
 use std::process::ExitCode;
-use words::{Asked, asked};
+use words::{Asked, read_words};
 use zt_import::{
     Imported, LeftCalls, adopted_in, calls_in, import, join_starts, leave_out, moved_in, pairs_in,
     place_requests, print_difference, print_left, print_skipped, skips_handles, trace_text,
@@ -22,7 +22,7 @@ fn main(rt: HostRuntime) -> ExitCode {
         Ok(words) => words,
         Err(fault) => return ended(&rt, &Err(Fault::from(fault))),
     };
-    let done = match asked(&words, rt.alloc()) {
+    let done = match read_words(&words, rt.alloc()) {
         Ok(asked) => make_trace(&rt, &asked),
         Err(fault) => Err(Fault::from(fault)),
     };

@@ -56,7 +56,7 @@ pub struct Asked<'a> {
 }
 
 /// What the words ask for. The error is `Words` if they are not accepted or ask for help or the version.
-pub fn asked<'a>(words: &'a Words, alloc: Global) -> Result<Asked<'a>, Fault> {
+pub fn read_words<'a>(words: &'a Words, alloc: Global) -> Result<Asked<'a>, Fault> {
     match words.met(command(alloc)?) {
         Ok(matches) => Ok(asked_of(&matches)),
         Err(fault) => Err(fault),

@@ -14,7 +14,7 @@ use server::{listen, serve};
 use std::io::Write;
 use std::process::{self, ExitCode};
 use std::time::SystemTime;
-use words::{Asked, asked};
+use words::{Asked, read_words};
 use zt_console::Book;
 use zt_files::warn_ahead;
 use zt_rows::Refusal;
@@ -26,7 +26,7 @@ fn main(rt: HostRuntime) -> ExitCode {
         Ok(words) => words,
         Err(fault) => return ended(&rt, "zxtt-view", &Err(fault), false),
     };
-    let done = match asked(&words, rt.alloc()) {
+    let done = match read_words(&words, rt.alloc()) {
         Ok(asked) => match begin(&rt, &asked) {
             Ok((listener, view)) => save_viewed(&rt, serve(&rt, listener, view), asked.save_tree),
             Err(fault) => Err(fault),

@@ -53,7 +53,7 @@ pub struct Asked<'a> {
 }
 
 /// Returns what the words ask for. Fails with `Words` if they are not accepted or ask for help.
-pub fn asked<'a>(words: &'a Words, alloc: Global) -> Result<Asked<'a>, Fault> {
+pub fn read_words<'a>(words: &'a Words, alloc: Global) -> Result<Asked<'a>, Fault> {
     match words.met(command(alloc)?) {
         Ok(matches) => Ok(asked_of(&matches)),
         Err(fault) => Err(fault),
