@@ -1,5 +1,6 @@
 """Random traces for tools/look: the program itself is asked call by call, and from its rows it is known what stands, so that
-most calls succeed and many others fail, each with a status of its own. A number gives the same trace each time."""
+most calls succeed and many others fail, each with a status of its own. Those in which handles are passed on are made without the
+program. A number gives the same trace each time."""
 import random
 import subprocess
 import threading
@@ -411,6 +412,87 @@ def write_text(path, calls):
     """Writes a session text of calls in a row."""
     with open(path, 'w', encoding='ascii') as file:
         file.write('zxtt 1\n# A random trace.\n\n' + ''.join(f'{call}\n' for call in calls))
+
+
+class Passer:
+    """A process that passes handles on through three channels of its own. What it holds is known without the program: each handle
+    with whether it may be duplicated. Of each end is known what its next messages have."""
+
+    def __init__(self, seed):
+        self.any, self.calls, self.next, self.held = random.Random(seed), [], 7, []
+        self.call('channel_create')
+        self.held += [self.given(False), self.given(False)]  # a channel that is passed on itself
+        self.ends, self.queues = [], []
+        for _ in range(3):
+            self.call('channel_create')
+            self.ends += [self.given(False)[0], self.given(False)[0]]
+            self.queues += [[], []]
+
+    def call(self, words):
+        self.calls.append(f'{ROOT} {words}')
+
+    def given(self, may_be_duplicated):
+        self.next += 4
+        return self.next - 4, may_be_duplicated
+
+    def some(self, count=1):
+        return self.any.sample(self.held, min(len(self.held), count))
+
+    def event(self):
+        self.call('event_create')
+        self.held.append(self.given(True))
+
+    def duplicate(self):
+        for handle, may in self.some():
+            self.call(f'handle_duplicate {handle} {mask(SAME_RIGHTS)}')
+            self.held += [self.given(True)] if may else []
+
+    def replace(self):
+        for handle, may in self.some():
+            self.call(f'handle_replace {handle} {mask(SAME_RIGHTS)}')
+            self.held.remove((handle, may))
+            self.held.append(self.given(may))
+
+    def write(self):
+        """Sends some handles, now and then over no channel, so that they are closed."""
+        end, sent = self.any.randrange(len(self.ends)), self.some(self.any.choice([1, 1, 2, 3]))
+        fails = self.any.random() < 0.05
+        self.call(f"channel_write {4 if fails else self.ends[end]} - {','.join(str(handle) for handle, _ in sent) or '-'}")
+        self.held = [it for it in self.held if it not in sent]
+        self.queues[end ^ 1] += [] if fails else [sent]
+
+    def read(self):
+        """Takes a message, if there is one, or now and then discards it, if it has handles."""
+        full = [end for end, queue in enumerate(self.queues) if queue]
+        if full:
+            end = self.any.choice(full)
+            sent = self.queues[end].pop(0)
+            drops = bool(sent) and self.any.random() < 0.08
+            self.call(f"channel_read {self.ends[end]} {'0 0 discard' if drops else '64 64'}")
+            self.held += [] if drops else [self.given(may) for _, may in sent]
+
+    def close(self):
+        for one in self.some():
+            self.call(f'handle_close {one[0]}')
+            self.held.remove(one)
+
+    def one_more(self):
+        few = len(self.held) < 10
+        weights = {
+            self.event: 3 if few else 0, self.duplicate: 20 if few else 0, self.replace: 10, self.write: 30, self.read: 35,
+            self.close: 2,
+        }
+        self.any.choices(list(weights), list(weights.values()))[0]()
+
+
+def make_passing_trace(seed, length, path):
+    """Writes a trace of so many calls or a few more, in which handles are passed on again and again. At the end two channels go."""
+    passer = Passer(seed)
+    while len(passer.calls) < length:
+        passer.one_more()
+    for end in (0, 3):
+        passer.call(f'handle_close {passer.ends[end]}')
+    write_text(path, passer.calls)
 
 
 class Known:

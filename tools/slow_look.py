@@ -387,19 +387,25 @@ def how_ended(trace, moment, place):
     return 'closed' if name == 'handle_close' else 'failed'
 
 
-def follow(trace, moment, lives, ever):
-    """Carries the lives of the handles at their places over a call. `ever` is the last life of each place."""
+def crossings(trace, moment):
+    """The places that a call empties; and of each that gets a handle, what it holds, the word for how, and from which place."""
     before, after = places(trace.before(moment)), places(trace.states[moment])
     gone, new = [place for place in before if place not in after], [place for place in after if place not in before]
     sources = came_from(trace, moment, gone, new)
-    leaving = {place: lives[place] for place in gone}
-    for place in new:
-        word, source = sources[place]
-        steps = lives[source].steps if source else []
+    for place, (_, source) in sources.items():
         if source and (before[source][0] != after[place][0] or int(after[place][1], 16) & ~int(before[source][1], 16)):
             raise Trouble(f'moment {moment}: {place} holds {after[place]}, and {source} held {before[source]}')
+    return gone, {place: (after[place], *sources[place]) for place in new}
+
+
+def follow(trace, moment, lives, ever):
+    """Carries the lives of the handles at their places over a call. `ever` is the last life of each place."""
+    gone, new = crossings(trace, moment)
+    leaving = {place: lives[place] for place in gone}
+    for place, (held, word, source) in new.items():
+        steps = lives[source].steps if source else []
         life = leaving.pop(source) if source in leaving else Life(steps)
-        life.steps.append((moment, word, place, after[place][1]))
+        life.steps.append((moment, word, place, held[1]))
         ever[place] = lives[place] = life
     for place, life in leaving.items():
         life.end = moment, how_ended(trace, moment, place)
@@ -429,6 +435,57 @@ def life_lines(trace, life, names=False):
         moment, word = life.end
         return [*lines, f'{moment} {word} {last} {trace.call(moment, names)}', 'gone']
     return [*lines, f'held {last}']
+
+
+# The handles to an object: each is noted at each of its places, from the opening on.
+
+
+class Stay:
+    """A handle at a place: when and how it came, its koid and rights there, from which stay, and when and how it left."""
+
+    def __init__(self, moment, word, place, held, source=None):
+        self.moment, self.word, self.place, self.source, self.left = moment, word, place, source, None
+        self.koid, self.rights = held
+
+
+def stays_on(trace, at):
+    """Every stay of a handle on the path to a moment, in the order in which they began."""
+    found = [Stay(0, 'opening', place, held) for place, held in places(trace.states[0]).items()]
+    here = {stay.place: stay for stay in found}
+    for moment in trace.way(at):
+        gone, new = crossings(trace, moment)
+        for place, (held, word, source) in new.items():
+            here[place] = Stay(moment, word, place, held, here[source] if source else None)
+            found.append(here[place])
+            if source in gone:
+                here[source].left = moment, word
+        for place in gone:
+            stay = here.pop(place)
+            stay.left = stay.left or (moment, how_ended(trace, moment, place))
+    return found
+
+
+def stay_line(stay, depth, names):
+    rights = named(stay.rights, RIGHTS) if names else stay.rights
+    words = [stay.moment, stay.word, *stay.place, rights, *(['from', *stay.source.place] if stay.source else [])]
+    left = [stay.left[1], stay.left[0]] if stay.left else ['held']
+    return '  ' * depth + ' '.join(map(str, [*words, *left]))
+
+
+def lineage(stays, koid, names=False):
+    """The stays of the handles to an object, each behind the one that it came from, and one deeper if it is a copy."""
+    below = {}
+    for stay in stays:
+        if stay.koid == koid:
+            below.setdefault(stay.source, []).append(stay)
+    lines, waiting = [], [(0, stay) for stay in reversed(below.get(None, []))]
+    while waiting:
+        depth, stay = waiting.pop()
+        lines.append(stay_line(stay, depth, names))
+        waiting += [(depth + (each.word == 'duplicated'), each) for each in reversed(below.get(stay, []))]
+    if len(lines) != sum(map(len, below.values())):
+        raise Trouble(f'{koid}: a handle came from none of those that name the object')
+    return lines
 
 
 def rows_of(trace, at, koid):

@@ -1,3 +1,4 @@
 pub mod OriginLaws
+pub mod MoveLaws
 pub mod WayLaws
 pub mod LifeLaws

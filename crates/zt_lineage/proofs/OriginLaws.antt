@@ -249,7 +249,7 @@ at-place S p g later one rest here others zero held at = (g, refl, here ∙ at)
 at-place S p g later one rest here others (suc k) held at = others k held at
 
 -- a handle of the message is what the caller held by the value at its place
-sent-at : (S : State) (p h : ℕ) (earlier values : List ℕ) (all : List Held) → sent S p h earlier values ≡ Ok all → (i : ℕ) (held : Held) → slice_get all i ≡ Some held → (g : ℕ) × (slice_get values i ≡ Some g) × (entry S p g ≡ Some held)
+pub sent-at : (S : State) (p h : ℕ) (earlier values : List ℕ) (all : List Held) → sent S p h earlier values ≡ Ok all → (i : ℕ) (held : Held) → slice_get all i ≡ Some held → (g : ℕ) × (slice_get values i ≡ Some g) × (entry S p g ≡ Some held)
 sent-at S p h earlier [] all e i held at =
     let none : [] ≡ all = cc in
     let no : slice_get {X = Held} [] i ≡ Some held = ap (λ l. slice_get l i) none ∙ at in
@@ -401,7 +401,7 @@ module _ (S : State) (sound : IsSound S) (p : ℕ) (live : has_live_process S p 
       sourced-object S o (put T (key.Msg one.link peer.next) (Some (rows.Msg m))) put_there one.link (raised peer))))
 
   -- the i-th handle that the caller receives has this value
-  received-at : (i : ℕ) → received_as S p (value_of ((caller S p).next + i)) ≡ i
+  pub received-at : (i : ℕ) → received_as S p (value_of ((caller S p).next + i)) ≡ i
   received-at i = let n : ℕ = (caller S p).next in omega arith
 
   sourced-channel_read : (h : ℕ) (c : Call) (bytes handles : ℕ) (discard : Bool) → ((q g : ℕ) → filled_by S p c (place.Entry q g) ≡ from_queue S (received_as S p g) (entry S p h)) → Sourced S (origin S p c) (channel_read S p h bytes handles discard).0
@@ -480,7 +480,7 @@ module _ (S : State) (sound : IsSound S) (p : ℕ) (live : has_live_process S p 
       ]
 
   -- what the caller receives is the process that it made
-  spawned-made : (h arg : ℕ) → filled_by S p (call.Spawn h arg) (place.Entry p (value_of (caller S p).next)) ≡ Made
+  pub spawned-made : (h arg : ℕ) → filled_by S p (call.Spawn h arg) (place.Entry p (value_of (caller S p).next)) ≡ Made
   spawned-made h arg = ap (λ b. if b then Made else From (place.Entry p arg)) (eq-eqb p p refl)
 
   -- what the process holds is what the caller gave

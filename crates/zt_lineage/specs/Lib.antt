@@ -2,3 +2,5 @@
 pub mod Places
 pub mod Origins
 pub mod Lives
+-- Used by proofs only: no public clause depends on them.
+pub mod ProofsOnly

@@ -45,7 +45,7 @@ fn is_from(origin: &Origin, place: &Place) -> bool
     ensures { result ≡ is_from origin.now place.now }
 {
     match origin {
-        Origin::From(other) => other.is_same(place),
+        Origin::From(other) => other == place,
         _ => false,
     }
 }
@@ -178,14 +178,14 @@ pub(crate) fn ending_by(
     match call {
         Call::HandleClose { handle } => {
             ended_if(
-                place.is_same(&Place::Entry(process, *handle)),
+                *place == Place::Entry(process, *handle),
                 Ending::Closed,
                 place,
             )
         }
         Call::HandleReplace { handle, .. } => {
             ended_if(
-                place.is_same(&Place::Entry(process, *handle)),
+                *place == Place::Entry(process, *handle),
                 Ending::Failed,
                 place,
             )

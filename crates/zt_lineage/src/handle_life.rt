@@ -170,7 +170,7 @@ fn comings(
 }
 
 /// Where what the place holds behind the moment came from. The history stands at the moment's parent.
-fn origin_at(history: &History, moment: Moment, place: &Place) -> Origin
+pub fn origin_at(history: &History, moment: Moment, place: &Place) -> Origin
     requires { history.now.position ≡ parent_at history.now.tree.made moment }
     ensures { result ≡ origin_at history.now.tree.made moment place.now }
 {
@@ -262,7 +262,7 @@ fn leave(
 }
 
 /// Where what the place held goes by the moment's call. The history stands at the moment's parent.
-fn target_at(history: &History, moment: Moment, place: &Place) -> Option<Place>
+pub fn target_at(history: &History, moment: Moment, place: &Place) -> Option<Place>
     requires { history.now.position ≡ parent_at history.now.tree.made moment }
     ensures { result ≡ target_at history.now.tree.made moment place.now }
 {
@@ -276,7 +276,7 @@ fn target_at(history: &History, moment: Moment, place: &Place) -> Option<Place>
 }
 
 /// How what the place held ends by the moment's call. The history stands at the moment's parent.
-fn end_at(history: &History, moment: Moment, place: &Place) -> Ending
+pub fn end_at(history: &History, moment: Moment, place: &Place) -> Ending
     requires { history.now.position ≡ parent_at history.now.tree.made moment }
     ensures { result ≡ end_at history.now.tree.made moment place.now }
 {

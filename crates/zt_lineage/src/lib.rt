@@ -9,6 +9,6 @@ mod origins;
 mod places;
 
 pub use endings::Ending;
-pub use handle_life::{HandleLife, LifeStep, life};
+pub use handle_life::{HandleLife, LifeStep, end_at, life, origin_at, target_at};
 pub use origins::{Origin, origin_of};
 pub use places::{Place, held_at};

@@ -4,14 +4,13 @@ use Rattle.std.specs.Prelude.{◌==◌, if◌then◌else◌, nat_le}
 use Rattle.std.specs.Option.{option_and_then, option_map}
 use Rattle.std.proofs.lemmas.Bool.{eqb-true, eq-eqb}
 use Rattle.std.proofs.lemmas.Bool.Decides.{nat_tests}
-use Rattle.zt_bits.specs.declared.kinds.Kind.{Kind}
 use Rattle.zt_rows.specs.declared.calls.Happening.TheVariants as happening
 use Rattle.zt_rows.specs.declared.rows.ObjectRow.{ObjectRow}
 use Rattle.zt_rows.specs.Reads.{counters, is_live, object, on_object}
 use Rattle.zt_rows.specs.State.{State}
 use Rattle.zt_rows.specs.Support.{support_count}
 use Rattle.zt_rows.specs.Tests.{among}
-use Rattle.zt_rows.proofs.RowLaws.{or_left, or_right, or_true, true≢false}
+use Rattle.zt_rows.proofs.RowLaws.{or_right, or_true, true≢false}
 use Rattle.zt_history.specs.RowHappenings.{last_shown}
 use Rattle.zt_history.specs.Tree.{Made, Tree, last_moment, parent_at, path, state_at}
 use Rattle.zt_history.specs.TreeInvariant.{Falls, IsTree}

@@ -1,10 +1,9 @@
 -- The calls of a path that are asked for, moment by moment.
-use Rattle.std.proofs.Common.{◌||◌, ◌≡◌, ℕ, zero, suc, ◌+◌, ◌≤◌, ◌<◌, Bool, true, false, cond, List, [], ◌∷◌, ◌++◌, length, map, take, get_or, Option, Some, None, refl, sym, ◌∙◌, ap, subst, arith, append-nil}
+use Rattle.std.proofs.Common.{◌||◌, ◌≡◌, ℕ, suc, ◌+◌, ◌≤◌, ◌<◌, Bool, true, false, cond, List, [], ◌∷◌, ◌++◌, length, map, take, get_or, Option, Some, None, refl, sym, ◌∙◌, ap, subst, arith, append-nil}
 use Rattle.std.specs.Prelude.{filter, nat_le, Ok, Err}
 use Rattle.std.specs.List.{filter_map, list_any}
 use Rattle.std.specs.Option.{option_map}
 use Rattle.std.proofs.lemmas.Bool.{leb-true}
-use Rattle.std.proofs.lemmas.Bool.Decides.{nat_tests}
 use Rattle.std.proofs.lemmas.List.{take_more}
 use Rattle.std.proofs.lemmas.List.Elements.{filter-append, filter_map-append}
 use Rattle.zt_rows.specs.declared.calls.Call.{Call}
@@ -13,7 +12,7 @@ use Rattle.zt_rows.specs.declared.refusals.Refusal.{Refusal}
 use Rattle.zt_rows.specs.declared.refusals.Refusal.TheVariants as refusal
 use Rattle.zt_history.specs.HistoryRefusals.{IsHistoryRefusal, moment_on, check, ◌>>=◌}
 use Rattle.zt_history.specs.Timeline.{Timeline, IsPath, moved_to}
-use Rattle.zt_history.specs.Tree.{Made, Tree, last_moment, made_at, call_at, parent_at, reply_at}
+use Rattle.zt_history.specs.Tree.{Made, Tree, last_moment, made_at, call_at, reply_at}
 use Rattle.zt_history.specs.TreeInvariant.{Falls}
 use Rattle.zt_history.proofs.ListLaws.{get-within}
 use Rattle.zt_history.proofs.WayLaws.{way-at, way-within}

@@ -10,7 +10,7 @@ use Rattle.zt_rows.proofs.ChangeLaws.{with_rows-before, row-with_rows, option_ro
 use Rattle.zt_history.specs.TreeInvariant.{Falls, record_of, recorded_at}
 use Rattle.zt_history.specs.Tree.{Made, parent_at, state_at}
 use Rattle.zt_history.proofs.ListLaws.{get-within}
-use Rattle.zt_history.proofs.PathLaws.{among-self}
+use Rattle.zt_history.proofs.PathLaws.{among-parent, among-self}
 use Rattle.zt_look.specs.declared.changes.Change.{Change}
 use Rattle.zt_look.specs.Changes.{changes, changes_at}
 use Rattle.zt_look.specs.ProofsOnly.RecordSides.{row_before, change_under}
@@ -80,6 +80,16 @@ given_record None x y e = cc
 pub here-before : (made : List Made) → Falls made → (m : ℕ) (R : List (RowKey × Option Row)) → recorded_at made m m ≡ Some R → R ≡ before (state_at made (parent_at made m)) (state_at made m)
 here-before made falls zero R e = cc
 here-before made falls (suc i) R e = sym (given_record (slice_get made i) (record_of made (suc i) (suc i)) R e) ∙ turned made falls i
+
+forth : (made : List Made) → Falls made → (i : ℕ) → record_of made (parent_at made (suc i)) (suc i) ≡ before (state_at made (suc i)) (state_at made (parent_at made (suc i)))
+unfolding record_of
+forth made falls i =
+    ap (λ b. if b then before (state_at made (parent_at made (suc i))) (state_at made (suc i)) else before (state_at made (suc i)) (state_at made (parent_at made (suc i)))) (among-parent made falls i)
+
+-- a moment's record, for a store at its parent, has the rows after its call
+pub record-forth : (made : List Made) → Falls made → (m : ℕ) (R : List (RowKey × Option Row)) → recorded_at made (parent_at made m) m ≡ Some R → R ≡ before (state_at made m) (state_at made (parent_at made m))
+record-forth made falls zero R e = cc
+record-forth made falls (suc i) R e = sym (given_record (slice_get made i) (record_of made (parent_at made (suc i)) (suc i)) R e) ∙ forth made falls i
 
 -- what stands under the keys of the record, in it and in the state, is what changed
 pub recorded : (made : List Made) → Falls made → (m : ℕ) (R : List (RowKey × Option Row)) (ks : List RowKey) (T : State)

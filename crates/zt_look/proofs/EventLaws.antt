@@ -28,14 +28,13 @@ use Rattle.zt_rows.specs.Reads.{as_object, is_live, object, on_object}
 use Rattle.zt_rows.specs.State.{State, row}
 use Rattle.zt_rows.specs.Tests.{among, exists, kind_at}
 use Rattle.zt_rows.specs.ProofsOnly.KeyOrder.{rowkey_eq-cmp}
-use Rattle.zt_rows.proofs.ChangeLaws.{row-with_rows, with_rows-before}
 use Rattle.zt_rows.proofs.RowLaws.{and_both, and_left, and_right, not_true, or_left, or_right, or_true, true≢false}
 use Rattle.zt_store.specs.RecordLook.{held}
 use Rattle.zt_history.specs.Timeline.{IsPath}
 use Rattle.zt_history.specs.Tree.{Made, end_of, parent_at, path, state_at}
 use Rattle.zt_history.specs.TreeInvariant.{Falls, record_of, recorded_at}
 use Rattle.zt_history.proofs.ListLaws.{get-within}
-use Rattle.zt_history.proofs.PathLaws.{among-early, among-parent, by_parents, path-opening, path-step}
+use Rattle.zt_history.proofs.PathLaws.{among-early, by_parents, path-opening, path-step}
 use Rattle.zt_history.proofs.WayLaws.{way-later, way-within}
 use Rattle.zt_queries.specs.HappeningTimes.{at_moment, happens}
 use Rattle.zt_history.specs.RowHappenings.{is_cut_off}
@@ -49,6 +48,7 @@ use Rattle.zt_look.specs.EventList.{AreEvents, AreInOrder, ComesBefore, IsEvent,
 use Rattle.zt_look.specs.ProofsOnly.EventsSoFar.{AddsMoment, AreLeaked, event_if, event_shown, events_shown, is_object, object_over, shows, change_over}
 use Rattle.zt_look.specs.ProofsOnly.RecordSides.{row_before}
 use Rattle.zt_look.proofs.CallLaws.{prefix-path}
+use Rattle.zt_look.proofs.ChangeLaws.{record-forth, row-turned}
 
 -- ---- lists
 
@@ -318,9 +318,6 @@ or-parts : (a b : Bool) → (a || b) ≡ false → (a ≡ false) × (b ≡ false
 or-parts true b h = absurd (true≢false true refl h)
 or-parts false b h = (refl, h)
 
-row-turned : (S T : State) (k : RowKey) → row_before (before S T) k (row T k) ≡ row S k
-row-turned S T k = sym (row-with_rows T (before S T) k) ∙ ap (λ U. row U k) (with_rows-before S T)
-
 other-key : (x : ℕ) (k : RowKey) → is_object x k ≡ false → rowkey_eq (key.Object x) k ≡ false
 other-key x (key.Object y) h = not_true (x == y) (λ e. true≢false (y == x) (eq-eqb y x (sym (eqb-true x y e))) h)
 other-key x key.Counters h = refl
@@ -342,24 +339,6 @@ module _ (made : List Made) (asked : HappeningSet) (m : ℕ) where
 
   abbrev is_now : State
   is_now = state_at made m
-
-  -- a moment's record, for a store at its parent, has the rows after its call
-  record-forth : Falls made → (R : List (RowKey × Option Row)) → recorded_at made (parent_at made m) m ≡ Some R → R ≡ before is_now was
-  unfolding record_of
-  record-forth falls R e = by m e
-    where
-      given : {A B : Type 0} (o : Option A) (x y : B) → option_map (λ _. x) o ≡ Some y → x ≡ y
-      given (Some a) x y e = cc
-      given None x y e = cc
-
-      forth : (i : ℕ) → record_of made (parent_at made (suc i)) (suc i) ≡ before (state_at made (suc i)) (state_at made (parent_at made (suc i)))
-      forth i =
-          ap (λ b. cond b (before (state_at made (parent_at made (suc i))) (state_at made (suc i))) (before (state_at made (suc i)) (state_at made (parent_at made (suc i)))))
-          (among-parent made falls i)
-
-      by : (m : ℕ) → recorded_at made (parent_at made m) m ≡ Some R → R ≡ before (state_at made m) (state_at made (parent_at made m))
-      by zero e = cc
-      by (suc i) e = sym (given (slice_get made i) (record_of made (parent_at made (suc i)) (suc i)) R e) ∙ forth i
 
   module _ (R : List (RowKey × Option Row)) (is : R ≡ before is_now was) where
     object-turned : (x : ℕ) → object_over R was x ≡ object is_now x
@@ -424,7 +403,7 @@ module _ (made : List Made) (asked : HappeningSet) (m : ℕ) where
       → IsStrictlySortedBy nat_cmp koids.keys
       → list ≡ flat_map (λ x. events_shown asked (change_over R S m set x)) koids.keys → AreEvents made asked (m ∷ []) list
   call-shown falls S position R set koids list at state kept leaks has up is =
-      let forth : R ≡ before is_now was = record-forth falls R (ap (λ p. recorded_at made p m) (sym at) ∙ kept) in
+      let forth : R ≡ before is_now was = record-forth made falls m R (ap (λ p. recorded_at made p m) (sym at) ∙ kept) in
       let stands : S ≡ was = state ∙ ap (state_at made) at in
       subst (AreEvents made asked (m ∷ []))
       (sym (is ∙ ap (λ S. flat_map (λ x. events_shown asked (change_over R S m set x)) koids.keys) stands ∙ shown-all R forth set leaks koids.keys))
@@ -523,7 +502,7 @@ module _ (made : List Made) (falls : Falls made) where
     pub moment-end : end_of (take i way) ≡ q
     moment-end = ap (λ n. end_of (take n way)) (sym one_more) ∙ way-end made falls way is (i - 1) q here
 
-    dropped : drop (i - 1) way ≡ q ∷ drop i way
+    pub dropped : drop (i - 1) way ≡ q ∷ drop i way
     dropped =
         let back : i - 1 + 1 ≡ i = omega (arith, some) in
         drop_more way (i - 1) q (omega (arith, some, within))

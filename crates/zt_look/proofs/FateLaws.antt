@@ -1,12 +1,10 @@
 -- What the events of a path tell of each object, and what became of it.
-use Rattle.std.proofs.Common.{◌≡◌, ℕ, zero, suc, ◌+◌, ◌≤◌, ◌<◌, Bool, true, false, cond, not, ◌&&◌, ◌||◌, List, [], ◌∷◌, ◌++◌, length, take, get_or, Option, Some, None, is_some, ◌⊎◌, inl, inr, refl, sym, ◌∙◌, ap, subst, arith, append-nil}
+use Rattle.std.proofs.Common.{◌≡◌, ℕ, zero, suc, ◌+◌, ◌≤◌, ◌<◌, Bool, true, false, cond, not, ◌&&◌, ◌||◌, List, [], ◌∷◌, ◌++◌, length, take, get_or, Option, Some, None, is_some, ◌⊎◌, inl, inr, refl, sym, ◌∙◌, ap, subst, arith}
 use Rattle.std.specs.Prelude.{◌==◌, filter, if◌then◌else◌}
-use Rattle.std.specs.List.{AllByRecursion, cons_option, last_or, list_any}
-use Rattle.std.specs.List.Sorted.{IsStrictlyIncreasing}
+use Rattle.std.specs.List.{AllByRecursion, last_or, list_any}
 use Rattle.std.specs.Option.{option_map, unwrap_or}
 use Rattle.std.proofs.lemmas.Bool.{cases_lt, eqb-true, eq-eqb}
-use Rattle.std.proofs.lemmas.List.{get_or_past, map-append, take_more}
-use Rattle.std.proofs.lemmas.List.Folds.{list_any-append}
+use Rattle.std.proofs.lemmas.List.{get_or_past, take_more}
 use Rattle.zt_bits.specs.declared.kinds.Kind.{Kind}
 use Rattle.zt_rows.specs.declared.calls.Happening.{Happening}
 use Rattle.zt_rows.specs.declared.calls.Happening.TheVariants as happening
@@ -36,7 +34,7 @@ use Rattle.zt_look.specs.declared.fates.Fate.TheVariants as fates
 use Rattle.zt_look.specs.declared.fates.ObjectFate.{ObjectFate}
 use Rattle.zt_look.specs.declared.fates.FateTimes.{FateTimes}
 use Rattle.zt_look.specs.EventList.{AreEvents, IsEvent, happening_number, is_asked, is_told, kind_by, kind_or}
-use Rattle.zt_look.specs.Fates.{AreFates, IsFate, fate_by, koids, happening_since}
+use Rattle.zt_look.specs.Fates.{AreFates, IsFate, fate_by, happening_since}
 use Rattle.zt_look.specs.ProofsOnly.FatesSoFar.{AreFatesUpTo, AreFateTimes, fate_shown, fate_told, is_at, is_turn, kind_told, latest, moment_in, no_fate_times, of_fates, shown, told, fate_times, turned, turned_by}
 use Rattle.zt_look.proofs.BelowLaws.{below-all, below-each, below-rising}
 

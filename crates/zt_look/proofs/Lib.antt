@@ -18,3 +18,5 @@ pub mod MaskLaws
 mod WorkedLines
 mod WorkedLives
 pub mod QueuedLaws
+pub mod TreeLaws
+pub mod DepartureLaws

@@ -45,7 +45,7 @@ or_true : (b : Bool) → (b || true) ≡ true
 or_true true = refl
 or_true false = refl
 
-one_of : (p : RowKey → Bool) (q : RowKey) → p q ≡ true → (ks : List RowKey) → list_any (rowkey_eq q) ks ≡ true → list_any p ks ≡ true
+pub one_of : (p : RowKey → Bool) (q : RowKey) → p q ≡ true → (ks : List RowKey) → list_any (rowkey_eq q) ks ≡ true → list_any p ks ≡ true
 one_of p q is [] h = absurd (true≢false (sym h))
 one_of p q is (k ∷ ks) h = by (one_of p q is ks) (rowkey_eq q k) refl
   where

@@ -14,6 +14,9 @@ pub mod Signaled
 pub mod NamedTexts
 pub mod Lines
 pub mod LifeLines
+pub mod ObjectHandles
+pub mod HandleTree
+pub mod LineageLines
 pub mod QueuedMessages
 -- Used by proofs only: no public clause depends on them.
 pub mod ProofsOnly

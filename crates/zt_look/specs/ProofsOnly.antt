@@ -14,3 +14,5 @@ pub mod BitsLeft
 pub mod SpacedWords
 pub mod TwoStates
 pub mod AliveSoFar
+pub mod Departures
+pub mod TreeLinks

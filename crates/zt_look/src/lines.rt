@@ -25,7 +25,7 @@ use crate::message_list::{MessageEnd, QueuedMessage};
 use crate::object_look::ObjectLook;
 use crate::signaled::kind_of_row;
 use calls::{put_call, put_reply};
-pub use lives::{print_life_end, print_life_step, print_whereabouts};
+pub use lives::{print_life_end, print_life_step, print_lineage_step, print_whereabouts};
 pub use names::Naming;
 use names::put_rights;
 use rows::{put_content, put_row};

@@ -81,7 +81,7 @@ pub fn messages(
 }
 
 /// Whether the koid was given out.
-fn is_known(store: &Store, koid: Koid) -> bool
+pub(crate) fn is_known(store: &Store, koid: Koid) -> bool
     ensures { result ≡ is_known store.now.state koid }
 {
     koid >= ROOT_JOB && koid < store.counters().next_koid

@@ -43,8 +43,12 @@ abbrev pub calls_line : App
 calls_line = with_rule (with_rule (with_rule path_line (flag (codes "failed"))) (koid_word (codes "process"))) (koid_word (codes "object"))
 
 -- .. `[--since M]`
+abbrev pub alive_line : App
+alive_line = with_rule calls_line (moment_word (codes "since"))
+
+-- .. `[--exit-code]`
 abbrev pub look_line : App
-look_line = with_rule calls_line (moment_word (codes "since"))
+look_line = with_rule alive_line (flag (codes "exit-code"))
 
 -- ---- what is asked for, by the values of the words
 
@@ -66,4 +70,5 @@ pub record IsLookOf (rows : List Row) (look : Look) : Type 0 where
   pub at : IsOptionalNumberOf 32 (one_of (codes "at") rows) look.at
   pub branch : option_map (λ s. s.now) look.branch ≡ first_of (codes "branch") rows
   pub names : IsFlagOf (one_of (codes "names") rows) look.names
+  pub exit_code : IsFlagOf (one_of (codes "exit-code") rows) look.exit_code
   pub question : IsQuestionIn rows look.question

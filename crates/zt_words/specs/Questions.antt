@@ -107,7 +107,8 @@ happenings_of words =
 abbrev pub late_topic_named : Text → Option Topic
 late_topic_named name =
     if bytes_eq name (codes "alive") then Some topic.Alive
-    else (if bytes_eq name (codes "handle") then Some topic.Handle else None)
+    else (if bytes_eq name (codes "handle") then Some topic.Handle
+    else (if bytes_eq name (codes "lineage") then Some topic.Lineage else None))
 
 abbrev pub other_topic_named : Text → Option Topic
 other_topic_named name =
@@ -157,6 +158,7 @@ plain_question topic.Messages words = option_map question.Messages (one_koid wor
 plain_question topic.Branches words = without_words words question.Branches
 plain_question topic.Summary words = without_words words question.Summary
 plain_question topic.Handle words = handle_question words
+plain_question topic.Lineage words = option_map question.Lineage (one_koid words)
 
 -- the question about this that the words and options ask; none, where one of them is not the question's
 abbrev pub question_on : Topic → List Text → Options → Option Question

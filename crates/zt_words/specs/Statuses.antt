@@ -1,5 +1,5 @@
 -- The exit status, by what ended the program.
-use Rattle.std.specs.Prelude.{ℕ, Result, Ok, Err, ⊤}
+use Rattle.std.specs.Prelude.{ℕ, Bool, ◌&&◌, if◌then◌else◌, Result, Ok, Err, ⊤}
 use Rattle.zt_rows.specs.declared.refusals.Refusal.{Refusal}
 use Rattle.zt_rows.specs.declared.refusals.Refusal.TheVariants as refusal
 use Rattle.zt_words.specs.declared.fault.Fault.{Fault}
@@ -27,6 +27,10 @@ fault_status (fault.Trace line reason place) = 6
 abbrev pub TellsOfNoLine : Fault → Type 0
 TellsOfNoLine (fault.Trace line reason place) = ⊥
 TellsOfNoLine _ = ⊤
+
+-- of a question that was answered: 1 where it is asked to show by its status that the answer has a line, and the answer has one
+abbrev pub answer_status : Bool → Bool → ℕ
+answer_status shows told = if shows && told then 1 else 0
 
 -- of the program: 0 where nothing ended it before it was done
 abbrev pub end_status : {A : Type 0} → Result A Fault → ℕ

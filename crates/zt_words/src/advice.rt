@@ -169,6 +169,7 @@ fn of_other_name(name: &[u8]) -> Advice {
         b"summary" => Advice::Question("summary", None),
         b"alive" => Advice::Question("alive", None),
         b"handle" => Advice::Question("handle", None),
+        b"lineage" => Advice::Question("lineage", None),
         _ => Advice::NoName,
     }
 }

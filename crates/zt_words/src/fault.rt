@@ -4,7 +4,7 @@ ghost use Rattle.std.specs.Prelude.{◌≡◌};
 ghost use Rattle.std.specs.Process.{exit_status};
 ghost use Rattle.zt_rows.specs.declared.refusals.Refusal.TheVariants as refusal;
 ghost use Rattle.zt_words.specs.declared.fault.Fault.TheVariants as fault;
-ghost use Rattle.zt_words.specs.Statuses.{end_status, fault_status, stopped_status};
+ghost use Rattle.zt_words.specs.Statuses.{answer_status, end_status, fault_status, stopped_status};
 
 use crate::no_question::NoQuestion;
 use crate::trace_lines::TraceLine;
@@ -73,6 +73,18 @@ pub fn ended(rt: &HostRuntime, program: &str, done: &Result<(), Fault>, explains
             }
             ExitCode::from(fault.status())
         }
+    }
+}
+
+/// Returns the exit status of a question that was answered. `shows` says whether the status has to show that the answer has a
+/// line, and `told` whether it has one.
+pub fn answered(shows: bool, told: bool) -> ExitCode
+    ensures { exit_status result ≡ answer_status shows told }
+{
+    if shows && told {
+        ExitCode::from(1)
+    } else {
+        ExitCode::SUCCESS
     }
 }
 

@@ -14,7 +14,7 @@ mod trace_lines;
 mod wanted;
 mod words;
 
-pub use fault::{Fault, ended};
+pub use fault::{Fault, answered, ended};
 pub use fields::field;
 pub use heard::{Heading, said_of};
 pub use look_words::Look;

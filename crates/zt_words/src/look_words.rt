@@ -4,7 +4,7 @@ ghost use Rattle.std.specs.Prelude.{◌≡◌, IfOk, Some, [], codes, false, is_
 ghost use Rattle.std.specs.Option.{option_map};
 ghost use Rattle.clap.specs.Words.{all_of, app_of, first_of, found_of, one_of, rows_of, rule_of};
 ghost use Rattle.clap.specs.declared.builder.command.Command.TheViews.{out-Command as fields_of};
-ghost use Rattle.zt_words.specs.LookWords.{AreOptionsOf, IsLookOf, IsQuestionIn, at_word, calls_line, koid_word, look_line, moment_word, path_line, question_line, words_word};
+ghost use Rattle.zt_words.specs.LookWords.{alive_line, AreOptionsOf, IsLookOf, IsQuestionIn, at_word, calls_line, koid_word, look_line, moment_word, path_line, question_line, words_word};
 ghost use Rattle.zt_words.specs.Questions.{question_of};
 ghost use Rattle.zt_words.specs.Rules.{IsFlagOf, IsOptionalNumberOf, flag, needed, valued};
 
@@ -26,6 +26,8 @@ pub struct Look<'a> {
     pub branch: Option<&'a str>,
     /// Whether rights and signals are shown by name.
     pub names: bool,
+    /// Whether the exit status shows that the answer has a line.
+    pub exit_code: bool,
     pub question: Question,
 }
 
@@ -39,6 +41,7 @@ pub fn look_of<'a>(words: &ArgMatches<'a>) -> Result<Look<'a>, NoQuestion>
             at: moment_in(words, "at"),
             branch: branch_in(words),
             names: flag_in(words, "names"),
+            exit_code: flag_in(words, "exit-code"),
             question,
         }),
         Err(fault) => Err(fault),
@@ -153,7 +156,8 @@ Questions, each about the path to a moment or to the head of a branch, by defaul
   summary               how many calls got which status, and what became of each object
   alive [--since M]     what was made, behind M or at all, and is there at the end: for tests
                         that want nothing left
-  handle PROCESS VALUE  the life of a handle: how it came there, step by step, and where it went"
+  handle PROCESS VALUE  the life of a handle: how it came there, step by step, and where it went
+  lineage KOID          all handles to an object, as a tree: how each came and how it left"
 }
 
 fn trace_help() -> &'static str {
@@ -161,7 +165,7 @@ fn trace_help() -> &'static str {
 }
 
 fn question_help() -> &'static str {
-    "calls, changed, events, object, handles, messages, branches, summary, alive or handle"
+    "calls, changed, events, object, handles, messages, branches, summary, alive, handle or lineage"
 }
 
 fn words_help() -> &'static str {
@@ -190,6 +194,10 @@ fn process_help() -> &'static str {
 
 fn object_help() -> &'static str {
     "Lists only the calls that changed this object or a handle to it"
+}
+
+fn exit_code_help() -> &'static str {
+    "Exits with status 1 if the answer has a line"
 }
 
 fn since_help() -> &'static str {
@@ -288,6 +296,17 @@ fn names_word<'a>(alloc: Global) -> Arg<'a>
         .help(names_help())
 }
 
+/// The flag `--exit-code`: the exit status shows whether the answer has a line.
+fn exit_code_word<'a>(alloc: Global) -> Arg<'a>
+    ensures rule { rule_of result ≡ flag (codes "exit-code") }
+    ensures global { result.global ≡ false }
+{
+    Arg::new(alloc, "exit-code")
+        .long("exit-code")
+        .action(ArgAction::SetTrue)
+        .help(exit_code_help())
+}
+
 /// The flag `--failed`: only calls that failed.
 fn failed_word<'a>(alloc: Global) -> Arg<'a>
     ensures rule { rule_of result ≡ flag (codes "failed") }
@@ -330,10 +349,18 @@ pub fn look_command<'a>(alloc: Global) -> Result<Command<'a>, Error>
     ensures line { IfOk result (λ command. app_of command ≡ look_line) }
     ensures globals { IfOk result (λ command. (fields_of command).has_globals ≡ false) }
 {
+    Ok(alive_command(alloc)?.arg(exit_code_word(alloc))?)
+}
+
+/// Declares `look` without the flag about the exit status.
+fn alive_command<'a>(alloc: Global) -> Result<Command<'a>, Error>
+    ensures line { IfOk result (λ command. app_of command ≡ alive_line) }
+    ensures globals { IfOk result (λ command. (fields_of command).has_globals ≡ false) }
+{
     Ok(calls_command(alloc)?.arg(since_word(alloc))?)
 }
 
-/// Declares `look` without the option that only `alive` has.
+/// Declares `look` without the flag about the exit status and the option that only `alive` has.
 fn calls_command<'a>(alloc: Global) -> Result<Command<'a>, Error>
     ensures line { IfOk result (λ command. app_of command ≡ calls_line) }
     ensures globals { IfOk result (λ command. (fields_of command).has_globals ≡ false) }

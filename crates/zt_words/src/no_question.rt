@@ -79,7 +79,7 @@ fn write_form<W: Write>(f: &mut Formatter<W>, about: Topic) -> fmt::Result {
 fn word_of(about: Topic) -> Option<&'static str> {
     match about {
         Topic::Changed => Some("<MOMENT>"),
-        Topic::Object | Topic::Messages => Some("<KOID>"),
+        Topic::Object | Topic::Messages | Topic::Lineage => Some("<KOID>"),
         Topic::Handles | Topic::Handle => Some("<PROCESS>"),
         _ => None,
     }
@@ -109,10 +109,10 @@ fn nearest(name: &str) -> Option<&'static str> {
 }
 
 /// Returns the names of all questions.
-fn questions() -> [&'static str; 10] {
+fn questions() -> [&'static str; 11] {
     [
         "calls", "changed", "events", "object", "handles", "messages", "branches", "summary",
-        "alive", "handle",
+        "alive", "handle", "lineage",
     ]
 }
 
@@ -158,7 +158,7 @@ fn last_in_common(name: &[u8], other: &[u8]) -> usize {
 /// The list of all questions.
 fn known_questions() -> &'static str {
     "unknown question
-  [questions: calls, changed, events, object, handles, messages, branches, summary, alive, handle]"
+  [questions: calls, changed, events, object, handles, messages, branches, summary, alive, handle, lineage]"
 }
 
 /// What is said about a word of `run`, up to the name of the similar question.
@@ -192,6 +192,7 @@ fn form_on_path(about: Topic) -> &'static str {
         Topic::Messages => "[--at <MOMENT> | --branch <NAME>] [--names] messages <KOID>",
         Topic::Alive => "[--at <MOMENT> | --branch <NAME>] [--names] alive [--since <M>]",
         Topic::Handle => "[--at <MOMENT> | --branch <NAME>] [--names] handle <PROCESS> <VALUE>",
+        Topic::Lineage => "[--at <MOMENT> | --branch <NAME>] [--names] lineage <KOID>",
         _ => "[--at <MOMENT> | --branch <NAME>] [--names] summary",
     }
 }

@@ -23,6 +23,7 @@ pub enum Topic {
     Summary,
     Alive,
     Handle,
+    Lineage,
 }
 
 /// A question with its values.
@@ -50,6 +51,8 @@ pub enum Question {
     Alive(Moment),
     /// The life of a handle of a process.
     Handle(Koid, HandleValue),
+    /// The handles that named an object.
+    Lineage(Koid),
 }
 
 /// The options that only some questions have.
@@ -111,7 +114,7 @@ fn other_topic_named(name: &str) -> Option<Topic>
     }
 }
 
-/// Returns the topic of the question with this name, among the last two.
+/// Returns the topic of the question with this name, among the last three.
 fn late_topic_named(name: &str) -> Option<Topic>
     ensures { result ≡ late_topic_named name.now }
 {
@@ -119,6 +122,8 @@ fn late_topic_named(name: &str) -> Option<Topic>
         Some(Topic::Alive)
     } else if name == "handle" {
         Some(Topic::Handle)
+    } else if name == "lineage" {
+        Some(Topic::Lineage)
     } else {
         None
     }
@@ -176,6 +181,7 @@ fn plain_question(about: Topic, words: &[&str]) -> Option<Question>
         Topic::Branches => without_words(words, Question::Branches),
         Topic::Summary => without_words(words, Question::Summary),
         Topic::Handle => handle_question(words),
+        Topic::Lineage => Some(Question::Lineage(one_koid(words)?)),
     }
 }
 

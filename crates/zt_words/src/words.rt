@@ -79,6 +79,7 @@ Lines:
 
 Exit statuses:
   0  the input ended or the question was answered, even if lines were refused
+  1  the answer of `look --exit-code` has a line
   2  the command line is invalid, or help or the version was printed
   3  a file could not be opened, or the program could not listen on the port
   4  a read failed            5  a write failed

@@ -40,6 +40,8 @@ impl From<io::Error> for Stopped {
 #[derive(Drop)]
 pub struct AnswerLines {
     writer: BufWriter<Stdout>,
+    /// Whether any line was written.
+    told: bool,
 }
 
 impl AnswerLines {
@@ -47,13 +49,20 @@ impl AnswerLines {
     pub fn new(rt: &HostRuntime) -> Result<AnswerLines, Stopped> {
         Ok(AnswerLines {
             writer: BufWriter::new(rt.alloc(), rt.stdout())?,
+            told: false,
         })
     }
 
     /// Writes more lines.
     pub fn write(&mut self, text: Vec<u8>) -> Result<(), Stopped> {
+        self.told = self.told || !text.is_empty();
         self.writer.write_all(text.as_slice())?;
         Ok(())
+    }
+
+    /// Whether any line was written.
+    pub fn told(&self) -> bool {
+        self.told
     }
 
     /// Writes what is still in the buffer.

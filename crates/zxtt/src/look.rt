@@ -11,33 +11,42 @@ use std::alloc::Global;
 use zt_history::{BranchId, History};
 use zt_lineage::{Ending, LifeStep, Place, life};
 use zt_look::{
-    AliveObject, BranchLook, CallFilter, CallMade, Change, HappeningSet, Naming, ObjectEvent,
-    ObjectLook, QueuedMessage, alive, branches, calls, changed, changed_between, events,
-    handles_at, kind_of_call, kinds_between, messages, object_at, print_alive, print_branch,
-    print_call_count, print_call_made, print_change, print_event, print_fate, print_handle,
-    print_life_end, print_life_step, print_object, print_queued_message, print_when,
-    print_whereabouts, summary,
+    AliveObject, BranchLook, CallFilter, CallMade, Change, HappeningSet, LineageStep, Naming,
+    ObjectEvent, ObjectLook, QueuedMessage, alive, branches, calls, changed, changed_between,
+    events, handles_at, kind_of_call, kinds_between, lineage, messages, object_at, print_alive,
+    print_branch, print_call_count, print_call_made, print_change, print_event, print_fate,
+    print_handle, print_life_end, print_life_step, print_lineage_step, print_object,
+    print_queued_message, print_when, print_whereabouts, summary,
 };
 use zt_rows::{Call, HandleValue, Happening, Koid, Moment, Refusal};
 use zt_words::{Fault, Look, Question};
 
-/// Answers a question on standard output. If nobody reads the output any more, it ends at once without an error.
-pub fn look(rt: &HostRuntime, asked: &Look<'_>) -> Result<(), Fault> {
+/// Answers a question on standard output, and returns whether the answer has a line. If nobody reads the output any more, it
+/// ends at once without an error.
+pub fn look(rt: &HostRuntime, asked: &Look<'_>) -> Result<bool, Fault> {
     let book = load_looked(rt, asked.file)?;
     let mut history = book.into_history();
-    let done = answer(rt, &mut history, asked);
+    let mut told = false;
+    let done = answer(rt, &mut history, asked, &mut told);
     leave(history);
     match done {
-        Ok(()) | Err(Stopped::Unread) => Ok(()),
+        Ok(()) | Err(Stopped::Unread) => Ok(told),
         Err(Stopped::By(refusal)) => Err(Fault::Refused(refusal)),
     }
 }
 
-/// Answers a question about a history.
-fn answer(rt: &HostRuntime, history: &mut History, asked: &Look<'_>) -> Result<(), Stopped> {
+/// Answers a question about a history, and notes whether the answer has a line.
+fn answer(
+    rt: &HostRuntime,
+    history: &mut History,
+    asked: &Look<'_>,
+    told: &mut bool,
+) -> Result<(), Stopped> {
     let at = path_end(history, asked.at, asked.branch)?;
     let mut lines = AnswerLines::new(rt)?;
-    answer_at(rt.alloc(), &mut lines, history, at, asked)?;
+    let done = answer_at(rt.alloc(), &mut lines, history, at, asked);
+    *told = lines.told();
+    done?;
     lines.finish()
 }
 
@@ -100,6 +109,7 @@ fn answer_at(
         Question::Handle(process, value) => {
             write_life(alloc, lines, history, at, process, value, names)
         }
+        Question::Lineage(koid) => write_lineage(alloc, lines, history, at, koid, names),
     }
 }
 
@@ -494,4 +504,36 @@ fn write_end(
         }
         None => Ok(()),
     }
+}
+
+/// Writes the handles that named an object on the path, in the order of their tree.
+fn write_lineage(
+    alloc: Global,
+    lines: &mut AnswerLines,
+    history: &mut History,
+    at: Moment,
+    koid: Koid,
+    names: bool,
+) -> Result<(), Stopped> {
+    let list = lineage(alloc, history, at, koid)?;
+    for step in &list {
+        write_lineage_step(alloc, lines, history, step, names)?;
+    }
+    Ok(())
+}
+
+/// Writes one handle that named an object, with how it came and how it left.
+fn write_lineage_step(
+    alloc: Global,
+    lines: &mut AnswerLines,
+    history: &History,
+    step: &LineageStep,
+    names: bool,
+) -> Result<(), Stopped> {
+    let came = history.call_of(step.handle.moment);
+    let left = match step.handle.left {
+        Some((moment, _)) => history.call_of(moment),
+        None => None,
+    };
+    lines.write(print_lineage_step(alloc, step, &came, &left, names)?)
 }

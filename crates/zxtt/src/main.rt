@@ -29,7 +29,7 @@ use terminal::Attendant;
 use typed_reader::TypedLines;
 use zt_console::{Book, Counted, End, run_heard};
 use zt_files::{open, warn_ahead};
-use zt_words::{Asked, Fault, RunWords, ServeWords, Words, ended};
+use zt_words::{Asked, Fault, RunWords, ServeWords, Words, answered, ended};
 
 fn main(rt: HostRuntime) -> ExitCode {
     let words = match Words::of(&rt) {
@@ -46,7 +46,10 @@ fn main(rt: HostRuntime) -> ExitCode {
             ),
             Err(fault) => Err(fault),
         },
-        Ok(Asked::Look(asked)) => look(&rt, &asked),
+        Ok(Asked::Look(asked)) => match look(&rt, &asked) {
+            Ok(told) => return answered(asked.exit_code, told),
+            Err(fault) => Err(fault),
+        },
         Err(fault) => Err(fault),
     };
     let status = ended(&rt, "zxtt", &done, words.ask_to_explain());

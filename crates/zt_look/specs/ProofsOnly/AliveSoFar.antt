@@ -1,6 +1,5 @@
 -- What the store and the notes of a history tell of an object, and of all below a number.
-use Rattle.std.specs.Prelude.{ℕ, zero, suc, nat_le, if◌then◌else◌, List, [], ◌++◌, Option, None, Some}
-use Rattle.std.specs.List.{cons_option}
+use Rattle.std.specs.Prelude.{ℕ, nat_le, if◌then◌else◌, List, Option, None, Some}
 use Rattle.std.specs.Option.{option_and_then}
 use Rattle.zt_bits.specs.declared.kinds.Kind.{Kind}
 use Rattle.zt_rows.specs.declared.rows.ObjectRow.{ObjectRow}

@@ -1,13 +1,16 @@
-//! The lines of the life of a handle.
+//! The lines of the life of a handle, and of the handles that named an object.
 
 ghost use Rattle.std.specs.Prelude.{◌≡◌, ◌++◌, IfOk, OnOk, string_bytes};
 ghost use Rattle.std.specs.Option.{option_map};
 ghost use Rattle.zt_look.specs.ProofsOnly.SpacedWords.{behind_spaces};
+ghost use Rattle.zt_look.specs.LineageLines.{indent, journey_words, leaving_word, left_words, lineage_step_line, object_handle_line};
 ghost use Rattle.zt_look.specs.LifeLines.{coming_word, ending_word, life_end_line, life_step_line, origin_words, passing_word, place_text, rights_at, whereabouts_line};
 
+use crate::handle_tree::LineageStep;
 use crate::lines::calls::put_call;
 use crate::lines::names::{Naming, put_rights};
 use crate::lines::put_by;
+use crate::object_handles::{Leaving, ObjectHandle};
 use std::alloc::{AllocError, Global};
 use zt_bits::Rights;
 use zt_lineage::{Ending, LifeStep, Origin, Place};
@@ -73,6 +76,110 @@ pub fn print_whereabouts(
         }
     }
     Ok(text.into_bytes())
+}
+
+/// The line of a handle that named an object: two spaces for each copy above it, the moment at which it came, how, its
+/// place and rights, the place from which it came, if it came from another, and how and when it left, or that it is held.
+/// `came` is the call by which it came, and `left` the call by which it left, where there are such calls.
+pub fn print_lineage_step(
+    alloc: Global,
+    step: &LineageStep,
+    came: &Option<(Koid, &Call)>,
+    left: &Option<(Koid, &Call)>,
+    names: bool,
+) -> Result<Vec<u8>, AllocError>
+    ensures { IfOk result (λ text. text.items
+        ≡ lineage_step_line names step.now (option_map (λ e. (e.0, e.1.now)) came.now) (option_map (λ e. (e.0, e.1.now)) left.now)) }
+{
+    let mut text = String::new(alloc);
+    put_indent(&mut text, step.depth)?;
+    let mut text = text.into_bytes();
+    let line = print_object_handle(alloc, step.handle, came, left, names)?;
+    text.extend_from_slice(line.as_slice())?;
+    Ok(text)
+}
+
+/// The line of a handle that named an object, without its depth.
+fn print_object_handle(
+    alloc: Global,
+    handle: ObjectHandle,
+    came: &Option<(Koid, &Call)>,
+    left: &Option<(Koid, &Call)>,
+    names: bool,
+) -> Result<Vec<u8>, AllocError>
+    ensures { IfOk result (λ text. text.items
+        ≡ object_handle_line names handle (option_map (λ e. (e.0, e.1.now)) came.now) (option_map (λ e. (e.0, e.1.now)) left.now)) }
+{
+    let mut text = String::new(alloc);
+    write!(
+        text,
+        "{} {} ",
+        handle.moment.0,
+        coming_word(handle.origin, came)
+    )?;
+    put_rights_at(&mut text, handle.place, handle.held.rights, names)?;
+    put_journey(&mut text, handle.origin, handle.left, left)?;
+    text.push_str("\n")?;
+    Ok(text.into_bytes())
+}
+
+/// Appends two spaces for each copy above.
+fn put_indent(text: &mut String, depth: u32) -> Result<(), AllocError>
+    ensures { OnOk result (string_bytes text.new ≡ string_bytes text.old ++ indent depth) }
+{
+    for _ in 0..depth {
+        text.push_str("  ")?;
+    }
+    Ok(())
+}
+
+/// Appends the place from which a handle came, if it came from another, and how it left. Each has a space ahead.
+#[tactic(auto, unfolding(crate::specs::LineageLines::journey_words))]
+fn put_journey(
+    text: &mut String,
+    origin: Origin,
+    left: Option<(Moment, Leaving)>,
+    by: &Option<(Koid, &Call)>,
+) -> Result<(), AllocError>
+    ensures { OnOk result (string_bytes text.new ≡ string_bytes text.old
+        ++ behind_spaces (journey_words origin left (option_map (λ e. (e.0, e.1.now)) by.now))) }
+{
+    match origin {
+        Origin::From(place) => {
+            text.push_str(" from ")?;
+            put_place(text, place)?;
+            put_left(text, left, by)
+        }
+        _ => put_left(text, left, by),
+    }
+}
+
+/// Appends how and at which moment a handle left, or that it is held.
+fn put_left(
+    text: &mut String,
+    left: Option<(Moment, Leaving)>,
+    by: &Option<(Koid, &Call)>,
+) -> Result<(), AllocError>
+    ensures { OnOk result (string_bytes text.new ≡ string_bytes text.old
+        ++ behind_spaces (left_words left (option_map (λ e. (e.0, e.1.now)) by.now))) }
+{
+    match left {
+        None => text.push_str(" held"),
+        Some((moment, how)) => write!(text, " {} {}", leaving_word(&how, by), moment.0),
+    }
+}
+
+/// The word of how a handle left by the call, if there is a call.
+fn leaving_word(how: &Leaving, by: &Option<(Koid, &Call)>) -> &'static str
+    ensures { result.now ≡ leaving_word how.now (option_map (λ e. (e.0, e.1.now)) by.now) }
+{
+    match how {
+        Leaving::Ended(how) => ending_word(*how),
+        Leaving::Moved(_) => match by {
+            Some((_, call)) => passing_word(call),
+            None => "moved",
+        },
+    }
 }
 
 /// Appends a place with the rights of the handle there.

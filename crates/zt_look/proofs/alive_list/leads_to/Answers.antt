@@ -1,5 +1,5 @@
 -- A moment that is later than this one is led to as its parent is; one that is not is led to by itself alone.
-use Rattle.std.proofs.Common.{◌≡◌, ◌≤◌, ◌<◌, ap, ◌∙◌, arith}
+use Rattle.std.proofs.Common.{◌≤◌, ◌<◌, ap, ◌∙◌, arith}
 use Rattle.std.proofs.lemmas.Bool.Decides.{nat_tests}
 use Rattle.zt_queries.specs.LaterMoments.{leads_to}
 use Rattle.zt_look.proofs.AliveLaws.{leads-met, leads-up}

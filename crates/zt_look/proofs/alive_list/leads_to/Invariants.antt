@@ -1,5 +1,5 @@
 -- The moment leads to the end as it leads to the moment that was come to.
-use Rattle.std.proofs.Common.{◌≡◌, ◌≤◌, length}
+use Rattle.std.proofs.Common.{◌≡◌}
 use Rattle.zt_queries.specs.LaterMoments.{leads_to}
 use Rattle.zt_look.proofs.alive_list.leads_to.Given as goal
 

@@ -1,6 +1,6 @@
 -- The way goes up from the later of both moments, and its call's keys are added; where both are one moment, each key at which the
 -- states differ was added.
-use Rattle.std.proofs.Common.{sym, ap, subst}
+use Rattle.std.proofs.Common.{sym, subst}
 use Rattle.zt_history.specs.Tree.{state_at}
 use Rattle.zt_look.specs.ProofsOnly.TwoStates.{IsSameBeside}
 use Rattle.zt_look.proofs.TwoStateLaws.{beside-back, beside-kept, beside-met, both-same, parent-within}
