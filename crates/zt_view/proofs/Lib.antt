@@ -3,3 +3,4 @@ pub mod QueryLaws
 pub mod AnswerLaws
 pub mod HeaderLaws
 pub mod ObjectLaws
+pub mod LifeLaws

@@ -14,7 +14,9 @@ lack_of word =
     else (if bytes_eq word (codes "events") then lack.Takes taking.Events
     else (if bytes_eq word (codes "path") then lack.Takes taking.Path
     else (if bytes_eq word (codes "object") then lack.Takes taking.Object
-    else lack.NoPath))))
+    else (if bytes_eq word (codes "handle") then lack.Takes taking.Handle
+    else (if bytes_eq word (codes "lineage") then lack.Takes taking.Lineage
+    else lack.NoPath))))))
 
 abbrev pub lack_status : Lack → ℕ
 lack_status lack.NoPath = 404
@@ -28,9 +30,11 @@ taking_text taking.Calls = codes "The form is /calls/AT/FROM/TO, with at most 16
 taking_text taking.Events = codes "The form is /events/AT/FROM/TO, with at most 16384 moments from FROM to TO. The query may have made, ended, peer_closed and leaked, joined by &.\n"
 taking_text taking.Path = codes "The form is /path/AT/FROM.\n"
 taking_text taking.Object = codes "The form is /object/KOID/AT.\n"
+taking_text taking.Handle = codes "The form is /handle/PROCESS/VALUE/AT.\n"
+taking_text taking.Lineage = codes "The form is /lineage/KOID/AT.\n"
 
 abbrev pub lack_text : Lack → List ℕ
-lack_text lack.NoPath = codes "There is no such path. The paths are /branches, /calls, /change, /end, /events, /lines, /object, /path, /trace and /tree.\n"
+lack_text lack.NoPath = codes "There is no such path. The paths are /branches, /calls, /change, /end, /events, /handle, /lineage, /lines, /object, /path, /trace and /tree.\n"
 lack_text (lack.Takes word) = taking_text word
 lack_text lack.AskedByGet = codes "Use GET for this path.\n"
 lack_text lack.AskedByPost = codes "Use POST for this path.\n"

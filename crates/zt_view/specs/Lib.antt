@@ -4,6 +4,7 @@ pub mod Guard
 pub mod Lacks
 pub mod Requests
 pub mod PathRanges
+pub mod HandleTexts
 pub mod Questions
 pub mod Responses
 pub mod Answers

@@ -1,5 +1,5 @@
 -- Questions about a history, and the texts that answer them.
-use Rattle.std.specs.Prelude.{◌≡◌, ⊤, ℕ, List, [], ◌++◌, take, Option, None, Some, Result, Ok, Err, false}
+use Rattle.std.specs.Prelude.{◌≡◌, ℕ, List, [], ◌++◌, take, Option, None, Some, Result, Ok, Err, false}
 use Rattle.std.specs.List.{flat_map}
 use Rattle.std.specs.Option.{option_map}
 use Rattle.zt_rows.specs.declared.calls.Call.{Call}
@@ -9,18 +9,24 @@ use Rattle.zt_rows.specs.declared.refusals.Refusal.TheVariants as refusal
 use Rattle.zt_history.specs.HistoryRefusals.{IsHistoryRefusal, check, moment_on}
 use Rattle.zt_history.specs.Tree.{Made, Tree, call_at, name_at, path, state_at}
 use Rattle.zt_queries.specs.HappeningTimes.{is_known, IsRefusedWhen}
+use Rattle.zt_lineage.specs.declared.handle_life.HandleLife.{HandleLife}
+use Rattle.zt_lineage.specs.declared.places.Place.TheVariants as place
+use Rattle.zt_lineage.specs.Lives.{life_on}
 use Rattle.zt_look.specs.declared.branch_list.BranchLook.{BranchLook}
 use Rattle.zt_look.specs.declared.event_list.ObjectEvent.{ObjectEvent}
+use Rattle.zt_look.specs.declared.handle_tree.LineageStep.{LineageStep}
 use Rattle.zt_look.specs.declared.object_look.ObjectLook.{ObjectLook}
 use Rattle.zt_look.specs.BranchList.{branches_of}
 use Rattle.zt_look.specs.CallList.{calls_on}
 use Rattle.zt_look.specs.Changes.{changed_on}
 use Rattle.zt_look.specs.EventList.{AreEvents, between}
 use Rattle.zt_look.specs.Lines.{branch_line, call_made_line, change_lines, event_line, object_lines, when_line}
+use Rattle.zt_look.specs.HandleTree.{lineage_on}
 use Rattle.zt_look.specs.Names.{masks}
 use Rattle.zt_look.specs.ObjectLook.{IsObjectLook}
 use Rattle.zt_view.specs.declared.question.ViewQuestion.{ViewQuestion}
 use Rattle.zt_view.specs.declared.question.ViewQuestion.TheVariants as question
+use Rattle.zt_view.specs.HandleTexts.{life_text, lineage_text}
 use Rattle.zt_view.specs.PathRanges.{most_ranges, range_line, ranges_from}
 
 -- ---- lines
@@ -60,13 +66,17 @@ IsAnswer (question.Events at wanted) t text =
 IsAnswer (question.Path at from) t text = text ≡ flat_map range_line (take most_ranges (ranges_from from (path t.made at)))
 IsAnswer (question.Object koid at) t text =
     (look : ObjectLook) × IsObjectLook t.made at koid look × (text ≡ object_lines false (state_at t.made at) look ++ times_text t.made look)
+IsAnswer (question.Handle process value at) t text =
+    (life : HandleLife) × (life_on t at (place.Entry process value) ≡ Ok life) × (text ≡ life_text t.made life)
+IsAnswer (question.Lineage koid at) t text =
+    (list : List LineageStep) × (lineage_on t at koid ≡ Ok list) × (text ≡ flat_map (lineage_text t.made) list)
 IsAnswer question.Branches t text = text ≡ flat_map (branch_text t) (branches_of t)
 
--- why nothing is told of an object at a moment: the moment is looked for first, without memory; where it is there, memory may be
--- refused on the way to it, ahead of the object
-abbrev pub IsObjectRefusal : Result ℕ Refusal → Result ⊤ Refusal → Refusal → Type 0
-IsObjectRefusal (Err reason) known given = given ≡ reason
-IsObjectRefusal (Ok _) known given = IsRefusedWhen known given
+-- why nothing is told of something at a moment: the moment is looked for first, without memory; where it is there, memory may be
+-- refused on the way to it, ahead of what is looked for
+abbrev pub IsRefusedAt : {A : Type 0} → Result ℕ Refusal → Result A Refusal → Refusal → Type 0
+IsRefusedAt (Err reason) found given = given ≡ reason
+IsRefusedAt (Ok _) found given = IsRefusedWhen found given
 
 -- the question has no answer of the tree for this reason, or memory was refused
 abbrev pub IsUnanswered : ViewQuestion → Tree → Refusal → Type 0
@@ -75,7 +85,9 @@ IsUnanswered (question.Calls at wanted) t reason = IsHistoryRefusal (calls_on t 
 IsUnanswered (question.Events at wanted) t reason = IsHistoryRefusal (moment_on t at) reason
 IsUnanswered (question.Path at from) t reason = IsHistoryRefusal (moment_on t at) reason
 IsUnanswered (question.Object koid at) t reason =
-    IsObjectRefusal (moment_on t at) (check (is_known (state_at t.made at) koid) refusal.NoObject) reason
+    IsRefusedAt (moment_on t at) (check (is_known (state_at t.made at) koid) refusal.NoObject) reason
+IsUnanswered (question.Handle process value at) t reason = IsRefusedAt (moment_on t at) (life_on t at (place.Entry process value)) reason
+IsUnanswered (question.Lineage koid at) t reason = IsRefusedAt (moment_on t at) (lineage_on t at koid) reason
 IsUnanswered question.Branches t reason = reason ≡ refusal.OutOfMemory
 
 -- what is found, or why nothing is

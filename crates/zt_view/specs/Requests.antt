@@ -2,7 +2,7 @@
 use Rattle.std.specs.Prelude.{ℕ, ◌+◌, ◌==◌, nat_lt, length, Bool, true, false, List, [], ◌∷◌, Option, None, Some, Result, Ok, Err, if◌then◌else◌, codes, unwrap_or}
 use Rattle.std.specs.Str.{bytes_eq}
 use Rattle.zt_text.specs.Fields.{parts_of}
-use Rattle.zt_text.specs.Numbers.{koid_of, moment_of}
+use Rattle.zt_text.specs.Numbers.{handle_of, koid_of, moment_of}
 use Rattle.zt_look.specs.declared.call_list.CallFilter.{CallFilter}
 use Rattle.zt_look.specs.declared.event_list.HappeningSet.{HappeningSet}
 use Rattle.zt_view.specs.declared.lacks.Lack.{Lack}
@@ -119,6 +119,24 @@ object_asked numbers = do
   at ← moment_of rest
   Some (asked.Answer (question.Object koid at))
 
+-- `/handle/PROCESS/VALUE/MOMENT`
+unfoldable pub handle_asked : List ℕ → Option ViewRequest
+handle_asked numbers = do
+  process ← koid_of (before 47 numbers)
+  rest ← behind 47 numbers
+  value ← handle_of (before 47 rest)
+  end ← behind 47 rest
+  at ← moment_of end
+  Some (asked.Answer (question.Handle process value at))
+
+-- `/lineage/KOID/MOMENT`
+unfoldable pub lineage_asked : List ℕ → Option ViewRequest
+lineage_asked numbers = do
+  koid ← koid_of (before 47 numbers)
+  rest ← behind 47 numbers
+  at ← moment_of rest
+  Some (asked.Answer (question.Lineage koid at))
+
 -- all calls of the moments from the first to the last
 abbrev pub all_between : ℕ → ℕ → CallFilter
 all_between first last = record { first = first; last = last; failed = false; process = None; object = None }
@@ -136,9 +154,11 @@ of_numbers word numbers query =
     if bytes_eq word (codes "change") then change_asked numbers
     else (if bytes_eq word (codes "events") then events_asked numbers query
     else (if bytes_eq word (codes "object") then object_asked numbers
+    else (if bytes_eq word (codes "handle") then handle_asked numbers
+    else (if bytes_eq word (codes "lineage") then lineage_asked numbers
     else (if bytes_eq word (codes "calls") then calls_asked numbers query
     else (if bytes_eq word (codes "path") then path_asked numbers
-    else None))))
+    else None))))))
 
 -- what a word alone asks for
 unfoldable pub named : List ℕ → Option ViewRequest

@@ -6,10 +6,10 @@ ghost use Rattle.std.specs.List.{list_all};
 ghost use Rattle.std.specs.Option.{SomeIff, option_copied, option_map};
 ghost use Rattle.std.specs.Str.{bytes_eq};
 ghost use Rattle.std.specs.Str.Parse.{digits_value};
-ghost use Rattle.zt_text.specs.Numbers.{decimal_of, has_leading_zero, koid_of, moment_of};
+ghost use Rattle.zt_text.specs.Numbers.{decimal_of, handle_of, has_leading_zero, koid_of, moment_of};
 ghost use Rattle.zt_view.specs.Cuts.{before, behind};
 
-use zt_rows::{Koid, Moment};
+use zt_rows::{HandleValue, Koid, Moment};
 
 /// Cuts the bytes at the first separator. The second part is `None` if there is no separator.
 pub fn cut(bytes: &[u8], separator: u8) -> (&[u8], Option<&[u8]>)
@@ -54,6 +54,16 @@ pub fn koid(bytes: &[u8]) -> Option<Koid>
 {
     match decimal(bytes, u64::MAX) {
         Some(number) => Some(Koid(number)),
+        None => None,
+    }
+}
+
+/// Reads the bytes as the value of a handle.
+pub fn handle(bytes: &[u8]) -> Option<HandleValue>
+    ensures { result ≡ handle_of bytes.now }
+{
+    match decimal(bytes, u64::from(u32::MAX)) {
+        Some(number) => Some(HandleValue(number as u32)),
         None => None,
     }
 }

@@ -27,6 +27,8 @@ pub enum Taking {
     Events,
     Path,
     Object,
+    Handle,
+    Lineage,
 }
 
 impl Lack {
@@ -48,7 +50,7 @@ impl Lack {
     {
         match self {
             Lack::NoPath => {
-                "There is no such path. The paths are /branches, /calls, /change, /end, /events, /lines, /object, /path, /trace and /tree.\n"
+                "There is no such path. The paths are /branches, /calls, /change, /end, /events, /handle, /lineage, /lines, /object, /path, /trace and /tree.\n"
             }
             Lack::Takes(word) => word.text(),
             Lack::AskedByGet => "Use GET for this path.\n",
@@ -72,6 +74,8 @@ impl Taking {
             }
             Taking::Path => "The form is /path/AT/FROM.\n",
             Taking::Object => "The form is /object/KOID/AT.\n",
+            Taking::Handle => "The form is /handle/PROCESS/VALUE/AT.\n",
+            Taking::Lineage => "The form is /lineage/KOID/AT.\n",
         }
     }
 }
@@ -91,6 +95,10 @@ pub fn lack_of(word: &[u8]) -> Lack
         Lack::Takes(Taking::Path)
     } else if is(word, "object") {
         Lack::Takes(Taking::Object)
+    } else if is(word, "handle") {
+        Lack::Takes(Taking::Handle)
+    } else if is(word, "lineage") {
+        Lack::Takes(Taking::Lineage)
     } else {
         Lack::NoPath
     }

@@ -4,6 +4,8 @@
 mod cuts;
 mod guard;
 mod lacks;
+mod lineages;
+mod lives;
 mod page;
 mod path_ranges;
 mod query;

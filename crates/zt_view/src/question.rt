@@ -11,6 +11,8 @@ ghost use Rattle.zt_look.specs.Lines.{call_made_line, change_lines, when_line};
 ghost use Rattle.zt_view.specs.Questions.{IsAnswer, IsUnanswered, branch_text, event_text, found_at, times_text};
 ghost use Rattle.zt_view.specs.declared.question.ViewQuestion.TheVariants as question;
 
+use crate::lineages::lineage_lines;
+use crate::lives::life_lines;
 use crate::path_ranges::path_lines;
 use std::alloc::{AllocError, Global};
 use zt_book::{Book, TreeLook};
@@ -20,7 +22,7 @@ use zt_look::{
     branches, calls, changed, events_between, object_at, print_branch, print_call_made,
     print_change, print_event, print_object, print_when,
 };
-use zt_rows::{Call, Happening, Koid, Moment, Refusal};
+use zt_rows::{Call, HandleValue, Happening, Koid, Moment, Refusal};
 
 /// A question about a history. Its answer has masks, and no names, for rights and signals.
 #[derive(Clone, Copy)]
@@ -35,6 +37,10 @@ pub enum ViewQuestion {
     Path(Moment, Moment),
     /// An object at a moment.
     Object(Koid, Moment),
+    /// The life of a handle of a process on the path to a moment.
+    Handle(Koid, HandleValue, Moment),
+    /// The handles of an object on the path to a moment, each with the one that it came from.
+    Lineage(Koid, Moment),
     /// The branches.
     Branches,
 }
@@ -83,6 +89,10 @@ fn lines_of(alloc: Global, history: &mut History, asked: &ViewQuestion) -> Resul
         ViewQuestion::Events(at, wanted) => event_lines(alloc, history, *at, wanted),
         ViewQuestion::Path(at, from) => path_lines(alloc, history, *at, *from),
         ViewQuestion::Object(koid, at) => object_lines(alloc, history, *koid, *at),
+        ViewQuestion::Handle(process, value, at) => {
+            life_lines(alloc, history, *process, *value, *at)
+        }
+        ViewQuestion::Lineage(koid, at) => lineage_lines(alloc, history, *koid, *at),
         ViewQuestion::Branches => branch_lines(alloc, history),
     }
 }

@@ -1,9 +1,9 @@
 //! Reads what requests ask for.
 
 ghost use Rattle.std.specs.Prelude.{◌≡◌, option_copied};
-ghost use Rattle.zt_view.specs.Requests.{asked_at, asked_by, calls_asked, change_asked, events_asked, is_few, method_lack, method_of, named, object_asked, of_numbers, part_asked, path_asked, wish};
+ghost use Rattle.zt_view.specs.Requests.{asked_at, asked_by, calls_asked, change_asked, events_asked, handle_asked, is_few, lineage_asked, method_lack, method_of, named, object_asked, of_numbers, part_asked, path_asked, wish};
 
-use crate::cuts::{cut, is, koid, moment};
+use crate::cuts::{cut, handle, is, koid, moment};
 use crate::lacks::{Lack, lack_of};
 use crate::page::Part;
 use crate::query::{calls_wanted, happenings_wanted};
@@ -145,6 +145,10 @@ fn of_numbers(word: &[u8], numbers: &[u8], query: &[u8]) -> Option<ViewRequest>
         events_asked(numbers, query)
     } else if is(word, "object") {
         object_asked(numbers)
+    } else if is(word, "handle") {
+        handle_asked(numbers)
+    } else if is(word, "lineage") {
+        lineage_asked(numbers)
     } else if is(word, "calls") {
         calls_asked(numbers, query)
     } else if is(word, "path") {
@@ -187,6 +191,30 @@ fn object_asked(numbers: &[u8]) -> Option<ViewRequest>
     let koid = koid(first)?;
     let at = moment(rest?)?;
     Some(ViewRequest::Answer(ViewQuestion::Object(koid, at)))
+}
+
+/// Reads `PROCESS/VALUE/AT`: the life of a handle on the path to a moment.
+#[tactic(auto, unfolding(crate::specs::Requests::handle_asked))]
+fn handle_asked(numbers: &[u8]) -> Option<ViewRequest>
+    ensures { result ≡ handle_asked numbers.now }
+{
+    let (first, rest) = cut(numbers, b'/');
+    let process = koid(first)?;
+    let (second, end) = cut(rest?, b'/');
+    let value = handle(second)?;
+    let at = moment(end?)?;
+    Some(ViewRequest::Answer(ViewQuestion::Handle(process, value, at)))
+}
+
+/// Reads `KOID/AT`: the handles of an object on the path to a moment.
+#[tactic(auto, unfolding(crate::specs::Requests::lineage_asked))]
+fn lineage_asked(numbers: &[u8]) -> Option<ViewRequest>
+    ensures { result ≡ lineage_asked numbers.now }
+{
+    let (first, rest) = cut(numbers, b'/');
+    let koid = koid(first)?;
+    let at = moment(rest?)?;
+    Some(ViewRequest::Answer(ViewQuestion::Lineage(koid, at)))
 }
 
 /// Reads `AT/FROM`: the path to a moment, from another moment on.

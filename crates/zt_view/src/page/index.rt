@@ -63,7 +63,7 @@ pub fn index() -> &'static str {
             <option value="koid">koid</option>
           </select>
           <input id="search" type="search" autocomplete="off" spellcheck="false" placeholder="Search calls (/)"
-            aria-label="Search calls">
+            title="A text or a number; or a process and a handle, such as 1025 7" aria-label="Search calls">
           <label class="check"><input type="checkbox" id="failed-only"> failed only</label>
         </form>
         <div id="timeline" role="listbox" tabindex="0" aria-label="Calls on the branch">
@@ -120,6 +120,14 @@ pub fn index() -> &'static str {
         <div id="leaks" role="status"></div>
         <div id="graph" tabindex="0" role="region" aria-labelledby="graph-title"></div>
       </section>
+      <section class="panel" id="handle-panel" aria-labelledby="handle-title" hidden>
+        <div class="head">
+          <h2 id="handle-title">Life of a handle</h2>
+          <span class="note" id="handle-note"></span>
+          <button type="button" id="handle-close" aria-label="Close the life of the handle">Close</button>
+        </div>
+        <div id="handle" tabindex="0" role="region" aria-labelledby="handle-title"></div>
+      </section>
       <section class="panel" id="object-panel" aria-labelledby="object-title">
         <div class="head">
           <h2 id="object-title">Object</h2>
@@ -150,16 +158,16 @@ pub fn index() -> &'static str {
       <dt><kbd>Page Up</kbd> <kbd>Page Down</kbd></dt><dd>20 rows up, 20 rows down</dd>
       <dt><kbd>Home</kbd> <kbd>End</kbd></dt><dd>to the start, to the head of the branch</dd>
       <dt><kbd>/</kbd></dt><dd>search; <kbd>Enter</kbd> goes to the next match, <kbd>Shift+Enter</kbd> to the previous one,
-        <kbd>Escape</kbd> clears the search</dd>
+        <kbd>Escape</kbd> clears the search. A process and a handle, such as <code>1025 7</code>, find the life of that handle</dd>
       <dt><kbd>g</kbd></dt><dd>go to a moment</dd>
-      <dt><kbd>Escape</kbd></dt><dd>deselect the object</dd>
+      <dt><kbd>Escape</kbd></dt><dd>deselect the object and the handle</dd>
       <dt><kbd>?</kbd></dt><dd>this help</dd>
     </dl>
     <p><b>Moment</b> n is the state after the n-th answered call, counted over all branches. Moment 0 is the start. You can make
       calls only at the head of a branch. To try another future, go to a moment and make a branch there. Other branches
       stay as they are.</p>
-    <p>An object is <b>leaked</b> if it exists but no process can reach it. Click a koid or a handle to select its object. Hover
-      over rights, signals and bytes for details.</p>
+    <p>An object is <b>leaked</b> if it exists but no process can reach it. Click a koid to select its object. Click a handle
+      to see its life: the steps by which it came where it is. Hover over rights, signals and bytes for details.</p>
     <form method="dialog"><span class="space"></span><button id="help-close">Close</button></form>
   </dialog>
 </body>

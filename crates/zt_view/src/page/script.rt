@@ -15,11 +15,12 @@ pub fn script() -> &'static str {
 //   call-form, call-process, call-name, call-arguments, call-run, call-answer
 //   change, state                                    what the call changed, and all objects; data-moment says of which moment
 //   graph, leaks                                     who holds whom, and what is leaked
+//   handle-panel, handle, handle-close               the life of the handle that is picked, and the handles of its object
 //   object                                           the object that is picked
 //   download, help, end, end-confirm, end-cancel     the session text of the tree, help, the end
 //   trouble                                          what went wrong
-// A link to an object has the class koid and data-koid, a handle the class handle, data-process and data-handle, and a link to
-// a moment the class go and data-go.
+// A link to an object has the class koid and data-koid, a handle the class handle, data-process and data-handle, a handle in a message
+// the class handle and data-message, and a link to a moment the class go and data-go.
 'use strict';
 
 // ---- What the lines are made of ----
@@ -511,9 +512,10 @@ async function changeOf(moment) {
 
 // ---- Where one stands, and what is shown ----
 
-// `wanted` is the moment that a person asked for, and `shown` the one whose state the panels have: the one follows the other.
-const view = {branch: 'main', path: [0], wanted: 0, object: null, filter: null, found: null};
-const shown = {moment: -1, state: new State([]), change: [], leaks: new Map(), isLeaksKnown: false};
+// `wanted` is the moment that a person asked for, and `shown` the one whose state the panels have: the one follows the other. A picked
+// handle has its process, its value and the moment until which its life is told, which is not before the one that is wanted.
+const view = {branch: 'main', path: [0], wanted: 0, object: null, handle: null, filter: null, found: null};
+const shown = {moment: -1, state: new State([]), change: [], leaks: new Map(), isLeaksKnown: false, life: null};
 let isFollowing = false;
 
 /** Stands at a moment, on a branch that leads to it. Nothing is asked where that is unknown. */
@@ -579,6 +581,7 @@ function standAtShown() {
 }
 
 const NEAR = 12;
+const LONG = 100000; // moments of a history whose lives take long to follow
 
 /** The calls between the moment that is shown and another, where these are few, and whether it is back over them. */
 function between(moment) {
@@ -603,6 +606,7 @@ async function load(moment) {
   drawMoment();
   later('leaks', shown.state.size > 2000 ? 120 : 0, loadLeaks);
   later('object', 60, loadObject);
+  later('handle', tree.parents.length > LONG ? 300 : 60, loadHandle);
 }
 
 async function loadLeaks() {
@@ -642,8 +646,16 @@ function pick(koid) {
   loadObjectNow();
 }
 
+/** Picks no object and no handle. */
+function pickNothing() {
+  view.handle = null;
+  loadHandleNow();
+  pick(null);
+}
+
 function drawPicked() {
   for (const link of document.querySelectorAll('.koid')) link.classList.toggle('picked', link.dataset.koid === view.object);
+  for (const link of document.querySelectorAll('.handle')) link.classList.toggle('picked', isPickedHandle(link.dataset));
   later('graph', 0, drawGraph);
 }
 
@@ -651,10 +663,29 @@ function drawPicked() {
 
 let lastKept = 0;
 
+/** The life of the picked handle is told until the moment where one stands, or until a later one of that path. */
+function reachHandle() {
+  const {handle, wanted} = view;
+  if (handle && !isBefore(wanted, handle.until)) view.handle = {...handle, until: wanted};
+}
+
+function handleWord({process, value, until}) {
+  return `${process}.${value}${until === view.wanted ? '' : `.${until}`}`;
+}
+
+/** The handle that the address names, which is read once the moment is. */
+function readHandleWord(word) {
+  const [process, value, until = String(view.wanted)] = (word || '').split('.');
+  if (![process, value, until].every((it) => it && isNumber(it))) return null;
+  return {process, value, until: Number(until) < tree.parents.length ? Number(until) : view.wanted};
+}
+
 function keepPlace() {
+  reachHandle();
   const words = [`moment=${view.wanted}`];
   if (view.branch !== 'main') words.push(`branch=${encodeURIComponent(view.branch)}`);
   if (view.object) words.push(`object=${view.object}`);
+  if (view.handle) words.push(`handle=${handleWord(view.handle)}`);
   const hash = '#' + words.join('&');
   if (hash === location.hash) return;
   // (who holds a key down does not fill the browser's history)
@@ -672,6 +703,8 @@ function readPlace() {
   const object = words.get('object');
   view.object = object && isNumber(object) ? object : null;
   stand(branch ? moment : main.head, branch || main.name);
+  view.handle = readHandleWord(words.get('handle'));
+  reachHandle();
   if (words.has('moment') && (branch === null || String(moment) !== words.get('moment'))) {
     showTrouble(noMoment(words.get('moment')));
     later('sight', 60, () => drawTimeline(true)); // (the notice takes some of the timeline's height)
@@ -692,6 +725,7 @@ function showPlace() {
   drawAround();
   drawPicked();
   loadObjectNow();
+  loadHandleNow();
   follow();
 }
 
@@ -741,7 +775,21 @@ function handleLink(process, handle, moment) {
   const link = make('a', 'handle', handle);
   Object.assign(link.dataset, {process, handle, moment});
   link.tabIndex = -1;
-  link.title = `handle ${handle} of process ${process}`;
+  link.title = `handle ${handle} of process ${process}: show its life`;
+  link.classList.toggle('picked', isPickedHandle(link.dataset));
+  return link;
+}
+
+function isPickedHandle({process, handle}) {
+  return Boolean(view.handle && handle) && process === view.handle.process && handle === view.handle.value;
+}
+
+/** A handle in a message, by its place there: from 0. */
+function sentLink(endpoint, number, index, koid) {
+  const link = make('a', 'handle', `#${index}`);
+  Object.assign(link.dataset, {message: `${endpoint} ${number} ${index}`, names: koid});
+  link.tabIndex = -1;
+  link.title = `handle index ${index} of message ${number} at ${endpoint}: show its life`;
   return link;
 }
 
@@ -1071,6 +1119,25 @@ function readFilter() {
   return text || isFailed ? {kind: part('search-kind').value, text, isFailed} : null;
 }
 
+/** The process and the value of the handle that is searched for, or null: two numbers. */
+function handleSought({kind, text, isFailed}) {
+  const [process, value, ...rest] = text.split(/ +/);
+  const isHandle = value !== undefined && !rest.length && isNumber(process) && isNumber(value) && process.length < 20 && value < 2 ** 32;
+  return isHandle && !isFailed && (kind === 'any' || kind === 'handle') ? {process, value} : null;
+}
+
+/** Searches as a person asks. A handle that is searched for is picked. */
+function searchAsked() {
+  search();
+  const sought = view.filter && handleSought(view.filter);
+  if (sought) attempt(() => pickSought(searches, sought));
+}
+
+async function pickSought(number, sought) {
+  const life = await lifeOf({...sought, until: view.wanted});
+  if (number === searches && life) pickLife(life);
+}
+
 /** Searches, and shows what was found in the place of the path. A later search ends the ones before it. */
 function search() {
   searches += 1;
@@ -1087,12 +1154,23 @@ async function searchAs(number, filter) {
   view.found = [];
   drawTimeline(true);
   try {
-    const isDone = serverFilter(filter) === null ? await searchHere(number, filter) : await searchThere(number, filter);
-    if (!isDone) return;
+    if (!await searchBy(number, filter)) return;
   } finally {
     if (number === searches) isSearching = false;
   }
   drawTimeline(true);
+}
+
+/** Searches in the way that the filter wants, and says whether no later search has begun. */
+async function searchBy(number, filter) {
+  const sought = handleSought(filter);
+  const life = sought && await lifeOf({...sought, until: view.wanted});
+  if (number !== searches) return false;
+  if (life) {
+    view.found = momentsOfLife(life);
+    return true;
+  }
+  return serverFilter(filter) === null ? searchHere(number, filter) : searchThere(number, filter);
 }
 
 /** The words by which the server searches, or null where it cannot. */
@@ -1493,7 +1571,7 @@ function fieldWords(fields, others = new Set()) {
 function fieldsOf(row) {
   if (row.sort === 'object') return fieldsOfObject(row);
   if (row.sort === 'entry') return [['koid', '', objectLink(row.koid, true)], ['rights', '', rightsOf(row.rights, kindIn(row.koid))]];
-  if (row.sort === 'msg') return [['bytes', '', bytesOf(row.bytes)], ['held', 'handles', heldOf(row.held)]];
+  if (row.sort === 'msg') return [['bytes', '', bytesOf(row.bytes)], ['held', 'handles', heldOf(row)]];
   if (row.sort === 'packet') return packetFields(row);
   if (row.sort === 'wait') return waitFields(row);
   return [['koid', 'next koid', row.koid], ['wait', 'next wait', row.wait]];
@@ -1511,13 +1589,13 @@ function fieldsOfObject(row) {
   return fields;
 }
 
-function heldOf(held) {
+function heldOf({endpoint, number, held}) {
   if (!held.length) return make('span', 'dim', 'none');
   const list = make('span', '');
   held.forEach(({koid, rights}, at) => {
     const link = objectLink(koid, true);
     link.title += `, with ${namesOf(rights, RIGHTS).join(' ')} (${rights})`;
-    list.append(at ? ', ' : '', link);
+    list.append(at ? ', ' : '', sentLink(endpoint, number, at, koid), ' ', link);
   });
   return list;
 }
@@ -1717,7 +1795,8 @@ function putThings(box, object, sort, things, makeLine) {
 function messageLine(row, changed) {
   const line = lineOf(row, [], changed);
   line.append(bytesOf(row.bytes));
-  for (const {koid, rights} of row.held) line.append(make('span', '', objectLink(koid, true), ' ', rightsOf(rights, kindIn(koid))));
+  row.held.forEach(({koid, rights}, at) => line.append(make('span', '', sentLink(row.endpoint, row.number, at, koid), ' ',
+    objectLink(koid, true), ' ', rightsOf(rights, kindIn(koid)))));
   return line;
 }
 
@@ -1752,6 +1831,7 @@ function drawLeaks() {
 // ---- The graph of objects: who holds whom, in columns from the jobs on ----
 
 const MOST_NODES = 26;
+const MOST_ON_WAY = 10;
 const AROUND = [12, 5, 2]; // how many more are drawn beside the middle, beside those, and beside all others
 const NODE_WIDTH = 76;
 const NODE_HEIGHT = 34;
@@ -1771,9 +1851,10 @@ function eachTie(state, tell) {
 function around(state) {
   if (state.objects.size <= MOST_NODES) return {koids: new Set(state.objects.keys()), center: null};
   const center = centerOf(state);
-  const koids = new Set([center]);
+  const way = [...wayOfHandle().keys()].filter((koid) => state.objects.has(koid));
+  const koids = new Set([center, ...way.slice(0, MOST_ON_WAY)]);
   const touched = touchedObjects();
-  let newest = [center];
+  let newest = [...koids];
   for (const most of AROUND) {
     const beside = new Map(newest.map((koid) => [koid, []]));
     eachTie(state, (one, other) => {
@@ -1897,10 +1978,11 @@ function layOut(state, koids, edges, box) {
   const margins = isAround ? 132 : 92;
   const height = 60 + (rowCount - 1) * LEVEL;
   const fit = (share) => Math.max(0.62, Math.min(1.2, share));
-  const room = (box.clientWidth - 16) / fit((box.clientHeight - 34) / height) - margins;
+  const tall = box.clientHeight - (wayOfHandle().size ? 52 : 34); // (below the key, which has a second line for a way)
+  const room = (box.clientWidth - 16) / fit(tall / height) - margins;
   const apart = Math.max(COLUMN, Math.min(1.7 * COLUMN, room / Math.max(1, end)));
   const width = margins + end * apart;
-  const scale = fit(Math.min((box.clientWidth - 16) / width, (box.clientHeight - 34) / height));
+  const scale = fit(Math.min((box.clientWidth - 16) / width, tall / height));
   const spots = new Map();
   columns.forEach((list, at) => list.forEach((koid) => {
     spots.set(koid, {x: 46 + at * apart, y: 32 + places.get(koid) * LEVEL, column: at});
@@ -1986,8 +2068,10 @@ function pointsOf(edge, spots) {
 function drawEdge(edge, spots) {
   const [start, ...bends] = pointsOf(edge, spots);
   const isLit = view.object && (edge.from === view.object || edge.to === view.object);
+  const isWay = (edge.sort === 'handle' || edge.sort === 'message') && isOnWay(edge);
   const path = makeDrawn('path', {
-    class: `edge ${edge.sort}${isLit ? ' lit' : ''}`, d: `M ${start.join(' ')} C ${bends.map((it) => it.join(' ')).join(', ')}`,
+    class: `edge ${edge.sort}${isLit ? ' lit' : ''}${isWay ? ' way' : ''}`,
+    d: `M ${start.join(' ')} C ${bends.map((it) => it.join(' ')).join(', ')}`,
   });
   if (edge.sort === 'handle' || edge.sort === 'message') path.setAttribute('marker-end', 'url(#arrow)');
   const words = {handle: 'holds', message: 'holds', child: 'is the parent of', peer: 'is the peer of'}[edge.sort];
@@ -2046,19 +2130,39 @@ function drawNode(object, {x, y}) {
   if (isLeaked) classes.push('leaked');
   if (object.koid === view.object) classes.push('picked');
   if (object.life !== 'live') classes.push('ended');
+  const turns = wayOfHandle().get(object.koid);
+  if (turns) classes.push('way');
   const fate = isLeaked ? 'leaked' : object.life === 'live' ? '' : 'ended';
   const node = makeDrawn('g', {
     class: classes.join(' '), 'data-koid': object.koid, tabindex: 0, role: 'link',
     'aria-label': `${KIND_NAMES[object.kind]} ${object.koid}${fate && `, ${fate}`}`,
   });
   node.append(
-    makeDrawn('title', {}, `${KIND_NAMES[object.kind]} ${object.koid}: ${signalNames(object.signals, object.kind).join(' ')}`),
+    makeDrawn('title', {}, titleOfNode(object, turns)),
     makeDrawn('rect', {x: x - NODE_WIDTH / 2, y: y - NODE_HEIGHT / 2, width: NODE_WIDTH, height: NODE_HEIGHT, rx: 5}),
     makeDrawn('text', {x, y: y + (fate ? 1 : -1)}, object.koid),
     makeDrawn('text', {x, y: y + 12, class: 'sort'}, KIND_NAMES[object.kind]),
   );
   if (fate) node.append(...fateOf(fate, x, y - NODE_HEIGHT / 2));
+  if (turns) node.append(...turnsOf(turns, x - NODE_WIDTH / 2, y + NODE_HEIGHT / 2));
   return node;
+}
+
+function titleOfNode({koid, kind, signals}, turns) {
+  const title = `${KIND_NAMES[kind]} ${koid}: ${signalNames(signals, kind).join(' ')}`;
+  return turns ? `${title}\nthe selected handle came here in step ${turns.slice(0, 20).join(', ')} of its life` : title;
+}
+
+const MOST_TURNS = 3;
+
+/** Which steps of the picked handle's life brought it to an object, on the lower left corner of its box. */
+function turnsOf(turns, x, y) {
+  const words = turns.slice(0, MOST_TURNS).join(',') + (turns.length > MOST_TURNS ? '+' : '');
+  const width = 5.5 * words.length + 8;
+  return [
+    makeDrawn('rect', {x: x - 5, y: y - 7, width, height: 12, rx: 6, class: 'fate turn'}),
+    makeDrawn('text', {x: x - 5 + width / 2, y: y + 2, class: 'turn'}, words),
+  ];
 }
 
 /** What became of an object, on the upper side of its box. */
@@ -2074,6 +2178,7 @@ function graphKey() {
   const line = (sort) => makeDrawn('path', {class: `edge ${sort}`, d: 'M 0 3 H 22'});
   const sample = (sort) => makeDrawn('svg', {width: 22, height: 6}, line(sort));
   const words = [['handle', 'handle'], ['message', 'in a message'], ['peer', 'peer'], ['child', 'parent']];
+  if (wayOfHandle().size) words.push(['way', 'way of the handle']);
   return make('div', 'key', ...words.map(([sort, text]) => make('span', '', sample(sort), text)));
 }
 
@@ -2090,7 +2195,7 @@ async function loadObject() {
   if (moment < 0) return;
   if (!object) {
     part('object-note').textContent = '';
-    box.replaceChildren(make('p', 'dim', 'Click a koid, handle or graph node to select an object.'));
+    box.replaceChildren(make('p', 'dim', 'Click a koid or graph node to select an object, or a handle to see its life.'));
     return;
   }
   if (!box.querySelector('.koid')) box.replaceChildren(make('p', 'dim', `${object} ...`));
@@ -2182,36 +2287,273 @@ function callsButton(koid) {
   return button;
 }
 
-/** Picks what a handle names at a moment: in the state that is shown, or in the one that is asked for. */
-async function pickHandle(process, handle, moment) {
-  if (moment !== shown.moment) {
-    const isAtCall = moment === tree.parents[shown.moment];
-    const row = isAtCall && shown.change.find((it) => it.key === `entry ${process} ${handle}`);
-    if (row && row.before) return pickFound(readRow(row.before.split(' ')).koid, process, handle);
-    const start = `entry ${process} ${handle} `;
-    const lines = await talkAt(moment, 'show');
-    const found = lines.find((line) => line.startsWith(start));
-    return pickFound(found ? found.split(' ')[3] : null, process, handle);
-  }
-  return pickFound(shown.state.named(process, handle), process, handle);
+// ---- The handle that is picked: its life, and the handles of its object ----
+
+const ENDINGS = ['closed', 'failed', 'discarded', 'process_ended', 'queue_gone'];
+
+/** Takes a place from the front of words: an entry of a process, or a handle in a message. */
+function takeSpot(words) {
+  const sort = words.shift();
+  if (sort === 'entry') return {sort, process: words.shift(), handle: words.shift()};
+  return {sort, endpoint: words.shift(), number: words.shift(), index: Number(words.shift())};
 }
 
-function pickFound(koid, process, handle) {
-  if (koid === null) throw new Trouble(`Process ${process} has no handle ${handle} at that moment.`, false);
-  pick(koid);
+/** Takes what a line says of a handle that came to a place: when, how, where, with which rights, and from where. */
+function takeStep(words) {
+  const step = {moment: Number(words.shift()), word: words.shift(), spot: takeSpot(words), rights: words.shift(), from: null};
+  if (words[0] === 'from') {
+    words.shift();
+    step.from = takeSpot(words);
+  }
+  return step;
+}
+
+/** A line of `/handle`: a step or the end, with the rights ahead of it and its call. */
+function readStep(line) {
+  const words = line.split(' ');
+  const step = takeStep(words);
+  if (step.from) step.before = words.shift();
+  const [process, name, ...asked] = words;
+  return {...step, call: process ? {moment: step.moment, process, name, asked, status: 'ok', values: []} : null};
+}
+
+/** A line of `/lineage`: a handle of an object, and how it left its place, if it did. It is set in below the one it came from. */
+function readKin(line) {
+  const words = line.trimStart().split(' ');
+  const depth = (line.length - line.trimStart().length) / 2;
+  const step = takeStep(words);
+  return {...step, depth, left: words[0] === 'held' ? null : {word: words[0], moment: Number(words[1])}};
+}
+
+/** The lines of a life: its steps, its end, if there is one, and whether the handle is held. */
+function readLife(lines) {
+  const steps = lines.slice(0, -1).map(readStep);
+  const isHeld = lines[lines.length - 1].startsWith('held');
+  const end = !isHeld && steps.length && ENDINGS.includes(steps[steps.length - 1].word) ? steps.pop() : null;
+  return {steps, end, isHeld};
+}
+
+function isSameHandle(one, other) {
+  return one.process === other.process && one.value === other.value && one.until === other.until;
+}
+
+/** The life of a handle until a moment, or null where the process never had it. */
+async function lifeOf(handle) {
+  const {process, value, until} = handle;
+  if (shown.life && isSameHandle(shown.life.handle, handle)) return shown.life;
+  try {
+    const life = readLife(linesOf(await ask(`/handle/${process}/${value}/${until}`)));
+    return {...life, handle, koid: await koidAt(life.steps[life.steps.length - 1]), way: wayOf(life.steps), kin: null};
+  } catch (fault) {
+    if (fault.isGone || !(fault instanceof Trouble)) throw fault;
+    return null;
+  }
+}
+
+/** The object of a handle, as it was where a step brought it. */
+async function koidAt({moment, spot}) {
+  const rows = moment ? (await changeOf(moment)).map(({after}) => after) : listAt(await talkAt(0, 'show'), 0);
+  const key = spot.sort === 'entry' ? `entry ${spot.process} ${spot.handle}` : `msg ${spot.endpoint} ${spot.number}`;
+  const row = readRow(rows.find((it) => it && keyOf(it) === key).split(' '));
+  return row.sort === 'entry' ? row.koid : row.held[spot.index].koid;
+}
+
+/** The moments of a life, in their order, each once. */
+function momentsOfLife({steps, end}) {
+  return [...new Set([...steps, ...(end ? [end] : [])].map(({moment}) => moment))];
+}
+
+/** The objects on the way of a handle, each with the steps that brought it there, from 1. */
+function wayOf(steps) {
+  const way = new Map();
+  steps.forEach(({spot}, at) => {
+    const owner = spot.process || spot.endpoint;
+    if (!way.has(owner)) way.set(owner, []);
+    way.get(owner).push(at + 1);
+  });
+  return way;
+}
+
+const NO_WAY = new Map();
+
+function wayOfHandle() {
+  return shown.life ? shown.life.way : NO_WAY;
+}
+
+/** Whether one that is on the way holds the object of the picked handle. */
+function isOnWay({from, to}) {
+  return Boolean(shown.life) && to === shown.life.koid && wayOfHandle().has(from);
+}
+
+/** The later of two moments of a path, or the one where one stands if they are of no one path. */
+function untilOf(moment) {
+  return isBefore(view.wanted, moment) ? moment : view.wanted;
+}
+
+/** Picks a handle with its object, by its life. */
+function pickLife(life) {
+  view.handle = life.handle;
+  shown.life = life;
+  loadHandleNow();
+  pick(life.koid);
+}
+
+let picks = 0;
+
+/** Picks a handle that stands in something of a moment: its life is told until where one stands, or until that moment. */
+async function pickHandle(process, value, moment) {
+  picks += 1;
+  const number = picks;
+  const koid = moment === shown.moment ? shown.state.named(process, value) : null;
+  if (koid) pick(koid);
+  const life = await lifeOf({process, value, until: untilOf(moment)});
+  if (number !== picks) return;
+  if (!life) throw new Trouble(`Process ${process} has no handle ${value} at that moment.`, false);
+  pickLife(life);
+}
+
+/** Picks a handle that stands in a message, by the entry from which it was sent. */
+async function pickSent(koid, message) {
+  const {wanted} = view;
+  const kin = linesOf(await ask(`/lineage/${koid}/${wanted}`)).map(readKin);
+  const sent = kin.find(({spot}) => spot.sort === 'message' && `${spot.endpoint} ${spot.number} ${spot.index}` === message);
+  if (!sent || !sent.from) throw new Trouble(`Object ${koid} was not in that message.`, false);
+  await pickHandle(sent.from.process, sent.from.handle, wanted);
+}
+
+function loadHandleNow() {
+  later('handle', 0, loadHandle);
+}
+
+/** Shows the picked handle: its life at once, and then the handles of its object. */
+async function loadHandle() {
+  const {handle} = view;
+  part('handle-panel').hidden = !handle;
+  if (!handle || shown.moment < 0) {
+    shown.life = null;
+    return;
+  }
+  if (part('handle').dataset.life === wordsOf(handle) && shown.life) {
+    markSteps();
+    return;
+  }
+  const life = await lifeOf(handle);
+  if (!view.handle || !isSameHandle(handle, view.handle)) return;
+  shown.life = life;
+  drawHandle(handle, life);
+  later('graph', 0, drawGraph);
+  if (life) await loadKin(life);
+}
+
+function wordsOf({process, value, until}) {
+  return `${process} ${value} ${until}`;
+}
+
+async function loadKin(life) {
+  if (!life.kin) life.kin = linesOf(await ask(`/lineage/${life.koid}/${life.handle.until}`)).map(readKin);
+  if (shown.life === life) drawKin(life);
+}
+
+function drawHandle(handle, life) {
+  const box = part('handle');
+  box.dataset.life = wordsOf(handle);
+  part('handle-note').textContent = `until moment ${handle.until}`;
+  if (!life) {
+    box.replaceChildren(make('p', 'dim', `Process ${handle.process} has had no handle ${handle.value} up to moment ${handle.until}.`));
+    return;
+  }
+  const top = make('div', 'fields', ...spotWords({sort: 'entry', process: handle.process, handle: handle.value}, handle.until),
+    make('span', 'dim', 'names'), objectLink(life.koid, true));
+  const list = make('ol', 'life');
+  putSome(list, [...life.steps, ...(life.end ? [life.end] : [])], stepLine);
+  const last = life.steps[life.steps.length - 1];
+  const where = life.isHeld ? [make('b', '', 'held'), ...spotWords(last.spot, handle.until)] : [make('b', '', 'gone')];
+  box.replaceChildren(top, list, make('div', 'fields where', ...where), make('div', 'kin'));
+  markSteps();
+}
+
+/** A place in words, with links. */
+function spotWords(spot, moment) {
+  if (spot.sort === 'entry') {
+    return [make('span', '', 'handle ', handleLink(spot.process, spot.handle, moment), ' of ', objectLink(spot.process, true))];
+  }
+  return [make('span', '', `handle index ${spot.index} of message ${spot.number} at `, objectLink(spot.endpoint, true))];
+}
+
+/** A step of a life, or its end: a line that leads to its moment. */
+function stepLine(step) {
+  const isEnd = ENDINGS.includes(step.word);
+  const line = make('li', isEnd ? 'end' : '', make('span', 'fields', momentLink(step.moment), make('b', '', wordOf(step.word)),
+    ...spotWords(step.spot, step.moment), rightsOf(step.rights, kindIn(shown.life.koid))));
+  line.dataset.go = step.moment;
+  if (step.from && step.before !== step.rights) {
+    line.firstChild.append(make('span', 'dim', 'before:'), rightsOf(step.before, kindIn(shown.life.koid)));
+  }
+  if (step.call) line.append(make('div', 'by', koidLink(step.call.process, 'process'), ' ', callWords(step.call)));
+  return line;
+}
+
+function wordOf(word) {
+  return word.replace('_', ' ');
+}
+
+/** Marks the step of the life at which the handle stands at the shown moment, and those that come later. */
+function markSteps() {
+  const lines = [...document.querySelectorAll('#handle .life > li')];
+  const isLater = (line) => Number(line.dataset.go) > shown.moment;
+  const here = lines.filter((line) => !isLater(line)).pop();
+  for (const line of lines) {
+    line.classList.toggle('here', line === here);
+    line.classList.toggle('later', isLater(line));
+  }
+}
+
+/** The handles of the object: each below the one that it came from; those that are held stand out. */
+function drawKin(life) {
+  const held = life.kin.filter(({left}) => !left).length;
+  const title = make('h3', '', 'Handles of ', objectLink(life.koid, true), `: ${grouped(life.kin.length)}, ${grouped(held)} of them held`);
+  const list = make('ul', '');
+  putSome(list, life.kin, (kin) => kinLine(kin, life));
+  part('handle').querySelector('.kin').replaceChildren(title, list);
+}
+
+const MOST_DEPTH = 12;
+
+function kinLine({moment, word, spot, rights, depth, left}, life) {
+  const line = make('li', left ? 'fields' : 'fields held', momentLink(moment), make('span', '', wordOf(word)), ...spotWords(spot, moment),
+    rightsOf(rights, kindIn(life.koid)));
+  line.style.paddingLeft = `${14 * Math.min(depth, MOST_DEPTH)}px`;
+  line.dataset.depth = depth;
+  line.classList.toggle('own', life.steps.some((step) => step.moment === moment && isSameSpot(step.spot, spot)));
+  if (left) line.append(make('span', 'left', `${wordOf(left.word)} `, momentLink(left.moment)));
+  else line.append(make('span', 'tag held', 'held'));
+  return line;
+}
+
+function isSameSpot(one, other) {
+  return one.sort === other.sort && (one.sort === 'entry' ? one.process === other.process && one.handle === other.handle
+    : one.endpoint === other.endpoint && one.number === other.number && one.index === other.index);
+}
+
+function leaveHandle() {
+  view.handle = null;
+  loadHandleNow();
+  keepPlace();
+  drawPicked();
 }
 
 // ---- What a person does ----
 
 /** What a click is about: the innermost link or row below the pointer. */
 function clicked(event) {
-  const link = event.target.closest('[data-handle], [data-koid], [data-go], [data-branch], .row');
+  const link = event.target.closest('[data-handle], [data-message], [data-koid], [data-go], [data-branch], .row');
   if (!link || !tree.branches.length || event.ctrlKey || event.metaKey || event.shiftKey) return;
-  const {handle, koid, go: moment, branch} = link.dataset;
+  const {handle, message, koid, go: moment, branch} = link.dataset;
   if (link.id === 'position') return;
   event.preventDefault();
   forgetRefusal();
   if (handle) attempt(() => pickHandle(link.dataset.process, handle, Number(link.dataset.moment)));
+  else if (message) attempt(() => pickSent(link.dataset.names, message));
   else if (koid) pick(koid);
   else if (moment) go(Number(moment));
   else if (branch) attempt(() => followBranch(branch));
@@ -2229,7 +2571,7 @@ const KEYS = {
   End: () => go(branchNamed(view.branch).head),
   '/': () => part('search').focus(),
   g: () => part('jump').focus(),
-  Escape: () => pick(null),
+  Escape: pickNothing,
   '?': () => part('help-dialog').showModal(),
 };
 
@@ -2319,16 +2661,17 @@ function tieParts() {
   onClick('help', KEYS['?']);
   onClick('end', () => part('end-dialog').showModal());
   onClick('trouble-close', hideTrouble);
+  onClick('handle-close', leaveHandle);
   onClick('trouble-again', () => attempt(start));
   onSubmit('jump-form', jump);
-  onSubmit('search-form', search);
+  onSubmit('search-form', searchAsked);
   onSubmit('branch-form', makeBranch);
   onSubmit('call-form', makeCall);
   part('end-dialog').addEventListener('close', () => attempt(endProgram));
-  part('search').addEventListener('input', () => later('search', 180, search));
+  part('search').addEventListener('input', () => later('search', 180, searchAsked));
   part('search').addEventListener('keydown', searchKey);
-  part('search-kind').addEventListener('change', search);
-  part('failed-only').addEventListener('change', search);
+  part('search-kind').addEventListener('change', searchAsked);
+  part('failed-only').addEventListener('change', searchAsked);
   part('call-name').addEventListener('change', drawHint);
   part('call-name').replaceChildren(...Object.keys(CALLS).map((name) => new Option(name, name)));
   for (const id of Object.keys(scrolled)) {

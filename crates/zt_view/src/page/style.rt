@@ -20,6 +20,7 @@ pub fn style() -> &'static str {
   --leaked-ground: #fff1d3;
   --before: #fbe3e1;
   --after: #ddf3e1;
+  --way: #1c5fc4;
   --job: #7a4cc2;
   --process: #1c5fc4;
   --channel: #0b7a75;
@@ -51,6 +52,7 @@ pub fn style() -> &'static str {
     --leaked-ground: #3a2c12;
     --before: #44211f;
     --after: #183a24;
+    --way: #79b0ff;
     --job: #b799f2;
     --process: #79b0ff;
     --channel: #55c7bf;
@@ -101,7 +103,7 @@ input[type="checkbox"] { height: auto; margin: 0; accent-color: var(--accent); }
 select { padding: 0 4px; }
 .danger { background: var(--failed); border-color: var(--failed); color: var(--panel); }
 :focus-visible { outline: 2px solid var(--accent); outline-offset: 1px; }
-#timeline:focus-visible, #state:focus-visible, #change:focus-visible, #graph:focus-visible, #object:focus-visible {
+#timeline:focus-visible, #state:focus-visible, #change:focus-visible, #graph:focus-visible, #handle:focus-visible, #object:focus-visible {
   outline-width: 1px;
   outline-offset: -1px;
 }
@@ -178,7 +180,7 @@ main {
 }
 h2 { font-size: var(--data); font-weight: 600; white-space: nowrap; }
 .head .note { flex: 1; text-align: right; }
-#change, #state, #graph, #object, #tree { overflow: auto; min-height: 0; }
+#change, #state, #graph, #handle, #object, #tree { overflow: auto; min-height: 0; }
 
 /* Links to objects, handles and moments; rights, signals and bytes. */
 
@@ -202,6 +204,7 @@ h2 { font-size: var(--data); font-weight: 600; white-space: nowrap; }
 .koid.leaked { background: var(--leaked-ground); border-radius: 3px; }
 .koid.picked { background: var(--chosen); border-radius: 3px; }
 .handle { font-family: var(--mono); font-size: var(--data); color: inherit; cursor: pointer; border-bottom: 1px dotted var(--dim); }
+.handle.picked { background: var(--chosen); border-radius: 3px; }
 .handle:hover, .koid:hover { color: var(--accent); text-decoration: none; }
 .go { font-family: var(--mono); font-size: var(--data); cursor: pointer; }
 .names { font-size: var(--names); color: var(--dim); cursor: help; }
@@ -220,6 +223,7 @@ h2 { font-size: var(--data); font-weight: 600; white-space: nowrap; }
 }
 .tag.leaked { color: var(--leaked); background: var(--leaked-ground); }
 .tag.failed { color: var(--failed); }
+.tag.held { color: var(--accent); }
 
 /* The timeline. */
 
@@ -365,6 +369,9 @@ details.group > summary .count { font-weight: 400; }
 .node.ended rect { stroke-dasharray: 2 2; }
 .node.ended rect.fate { stroke-dasharray: none; }
 .node.koid::before { display: none; }
+.node.way rect { stroke-width: 3; }
+.node rect.turn { fill: var(--way); stroke: var(--panel); stroke-width: 1; stroke-dasharray: none; }
+.node text.turn { fill: var(--panel); font: 700 9px var(--mono); }
 .node:hover rect { filter: brightness(0.96); }
 .edge { fill: none; stroke: var(--dim); stroke-width: 1.2; opacity: 0.75; }
 .edge.message { stroke: var(--leaked); stroke-dasharray: 5 3; opacity: 1; }
@@ -372,6 +379,7 @@ details.group > summary .count { font-weight: 400; }
 .edge.child { stroke-dasharray: 1 3; }
 .edge.lit { stroke: var(--accent); opacity: 1; stroke-width: 1.8; }
 .edge.message.lit { stroke: var(--leaked); }
+.edge.way { stroke: var(--way); opacity: 1; stroke-width: 2.6; }
 .edge-label { pointer-events: none; font: 10px var(--mono); fill: var(--dim); text-anchor: middle; paint-order: stroke; stroke: var(--panel); stroke-width: 3px; }
 #arrow path { fill: var(--dim); }
 .key { display: flex; flex-wrap: wrap; gap: 2px 12px; padding: 4px 10px; font-size: 11px; color: var(--dim); }
@@ -379,6 +387,40 @@ details.group > summary .count { font-weight: 400; }
 #leaks { display: flex; flex-wrap: wrap; gap: 0 9px; flex: none; padding: 5px 10px; border-bottom: 1px solid var(--line); color: var(--dim); max-height: 71px; overflow: auto; }
 #leaks.some { background: var(--leaked-ground); color: var(--leaked); }
 #leaks .koid { color: var(--text); }
+
+/* The life of the handle that is picked, and the handles of its object. */
+
+#handle-panel { flex: none; min-height: 22%; max-height: 42%; }
+#handle-panel:not([hidden]) + #object-panel { flex-basis: 20%; }
+#handle-panel .head button { height: 22px; }
+#handle { padding: 4px 10px 8px; }
+#handle h3 { margin: 7px 0 1px; font-size: 11px; font-weight: 600; color: var(--dim); }
+#handle ul, .life { margin: 0; padding: 0; list-style: none; }
+#handle .fields { gap: 1px 7px; }
+.life { counter-reset: step; margin: 3px 0; }
+.life li { position: relative; padding: 1px 4px 2px 22px; border-radius: 3px; cursor: pointer; }
+.life li:hover { background: var(--hover); }
+.life li::before {
+  counter-increment: step;
+  content: counter(step);
+  position: absolute;
+  left: 2px;
+  top: 2px;
+  min-width: 14px;
+  border-radius: 7px;
+  background: var(--way);
+  color: var(--panel);
+  font: 700 9px/14px var(--mono);
+  text-align: center;
+}
+.life li.end::before { content: "\00d7"; background: var(--failed); }
+.life li.later { opacity: 0.6; }
+.life li.here { background: var(--chosen); }
+.life .by { font: var(--small)/1.4 var(--mono); color: var(--dim); overflow-wrap: anywhere; }
+.kin li { padding: 1px 0; color: var(--dim); }
+.kin li.held { color: var(--text); font-weight: 600; }
+.kin li.own { background: var(--raised); }
+.kin .left { white-space: nowrap; }
 
 /* The object that is picked. */
 
@@ -422,7 +464,7 @@ kbd { border: 1px solid var(--line); border-radius: 4px; padding: 0 4px; backgro
   header { flex-wrap: wrap; }
   main { grid-template-columns: minmax(0, 1fr); }
   .panel.grow { min-height: 420px; }
-  #change-panel, #object-panel { flex: none; min-height: 120px; }
+  #change-panel, #handle-panel, #object-panel { flex: none; min-height: 120px; }
 }
 
 @media (prefers-reduced-motion: reduce) {
