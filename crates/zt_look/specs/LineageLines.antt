@@ -37,6 +37,6 @@ abbrev pub object_handle_line : Bool → ObjectHandle → Option (ℕ × Call) �
 object_handle_line names handle came left =
     line (decimal handle.moment ∷ coming_word handle.origin came ∷ rights_at names handle.place handle.held.rights ∷ journey_words handle.origin handle.left left)
 
--- the same at its depth in the tree
+-- the line of a handle in the tree: two spaces for each copy above, and the handle
 abbrev pub lineage_step_line : Bool → LineageStep → Option (ℕ × Call) → Option (ℕ × Call) → List ℕ
 lineage_step_line names step came left = indent step.depth ++ object_handle_line names step.handle came left

@@ -19,7 +19,7 @@ departed made x m at old = if departs made x m at then Some (m, leaving_at made 
 abbrev pub is_in : List Place → Place → Bool
 is_in places at = list_any (λ other. is_same other at) places
 
--- the same, looked for at these places alone
+-- how the handle leaves by the call of the moment, if it does and its place is one of these, or else what was noted
 abbrev pub departed_in : List Made → ℕ → ℕ → List Place → Place → Option (ℕ × Leaving) → Option (ℕ × Leaving)
 departed_in made x m places at old = if is_in places at && departs made x m at then Some (m, leaving_at made m at) else old
 
