@@ -25,6 +25,8 @@ import hashlib, importlib.machinery, importlib.util, os, re, shutil, sys, tempfi
 from collections import namedtuple
 
 sys.dont_write_bytecode = True
+from rooms import TOP
+
 # The most edits of a batch.
 MOST = 12
 # A function's path below its crate, its file, the numbers of its first line (an attribute's, if it has one), of the line that opens
@@ -51,7 +53,20 @@ def kit():
 def crates_in(room, rt):
     """The crates of a copy of the repository, by name, lowest first."""
     rt.Crate.allowed = rt.handles_of(room)
-    return {it.name: it for it in rt.crates_of(room)}
+    crates = rt.crates_of(room) if has_kept(rt) else sorted(rt.rtlib.crates_below(room), key=lambda it: len(it.below()))
+    return {it.name: it for it in crates}
+
+
+def has_kept(rt):
+    """Whether the kit keeps the libraries that it proved on this machine, as those do whose `rt ci` takes names of crates."""
+    return hasattr(rt, "Kept")
+
+
+def kit_and_crate(crate, rt):
+    """Sums of the kit, and of all that a crate's library is made from."""
+    if has_kept(rt):
+        return rt.kit_sum(), rt.stamp_of(crate, {})
+    return rt.rtlib.text_of(f"{rt.KIT}/KIT-ID"), crate.stamp()
 
 
 def take_libraries(room, names):
@@ -237,7 +252,7 @@ def refused_alone(edit, crate, work, jobs, rt):
     """What `rt` says of an edit that it tries alone, if it is refused."""
     kind, text = rt.must_fail(crate, f"{crate.folder}/must-fail/{edit.name}", ["--jobs", jobs], work)
     log(f"{crate.name}: {edit.name}, alone: {kind}: {text}")
-    return text.partition(f"{edit.name}: ")[2] if kind == rt.REFUSED else None
+    return text.partition(f"{edit.name}: ")[2] if kind == getattr(rt, "REFUSED", True) else None
 
 
 def log(text):
@@ -253,7 +268,7 @@ class Told:
 
     def __init__(self, edits, crate, folder, rt):
         self.crate, self.folder, self.said = crate, folder, {}
-        stamp = rt.kit_sum(), rt.stamp_of(crate, {}), rt.rtlib.text_of(__file__)
+        stamp = *kit_and_crate(crate, rt), rt.rtlib.text_of(__file__)
         self.sums = {it.name: hashlib.sha256(repr((stamp, it.name, it.texts)).encode()).hexdigest() for it in edits}
         os.makedirs(folder, exist_ok=True)
         for edit in edits:
@@ -272,12 +287,21 @@ class Told:
         return [it for it in edits if it.name not in self.said]
 
 
+def take_work(crate, work):
+    """Begins with what tools/build kept of the crate's own check, if it kept anything. It spares the first batch the whole crate. What
+    has changed since is checked anew."""
+    kept = f"{TOP}/crates/{crate.name}/out/incremental"
+    if os.path.isdir(kept):
+        shutil.copytree(kept, work, dirs_exist_ok=True)
+
+
 def try_edits(crate, folder, jobs, rt):
     """Tries the edits of the crate's folder must-fail/."""
     edits = [it for it in (read_edit(crate, path, rt) for path in rt.edits_of(crate)[0]) if it]
     told = Told(edits, crate, folder, rt)
     left = batches_of([it for it in told.lacks(edits) if it.functions], crate, rt)
     with tempfile.TemporaryDirectory() as work:
+        take_work(crate, work)
         while left:
             batch = left.pop(0)
             said = check(batch, crate, work, jobs, rt)
