@@ -21,10 +21,10 @@ chosen left false name others chain rest e = e
 objects_named : (name : Placed) (left : Unread) → any_call_named name left ≡ call_or (name_of_object name.bytes) left (handle_call_named name left)
 unfolding any_call_named call_named name_of_object call_with
 objects_named name left =
-    chosen left (bytes_eq name.bytes (codes "channel_write")) called.ChannelWrite _ _ _
+    chosen left (bytes_eq name.bytes (codes "object_signal")) called.ObjectSignal _ _ _
+    (chosen left (bytes_eq name.bytes (codes "channel_write")) called.ChannelWrite _ _ _
     (chosen left (bytes_eq name.bytes (codes "event_create")) called.EventCreate _ _ _
     (chosen left (bytes_eq name.bytes (codes "eventpair_create")) called.EventPairCreate _ _ _
-    (chosen left (bytes_eq name.bytes (codes "object_signal")) called.ObjectSignal _ _ _
     (chosen left (bytes_eq name.bytes (codes "object_signal_peer")) called.ObjectSignalPeer _ _ _
     refl))))
 

@@ -36,7 +36,8 @@ cut_some c xs i low h =
       | false ↦ λ e. let none : position (λ byte. byte == c) xs ≡ None = rw e refl in cc
     ] refl
 
--- the same of the bytes behind the separator as a slice has them
+-- if the first separator stands at i, the bytes ahead of it are the first part, and the slice from i + 1 to the end has the other
+-- parts; both slices and the separator are together as long as the bytes
 pub cut_at : (c : ℕ) (xs : List ℕ) (i : ℕ) → i < length xs → Some i ≡ position (λ byte. byte == c) xs → (parts_of c xs ≡ take i xs ∷ parts_of c (take (length xs - (i + 1)) (drop (i + 1) xs))) × (length (take i xs) + 1 + length (take (length xs - (i + 1)) (drop (i + 1) xs)) ≡ length xs)
 cut_at c xs i low h =
     let dropped : length (drop (i + 1) xs) ≡ length xs - (i + 1) = length-drop (i + 1) xs in

@@ -587,15 +587,15 @@ unfolding call_named
 call_named_choice =
     choice_if (codes "event_create") event_create event_create_reader _
     (choice_if (codes "eventpair_create") eventpair_create eventpair_create_reader _
-    (choice_if (codes "object_signal") object_signal object_signal_reader _
     (choice_if (codes "object_signal_peer") object_signal_peer object_signal_peer_reader handle_call_named
-    handle_call_named_choice)))
+    handle_call_named_choice))
 
 any_call_named_choice : IsChoice Call any_call_named
 unfolding any_call_named
 any_call_named_choice =
-    choice_if (codes "channel_write") channel_write channel_write_reader call_named
-    call_named_choice
+    choice_if (codes "object_signal") object_signal object_signal_reader _
+    (choice_if (codes "channel_write") channel_write channel_write_reader call_named
+    call_named_choice)
 
 event_known : IsKnown Call any_call_named (codes "event_create")
 unfolding any_call_named call_named

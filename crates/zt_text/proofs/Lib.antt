@@ -2,6 +2,7 @@ pub mod NumberLemmas
 pub mod CutLemmas
 pub mod Places
 pub mod CallNames
+pub mod CallWords
 pub mod ByteLemmas
 pub mod ListLemmas
 pub mod FieldLemmas
@@ -24,7 +25,15 @@ pub mod SavedTrees
 pub mod FaultColumns
 pub mod RowWords
 pub mod RowLines
+pub mod NameLemmas
+pub mod PieceLemmas
+pub mod NameTables
+pub mod NoteLemmas
+pub mod NotedLines
+pub mod NotedTrees
+pub mod NotedCounts
 mod WorkedLines
 mod WorkedAnswers
 mod LongLines
 mod WorkedTrees
+mod WorkedNotes

@@ -73,7 +73,7 @@ line_written (x ∷ xs) rest free =
     let other : (x == 10) ≡ false = other_byte x 10 parts.0 in
     rw other (ap (onto_first x) (line_written xs rest parts.1))
 
--- the same of what a line feed cuts off
+-- some bytes without a line feed are one line; bytes cut at their first line feed are the line ahead of it and the lines behind it
 pub cut_alone : (bytes first : List ℕ) (left : Option (Bor (List ℕ))) → IsCut 10 bytes first left → left ≡ None → 0 < length bytes → lines_of bytes ≡ first ∷ []
 cut_alone bytes first None (parts, same) is some = line_alone bytes first parts same some
 cut_alone bytes first (Some rest) cut is some = cc is

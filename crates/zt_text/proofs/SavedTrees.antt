@@ -34,7 +34,7 @@ use Rattle.zt_text.proofs.LineLemmas.{line_written}
 use Rattle.zt_text.proofs.SavedLemmas.{of_row}
 use Rattle.zt_text.proofs.SpelledSessions.{first_spelled, line_then}
 
-abbrev tree : List SavedCall → List SavedBranch → List Cursor → Saved
+abbrev pub tree : List SavedCall → List SavedBranch → List Cursor → Saved
 tree moments branches cursors = record { moments = moments; branches = branches; cursors = cursors }
 
 -- ---- names
@@ -66,7 +66,7 @@ line_read before word others asked few (here, are) =
     rw (few, asked, fields) refl
 
 -- it is read, and then the lines behind it
-line_taken : (before more : Saved) (number : ℕ) (line rest : List ℕ) → is_free 10 line ≡ true → with_line before line ≡ Ok more
+pub line_taken : (before more : Saved) (number : ℕ) (line rest : List ℕ) → is_free 10 line ≡ true → with_line before line ≡ Ok more
     → with_lines before number (lines_of (as_line line ++ rest)) ≡ with_lines more (number + 1) (lines_of rest)
 unfolding with_lines
 line_taken before more number line rest free read =
@@ -91,11 +91,11 @@ call_fields : (moments : List SavedCall) (made : SavedCall) → IsSavedCall made
 unfolding with_fields with_word with_call placed
 call_fields moments made is behind = rw (saved_call_read made is 6 behind) refl
 
-call_seen : (made : SavedCall) → IsSavedCall made → AreSeen (saved_call_words made)
+pub call_seen : (made : SavedCall) → IsSavedCall made → AreSeen (saved_call_words made)
 call_seen made (parent, process, within) =
     (refl, (seen_moment made.parent parent, (seen_decimal made.process process, words_seen made.call within)))
 
-call_taken : (moments : List SavedCall) (made : SavedCall) → IsSavedCall made
+pub call_taken : (moments : List SavedCall) (made : SavedCall) → IsSavedCall made
     → with_line (tree moments [] []) (words (saved_call_words made)) ≡ Ok (tree (moments ++ (made ∷ [])) [] [])
 call_taken moments made is =
     line_read (tree moments [] []) (codes "call") (decimal made.parent ∷ decimal made.process ∷ call_name made.call ∷ call_arguments made.call)
@@ -129,7 +129,7 @@ branch_fields : (moments : List SavedCall) (branches : List SavedBranch) (branch
 unfolding with_fields with_word with_branch placed
 branch_fields moments branches branch is behind = rw (saved_branch_read branch is 8 behind) refl
 
-branch_seen : (branch : SavedBranch) → IsSavedBranch branch → AreSeen (branch_words branch)
+pub branch_seen : (branch : SavedBranch) → IsSavedBranch branch → AreSeen (branch_words branch)
 branch_seen branch (name, short, head) = (refl, (seen_name branch.name name, (seen_moment branch.head head, tt)))
 
 branch_taken : (moments : List SavedCall) (branches : List SavedBranch) (branch : SavedBranch) → IsSavedBranch branch
@@ -139,7 +139,7 @@ branch_taken moments branches branch is =
     refl (branch_few branch.name branch.head is.1 is.2) (branch_seen branch is)
     ∙ branch_fields moments branches branch is (length (words (branch_words branch)) + 1)
 
-branches_taken : (moments : List SavedCall) (branches more : List SavedBranch) (number : ℕ) (rest : List ℕ) → All IsSavedBranch more
+pub branches_taken : (moments : List SavedCall) (branches more : List SavedBranch) (number : ℕ) (rest : List ℕ) → All IsSavedBranch more
     → with_lines (tree moments branches []) number (lines_of (flat_map branch_line more ++ rest)) ≡ with_lines (tree moments (branches ++ more) []) (number + length more) (lines_of rest)
 branches_taken moments branches [] number rest are =
     ap (λ (bs : List SavedBranch). with_lines (tree moments bs []) number (lines_of rest)) (sym (append-nil branches))
@@ -184,21 +184,21 @@ place_seen : (cursor : Cursor) → IsSavedCursor cursor → AreSeen (place_words
 place_seen (Follows name) (is, short) = (refl, (seen_name name is, tt))
 place_seen (At moment) small = (refl, (seen_moment moment small, tt))
 
-cursor_seen : (client : ℕ) (cursor : Cursor) → client ≤ 4 → IsSavedCursor cursor → AreSeen (cursor_words client cursor)
+pub cursor_seen : (client : ℕ) (cursor : Cursor) → client ≤ 4 → IsSavedCursor cursor → AreSeen (cursor_words client cursor)
 cursor_seen client cursor few is = (refl, (seen_decimal client (omega (arith, few)), place_seen cursor is))
 
 cursor_few : (client : ℕ) (cursor : Cursor) → client ≤ 4 → IsSavedCursor cursor → nat_lt 140000 (length (words (cursor_words client cursor))) ≡ false
 cursor_few client (Follows name) few (is, short) = follow_few client name few short
 cursor_few client (At moment) few small = at_few client moment few small
 
-cursor_taken : (moments : List SavedCall) (branches : List SavedBranch) (cursors : List Cursor) (client : ℕ) (cursor : Cursor)
+pub cursor_taken : (moments : List SavedCall) (branches : List SavedBranch) (cursors : List Cursor) (client : ℕ) (cursor : Cursor)
     → client ≡ length cursors + 1 → client ≤ 4 → IsSavedCursor cursor
     → with_line (tree moments branches cursors) (words (cursor_words client cursor)) ≡ Ok (tree moments branches (cursors ++ (cursor ∷ [])))
 cursor_taken moments branches cursors client cursor same few is =
     line_read (tree moments branches cursors) (codes "cursor") (decimal client ∷ place_words cursor) refl (cursor_few client cursor few is) (cursor_seen client cursor few is)
     ∙ cursor_fields moments branches cursors client cursor same few is (length (words (cursor_words client cursor)) + 1)
 
-at_the_end : (before : Saved) (number : ℕ) → with_lines before number [] ≡ Ok before
+pub at_the_end : (before : Saved) (number : ℕ) → with_lines before number [] ≡ Ok before
 unfolding with_lines
 at_the_end before number = refl
 

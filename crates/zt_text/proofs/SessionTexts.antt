@@ -9,7 +9,7 @@ use Rattle.zt_text.specs.Session.{call_in, calls_in, session_of}
 use Rattle.zt_text.proofs.LineLemmas.{line_written}
 use Rattle.zt_text.proofs.ShownCalls.{call_line_free, call_line_kept, call_line_made}
 
-abbrev line_of : ℕ × Call → List ℕ
+abbrev pub line_of : ℕ × Call → List ℕ
 line_of made = shown_call made.0 made.1
 
 lines_shown : (calls : List (ℕ × Call)) → All IsCalled calls → lines_of (flat_map call_line calls) ≡ map line_of calls
@@ -21,7 +21,7 @@ lines_shown (made ∷ calls) are =
     ∙ line_written line (flat_map call_line calls) (call_line_free made.0 made.1 here.0 here.1)
     ∙ ap (λ ls. line ∷ ls) (lines_shown calls (All-tail IsCalled made calls are))
 
-call_read : (made : ℕ × Call) → IsCalled made → call_in (line_of made) ≡ Ok (Some made)
+pub call_read : (made : ℕ × Call) → IsCalled made → call_in (line_of made) ≡ Ok (Some made)
 unfolding call_in
 call_read made (small, within) = rw (call_line_kept made.0 made.1 small within, call_line_made made.0 made.1 small within) refl
 

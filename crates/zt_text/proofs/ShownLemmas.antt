@@ -20,7 +20,7 @@ joined show x (y ∷ ys) = ap (λ zs. show x ++ (44 ∷ zs)) (joined show y ys)
 pub shown_list-cons : {A : Type 0} (show : A → List ℕ) (x : A) (xs : List A) → shown_list show (x ∷ xs) ≡ show x ++ flat_map (λ y. 44 ∷ show y) xs
 shown_list-cons show x xs = joined show x xs
 
--- the same of a list by its first element and what is behind it
+-- a list that begins with x is shown as x and then each element behind it after a comma
 pub shown_list_at : {A : Type 0} (show : A → List ℕ) (xs : List A) (x : A) → 1 ≤ length xs → x ≡ get_or xs 0 x → shown_list show xs ≡ show x ++ flat_map (λ y. 44 ∷ show y) (drop 1 xs)
 shown_list_at show [] x some first = absurd (omega arith)
 shown_list_at show (y ∷ ys) x some first = rw first (shown_list-cons show y ys)

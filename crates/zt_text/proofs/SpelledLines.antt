@@ -435,15 +435,15 @@ unfolding call_named
 call_named_spelled name left made =
     named (λ w. call_words made ≡ w ∷ texts left.fields) name.bytes (codes "event_create") (event_create left) _ made (event_create_spelled left made)
     (named (λ w. call_words made ≡ w ∷ texts left.fields) name.bytes (codes "eventpair_create") (eventpair_create left) _ made (eventpair_create_spelled left made)
-    (named (λ w. call_words made ≡ w ∷ texts left.fields) name.bytes (codes "object_signal") (object_signal left) _ made (object_signal_spelled left made)
     (named (λ w. call_words made ≡ w ∷ texts left.fields) name.bytes (codes "object_signal_peer") (object_signal_peer left) (handle_call_named name left) made (object_signal_peer_spelled left made)
-    (handle_call_named_spelled name left made))))
+    (handle_call_named_spelled name left made)))
 
 any_call_named_spelled : (name : Placed) (left : Unread) (made : Call) → any_call_named name left ≡ Ok made → call_words made ≡ name.bytes ∷ texts left.fields
 unfolding any_call_named
 any_call_named_spelled name left made =
-    named (λ w. call_words made ≡ w ∷ texts left.fields) name.bytes (codes "channel_write") (channel_write left) (call_named name left) made (channel_write_spelled left made)
-    (call_named_spelled name left made)
+    named (λ w. call_words made ≡ w ∷ texts left.fields) name.bytes (codes "object_signal") (object_signal left) _ made (object_signal_spelled left made)
+    (named (λ w. call_words made ≡ w ∷ texts left.fields) name.bytes (codes "channel_write") (channel_write left) (call_named name left) made (channel_write_spelled left made)
+    (call_named_spelled name left made))
 
 call_first : (fields : List Placed) (behind : ℕ) (made : Call) → (first_of fields behind >>= λ name. any_call_named name.0 name.1) ≡ Ok made → texts fields ≡ call_words made
 call_first [] behind made h = absurd (err_ok (BadLine behind) made h)
@@ -612,7 +612,7 @@ kept_if false true form left value h = absurd (ok_none value (Ok None) refl h)
 kept_if false false form left value h = some_read (form left) value h
 
 -- what is read of a line is read of its fields
-kept : {A : Type 0} (form : Unread → Result A Refusal) (text : List ℕ) (value : A) → (fields_in text >>= λ o. each_by form o) ≡ Ok (Some value) → form (unread text) ≡ Ok value
+pub kept : {A : Type 0} (form : Unread → Result A Refusal) (text : List ℕ) (value : A) → (fields_in text >>= λ o. each_by form o) ≡ Ok (Some value) → form (unread text) ≡ Ok value
 unfolding fields_in
 kept form text value h = kept_if (nat_lt most_line_bytes (length text)) (is_skipped text) form (unread text) value h
 

@@ -52,7 +52,7 @@ skipped_if true skipped form left h = absurd (err_ok LineTooLong None h)
 skipped_if false true form left h = refl
 skipped_if false false form left h = absurd (some_none (form left) h)
 
-skipped : (text : List ℕ) → call_in text ≡ Ok None → is_skipped text ≡ true
+pub skipped : (text : List ℕ) → call_in text ≡ Ok None → is_skipped text ≡ true
 unfolding fields_in call_in
 skipped text h = skipped_if (nat_lt most_line_bytes (length text)) (is_skipped text) process_call (unread text) h
 
@@ -66,7 +66,7 @@ kept_call text (Some made) rest h kept = ap (λ t. as_line t ++ flat_map call_li
 
 -- ---- calls in turn
 
-call_then : (number : ℕ) (r : Result (Option (ℕ × Call)) Refusal) (others : Result (List (ℕ × Call)) (ℕ × Refusal)) (calls : List (ℕ × Call))
+pub call_then : (number : ℕ) (r : Result (Option (ℕ × Call)) Refusal) (others : Result (List (ℕ × Call)) (ℕ × Refusal)) (calls : List (ℕ × Call))
     → (at_line number r >>= λ made. others >>= λ rest. Ok (in_front made rest)) ≡ Ok calls
     → (made : Option (ℕ × Call)) × (rest : List (ℕ × Call)) × (r ≡ Ok made) × (others ≡ Ok rest) × (in_front made rest ≡ calls)
 call_then number (Ok made) (Ok rest) calls h = (made, rest, refl, refl, same_ok (in_front made rest) calls (Ok (in_front made rest)) refl h)

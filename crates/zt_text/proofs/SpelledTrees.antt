@@ -34,7 +34,7 @@ use Rattle.zt_text.proofs.SavedLemmas.{of_tree}
 
 -- ---- the words of each line
 
-saved_call_spelled : (left : Unread) (made : SavedCall) → saved_call left ≡ Ok made → saved_call_words made ≡ codes "call" ∷ texts left.fields
+pub saved_call_spelled : (left : Unread) (made : SavedCall) → saved_call left ≡ Ok made → saved_call_words made ≡ codes "call" ∷ texts left.fields
 unfolding saved_call
 saved_call_spelled left made h =
     let parent = field_then {B = SavedCall} handle_form left (λ x. process_call x.1 >>= λ m. Ok (record { parent = x.0; process = m.0; call = m.1 })) made h in
@@ -45,7 +45,7 @@ saved_call_spelled left made h =
     ∙ ap saved_call_words behind.2
     )
 
-saved_branch_spelled : (left : Unread) (made : SavedBranch) → saved_branch left ≡ Ok made → branch_words made ≡ codes "branch" ∷ texts left.fields
+pub saved_branch_spelled : (left : Unread) (made : SavedBranch) → saved_branch left ≡ Ok made → branch_words made ≡ codes "branch" ∷ texts left.fields
 unfolding saved_branch
 saved_branch_spelled left made h =
     two_fields branch_words (λ ws. codes "branch" ∷ ws) name_form handle_form (λ name head. record { name = name; head = head }) (λ a b. refl) left made h
@@ -83,7 +83,7 @@ client_in client value word (Some n) is h = only_wanted (n == client) client n v
 abbrev client_form : ℕ → Form ℕ
 client_form client = record { read = client_of client; shows = λ _. decimal client; spelled = λ word value h. client_in client value word (decimal_of 4 word) refl h }
 
-saved_cursor_spelled : (client : ℕ) (left : Unread) (made : Cursor) → saved_cursor client left ≡ Ok made → cursor_words client made ≡ codes "cursor" ∷ texts left.fields
+pub saved_cursor_spelled : (client : ℕ) (left : Unread) (made : Cursor) → saved_cursor client left ≡ Ok made → cursor_words client made ≡ codes "cursor" ∷ texts left.fields
 unfolding saved_cursor
 saved_cursor_spelled client left made h =
     let number = field_then {B = Cursor} (client_form client) left (λ x. next x.1 >>= λ w. place_named w.0 w.1) made h in
@@ -178,7 +178,7 @@ with_cursor_spelled tree left more h =
     ∙ cursor_grows tree t.0 ∙ ap shown t.2
 
 -- what a name tells that has its place
-placed_if : {T : Type 0} (Spells : List ℕ → Type 0) (b taken : Bool) (word name : List ℕ) (x y : Result T Refusal) (made : T) → bytes_eq word name ≡ b
+pub placed_if : {T : Type 0} (Spells : List ℕ → Type 0) (b taken : Bool) (word name : List ℕ) (x y : Result T Refusal) (made : T) → bytes_eq word name ≡ b
     → (taken ≡ true → x ≡ Ok made → Spells name) → (y ≡ Ok made → Spells word) → (if b && taken then x else y) ≡ Ok made → Spells word
 placed_if Spells true true word name x y made is this other h = subst Spells (sym ((bytes_eq-Decides word name).0 is)) (this refl h)
 placed_if Spells true false word name x y made is this other h = other h
@@ -202,7 +202,7 @@ with_fields_spelled : (tree : Saved) (left : Unread) (more : Saved) → with_fie
 unfolding with_fields
 with_fields_spelled tree left more h = with_first tree left.fields left.behind more h
 
-read_if : (long skipped : Bool) (tree : Saved) (left : Unread) (more : Saved) → skipped ≡ false
+pub read_if : (long skipped : Bool) (tree : Saved) (left : Unread) (more : Saved) → skipped ≡ false
     → ((if long then Err LineTooLong else (if skipped then Ok None else Ok (Some left))) >>= λ o. with_any tree o) ≡ Ok more → with_fields tree left ≡ Ok more
 read_if true skipped tree left more kept h = absurd (err_ok LineTooLong more h)
 read_if false true tree left more kept h = cc
@@ -217,7 +217,7 @@ with_line_spelled tree text more kept h =
 
 -- ---- lines in turn
 
-line_then : (number : ℕ) (r : Result Saved Refusal) (others : Saved → Result Saved (ℕ × Refusal)) (whole : Saved)
+pub line_then : (number : ℕ) (r : Result Saved Refusal) (others : Saved → Result Saved (ℕ × Refusal)) (whole : Saved)
     → (at_line number r >>= others) ≡ Ok whole → (more : Saved) × (r ≡ Ok more) × (others more ≡ Ok whole)
 line_then number (Ok more) others whole h = (more, refl, h)
 line_then number (Err reason) others whole h = absurd (err_ok (fault_at number reason) whole h)

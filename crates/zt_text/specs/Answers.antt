@@ -73,7 +73,7 @@ shown_wait wait =
     words (decimal wait.process ∷ decimal wait.handle ∷ decimal wait.port ∷ decimal wait.key ∷ shown_mask wait.signals.0
     ∷ flag_words (codes "edge") wait.edge)
 
--- a packet that waits shows, behind what its reader will get, whose handle was waited on
+-- a packet as it waits: what its reader will get, and behind that, for a signal, the process and the handle that was waited on
 unfoldable pub shown_queued : Packet → List ℕ
 shown_queued (packet.User number bytes) = shown_packet (packet.User number bytes)
 shown_queued (packet.Signal number trigger observed process handle) =

@@ -16,5 +16,7 @@ pub mod Rows
 pub mod Spellings
 pub mod Columns
 pub mod SavedTexts
+pub mod Notes
+pub mod NotedTexts
 -- Used by proofs only: no public clause depends on them.
 pub mod ProofsOnly

@@ -5,3 +5,4 @@ pub mod Lists
 pub mod SavedTexts
 pub mod CallNames
 pub mod SessionCalls
+pub mod Notes

@@ -186,14 +186,15 @@ unfoldable pub call_named : Placed → Unread → Result Call Refusal
 call_named name left =
     if bytes_eq name.bytes (codes "event_create") then event_create left
     else (if bytes_eq name.bytes (codes "eventpair_create") then eventpair_create left
-    else (if bytes_eq name.bytes (codes "object_signal") then object_signal left
     else (if bytes_eq name.bytes (codes "object_signal_peer") then object_signal_peer left
-    else handle_call_named name left)))
+    else handle_call_named name left))
 
--- the call of this name, also of the one that carries a parcel
+-- the call of this name, of all twenty
 unfoldable pub any_call_named : Placed → Unread → Result Call Refusal
 any_call_named name left =
-    if bytes_eq name.bytes (codes "channel_write") then channel_write left else call_named name left
+    if bytes_eq name.bytes (codes "object_signal") then object_signal left
+    else (if bytes_eq name.bytes (codes "channel_write") then channel_write left
+    else call_named name left)
 
 unfoldable pub call : Unread → Result Call Refusal
 call left = do

@@ -184,7 +184,7 @@ abbrev pub has_parcel : Call → Bool
 has_parcel (calls.ChannelWrite _ _) = true
 has_parcel _ = false
 
--- so does a command with a name
+-- reading a command takes memory, if it is a call that carries a parcel or has the name of a branch
 abbrev pub takes_memory : Command → Bool
 takes_memory (commands.Call _ made) = has_parcel made
 takes_memory (commands.Branch _) = true

@@ -202,7 +202,7 @@ IsUnreadTree (Err first) fault = (fault ≡ first) ⊎ (fault ≡ (0, OutOfMemor
 abbrev pub IsName : List ℕ → Type 0
 IsName name = name_of name ≡ Some name
 
--- so short that no line with the name is too long
+-- a name so short that no line with it is too long
 abbrev pub IsShort : List ℕ → Type 0
 IsShort name = length name ≤ 139982
 

@@ -64,7 +64,7 @@ line_of_call_in line call (first ∷ lines) =
     if is_skipped first then line_of_call_in (line + 1) call lines
     else (if call == 0 then line else line_of_call_in (line + 1) (call - 1) lines)
 
--- so it is behind the first line
+-- the number of the line of this call, counted from 0, in a text of these lines, whose first has the number 1 and is no call
 abbrev pub line_of_call_behind : ℕ → List (List ℕ) → ℕ
 line_of_call_behind call [] = 0
 line_of_call_behind call (first ∷ lines) = line_of_call_in 2 call lines
@@ -85,7 +85,7 @@ unfoldable pub has_call : List (List ℕ) → Bool
 has_call [] = false
 has_call (line ∷ lines) = comes_first (call_in line) (has_call lines)
 
--- so it does behind the first line
+-- the first line is right, and behind it a call comes before any fault
 abbrev pub has_call_behind : List (List ℕ) → Bool
 has_call_behind [] = false
 has_call_behind (first ∷ lines) = is_ok (first_line first) && has_call lines

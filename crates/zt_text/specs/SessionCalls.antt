@@ -35,7 +35,7 @@ abbrev pub tree_of : Result (List (ℕ × Call)) (ℕ × Refusal) → Result Sav
 tree_of (Ok calls) = Ok (in_a_row calls)
 tree_of (Err fault) = Err fault
 
--- this call with the lines behind it; where there is none, what they give
+-- this call with the lines behind it, or, where there is no call, `others`
 abbrev pub or_behind : Option (ℕ × Call) → LinesLeft → Result (Option (ℕ × Call) × LinesLeft) (ℕ × Refusal) → Result (Option (ℕ × Call) × LinesLeft) (ℕ × Refusal)
 or_behind None behind others = others
 or_behind (Some made) behind others = Ok (Some made, behind)

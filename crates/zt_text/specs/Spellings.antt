@@ -115,7 +115,7 @@ SessionsAreSpelledAsShown =
     (text : List ℕ) (calls : List (ℕ × Call)) → session_of text ≡ Ok calls → skips_nothing text ≡ true → is_whole text ≡ true
     → text ≡ session_text calls
 
--- so is a text of version 2 that reads as a tree
+-- a text of version 2 that reads as a tree, without skipped lines and with its last line feed, is the text that shows the tree
 abbrev pub SavedTreesAreSpelledAsShown : Type 0
 SavedTreesAreSpelledAsShown =
     (text : List ℕ) (lines : List (List ℕ)) (saved : Saved) → lines_of text ≡ codes "zxtt 2" ∷ lines → saved_of text ≡ Ok saved

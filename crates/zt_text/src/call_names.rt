@@ -1,6 +1,7 @@
 //! The names of the system calls in a line.
 
-ghost use Rattle.std.specs.Prelude.{◌≡◌};
+ghost use Rattle.std.specs.Prelude.{◌≡◌, codes};
+ghost use Rattle.std.specs.Str.{bytes_eq};
 ghost use Rattle.zt_text.specs.ProofsOnly.CallNames.{name_of, name_of_object, name_of_handle, name_of_port, name_of_task};
 
 /// The name of a call.
@@ -45,14 +46,14 @@ impl CallName {
     fn of_object(field: &[u8]) -> Option<CallName>
         ensures { result ≡ name_of_object field.now }
     {
-        if field == b"channel_write".as_slice() {
+        if is_object_signal(field) {
+            Some(CallName::ObjectSignal)
+        } else if field == b"channel_write".as_slice() {
             Some(CallName::ChannelWrite)
         } else if field == b"event_create".as_slice() {
             Some(CallName::EventCreate)
         } else if field == b"eventpair_create".as_slice() {
             Some(CallName::EventPairCreate)
-        } else if field == b"object_signal".as_slice() {
-            Some(CallName::ObjectSignal)
         } else if field == b"object_signal_peer".as_slice() {
             Some(CallName::ObjectSignalPeer)
         } else {
@@ -119,4 +120,12 @@ impl CallName {
             None
         }
     }
+}
+
+/// Whether a field is `object_signal`. The calls that some traces have most of are told by one comparison of words.
+#[tactic(auto, using(crate::proofs::CallWords::is_object_signal, crate::proofs::CallWords::is_no_object_signal))]
+fn is_object_signal(field: &[u8]) -> bool
+    ensures { result ≡ bytes_eq field.now (codes "object_signal") }
+{
+    matches!(field, b"object_signal")
 }

@@ -1,5 +1,5 @@
 //! Laws of reading and printing lines. Each law is the contract of a function that does nothing.
-ghost use Rattle.std.specs.Prelude.{◌≡◌, ℕ, ℤ, true, ◌^◌, ◌<◌, ◌≤◌, List, [], length, Some, None, Ok, Err};
+ghost use Rattle.std.specs.Prelude.{◌≡◌, ℕ, ℤ, true, ◌^◌, ◌<◌, ◌≤◌, List, [], length, map, Some, None, Ok, Err};
 ghost use Rattle.std.specs.Fmt.{decimal, signed_decimal};
 ghost use Rattle.std.specs.List.{All};
 ghost use Rattle.zt_rows.specs.declared.calls.Call.{Call};
@@ -18,6 +18,9 @@ ghost use Rattle.zt_text.specs.Session.{session_of};
 ghost use Rattle.zt_text.specs.SessionCalls.{LinesLeft, calls_left, in_front_of, next_call, row_lines, tree_of};
 ghost use Rattle.zt_rows.specs.CallsInARow.{in_a_row};
 ghost use Rattle.zt_text.specs.SavedTexts.{IsSaved, IsSavedCall, IsHeadWithin, IsPlaceWithin, saved_of, saved_text};
+ghost use Rattle.zt_rows.specs.declared.saved.Saved.{Saved};
+ghost use Rattle.zt_text.specs.Notes.{Noted, notes_of};
+ghost use Rattle.zt_text.specs.NotedTexts.{noted_saved_text, noted_session_text, IsNoted, IsSameNoted};
 ghost use Rattle.zt_text.specs.Columns.{ColumnsTellFirstFaults};
 ghost use Rattle.zt_text.specs.Spellings.{IsSpelledAsShown, CallsAreSpelledAsShown, LinesHaveTheWordsOfWhatTheyAsk, LinesAskDifferentThings, SavedTreesAreSpelledAsShown, SessionsAreSpelledAsShown, WordsAskWhatTheySay};
 ghost use Rattle.zt_text.specs.Rows.{IsKeyWithin, IsRowWithin};
@@ -222,6 +225,35 @@ pub fn sessions_read_back()
 #[tactic(auto, using(crate::proofs::SavedTrees::saved_read))]
 pub fn saved_trees_read_back()
     ensures { (saved : Saved) → IsSaved saved → saved_of (saved_text saved) ≡ Ok saved }
+{}
+
+/// The session text of a saved tree with notes reads as that tree. Its notes are the same notes again, of no more moments than the
+/// tree has, and its names the same names.
+#[tactic(auto, using(crate::proofs::NotedTrees::noted_read, crate::proofs::NotedTrees::noted_again))]
+pub fn noted_trees_read_back()
+    ensures tree { (noted : Noted) (saved : Saved) → IsNoted noted → IsSaved saved
+        → saved_of (noted_saved_text noted saved) ≡ Ok saved }
+    ensures notes { (noted : Noted) (saved : Saved) → IsNoted noted → IsSaved saved → length noted.notes ≤ length saved.moments
+        → IsSameNoted (notes_of (noted_saved_text noted saved)) noted }
+{}
+
+/// The session text of calls with notes reads as those calls.
+#[tactic(auto, using(crate::proofs::NotedTrees::noted_session_read))]
+pub fn noted_sessions_read_back()
+    ensures { (noted : Noted) (calls : List (ℕ × (ℕ × Call))) → IsNoted noted → All (λ made. IsCalled made.1) calls
+        → session_of (noted_session_text noted calls) ≡ Ok (map (λ made. made.1) calls) }
+{}
+
+/// A text that reads as a tree has one note for each of its moments, which is empty where no comment is before the moment's line.
+#[tactic(auto, using(crate::proofs::NotedCounts::moments_counted))]
+pub fn each_moment_has_a_note()
+    ensures { (text : List ℕ) (saved : Saved) → saved_of text ≡ Ok saved → length (notes_of text).notes ≡ length saved.moments }
+{}
+
+/// The notes of every text are those that the laws on texts with notes ask for.
+#[tactic(auto, using(crate::proofs::NotedTrees::notes_kept))]
+pub fn notes_of_texts_are_lines()
+    ensures { (text : List ℕ) → IsNoted (notes_of text) }
 {}
 
 /// The numbers of every saved tree are in the ranges that the law on its text asks for.

@@ -7,7 +7,12 @@ mod fields;
 mod front_numbers;
 pub mod laws;
 mod lists;
+mod name_lines;
+mod name_table;
 mod names;
+mod noted_texts;
+mod notes;
+mod notes_reader;
 mod numbers;
 mod printed_answers;
 mod printed_calls;
@@ -26,6 +31,9 @@ mod session_text;
 mod within;
 mod write_arguments;
 
+pub use name_lines::Subject;
+pub use noted_texts::{put_noted_call, put_noted_moment};
+pub use notes::Notes;
 pub use printed_answers::{print_answer, put_supports};
 pub use printed_calls::{print_call, print_session, put_call};
 pub use printed_rows::{

@@ -11,10 +11,10 @@ use Rattle.zt_text.specs.ReadCalls.{channel_write, event_create, eventpair_creat
 -- the write to a channel, and the calls on events
 unfoldable pub name_of_object : List ℕ → Option CallName
 name_of_object field =
-    if bytes_eq field (codes "channel_write") then Some called.ChannelWrite
+    if bytes_eq field (codes "object_signal") then Some called.ObjectSignal
+    else (if bytes_eq field (codes "channel_write") then Some called.ChannelWrite
     else (if bytes_eq field (codes "event_create") then Some called.EventCreate
     else (if bytes_eq field (codes "eventpair_create") then Some called.EventPairCreate
-    else (if bytes_eq field (codes "object_signal") then Some called.ObjectSignal
     else (if bytes_eq field (codes "object_signal_peer") then Some called.ObjectSignalPeer
     else None))))
 
@@ -80,7 +80,7 @@ call_with called.JobSetCritical left = job_set_critical left
 call_with called.TaskKill left = task_kill left
 call_with called.ProcessExit left = process_exit left
 
--- the same where there is a name, and this otherwise
+-- the call of this name, with the arguments behind it, or `others` where there is no name
 abbrev pub call_or : Option CallName → Unread → Result Call Refusal → Result Call Refusal
 call_or None left others = others
 call_or (Some name) left others = call_with name left

@@ -1,13 +1,12 @@
 -- What stands behind the first line of a text, and what a text of version 1 makes. Used by proofs only.
-use Rattle.std.specs.Prelude.{◌≡◌, ℕ, List, [], ◌∷◌, ◌++◌, length, Option, Some, None, Result, Ok, Err, codes}
+use Rattle.std.specs.Prelude.{◌≡◌, ℕ, List, Option, Some, None, Result, Ok}
 use denote.Ref.{Bor}
 use Rattle.zt_rows.specs.declared.refusals.Refusal.{Refusal}
 use Rattle.zt_rows.specs.declared.calls.Call.{Call}
 use Rattle.zt_rows.specs.declared.saved.Saved.{Saved}
-use Rattle.zt_rows.specs.declared.saved.SavedCall.{SavedCall}
 use Rattle.zt_text.specs.Lines.{lines_of}
 use Rattle.zt_text.specs.Fields.{◌>>=◌}
-use Rattle.zt_rows.specs.CallsInARow.{as_moment, moments_from, in_a_row}
+use Rattle.zt_rows.specs.CallsInARow.{in_a_row}
 
 -- the bytes of these lines, where there are any
 abbrev pub IsBehindFirst : Option (List (List ℕ)) → Option (Bor (List ℕ)) → Type 0
