@@ -41,7 +41,7 @@ asks-keep M asked (Err reason) N (_, same) = ap (λ (S : Stood). length S.sessio
 pub talked_clients : (M N : BookView) (known before after : Option (List ℕ)) (done : Bool) → HasTalked AsksBook M N known before after done → length N.session.clients ≡ length M.session.clients
 talked_clients M N known before after done h = talk-keeps AsksBook (λ (b : BookView). length b.session.clients) asks-keep _ h.lines h.spoken.text _ h.spoken.talk
 
--- so does a book that is explored
+-- a book that is explored keeps its clients
 explored-keep : (M : BookView) (asked : Command) (given : Given) (N : BookView) → AsksExplored M asked given N → length N.session.clients ≡ length M.session.clients
 explored-keep M asked given N h = asks-keep (explored M) asked given N h ∙ explored-many M
 

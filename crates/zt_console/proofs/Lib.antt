@@ -3,6 +3,7 @@ pub mod LineFeedLaws
 pub mod ExploredLaws
 pub mod KeepLaws
 pub mod SaveLaws
+pub mod NotedLaws
 pub mod ServeLaws
 pub mod LoadLaws
 pub mod ReadLaws

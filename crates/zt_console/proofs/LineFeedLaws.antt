@@ -395,7 +395,7 @@ talked Asks from to pinned ds others input (Some x) (Some y) a b h f p =
       read = (these.rest, ap lines_of h ∙ these.whole, λ e. cc);
     }
 
--- the same, from where nothing was pinned
+-- with nothing pinned at first, reading so far and then n bytes more speaks some first lines of the input
 pub talked_fed : {D : Type 0} (Asks : Manner D) (M K N : Conversation D) (mid kept bytes chunk : List ℕ) (known left rest a b c : Option (List ℕ)) (n i : ℕ)
     → M.pinned ≡ None → HasRead Asks M K mid known left a b i → Consumes left rest (take n chunk) → bytes ≡ take n chunk → Fed Asks K N mid kept bytes [] [] b c false → HasTalked Asks M.responder N.responder known a c false
 talked_fed Asks M K N mid kept bytes chunk known left rest a b c n i fresh p h e q =

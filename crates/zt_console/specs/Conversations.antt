@@ -50,7 +50,7 @@ pub record IsRespondedTo {D : Type 0} (Asks : Manner D) (M : Conversation D) (as
   pub shows : text ≡ shown (said_by given)
   pub pins : N.pinned ≡ pinned_after M.pinned given
 
--- the same, or that memory for reading the line was refused, which changes nothing
+-- a command gets the text of what the responder answers; if its line takes memory, it may be refused for lack of it, with no change
 abbrev pub Commands : {D : Type 0} → Manner D → Conversation D → Command → List ℕ → Conversation D → Type 0
 Commands Asks M asked text N =
     IsRespondedTo Asks M asked text N ⊎ ((takes_memory asked ≡ true) × (text ≡ shown_refusal refusal.OutOfMemory) × (N ≡ M))
@@ -73,7 +73,7 @@ abbrev pub of_copy : Option Snapshot → (Snapshot → Result Answer Refusal) �
 of_copy (Some copy) look = look copy
 of_copy None look = Err refusal.NoMoment
 
--- what it is answered where this is what the copy tells: that, or that memory was refused
+-- what a question to the copy may be answered, if the copy gives `wanted`: just that, or that memory was refused
 abbrev pub IsToldOfCopy : Result Answer Refusal → Result Answer Refusal → Type 0
 IsToldOfCopy wanted (Ok said) = wanted ≡ Ok said
 IsToldOfCopy wanted (Err given) = IsHistoryRefusal wanted given

@@ -5,7 +5,7 @@ use Rattle.std.specs.Prelude.{ℕ, ◌+◌, ◌-◌, ◌^◌, Bool, true, ◌&&�
 abbrev pub raised : ℕ → ℕ
 raised faults = min (faults + 1) (2 ^ 64 - 1)
 
--- the number behind a read or a write that failed or not
+-- the number of failures after a read or a write, by whether that failed
 abbrev pub faults_after : ℕ → Bool → ℕ
 faults_after faults failed = if failed then raised faults else faults
 

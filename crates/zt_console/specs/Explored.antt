@@ -12,6 +12,6 @@ use Rattle.zt_console.specs.Conversations.{Manner}
 abbrev pub explored : BookView → BookView
 explored M = if nat_lt (client_of M.session 1).rows most_rows then M else book_at (unanswered M.session)
 
--- as a book answers which has room
+-- how an explored book answers: it first makes room for one more answer, where it has none
 abbrev pub AsksExplored : Manner BookView
 AsksExplored M asked given N = AsksBook (explored M) asked given N

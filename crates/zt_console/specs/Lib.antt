@@ -7,5 +7,6 @@ pub mod Run
 pub mod Sessions
 pub mod LoadedText
 pub mod Typed
+pub mod NotedPaths
 -- Used by proofs only: no public clause depends on them.
 pub mod ProofsOnly

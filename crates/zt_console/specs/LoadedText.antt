@@ -16,7 +16,7 @@ pub record IsLoadedOf (clients : ℕ) (text : List ℕ) (book : BookView) : Type
   pub loaded : loaded_saved clients saved ≡ Ok book.session
   pub begins : book ≡ book_at book.session
 
--- so it is of a text that a reader gave, which had these bytes left before and has those after: it gave them to its end
+-- the book is loaded of a text that a reader gave to its end: the reader had the bytes `before` left to give, and has `after` left
 pub record IsLoadedOfRead (clients : ℕ) (before after : Option (List ℕ)) (book : BookView) : Type 0 where
   pub text : List ℕ
   pub given : Consumes before after text

@@ -46,7 +46,8 @@ Caller I O = (I × ℕ) × (O × ℕ) × PassView
 abbrev pub IsCountable : {I O : Type 0} → Caller I O → Type 0
 IsCountable caller = (caller.0.1 < 2 ^ 64 - 1) × (caller.1.1 < 2 ^ 64 - 1)
 
--- How a client was served, who has this pass then: the lines that it sent got the text that it received.
+-- How a client was served, whose pass is `pass` at the end: the lines that it sent got the text that it received. It was served to
+-- the end of its input, unless `end` tells why the run stopped.
 pub record IsServed {I O : Type 0} (remaining : I → Option (List ℕ)) (contents : O → Option (List ℕ)) (caller : Caller I O) (pass : PassView)
     (reader : I × ℕ) (writer : O × ℕ) (end : End) : Type 0 where
   pub talk : HasTalked AsksPass caller.2 pass (remaining caller.0.0) (contents caller.1.0) (contents writer.0) (is_ok (outcome end))

@@ -10,7 +10,7 @@ use Rattle.zt_console.specs.Conversations.{Manner, Answers, Talk}
 
 -- ---- lines
 
--- so many bytes, one more than a line may have, decide how it reads
+-- how many bytes of a line decide how it reads: one more than a line may have
 abbrev pub decisive_bytes : ℕ
 decisive_bytes = 140001
 

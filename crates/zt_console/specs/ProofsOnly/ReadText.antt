@@ -31,7 +31,7 @@ pub record AreLoaded (bytes : List ℕ) (row more : List (ℕ × Call)) : Type 0
   pub read : calls_in 2 (lines_of bytes) ≡ Ok calls
   pub behind : more ≡ row ++ calls
 
--- those of the lines that end in these bytes are, and a part of one is left
+-- the calls of the whole lines in these bytes are loaded behind others, and a part of the next line is left
 pub record AreTaken (bytes : List ℕ) (row more : List (ℕ × Call)) (part : List ℕ) : Type 0 where
   pub lines : List ℕ
   pub split : bytes ≡ lines ++ part
@@ -40,13 +40,13 @@ pub record AreTaken (bytes : List ℕ) (row more : List (ℕ × Call)) (part : L
 
 -- ---- a text
 
--- so they are of what was read so far behind the first line
+-- the calls of the whole lines that were read so far behind the first are `row`, and `part` of the next line is left
 pub record IsReadSoFar (before now : Option (List ℕ)) (row : List (ℕ × Call)) (part : List ℕ) : Type 0 where
   pub bytes : List ℕ
   pub given : Consumes before now (with_first bytes)
   pub taken : AreTaken bytes [] row part
 
--- and of the whole
+-- a text was read to its end, and the calls of all its lines behind the first are `row`
 pub record IsRowRead (before after : Option (List ℕ)) (row : List (ℕ × Call)) : Type 0 where
   pub bytes : List ℕ
   pub given : Consumes before after (with_first bytes)
