@@ -1,0 +1,2 @@
+-- Used by proofs only: no public clause depends on them.
+pub mod Done
