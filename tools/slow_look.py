@@ -183,7 +183,7 @@ class Trace:
     def __init__(self, program, path):
         self.program, self.path = program, path
         self.parents, self.calls, self.branches = [None], [None], []
-        with open(path, encoding='ascii') as file:
+        with open(path, encoding='utf-8', errors='surrogateescape', newline='\n') as file:
             self.take([line.rstrip('\n') for line in file])
         self.last = len(self.calls) - 1
         self.replies = self.replies_of_all()

@@ -4,8 +4,9 @@ use Rattle.std.specs.Prelude.{IfOk, is_some, not, unwrap_or}
 use Rattle.std.specs.Borrow.{Bor}
 use Rattle.std.specs.Str.Parse.{ParsesUnsigned}
 use Rattle.clap.specs.Walk.{is_empty, is_free_arg}
-use Rattle.clap.specs.Words.{AddsConflicts, App, HasMatchesOf, ReadsOne, Row, Text, all_of, first_of, first_value, is_simple, matched_of, one_of, one_text, raw_values, rows_of, rule_of, subcommand_of, subcommand_rows_of}
+use Rattle.clap.specs.Words.{AddsConflicts, AddsRequirements, App, HasMatchesOf, ReadsOne, Row, Text, all_of, first_of, first_value, is_simple, matched_of, one_of, one_text, raw_values, rows_of, rule_of, subcommand_of, subcommand_rows_of}
 use Rattle.clap.specs.declared.builder.arg.Arg.{Arg}
+use Rattle.clap.specs.declared.builder.arg.ArgPredicate.{ArgPredicate}
 use Rattle.clap.specs.declared.parser.matches.Found.{Found}
 use Rattle.clap.specs.declared.parser.matches.ArgMatches.{ArgMatches}
 use Rattle.clap.proofs.WalkLemmas.{first_value-rows, one_text-rows, raw_values-rows}
@@ -24,7 +25,7 @@ use Rattle.zt_words.specs.Words.{IsAskedBy, command_line}
 pub value_of_row : (f : Found) (id : Text) (r : Option (Bor Text)) → option_map (λ s. s.now) r ≡ first_value f id → option_map (λ s. s.now) r ≡ first_of id (rows_of f)
 value_of_row f id r h = h ∙ first_value-rows f id
 
--- the same, of a word with a value of its own
+-- a word's value, by the row of the word, or this other value where the word has none
 pub text_of_row : (f : Found) (id : Text) (r : Option (Bor Text)) (other : Bor Text) → option_map (λ s. s.now) r ≡ first_value f id → (unwrap_or r other).now ≡ unwrap_or (first_of id (rows_of f)) other.now
 text_of_row f id r other h = go r (value_of_row f id r h)
   where
@@ -46,7 +47,7 @@ number_of_row {E} G bits f id r other parses read = go (one_of id (rows_of f)) (
     go None h = search rules
     go (Some t) h = number t r (h t refl)
 
--- the same of a word that may lack
+-- a word's number, by the row of the word, or none where the word is not there
 pub optional_number_of_row : (E : Type 0) (G : List ℕ → Result ℕ E → Type 0) (bits : ℕ) (f : Found) (id : Text) (r : Option ℕ)
     → ((t : List ℕ) (x : Result ℕ E) → G t x → ParsesUnsigned bits 10 t x)
     → (one_text f id ≡ None → r ≡ None) → ((t : List ℕ) → one_text f id ≡ Some t → ReadsOne G t r) → IsOptionalNumberOf bits (one_of id (rows_of f)) r
@@ -106,6 +107,24 @@ rule_of-conflicting old new x h none = ap rule_of h.0 ∙ ap (λ b. record (rule
         ap (λ b. not old.exclusive && (b && (is_empty old.needs.items && (is_empty old.r_ifs.items && (is_empty old.r_ifs_all.items
         && (is_empty old.r_unless.items && is_empty old.r_unless_all.items)))))) some
         ∙ never (not old.exclusive)
+
+-- an argument that gets its first requirement keeps its rule, but is no longer free
+pub rule_of-needing : (old new : Arg) (x : ArgPredicate × Bor Text) → AddsRequirements old new (x ∷ []) → old.needs.items ≡ [] → rule_of new ≡ record (rule_of old) { is_free = false }
+rule_of-needing old new x h none = ap rule_of h.0 ∙ ap (λ b. record (rule_of old) { is_free = b }) not_free
+  where
+    never : (a b : Bool) → (a && (b && false)) ≡ false
+    never true true = refl
+    never true false = refl
+    never false b = refl
+
+    some : is_empty new.needs.items ≡ false
+    some = ap is_empty (h.1 ∙ ap (λ l. l ++ x ∷ []) none)
+
+    not_free : is_free_arg (record old { needs = new.needs }) ≡ false
+    not_free =
+        ap (λ b. not old.exclusive && (is_empty old.conflicts.items && (b && (is_empty old.r_ifs.items && (is_empty old.r_ifs_all.items
+        && (is_empty old.r_unless.items && is_empty old.r_unless_all.items)))))) some
+        ∙ never (not old.exclusive) (is_empty old.conflicts.items)
 
 -- the command line is one of those of which the words alone decide what they ask for
 line_is_simple : is_simple command_line ≡ true

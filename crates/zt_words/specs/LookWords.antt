@@ -13,7 +13,7 @@ use Rattle.zt_words.specs.Rules.{IsFlagOf, IsOptionalNumberOf, flag, needed, val
 
 -- ---- the command line
 
--- one or more
+-- the words behind a question, one or more
 abbrev pub words_word : Rule
 words_word = record (new_rule (codes "WORD")) {
   action = Some Append;
@@ -34,9 +34,13 @@ koid_word name = record (valued name) { parser = Some (parser.Unsigned 0 1844674
 abbrev pub question_line : App
 question_line = with_rule (with_rule (with_rule (new_app (codes "look")) (needed (codes "TRACE"))) (needed (codes "QUESTION"))) words_word
 
--- .. `[--at MOMENT | --branch NAME] [--names]`
+-- .. `[--at MOMENT | --branch NAME | --all]`
+abbrev pub place_line : App
+place_line = with_rule (with_rule (with_rule question_line at_word) (valued (codes "branch"))) (flag (codes "all"))
+
+-- .. `[--names] [--notes]`
 abbrev pub path_line : App
-path_line = with_rule (with_rule (with_rule question_line at_word) (valued (codes "branch"))) (flag (codes "names"))
+path_line = with_rule (with_rule place_line (flag (codes "names"))) (flag (codes "notes"))
 
 -- .. `[--failed] [--process P] [--object K]`
 abbrev pub calls_line : App
@@ -46,14 +50,15 @@ calls_line = with_rule (with_rule (with_rule path_line (flag (codes "failed"))) 
 abbrev pub alive_line : App
 alive_line = with_rule calls_line (moment_word (codes "since"))
 
--- .. `[--exit-code]`
+-- .. `[--exit-code] [--json]`
 abbrev pub look_line : App
-look_line = with_rule alive_line (flag (codes "exit-code"))
+look_line = with_rule (with_rule alive_line (flag (codes "exit-code"))) (flag (codes "json"))
 
 -- ---- what is asked for, by the values of the words
 
 pub record AreOptionsOf (rows : List Row) (options : Options) : Type 0 where
   pub placed : options.placed ≡ (is_some (first_of (codes "at") rows) || is_some (first_of (codes "branch") rows))
+  pub all : IsFlagOf (one_of (codes "all") rows) options.all
   pub failed : IsFlagOf (one_of (codes "failed") rows) options.failed
   pub process : IsOptionalNumberOf 64 (one_of (codes "process") rows) options.process
   pub object : IsOptionalNumberOf 64 (one_of (codes "object") rows) options.object
@@ -69,6 +74,10 @@ pub record IsLookOf (rows : List Row) (look : Look) : Type 0 where
   pub file : look.file.now ≡ unwrap_or (first_of (codes "TRACE") rows) []
   pub at : IsOptionalNumberOf 32 (one_of (codes "at") rows) look.at
   pub branch : option_map (λ s. s.now) look.branch ≡ first_of (codes "branch") rows
+  pub all : IsFlagOf (one_of (codes "all") rows) look.all
   pub names : IsFlagOf (one_of (codes "names") rows) look.names
+  pub notes : IsFlagOf (one_of (codes "notes") rows) look.notes
   pub exit_code : IsFlagOf (one_of (codes "exit-code") rows) look.exit_code
+  pub json : IsFlagOf (one_of (codes "json") rows) look.json
   pub question : IsQuestionIn rows look.question
+  pub text : look.text.now ≡ unwrap_or (first_of (codes "WORD") rows) []

@@ -77,6 +77,17 @@ abbrev pub handle_question : List Text → Option Question
 handle_question (process ∷ value ∷ []) = handle_of process value
 handle_question _ = None
 
+-- ---- notes: of one moment, or the calls that have a text; the text has a byte
+
+abbrev pub note_question : List Text → Option Question
+note_question words = option_map question.Note (option_and_then moment_word (one_word words))
+
+abbrev pub asked_for : Text → Option Question
+asked_for text = if length text == 0 then None else Some question.Find
+
+abbrev pub find_question : List Text → Option Question
+find_question words = option_and_then asked_for (one_word words)
+
 -- ---- happenings: those that are named, or all
 
 abbrev pub is_happening : Text → Bool
@@ -108,7 +119,9 @@ abbrev pub late_topic_named : Text → Option Topic
 late_topic_named name =
     if bytes_eq name (codes "alive") then Some topic.Alive
     else (if bytes_eq name (codes "handle") then Some topic.Handle
-    else (if bytes_eq name (codes "lineage") then Some topic.Lineage else None))
+    else (if bytes_eq name (codes "lineage") then Some topic.Lineage
+    else (if bytes_eq name (codes "note") then Some topic.Note
+    else (if bytes_eq name (codes "find") then Some topic.Find else None))))
 
 abbrev pub other_topic_named : Text → Option Topic
 other_topic_named name =
@@ -129,15 +142,27 @@ topic_named name =
 abbrev pub is_of_path : Topic → Bool
 is_of_path topic.Changed = false
 is_of_path topic.Branches = false
+is_of_path topic.Note = false
 is_of_path _ = true
+
+-- it can be asked of all branches: each of its lines begins with a moment
+abbrev pub is_of_branches : Topic → Bool
+is_of_branches topic.Calls = true
+is_of_branches topic.Events = true
+is_of_branches topic.Find = true
+is_of_branches _ = false
 
 -- an option is given that only questions about calls have
 abbrev pub has_option_of_calls : Options → Bool
 has_option_of_calls o = o.failed || (is_some o.process || is_some o.object)
 
--- an option is given that such a question has not
-abbrev pub has_other_option : Topic → Options → Bool
-has_other_option about o = has_option_of_calls o || (is_some o.since || (o.placed && not (is_of_path about)))
+-- one is given that only they or those about what is alive have
+abbrev pub has_other_option : Options → Bool
+has_other_option o = has_option_of_calls o || is_some o.since
+
+-- such a question cannot be asked where the options say: of all branches, of one path, or of both
+abbrev pub has_other_place : Topic → Options → Bool
+has_other_place about o = if o.all then o.placed || not (is_of_branches about) else o.placed && not (is_of_path about)
 
 abbrev pub without_words : List Text → Question → Option Question
 without_words words asked = if length words == 0 then Some asked else None
@@ -159,12 +184,17 @@ plain_question topic.Branches words = without_words words question.Branches
 plain_question topic.Summary words = without_words words question.Summary
 plain_question topic.Handle words = handle_question words
 plain_question topic.Lineage words = option_map question.Lineage (one_koid words)
+plain_question topic.Note words = note_question words
+plain_question topic.Find words = find_question words
+
+abbrev pub question_there : Topic → List Text → Options → Option Question
+question_there topic.Calls words o = calls_question words o
+question_there topic.Alive words o = alive_question words o
+question_there about words o = if has_other_option o then None else plain_question about words
 
 -- the question about this that the words and options ask; none, where one of them is not the question's
 abbrev pub question_on : Topic → List Text → Options → Option Question
-question_on topic.Calls words o = calls_question words o
-question_on topic.Alive words o = alive_question words o
-question_on about words o = if has_other_option about o then None else plain_question about words
+question_on about words o = if has_other_place about o then None else question_there about words o
 
 -- the question with this name
 abbrev pub question_of : Text → List Text → Options → Option Question

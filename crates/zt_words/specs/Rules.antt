@@ -23,7 +23,7 @@ IsNumberOf bits (Some text) n =
     IsNumeral 10 (without_leading_plus text) → digits_value 10 (without_leading_plus text) < 2 ^ bits
     → n ≡ digits_value 10 (without_leading_plus text)
 
--- the same, and none where there is no text
+-- the number that a text reads as, in so many bits, or none where there is no text
 abbrev pub IsOptionalNumberOf : ℕ → Option Text → Option ℕ → Type 0
 IsOptionalNumberOf bits None n = n ≡ None
 IsOptionalNumberOf bits (Some text) n =

@@ -18,11 +18,17 @@ port_word = record (needed (codes "PORT")) { parser = Some (parser.Signed (pos 1
 abbrev pub clients_word : Rule
 clients_word = record (valued (codes "clients")) { parser = Some (parser.Signed (pos 1) (pos 4)); defaults = codes "1" ∷ [] }
 
--- `run [FILE] [--from TRACE] [--save OUT] [--save-tree OUT] [--explain]`
+-- not without `--save`
+abbrev pub notes_word : Rule
+notes_word = record (flag (codes "notes")) { is_free = false }
+
+-- `run [FILE] [--from TRACE] [--save OUT]`
+abbrev pub save_line : App
+save_line = with_rule (with_rule (with_rule (new_app (codes "run")) file_word) (valued (codes "from"))) (valued (codes "save"))
+
+-- .. `[--notes] [--save-tree OUT] [--explain]`
 abbrev pub run_line : App
-run_line =
-    with_rule (with_rule (with_rule (with_rule (with_rule (new_app (codes "run")) file_word) (valued (codes "from"))) (valued (codes "save")))
-    (valued (codes "save-tree"))) (flag (codes "explain"))
+run_line = with_rule (with_rule (with_rule save_line notes_word) (valued (codes "save-tree"))) (flag (codes "explain"))
 
 -- `serve PORT [--clients N] [--from TRACE] [--save-tree OUT] [--explain]`
 abbrev pub serve_line : App
@@ -30,7 +36,7 @@ serve_line =
     with_rule (with_rule (with_rule (with_rule (with_rule (new_app (codes "serve")) port_word) clients_word) (valued (codes "from")))
     (valued (codes "save-tree"))) (flag (codes "explain"))
 
--- the program's own, with its version, and one of the three behind it
+-- the program itself, with its version, before its subcommands are added: it needs one of them
 abbrev pub program : App
 program = record { top = record (new_app (codes "zxtt")).top { has_version = true; subcommand_required = true }; subs = [] }
 
@@ -47,6 +53,7 @@ IsRunOf rows (asked.Run words) =
     (words.file.now ≡ unwrap_or (first_of (codes "FILE") rows) (codes "-"))
     × (option_map (λ s. s.now) words.from ≡ first_of (codes "from") rows)
     × (option_map (λ s. s.now) words.save ≡ first_of (codes "save") rows)
+    × IsFlagOf (one_of (codes "notes") rows) words.notes
     × (option_map (λ s. s.now) words.save_tree ≡ first_of (codes "save-tree") rows)
     × IsFlagOf (one_of (codes "explain") rows) words.explain
 IsRunOf rows _ = ⊥
@@ -73,7 +80,7 @@ IsAskedBy met asked = IfSome met (λ word. (word.0 ≡ codes "run" → IsRunOf w
 -- to run standard input, from the opening
 abbrev pub IsStandardInput : Asked → Type 0
 IsStandardInput (asked.Run words) =
-    (words.file.now ≡ codes "-") × (words.from ≡ None) × (words.save ≡ None) × (words.save_tree ≡ None) × (words.explain ≡ false)
+    (words.file.now ≡ codes "-") × (words.from ≡ None) × (words.save ≡ None) × (words.notes ≡ false) × (words.save_tree ≡ None) × (words.explain ≡ false)
 IsStandardInput _ = ⊥
 
 -- what is asked for with these words, the program's own name among them

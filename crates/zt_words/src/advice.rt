@@ -170,6 +170,8 @@ fn of_other_name(name: &[u8]) -> Advice {
         b"alive" => Advice::Question("alive", None),
         b"handle" => Advice::Question("handle", None),
         b"lineage" => Advice::Question("lineage", None),
+        b"note" => Advice::Question("note", None),
+        b"find" => Advice::Question("find", None),
         _ => Advice::NoName,
     }
 }

@@ -4,7 +4,7 @@ ghost use Rattle.std.specs.Prelude.{◌≡◌, IfOk, Some, [], codes, false, is_
 ghost use Rattle.std.specs.Option.{option_map};
 ghost use Rattle.clap.specs.Words.{all_of, app_of, first_of, found_of, one_of, rows_of, rule_of};
 ghost use Rattle.clap.specs.declared.builder.command.Command.TheViews.{out-Command as fields_of};
-ghost use Rattle.zt_words.specs.LookWords.{alive_line, AreOptionsOf, IsLookOf, IsQuestionIn, at_word, calls_line, koid_word, look_line, moment_word, path_line, question_line, words_word};
+ghost use Rattle.zt_words.specs.LookWords.{alive_line, AreOptionsOf, IsLookOf, IsQuestionIn, at_word, calls_line, koid_word, look_line, moment_word, path_line, place_line, question_line, words_word};
 ghost use Rattle.zt_words.specs.Questions.{question_of};
 ghost use Rattle.zt_words.specs.Rules.{IsFlagOf, IsOptionalNumberOf, flag, needed, valued};
 
@@ -24,11 +24,19 @@ pub struct Look<'a> {
     pub at: Option<Moment>,
     /// The branch whose head is at the end of the path. If `at` and `branch` are both `None`, it is `main`.
     pub branch: Option<&'a str>,
+    /// Whether all branches are asked, in place of one path.
+    pub all: bool,
     /// Whether rights and signals are shown by name.
     pub names: bool,
+    /// Whether notes and names of the text are shown.
+    pub notes: bool,
     /// Whether the exit status shows that the answer has a line.
     pub exit_code: bool,
+    /// Whether the lines are printed as JSON.
+    pub json: bool,
     pub question: Question,
+    /// The first word of the question, or no bytes: the text that `find` looks for.
+    pub text: &'a str,
 }
 
 /// Returns what the parsed words after `look` ask for. Fails with `NoQuestion` if they ask no question.
@@ -40,9 +48,13 @@ pub fn look_of<'a>(words: &ArgMatches<'a>) -> Result<Look<'a>, NoQuestion>
             file: text_in(words, "TRACE"),
             at: moment_in(words, "at"),
             branch: branch_in(words),
+            all: flag_in(words, "all"),
             names: flag_in(words, "names"),
+            notes: flag_in(words, "notes"),
             exit_code: flag_in(words, "exit-code"),
+            json: flag_in(words, "json"),
             question,
+            text: text_in(words, "WORD"),
         }),
         Err(fault) => Err(fault),
     }
@@ -76,6 +88,7 @@ fn options_in(words: &ArgMatches<'_>) -> Options
 {
     Options {
         placed: is_given(words, "at") || is_given(words, "branch"),
+        all: flag_in(words, "all"),
         failed: flag_in(words, "failed"),
         process: koid_in(words, "process"),
         object: koid_in(words, "object"),
@@ -97,7 +110,7 @@ pub fn flag_in(words: &ArgMatches<'_>, name: &str) -> bool
     words.get_flag(name)
 }
 
-/// Returns the value of a required argument.
+/// Returns the first value of an argument, or no bytes without one.
 fn text_in<'a>(words: &ArgMatches<'a>, name: &str) -> &'a str
     ensures { result.now ≡ unwrap_or (first_of name.now (rows_of (found_of words.now))) [] }
 {
@@ -157,7 +170,9 @@ Questions, each about the path to a moment or to the head of a branch, by defaul
   alive [--since M]     what was made, behind M or at all, and is there at the end: for tests
                         that want nothing left
   handle PROCESS VALUE  the life of a handle: how it came there, step by step, and where it went
-  lineage KOID          all handles to an object, as a tree: how each came and how it left"
+  lineage KOID          all handles to an object, as a tree: how each came and how it left
+  note MOMENT           the note of one moment: the comments ahead of its call in the trace
+  find TEXT             the calls that have TEXT in their line or note, as `calls` prints them"
 }
 
 fn trace_help() -> &'static str {
@@ -165,7 +180,7 @@ fn trace_help() -> &'static str {
 }
 
 fn question_help() -> &'static str {
-    "calls, changed, events, object, handles, messages, branches, summary, alive, handle or lineage"
+    "calls, changed, events, object, handles, messages, branches, summary, alive, handle, lineage, note or find"
 }
 
 fn words_help() -> &'static str {
@@ -180,8 +195,16 @@ fn branch_help() -> &'static str {
     "Asks about the path to the head of this branch"
 }
 
+fn all_help() -> &'static str {
+    "Asks `calls`, `events` or `find` about all branches, each moment once"
+}
+
 fn names_help() -> &'static str {
     "Shows rights and signals by their names"
+}
+
+fn notes_help() -> &'static str {
+    "Shows the notes of the trace ahead of the calls, and its names behind koids and handles"
 }
 
 fn failed_help() -> &'static str {
@@ -198,6 +221,10 @@ fn object_help() -> &'static str {
 
 fn exit_code_help() -> &'static str {
     "Exits with status 1 if the answer has a line"
+}
+
+fn json_help() -> &'static str {
+    "Prints each line of the answer as a JSON object, with notes and names"
 }
 
 fn since_help() -> &'static str {
@@ -285,6 +312,17 @@ fn branch_word<'a>(alloc: Global) -> Arg<'a>
         .help(branch_help())
 }
 
+/// The flag `--all`: all branches are asked.
+fn all_word<'a>(alloc: Global) -> Arg<'a>
+    ensures rule { rule_of result ≡ flag (codes "all") }
+    ensures global { result.global ≡ false }
+{
+    Arg::new(alloc, "all")
+        .long("all")
+        .action(ArgAction::SetTrue)
+        .help(all_help())
+}
+
 /// The flag `--names`: rights and signals by name.
 fn names_word<'a>(alloc: Global) -> Arg<'a>
     ensures rule { rule_of result ≡ flag (codes "names") }
@@ -296,6 +334,17 @@ fn names_word<'a>(alloc: Global) -> Arg<'a>
         .help(names_help())
 }
 
+/// The flag `--notes`: notes and names of the text.
+fn notes_word<'a>(alloc: Global) -> Arg<'a>
+    ensures rule { rule_of result ≡ flag (codes "notes") }
+    ensures global { result.global ≡ false }
+{
+    Arg::new(alloc, "notes")
+        .long("notes")
+        .action(ArgAction::SetTrue)
+        .help(notes_help())
+}
+
 /// The flag `--exit-code`: the exit status shows whether the answer has a line.
 fn exit_code_word<'a>(alloc: Global) -> Arg<'a>
     ensures rule { rule_of result ≡ flag (codes "exit-code") }
@@ -305,6 +354,17 @@ fn exit_code_word<'a>(alloc: Global) -> Arg<'a>
         .long("exit-code")
         .action(ArgAction::SetTrue)
         .help(exit_code_help())
+}
+
+/// The flag `--json`: the lines are printed as JSON.
+fn json_word<'a>(alloc: Global) -> Arg<'a>
+    ensures rule { rule_of result ≡ flag (codes "json") }
+    ensures global { result.global ≡ false }
+{
+    Arg::new(alloc, "json")
+        .long("json")
+        .action(ArgAction::SetTrue)
+        .help(json_help())
 }
 
 /// The flag `--failed`: only calls that failed.
@@ -349,10 +409,14 @@ pub fn look_command<'a>(alloc: Global) -> Result<Command<'a>, Error>
     ensures line { IfOk result (λ command. app_of command ≡ look_line) }
     ensures globals { IfOk result (λ command. (fields_of command).has_globals ≡ false) }
 {
-    Ok(alive_command(alloc)?.arg(exit_code_word(alloc))?)
+    Ok(
+        alive_command(alloc)?
+            .arg(exit_code_word(alloc))?
+            .arg(json_word(alloc))?,
+    )
 }
 
-/// Declares `look` without the flag about the exit status.
+/// Declares `look` without the flags about the exit status and JSON.
 fn alive_command<'a>(alloc: Global) -> Result<Command<'a>, Error>
     ensures line { IfOk result (λ command. app_of command ≡ alive_line) }
     ensures globals { IfOk result (λ command. (fields_of command).has_globals ≡ false) }
@@ -360,7 +424,7 @@ fn alive_command<'a>(alloc: Global) -> Result<Command<'a>, Error>
     Ok(calls_command(alloc)?.arg(since_word(alloc))?)
 }
 
-/// Declares `look` without the flag about the exit status and the option that only `alive` has.
+/// Declares `look` without the flags about the exit status and JSON, and the option that only `alive` has.
 fn calls_command<'a>(alloc: Global) -> Result<Command<'a>, Error>
     ensures line { IfOk result (λ command. app_of command ≡ calls_line) }
     ensures globals { IfOk result (λ command. (fields_of command).has_globals ≡ false) }
@@ -392,9 +456,21 @@ fn path_command<'a>(alloc: Global) -> Result<Command<'a>, Error>
     ensures globals { IfOk result (λ command. (fields_of command).has_globals ≡ false) }
 {
     Ok(
+        place_command(alloc)?
+            .arg(names_word(alloc))?
+            .arg(notes_word(alloc))?,
+    )
+}
+
+/// Declares `look` with the options that say where to ask.
+fn place_command<'a>(alloc: Global) -> Result<Command<'a>, Error>
+    ensures line { IfOk result (λ command. app_of command ≡ place_line) }
+    ensures globals { IfOk result (λ command. (fields_of command).has_globals ≡ false) }
+{
+    Ok(
         question_command(alloc)?
             .arg(at_word(alloc)?)?
             .arg(branch_word(alloc))?
-            .arg(names_word(alloc))?,
+            .arg(all_word(alloc))?,
     )
 }

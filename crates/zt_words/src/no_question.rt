@@ -78,9 +78,10 @@ fn write_form<W: Write>(f: &mut Formatter<W>, about: Topic) -> fmt::Result {
 /// Returns the word that must come after the name of a question.
 fn word_of(about: Topic) -> Option<&'static str> {
     match about {
-        Topic::Changed => Some("<MOMENT>"),
+        Topic::Changed | Topic::Note => Some("<MOMENT>"),
         Topic::Object | Topic::Messages | Topic::Lineage => Some("<KOID>"),
         Topic::Handles | Topic::Handle => Some("<PROCESS>"),
+        Topic::Find => Some("<TEXT>"),
         _ => None,
     }
 }
@@ -109,10 +110,10 @@ fn nearest(name: &str) -> Option<&'static str> {
 }
 
 /// Returns the names of all questions.
-fn questions() -> [&'static str; 11] {
+fn questions() -> [&'static str; 13] {
     [
         "calls", "changed", "events", "object", "handles", "messages", "branches", "summary",
-        "alive", "handle", "lineage",
+        "alive", "handle", "lineage", "note", "find",
     ]
 }
 
@@ -158,7 +159,7 @@ fn last_in_common(name: &[u8], other: &[u8]) -> usize {
 /// The list of all questions.
 fn known_questions() -> &'static str {
     "unknown question
-  [questions: calls, changed, events, object, handles, messages, branches, summary, alive, handle, lineage]"
+  [questions: calls, changed, events, object, handles, messages, branches, summary, alive, handle, lineage, note, find]"
 }
 
 /// What is said about a word of `run`, up to the name of the similar question.
@@ -170,29 +171,32 @@ fn of_run() -> &'static str {
 fn form_of(about: Topic) -> &'static str {
     match about {
         Topic::Calls => calls_form(),
-        Topic::Changed => "[--names] changed <MOMENT> [OTHER]",
-        Topic::Branches => "[--names] branches",
+        Topic::Changed => "[--names] [--notes] changed <MOMENT> [OTHER]",
+        Topic::Branches => "[--names] [--notes] branches",
+        Topic::Note => "note <MOMENT>",
         _ => form_on_path(about),
     }
 }
 
 /// Returns how the question about calls is asked.
 fn calls_form() -> &'static str {
-    "[--at <MOMENT> | --branch <NAME>] [--names] calls [FROM [TO]] [--failed] [--process <P>] [--object <K>]"
+    "[--at <MOMENT> | --branch <NAME> | --all] [--names] [--notes] calls [FROM [TO]] [--failed] [--process <P>] [--object <K>]"
 }
 
 /// Returns how the other questions about a path are asked.
 fn form_on_path(about: Topic) -> &'static str {
     match about {
         Topic::Events => {
-            "[--at <MOMENT> | --branch <NAME>] [--names] events [made] [ended] [peer_closed] [leaked]"
+            "[--at <MOMENT> | --branch <NAME> | --all] [--names] [--notes] events [made] [ended] [peer_closed] [leaked]"
         }
-        Topic::Object => "[--at <MOMENT> | --branch <NAME>] [--names] object <KOID>",
-        Topic::Handles => "[--at <MOMENT> | --branch <NAME>] [--names] handles <PROCESS>",
-        Topic::Messages => "[--at <MOMENT> | --branch <NAME>] [--names] messages <KOID>",
-        Topic::Alive => "[--at <MOMENT> | --branch <NAME>] [--names] alive [--since <M>]",
-        Topic::Handle => "[--at <MOMENT> | --branch <NAME>] [--names] handle <PROCESS> <VALUE>",
-        Topic::Lineage => "[--at <MOMENT> | --branch <NAME>] [--names] lineage <KOID>",
-        _ => "[--at <MOMENT> | --branch <NAME>] [--names] summary",
+        Topic::Object => "[--at <MOMENT> | --branch <NAME>] [--names] [--notes] object <KOID>",
+        Topic::Handles => "[--at <MOMENT> | --branch <NAME>] [--names] [--notes] handles <PROCESS>",
+        Topic::Messages => "[--at <MOMENT> | --branch <NAME>] [--names] [--notes] messages <KOID>",
+        Topic::Alive => "[--at <MOMENT> | --branch <NAME>] [--names] [--notes] alive [--since <M>]",
+        Topic::Handle =>
+            "[--at <MOMENT> | --branch <NAME>] [--names] [--notes] handle <PROCESS> <VALUE>",
+        Topic::Lineage => "[--at <MOMENT> | --branch <NAME>] [--names] [--notes] lineage <KOID>",
+        Topic::Find => "[--at <MOMENT> | --branch <NAME> | --all] [--names] [--notes] find <TEXT>",
+        _ => "[--at <MOMENT> | --branch <NAME>] [--names] [--notes] summary",
     }
 }

@@ -5,7 +5,7 @@ ghost use Rattle.std.specs.List.{list_all, list_any};
 ghost use Rattle.std.specs.Option.{option_map};
 ghost use Rattle.std.specs.Result.{result_ok};
 ghost use Rattle.std.specs.Str.{bytes_eq};
-ghost use Rattle.zt_words.specs.Questions.{alive_question, all_happenings, between_question, calls_question, changed_question, first_of_calls, handle_of, handle_question, handle_word, happenings_of, has_option_of_calls, has_other_option, is_happening, is_named, is_of_path, koid_word, last_of_calls, late_topic_named, moment_word, named_happenings, number_up_to, one_koid, one_word, other_topic_named, plain_question, question_of, question_on, topic_named, without_words};
+ghost use Rattle.zt_words.specs.Questions.{alive_question, all_happenings, between_question, calls_question, changed_question, find_question, first_of_calls, handle_of, handle_question, handle_word, happenings_of, has_option_of_calls, has_other_option, has_other_place, is_happening, is_named, is_of_branches, is_of_path, koid_word, last_of_calls, late_topic_named, moment_word, named_happenings, note_question, number_up_to, one_koid, one_word, other_topic_named, plain_question, question_of, question_on, question_there, topic_named, without_words};
 
 use zt_look::{CallFilter, HappeningSet};
 use zt_rows::{HandleValue, Koid, LAST_MOMENT, Moment};
@@ -24,6 +24,8 @@ pub enum Topic {
     Alive,
     Handle,
     Lineage,
+    Note,
+    Find,
 }
 
 /// A question with its values.
@@ -53,6 +55,10 @@ pub enum Question {
     Handle(Koid, HandleValue),
     /// The handles that named an object.
     Lineage(Koid),
+    /// The note of a moment.
+    Note(Moment),
+    /// The calls of the path that have a text in their line or note. The text is in `Look`.
+    Find,
 }
 
 /// The options that only some questions have.
@@ -60,6 +66,8 @@ pub enum Question {
 pub struct Options {
     /// Whether `--at` or `--branch` is given.
     pub placed: bool,
+    /// Whether `--all` is given.
+    pub all: bool,
     pub failed: bool,
     pub process: Option<Koid>,
     pub object: Option<Koid>,
@@ -114,7 +122,7 @@ fn other_topic_named(name: &str) -> Option<Topic>
     }
 }
 
-/// Returns the topic of the question with this name, among the last three.
+/// Returns the topic of the question with this name, among the last five.
 fn late_topic_named(name: &str) -> Option<Topic>
     ensures { result ≡ late_topic_named name.now }
 {
@@ -124,6 +132,10 @@ fn late_topic_named(name: &str) -> Option<Topic>
         Some(Topic::Handle)
     } else if name == "lineage" {
         Some(Topic::Lineage)
+    } else if name == "note" {
+        Some(Topic::Note)
+    } else if name == "find" {
+        Some(Topic::Find)
     } else {
         None
     }
@@ -133,21 +145,41 @@ fn late_topic_named(name: &str) -> Option<Topic>
 fn question_on(about: Topic, words: &[&str], options: &Options) -> Option<Question>
     ensures { result ≡ question_on about (map (λ s. s.now) words.now) options.now }
 {
+    if has_other_place(about, options) {
+        None
+    } else {
+        question_there(about, words, options)
+    }
+}
+
+/// Returns the question about this topic if it can be asked where the options say.
+fn question_there(about: Topic, words: &[&str], options: &Options) -> Option<Question>
+    ensures { result ≡ question_there about (map (λ s. s.now) words.now) options.now }
+{
     match about {
         Topic::Calls => calls_question(words, options),
         Topic::Alive => alive_question(words, options),
-        _ if has_other_option(about, options) => None,
+        _ if has_other_option(options) => None,
         _ => plain_question(about, words),
     }
 }
 
-/// Whether an option is given that questions about this topic do not have.
-fn has_other_option(about: Topic, options: &Options) -> bool
-    ensures { result ≡ has_other_option about options.now }
+/// Whether the options ask where questions about this topic cannot be asked.
+fn has_other_place(about: Topic, options: &Options) -> bool
+    ensures { result ≡ has_other_place about options.now }
 {
-    has_option_of_calls(options)
-        || options.since.is_some()
-        || (options.placed && !is_of_path(about))
+    if options.all {
+        options.placed || !is_of_branches(about)
+    } else {
+        options.placed && !is_of_path(about)
+    }
+}
+
+/// Whether an option is given that only questions about calls or what is alive have.
+fn has_other_option(options: &Options) -> bool
+    ensures { result ≡ has_other_option options.now }
+{
+    has_option_of_calls(options) || options.since.is_some()
 }
 
 /// Whether an option is given that only questions about calls have.
@@ -162,8 +194,18 @@ fn is_of_path(about: Topic) -> bool
     ensures { result ≡ is_of_path about }
 {
     match about {
-        Topic::Changed | Topic::Branches => false,
+        Topic::Changed | Topic::Branches | Topic::Note => false,
         _ => true,
+    }
+}
+
+/// Whether questions about this topic can be asked of all branches.
+fn is_of_branches(about: Topic) -> bool
+    ensures { result ≡ is_of_branches about }
+{
+    match about {
+        Topic::Calls | Topic::Events | Topic::Find => true,
+        _ => false,
     }
 }
 
@@ -182,6 +224,8 @@ fn plain_question(about: Topic, words: &[&str]) -> Option<Question>
         Topic::Summary => without_words(words, Question::Summary),
         Topic::Handle => handle_question(words),
         Topic::Lineage => Some(Question::Lineage(one_koid(words)?)),
+        Topic::Note => note_question(words),
+        Topic::Find => find_question(words),
     }
 }
 
@@ -258,6 +302,25 @@ fn handle_of(process: &str, value: &str) -> Option<Question>
     let process = koid_word(process)?;
     let value = handle_word(value)?;
     Some(Question::Handle(process, value))
+}
+
+/// Returns the question about the note of the moment that the only word names.
+fn note_question(words: &[&str]) -> Option<Question>
+    ensures { result ≡ note_question (map (λ s. s.now) words.now) }
+{
+    Some(Question::Note(moment_word(one_word(words)?)?))
+}
+
+/// Returns the question which calls have a text, if the only word is a text of one byte or more.
+fn find_question(words: &[&str]) -> Option<Question>
+    ensures { result ≡ find_question (map (λ s. s.now) words.now) }
+{
+    let text = one_word(words)?;
+    if text.is_empty() {
+        None
+    } else {
+        Some(Question::Find)
+    }
 }
 
 /// Returns the first moment of the calls: the first word, or 1 without words.

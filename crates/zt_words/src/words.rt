@@ -1,10 +1,10 @@
 //! Reads the words of a command line, and those of `zxtt`.
 
-ghost use Rattle.std.specs.Prelude.{◌≡◌, IfOk, codes, false, map, string_bytes};
+ghost use Rattle.std.specs.Prelude.{◌≡◌, IfOk, [], codes, false, map, string_bytes};
 ghost use Rattle.clap.specs.Words.{HasMatchesOf, app_of, found_of, new_app, rows_of, rule_of, subcommand_of, subcommand_rows_of, with_rule};
 ghost use Rattle.clap.specs.declared.builder.command.Command.TheViews.{out-Command as fields_of};
 ghost use Rattle.zt_words.specs.Rules.{flag, valued};
-ghost use Rattle.zt_words.specs.Words.{IsAskedBy, IsAskedWith, IsRunOf, IsStandardInput, IsServeOf, IsLookedFor, clients_word, command_line, file_word, port_word, run_line, serve_line, talk_line};
+ghost use Rattle.zt_words.specs.Words.{IsAskedBy, IsAskedWith, IsRunOf, IsStandardInput, IsServeOf, IsLookedFor, clients_word, command_line, file_word, notes_word, port_word, run_line, save_line, serve_line, talk_line};
 
 use crate::fault::Fault;
 use crate::look_words::{Look, flag_in, look_command, look_of};
@@ -47,6 +47,11 @@ fn save_help() -> &'static str {
 /// The help of `--save-tree`.
 fn save_tree_help() -> &'static str {
     "Writes the whole tree as a session file at the end: all branches, and where each client is"
+}
+
+/// The help of the `--notes` of `run`.
+fn notes_help() -> &'static str {
+    "Writes the notes and names of TRACE to the file of --save too; --save-tree always does"
 }
 
 /// The help of `--clients`.
@@ -101,6 +106,8 @@ pub struct RunWords<'a> {
     pub from: Option<&'a str>,
     /// The file to which the history of `main` is saved.
     pub save: Option<&'a str>,
+    /// Whether notes and names are saved there too.
+    pub notes: bool,
     /// The file to which the whole tree is saved.
     pub save_tree: Option<&'a str>,
     /// Whether refused lines are explained.
@@ -205,6 +212,7 @@ fn unasked<'a>() -> Asked<'a>
         file: "-",
         from: None,
         save: None,
+        notes: false,
         save_tree: None,
         explain: false,
     })
@@ -243,6 +251,7 @@ fn run_of<'a>(words: &ArgMatches<'a>) -> Asked<'a>
         file: words.get_str("FILE").unwrap_or("-"),
         from: words.get_str("from"),
         save: words.get_str("save"),
+        notes: flag_in(words, "notes"),
         save_tree: words.get_str("save-tree"),
         explain: flag_in(words, "explain"),
     })
@@ -306,6 +315,27 @@ fn save_word<'a>(alloc: Global) -> Arg<'a>
         .value_name("OUT")
         .action(ArgAction::Set)
         .help(save_help())
+}
+
+/// The flag `--notes` of `run`: notes and names are saved too. It needs `--save`.
+fn notes_word<'a>(alloc: Global) -> Result<Arg<'a>, Error>
+    ensures rule { IfOk result (λ arg. rule_of arg ≡ notes_word) }
+    ensures global { IfOk result (λ arg. arg.global ≡ false) }
+{
+    let word = notes_flag(alloc).requires_arg("save")?;
+    Ok(word)
+}
+
+/// The flag `--notes` of `run`, which does not need another option yet.
+fn notes_flag<'a>(alloc: Global) -> Arg<'a>
+    ensures rule { rule_of result ≡ flag (codes "notes") }
+    ensures global { result.global ≡ false }
+    ensures alone { result.needs.items ≡ [] }
+{
+    Arg::new(alloc, "notes")
+        .long("notes")
+        .action(ArgAction::SetTrue)
+        .help(notes_help())
 }
 
 /// The option `--save-tree`: the session text of the whole tree that the program writes.
@@ -399,11 +429,21 @@ fn run_command<'a>(alloc: Global) -> Result<Command<'a>, Error>
     ensures line { IfOk result (λ command. app_of command ≡ run_line) }
     ensures globals { IfOk result (λ command. (fields_of command).has_globals ≡ false) }
 {
-    let words = told_command(alloc, "run", run_about(), examples())
-        .arg(file_word(alloc))?
-        .arg(from_word(alloc))?
-        .arg(save_word(alloc))?;
+    let words = save_command(alloc)?.arg(notes_word(alloc)?)?;
     with_last_words(alloc, words)
+}
+
+/// Declares `run` with the words up to `--save`.
+fn save_command<'a>(alloc: Global) -> Result<Command<'a>, Error>
+    ensures line { IfOk result (λ command. app_of command ≡ save_line) }
+    ensures globals { IfOk result (λ command. (fields_of command).has_globals ≡ false) }
+{
+    Ok(
+        told_command(alloc, "run", run_about(), examples())
+            .arg(file_word(alloc))?
+            .arg(from_word(alloc))?
+            .arg(save_word(alloc))?,
+    )
 }
 
 /// Declares `serve`.

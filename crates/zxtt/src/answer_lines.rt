@@ -1,9 +1,11 @@
 //! Writes the lines of an answer to standard output.
 
-use std::alloc::AllocError;
+use std::alloc::{AllocError, Global};
 use std::io;
 use std::io::{BufWriter, Stdout, Write};
-use zt_rows::Refusal;
+use zt_notes::{Shape, has_text, shown};
+use zt_rows::{Moment, Refusal};
+use zt_text::Notes;
 
 /// Why an answer stopped.
 #[derive(Debug, Drop)]
@@ -36,27 +38,96 @@ impl From<io::Error> for Stopped {
     }
 }
 
-/// The buffered writer of an answer.
+/// Where the lines of an answer go.
 #[derive(Drop)]
-pub struct AnswerLines {
-    writer: BufWriter<Stdout>,
+enum Sink {
+    /// To standard output.
+    Output(BufWriter<Stdout>),
+    /// Into memory.
+    Memory(Vec<u8>),
+}
+
+/// The writer of an answer.
+#[derive(Drop)]
+pub struct AnswerLines<'a> {
+    alloc: Global,
+    sink: Sink,
+    notes: &'a Notes,
+    /// The shape of the lines, if notes and names are shown in them.
+    shape: Option<Shape>,
     /// Whether any line was written.
     told: bool,
 }
 
-impl AnswerLines {
-    /// A writer without any lines yet.
-    pub fn new(rt: &HostRuntime) -> Result<AnswerLines, Stopped> {
+impl<'a> AnswerLines<'a> {
+    /// A writer without any lines yet. It shows the notes and names in lines of this shape, if one is given.
+    pub fn new(
+        rt: &HostRuntime,
+        notes: &'a Notes,
+        shape: Option<Shape>,
+    ) -> Result<AnswerLines<'a>, Stopped> {
         Ok(AnswerLines {
-            writer: BufWriter::new(rt.alloc(), rt.stdout())?,
+            alloc: rt.alloc(),
+            sink: Sink::Output(BufWriter::new(rt.alloc(), rt.stdout())?),
+            notes,
+            shape,
             told: false,
         })
     }
 
+    /// A writer into memory without any lines yet. It shows no notes and no names.
+    pub fn in_memory(alloc: Global, notes: &'a Notes) -> AnswerLines<'a> {
+        AnswerLines {
+            alloc,
+            sink: Sink::Memory(Vec::new(alloc)),
+            notes,
+            shape: None,
+            told: false,
+        }
+    }
+
     /// Writes more lines.
     pub fn write(&mut self, text: Vec<u8>) -> Result<(), Stopped> {
+        match self.shape {
+            Some(shape) => {
+                let text = shown(self.alloc, text.as_slice(), shape, self.notes)?;
+                self.put(text.as_slice())
+            }
+            None => self.put(text.as_slice()),
+        }
+    }
+
+    /// Whether the line of a call or the call's note has this text. Names in the line count if they are asked for.
+    pub fn has(
+        &self,
+        line: &[u8],
+        moment: Moment,
+        text: &[u8],
+        with_names: bool,
+    ) -> Result<bool, AllocError> {
+        if has_text(line, text) || has_text(self.notes.note(moment), text) {
+            return Ok(true);
+        }
+        if !with_names {
+            return Ok(false);
+        }
+        let noted = shown(self.alloc, line, Shape::Calls, self.notes)?;
+        Ok(has_text(noted.as_slice(), text))
+    }
+
+    /// Writes the note of a moment as it stands.
+    pub fn write_note(&mut self, moment: Moment) -> Result<(), Stopped> {
+        let notes = self.notes;
+        self.put(notes.note(moment))
+    }
+
+    /// Writes these bytes as they are.
+    pub fn put(&mut self, text: &[u8]) -> Result<(), Stopped> {
         self.told = self.told || !text.is_empty();
-        self.writer.write_all(text.as_slice())?;
+        match &mut self.sink {
+            Sink::Output(writer) => writer.write_all(text)?,
+            Sink::Memory(bytes) => bytes.extend_from_slice(text)?,
+        }
         Ok(())
     }
 
@@ -65,9 +136,15 @@ impl AnswerLines {
         self.told
     }
 
-    /// Writes what is still in the buffer.
-    pub fn finish(mut self) -> Result<(), Stopped> {
-        self.writer.flush()?;
-        Ok(())
+    /// Writes what is still in the buffer, and returns the lines that went into memory.
+    pub fn finish(self) -> Result<Vec<u8>, Stopped> {
+        let alloc = self.alloc;
+        match self.sink {
+            Sink::Output(mut writer) => {
+                writer.flush()?;
+                Ok(Vec::new(alloc))
+            }
+            Sink::Memory(bytes) => Ok(bytes),
+        }
     }
 }

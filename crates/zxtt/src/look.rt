@@ -1,37 +1,99 @@
 //! Answers one question about a session text.
 
-ghost use Rattle.std.specs.Prelude.{◌≡◌};
+ghost use Rattle.std.specs.Prelude.{◌≡◌, ◌||◌, IfOk};
 ghost use Rattle.zt_history.specs.HistoryRefusals.{moment_on};
+ghost use Rattle.zxtt.specs.Finding.{every_call};
 ghost use Rattle.zxtt.specs.LookedAt.{head_named, path_end};
+ghost use Rattle.zxtt.specs.NotedAnswers.{json_shape, needs_notes, noted_shape, shape_of};
+ghost use Rattle.zxtt.specs.Traces.{IsReadOf};
 
+use crate::all_branches::{calls_asked, events_asked};
 use crate::answer_lines::{AnswerLines, Stopped};
-use crate::files::load_looked;
+use crate::files::{load_looked, load_looked_noted};
 use crate::leave;
 use std::alloc::Global;
+use zt_console::Book;
 use zt_history::{BranchId, History};
+use zt_json::json_lines;
 use zt_lineage::{Ending, LifeStep, Place, life};
 use zt_look::{
     AliveObject, BranchLook, CallFilter, CallMade, Change, HappeningSet, LineageStep, Naming,
-    ObjectEvent, ObjectLook, QueuedMessage, alive, branches, calls, changed, changed_between,
-    events, handles_at, kind_of_call, kinds_between, lineage, messages, object_at, print_alive,
-    print_branch, print_call_count, print_call_made, print_change, print_event, print_fate,
-    print_handle, print_life_end, print_life_step, print_lineage_step, print_object,
-    print_queued_message, print_when, print_whereabouts, summary,
+    ObjectEvent, ObjectLook, QueuedMessage, alive, branches, changed, changed_between, handles_at,
+    kind_of_call, kinds_between, lineage, messages, object_at, print_alive, print_branch,
+    print_call_count, print_call_made, print_change, print_event, print_fate, print_handle,
+    print_life_end, print_life_step, print_lineage_step, print_object, print_queued_message,
+    print_when, print_whereabouts, summary,
 };
-use zt_rows::{Call, HandleValue, Happening, Koid, Moment, Refusal};
+use zt_notes::Shape;
+use zt_rows::{Call, HandleValue, Happening, Koid, LAST_MOMENT, Moment, Refusal};
+use zt_text::Notes;
 use zt_words::{Fault, Look, Question};
 
 /// Answers a question on standard output, and returns whether the answer has a line. If nobody reads the output any more, it
 /// ends at once without an error.
 pub fn look(rt: &HostRuntime, asked: &Look<'_>) -> Result<bool, Fault> {
-    let book = load_looked(rt, asked.file)?;
+    let (book, notes) = load_asked(rt, asked)?;
     let mut history = book.into_history();
     let mut told = false;
-    let done = answer(rt, &mut history, asked, &mut told);
+    let done = answer(rt, &mut history, &notes, asked, &mut told);
     leave(history);
+    leave(notes);
     match done {
         Ok(()) | Err(Stopped::Unread) => Ok(told),
         Err(Stopped::By(refusal)) => Err(Fault::Refused(refusal)),
+    }
+}
+
+/// Loads the session text that is looked at, with its notes if the question needs them.
+fn load_asked(rt: &HostRuntime, asked: &Look<'_>) -> Result<(Book, Notes), Fault>
+    ensures loaded { IfOk result (λ read. IsReadOf (needs_notes (asked.now.notes || asked.now.json) asked.now.question) 1 read.0 read.1) }
+{
+    if needs_notes(asked) {
+        load_looked_noted(rt, asked.file)
+    } else {
+        let book = load_looked(rt, asked.file)?;
+        Ok((book, Notes::none(rt.alloc())))
+    }
+}
+
+/// Whether notes are shown, as they are in JSON too, or the question is about notes.
+fn needs_notes(asked: &Look<'_>) -> bool
+    ensures { result ≡ needs_notes (asked.now.notes || asked.now.json) asked.now.question }
+{
+    match asked.question {
+        Question::Note(_) | Question::Find => true,
+        _ => asked.notes || asked.json,
+    }
+}
+
+/// Returns the shape of the lines in which notes and names are shown, if they are. The lines of a note are shown as they stand.
+fn noted_shape(asked: &Look<'_>) -> Option<Shape>
+    ensures { result ≡ noted_shape asked.now.notes asked.now.question }
+{
+    if asked.notes {
+        shape_of(asked.question)
+    } else {
+        None
+    }
+}
+
+/// Returns the shape of a question's lines, if they show calls, koids or handles.
+fn shape_of(question: Question) -> Option<Shape>
+    ensures { result ≡ shape_of question }
+{
+    match question {
+        Question::Calls(_) | Question::Find => Some(Shape::Calls),
+        Question::Changed(_) | Question::ChangedBetween(_, _) => Some(Shape::Changes),
+        Question::Events(_) => Some(Shape::Events),
+        Question::Object(_) => Some(Shape::Object),
+        Question::Handles(process) => Some(Shape::Handles(process)),
+        Question::Messages(_) => Some(Shape::Messages),
+        Question::Branches => Some(Shape::Branches),
+        Question::Summary => Some(Shape::Summary),
+        Question::Alive(_) => Some(Shape::Alive),
+        Question::Handle(_, _) => Some(Shape::Life),
+        Question::Lineage(_) => Some(Shape::Lineage),
+        Question::Note(_) => None,
     }
 }
 
@@ -39,15 +101,73 @@ pub fn look(rt: &HostRuntime, asked: &Look<'_>) -> Result<bool, Fault> {
 fn answer(
     rt: &HostRuntime,
     history: &mut History,
+    notes: &Notes,
     asked: &Look<'_>,
     told: &mut bool,
 ) -> Result<(), Stopped> {
     let at = path_end(history, asked.at, asked.branch)?;
-    let mut lines = AnswerLines::new(rt)?;
+    if asked.json {
+        return answer_in_json(rt, history, notes, at, asked, told);
+    }
+    let mut lines = AnswerLines::new(rt, notes, noted_shape(asked))?;
     let done = answer_at(rt.alloc(), &mut lines, history, at, asked);
     *told = lines.told();
     done?;
+    lines.finish()?;
+    Ok(())
+}
+
+/// Answers a question in JSON, and notes whether the answer has a line. The answer is asked for twice, since an object has its
+/// masks as they are and by the names of their bits.
+fn answer_in_json(
+    rt: &HostRuntime,
+    history: &mut History,
+    notes: &Notes,
+    at: Moment,
+    asked: &Look<'_>,
+    told: &mut bool,
+) -> Result<(), Stopped> {
+    let masked = answer_lines(rt.alloc(), history, notes, at, asked, false)?;
+    let named = answer_lines(rt.alloc(), history, notes, at, asked, true)?;
+    let mut lines = AnswerLines::new(rt, notes, None)?;
+    *told = !masked.is_empty();
+    let shape = json_shape(asked.question);
+    let text = json_lines(
+        rt.alloc(),
+        masked.as_slice(),
+        named.as_slice(),
+        shape,
+        notes,
+    )?;
+    lines.put(text.as_slice())?;
+    lines.finish()?;
+    Ok(())
+}
+
+/// Returns the lines of an answer, with masks or with the names of bits.
+fn answer_lines(
+    alloc: Global,
+    history: &mut History,
+    notes: &Notes,
+    at: Moment,
+    asked: &Look<'_>,
+    names: bool,
+) -> Result<Vec<u8>, Stopped> {
+    let asked = Look { names, ..*asked };
+    let mut lines = AnswerLines::in_memory(alloc, notes);
+    answer_at(alloc, &mut lines, history, at, &asked)?;
     lines.finish()
+}
+
+/// Returns the shape of a question's lines in JSON. The lines of a note have not the form of calls, so each is an object with the
+/// line itself.
+fn json_shape(question: Question) -> Shape
+    ensures { result ≡ json_shape question }
+{
+    match shape_of(question) {
+        Some(shape) => shape,
+        None => Shape::Calls,
+    }
 }
 
 /// Returns the moment at the end of the path.
@@ -87,19 +207,19 @@ fn head_named(history: &History, name: &str) -> Result<Moment, Refusal>
 /// Answers the question about the path to a moment.
 fn answer_at(
     alloc: Global,
-    lines: &mut AnswerLines,
+    lines: &mut AnswerLines<'_>,
     history: &mut History,
     at: Moment,
     asked: &Look<'_>,
 ) -> Result<(), Stopped> {
     let names = asked.names;
     match asked.question {
-        Question::Calls(filter) => write_calls(alloc, lines, history, at, &filter, names),
+        Question::Calls(filter) => write_calls(alloc, lines, history, at, &filter, asked),
         Question::Changed(moment) => write_changes(alloc, lines, history, moment, names),
         Question::ChangedBetween(from, to) => {
             write_changes_between(alloc, lines, history, from, to, names)
         }
-        Question::Events(wanted) => write_events(alloc, lines, history, at, &wanted, names),
+        Question::Events(wanted) => write_events(alloc, lines, history, at, &wanted, asked),
         Question::Object(koid) => write_object(alloc, lines, history, at, koid, names),
         Question::Handles(process) => write_handles(alloc, lines, history, at, process, names),
         Question::Messages(koid) => write_messages(alloc, lines, history, at, koid, names),
@@ -110,24 +230,86 @@ fn answer_at(
             write_life(alloc, lines, history, at, process, value, names)
         }
         Question::Lineage(koid) => write_lineage(alloc, lines, history, at, koid, names),
+        Question::Note(moment) => lines.write_note(moment_there(history, moment)?),
+        Question::Find => write_found(alloc, lines, history, at, asked),
     }
 }
 
-/// Writes the calls of the path that the filter selects.
+/// Writes the calls that the filter selects, of the path or of all branches.
 fn write_calls(
     alloc: Global,
-    lines: &mut AnswerLines,
+    lines: &mut AnswerLines<'_>,
     history: &mut History,
     at: Moment,
     filter: &CallFilter,
-    names: bool,
+    asked: &Look<'_>,
 ) -> Result<(), Stopped> {
-    let list = calls(alloc, history, at, filter)?;
+    let list = calls_asked(alloc, history, at, filter, asked.all)?;
     for made in &list {
-        let naming = naming_of_call(history, made, names)?;
-        lines.write(print_call_made(alloc, made, naming)?)?;
+        write_call(alloc, lines, history, made, asked.names)?;
     }
     Ok(())
+}
+
+/// Writes the calls that have the text in their lines or notes, of the path or of all branches.
+fn write_found(
+    alloc: Global,
+    lines: &mut AnswerLines<'_>,
+    history: &mut History,
+    at: Moment,
+    asked: &Look<'_>,
+) -> Result<(), Stopped> {
+    let list = calls_asked(alloc, history, at, &every_call(), asked.all)?;
+    for made in &list {
+        if is_found(alloc, lines, history, made, asked)? {
+            write_call(alloc, lines, history, made, asked.names)?;
+        }
+    }
+    Ok(())
+}
+
+/// Whether a call has the text in its line or note. In JSON an object has names, and masks as they are.
+fn is_found(
+    alloc: Global,
+    lines: &AnswerLines<'_>,
+    history: &mut History,
+    made: &CallMade,
+    asked: &Look<'_>,
+) -> Result<bool, Stopped> {
+    let naming = naming_of_call(history, made, asked.names && !asked.json)?;
+    let line = print_call_made(alloc, made, naming)?;
+    let with_names = asked.notes || asked.json;
+    Ok(lines.has(
+        line.as_slice(),
+        made.moment,
+        asked.text.as_bytes(),
+        with_names,
+    )?)
+}
+
+/// Writes a call with its reply.
+fn write_call(
+    alloc: Global,
+    lines: &mut AnswerLines<'_>,
+    history: &mut History,
+    made: &CallMade,
+    names: bool,
+) -> Result<(), Stopped> {
+    let naming = naming_of_call(history, made, names)?;
+    lines.write(print_call_made(alloc, made, naming)?)
+}
+
+/// Returns the filter that selects every call of a path.
+fn every_call() -> CallFilter
+    ensures { result ≡ every_call }
+{
+    CallFilter {
+        first: Moment(1),
+        last: Moment(LAST_MOMENT),
+        failed: false,
+        process: None,
+        object: None,
+    }
 }
 
 /// Returns how to print a call. If names are asked for, the kind of the object decides the names of its signals.
@@ -142,7 +324,7 @@ fn naming_of_call(history: &mut History, made: &CallMade, names: bool) -> Result
 /// Writes the rows that the call of a moment changed.
 fn write_changes(
     alloc: Global,
-    lines: &mut AnswerLines,
+    lines: &mut AnswerLines<'_>,
     history: &mut History,
     moment: Moment,
     names: bool,
@@ -158,7 +340,7 @@ fn write_changes(
 /// Writes the rows that differ between the states of two moments.
 fn write_changes_between(
     alloc: Global,
-    lines: &mut AnswerLines,
+    lines: &mut AnswerLines<'_>,
     history: &mut History,
     from: Moment,
     to: Moment,
@@ -174,7 +356,7 @@ fn write_changes_between(
 /// Writes rows that differ, with masks.
 fn write_masked_changes(
     alloc: Global,
-    lines: &mut AnswerLines,
+    lines: &mut AnswerLines<'_>,
     list: &[Change],
 ) -> Result<(), Stopped> {
     for change in list {
@@ -186,7 +368,7 @@ fn write_masked_changes(
 /// Writes the rows that differ between two moments, with names.
 fn write_named_changes(
     alloc: Global,
-    lines: &mut AnswerLines,
+    lines: &mut AnswerLines<'_>,
     history: &mut History,
     from: Moment,
     to: Moment,
@@ -203,18 +385,18 @@ fn write_named_changes(
     Ok(())
 }
 
-/// Writes the wanted happenings to objects on the path.
+/// Writes the wanted happenings to objects, on the path or on all branches.
 fn write_events(
     alloc: Global,
-    lines: &mut AnswerLines,
+    lines: &mut AnswerLines<'_>,
     history: &mut History,
     at: Moment,
     wanted: &HappeningSet,
-    names: bool,
+    asked: &Look<'_>,
 ) -> Result<(), Stopped> {
-    let list = events(alloc, history, at, wanted)?;
+    let list = events_asked(alloc, history, at, wanted, asked.all)?;
     for event in &list {
-        write_event(alloc, lines, history, event, names)?;
+        write_event(alloc, lines, history, event, asked.names)?;
     }
     Ok(())
 }
@@ -222,7 +404,7 @@ fn write_events(
 /// Writes one event, with the call of its moment.
 fn write_event(
     alloc: Global,
-    lines: &mut AnswerLines,
+    lines: &mut AnswerLines<'_>,
     history: &History,
     event: &ObjectEvent,
     names: bool,
@@ -236,7 +418,7 @@ fn write_event(
 /// Writes an object at the end of the path, and when each of the four happenings happened to it.
 fn write_object(
     alloc: Global,
-    lines: &mut AnswerLines,
+    lines: &mut AnswerLines<'_>,
     history: &mut History,
     at: Moment,
     koid: Koid,
@@ -251,7 +433,7 @@ fn write_object(
 /// Writes when each of the four happenings happened to an object.
 fn write_times(
     alloc: Global,
-    lines: &mut AnswerLines,
+    lines: &mut AnswerLines<'_>,
     history: &History,
     object: &ObjectLook,
     names: bool,
@@ -279,7 +461,7 @@ fn write_times(
 /// Writes when one happening happened.
 fn write_time(
     alloc: Global,
-    lines: &mut AnswerLines,
+    lines: &mut AnswerLines<'_>,
     history: &History,
     what: Happening,
     moment: Option<Moment>,
@@ -303,7 +485,7 @@ fn call_at(history: &History, moment: Option<Moment>) -> Option<(Moment, Koid, &
 /// Writes the handles of a process at the end of the path.
 fn write_handles(
     alloc: Global,
-    lines: &mut AnswerLines,
+    lines: &mut AnswerLines<'_>,
     history: &mut History,
     at: Moment,
     process: Koid,
@@ -320,7 +502,7 @@ fn write_handles(
 /// Writes the messages that were queued at an endpoint on the path.
 fn write_messages(
     alloc: Global,
-    lines: &mut AnswerLines,
+    lines: &mut AnswerLines<'_>,
     history: &mut History,
     at: Moment,
     koid: Koid,
@@ -336,7 +518,7 @@ fn write_messages(
 /// Writes one message, with the call that wrote it and the call that ended it.
 fn write_message(
     alloc: Global,
-    lines: &mut AnswerLines,
+    lines: &mut AnswerLines<'_>,
     history: &History,
     queued: &QueuedMessage,
     names: bool,
@@ -356,7 +538,7 @@ fn write_message(
 /// Writes the branches of the tree.
 fn write_branches(
     alloc: Global,
-    lines: &mut AnswerLines,
+    lines: &mut AnswerLines<'_>,
     history: &History,
 ) -> Result<(), Stopped> {
     let list = branches(alloc, history)?;
@@ -369,7 +551,7 @@ fn write_branches(
 /// Writes one branch.
 fn write_branch(
     alloc: Global,
-    lines: &mut AnswerLines,
+    lines: &mut AnswerLines<'_>,
     history: &History,
     branch: &BranchLook,
 ) -> Result<(), Stopped> {
@@ -392,7 +574,7 @@ fn name_of(history: &History, id: BranchId) -> &[u8] {
 /// Writes how the calls of the path were answered, and what became of the objects.
 fn write_summary(
     alloc: Global,
-    lines: &mut AnswerLines,
+    lines: &mut AnswerLines<'_>,
     history: &mut History,
     at: Moment,
 ) -> Result<(), Stopped> {
@@ -409,7 +591,7 @@ fn write_summary(
 /// Writes what was made behind a moment of the path and is alive at its end, with the calls that made it.
 fn write_alive(
     alloc: Global,
-    lines: &mut AnswerLines,
+    lines: &mut AnswerLines<'_>,
     history: &mut History,
     at: Moment,
     since: Moment,
@@ -425,7 +607,7 @@ fn write_alive(
 /// Writes one object that is alive, with the call that made it.
 fn write_alive_object(
     alloc: Global,
-    lines: &mut AnswerLines,
+    lines: &mut AnswerLines<'_>,
     history: &History,
     object: &AliveObject,
     names: bool,
@@ -439,7 +621,7 @@ fn write_alive_object(
 /// Writes the life of a handle on the path: its steps, how it ended, if it did, and where it is at the end of the path.
 fn write_life(
     alloc: Global,
-    lines: &mut AnswerLines,
+    lines: &mut AnswerLines<'_>,
     history: &mut History,
     at: Moment,
     process: Koid,
@@ -456,7 +638,7 @@ fn write_life(
 /// Writes the steps of a handle's life, each with the call of its moment.
 fn write_steps(
     alloc: Global,
-    lines: &mut AnswerLines,
+    lines: &mut AnswerLines<'_>,
     history: &History,
     steps: &[LifeStep],
     names: bool,
@@ -473,7 +655,7 @@ fn write_steps(
 /// Writes how a handle ended after its last step, if it did, and where it is.
 fn write_whereabouts(
     alloc: Global,
-    lines: &mut AnswerLines,
+    lines: &mut AnswerLines<'_>,
     history: &History,
     last: &Option<LifeStep>,
     ended: &Option<(Moment, Ending)>,
@@ -491,7 +673,7 @@ fn write_whereabouts(
 /// Writes how a handle ended after its last step, with the call of the moment.
 fn write_end(
     alloc: Global,
-    lines: &mut AnswerLines,
+    lines: &mut AnswerLines<'_>,
     history: &History,
     last: &LifeStep,
     moment: Moment,
@@ -509,7 +691,7 @@ fn write_end(
 /// Writes the handles that named an object on the path, in the order of their tree.
 fn write_lineage(
     alloc: Global,
-    lines: &mut AnswerLines,
+    lines: &mut AnswerLines<'_>,
     history: &mut History,
     at: Moment,
     koid: Koid,
@@ -525,7 +707,7 @@ fn write_lineage(
 /// Writes one handle that named an object, with how it came and how it left.
 fn write_lineage_step(
     alloc: Global,
-    lines: &mut AnswerLines,
+    lines: &mut AnswerLines<'_>,
     history: &History,
     step: &LineageStep,
     names: bool,

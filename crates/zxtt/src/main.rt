@@ -2,12 +2,15 @@
 #![tactic(auto)]
 
 ghost use Rattle.std.specs.Prelude.{◌≡◌, ◌≤◌, length, IfErr, IfOk};
+ghost use Rattle.zt_book.specs.Log.{first_book};
 ghost use Rattle.zt_rows.specs.declared.refusals.Refusal.{Refusal};
 ghost use Rattle.zt_console.specs.declared.run_loop.End.TheVariants.{Finished, Stopped};
 ghost use Rattle.zt_shared.specs.Sharing.{IsFresh};
+ghost use Rattle.zt_text.specs.Notes.{none_noted};
 ghost use Rattle.zt_words.specs.declared.fault.Fault.TheVariants.{Refused};
 ghost use Rattle.zxtt.specs.Traces.{BeginsFrom};
 
+mod all_branches;
 mod answer_lines;
 mod attended_reader;
 mod connections;
@@ -19,9 +22,10 @@ mod terminal;
 mod typed_reader;
 
 use attended_reader::Attended;
-use files::{load, save, save_tree};
+use files::{load, load_noted, save, save_tree};
 use look::look;
 use service::serve;
+use std::alloc::Global;
 use std::io::Read;
 use std::mem::forget;
 use std::process::ExitCode;
@@ -29,6 +33,7 @@ use terminal::Attendant;
 use typed_reader::TypedLines;
 use zt_console::{Book, Counted, End, run_heard};
 use zt_files::{open, warn_ahead};
+use zt_text::Notes;
 use zt_words::{Asked, Fault, RunWords, ServeWords, Words, answered, ended};
 
 fn main(rt: HostRuntime) -> ExitCode {
@@ -39,9 +44,10 @@ fn main(rt: HostRuntime) -> ExitCode {
     let done = match words.asked(rt.alloc()) {
         Ok(Asked::Run(asked)) => run_asked(&rt, &asked),
         Ok(Asked::Serve(asked)) => match begin_to_serve(&rt, &asked) {
-            Ok(book) => save_served(
+            Ok((book, notes)) => save_served(
                 &rt,
                 serve(&rt, asked.port, asked.clients, asked.explain, book),
+                notes,
                 asked.save_tree,
             ),
             Err(fault) => Err(fault),
@@ -76,31 +82,34 @@ fn traces_stand() -> &'static str {
 
 /// Runs the lines of a file. Then it saves the history of `main` and the whole tree, if files are named.
 fn run_asked(rt: &HostRuntime, words: &RunWords<'_>) -> Result<(), Fault> {
-    let book = begin(rt, 1, words.from)?;
+    let keeps = words.notes || words.save_tree.is_some();
+    let (book, notes) = begin(rt, 1, words.from, keeps)?;
     let book = run_file(rt, book, words)?;
-    let saved = save_asked(rt, &book, words.save, words.save_tree);
+    let saved = save_asked(rt, &book, &notes, words);
     leave(book);
+    leave(notes);
     saved
 }
 
-/// Makes the book to serve. If the tree could not be saved at the end, it says so before it listens.
-fn begin_to_serve(rt: &HostRuntime, words: &ServeWords<'_>) -> Result<Book, Fault>
-    ensures { IfOk result (IsFresh words.now.clients) }
+/// Makes the book to serve, with the notes to save. If the tree could not be saved at the end, it says so before it listens.
+fn begin_to_serve(rt: &HostRuntime, words: &ServeWords<'_>) -> Result<(Book, Notes), Fault>
+    ensures { IfOk result (λ begun. IsFresh words.now.clients begun.0) }
 {
-    let book = begin(rt, words.clients, words.from)?;
+    let begun = begin(rt, words.clients, words.from, words.save_tree.is_some())?;
     warn_ahead(rt, "zxtt", words.save_tree);
-    Ok(book)
+    Ok(begun)
 }
 
-/// Saves the history of `main`, and then the whole tree, if files are named.
+/// Saves the history of `main`, with notes if they are asked for, and then the whole tree with them, if files are named.
 fn save_asked(
     rt: &HostRuntime,
     book: &Book,
-    to: Option<&str>,
-    tree_to: Option<&str>,
+    notes: &Notes,
+    words: &RunWords<'_>,
 ) -> Result<(), Fault> {
-    save(rt, book, to)?;
-    save_tree(rt, book, tree_to)
+    let with = if words.notes { Some(notes) } else { None };
+    save(rt, book, with, words.save)?;
+    save_tree(rt, book, notes, words.save_tree)
 }
 
 /// Never frees a value that is needed until the end: the system frees all memory at once when the process exits.
@@ -108,30 +117,55 @@ pub(crate) fn leave<T: Drop>(kept: T) {
     forget(kept);
 }
 
-/// Saves the whole tree of a book that was served, if a file is named.
+/// Saves the whole tree of a book that was served, with these notes, if a file is named.
 fn save_served(
     rt: &HostRuntime,
     served: Result<Book, Fault>,
+    notes: Notes,
     tree_to: Option<&str>,
 ) -> Result<(), Fault> {
     let book = served?;
-    let saved = save_tree(rt, &book, tree_to);
+    let saved = save_tree(rt, &book, &notes, tree_to);
     leave(book);
+    leave(notes);
     saved
 }
 
-/// Makes a book with this many clients at the opening, or loads a trace if one is named.
-fn begin(rt: &HostRuntime, clients: u8, from: Option<&str>) -> Result<Book, Fault>
-    ensures begins { IfOk result (BeginsFrom clients from.entry) }
-    ensures clients { IfOk result (λ book. length book.session.clients ≡ clients) }
-    ensures fresh { IfOk result (IsFresh clients) }
+/// Makes a book with this many clients at the opening, or loads a trace if one is named, with its notes if they are to be kept.
+fn begin(
+    rt: &HostRuntime,
+    clients: u8,
+    from: Option<&str>,
+    keeps: bool,
+) -> Result<(Book, Notes), Fault>
+    ensures begins { IfOk result (λ begun. BeginsFrom clients from.entry keeps begun.0 begun.1) }
+    ensures clients { IfOk result (λ begun. length begun.0.session.clients ≡ clients) }
+    ensures fresh { IfOk result (λ begun. IsFresh clients begun.0) }
 {
     match from {
-        Some(path) => load(rt, clients, path),
-        None => match Book::new(rt.alloc(), clients) {
-            Ok(book) => Ok(book),
-            Err(refusal) => Err(Fault::Refused(refusal)),
-        },
+        Some(path) if keeps => load_noted(rt, clients, path),
+        Some(path) => without_notes(rt, load(rt, clients, path)),
+        None => without_notes(rt, first_book(rt.alloc(), clients)),
+    }
+}
+
+/// Makes a book with this many clients at the opening.
+fn first_book(alloc: Global, clients: u8) -> Result<Book, Fault>
+    ensures { IfOk result (λ book. book ≡ first_book clients) }
+{
+    match Book::new(alloc, clients) {
+        Ok(book) => Ok(book),
+        Err(refusal) => Err(Fault::Refused(refusal)),
+    }
+}
+
+/// Adds that there are no notes.
+fn without_notes(rt: &HostRuntime, begun: Result<Book, Fault>) -> Result<(Book, Notes), Fault>
+    ensures { IfOk result (λ both. (begun ≡ Ok both.0) × (both.1 ≡ none_noted)) }
+{
+    match begun {
+        Ok(book) => Ok((book, Notes::none(rt.alloc()))),
+        Err(fault) => Err(fault),
     }
 }
 
