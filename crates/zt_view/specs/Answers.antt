@@ -5,7 +5,7 @@ use Rattle.http.specs.Request.{body_of, head_of}
 use Rattle.http_uri.specs.Uri.{uri_path, uri_query}
 use Rattle.http_server.specs.declared.response.Response.{Response}
 use Rattle.zt_rows.specs.declared.refusals.Refusal.{Refusal}
-use Rattle.zt_text.specs.SavedTexts.{saved_text}
+use Rattle.zt_text.specs.NotedTexts.{noted_saved_text}
 use Rattle.zt_book.specs.Log.{BookView, standing_of}
 use Rattle.zt_book.specs.SavedSessions.{saved_of_session}
 use Rattle.zt_console.specs.Explored.{AsksExplored}
@@ -23,7 +23,7 @@ use Rattle.zt_view.specs.Responses.{HasStatus, IsFailure, IsGuarded, IsRefusal, 
 
 -- the view holds this book, and all else is as before
 abbrev pub Holds : Option BookView → View → View → Type 0
-Holds book old new = (new.book ≡ book) × (new.own ≡ old.own) × (new.start ≡ old.start) × (new.trace ≡ old.trace) × (new.is_ended ≡ old.is_ended)
+Holds book old new = (new.book ≡ book) × (new.own ≡ old.own) × (new.start ≡ old.start) × (new.trace ≡ old.trace) × (new.notes ≡ old.notes) × (new.is_ended ≡ old.is_ended)
 
 -- the request is refused, and nothing is changed
 abbrev pub Refuses : View → Response → View → Type 0
@@ -61,10 +61,11 @@ AnswersLines old lines response new =
 
 -- ---- the tree, and questions about it
 
+-- the tree's session text, with the notes and names of the text with which the history began
 abbrev pub AnswersTree : Option BookView → View → Response → View → Type 0
 AnswersTree None old response new = Refuses old response new
 AnswersTree (Some book) old response new =
-    Tells old.start.bytes 200 (saved_text (saved_of_session book.session)) response × Holds old.book old new
+    Tells old.start.bytes 200 (noted_saved_text old.notes (saved_of_session book.session)) response × Holds old.book old new
 
 -- what is found of the question, or why nothing is, is told
 abbrev pub TellsOf : List ℕ → ViewQuestion → BookView → Response → Type 0
@@ -86,7 +87,7 @@ AnswersWish (Ok asked.Lines) old body response new = AnswersLines old body respo
 AnswersWish (Ok asked.Tree) old body response new = AnswersTree old.book old response new
 AnswersWish (Ok (asked.Answer question)) old body response new = AnswersQuestion question old response new
 AnswersWish (Ok asked.End) old body response new =
-    HasStatus old.start.bytes 200 response × (new.book ≡ old.book) × (new.own ≡ old.own) × (new.start ≡ old.start) × (new.trace ≡ old.trace) × (new.is_ended ≡ true)
+    HasStatus old.start.bytes 200 response × (new.book ≡ old.book) × (new.own ≡ old.own) × (new.start ≡ old.start) × (new.trace ≡ old.trace) × (new.notes ≡ old.notes) × (new.is_ended ≡ true)
 AnswersWish (Err lack) old body response new =
     Tells old.start.bytes (lack_status lack) (lack_text lack) response × Holds old.book old new
 

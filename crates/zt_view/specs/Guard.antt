@@ -40,7 +40,8 @@ IsOwnSite site = (site ≡ codes "same-origin") ⊎ (site ≡ codes "none")
 abbrev pub IsAskedOnSite : List FieldValue → Type 0
 IsAskedOnSite sites = (sites ≡ []) ⊎ ((site : FieldValue) × (sites ≡ site ∷ []) × IsOwnSite site.bytes)
 
--- The target names no server, the one host is this server, and so is each origin; no other site has a browser ask.
+-- The request is for this server alone: its target names none, its one host and all its origins are this server, and no browser
+-- says that another site asks.
 pub record IsAdmitted (own : Own) (target : Target) (headers : Entries FieldValue) : Type 0 where
   pub scheme : uri_scheme target ≡ None
   pub authority : uri_authority target ≡ None

@@ -11,7 +11,7 @@ most_ranges = 16384
 abbrev pub is_next : ℕ → ℕ → Bool
 is_next moment next = next == moment + 1
 
--- the moment ahead of these ranges: the first of them begins with it, where it is the one before
+-- these ranges with a moment ahead: it begins the first of them, if it comes right before that, or else is a range of its own
 abbrev pub begun_by : ℕ → List MomentRange → List MomentRange
 begun_by moment [] = record { first = moment; last = moment } ∷ []
 begun_by moment (range ∷ ranges) =
@@ -23,7 +23,7 @@ abbrev pub ranges_of : List ℕ → List MomentRange
 ranges_of [] = []
 ranges_of (moment ∷ moments) = begun_by moment (ranges_of moments)
 
--- those from one of them on
+-- the moments that are not before this one, in ranges
 abbrev pub ranges_from : ℕ → List ℕ → List MomentRange
 ranges_from from moments = ranges_of (filter (λ moment. nat_le from moment) moments)
 

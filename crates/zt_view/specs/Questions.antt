@@ -72,8 +72,8 @@ IsAnswer (question.Lineage koid at) t text =
     (list : List LineageStep) × (lineage_on t at koid ≡ Ok list) × (text ≡ flat_map (lineage_text t.made) list)
 IsAnswer question.Branches t text = text ≡ flat_map (branch_text t) (branches_of t)
 
--- why nothing is told of something at a moment: the moment is looked for first, without memory; where it is there, memory may be
--- refused on the way to it, ahead of what is looked for
+-- why nothing is told of something at a moment: the tree has no such moment, which is told without memory; or else memory was
+-- refused on the way to it, or what is looked for is refused there
 abbrev pub IsRefusedAt : {A : Type 0} → Result ℕ Refusal → Result A Refusal → Refusal → Type 0
 IsRefusedAt (Err reason) found given = given ≡ reason
 IsRefusedAt (Ok _) found given = IsRefusedWhen found given

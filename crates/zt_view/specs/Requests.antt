@@ -204,7 +204,7 @@ method_of asked.Tree = codes "GET"
 method_of (asked.Answer _) = codes "GET"
 method_of asked.End = codes "POST"
 
--- what another method lacks
+-- the lack that is told, if this is asked for by another method
 abbrev pub method_lack : ViewRequest → Lack
 method_lack (asked.Page _) = lack.AskedByGet
 method_lack asked.Lines = lack.AskedByPost

@@ -12,7 +12,8 @@ use bytes::Bytes;
 use http::{HeaderValue, Request, StatusCode};
 use http_server::{Response, Service};
 use std::alloc::{AllocError, Global};
-use zt_console::{Book, tree_text};
+use zt_console::{Book, tree_text_with};
+use zt_text::Notes;
 
 /// The history that the requests share.
 #[derive(Drop)]
@@ -23,6 +24,8 @@ pub struct View {
     pub start: HeaderValue,
     /// The name of the trace with which the history began; empty if it began at the opening.
     pub trace: Vec<u8>,
+    /// The notes and names of that trace.
+    pub notes: Notes,
     /// The history. It is `None` only while lines are answered.
     pub book: Option<Book>,
     /// Whether the view was asked to end.
@@ -38,19 +41,21 @@ impl View {
     ghost use Rattle.http_header.specs.FieldValue.{plain_value};
     ghost use Rattle.zt_view.specs.Guard.{IsOwnOf};
 
-    /// Makes a view of a book with at least one client, at a port. `trace` is the name of its trace, and `start` the number of
-    /// this start of the program.
+    /// Makes a view of a book with at least one client, at a port. `trace` is the name of its trace, `notes` what the comments of
+    /// that have, and `start` the number of this start of the program.
     pub fn new(
         alloc: Global,
         port: u16,
         start: u64,
         trace: &str,
+        notes: Notes,
         book: Book,
     ) -> Result<View, AllocError>
         requires { 1 ≤ length book.session.clients }
         ensures own { IfOk result (λ view. IsOwnOf port view.own) }
         ensures start { IfOk result (λ view. view.start ≡ plain_value (decimal start)) }
         ensures trace { IfOk result (λ view. view.trace.items ≡ trace.now) }
+        ensures notes { IfOk result (λ view. view.notes ≡ notes) }
         ensures book { IfOk result (λ view. view.book ≡ Some book) }
         ensures goes_on { IfOk result (λ view. view.is_ended ≡ false) }
     {
@@ -59,6 +64,7 @@ impl View {
             own: Own::new(alloc, port)?,
             start: HeaderValue::from_u64(alloc, start)?,
             trace: Vec::from_slice(alloc, trace.as_bytes())?,
+            notes,
             book: Some(book),
             is_ended: false,
         })
@@ -122,14 +128,14 @@ impl View {
         }
     }
 
-    /// Answers with the session text of the whole tree.
+    /// Answers with the session text of the whole tree, with the notes and names.
     fn answer_tree(&self, response: &mut Response)
         requires { IsBlank response.old }
         ensures { AnswersTree self.now.book self.now response.new self.now }
     {
         match &self.book {
             Some(book) => {
-                let text = tree_text(self.alloc, book);
+                let text = tree_text_with(self.alloc, book, &self.notes);
                 fill_found(self.alloc, response, &self.start, text);
             }
             None => refuse(response, &self.start, StatusCode::INTERNAL_SERVER_ERROR),

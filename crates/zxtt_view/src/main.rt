@@ -18,6 +18,7 @@ use words::{Asked, read_words};
 use zt_console::Book;
 use zt_files::warn_ahead;
 use zt_rows::Refusal;
+use zt_text::Notes;
 use zt_view::View;
 use zt_words::{Fault, Words, ended};
 
@@ -38,11 +39,11 @@ fn main(rt: HostRuntime) -> ExitCode {
 
 /// Loads the book, listens on a port, and says where the page is.
 fn begin(rt: &HostRuntime, asked: &Asked<'_>) -> Result<(TcpListener, View), Fault> {
-    let book = begun(rt, asked.from)?;
+    let (book, notes) = begun(rt, asked.from)?;
     let (listener, port) = listen(rt, asked.port)?;
     warn_ahead(rt, "zxtt-view", asked.save_tree);
     let trace = file_name(asked.from.unwrap_or(""));
-    let view = match View::new(rt.alloc(), port, start_number(rt), trace, book) {
+    let view = match View::new(rt.alloc(), port, start_number(rt), trace, notes, book) {
         Ok(view) => view,
         Err(_) => return Err(Fault::of_memory()),
     };
@@ -95,14 +96,14 @@ fn say(rt: &HostRuntime, port: u16) -> Result<(), Fault> {
     }
 }
 
-/// Makes a book with one client at the opening, or loads a trace if one is named.
-fn begun(rt: &HostRuntime, from: Option<&str>) -> Result<Book, Fault>
-    ensures { IfOk result (λ book. 1 ≤ length book.session.clients) }
+/// Makes a book with one client at the opening, without notes, or loads a trace with its notes if one is named.
+fn begun(rt: &HostRuntime, from: Option<&str>) -> Result<(Book, Notes), Fault>
+    ensures { IfOk result (λ begun. 1 ≤ length begun.0.session.clients) }
 {
     match from {
         Some(path) => load(rt, path),
         None => match Book::new(rt.alloc(), 1) {
-            Ok(book) => Ok(book),
+            Ok(book) => Ok((book, Notes::none(rt.alloc()))),
             Err(refusal) => Err(Fault::Refused(refusal)),
         },
     }

@@ -63,7 +63,7 @@ pub fn index() -> &'static str {
             <option value="koid">koid</option>
           </select>
           <input id="search" type="search" autocomplete="off" spellcheck="false" placeholder="Search calls (/)"
-            title="A text or a number; or a process and a handle, such as 1025 7" aria-label="Search calls">
+            title="A text of a call, a note or a name; a number; or a process and a handle, such as 1025 7" aria-label="Search calls">
           <label class="check"><input type="checkbox" id="failed-only"> failed only</label>
         </form>
         <div id="timeline" role="listbox" tabindex="0" aria-label="Calls on the branch">
@@ -124,6 +124,9 @@ pub fn index() -> &'static str {
         <div class="head">
           <h2 id="handle-title">Life of a handle</h2>
           <span class="note" id="handle-note"></span>
+          <form class="naming" id="handle-naming">
+            <input id="handle-name" autocomplete="off" spellcheck="false" maxlength="64" placeholder="name" title="Name of this handle">
+          </form>
           <button type="button" id="handle-close" aria-label="Close the life of the handle">Close</button>
         </div>
         <div id="handle" tabindex="0" role="region" aria-labelledby="handle-title"></div>
@@ -132,6 +135,9 @@ pub fn index() -> &'static str {
         <div class="head">
           <h2 id="object-title">Object</h2>
           <span class="note" id="object-note"></span>
+          <form class="naming" id="object-naming" hidden>
+            <input id="object-name" autocomplete="off" spellcheck="false" maxlength="64" placeholder="name" title="Name of this object">
+          </form>
         </div>
         <div id="object" tabindex="0" role="region" aria-labelledby="object-title"></div>
       </section>
@@ -141,7 +147,7 @@ pub fn index() -> &'static str {
   <dialog id="end-dialog" aria-labelledby="end-title">
     <h2 id="end-title">Quit zxtt-view?</h2>
     <p>The server stops, and this page can load nothing more. zxtt-view writes the tree only if you started it with
-      <code>--save-tree</code>. You can download the tree first.</p>
+      <code>--save-tree</code>. You can download the tree first. Names that you gave are only in the download.</p>
     <form method="dialog">
       <a class="button" href="/tree" download="tree.trace">Download tree</a>
       <span class="space"></span>
@@ -158,7 +164,8 @@ pub fn index() -> &'static str {
       <dt><kbd>Page Up</kbd> <kbd>Page Down</kbd></dt><dd>20 rows up, 20 rows down</dd>
       <dt><kbd>Home</kbd> <kbd>End</kbd></dt><dd>to the start, to the head of the branch</dd>
       <dt><kbd>/</kbd></dt><dd>search; <kbd>Enter</kbd> goes to the next match, <kbd>Shift+Enter</kbd> to the previous one,
-        <kbd>Escape</kbd> clears the search. A process and a handle, such as <code>1025 7</code>, find the life of that handle</dd>
+        <kbd>Escape</kbd> clears the search. A process and a handle, such as <code>1025 7</code>, find the life of that handle. Paste a
+        text of a log to go to the first call whose note or names have it</dd>
       <dt><kbd>g</kbd></dt><dd>go to a moment</dd>
       <dt><kbd>Escape</kbd></dt><dd>deselect the object and the handle</dd>
       <dt><kbd>?</kbd></dt><dd>this help</dd>
@@ -166,6 +173,8 @@ pub fn index() -> &'static str {
     <p><b>Moment</b> n is the state after the n-th answered call, counted over all branches. Moment 0 is the start. You can make
       calls only at the head of a branch. To try another future, go to a moment and make a branch there. Other branches
       stay as they are.</p>
+    <p>The <b>note</b> of a call is the comment ahead of it in the trace. Names of objects and handles are in comments too. You can give
+      names in the panels of the object and the handle. They are in the tree that you download.</p>
     <p>An object is <b>leaked</b> if it exists but no process can reach it. Click a koid to select its object. Click a handle
       to see its life: the steps by which it came where it is. Hover over rights, signals and bytes for details.</p>
     <form method="dialog"><span class="space"></span><button id="help-close">Close</button></form>

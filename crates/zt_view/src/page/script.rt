@@ -4,8 +4,8 @@
 pub fn script() -> &'static str {
     r#"// zxtt-view: what the page does.
 //
-// The page keeps nothing of its own but where one stands: all that it shows it asks the server for, and each request says the
-// moment or the branch that it is about, so that several pages can look at one history.
+// The page keeps nothing of its own but where one stands, and the names that a person gives: all else that it shows it asks the server
+// for, and each request says the moment or the branch that it is about, so that several pages can look at one history.
 //
 // Parts of the page, by their ids:
 //   trace                                            the name of the file that the history began with
@@ -17,10 +17,12 @@ pub fn script() -> &'static str {
 //   graph, leaks                                     who holds whom, and what is leaked
 //   handle-panel, handle, handle-close               the life of the handle that is picked, and the handles of its object
 //   object                                           the object that is picked
+//   object-name, handle-name                         the names of these two, which can be given here
 //   download, help, end, end-confirm, end-cancel     the session text of the tree, help, the end
 //   trouble                                          what went wrong
 // A link to an object has the class koid and data-koid, a handle the class handle, data-process and data-handle, a handle in a message
-// the class handle and data-message, and a link to a moment the class go and data-go.
+// the class handle and data-message, and a link to a moment the class go and data-go. A name has the class called, a note the class
+// remark.
 'use strict';
 
 // ---- What the lines are made of ----
@@ -197,20 +199,25 @@ function tellBegunAnew() {
   showTrouble(new Trouble('zxtt-view was restarted. This page now shows its new history.', false));
 }
 
-/** What the server answers to a path; to a body that is posted, where there is one. */
-async function ask(path, body) {
+/** What the server answers to a path, as a text; to a body that is posted, where there is one. */
+function ask(path, body) {
+  return askAs(path, (response) => response.text(), body);
+}
+
+/** What is read of the server's answer to a path. */
+async function askAs(path, read, body) {
   let response;
-  let text;
+  let found;
   try {
     response = await fetch(path, body === undefined ? {cache: 'no-store'} : {method: 'POST', body});
-    text = await response.text();
+    found = await (response.ok ? read(response) : response.text());
   } catch (fault) {
     throw new Trouble('The server does not answer. This page shows what it loaded last.', true);
   }
   if (!isShownStart(response)) return beginAnew();
   if (isToldGone) hideTrouble();
-  if (!response.ok) throw new Trouble(text.trim() || `The server answered with status ${response.status}.`, false);
-  return text;
+  if (!response.ok) throw new Trouble(found.trim() || `The server answered with status ${response.status}.`, false);
+  return found;
 }
 
 /** The answers to lines, as lines. */
@@ -380,6 +387,231 @@ function placeIn(list, number) {
     else high = middle;
   }
   return low;
+}
+
+// ---- Notes and names: what the comments of the trace say ----
+
+// Notes are kept by their moments. Names are kept by what they name, in the words of a name line such as `name 1028` or
+// `handle 1025 7`: the names that the trace has, and those that were given on this page. A name that was taken away here is empty.
+// `front` has the places where the name lines of the tree's text begin and end.
+const notes = [];
+const toldNames = new Map();
+const givenNames = new Map();
+const front = {begin: 0, end: 0};
+
+const GIVEN_NAMES = 'zxtt-names';
+const MOST_NAME = 64; // bytes
+const MOST_NAME_LINE = 9 + 20 + 1 + 10 + 1 + MOST_NAME; // `# handle P H TEXT`
+const NAME_LINE = /^# (name (\d+)|handle (\d+) (\d+)) (.+)$/s;
+const CONTROLS = /[\u0000-\u001f\u007f-\u009f]/;
+// What would hide other text, or show it in another order.
+const UNSEEN = /[\u0000-\u0008\u000b-\u001f\u007f-\u009f\u202a-\u202e\u2066-\u2069]/g;
+
+function ofKoid(koid) {
+  return `name ${koid}`;
+}
+
+function ofHandle(process, handle) {
+  return `handle ${process} ${handle}`;
+}
+
+/** The name of what these words name, or an empty text. */
+function nameOf(words) {
+  const given = givenNames.get(words);
+  return given === undefined ? toldNames.get(words) || '' : given;
+}
+
+/** A koid with its name behind it, where only a text can be put. */
+function withName(koid) {
+  const name = nameOf(ofKoid(koid));
+  return name ? `${koid} ${name}` : koid;
+}
+
+const text8 = new TextDecoder('utf-8', {ignoreBOM: true});
+const exact8 = new TextDecoder('utf-8', {ignoreBOM: true, fatal: true});
+
+/** A name line: what it names, and the name; or null where a comment is none. */
+function readNameLine(bytes) {
+  const isNone = bytes.length > MOST_NAME_LINE || (bytes[2] !== 110 && bytes[2] !== 104);
+  const found = isNone ? null : NAME_LINE.exec(exactly(bytes));
+  if (!found) return null;
+  const [, words, koid, process, handle, name] = found;
+  const isNamed = koid ? isBelow(koid, 64) : isBelow(process, 64) && isBelow(handle, 32);
+  return isNamed && bytesIn(name) <= MOST_NAME && !CONTROLS.test(name) ? {words, name} : null;
+}
+
+/** Bytes as a text, or an empty text where they are none. */
+function exactly(bytes) {
+  try {
+    return exact8.decode(bytes);
+  } catch (fault) {
+    return '';
+  }
+}
+
+function isBelow(number, bits) {
+  return isNumber(number) && BigInt(number) < 2n ** BigInt(bits);
+}
+
+function bytesIn(text) {
+  return new TextEncoder().encode(text).length;
+}
+
+/** What a comment says: without its mark, and the space behind that. */
+function readComment(bytes) {
+  return text8.decode(bytes.subarray(bytes[1] === 32 ? 2 : 1)).replace(UNSEEN, '\ufffd');
+}
+
+const PLACES = ['branch ', 'cursor '].map((word) => [...word].map((letter) => letter.charCodeAt(0)));
+
+/** Takes notes and names from the lines of a session text, in their order. */
+class NotesReader {
+  constructor() {
+    this.notes = [];
+    this.names = new Map();
+    this.front = {begin: 0, end: 0};
+    this.place = 0; // in the text, behind the lines that were taken
+    this.moment = 0;
+    this.comments = [];
+  }
+
+  /** Takes a line: the bytes from one place to another. */
+  take(bytes, from, to) {
+    const isFirst = this.place === 0;
+    const begin = this.place;
+    this.place += to + 1 - from;
+    if (isFirst) this.front = {begin: this.place, end: this.place};
+    else if (bytes[from] === 35 && to > from) this.takeComment(bytes.subarray(from, to), begin);
+    else if (to > from) this.takeItem(PLACES.some((word) => word.every((letter, at) => bytes[from + at] === letter)));
+  }
+
+  takeComment(bytes, begin) {
+    const named = readNameLine(bytes);
+    if (!named) this.comments.push(readComment(bytes));
+    else this.names.set(named.words, named.name.replace(UNSEEN, '\ufffd'));
+    if (named && begin === this.front.end) this.front.end = this.place;
+  }
+
+  takeItem(isPlace) {
+    if (!isPlace) this.moment += 1;
+    if (!isPlace && this.comments.length) this.notes[this.moment] = this.comments.join('\n');
+    if (this.comments.length) this.comments = [];
+  }
+}
+
+/** Gives each line of a body to a reader as it comes, so that nothing has to hold all of it. */
+async function readLines(body, reader) {
+  const source = body.getReader();
+  let pieces = []; // of a line that has not ended yet
+  for (let part = await source.read(); !part.done; part = await source.read()) {
+    let from = 0;
+    for (let to = part.value.indexOf(10); to >= 0; to = part.value.indexOf(10, from)) {
+      if (pieces.length) takePieces(reader, [...pieces, part.value.subarray(0, to)]);
+      else reader.take(part.value, from, to);
+      if (pieces.length) pieces = [];
+      from = to + 1;
+    }
+    if (from < part.value.length) pieces.push(part.value.slice(from));
+  }
+  return reader;
+}
+
+function takePieces(reader, pieces) {
+  const line = new Uint8Array(pieces.reduce((sum, piece) => sum + piece.length, 0));
+  let at = 0;
+  for (const piece of pieces) {
+    line.set(piece, at);
+    at += piece.length;
+  }
+  reader.take(line, 0, line.length);
+}
+
+let readingNotes = null;
+
+/** Reads the notes and names of the trace, once: what comes to the history later has none. */
+function readNotes() {
+  readingNotes = readingNotes || askAs('/tree', (response) => readLines(response.body, new NotesReader())).then(takeNotes);
+  readingNotes.catch(() => {
+    readingNotes = null;
+  });
+  return readingNotes;
+}
+
+function takeNotes(reader) {
+  Object.assign(front, reader.front);
+  reader.notes.forEach((note, moment) => {
+    notes[moment] = note;
+  });
+  for (const [words, name] of reader.names) toldNames.set(words, name);
+  if (notes.length || toldNames.size) drawNamed();
+}
+
+/** Shows the name of what these words name in the field of a panel; not while a person types there. Without words there is no field. */
+function showNaming(panel, words, label) {
+  const field = part(`${panel}-name`);
+  part(`${panel}-naming`).hidden = !words;
+  if (!words || (field.dataset.names === words && document.activeElement === field)) return;
+  field.dataset.names = words;
+  field.value = nameOf(words);
+  field.setAttribute('aria-label', label);
+}
+
+/** Gives the name that is typed, which is done by Enter and by leaving the field. */
+function nameTyped({target}) {
+  forgetRefusal();
+  attempt(async () => giveName(target.dataset.names, target.value));
+}
+
+/** Gives a name to what these words name, or takes it away where it is empty. */
+function giveName(words, text) {
+  const name = text.trim();
+  if (bytesIn(name) > MOST_NAME) throw new Trouble(`A name has at most ${MOST_NAME} bytes. This one has ${bytesIn(name)}.`, false);
+  if (name.search(UNSEEN) >= 0 || CONTROLS.test(name)) throw new Trouble('A name has only printable characters.', false);
+  givenNames.set(words, name);
+  if (name === (toldNames.get(words) || '')) givenNames.delete(words);
+  sessionStorage.setItem(GIVEN_NAMES, JSON.stringify({start: shownStart, names: [...givenNames]}));
+  drawNamed();
+}
+
+/** The names that were given on this page ahead of its being loaded anew. */
+function takeGivenNames() {
+  const {start, names} = JSON.parse(sessionStorage.getItem(GIVEN_NAMES) || '{}');
+  if (!start || start !== shownStart) return;
+  for (const [words, name] of names) givenNames.set(words, name);
+}
+
+/** Downloads the tree with the names that were given, where there are any. Else the link itself leads to it. */
+function downloadNamed(event) {
+  if (!givenNames.size) return;
+  event.preventDefault();
+  attempt(async () => {
+    const link = make('a', '');
+    link.href = URL.createObjectURL(await treeNamed());
+    link.download = event.target.download;
+    link.click();
+    setTimeout(() => URL.revokeObjectURL(link.href), 60000);
+  });
+}
+
+/** The text of the tree with the names that were given in the place of those that its name lines had. */
+async function treeNamed() {
+  await readNotes();
+  const tree = await askAs('/tree', (response) => response.blob());
+  const lines = linesOf(await tree.slice(front.begin, front.end).text()).filter((line) => !givenNames.has(NAME_LINE.exec(line)[1]));
+  for (const [words, name] of givenNames) if (name) lines.push(`# ${words} ${name}`);
+  return new Blob([tree.slice(0, front.begin), ...lines.map((line) => `${line}\n`), tree.slice(front.end)]);
+}
+
+/** Draws anew all that may show a note or a name. */
+function drawNamed() {
+  clearRows();
+  if (view.filter) search();
+  else drawTimeline(false);
+  drawCallForm();
+  if (shown.moment >= 0) drawMoment();
+  loadObjectNow();
+  part('handle').dataset.life = '';
+  loadHandleNow();
 }
 
 // ---- A state, and what a call changed of it ----
@@ -604,6 +836,7 @@ async function load(moment) {
   else for (const each of passed) shown.state.step(each, way.isBack);
   Object.assign(shown, {moment, change, isLeaksKnown: false});
   drawMoment();
+  attempt(readNotes);
   later('leaks', shown.state.size > 2000 ? 120 : 0, loadLeaks);
   later('object', 60, loadObject);
   later('handle', tree.parents.length > LONG ? 300 : 60, loadHandle);
@@ -754,12 +987,17 @@ function placeHash(moment, koid) {
   return `#moment=${moment}` + (koid ? `&object=${koid}` : '');
 }
 
-/** A link to an object, with its kind where that is asked for. */
+/** What stands behind a koid or a handle that has a name. */
+function nameTag(name) {
+  return name ? make('span', 'called', ` ${name}`) : null;
+}
+
+/** A link to an object, with its name, and with its kind where that is asked for. */
 function koidLink(koid, kind, isKindTold) {
-  const link = make('a', `koid ${kind || ''}`, koid);
+  const link = make('a', `koid ${kind || ''}`, koid, nameTag(nameOf(ofKoid(koid))));
   link.dataset.koid = koid;
   link.href = placeHash(view.wanted, koid);
-  link.title = `${KIND_NAMES[kind] || 'object'} ${koid}`;
+  link.title = `${KIND_NAMES[kind] || 'object'} ${withName(koid)}`;
   link.classList.toggle('picked', koid === view.object);
   link.classList.toggle('leaked', shown.leaks.has(koid));
   if (isKindTold && kind) link.append(' ', make('span', 'kind', KIND_NAMES[kind]));
@@ -770,12 +1008,13 @@ function objectLink(koid, isKindTold) {
   return koidLink(koid, kindIn(koid), isKindTold);
 }
 
-/** A handle of a process. What it names is looked up at the moment where it is clicked. */
+/** A handle of a process, with its name. What it refers to is looked up at the moment where it is clicked. */
 function handleLink(process, handle, moment) {
-  const link = make('a', 'handle', handle);
+  const name = nameOf(ofHandle(process, handle));
+  const link = make('a', 'handle', handle, nameTag(name));
   Object.assign(link.dataset, {process, handle, moment});
   link.tabIndex = -1;
-  link.title = `handle ${handle} of process ${process}: show its life`;
+  link.title = `handle ${name ? `${handle} ${name}` : handle} of process ${withName(process)}: show its life`;
   link.classList.toggle('picked', isPickedHandle(link.dataset));
   return link;
 }
@@ -893,6 +1132,7 @@ function drawPosition() {
 // ---- The timeline: rows are made for what is in sight, and calls are asked for as they come into sight ----
 
 const ROW = 22;
+const MOST_IN_ROW = 200; // characters of a note
 const MOST_PIXELS = 8000000;
 const WINDOW = 300;
 const rows = new Map();
@@ -995,11 +1235,17 @@ function makeRow(moment) {
   const happened = marks[moment] || [];
   const process = koidLink(call.process, 'process');
   process.tabIndex = -1;
-  const row = make('div', call.status === 'ok' ? 'row' : 'row failed', number, process, callWords(call), markOf(happened),
-    answerWords(call));
-  row.title = call.line.slice(0, 400);
+  const row = make('div', call.status === 'ok' ? 'row' : 'row failed', number, process, callWords(call), firstOfNote(moment),
+    markOf(happened), answerWords(call));
+  row.title = [call.line, ...(notes[moment] ? [notes[moment]] : [])].map((text) => text.slice(0, 400)).join('\n');
   if (happened.some((mark) => mark.what === 'leaked')) row.classList.add('leaks');
   return row;
+}
+
+/** The first line of a moment's note, as far as there may be room for it. */
+function firstOfNote(moment) {
+  const note = notes[moment];
+  return note ? make('span', 'remark', note.slice(0, MOST_IN_ROW).split('\n', 1)[0]) : null;
 }
 
 /** What happened to objects in a call, as one character with its words behind it. */
@@ -1116,7 +1362,27 @@ let searches = 0;
 function readFilter() {
   const text = part('search').value.trim();
   const isFailed = part('failed-only').checked;
-  return text || isFailed ? {kind: part('search-kind').value, text, isFailed} : null;
+  return text || isFailed ? {kind: part('search-kind').value, text, isFailed, ...namedBy(text)} : null;
+}
+
+// (the server looks for the calls that changed each of these objects)
+const MOST_SOUGHT = 4;
+
+/** How a text is looked for in names and notes: a number as a whole word, another text as a part. */
+function seekerOf(text) {
+  const sought = text.toLowerCase();
+  if (!isNumber(text)) return (told) => told.toLowerCase().includes(sought);
+  const word = new RegExp(`(^|[^0-9a-z_])${text}($|[^0-9a-z_])`, 'i');
+  return (told) => word.test(told);
+}
+
+/** The objects and the handles whose names have a text, and those of which it is the whole name. */
+function namedBy(text) {
+  const isIn = seekerOf(text);
+  const words = text ? [...new Set([...toldNames.keys(), ...givenNames.keys()])].filter((it) => isIn(nameOf(it))) : [];
+  const koids = words.filter((it) => it.startsWith('name ')).map((it) => it.slice('name '.length));
+  const wholly = words.filter((it) => it.startsWith('handle ') && nameOf(it).toLowerCase() === text.toLowerCase());
+  return {isIn, named: new Set(words), koids: koids.length > MOST_SOUGHT ? [] : koids, wholly};
 }
 
 /** The process and the value of the handle that is searched for, or null: two numbers. */
@@ -1126,11 +1392,34 @@ function handleSought({kind, text, isFailed}) {
   return isHandle && !isFailed && (kind === 'any' || kind === 'handle') ? {process, value} : null;
 }
 
+/** The one handle that has the whole text as its name, or null. */
+function handleCalled({kind, wholly, isFailed}) {
+  if (wholly.length !== 1 || isFailed || (kind !== 'any' && kind !== 'handle')) return null;
+  const [, process, value] = wholly[0].split(' ');
+  return {process, value};
+}
+
 /** Searches as a person asks. A handle that is searched for is picked. */
 function searchAsked() {
   search();
-  const sought = view.filter && handleSought(view.filter);
+  const sought = view.filter && (handleSought(view.filter) || handleCalled(view.filter));
   if (sought) attempt(() => pickSought(searches, sought));
+}
+
+/** Searches for what is typed a little later, and for what is pasted at once: then one stands at the first call that is found. */
+function searchTyped(event) {
+  const isPasted = ['insertFromPaste', 'insertFromDrop'].includes(event.inputType);
+  later('search', isPasted ? 0 : 180, () => {
+    searchAsked();
+    if (view.filter) view.filter.isPasted = isPasted;
+  });
+}
+
+/** Stands at the first call that is found, where the text was pasted. */
+function standAtFound({isPasted}) {
+  if (!isPasted || !view.found.length) return;
+  view.filter.isPasted = false;
+  go(view.found[0]);
 }
 
 async function pickSought(number, sought) {
@@ -1159,6 +1448,7 @@ async function searchAs(number, filter) {
     if (number === searches) isSearching = false;
   }
   drawTimeline(true);
+  standAtFound(filter);
 }
 
 /** Searches in the way that the filter wants, and says whether no later search has begun. */
@@ -1178,7 +1468,7 @@ function serverFilter(filter) {
   const words = filter.isFailed ? ['failed'] : [];
   if (filter.text === '') return words.join('&');
   const place = {process: 'process', koid: 'object'}[filter.kind];
-  if (!place || !isNumber(filter.text)) return null;
+  if (!place || !isNumber(filter.text) || filter.named.size) return null;
   return [...words, `${place}=${filter.text}`].join('&');
 }
 
@@ -1194,6 +1484,7 @@ async function searchThere(number, filter) {
     if (number !== searches) return false;
     view.found = view.found.concat(takeCalls(lines));
     drawTimeline(true);
+    standAtFound(filter);
   }
   return true;
 }
@@ -1203,25 +1494,55 @@ async function searchHere(number, filter) {
   for (const [first, last] of partsOfPath()) {
     const moments = momentsOf(first, last);
     if (!moments.every(isCallKnown)) await loadCalls(first, last);
+    const changed = await changedBy(filter, first, last);
     if (number !== searches) return false;
-    for (const moment of moments) if (isFound(calls[moment], filter)) view.found.push(moment);
+    for (const moment of moments) if (changed.has(moment) || isFound(calls[moment], filter)) view.found.push(moment);
     drawTimeline(true);
+    standAtFound(filter);
   }
   return true;
+}
+
+/** The calls of a part of the path that changed an object whose koid or name is searched for, where the kind of search asks for these. */
+async function changedBy({kind, text, isFailed, koids}, first, last) {
+  const found = new Set();
+  if (kind !== 'any' && kind !== 'koid') return found;
+  for (const koid of new Set([...koids, ...(kind === 'koid' && isNumber(text) ? [text] : [])])) {
+    const lines = linesOf(await ask(`/calls/${last}/${first}/${last}?${isFailed ? 'failed&' : ''}object=${koid}`));
+    for (const moment of takeCalls(lines)) found.add(moment);
+  }
+  return found;
 }
 
 function isFound(line, filter) {
   const call = readCall(line);
   const text = filter.text.toLowerCase();
   if (filter.isFailed && call.status === 'ok') return false;
-  if (filter.kind === 'process') return call.process === text;
+  if (filter.kind === 'process') return call.process === text || isNamed(ofKoid(call.process), filter);
   if (filter.kind === 'call') return call.name.includes(text);
   if (filter.kind === 'koid') return false;
-  if (filter.kind === 'handle') return handlesOf(call).includes(text);
-  if (isNumber(text)) return numbersOf(call).includes(text);
-  if (line.slice(line.indexOf(' ')).includes(text)) return true;
+  if (filter.kind === 'handle') return handlesOf(call).includes(text) || hasNamedHandle(call, filter);
+  if (isNumber(text) ? numbersOf(call).includes(text) : line.slice(line.indexOf(' ')).includes(text)) return true;
+  if (isTold(call, filter)) return true;
   // (what is shown as text stands in the line as digits)
-  return valuesOf(call, (sort) => sort === 'bytes').some((bytes) => (textOf(bytes) || '').toLowerCase().includes(text));
+  return !isNumber(text) && valuesOf(call, (sort) => sort === 'bytes').some((bytes) => (textOf(bytes) || '').toLowerCase().includes(text));
+}
+
+function isNamed(words, {named}) {
+  return named.size > 0 && named.has(words);
+}
+
+function hasNamedHandle(call, filter) {
+  return filter.named.size > 0 && handlesOf(call).some((handle) => isNamed(ofHandle(call.process, handle), filter));
+}
+
+/** Whether a call's note has what is searched for, or a name that is shown in its row. */
+function isTold(call, filter) {
+  const note = notes[call.moment];
+  if (note && filter.isIn(note)) return true;
+  if (!filter.named.size) return false;
+  const koids = [call.process, ...valuesOf(call, (sort) => sort === 'koid')];
+  return koids.some((koid) => isNamed(ofKoid(koid), filter)) || hasNamedHandle(call, filter);
 }
 
 /** The values of a call, in its arguments and its answer, that are of a sort. */
@@ -1413,9 +1734,10 @@ function isAtHead() {
 function drawCallForm() {
   const list = part('call-process');
   const processes = shown.state.processes().slice(0, 2000);
-  if ([...list.options].map((it) => it.value).join() !== processes.join()) {
+  const words = processes.map(withName);
+  if ([...list.options].map((it) => it.text).join() !== words.join()) {
     const chosen = list.value;
-    list.replaceChildren(...processes.map((koid) => new Option(koid, koid)));
+    list.replaceChildren(...processes.map((koid, at) => new Option(words[at], koid)));
     if (processes.includes(chosen)) list.value = chosen;
   }
   part('call-run').disabled = !isAtHead();
@@ -1485,10 +1807,34 @@ function drawChange() {
     box.replaceChildren(make('p', 'empty', 'The start: root job 1024 and root process 1025. No process has made a call yet.'));
     return;
   }
-  box.replaceChildren(make('div', 'said'), change.length ? sidesOf(change) : make('p', 'empty', 'This call changed no rows.'));
+  box.replaceChildren(...[make('div', 'said'), noteOf(moment),
+    change.length ? sidesOf(change) : make('p', 'empty', 'This call changed no rows.')].filter((it) => it));
   const left = change.length - MOST_CHANGES;
   if (left > 0) box.append(make('p', 'empty', `and ${counted(left, 'more row')}`));
   later('said', 0, drawSaid);
+}
+
+const MOST_OF_NOTE = 20000; // characters that are shown at once
+
+/** The note of a moment, or null where it has none. What is beyond the first part of a very long one comes once it is asked for. */
+function noteOf(moment) {
+  const note = notes[moment];
+  if (!note) return null;
+  const box = make('div', 'remark', note.slice(0, MOST_OF_NOTE));
+  const left = note.length - MOST_OF_NOTE;
+  if (left > 0) box.append(moreButton(`${counted(left, 'more character')}`, () => box.append(note.slice(MOST_OF_NOTE))));
+  return box;
+}
+
+/** A button that goes once it is pressed, and what comes in its place. */
+function moreButton(words, action) {
+  const more = make('button', 'more', words);
+  more.type = 'button';
+  more.addEventListener('click', () => {
+    more.remove();
+    action();
+  });
+  return more;
 }
 
 /** The call above its change; it is asked for where it is not known yet. */
@@ -1652,13 +1998,7 @@ function putSome(place, list, makeOne, from = 0) {
   for (const thing of list.slice(from, from + MOST_THINGS)) place.append(makeOne(thing));
   const left = list.length - from - MOST_THINGS;
   if (left <= 0) return;
-  const more = make('button', 'more', `${grouped(left)} more`);
-  more.type = 'button';
-  more.addEventListener('click', () => {
-    more.remove();
-    putSome(place, list, makeOne, from + MOST_THINGS);
-  });
-  place.append(more);
+  place.append(moreButton(`${grouped(left)} more`, () => putSome(place, list, makeOne, from + MOST_THINGS)));
 }
 
 function drawState() {
@@ -1718,7 +2058,7 @@ function taskBox(task, below, changed) {
   const summary = [koidLink(task.koid, task.kind, true)];
   if (Number(task.signals)) summary.push(signalsOf(task.signals, task.kind));
   if (task.life !== 'live') summary.push(make('span', 'tag failed', task.life));
-  if (task.critical) summary.push(make('span', 'tag failed', `critical to ${task.critical}`));
+  if (task.critical) summary.push(make('span', 'tag failed', `critical to ${withName(task.critical)}`));
   const entries = shown.state.entries.get(task.koid);
   const handles = entries ? entries.size : 0;
   const under = below.get(task.koid) || [];
@@ -1835,6 +2175,7 @@ const MOST_ON_WAY = 10;
 const AROUND = [12, 5, 2]; // how many more are drawn beside the middle, beside those, and beside all others
 const NODE_WIDTH = 76;
 const NODE_HEIGHT = 34;
+const NAMED_HEIGHT = 42;
 const COLUMN = 132;
 const LEVEL = 52;
 
@@ -1882,7 +2223,9 @@ function touchedObjects() {
 function edgesOf(state, koids) {
   const edges = [];
   for (const one of koids) {
-    for (const [to, handles] of heldBy(state, one, koids)) edges.push({from: one, to, sort: 'handle', label: labelOf(handles)});
+    for (const [to, handles] of heldBy(state, one, koids)) {
+      edges.push({from: one, to, sort: 'handle', label: labelOf(handles), words: handlesInWords(one, handles)});
+    }
     for (const {number, held} of (state.messages.get(one) || new Map()).values()) {
       for (const {koid} of held) if (koids.has(koid)) edges.push({from: one, to: koid, sort: 'message', label: `#${number}`});
     }
@@ -1906,6 +2249,14 @@ function heldBy(state, process, koids) {
 function labelOf(handles) {
   const inOrder = handles.sort(byNumber);
   return inOrder.length > 3 ? `${inOrder.slice(0, 2).join(', ')} +${inOrder.length - 2}` : inOrder.join(', ');
+}
+
+const MOST_IN_WORDS = 20;
+
+/** Handles of a process with their names, for who hovers over their edge. */
+function handlesInWords(process, handles) {
+  const words = handles.slice(0, MOST_IN_WORDS).map((handle) => `${handle} ${nameOf(ofHandle(process, handle))}`.trim());
+  return words.join(', ') + (handles.length > MOST_IN_WORDS ? ` +${handles.length - MOST_IN_WORDS}` : '');
 }
 
 function centerOf(state) {
@@ -2011,7 +2362,7 @@ function drawGraph() {
   const edges = edgesOf(state, koids);
   const box = part('graph');
   const {spots, width, height, scale} = layOut(state, koids, edges, box);
-  part('graph-note').textContent = center ? `${koids.size} of ${grouped(state.objects.size)} objects, around ${center}` : '';
+  part('graph-note').textContent = center ? `${koids.size} of ${grouped(state.objects.size)} objects, around ${withName(center)}` : '';
   const drawing = makeDrawn('svg', {
     viewBox: `0 0 ${width} ${height}`, width: width * scale, height: height * scale, role: 'group',
     'aria-label': 'Objects and their holders',
@@ -2075,8 +2426,8 @@ function drawEdge(edge, spots) {
   });
   if (edge.sort === 'handle' || edge.sort === 'message') path.setAttribute('marker-end', 'url(#arrow)');
   const words = {handle: 'holds', message: 'holds', child: 'is the parent of', peer: 'is the peer of'}[edge.sort];
-  const by = {handle: ` by handle ${edge.label}`, message: ` in message ${edge.label}`}[edge.sort] || '';
-  path.append(makeDrawn('title', {}, `${edge.from} ${words} ${edge.to}${by}`));
+  const by = {handle: ` by handle ${edge.words}`, message: ` in message ${edge.label}`}[edge.sort] || '';
+  path.append(makeDrawn('title', {}, `${withName(edge.from)} ${words} ${withName(edge.to)}${by}`));
   return path;
 }
 
@@ -2086,7 +2437,7 @@ const SHARES = [0.68, 0.3, 0.5, 0.4, 0.6, 0.76, 0.22, 0.84, 0.15];
 
 /** The labels of the edges, each where it lies on no node and on no other label, if there is such a place on its edge. */
 function drawLabels(edges, spots) {
-  const taken = [...spots.values()].map(({x, y}) => ({x, y, width: NODE_WIDTH, height: NODE_HEIGHT}));
+  const taken = [...spots].map(([koid, {x, y}]) => ({x, y, width: NODE_WIDTH, height: nameOf(ofKoid(koid)) ? NAMED_HEIGHT : NODE_HEIGHT}));
   return edges.filter((edge) => edge.label).map((edge) => {
     const box = freestOf(edge, spots, edges, taken);
     taken.push(box);
@@ -2135,21 +2486,31 @@ function drawNode(object, {x, y}) {
   const fate = isLeaked ? 'leaked' : object.life === 'live' ? '' : 'ended';
   const node = makeDrawn('g', {
     class: classes.join(' '), 'data-koid': object.koid, tabindex: 0, role: 'link',
-    'aria-label': `${KIND_NAMES[object.kind]} ${object.koid}${fate && `, ${fate}`}`,
+    'aria-label': `${KIND_NAMES[object.kind]} ${withName(object.koid)}${fate && `, ${fate}`}`,
   });
+  const name = nameOf(ofKoid(object.koid));
+  const height = name ? NAMED_HEIGHT : NODE_HEIGHT;
   node.append(
     makeDrawn('title', {}, titleOfNode(object, turns)),
-    makeDrawn('rect', {x: x - NODE_WIDTH / 2, y: y - NODE_HEIGHT / 2, width: NODE_WIDTH, height: NODE_HEIGHT, rx: 5}),
-    makeDrawn('text', {x, y: y + (fate ? 1 : -1)}, object.koid),
-    makeDrawn('text', {x, y: y + 12, class: 'sort'}, KIND_NAMES[object.kind]),
+    makeDrawn('rect', {x: x - NODE_WIDTH / 2, y: y - height / 2, width: NODE_WIDTH, height, rx: 5}),
+    makeDrawn('text', {x, y: y + (fate ? 1 : -1) - (name ? 6 : 0)}, object.koid),
+    makeDrawn('text', {x, y: y + (name ? 16 : 12), class: 'sort'}, KIND_NAMES[object.kind]),
   );
-  if (fate) node.append(...fateOf(fate, x, y - NODE_HEIGHT / 2));
-  if (turns) node.append(...turnsOf(turns, x - NODE_WIDTH / 2, y + NODE_HEIGHT / 2));
+  if (name) node.append(makeDrawn('text', {x, y: y + (fate ? 6 : 5), class: 'called'}, shortName(name)));
+  if (fate) node.append(...fateOf(fate, x, y - height / 2));
+  if (turns) node.append(...turnsOf(turns, x - NODE_WIDTH / 2, y + height / 2));
   return node;
 }
 
+const MOST_IN_NODE = 13; // characters of a name
+
+function shortName(name) {
+  const letters = [...name];
+  return letters.length > MOST_IN_NODE ? letters.slice(0, MOST_IN_NODE - 1).join('') + '\u2026' : name;
+}
+
 function titleOfNode({koid, kind, signals}, turns) {
-  const title = `${KIND_NAMES[kind]} ${koid}: ${signalNames(signals, kind).join(' ')}`;
+  const title = `${KIND_NAMES[kind]} ${withName(koid)}: ${signalNames(signals, kind).join(' ')}`;
   return turns ? `${title}\nthe selected handle came here in step ${turns.slice(0, 20).join(', ')} of its life` : title;
 }
 
@@ -2192,6 +2553,7 @@ async function loadObject() {
   const {object} = view;
   const moment = shown.moment;
   const box = part('object');
+  showNaming('object', object && ofKoid(object), `Name of object ${object}`);
   if (moment < 0) return;
   if (!object) {
     part('object-note').textContent = '';
@@ -2213,7 +2575,7 @@ async function loadObject() {
 
 function drawUnmade(object) {
   part('object-note').textContent = object;
-  part('object').replaceChildren(make('p', 'dim', `Object ${object} does not exist yet at this moment.`));
+  part('object').replaceChildren(make('p', 'dim', `Object ${withName(object)} does not exist yet at this moment.`));
 }
 
 /** The lines of an object: its row, what holds it, its messages, packets and waits, and when each of the four happened. */
@@ -2429,6 +2791,7 @@ function loadHandleNow() {
 async function loadHandle() {
   const {handle} = view;
   part('handle-panel').hidden = !handle;
+  if (handle) showNaming('handle', ofHandle(handle.process, handle.value), `Name of handle ${handle.value} of process ${handle.process}`);
   if (!handle || shown.moment < 0) {
     shown.life = null;
     return;
@@ -2463,7 +2826,7 @@ function drawHandle(handle, life) {
     return;
   }
   const top = make('div', 'fields', ...spotWords({sort: 'entry', process: handle.process, handle: handle.value}, handle.until),
-    make('span', 'dim', 'names'), objectLink(life.koid, true));
+    make('span', 'dim', 'refers to'), objectLink(life.koid, true));
   const list = make('ol', 'life');
   putSome(list, [...life.steps, ...(life.end ? [life.end] : [])], stepLine);
   const last = life.steps[life.steps.length - 1];
@@ -2662,13 +3025,18 @@ function tieParts() {
   onClick('end', () => part('end-dialog').showModal());
   onClick('trouble-close', hideTrouble);
   onClick('handle-close', leaveHandle);
+  for (const link of document.querySelectorAll('a[download]')) link.addEventListener('click', downloadNamed);
+  for (const panel of ['object', 'handle']) {
+    onSubmit(`${panel}-naming`, () => undefined);
+    part(`${panel}-name`).addEventListener('change', nameTyped);
+  }
   onClick('trouble-again', () => attempt(start));
   onSubmit('jump-form', jump);
   onSubmit('search-form', searchAsked);
   onSubmit('branch-form', makeBranch);
   onSubmit('call-form', makeCall);
   part('end-dialog').addEventListener('close', () => attempt(endProgram));
-  part('search').addEventListener('input', () => later('search', 180, searchAsked));
+  part('search').addEventListener('input', searchTyped);
   part('search').addEventListener('keydown', searchKey);
   part('search-kind').addEventListener('change', searchAsked);
   part('failed-only').addEventListener('change', searchAsked);
@@ -2696,6 +3064,7 @@ async function start() {
   tree.branches = [];
   traceName = (await ask('/trace')).replace(/\n$/, '');
   part('trace').textContent = traceName;
+  takeGivenNames();
   await refreshTree();
   shown.moment = -1;
   showPlace();

@@ -225,12 +225,39 @@ h2 { font-size: var(--data); font-weight: 600; white-space: nowrap; }
 .tag.failed { color: var(--failed); }
 .tag.held { color: var(--accent); }
 
+/* Names beside koids and handles, and notes; both are texts of the trace, whose direction stays with them. */
+
+.called {
+  display: inline-block;
+  max-width: 24ch;
+  overflow: clip;
+  text-overflow: ellipsis;
+  white-space: pre;
+  font-weight: 400;
+  color: var(--dim);
+  unicode-bidi: isolate;
+}
+.remark { color: var(--dim); unicode-bidi: plaintext; }
+#change .remark {
+  max-height: 104px;
+  padding: 5px 10px;
+  overflow-y: auto;
+  border-bottom: 1px solid var(--line);
+  font: var(--small)/1.45 var(--mono);
+  white-space: pre-wrap;
+  overflow-wrap: anywhere;
+}
+.remark .more { display: block; margin: 4px 0 0; }
+.naming { flex: 0 1 24ch; min-width: 0; }
+.naming input { width: 100%; height: 22px; padding: 0 6px; font: var(--small)/1 var(--mono); }
+#handle-note { flex: 1 0 auto; }
+
 /* The timeline. */
 
 #search-form { display: flex; gap: 6px; align-items: center; padding: 6px 8px; border-bottom: 1px solid var(--line); }
 #search { flex: 1; }
 .check { display: flex; gap: 4px; align-items: center; white-space: nowrap; font-size: 12px; color: var(--dim); }
-#timeline { flex: 1; overflow-y: auto; overflow-x: hidden; position: relative; contain: strict; }
+#timeline { flex: 1; overflow-y: auto; overflow-x: hidden; position: relative; contain: strict; container: timeline / inline-size; }
 #timeline-none { margin: 0; padding: 8px 10px; }
 #timeline-rows { position: relative; width: 100%; }
 .row {
@@ -250,6 +277,12 @@ h2 { font-size: var(--data); font-weight: 600; white-space: nowrap; }
 .row > .koid { flex: none; min-width: 4ch; color: var(--dim); }
 .row .mark { flex: none; min-width: 14px; margin-left: auto; }
 .row .koid::before { display: none; }
+.row > .koid { display: flex; flex: 0 100 auto; }
+.row .called { max-width: 11ch; }
+.row > .koid .called { flex: 0 1 auto; min-width: 0; }
+.row .handle .called { display: none; }
+@container timeline (min-width: 560px) { .row .handle .called { display: inline-block; } }
+.row .remark { flex: 1 1 0; min-width: 0; font-size: var(--small); white-space: pre; }
 .row .word { font-weight: 600; }
 .row .call { flex: 0 1 auto; min-width: 11ch; color: var(--text); }
 .row .answer { flex: 0 1 auto; min-width: 2ch; color: var(--dim); text-align: right; }
@@ -283,10 +316,12 @@ h2 { font-size: var(--data); font-weight: 600; white-space: nowrap; }
 .branch.on { background: var(--accent); border-color: var(--accent); color: var(--panel); }
 #branch-form { display: flex; gap: 6px; margin-left: auto; min-width: 0; }
 #branch-name { width: 110px; flex: 0 1 110px; font-family: var(--mono); }
-#call-form { border-top: 1px solid var(--line); padding: 8px; display: grid; gap: 6px; }
+#call-form { border-top: 1px solid var(--line); padding: 8px; display: grid; grid-template-columns: minmax(0, 1fr); gap: 6px; }
 #call-form .line { display: flex; gap: 6px; }
 #call-form select { font-family: var(--mono); }
+#call-process { flex: 0 1 auto; max-width: 45%; }
 #call-name { flex: 1; }
+#call-run { flex: none; }
 #call-arguments { font-family: var(--mono); }
 #call-answer:empty { display: none; }
 #call-answer { min-height: 17px; font: var(--data)/17px var(--mono); color: var(--dim); overflow-wrap: anywhere; }
@@ -304,6 +339,8 @@ h2 { font-size: var(--data); font-weight: 600; white-space: nowrap; }
 .sides th, .sides td { padding: 3px 8px; text-align: left; vertical-align: top; border-bottom: 1px solid var(--line); }
 .sides th { font-size: 11px; font-weight: 500; color: var(--dim); }
 .sides .what { width: 31%; }
+.sides .called, .sides .called + .kind { display: inline; white-space: pre-wrap; overflow-wrap: anywhere; }
+.sides .called + .kind::before { content: "\200b"; }
 .fields { display: flex; flex-wrap: wrap; gap: 1px 9px; align-items: baseline; }
 .field .label { color: var(--dim); font-size: var(--small); }
 .field .label::after { content: " "; }
@@ -336,8 +373,9 @@ details.group > summary .count { font-weight: 400; }
 .table { border-collapse: collapse; margin: 0 8px 3px 10px; width: calc(100% - 18px); }
 .table td { padding: 1px 6px 1px 0; vertical-align: baseline; border-bottom: 1px solid var(--line); }
 .table tr:last-child td { border-bottom: 0; }
-.table .value { width: 34px; text-align: right; padding-right: 10px; }
+.table .value { width: 34px; text-align: right; padding-right: 10px; white-space: nowrap; }
 .table .what { width: 112px; white-space: nowrap; }
+.table .called { max-width: 16ch; }
 .pair { display: grid; grid-template-columns: 1fr 1fr; gap: 8px; margin: 3px 10px 5px 20px; align-items: start; }
 .pair.alone { grid-template-columns: 1fr auto; }
 .side { border: 1px solid var(--line); border-radius: 5px; padding: 3px 7px 4px; min-width: 0; background: var(--raised); }
@@ -357,6 +395,7 @@ details.group > summary .count { font-weight: 400; }
 .node rect { fill: var(--raised); stroke: var(--dim); stroke-width: 1.2; }
 .node text { fill: var(--text); font: 600 12px var(--mono); text-anchor: middle; pointer-events: none; }
 .node text.sort { fill: var(--dim); font: 10px var(--sans); }
+.node text.called { fill: var(--dim); font: 9px var(--mono); white-space: pre; unicode-bidi: isolate; }
 .node.job rect { stroke: var(--job); } .node.process rect { stroke: var(--process); }
 .node.channel rect { stroke: var(--channel); } .node.event rect { stroke: var(--event); }
 .node.eventpair rect { stroke: var(--eventpair); } .node.port rect { stroke: var(--port); }
