@@ -100,7 +100,8 @@ pub imported : (calls : List LoggedCall) (view : TakenView) (compared : Compared
     → IsComparedAs (differences_of calls view.tree.made view.trail) compared → IsImportOf calls (import_of view compared)
 imported calls view compared run so = record { numbers = run.numbers; told = so.told; count = so.count }
 
--- the same of views and lists that are these
+-- the loop compares one step of V's trail more and leaves V as it is: T and N are V under other names, `given` is `asked`, and
+-- `counted` and `list` are the trail
 pub compared-step : (calls : List LoggedCall) (V T N : TakenView) (asked given : List AskedCall) (counted list : List TrailStep) (k j : ℕ) (step : TrailStep) (old new : ComparedView)
     → T ≡ V → N ≡ T → given ≡ asked → counted ≡ V.trail → list ≡ T.trail → k < length counted → length counted < 2 ^ 64 → step ≡ get_or list k step → j ≡ suc k
     → ComparesMore old new (option_to_list (difference_at calls T.tree.made given step))

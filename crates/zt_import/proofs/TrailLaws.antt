@@ -110,7 +110,7 @@ made-push calls made pairs [] step is here = (here, tt)
 made-push calls made pairs (first ∷ trail) step is here =
     (is.0, made-push calls made (cons_option (pair_by calls made first) pairs) trail step is.1 here)
 
--- the same of another call that is this one but for its handles
+-- if the call made at a moment is c but for its handles, it is also d but for its handles, provided both differ in handles alone
 pub made-bare : (made : List Made) (o : Option ℕ) (process : ℕ) (c d : Call) → bare c ≡ bare d → IsMadeOf made o process c → IsMadeOf made o process d
 made-bare made None process c d same is = tt
 made-bare made (Some m) process c d same is = is ∙ ap (λ b. let it : Option (ℕ × Call) = Some (process, b) in it) same
@@ -175,7 +175,7 @@ one-more t u trail origin process call o taken called =
       pairs = λ calls. pairs-push calls u.made [] trail (step_of origin o) ∙ ap (cons_option (pair_by calls u.made (step_of origin o))) (same calls);
     }
 
--- the same, of lists that are these
+-- a trail of t with the step of a call behind it is a trail of the tree u after it; `kept` is `before`, and `found` is o
 pub taken-pushed : (t u : Tree) (before kept after : List TrailStep) (origin : Origin) (process : ℕ) (call : Call) (o found : Option ℕ) → IsTakenTrail t before
     → IsCallAt t u process call found
     → found ≡ o → kept ≡ before → after ≡ kept ++ step_of origin o ∷ [] → IsTakenTrail u after

@@ -57,7 +57,7 @@ packets_agree None answered = true
 packets_agree (Some recorded) (reply.Packet got) = same_packet recorded (logged_packet got)
 packets_agree (Some recorded) _ = false
 
--- a call that was not made has no reply, and none is what the log has
+-- the reply has the status, the number of handles, the bytes and the packet that the log has; a call that was not made never agrees
 abbrev pub agrees : RecordedReply → Option Reply → Bool
 agrees recorded None = false
 agrees recorded (Some answered) =

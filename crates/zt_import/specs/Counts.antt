@@ -30,7 +30,7 @@ abbrev pub is_joined : Origin → Bool
 is_joined (origin.Handle _ _ _ _ joined _) = is_some joined
 is_joined _ = false
 
--- they are made by a call of the trace
+-- two ends of the log are joined, and a call of the trace makes them
 abbrev pub is_pair : TrailStep → Bool
 is_pair step = is_joined step.origin && is_some step.moment
 
@@ -38,7 +38,7 @@ is_pair step = is_joined step.origin && is_some step.moment
 abbrev pub is_moved : ℕ → List ℕ → Bool
 is_moved number behind = list_any (λ other. nat_lt other number) behind
 
--- how many of these calls do, by their numbers in the order in which they are run
+-- how many of these calls, given by their numbers in the order of the run, stand ahead of one that is before them in the log
 abbrev pub moved_in : List ℕ → ℕ
 moved_in [] = 0
 moved_in (number ∷ behind) = cond (is_moved number behind) 1 0 + moved_in behind

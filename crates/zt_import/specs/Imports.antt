@@ -31,7 +31,7 @@ pub record IsImportOf (calls : List LoggedCall) (it : Import) : Type 0 where
   pub told : it.told ≡ take 100 (differences_of calls it.tree.made it.trail)
   pub count : it.count ≡ length (differences_of calls it.tree.made it.trail)
 
--- those of them are counted as by the schedule, and told so, that a schedule can have made: by what stands in a port's queue near by
+-- the count of differences by the schedule is that of the differences that a schedule can have made, by a port's queue near by
 abbrev pub CountsBySchedule : List LoggedCall → Import → Type 0
 CountsBySchedule calls it = it.by_schedule ≡ count_by (λ difference. difference.by_schedule) (differences_of calls it.tree.made it.trail)
 

@@ -17,7 +17,7 @@ is_near_behind line other = nat_le line (other + most_lines)
 abbrev pub is_earlier : LogTime → LogTime → Bool
 is_earlier time other = nat_lt time.whole other.whole || (time.whole == other.whole) && nat_lt time.part other.part
 
--- a call that returned at this time was not over before that one; nor was one whose time is not told
+-- a call that returned at this time was not over when the other began; one whose time the log does not tell counts as such
 abbrev pub is_over_after : Option LogTime → LogTime → Bool
 is_over_after None began = true
 is_over_after (Some time) began = not (is_earlier time began)
@@ -31,7 +31,7 @@ has_begun (Some began) (Some ended) earlier = is_over_after earlier.times.ended 
 abbrev pub is_begun_by : LoggedCall → LoggedCall → Bool
 is_begun_by later earlier = has_begun later.times.began later.times.ended earlier
 
--- it is of another process, near, and had begun
+-- the later call may be moved ahead of the earlier one: it is of another process, its line is near, and it had begun by then
 abbrev pub may_pass : LoggedCall → LoggedCall → Bool
 may_pass later earlier = not (later.process == earlier.process) && is_near_behind later.line earlier.line && is_begun_by later earlier
 

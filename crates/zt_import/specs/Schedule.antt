@@ -93,7 +93,7 @@ is_met_on made None logged waited asked = false
 is_met_on made (Some port) logged waited asked =
     is_met made port logged.line waited (sought_for logged.recorded.status logged.recorded.packet) asked
 
--- what the call of this number, which made this moment, differs in is what a schedule can do
+-- a schedule can have made the difference at the call of this number, which made this moment
 abbrev pub by_schedule : List Made → List AskedCall → LoggedCall → ℕ → Option ℕ → Bool
 by_schedule made asked logged number None = false
 by_schedule made asked logged number (Some moment) =

@@ -62,7 +62,7 @@ abbrev pub put_number : List LoggedCall → List AskedCall → Option ℕ → Op
 put_number calls asked None moment = asked
 put_number calls asked (Some number) moment = put_call asked number (slice_get calls number) moment
 
--- so was that of a step, if it is one of the log
+-- the call of the log that a step is, if it is one, was asked at the step's moment
 abbrev pub put_asked : List LoggedCall → List AskedCall → TrailStep → List AskedCall
 put_asked calls asked step = put_number calls asked (number_in step.origin) step.moment
 
@@ -86,8 +86,8 @@ difference_with made asked logged number moment =
     if agrees logged.recorded (answer_at made moment) then None
     else Some (record { call = number; moment = moment; by_schedule = by_schedule made asked logged number moment })
 
--- the same of one that made this moment: where others of its line stand behind it, it differs from nothing; of the line's calls the
--- first that was not ok is that which answered it, or else the last
+-- what differs of this call of the log, which made this moment; nothing, if other calls of its line come behind it. The line is
+-- answered by the first of its calls that was not ok, or else by the last
 abbrev pub difference_of : List Made → List AskedCall → LoggedCall → ℕ → Option ℕ → Option Difference
 difference_of made asked logged number moment =
     if is_last logged.part then difference_with made asked logged number (answering made (ahead_of number logged.part.ahead asked) moment)
@@ -111,7 +111,7 @@ differences_of calls made trail = filter_map (difference_at calls made (asked_in
 
 -- ---- the calls of the log, but for handles
 
--- so many handles that are none
+-- a list of so many zeros, none of which is a handle
 abbrev pub zeros : ℕ → List ℕ
 zeros zero = []
 zeros (suc n) = 0 ∷ zeros n
@@ -135,7 +135,7 @@ bare (call.JobSetCritical _ _) = call.JobSetCritical 0 0
 bare (call.TaskKill _) = call.TaskKill 0
 bare other = other
 
--- with its process
+-- a call with its process, apart from its handles
 abbrev pub bare_called : ℕ × Call → ℕ × Call
 bare_called called = (called.0, bare called.1)
 
@@ -187,7 +187,8 @@ abbrev pub IsMadeBy : List LoggedCall → List Made → List (ℕ × ℕ) → Op
 IsMadeBy calls made pairs None moment = ⊤
 IsMadeBy calls made pairs (Some number) moment = IsMadeFor made pairs moment (slice_get calls number)
 
--- so is, at each step that is a call of the log, that call, by the process that stands for the log's, given the pairs before
+-- each step that is a call of the log and made a moment called there what the log has, but for its handles, by the process that
+-- stands for the log's, as `pairs` and the steps before it tell
 abbrev pub AreMadeBy : List LoggedCall → List Made → List (ℕ × ℕ) → List TrailStep → Type 0
 AreMadeBy calls made pairs [] = ⊤
 AreMadeBy calls made pairs (step ∷ trail) =

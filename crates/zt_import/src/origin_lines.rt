@@ -3,27 +3,22 @@
 use crate::trail::{JoinedEnd, Origin};
 use crate::used_handles::handles_in;
 use itoa::Buffer;
-use std::alloc::{AllocError, Global};
+use std::alloc::AllocError;
 use zt_bits::Kind;
 use zt_logs::{CallLog, LineForm, LinePart, LoggedCall};
 use zt_rows::HandleValue;
 use zt_text::put_mask;
 
-/// The capacity that most lines need, so that printing one allocates once.
-const USUAL_BYTES: usize = 120;
-
-/// The comment of a call without its `#`, in the numbers of the log: its origin, and ahead of which call it is moved. The
-/// error is an allocation failure.
-pub(crate) fn origin_line(
-    alloc: Global,
+/// Appends the comment of a call without its `#`, in the numbers of the log: its origin, and ahead of which call it is
+/// moved. The error is an allocation failure.
+pub(crate) fn put_origin_line(
+    text: &mut String,
     log: &CallLog,
     origin: Origin,
     ahead: Option<usize>,
-) -> Result<String, AllocError> {
-    let mut text = String::with_capacity(alloc, USUAL_BYTES)?;
-    put_origin(&mut text, log, origin)?;
-    put_ahead(&mut text, log, ahead)?;
-    Ok(text)
+) -> Result<(), AllocError> {
+    put_origin(text, log, origin)?;
+    put_ahead(text, log, ahead)
 }
 
 /// Appends that a call is moved ahead of this one, if it is.
@@ -200,8 +195,25 @@ fn put_handles(text: &mut String, word: &str, handles: &[HandleValue]) -> Result
     }
     text.push_str(word)?;
     for handle in handles {
-        text.push_str(" ")?;
-        put_mask(text, handle.0)?;
+        put_handle(text, *handle)?;
     }
     Ok(())
+}
+
+const DIGITS: [u8; 16] = *b"0123456789abcdef";
+
+/// Appends a space and a handle, as `put_mask` shows it. Most lines have one, so its digits are written in one go.
+fn put_handle(text: &mut String, handle: HandleValue) -> Result<(), AllocError> {
+    let mut shown = *b" 0x00000000";
+    for place in 0..8u32 {
+        let digit = (handle.0 >> (28 - 4 * place)) % 16;
+        shown[place as usize + 3] = DIGITS[digit as usize];
+    }
+    match str::from_utf8(&shown) {
+        Ok(shown) => text.push_str(shown),
+        Err(_) => {
+            text.push_str(" ")?;
+            put_mask(text, handle.0)
+        }
+    }
 }

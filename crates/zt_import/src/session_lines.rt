@@ -9,7 +9,7 @@ ghost use Rattle.zt_import.specs.Trails.{calls_of};
 ghost use Rattle.zt_import.specs.ProofsOnly.ReadTexts.{Writes, step_calls, calls_by, is_no_feed, fits};
 
 use crate::moved::passed_by;
-use crate::origin_lines::origin_line;
+use crate::origin_lines::put_origin_line;
 use crate::run_log::Imported;
 use crate::trail::{Origin, TrailStep};
 use std::alloc::{AllocError, Global};
@@ -18,6 +18,9 @@ use zt_logs::CallLog;
 use zt_rows::{Call, Koid, Moment};
 use zt_text::laws::every_call_is_within;
 use zt_text::{LINE_BYTES, put_call};
+
+/// The capacity that most comments need, so that printing them seldom allocates.
+const USUAL_BYTES: usize = 120;
 
 /// The session text of an import. A comment ahead of each call tells where the call comes from. The error is an allocation
 /// failure.
@@ -36,8 +39,10 @@ fn put_steps(text: &mut String, log: &CallLog, imported: &Imported) -> Result<()
 {
     text.push_str("zxtt 1\n")?;
     let passed = passed_by(*text.allocator(), imported.trail())?;
+    let mut comment = String::with_capacity(*text.allocator(), USUAL_BYTES)?;
     put_trail(
         text,
+        &mut comment,
         log,
         imported.history(),
         imported.trail(),
@@ -46,9 +51,10 @@ fn put_steps(text: &mut String, log: &CallLog, imported: &Imported) -> Result<()
     Ok(())
 }
 
-/// Appends the lines of these steps.
+/// Appends the lines of these steps. `comment` is the buffer for their comments.
 fn put_trail(
     text: &mut String,
+    comment: &mut String,
     log: &CallLog,
     history: &History,
     trail: &[TrailStep],
@@ -58,7 +64,7 @@ fn put_trail(
 {
     for place in 0..trail.len() {
         let ahead = ahead_at(passed, place);
-        put_step(text, log, history, &trail[place], ahead)?;
+        put_step(text, comment, log, history, &trail[place], ahead)?;
     }
     Ok(())
 }
@@ -74,6 +80,7 @@ fn ahead_at(passed: &[Option<usize>], place: usize) -> Option<usize> {
 /// Appends the lines of a step; none if it made no moment.
 fn put_step(
     text: &mut String,
+    comment: &mut String,
     log: &CallLog,
     history: &History,
     step: &TrailStep,
@@ -83,7 +90,7 @@ fn put_step(
 {
     match step.moment {
         Some(moment) => {
-            put_origin(text, log, step.origin, ahead)?;
+            put_origin(text, comment, log, step.origin, ahead)?;
             put_moment(text, history, moment)?;
             Ok(())
         }
@@ -94,14 +101,16 @@ fn put_step(
 /// Appends the comment of a call.
 fn put_origin(
     text: &mut String,
+    comment: &mut String,
     log: &CallLog,
     origin: Origin,
     ahead: Option<usize>,
 ) -> Result<(), AllocError>
     ensures { OnOk result (Writes (string_bytes text.old) (string_bytes text.new) []) }
 {
-    let line = origin_line(*text.allocator(), log, origin, ahead)?;
-    put_comment(text, line.as_str())
+    comment.clear();
+    put_origin_line(comment, log, origin, ahead)?;
+    put_comment(text, comment.as_str())
 }
 
 /// Appends a comment, if it fits on one line.

@@ -1,3 +1,4 @@
+pub mod TokenLaws
 pub mod LineLaws
 pub mod ReadLaws
 pub mod NumberLaws
@@ -5,3 +6,4 @@ pub mod ListedLaws
 pub mod PartLaws
 pub mod LineCallLaws
 pub mod AnswerLaws
+pub mod WalkLaws

@@ -47,7 +47,7 @@ pub none_added : (line : ℕ) (parts : List PartCall) (recorded : RecordedReply)
 none_added line [] recorded old is = refl
 none_added line (p ∷ ps) recorded old is = cc is
 
--- they are those that the line says
+-- the calls that are added are those that the line's name, arguments and options say
 pub calls_added : (number : ℕ) (name : CallName) (value args : Option Json) (options : ℕ) (parts : List PartCall) (recorded : RecordedReply) (old new : List LoggedCall)
     → args ≡ field member.Args value → IsMaskOrNone (field member.Options args) options → AreCallsOf name value options parts
     → IsAnswered name value recorded.status recorded.handles → AddsParts number parts recorded old new → AddsCalls name number value old new
@@ -69,7 +69,7 @@ calls_added number name value args options (p ∷ ps) recorded old new is mask a
     } in
     (calls, added, (p ∷ ps, options, subst (λ a. IsMaskOrNone (field member.Options a) options) is mask, are, all))
 
--- so are those of a line that is known by its value
+-- the calls that are added for the name of a line's value are those of the line
 pub line_added : (number : ℕ) (d : Json) (value : Option Json) (name : CallName) (old new : List LoggedCall) → called d ≡ Some name → value ≡ Some d
     → AddsCalls name number value old new → AddsLogged (entry_for number d) old new
 line_added number d value name old new is at (line, added, are) =

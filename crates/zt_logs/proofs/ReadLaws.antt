@@ -1,11 +1,14 @@
 -- What one line more leaves of how far a log is read.
-use Rattle.std.proofs.Common.{◌≡◌, ℕ, ◌+◌, suc, true, false, List, [], ◌∷◌, ◌++◌, map, length, Option, Some, None, refl, sym, ap, ◌∙◌, subst, arith, if◌then◌else◌}
+use Rattle.std.proofs.Common.{◌≡◌, ℕ, ◌+◌, suc, true, false, List, [], ◌∷◌, ◌++◌, map, length, Option, Some, None, IsSome, refl, sym, ap, ◌∙◌, subst, arith, if◌then◌else◌}
 use Rattle.std.proofs.lemmas.List.{append-nil, append_assoc}
 use Rattle.std.specs.List.{cons_option}
 use Rattle.std.specs.Option.{option_to_list}
 use Rattle.std.specs.Str.{IsUtf8, is_utf8}
 use Rattle.std.proofs.lemmas.Str.{IsUtf8-from_is_utf8, is_utf8-from_IsUtf8}
+use Rattle.json.specs.Token.{Token}
+use Rattle.json.specs.Lex.{tokens}
 use Rattle.json.specs.Json.{Json, document}
+use Rattle.json.specs.Find.{BeginsWith}
 use Rattle.zt_logs.specs.declared.logged.LoggedCall.{LoggedCall}
 use Rattle.zt_logs.specs.Lines.{lines_of}
 use Rattle.zt_bits.specs.declared.statuses.Status.{Status}
@@ -14,13 +17,21 @@ use Rattle.zt_logs.specs.declared.line_calls.PartCall.{PartCall}
 use Rattle.zt_logs.specs.Entries.{Entry, called, json_of, entry_of, entries_behind}
 use Rattle.zt_logs.specs.Answered.{IsAnswered}
 use Rattle.zt_logs.specs.Logged.{IsPart, part_status, AreAhead, AreParts, AreAllParts, AreNamed, IsLogged, AreLogged}
+use Rattle.zt_logs.specs.ProofsOnly.Tokens.{value_at}
 use Rattle.zt_logs.specs.ProofsOnly.ReadLines.{AddsLogged, IsReadUpTo, without_process}
+use Rattle.zt_logs.proofs.TokenLaws.{value_here}
 
 -- ---- the JSON of a line
 
-pub json_read : (bytes : List ℕ) (d : Json) → IsUtf8 bytes × (document bytes ≡ Some d) → json_of bytes ≡ Some d
+json_at : (bytes : List ℕ) (ts : List Token) (o : Option Json) → document bytes ≡ o → IsSome o → ((d : Json) → document bytes ≡ Some d → BeginsWith ts d)
+    → document bytes ≡ Some (value_at ts)
+json_at bytes ts None is some begins = cc some
+json_at bytes ts (Some d) is some begins = is ∙ ap Some (sym (value_here ts d (begins d is)))
+
+pub json_read : (bytes : List ℕ) (ts : List Token) → IsUtf8 bytes → (ts ≡ tokens bytes) × IsSome (document bytes)
+    → ((d : Json) → document bytes ≡ Some d → BeginsWith ts d) → json_of bytes ≡ Some (value_at ts)
 unfolding json_of
-json_read bytes d is = rw (is_utf8-from_IsUtf8 bytes is.0) is.1
+json_read bytes ts utf8 is begins = rw (is_utf8-from_IsUtf8 bytes utf8) (json_at bytes ts (document bytes) refl is.1 begins)
 
 pub json_refused : (bytes : List ℕ) → (IsUtf8 bytes → document bytes ≡ None) → json_of bytes ≡ None
 unfolding json_of

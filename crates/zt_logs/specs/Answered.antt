@@ -131,7 +131,7 @@ AreAnswered other name out handles = handles ≡ []
 abbrev pub status_in : Option Json → Option Status
 status_in line = option_and_then status_of (option_and_then as_str (field member.Status line))
 
--- that of its last call: a channel_call that timed out has written
+-- the status of a line's last call: that of the line, but ok for a channel_call that timed out, whose last call was its write
 abbrev pub answered_status : CallName → Option Status → Option Status
 answered_status called.ChannelCall (Some status.TimedOut) = Some status.Ok
 answered_status called.ChannelCallEtc (Some status.TimedOut) = Some status.Ok

@@ -81,6 +81,6 @@ name_of name =
     or_name (or_name (or_name (or_name (or_name (name_of_handle name) (name_of_channel name)) (name_of_port name)) (name_of_task name)) (name_of_form name))
     (name_of_made name)
 
--- the same of a name that may have `zx_` ahead
+-- the call of this name, which may have `zx_` ahead
 abbrev pub call_named : List ℕ → Option CallName
 call_named name = name_of (bare name)

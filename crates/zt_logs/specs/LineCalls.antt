@@ -85,7 +85,7 @@ copies_of all = copies_from 0 all
 abbrev pub sources_of : List Disposition → List ℕ
 sources_of all = map (λ sent. sent.handle) all
 
--- what makes the handles that are sent, and a write that names those of which they are made
+-- `all` are the handles that the line sends, and the parcel has the line's bytes and, for these handles, those of the process
 abbrev pub IsWriteOf : Option Json → Option Json → List Disposition → Parcel → Type 0
 IsWriteOf bytes handles all parcel = AreDispositionsIn handles all × AreBytes bytes parcel.bytes × (parcel.handles ≡ sources_of all)
 
@@ -144,7 +144,7 @@ abbrev pub AreAnswerReads : Bool → Option Json → List PartCall → Type 0
 AreAnswerReads false args parts = parts ≡ []
 AreAnswerReads true args parts = (it : Call) × IsAnswerRead args it × (parts ≡ alone it ∷ [])
 
--- what is written, and a read, where the call read
+-- the calls of a channel_call: those that write, and a read if the call read
 abbrev pub AreCallsWith : (Option Json → List PartCall → Type 0) → Option Json → List PartCall → Type 0
 AreCallsWith AreWrittenBy line parts =
     (writes reads : List PartCall) × AreWrittenBy (field member.Args line) writes
@@ -161,7 +161,7 @@ abbrev pub AreSpaces : Option Status → Option Json → List PartCall → Type 
 AreSpaces (Some status.Ok) space parts = IsSpaceAt space parts
 AreSpaces _ space parts = parts ≡ []
 
--- and a spawn
+-- the calls of a process_create: what stands in for the address space, if anything does, and a spawn
 abbrev pub AreCreates : Option Json → List PartCall → Type 0
 AreCreates line parts =
     (spaces : List PartCall) × (job : ℕ) × AreSpaces (status_in line) (field member.VmarHandle (field member.Out line)) spaces

@@ -28,7 +28,7 @@ part_status (Some status.PeerClosed) = Some status.Ok
 part_status (Some status.BufferTooSmall) = Some status.Ok
 part_status other = other
 
--- those ahead of the last, which tell a status, and the handle that they gave
+-- the calls of a line ahead of its last: each tells this status, and the handle that it gave, if it gave one
 abbrev pub AreAhead : ℕ → ℕ → Option Status → ℕ → List PartCall → List LoggedCall → Type 0
 AreAhead line count answered ahead [] [] = Unit {0}
 AreAhead line count answered ahead [] (logged ∷ calls) = ⊥

@@ -78,7 +78,7 @@ IsCallOf called.PortCancel args options (call.PortCancel port source key) =
 IsCallOf called.JobCreate args options (call.JobCreate job) = IsNumberIn (field member.ParentJob args) job
 IsCallOf called.Spawn args options (call.Spawn job argument) =
     IsNumberIn (field member.Job args) job × IsNumberOrNone (field member.Argument args) argument
--- a process that is started stands as the job of its spawn, until the line that made it tells that
+-- the started process stands in place of its spawn's job; the job comes from the line that made the process, by `join_starts`
 IsCallOf called.ProcessStart args options (call.Spawn job argument) =
     IsNumberIn (field member.StartedProcess args) job × IsNumberOrNone (field member.FirstArgument args) argument
 IsCallOf called.JobSetCritical args options (call.JobSetCritical job process) =

@@ -1,12 +1,7 @@
 -- The fields of a JSON object of a line.
 use Rattle.std.specs.Prelude.{ℕ, List, Option, Some, None, option_and_then, if◌then◌else◌, codes}
-use Rattle.std.specs.Option.{option_map}
-use denote.Ref.{Bor}
 use Rattle.json.specs.Json.{Json}
 use Rattle.json.specs.Find.{get, is_null}
-use Rattle.json.specs.Value.{value_view}
-use Rattle.json.specs.declared.value.Value.{Value}
-use Rattle.std.specs.declared.alloc.Global.{Global}
 use Rattle.zt_logs.specs.declared.places.Member.{Member}
 use Rattle.zt_logs.specs.declared.places.Member.TheVariants as member
 
@@ -100,7 +95,3 @@ or_named None (Some second) object = named second object
 -- a field of an object: what stands under its name, or else under its second one
 abbrev pub field : Member → Option Json → Option Json
 field name object = or_named (named (first_name name) object) (second_name name) object
-
--- what a reference that may be missing points to
-abbrev pub data_at : Option (Bor (Value Global)) → Option Json
-data_at value = option_map (λ v. value_view v.now) value

@@ -26,7 +26,7 @@ abbrev pub IsNumberIn : Option Json → ℕ → Type 0
 IsNumberIn None n = ⊥
 IsNumberIn (Some d) n = IsNumber d n
 
--- the same of bits, which may have names; of those no more is said
+-- a value is these bits: it is the number, or it is a text, which may name bits; of what names stand for no more is said
 abbrev pub IsMask : Json → ℕ → Type 0
 IsMask d n = IsNumber d n ⊎ IsSome (as_str d)
 
@@ -34,17 +34,17 @@ abbrev pub IsMaskIn : Option Json → ℕ → Type 0
 IsMaskIn None n = ⊥
 IsMaskIn (Some d) n = IsMask d n
 
--- the same of a handle that may be left out, as which it is 0
+-- a handle is this number; one that is left out is 0
 abbrev pub IsNumberOrNone : Option Json → ℕ → Type 0
 IsNumberOrNone None n = n ≡ 0
 IsNumberOrNone (Some d) n = IsNumber d n
 
--- and of bits
+-- a value is these bits; one that is left out is 0
 abbrev pub IsMaskOrNone : Option Json → ℕ → Type 0
 IsMaskOrNone None n = n ≡ 0
 IsMaskOrNone (Some d) n = IsMask d n
 
--- true or false, as which a value that is left out counts
+-- a value as true or false: one that is left out is false, and a value of another kind is neither
 abbrev pub flag_of : Option Json → Option Bool
 flag_of None = Some false
 flag_of (Some (boolean b)) = Some b

@@ -1,11 +1,11 @@
 //! Reads masks of rights and signals, also by the names that the system's reference has for the bits.
 
 ghost use Rattle.std.specs.Prelude.{IfSome};
-ghost use Rattle.json.specs.Value.{value_view};
+ghost use Rattle.zt_logs.specs.ProofsOnly.Tokens.{value_at};
 ghost use Rattle.zt_logs.specs.Numbers.{IsMask};
 
+use crate::json_values::JsonValue;
 use crate::numbers::{narrow, narrow_in};
-use json::Value;
 
 /// The set of names in which a bit is looked up.
 #[derive(Clone, Copy)]
@@ -15,8 +15,8 @@ pub(crate) enum BitNames {
 }
 
 /// The mask that a value is: a number of 32 bits, or a text of names with `|` between them. None if a name is not known.
-pub(crate) fn bits_in(names: BitNames, value: &Value<'_>) -> Option<u32>
-    ensures { IfSome result (IsMask (value_view value.now)) }
+pub(crate) fn bits_in(names: BitNames, value: &JsonValue<'_, '_>) -> Option<u32>
+    ensures { IfSome result (IsMask (value_at value.now)) }
 {
     match narrow_in(value) {
         Some(bits) => Some(bits),

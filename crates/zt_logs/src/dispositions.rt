@@ -2,16 +2,15 @@
 
 ghost use Rattle.std.specs.Prelude.{◌≡◌, ◌++◌, ◌∷◌, [], Some, IfOk, OnOk, map};
 ghost use Rattle.std.specs.Option.{option_to_list};
-ghost use Rattle.json.specs.Value.{value_view};
-ghost use Rattle.zt_logs.specs.Members.{field, data_at};
-ghost use Rattle.zt_logs.specs.LineCalls.{IsDisposition, AreDispositionsIn, copy_of, copies_of, sources_of};
-ghost use Rattle.zt_logs.specs.ProofsOnly.ReadLines.{AreDispositionsOf};
+ghost use Rattle.zt_logs.specs.Members.{field};
+ghost use Rattle.zt_logs.specs.ProofsOnly.Tokens.{value_at, data_at, items_at};
+ghost use Rattle.zt_logs.specs.LineCalls.{IsDisposition, AreDispositions, AreDispositionsIn, copy_of, copies_of, sources_of};
 
 use crate::faults::Cause;
+use crate::json_values::{JsonItems, JsonValue};
 use crate::line_calls::{PartCall, push_part};
 use crate::members::{Members, push_handle};
 use crate::places::Member;
-use json::Value;
 use std::alloc::Global;
 use zt_rows::{Call, HandleValue};
 
@@ -44,30 +43,33 @@ pub(crate) fn dispositions(
 }
 
 /// The dispositions that the values of a list are.
-fn dispositions_in<'a, 'text>(
+fn dispositions_in<'tape, 'text>(
     alloc: Global,
-    args: &Members<'a, 'text>,
+    args: &Members<'tape, 'text>,
     name: Member,
-    list: &'a [Value<'text>],
+    list: JsonItems<'tape, 'text>,
 ) -> Result<Vec<Disposition>, Cause>
-    ensures { IfOk result (λ ds. AreDispositionsOf list.now ds.items) }
+    ensures { IfOk result (λ ds. AreDispositions (items_at list.entry) ds.items) }
 {
     let mut dispositions = Vec::new(alloc);
-    for item in 0..list.len() {
-        let disposition = disposition_in(args, name, item, &list[item])?;
+    let mut rest = list;
+    let mut item = 0usize;
+    while let Some(value) = rest.next() {
+        let disposition = disposition_in(args, name, item, value)?;
         push_disposition(&mut dispositions, disposition)?;
+        item = item.saturating_add(1);
     }
     Ok(dispositions)
 }
 
 /// The disposition that an item of a list is. Without `rights` the handle keeps all its rights.
-fn disposition_in<'a, 'text>(
-    args: &Members<'a, 'text>,
+fn disposition_in<'tape, 'text>(
+    args: &Members<'tape, 'text>,
     name: Member,
     item: usize,
-    value: &'a Value<'text>,
+    value: JsonValue<'tape, 'text>,
 ) -> Result<Disposition, Cause>
-    ensures { IfOk result (IsDisposition (value_view value.now)) }
+    ensures { IfOk result (IsDisposition (value_at value.entry)) }
 {
     let sent = args.item(name, item, value)?;
     let is_duplicate = sent.is_duplicate(Member::Operation)?;

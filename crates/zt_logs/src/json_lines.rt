@@ -2,29 +2,28 @@
 
 ghost use Rattle.std.specs.Prelude.{◌≡◌, ◌<◌, ◌==◌, ◌++◌, [], ◌∷◌, length, None, IfOk, OnOk};
 ghost use Rattle.std.specs.List.{list_all, position};
-ghost use Rattle.json.specs.Value.{value_view};
 ghost use Rattle.zt_logs.specs.Lines.{lines_of, without_mark};
 ghost use Rattle.zt_logs.specs.Entries.{is_space, json_of, entry_for, entry_of, entries_of};
 ghost use Rattle.zt_logs.specs.Logged.{AreLogged};
-ghost use Rattle.zt_logs.specs.Members.{data_at};
+ghost use Rattle.zt_logs.specs.ProofsOnly.Tokens.{value_at, data_at};
+ghost use Rattle.zt_logs.specs.ProofsOnly.Walks.{IsWalked};
 ghost use Rattle.zt_logs.specs.ProofsOnly.ReadLines.{IsParsed, AddsLogged, AddsCalls, IsReadUpTo};
 
 use crate::call_names::{CallName, changes_nothing};
 use crate::faults::{Cause, LogFault};
+use crate::json_values::JsonValue;
 use crate::koids::koids_of;
 use crate::line_calls::{calls_of, form_of};
+use crate::line_members::LineMembers;
 use crate::logged::CallLog;
 use crate::logged_parts::{LineHead, push_parts};
-use crate::members::Members;
 use crate::notes::{LogNote, LogNotes};
 use crate::options::options_of;
-use crate::places::{LineObject, Member};
-use crate::process_names::{NamedPlace, Naming, ProcessNames, ProcessWord, process_in};
+use crate::process_names::{NamedPlace, Naming, ProcessNames, ProcessWord};
 use crate::recorded::recorded_of;
-use crate::side_members::SideMembers;
 use crate::skipped::{SkippedCall, skipped_of};
 use crate::times::times_of;
-use json::{Error, Scratch, Value};
+use json::{Error, Scratch, Tape};
 use memchr::memchr;
 use std::alloc::{AllocError, Global};
 
@@ -157,7 +156,7 @@ fn take_line(
         return Ok(());
     }
     match json_in(alloc, line.bytes, scratch)? {
-        Parsed::Whole(value) => take_value(alloc, log, naming, &value),
+        Parsed::Whole(tape) => take_value(alloc, log, naming, JsonValue::of_tape(&tape)),
         Parsed::CutOff if !line.is_ended && is_begun(line.bytes) => {
             note_cut_off(&mut log.notes, log.lines)
         }
@@ -198,18 +197,18 @@ fn take_value(
     alloc: Global,
     log: &mut CallLog,
     naming: &mut Naming,
-    value: &Value<'_>,
+    value: JsonValue<'_, '_>,
 ) -> Result<(), Cause>
     ensures lines { log.new.lines ≡ log.old.lines }
-    ensures calls { OnOk result (AddsLogged (entry_for log.old.lines (value_view value.now)) log.old.calls.items log.new.calls.items) }
+    ensures calls { OnOk result (AddsLogged (entry_for log.old.lines (value_at value.entry)) log.old.calls.items log.new.calls.items) }
 {
-    let members = Members::of_line(value)?;
-    let word = members.text(Member::Call)?;
+    let line = LineMembers::of_line(value)?;
+    let word = line.call()?;
     match CallName::of(word) {
-        Some(name) => take_call(alloc, log, naming, name, &members),
+        Some(name) => take_call(alloc, log, naming, name, &line),
         None => {
             if !changes_nothing(word) {
-                skip(alloc, &mut log.skipped, naming, word, &members)?;
+                skip(alloc, &mut log.skipped, naming, word, &line)?;
             }
             Ok(())
         }
@@ -219,7 +218,7 @@ fn take_value(
 /// How a line reads as JSON.
 #[derive(Drop)]
 enum Parsed<'a> {
-    Whole(Value<'a>),
+    Whole(Tape<'a>),
     /// It ends in the middle of a JSON text.
     CutOff,
     Broken,
@@ -228,10 +227,19 @@ enum Parsed<'a> {
 fn json_in<'a>(alloc: Global, line: &'a [u8], scratch: &'a mut Scratch) -> Result<Parsed<'a>, Cause>
     ensures { IfOk result (IsParsed line.now) }
 {
-    match Value::from_slice(alloc, line, scratch) {
-        Ok(value) => Ok(Parsed::Whole(value)),
-        Err(Error::Invalid) => refused(alloc, line),
-        // `TooLong` and `DuplicateKey` come only from a tape or a strict read.
+    match str::from_utf8(line) {
+        Ok(text) => json_of(alloc, text, scratch),
+        Err(_) => refused(alloc, line),
+    }
+}
+
+fn json_of<'a>(alloc: Global, text: &'a str, scratch: &'a mut Scratch) -> Result<Parsed<'a>, Cause>
+    ensures { IfOk result (IsParsed text.now) }
+{
+    match Tape::parse(text, scratch, Vec::new(alloc)) {
+        Ok(tape) => Ok(Parsed::Whole(tape)),
+        Err(Error::Invalid) => refused(alloc, text.as_bytes()),
+        // `TooLong` comes only above 4 GiB, and `DuplicateKey` only from a strict read.
         Err(Error::OutOfMemory | Error::TooLong | Error::DuplicateKey) => Err(Cause::OutOfMemory),
     }
 }
@@ -262,16 +270,16 @@ fn take_call(
     log: &mut CallLog,
     naming: &mut Naming,
     name: CallName,
-    line: &Members<'_, '_>,
+    line: &LineMembers<'_, '_>,
 ) -> Result<(), Cause>
+    requires { IsWalked line.now }
     ensures lines { log.new.lines ≡ log.old.lines }
-    ensures calls { OnOk result (AddsCalls name log.old.lines (data_at line.now.value) log.old.calls.items log.new.calls.items) }
+    ensures calls { OnOk result (AddsCalls name log.old.lines (data_at line.now.whole.value) log.old.calls.items log.new.calls.items) }
 {
-    let side = line.side_members();
-    let caller = caller_of(line, &side)?;
-    let args = line.object(Member::Args, LineObject::Args)?;
-    let options = options_of(alloc, &mut log.notes, log.lines, name, &args)?;
-    let parts = calls_of(alloc, name, line, &args, options)?;
+    let caller = line.process()?;
+    let args = line.args()?;
+    let options = options_of(alloc, &mut log.notes, log.lines, name, args)?;
+    let parts = calls_of(alloc, name, line, args, options)?;
     let count = parts.len();
     let place = log.calls.len();
     let process = name_parts(naming, caller, place, count)?;
@@ -282,23 +290,10 @@ fn take_call(
         process,
         form: form_of(name),
         count,
-        times: times_of(&side),
+        times: times_of(&line.others),
     };
-    let koids = koids_of(alloc, &side)?;
+    let koids = koids_of(alloc, &line.others)?;
     push_parts(alloc, &mut log.calls, head, parts, recorded, koids)
-}
-
-/// The process that makes the calls of a line with these members. The error is `Missing` or `Member`.
-fn caller_of<'text>(
-    line: &Members<'_, 'text>,
-    side: &SideMembers<'_, 'text>,
-) -> Result<ProcessWord<'text>, Cause> {
-    if let Some(value) = side.process {
-        if let Some(process) = process_in(value) {
-            return Ok(process);
-        }
-    }
-    line.process(Member::Process)
 }
 
 /// The number of the caller of a line that has `count` calls, the first of them at `place` in the log's calls.
@@ -321,10 +316,10 @@ fn skip(
     skipped: &mut Vec<SkippedCall>,
     naming: &mut Naming,
     name: &str,
-    line: &Members<'_, '_>,
+    line: &LineMembers<'_, '_>,
 ) -> Result<(), AllocError> {
     let place = NamedPlace::Skipped(skipped.len());
-    let process = match line.process(Member::Process) {
+    let process = match line.process() {
         Ok(process) => Some(naming.number(place, process)?),
         Err(_) => None,
     };

@@ -1,8 +1,8 @@
 //! Reads the koids that a tracer tells of the objects of handles.
 
+use crate::json_values::JsonValue;
+use crate::line_members::OtherMembers;
 use crate::numbers::{narrow, number_in, number_of};
-use crate::side_members::SideMembers;
-use json::Value;
 use std::alloc::{AllocError, Global};
 use zt_rows::HandleValue;
 
@@ -17,25 +17,28 @@ pub struct HandleKoid {
 /// The koids that a line tells in `koids` and `related_koids`. A member of another form is ignored.
 pub(crate) fn koids_of(
     alloc: Global,
-    side: &SideMembers<'_, '_>,
+    others: &OtherMembers<'_, '_>,
 ) -> Result<Vec<HandleKoid>, AllocError> {
     let mut koids = Vec::new(alloc);
-    push_koids(&mut koids, side.koids, false)?;
-    push_koids(&mut koids, side.related_koids, true)?;
+    push_koids(&mut koids, others.koids.as_ref(), false)?;
+    push_koids(&mut koids, others.related_koids.as_ref(), true)?;
     Ok(koids)
 }
 
 /// Appends the koids of an object that has a member for each handle.
 fn push_koids(
     koids: &mut Vec<HandleKoid>,
-    object: Option<&Value<'_>>,
+    object: Option<&JsonValue<'_, '_>>,
     is_peer: bool,
 ) -> Result<(), AllocError> {
-    let Some(Value::Object(members)) = object else {
+    let Some(object) = object else {
         return Ok(());
     };
-    for member in members {
-        if let Some(told) = koid_in(member.0, &member.1, is_peer) {
+    let Some(mut members) = object.members() else {
+        return Ok(());
+    };
+    while let Some((name, value)) = members.next() {
+        if let Some(told) = koid_in(name, &value, is_peer) {
             koids.push(told)?;
         }
     }
@@ -43,7 +46,7 @@ fn push_koids(
 }
 
 /// The koid that a member tells of a handle. None if the handle or the koid is 0, or not a number.
-fn koid_in(name: &str, value: &Value<'_>, is_peer: bool) -> Option<HandleKoid> {
+fn koid_in(name: &str, value: &JsonValue<'_, '_>, is_peer: bool) -> Option<HandleKoid> {
     let handle = HandleValue(narrow(number_of(name)?)?);
     let koid = number_in(value)?;
     if handle.0 == 0 || koid == 0 {

@@ -6,8 +6,10 @@ mod call_names;
 mod dispositions;
 mod faults;
 mod json_lines;
+mod json_values;
 mod koids;
 mod line_calls;
+mod line_members;
 mod line_parts;
 mod logged;
 mod logged_calls;
@@ -20,7 +22,6 @@ mod other_kinds;
 mod places;
 mod process_names;
 mod recorded;
-mod side_members;
 mod skipped;
 mod times;
 

@@ -1,22 +1,25 @@
 //! Which calls of the semantics a line of a log is: none, one or several.
 
 ghost use Rattle.std.specs.Prelude.{◌≡◌, ◌++◌, ◌∷◌, [], Some, None, IfOk, OnOk};
-ghost use Rattle.zt_logs.specs.Members.{field, data_at};
+ghost use Rattle.zt_logs.specs.Members.{field};
+ghost use Rattle.zt_logs.specs.ProofsOnly.Tokens.{data_at};
 ghost use Rattle.zt_rows.specs.declared.calls.Call.TheVariants as call;
 ghost use Rattle.zt_logs.specs.declared.places.Member.TheVariants as member;
 ghost use Rattle.zt_logs.specs.LineCalls.{AreCallsOf, AreCloses, AreWrites, AreMade, AreWritten, AreRequests, AreCallsWith, AreCreates, AreSpaces, IsSpaceAt, has_read, closes_of, gives};
 ghost use Rattle.zt_logs.specs.Answered.{status_in};
 ghost use Rattle.zt_logs.specs.LoggedCalls.{IsCallOf};
 ghost use Rattle.zt_logs.specs.ProofsOnly.ReadLines.{AddsAnswer};
+ghost use Rattle.zt_logs.specs.ProofsOnly.Walks.{IsWalked};
 
 use crate::call_names::CallName;
 use crate::dispositions::{copies_of, dispositions, sources_of};
 use crate::faults::Cause;
+use crate::line_members::LineMembers;
 use crate::line_parts::LineForm;
 use crate::logged_calls::{call_of, too_many_bytes};
 use crate::members::Members;
 use crate::other_kinds::OtherKind;
-use crate::places::{LineObject, Member};
+use crate::places::Member;
 use crate::recorded::status_in;
 use std::alloc::Global;
 use zt_bits::Status;
@@ -53,12 +56,13 @@ pub(crate) fn form_of(name: CallName) -> LineForm {
 pub(crate) fn calls_of(
     alloc: Global,
     name: CallName,
-    line: &Members<'_, '_>,
+    line: &LineMembers<'_, '_>,
     args: &Members<'_, '_>,
     options: u64,
 ) -> Result<Vec<PartCall>, Cause>
-    requires { data_at args.now.value ≡ field member.Args (data_at line.now.value) }
-    ensures { IfOk result (λ parts. AreCallsOf name (data_at line.now.value) options parts.items) }
+    requires walked { IsWalked line.now }
+    requires args { data_at args.now.value ≡ field member.Args (data_at line.now.whole.value) }
+    ensures { IfOk result (λ parts. AreCallsOf name (data_at line.now.whole.value) options parts.items) }
 {
     match name {
         CallName::Made(kind) => made(alloc, kind, line),
@@ -81,12 +85,13 @@ fn one_call(alloc: Global, call: Call) -> Result<Vec<PartCall>, Cause>
 }
 
 /// The event or event pair that stands in for an object of this kind. No call if the line failed or gives no handle.
-fn made(alloc: Global, kind: OtherKind, line: &Members<'_, '_>) -> Result<Vec<PartCall>, Cause>
-    ensures { IfOk result (λ parts. AreMade kind (data_at line.now.value) parts.items) }
+fn made(alloc: Global, kind: OtherKind, line: &LineMembers<'_, '_>) -> Result<Vec<PartCall>, Cause>
+    requires { IsWalked line.now }
+    ensures { IfOk result (λ parts. AreMade kind (data_at line.now.whole.value) parts.items) }
 {
     let status = status_in(line)?;
-    let out = line.object(Member::Out, LineObject::Out)?;
-    if !matches!(status, Some(Status::Ok)) || !gives(kind, &out) {
+    let out = line.out()?;
+    if !matches!(status, Some(Status::Ok)) || !gives(kind, out) {
         return Ok(Vec::new(alloc));
     }
     if kind.has_ends() {
@@ -169,11 +174,12 @@ fn written(
 /// The calls of `channel_call`: a write of the handles as they are, and a read if the status says that the line reads.
 fn channel_call(
     alloc: Global,
-    line: &Members<'_, '_>,
+    line: &LineMembers<'_, '_>,
     args: &Members<'_, '_>,
 ) -> Result<Vec<PartCall>, Cause>
-    requires { data_at args.now.value ≡ field member.Args (data_at line.now.value) }
-    ensures { IfOk result (λ parts. AreCallsWith AreRequests (data_at line.now.value) parts.items) }
+    requires walked { IsWalked line.now }
+    requires args { data_at args.now.value ≡ field member.Args (data_at line.now.whole.value) }
+    ensures { IfOk result (λ parts. AreCallsWith AreRequests (data_at line.now.whole.value) parts.items) }
 {
     let mut parts = request(alloc, args)?;
     push_answer(&mut parts, line, args)?;
@@ -183,11 +189,12 @@ fn channel_call(
 /// The calls of `channel_call_etc`: those that make the handles that are sent, the write, and a read if the status says so.
 fn channel_call_etc(
     alloc: Global,
-    line: &Members<'_, '_>,
+    line: &LineMembers<'_, '_>,
     args: &Members<'_, '_>,
 ) -> Result<Vec<PartCall>, Cause>
-    requires { data_at args.now.value ≡ field member.Args (data_at line.now.value) }
-    ensures { IfOk result (λ parts. AreCallsWith (AreWritten member.WrittenBytes member.WrittenHandles) (data_at line.now.value) parts.items) }
+    requires walked { IsWalked line.now }
+    requires args { data_at args.now.value ≡ field member.Args (data_at line.now.whole.value) }
+    ensures { IfOk result (λ parts. AreCallsWith (AreWritten member.WrittenBytes member.WrittenHandles) (data_at line.now.whole.value) parts.items) }
 {
     let mut parts = written(alloc, args, Member::WrittenBytes, Member::WrittenHandles)?;
     push_answer(&mut parts, line, args)?;
@@ -197,10 +204,11 @@ fn channel_call_etc(
 /// Appends the read of the answer, if the status says that the line reads.
 fn push_answer(
     parts: &mut Vec<PartCall>,
-    line: &Members<'_, '_>,
+    line: &LineMembers<'_, '_>,
     args: &Members<'_, '_>,
 ) -> Result<(), Cause>
-    ensures { OnOk result (AddsAnswer (status_in (data_at line.now.value)) (data_at args.now.value) parts.old.items parts.new.items) }
+    requires { IsWalked line.now }
+    ensures { OnOk result (AddsAnswer (status_in (data_at line.now.whole.value)) (data_at args.now.value) parts.old.items parts.new.items) }
 {
     let handle = args.handle(Member::Handle)?;
     let bytes = args.narrow(Member::ReadByteRoom)?;
@@ -247,11 +255,12 @@ fn request(alloc: Global, args: &Members<'_, '_>) -> Result<Vec<PartCall>, Cause
 /// The calls of `process_create`: an event for the address space if the line gives a handle to it, and a spawn.
 fn process_create(
     alloc: Global,
-    line: &Members<'_, '_>,
+    line: &LineMembers<'_, '_>,
     args: &Members<'_, '_>,
 ) -> Result<Vec<PartCall>, Cause>
-    requires { data_at args.now.value ≡ field member.Args (data_at line.now.value) }
-    ensures { IfOk result (λ parts. AreCreates (data_at line.now.value) parts.items) }
+    requires walked { IsWalked line.now }
+    requires args { data_at args.now.value ≡ field member.Args (data_at line.now.whole.value) }
+    ensures { IfOk result (λ parts. AreCreates (data_at line.now.whole.value) parts.items) }
 {
     let job = args.handle(Member::Job)?;
     let mut parts = spaces(alloc, line)?;
@@ -261,12 +270,13 @@ fn process_create(
 }
 
 /// The event that stands in for an address space, if the line is ok and gives a handle to it.
-fn spaces(alloc: Global, line: &Members<'_, '_>) -> Result<Vec<PartCall>, Cause>
-    ensures { IfOk result (λ parts. AreSpaces (status_in (data_at line.now.value)) (field member.VmarHandle (field member.Out (data_at line.now.value))) parts.items) }
+fn spaces(alloc: Global, line: &LineMembers<'_, '_>) -> Result<Vec<PartCall>, Cause>
+    requires { IsWalked line.now }
+    ensures { IfOk result (λ parts. AreSpaces (status_in (data_at line.now.whole.value)) (field member.VmarHandle (field member.Out (data_at line.now.whole.value))) parts.items) }
 {
-    let out = line.object(Member::Out, LineObject::Out)?;
+    let out = line.out()?;
     match status_in(line)? {
-        Some(Status::Ok) => space_in(alloc, &out),
+        Some(Status::Ok) => space_in(alloc, out),
         _ => Ok(Vec::new(alloc)),
     }
 }

@@ -3,7 +3,7 @@
 ghost use Rattle.std.specs.Prelude.{◌≡◌, true, IfOk};
 ghost use Rattle.zt_logs.specs.LineCalls.{is_one_call};
 ghost use Rattle.zt_logs.specs.declared.call_names.CallName.TheVariants as called;
-ghost use Rattle.zt_logs.specs.Members.{data_at};
+ghost use Rattle.zt_logs.specs.ProofsOnly.Tokens.{data_at};
 ghost use Rattle.zt_logs.specs.LoggedCalls.{IsCallOf};
 
 use crate::call_names::CallName;

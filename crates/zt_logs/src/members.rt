@@ -3,45 +3,59 @@
 
 ghost use Rattle.std.specs.Prelude.{◌≡◌, ◌++◌, ◌∷◌, [], Some, None, IfOk, IfSome, OnOk, is_some, option_and_then};
 ghost use Rattle.json.specs.Find.{as_str};
-ghost use Rattle.json.specs.Value.{value_view};
-ghost use Rattle.zt_logs.specs.Members.{named, field, data_at};
+ghost use Rattle.zt_logs.specs.Members.{named, field};
+ghost use Rattle.zt_logs.specs.ProofsOnly.Tokens.{value_at, data_at, items_at};
 ghost use Rattle.zt_logs.specs.Numbers.{IsNumber, IsNumberIn, IsNumberOrNone, IsMaskIn, IsSignedIn, flag_of};
-ghost use Rattle.zt_logs.specs.LoggedCalls.{AreBytes, ArePacketBytes, AreHandles};
+ghost use Rattle.zt_logs.specs.LoggedCalls.{AreBytes, ArePacketBytes, AreNumbers, AreHandles};
 ghost use Rattle.zt_logs.specs.LineCalls.{IsOperation, IsOperationIn};
-ghost use Rattle.zt_logs.specs.Answered.{IsReadNumber, AreReadHandles};
-ghost use Rattle.zt_logs.specs.ProofsOnly.ReadLines.{AreNumbersOf, AreReadNumbersOf, IsListAt};
+ghost use Rattle.zt_logs.specs.Answered.{IsReadNumber, AreReadNumbers, AreReadHandles};
+ghost use Rattle.zt_logs.specs.ProofsOnly.ReadLines.{IsListAt};
 
 use crate::bit_names::{BitNames, bits_in};
 use crate::faults::{Cause, WantedValue};
+use crate::json_values::{JsonItems, JsonValue};
 use crate::numbers::{narrow_in, number_in, signed_in};
 use crate::places::{LineObject, Member, Place};
 use crate::process_names::{ProcessWord, process_in};
-use crate::side_members::SideMembers;
 use hex::{FromHex, FromHexError};
-use json::Value;
 use std::alloc::Global;
 use zt_bits::Signals;
 use zt_rows::{HandleValue, Items, MESSAGE_BYTES, MESSAGE_HANDLES};
 
 /// The members of an object of a line. An object that is left out has none.
-#[derive(Clone, Copy)]
-pub(crate) struct Members<'a, 'text> {
+#[derive(Drop)]
+pub(crate) struct Members<'tape, 'text> {
     object: LineObject,
-    value: Option<&'a Value<'text>>,
+    value: Option<JsonValue<'tape, 'text>>,
 }
 
-impl<'a, 'text> Members<'a, 'text> {
-    /// The members of a line. The error is `NoObject` if it is not an object.
-    pub(crate) fn of_line(line: &'a Value<'text>) -> Result<Members<'a, 'text>, Cause>
-        ensures { IfOk result (λ members. data_at members.value ≡ Some (value_view line.now)) }
+impl<'tape, 'text> Members<'tape, 'text> {
+    /// The members of this value, which is an object or is left out.
+    pub(crate) fn new(
+        object: LineObject,
+        value: Option<JsonValue<'tape, 'text>>,
+    ) -> Members<'tape, 'text>
+        ensures { result.value ≡ value.entry }
     {
-        if !is_object(line) {
-            return Err(Cause::NoObject);
+        Members { object, value }
+    }
+
+    /// The value of these members, if it is not left out.
+    pub(crate) fn value(&self) -> Option<&JsonValue<'tape, 'text>> {
+        self.value.as_ref()
+    }
+
+    /// Whether a value is there that is no object.
+    pub(crate) fn is_other(&self) -> bool {
+        match &self.value {
+            Some(value) => !value.is_object(),
+            None => false,
         }
-        Ok(Members {
-            object: LineObject::Line,
-            value: Some(line),
-        })
+    }
+
+    /// The error of a needed member that is left out.
+    pub(crate) fn missing(&self, name: Member) -> Cause {
+        Cause::Missing(self.place(name))
     }
 
     /// The members of the object under this name, which may be left out.
@@ -49,12 +63,12 @@ impl<'a, 'text> Members<'a, 'text> {
         &self,
         name: Member,
         object: LineObject,
-    ) -> Result<Members<'a, 'text>, Cause>
+    ) -> Result<Members<'tape, 'text>, Cause>
         ensures { IfOk result (λ members. data_at members.value ≡ field name (data_at self.now.value)) }
     {
         let value = self.member(name);
-        if let Some(value) = value {
-            if !is_object(value) {
+        if let Some(found) = &value {
+            if !found.is_object() {
                 return Err(self.fault(name, WantedValue::Object));
             }
         }
@@ -71,24 +85,13 @@ impl<'a, 'text> Members<'a, 'text> {
     /// Whether the member of this name is an object.
     pub(crate) fn has_object(&self, name: Member) -> bool {
         match self.member(name) {
-            Some(value) => is_object(value),
+            Some(value) => value.is_object(),
             None => false,
         }
     }
 
-    /// The process of a line, and its members that few lines have.
-    pub(crate) fn side_members(&self) -> SideMembers<'a, 'text> {
-        let mut side = SideMembers::none();
-        if let Some(Value::Object(members)) = self.value {
-            for member in members {
-                side.see(member.0, &member.1);
-            }
-        }
-        side
-    }
-
     /// The value of a member, by its name or else by its second name.
-    pub(crate) fn member(&self, name: Member) -> Option<&'a Value<'text>>
+    pub(crate) fn member(&self, name: Member) -> Option<JsonValue<'tape, 'text>>
         ensures { data_at result ≡ field name (data_at self.now.value) }
     {
         match self.named(name.name()) {
@@ -98,20 +101,23 @@ impl<'a, 'text> Members<'a, 'text> {
     }
 
     /// The value under this name, unless it is left out or `null`.
-    fn named(&self, name: &str) -> Option<&'a Value<'text>>
+    fn named(&self, name: &str) -> Option<JsonValue<'tape, 'text>>
         ensures { data_at result ≡ named name.now (data_at self.now.value) }
     {
-        let value = self.value?.get(name)?;
+        let Some(object) = &self.value else {
+            return None;
+        };
+        let value = object.get(name)?;
         if value.is_null() { None } else { Some(value) }
     }
 
     /// The value of a member that may not be left out.
-    fn needed(&self, name: Member) -> Result<&'a Value<'text>, Cause>
-        ensures { IfOk result (λ value. field name (data_at self.now.value) ≡ Some (value_view value.now)) }
+    fn needed(&self, name: Member) -> Result<JsonValue<'tape, 'text>, Cause>
+        ensures { IfOk result (λ value. field name (data_at self.now.value) ≡ Some (value_at value)) }
     {
         match self.member(name) {
             Some(value) => Ok(value),
-            None => Err(Cause::Missing(self.place(name))),
+            None => Err(self.missing(name)),
         }
     }
 
@@ -143,7 +149,7 @@ impl<'a, 'text> Members<'a, 'text> {
 
     /// A process, by its number or its name.
     pub(crate) fn process(&self, name: Member) -> Result<ProcessWord<'text>, Cause> {
-        match process_in(self.needed(name)?) {
+        match process_in(&self.needed(name)?) {
             Some(process) => Ok(process),
             None => Err(self.fault(name, WantedValue::Process)),
         }
@@ -161,7 +167,7 @@ impl<'a, 'text> Members<'a, 'text> {
     pub(crate) fn wide(&self, name: Member) -> Result<u64, Cause>
         ensures { IfOk result (IsNumberIn (field name (data_at self.now.value))) }
     {
-        match number_in(self.needed(name)?) {
+        match number_in(&self.needed(name)?) {
             Some(number) => Ok(number),
             None => Err(self.fault(name, WantedValue::Number(u64::MAX))),
         }
@@ -171,7 +177,7 @@ impl<'a, 'text> Members<'a, 'text> {
     pub(crate) fn narrow(&self, name: Member) -> Result<u32, Cause>
         ensures { IfOk result (IsNumberIn (field name (data_at self.now.value))) }
     {
-        match narrow_in(self.needed(name)?) {
+        match narrow_in(&self.needed(name)?) {
             Some(number) => Ok(number),
             None => Err(self.fault(name, WantedValue::Number(u64::from(u32::MAX)))),
         }
@@ -211,7 +217,7 @@ impl<'a, 'text> Members<'a, 'text> {
     fn bits(&self, name: Member, names: BitNames) -> Result<u32, Cause>
         ensures { IfOk result (IsMaskIn (field name (data_at self.now.value))) }
     {
-        match bits_in(names, self.needed(name)?) {
+        match bits_in(names, &self.needed(name)?) {
             Some(bits) => Ok(bits),
             None => Err(self.fault(name, WantedValue::Mask)),
         }
@@ -221,7 +227,7 @@ impl<'a, 'text> Members<'a, 'text> {
     pub(crate) fn signed(&self, name: Member) -> Result<i64, Cause>
         ensures { IfOk result (IsSignedIn (field name (data_at self.now.value))) }
     {
-        match signed_in(self.needed(name)?) {
+        match signed_in(&self.needed(name)?) {
             Some(number) => Ok(number),
             None => Err(self.fault(name, WantedValue::SignedNumber)),
         }
@@ -247,7 +253,7 @@ impl<'a, 'text> Members<'a, 'text> {
         name: Member,
     ) -> Result<Option<Items<u8>>, Cause> {
         match self.member(name) {
-            Some(value) => Ok(Some(Items::new(self.bytes_in(alloc, name, value)?))),
+            Some(value) => Ok(Some(Items::new(self.bytes_in(alloc, name, &value)?))),
             None => Ok(None),
         }
     }
@@ -257,14 +263,19 @@ impl<'a, 'text> Members<'a, 'text> {
         ensures { IfOk result (λ bytes. AreBytes (field name (data_at self.now.value)) bytes.items) }
     {
         match self.member(name) {
-            Some(value) => self.bytes_in(alloc, name, value),
+            Some(value) => self.bytes_in(alloc, name, &value),
             None => Ok(Vec::new(alloc)),
         }
     }
 
     /// The bytes that a value writes as hexadecimal digits, at most 65,536.
-    fn bytes_in(&self, alloc: Global, name: Member, value: &Value<'_>) -> Result<Vec<u8>, Cause>
-        ensures { IfOk result (λ bytes. AreBytes (Some (value_view value.now)) bytes.items) }
+    fn bytes_in(
+        &self,
+        alloc: Global,
+        name: Member,
+        value: &JsonValue<'_, '_>,
+    ) -> Result<Vec<u8>, Cause>
+        ensures { IfOk result (λ bytes. AreBytes (Some (value_at value.now)) bytes.items) }
     {
         let Some(text) = value.as_str() else {
             return Err(self.fault(name, WantedValue::Digits));
@@ -335,14 +346,17 @@ impl<'a, 'text> Members<'a, 'text> {
         &self,
         alloc: Global,
         name: Member,
-        list: &[Value<'_>],
+        list: JsonItems<'_, '_>,
     ) -> Result<Vec<HandleValue>, Cause>
-        ensures { IfOk result (λ handles. AreReadNumbersOf list.now handles.items) }
+        ensures { IfOk result (λ handles. AreReadNumbers (items_at list.entry) handles.items) }
     {
         let mut handles = Vec::new(alloc);
-        for item in 0..list.len() {
-            let handle = self.read_handle_in(name, item, &list[item])?;
+        let mut rest = list;
+        let mut item = 0usize;
+        while let Some(value) = rest.next() {
+            let handle = self.read_handle_in(name, item, &value)?;
             push_handle(&mut handles, handle)?;
+            item = item.saturating_add(1);
         }
         Ok(handles)
     }
@@ -352,39 +366,44 @@ impl<'a, 'text> Members<'a, 'text> {
         &self,
         name: Member,
         item: usize,
-        value: &Value<'_>,
+        value: &JsonValue<'_, '_>,
     ) -> Result<HandleValue, Cause>
-        ensures { IfOk result (IsReadNumber (value_view value.now)) }
+        ensures { IfOk result (IsReadNumber (value_at value.now)) }
     {
         match value.get(Member::Handle.name()) {
-            Some(handle) => self.handle_in(name, item, handle),
+            Some(handle) => self.handle_in(name, item, &handle),
             None => self.handle_in(name, item, value),
         }
     }
 
     /// A list of at most 64 items, as many as a message has handles; none if it is left out.
-    pub(crate) fn list(&self, name: Member) -> Result<Option<&'a [Value<'text>]>, Cause>
-        ensures { IfOk result (IsListAt (field name (data_at self.now.value))) }
-    {
-        let list = self.any_list(name)?;
-        if let Some(items) = list {
-            if items.len() > MESSAGE_HANDLES {
-                return Err(self.fault(name, WantedValue::AtMost(MESSAGE_HANDLES)));
-            }
-        }
-        Ok(list)
-    }
-
-    /// A list of any length; none if it is left out.
-    fn any_list(&self, name: Member) -> Result<Option<&'a [Value<'text>]>, Cause>
+    pub(crate) fn list(&self, name: Member) -> Result<Option<JsonItems<'tape, 'text>>, Cause>
         ensures { IfOk result (IsListAt (field name (data_at self.now.value))) }
     {
         let Some(value) = self.member(name) else {
             return Ok(None);
         };
-        match value {
-            Value::Array(list) => Ok(Some(list.as_slice())),
-            _ => Err(self.fault(name, WantedValue::List)),
+        match value.items() {
+            Some(list) => {
+                if is_too_long(&value) {
+                    return Err(self.fault(name, WantedValue::AtMost(MESSAGE_HANDLES)));
+                }
+                Ok(Some(list))
+            }
+            None => Err(self.fault(name, WantedValue::List)),
+        }
+    }
+
+    /// A list of any length; none if it is left out.
+    fn any_list(&self, name: Member) -> Result<Option<JsonItems<'tape, 'text>>, Cause>
+        ensures { IfOk result (IsListAt (field name (data_at self.now.value))) }
+    {
+        let Some(value) = self.member(name) else {
+            return Ok(None);
+        };
+        match value.items() {
+            Some(list) => Ok(Some(list)),
+            None => Err(self.fault(name, WantedValue::List)),
         }
     }
 
@@ -393,11 +412,11 @@ impl<'a, 'text> Members<'a, 'text> {
         &self,
         name: Member,
         item: usize,
-        value: &'a Value<'text>,
-    ) -> Result<Members<'a, 'text>, Cause>
-        ensures { IfOk result (λ members. data_at members.value ≡ Some (value_view value.now)) }
+        value: JsonValue<'tape, 'text>,
+    ) -> Result<Members<'tape, 'text>, Cause>
+        ensures { IfOk result (λ members. data_at members.value ≡ Some (value_at value.entry)) }
     {
-        if !is_object(value) {
+        if !value.is_object() {
             let mut place = self.place(name);
             place.item = Some(item);
             let wanted = WantedValue::Object;
@@ -417,7 +436,7 @@ impl<'a, 'text> Members<'a, 'text> {
     pub(crate) fn is_duplicate(&self, name: Member) -> Result<bool, Cause>
         ensures { IfOk result (IsOperationIn (field name (data_at self.now.value))) }
     {
-        match is_duplicate_in(self.needed(name)?) {
+        match is_duplicate_in(&self.needed(name)?) {
             Some(is_duplicate) => Ok(is_duplicate),
             None => Err(self.fault(name, WantedValue::Operation)),
         }
@@ -428,21 +447,29 @@ impl<'a, 'text> Members<'a, 'text> {
         &self,
         alloc: Global,
         name: Member,
-        list: &[Value<'_>],
+        list: JsonItems<'_, '_>,
     ) -> Result<Vec<HandleValue>, Cause>
-        ensures { IfOk result (λ handles. AreNumbersOf list.now handles.items) }
+        ensures { IfOk result (λ handles. AreNumbers (items_at list.entry) handles.items) }
     {
         let mut handles = Vec::new(alloc);
-        for item in 0..list.len() {
-            let handle = self.handle_in(name, item, &list[item])?;
+        let mut rest = list;
+        let mut item = 0usize;
+        while let Some(value) = rest.next() {
+            let handle = self.handle_in(name, item, &value)?;
             push_handle(&mut handles, handle)?;
+            item = item.saturating_add(1);
         }
         Ok(handles)
     }
 
     /// The handle that this item of a list is.
-    fn handle_in(&self, name: Member, item: usize, value: &Value<'_>) -> Result<HandleValue, Cause>
-        ensures { IfOk result (IsNumber (value_view value.now)) }
+    fn handle_in(
+        &self,
+        name: Member,
+        item: usize,
+        value: &JsonValue<'_, '_>,
+    ) -> Result<HandleValue, Cause>
+        ensures { IfOk result (IsNumber (value_at value.now)) }
     {
         match narrow_in(value) {
             Some(number) => Ok(HandleValue(number)),
@@ -456,13 +483,22 @@ impl<'a, 'text> Members<'a, 'text> {
     }
 }
 
-fn is_object(value: &Value<'_>) -> bool {
-    matches!(value, Value::Object(_))
+/// Whether a list has more items than a message has handles.
+fn is_too_long(list: &JsonValue<'_, '_>) -> bool {
+    let Some(mut items) = list.items() else {
+        return false;
+    };
+    for _ in 0..MESSAGE_HANDLES {
+        if items.next().is_none() {
+            return false;
+        }
+    }
+    items.next().is_some()
 }
 
 /// Whether an operation, by its number or its name, duplicates the handle. None if it is neither operation.
-fn is_duplicate_in(value: &Value<'_>) -> Option<bool>
-    ensures { IfSome result (IsOperation (value_view value.now)) }
+fn is_duplicate_in(value: &JsonValue<'_, '_>) -> Option<bool>
+    ensures { IfSome result (IsOperation (value_at value.now)) }
 {
     match number_in(value) {
         Some(0) => Some(false),

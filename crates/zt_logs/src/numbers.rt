@@ -2,25 +2,24 @@
 
 ghost use Rattle.std.specs.Prelude.{◌≡◌, ◌+◌, ◌*◌, ◌<◌, ◌≤◌, Some, IfSome};
 ghost use Rattle.std.specs.Char.{digit_value};
-ghost use Rattle.json.specs.Value.{value_view};
+ghost use Rattle.zt_logs.specs.ProofsOnly.Tokens.{value_at};
 ghost use Rattle.zt_logs.specs.Numbers.{IsWritten, IsNumberText, IsNumber, IsSigned, IsSignedIn};
 
-use json::Value;
+use crate::json_values::JsonValue;
 
 /// A number of 64 bits: a JSON number without a fraction, or a text of one.
-pub(crate) fn number_in(value: &Value<'_>) -> Option<u64>
-    ensures { IfSome result (IsNumber (value_view value.now)) }
+pub(crate) fn number_in(value: &JsonValue<'_, '_>) -> Option<u64>
+    ensures { IfSome result (IsNumber (value_at value.now)) }
 {
-    match value {
-        Value::Number(digits) => written(digits.as_bytes(), 10),
-        Value::String(text) => number_of(*text),
-        _ => None,
+    match value.as_number() {
+        Some(digits) => written(digits.as_bytes(), 10),
+        None => number_of(value.as_str()?),
     }
 }
 
 /// A number of 32 bits, in the forms of `number_in`.
-pub(crate) fn narrow_in(value: &Value<'_>) -> Option<u32>
-    ensures { IfSome result (IsNumber (value_view value.now)) }
+pub(crate) fn narrow_in(value: &JsonValue<'_, '_>) -> Option<u32>
+    ensures { IfSome result (IsNumber (value_at value.now)) }
 {
     narrow(number_in(value)?)
 }
@@ -33,13 +32,12 @@ pub(crate) fn narrow(number: u64) -> Option<u32>
 }
 
 /// A signed number of 64 bits: a JSON number without a fraction, or a text of one.
-pub(crate) fn signed_in(value: &Value<'_>) -> Option<i64>
-    ensures { IfSome result (λ code. IsSignedIn (Some (value_view value.now)) code) }
+pub(crate) fn signed_in(value: &JsonValue<'_, '_>) -> Option<i64>
+    ensures { IfSome result (λ code. IsSignedIn (Some (value_at value.now)) code) }
 {
-    match value {
-        Value::Number(text) => signed_number(*text),
-        Value::String(text) => signed_of(*text),
-        _ => None,
+    match value.as_number() {
+        Some(text) => signed_number(text),
+        None => signed_of(value.as_str()?),
     }
 }
 

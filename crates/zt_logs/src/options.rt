@@ -2,7 +2,8 @@
 
 ghost use Rattle.std.specs.Prelude.{IfOk};
 ghost use Rattle.zt_logs.specs.declared.places.Member.TheVariants as member;
-ghost use Rattle.zt_logs.specs.Members.{field, data_at};
+ghost use Rattle.zt_logs.specs.Members.{field};
+ghost use Rattle.zt_logs.specs.ProofsOnly.Tokens.{data_at};
 ghost use Rattle.zt_logs.specs.Numbers.{IsMaskOrNone};
 
 use crate::call_names::CallName;
@@ -37,7 +38,7 @@ pub(crate) fn options_of(
     let Some(value) = args.member(Member::Options) else {
         return Ok(0);
     };
-    let options = match number_in(value) {
+    let options = match number_in(&value) {
         Some(options) => options,
         None => match value.as_str() {
             Some(text) => named_options(alloc, notes, line, name, text)?,

@@ -3,10 +3,10 @@
 ghost use Rattle.std.specs.Prelude.{◌≡◌, OnOk, map};
 ghost use Rattle.zt_logs.specs.ProofsOnly.ReadLines.{without_process};
 
+use crate::json_values::JsonValue;
 use crate::logged::{CallLog, LoggedCall};
 use crate::numbers::{number_of, written};
 use crate::skipped::SkippedCall;
-use json::Value;
 use std::alloc::{AllocError, Global};
 use std::collections::HashMap;
 
@@ -50,11 +50,10 @@ pub(crate) enum ProcessWord<'a> {
 }
 
 /// The process that a value is: a number, a text of one, or a name of 1 to 64 bytes.
-pub(crate) fn process_in<'a>(value: &Value<'a>) -> Option<ProcessWord<'a>> {
-    match value {
-        Value::Number(digits) => Some(ProcessWord::Number(written(digits.as_bytes(), 10)?)),
-        Value::String(text) => process_of(*text),
-        _ => None,
+pub(crate) fn process_in<'a>(value: &JsonValue<'_, 'a>) -> Option<ProcessWord<'a>> {
+    match value.as_number() {
+        Some(digits) => Some(ProcessWord::Number(written(digits.as_bytes(), 10)?)),
+        None => process_of(value.as_str()?),
     }
 }
 

@@ -1,12 +1,15 @@
 //! Reads what a line says that its call answered.
 
 ghost use Rattle.std.specs.Prelude.{◌≡◌, ◌∷◌, [], IfOk};
-ghost use Rattle.zt_logs.specs.Members.{field, data_at};
+ghost use Rattle.zt_logs.specs.Members.{field};
+ghost use Rattle.zt_logs.specs.ProofsOnly.Tokens.{data_at};
 ghost use Rattle.zt_logs.specs.declared.places.Member.TheVariants as member;
 ghost use Rattle.zt_logs.specs.Answered.{IsOnlyGiven, AreBothGiven, AreGivenBy, IsAnswered, first_word, other_word, first_name_of, other_name_of, status_of, status_in, answered_status};
+ghost use Rattle.zt_logs.specs.ProofsOnly.Walks.{IsWalked};
 
 use crate::call_names::{CallName, is};
 use crate::faults::{Cause, WantedValue};
+use crate::line_members::LineMembers;
 use crate::logged::{LoggedPacket, RecordedReply};
 use crate::members::{Members, push_handle};
 use crate::places::{LineObject, Member};
@@ -20,14 +23,15 @@ use zt_rows::{HandleValue, Items};
 pub(crate) fn recorded_of(
     alloc: Global,
     name: CallName,
-    line: &Members<'_, '_>,
+    line: &LineMembers<'_, '_>,
     naming: &mut Naming,
     call: usize,
 ) -> Result<RecordedReply, Cause>
-    ensures { IfOk result (λ recorded. IsAnswered name (data_at line.now.value) recorded.status recorded.handles) }
+    requires { IsWalked line.now }
+    ensures { IfOk result (λ recorded. IsAnswered name (data_at line.now.whole.value) recorded.status recorded.handles) }
 {
     let status = answered_status(name, status_in(line)?);
-    let out = line.object(Member::Out, LineObject::Out)?;
+    let out = line.out()?;
     let Some(Status::Ok) = status else {
         return Ok(RecordedReply {
             status,
@@ -38,16 +42,16 @@ pub(crate) fn recorded_of(
         });
     };
     let packet = match name {
-        CallName::PortWait => packet_of(&out)?,
+        CallName::PortWait => packet_of(out)?,
         _ => None,
     };
     let process = match name {
         CallName::Spawn | CallName::ProcessCreate | CallName::ProcessStart => {
-            made_process(&out, naming, call)?
+            made_process(out, naming, call)?
         }
         _ => None,
     };
-    let handles = given_handles(alloc, name, &out)?;
+    let handles = given_handles(alloc, name, out)?;
     let bytes = match name {
         CallName::ChannelRead | CallName::ChannelReadEtc => {
             out.bytes_if_any(alloc, Member::Bytes)?
@@ -201,11 +205,16 @@ fn packet_of(out: &Members<'_, '_>) -> Result<Option<LoggedPacket>, Cause> {
 
 /// The signals that a packet has, in the packet itself or in its object `signal`.
 fn signal_packet(packet: &Members<'_, '_>, key: u64) -> Result<LoggedPacket, Cause> {
-    let seen = if packet.has(Member::Signal) {
-        packet.object(Member::Signal, LineObject::PacketSignals)?
+    if packet.has(Member::Signal) {
+        let seen = packet.object(Member::Signal, LineObject::PacketSignals)?;
+        seen_signals(&seen, key)
     } else {
-        *packet
-    };
+        seen_signals(packet, key)
+    }
+}
+
+/// The packet with the signals that an object tells.
+fn seen_signals(seen: &Members<'_, '_>, key: u64) -> Result<LoggedPacket, Cause> {
     let trigger = seen.signals(Member::Trigger)?;
     let observed = seen.signals(Member::Observed)?;
     Ok(LoggedPacket::Signal {
@@ -216,10 +225,11 @@ fn signal_packet(packet: &Members<'_, '_>, key: u64) -> Result<LoggedPacket, Cau
 }
 
 /// The status of a line; none if no call of the semantics gives it.
-pub(crate) fn status_in(line: &Members<'_, '_>) -> Result<Option<Status>, Cause>
-    ensures { IfOk result (λ status. status ≡ status_in (data_at line.now.value)) }
+pub(crate) fn status_in(line: &LineMembers<'_, '_>) -> Result<Option<Status>, Cause>
+    requires { IsWalked line.now }
+    ensures { IfOk result (λ status. status ≡ status_in (data_at line.now.whole.value)) }
 {
-    Ok(status_of(line.text(Member::Status)?))
+    Ok(status_of(line.status()?))
 }
 
 /// The status of a status word, or of a name with `ZX_ERR_` ahead. None if no call of the semantics gives it.

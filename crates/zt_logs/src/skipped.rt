@@ -1,9 +1,9 @@
 //! Lines whose calls the semantics does not know: the name of the call, and the handles that the line names.
 
-use crate::members::Members;
+use crate::json_values::{JsonMembers, JsonValue};
+use crate::line_members::LineMembers;
 use crate::numbers::narrow_in;
 use crate::places::Member;
-use json::Value;
 use std::alloc::{AllocError, Global};
 use std::collections::BTreeMap;
 use zt_rows::HandleValue;
@@ -23,11 +23,12 @@ pub(crate) fn skipped_of(
     alloc: Global,
     name: &str,
     process: Option<u64>,
-    line: &Members<'_, '_>,
+    line: &LineMembers<'_, '_>,
 ) -> Result<SkippedCall, AllocError> {
     let mut handles = Vec::new(alloc);
-    push_named(&mut handles, line.member(Member::Args))?;
-    push_named(&mut handles, line.member(Member::Out))?;
+    let (args, out) = line.objects();
+    push_named(&mut handles, args)?;
+    push_named(&mut handles, out)?;
     Ok(SkippedCall {
         name: String::from_str(alloc, name)?,
         process,
@@ -39,27 +40,31 @@ pub(crate) fn skipped_of(
 /// last counts.
 fn push_named(
     handles: &mut Vec<HandleValue>,
-    object: Option<&Value<'_>>,
+    object: Option<&JsonValue<'_, '_>>,
 ) -> Result<(), AllocError> {
-    let Some(Value::Object(members)) = object else {
+    let Some(object) = object else {
         return Ok(());
     };
-    let named = named_handles(*handles.allocator(), members.as_slice())?;
+    let Some(members) = object.members() else {
+        return Ok(());
+    };
+    let named = named_handles(*handles.allocator(), members)?;
     for value in named.values() {
-        push_values(handles, *value)?;
+        push_values(handles, value)?;
     }
     Ok(())
 }
 
 /// The members that have the name of a handle or of handles.
-fn named_handles<'a, 'text>(
+fn named_handles<'tape, 'text>(
     alloc: Global,
-    members: &'a [(&'text str, Value<'text>)],
-) -> Result<BTreeMap<&'text str, &'a Value<'text>>, AllocError> {
+    members: JsonMembers<'tape, 'text>,
+) -> Result<BTreeMap<&'text str, JsonValue<'tape, 'text>>, AllocError> {
     let mut named = BTreeMap::new(alloc);
-    for member in members {
-        if is_handle_name(member.0) {
-            named.insert(member.0, &member.1)?;
+    let mut rest = members;
+    while let Some((name, value)) = rest.next() {
+        if is_handle_name(name) {
+            named.insert(name, value)?;
         }
     }
     Ok(named)
@@ -72,21 +77,24 @@ fn is_handle_name(name: &str) -> bool {
 
 /// Appends a handle, or the handles of a list. An item of a list is a handle, or an object that has one as its member
 /// `handle`.
-fn push_values(handles: &mut Vec<HandleValue>, value: &Value<'_>) -> Result<(), AllocError> {
-    let Value::Array(list) = value else {
+fn push_values(
+    handles: &mut Vec<HandleValue>,
+    value: &JsonValue<'_, '_>,
+) -> Result<(), AllocError> {
+    let Some(mut list) = value.items() else {
         return push_value(handles, value);
     };
-    for item in list {
+    while let Some(item) = list.next() {
         match item.get(Member::Handle.name()) {
-            Some(handle) => push_value(handles, handle)?,
-            None => push_value(handles, item)?,
+            Some(handle) => push_value(handles, &handle)?,
+            None => push_value(handles, &item)?,
         }
     }
     Ok(())
 }
 
 /// Appends the handle that a value is, unless it is 0 or no handle.
-fn push_value(handles: &mut Vec<HandleValue>, value: &Value<'_>) -> Result<(), AllocError> {
+fn push_value(handles: &mut Vec<HandleValue>, value: &JsonValue<'_, '_>) -> Result<(), AllocError> {
     match narrow_in(value) {
         Some(number) if number != 0 => {
             handles.push(HandleValue(number))?;

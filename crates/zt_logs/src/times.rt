@@ -1,8 +1,8 @@
 //! Reads when the calls of a log began and returned.
 
+use crate::json_values::JsonValue;
+use crate::line_members::OtherMembers;
 use crate::numbers::number_in;
-use crate::side_members::SideMembers;
-use json::Value;
 use std::num::{nearest_u64_to_f64, saturating_f64_to_u64};
 
 /// A time on the clock of a log: whole units, and billionths of a unit.
@@ -21,29 +21,29 @@ pub struct CallTimes {
 }
 
 /// When the call of a line with these members began and returned. A time of another form counts as left out.
-pub(crate) fn times_of(side: &SideMembers<'_, '_>) -> CallTimes {
-    let time = match side.time {
+pub(crate) fn times_of(others: &OtherMembers<'_, '_>) -> CallTimes {
+    let time = match &others.time {
         Some(time) => Some(time),
-        None => side.timestamp,
+        None => others.timestamp.as_ref(),
     };
     let ended = match time_in(time) {
         Some(ended) => Some(ended),
-        None => time_in(side.short_time),
+        None => time_in(others.short_time.as_ref()),
     };
     CallTimes {
-        began: time_in(side.began),
+        began: time_in(others.began.as_ref()),
         ended,
     }
 }
 
-fn time_in(value: Option<&Value<'_>>) -> Option<LogTime> {
+fn time_in(value: Option<&JsonValue<'_, '_>>) -> Option<LogTime> {
     let value = value?;
     if let Some(whole) = number_in(value) {
         return Some(LogTime { whole, part: 0 });
     }
-    match value {
-        Value::String(text) => time_of(*text),
-        _ => broken_time(value.as_f64()?),
+    match value.as_str() {
+        Some(text) => time_of(text),
+        None => broken_time(value.as_f64()?),
     }
 }
 

@@ -8,6 +8,7 @@ mod words;
 use faults::Fault;
 use files::{read, write};
 use std::alloc::AllocError;
+use std::mem::forget;
 use std::process::ExitCode;
 use words::{Asked, read_words};
 use zt_import::{
@@ -64,7 +65,16 @@ fn make_trace(rt: &HostRuntime, asked: &Asked<'_>) -> Result<(), Fault> {
     let trace = trace_text(rt.alloc(), &log, &imported)?;
     write(rt, asked.to, trace.as_slice())?;
     tell_counts(rt, &log, &imported);
+    leave(text, log, imported, trace);
     Ok(())
+}
+
+/// Leaves the memory of an import to the system: the program ends, and freeing each call of a large log takes time.
+fn leave(text: Vec<u8>, log: CallLog, imported: Imported, trace: Vec<u8>) {
+    forget(text);
+    forget(log);
+    forget(imported);
+    forget(trace);
 }
 
 /// Prints a line for each thing that is left out of the log. If the import is strict, the first of them is the error.

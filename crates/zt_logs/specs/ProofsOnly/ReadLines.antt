@@ -1,59 +1,33 @@
 -- How far a log is read. Used by proofs only.
 use Rattle.std.specs.Prelude.{suc, ◌≡◌, ◌+◌, ◌++◌, ℕ, List, [], ◌∷◌, length, Option, Some, None}
 use Rattle.zt_logs.specs.declared.logged.LoggedCall.{LoggedCall}
-use Rattle.json.specs.Value.{value_view, items_view}
 use Rattle.zt_logs.specs.declared.json_lines.Parsed.{Parsed}
 use Rattle.zt_logs.specs.declared.json_lines.Parsed.TheVariants as parsed
-use Rattle.json.specs.declared.value.Value.{Value}
-use Rattle.std.specs.declared.alloc.Global.{Global}
 use Rattle.zt_logs.specs.Lines.{lines_of}
-use Rattle.zt_logs.specs.Numbers.{IsNumber}
 use Rattle.zt_logs.specs.Entries.{Entry, entries_behind, json_of}
-use Rattle.zt_logs.specs.LineCalls.{IsDisposition, AreAnswerReads, has_read}
-use Rattle.zt_logs.specs.Answered.{IsReadNumber}
+use Rattle.zt_logs.specs.LineCalls.{AreAnswerReads, has_read}
 use Rattle.zt_logs.specs.Logged.{IsLogged, IsPart, AreAhead, part_status, AreCalled, AreLogged}
 use Rattle.zt_logs.specs.declared.line_calls.PartCall.{PartCall}
 use Rattle.zt_logs.specs.declared.logged.RecordedReply.{RecordedReply}
 use Rattle.zt_bits.specs.declared.statuses.Status.{Status}
 use Rattle.zt_logs.specs.declared.call_names.CallName.{CallName}
-use Rattle.zt_logs.specs.declared.dispositions.Disposition.{Disposition}
+use Rattle.json.specs.Token.{Token}
 use Rattle.json.specs.Json.{Json}
+use Rattle.zt_logs.specs.ProofsOnly.Tokens.{value_at, items_at}
 use Rattle.json.specs.Find.{as_array}
-use denote.Ref.{Bor}
-
--- numbers that the values of a list are
-abbrev pub AreNumbersOf : List (Value Global) → List ℕ → Type 0
-AreNumbersOf [] [] = Unit {0}
-AreNumbersOf [] (n ∷ ns) = ⊥
-AreNumbersOf (value ∷ values) [] = ⊥
-AreNumbersOf (value ∷ values) (n ∷ ns) = IsNumber (value_view value) n × AreNumbersOf values ns
 
 -- what a line is as JSON
 abbrev pub IsParsed : List ℕ → Parsed → Type 0
-IsParsed line (parsed.Whole value) = json_of line ≡ Some (value_view value)
+IsParsed line (parsed.Whole tape) = json_of line ≡ Some (value_at tape)
 IsParsed line parsed.CutOff = json_of line ≡ None
 IsParsed line parsed.Broken = json_of line ≡ None
 
--- what they are where each is one alone or in an object
-abbrev pub AreReadNumbersOf : List (Value Global) → List ℕ → Type 0
-AreReadNumbersOf [] [] = Unit {0}
-AreReadNumbersOf [] (n ∷ ns) = ⊥
-AreReadNumbersOf (value ∷ values) [] = ⊥
-AreReadNumbersOf (value ∷ values) (n ∷ ns) = IsReadNumber (value_view value) n × AreReadNumbersOf values ns
-
--- handles that are sent
-abbrev pub AreDispositionsOf : List (Value Global) → List Disposition → Type 0
-AreDispositionsOf [] [] = Unit {0}
-AreDispositionsOf [] (sent ∷ others) = ⊥
-AreDispositionsOf (value ∷ values) [] = ⊥
-AreDispositionsOf (value ∷ values) (sent ∷ others) = IsDisposition (value_view value) sent × AreDispositionsOf values others
-
 -- a list, if there is one
-abbrev pub IsListAt : Option Json → Option (Bor (List (Value Global))) → Type 0
+abbrev pub IsListAt : Option Json → Option (List Token) → Type 0
 IsListAt None None = Unit {0}
 IsListAt None (Some list) = ⊥
 IsListAt (Some d) None = ⊥
-IsListAt (Some d) (Some list) = as_array d ≡ Some (items_view list.now)
+IsListAt (Some d) (Some list) = as_array d ≡ Some (items_at list)
 
 -- the calls of a line, of which the last has this answer
 pub record ArePartsWith (line : ℕ) (parts : List PartCall) (recorded : RecordedReply) (calls : List LoggedCall) : Type 0 where
@@ -86,7 +60,7 @@ AddsParts line [] recorded old new = new ≡ old
 AddsParts line (part ∷ parts) recorded old new =
     (calls : List LoggedCall) × (new ≡ old ++ calls) × ArePartsWith line (part ∷ parts) recorded calls
 
--- the same of the line of this name behind so many others
+-- the calls before a line, and behind them those of the line, of this name and with so many lines ahead
 abbrev pub AddsCalls : CallName → ℕ → Option Json → List LoggedCall → List LoggedCall → Type 0
 AddsCalls name number value old new = (line : List LoggedCall) × (new ≡ old ++ line) × AreCalled number name value line
 
@@ -97,6 +71,6 @@ pub record IsReadUpTo (text left : List ℕ) (count : ℕ) (calls : List LoggedC
   pub logged : AreLogged entries calls
   pub whole : entries ++ entries_behind count (lines_of left) ≡ entries_behind 0 (lines_of text)
 
--- the same but for the processes of calls
+-- a call of the log without its processes: its own is 0, and its recorded reply has none
 abbrev pub without_process : LoggedCall → LoggedCall
 without_process logged = record logged { process = 0; recorded = record logged.recorded { process = None } }

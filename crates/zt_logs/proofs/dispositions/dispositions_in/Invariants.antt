@@ -1,7 +1,11 @@
--- Those so far are those of the values so far.
-use Rattle.std.specs.Prelude.{take}
-use Rattle.zt_logs.specs.ProofsOnly.ReadLines.{AreDispositionsOf}
+-- Those so far are those of the values so far, and the values that are left become fewer.
+use Rattle.std.proofs.Common.{length}
+use Rattle.zt_logs.specs.ProofsOnly.Tokens.{items_at}
+use Rattle.zt_logs.proofs.ListedLaws.{TakesSent}
 use Rattle.zt_logs.proofs.dispositions.dispositions_in.Given as goal
 
-abbrev pub invariant-loop-item : goal.invariant-loop-item
-invariant-loop-item l = AreDispositionsOf (take l.item l.list) l.dispositions.items
+abbrev pub invariant-loop-value : goal.invariant-loop-value
+invariant-loop-value l = TakesSent (items_at l.fn.list) (items_at l.rest) l.dispositions.items
+
+abbrev pub decreases-loop-value : goal.decreases-loop-value
+decreases-loop-value l = length l.rest
