@@ -69,7 +69,7 @@ loaded_of_parts clients moments branches cursors t M few tree seats =
     rw (le-ltb 4 clients few)
     (ap (λ r. r >>= λ u. seated clients (length moments + length branches) u cursors) tree ∙ seats)
 
--- the same of what is made of clients that are seated
+-- if a result is ok and seats at most 4 clients at the cursors of the loaded tree, it is the session loaded of what was saved
 pub loaded_if_seated : {E : Type 0} (clients number : ℕ) (moments : List SavedCall) (branches : List SavedBranch) (cursors : List SavedCursor) (t : Tree) (r : Result SessionStateView E) → clients ≤ 4
     → number ≡ length moments + length branches
     → loaded_tree (record { moments = moments; branches = branches; cursors = [] }) ≡ Ok t

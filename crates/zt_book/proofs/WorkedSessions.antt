@@ -99,17 +99,17 @@ example = record {
   cursors = place.Follows (codes "fix") ∷ [];
 }
 
--- the same, whose port is made at this moment by this process
+-- `example`, but with its port made at this moment and by this process
 abbrev second_made : ℕ → ℕ → Saved
 second_made parent process = record example {
   moments = record { parent = 0; process = 1025; call = call.EventCreate } ∷ record { parent = parent; process = process; call = call.PortCreate } ∷ [];
 }
 
--- the same with these branches
+-- `example` with these branches, each a name and its head
 abbrev branched_so : List (List ℕ × ℕ) → Saved
 branched_so branches = record example { branches = map (λ b. record { name = b.0; head = b.1 }) branches }
 
--- the same with these cursors
+-- `example` with these cursors
 abbrev placed : List SavedCursor → Saved
 placed cursors = record example { cursors = cursors }
 

@@ -69,7 +69,7 @@ snapshot_at t m = record { moment = m; state = state_at t.made m; calls = calls_
 
 -- ---- loading
 
--- the rest of the calls, where this one is answered
+-- what the rest of the calls gives, once call i was answered; or why call i was refused, with its number
 abbrev pub loaded_behind : ℕ → Result (Answer × Tree) Refusal → (Tree → Result Tree (ℕ × Refusal)) → Result Tree (ℕ × Refusal)
 loaded_behind i (Ok done) rest = rest done.1
 loaded_behind i (Err reason) rest = Err (i, reason)

@@ -115,15 +115,15 @@ loaded_tree saved = do
   t ← in_turn with_moment 0 opening_tree saved.moments
   with_branches (length saved.moments) t saved.branches
 
--- a client who stands there has pinned nothing, and was answered nothing
+-- a client at this cursor who has pinned nothing and was answered nothing
 abbrev pub client_at : Cursor → Client
 client_at cursor = record first_client { cursor = cursor }
 
--- so many clients: one at each cursor, and where there are no more, others at `main`
+-- a list of so many clients: one at each of the first cursors, and once these are used up, clients that follow `main`
 abbrev pub clients_at : ℕ → List Cursor → List Client
 clients_at clients cursors = take clients (map client_at cursors ++ replicate clients first_client)
 
--- so many clients over this tree, where these cursors tell; the first of them has this number
+-- a session of so many clients over this tree, at these cursors; a refused cursor is told by its number, from `number` on
 abbrev pub seated : ℕ → ℕ → Tree → List SavedCursor → Result Session (ℕ × Refusal)
 seated clients number t saved = do
   cursors ← in_turn (with_cursor t) number [] saved
@@ -143,7 +143,7 @@ loaded_saved clients saved = do
 
 -- ---- calls alone
 
--- so many clients over a tree, where it is loaded
+-- a session of so many clients over a loaded tree, or why the tree was not loaded
 abbrev pub over_loaded : ℕ → Result Tree (ℕ × Refusal) → Result Session (ℕ × Refusal)
 over_loaded clients loading = do
   t ← loading

@@ -32,7 +32,7 @@ pub record Session : Type 0 where
 abbrev pub first_client : Client
 first_client = record { cursor = Follows 0; pinned = None; rows = 0 }
 
--- so many clients over this tree
+-- a session of so many clients over this tree, each of them as `first_client`
 abbrev pub session_over : Tree → ℕ → Session
 session_over t clients = record { tree = t; clients = replicate clients first_client }
 
@@ -189,8 +189,8 @@ serve M client request = do
   said ← asked M client request
   Ok (said.0, counted said.1 client)
 
--- The refusal that was given, where the checks end so. The caller is looked for at the head, and an object at the
--- position, and the way there wants memory; what the other checks find is told without any.
+-- The refusal that a command may get, by the result of its checks: want of memory if all pass, else the first that fails. The
+-- check for the caller and that for an object go to another moment, which takes memory: these two may be told as want of it.
 abbrev pub IsCommandRefusal : {A : Type 0} → Result A Refusal → Refusal → Type 0
 IsCommandRefusal (Ok _) given = given ≡ refusal.OutOfMemory
 IsCommandRefusal (Err refusal.NoProcess) given = (given ≡ refusal.NoProcess) ⊎ (given ≡ refusal.OutOfMemory)

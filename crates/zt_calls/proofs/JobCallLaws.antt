@@ -129,7 +129,7 @@ unfolding links
 links-few zero S x = lit≤ tt
 links-few (suc n) S x = upward-few n (link_at S x) (λ y. links n S y) (λ y. links-few n S y)
 
--- so its depth fits
+-- the number of jobs above an object fits in 64 bits
 pub depth-fits : (S : State) (x : ℕ) (o : ObjectRow) → HasRoom S → IsSound S → object S x ≡ Some o → depth S x < 2 ^ 64
 unfolding chain
 depth-fits S x o room sound there =

@@ -47,7 +47,7 @@ next-refreshed S x = ap (λ r. object_next (as_object r)) (row-change (refreshed
 
 -- ---- one wait
 
--- the same number, or one more
+-- n is m or m + 1
 abbrev IsOneMore : ℕ → ℕ → Type 0
 IsOneMore m n = (m ≤ n) × (n ≤ m + 1)
 

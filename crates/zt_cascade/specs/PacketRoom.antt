@@ -6,10 +6,10 @@ use Rattle.zt_rows.specs.Reads.{wait}
 use Rattle.zt_rows.specs.Settle.{is_met, refresh, settle}
 use Rattle.zt_rows.specs.Tests.{next_at}
 
--- the port of each wait that is met in T, after S, has in U, to which they fired, a next number within its type
+-- every wait that is met in T, after S, is for a port whose next number in U, after the firing, fits in 64 bits
 abbrev pub FiresWithin : State → State → State → Type 0
 FiresWithin S T U = (n : ℕ) (w : Wait) → wait T n ≡ Some w → is_met S T w ≡ true → next_at U w.port < 2 ^ 64
 
--- of the waits that are met once the derived signals are renewed, and settling; of no other wait
+-- after settling, the next number of the port of each wait that is met once the derived signals are renewed fits in 64 bits
 abbrev pub HasRoomToFire : State → State → Type 0
 HasRoomToFire S T = FiresWithin S (refresh T) (settle S T)

@@ -50,7 +50,7 @@ module _ (words : List ℕ) (i w bit : ℕ) (within : i / 64 < length words) (wi
     len = length-set words (i / 64) w;
   }
 
--- the same of words as they are seen, with the word as it was read
+-- writing w where `was` was read, with the bit of i made so and all others kept, makes the mark of i so and keeps all others
 pub marked-seen : (inside seen : List ℕ) (i was w bit : ℕ) → inside ≡ seen → i / 64 < length seen → was ≡ get_or inside (i / 64) was → IsWordWith was w (i % 64) bit → IsMarkedAs seen (set inside (i / 64) w) i bit
 marked-seen inside seen i was w bit is within read with =
     let e : was ≡ word seen (i / 64) = read ∙ ap (λ t. get_or t (i / 64) was) is ∙ get_or_default seen (i / 64) was 0 within in
@@ -76,7 +76,7 @@ unfolding mark
 clear-word words from none n h e =
     ap (λ k. bit_at (get_or words k 0) (n % 64)) e ∙ none (n % 64) (omega arith)
 
--- the same with the word as it was read
+-- by the word w as it was read: its lowest bit set from a number on is the next mark; if none is, the word is clear from there
 pub next-read : (words : List ℕ) (from w b : ℕ) → w ≡ word words (from / 64) → IsLowestFrom w (from % 64) b → IsNextAt words from (64 * (from / 64) + b)
 next-read words from w b e low =
     next-in-word words from b (subst (λ x. IsLowestFrom x (from % 64) b) e low)

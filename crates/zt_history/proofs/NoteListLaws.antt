@@ -215,7 +215,7 @@ pub ends-some : (m : ℕ) (notes : List ChangeNote) → ends_at notes m ≡ true
 ends-some m [] e = absurd (true≢false (sym e))
 ends-some m (n ∷ notes) e = omega arith
 
--- so far these changes went, all of one moment
+-- `now` is `old` without some last changes, all of one moment
 pub record AreGone (old now : List ChangeNote) (m : ℕ) : Type 0 where
   pub gone : List ChangeNote
   pub apart : old ≡ now ++ gone

@@ -68,7 +68,7 @@ happens (sought.Shown what) x S T = shows what (row S (key.Object x)) (row T (ke
 happens sought.Released x S T = releases x S T
 happens sought.LostChild x S T = loses_child x S T
 
--- the same by a moment's call
+-- it happened to the object by the call that made the moment
 abbrev pub happens_at : Sought → ℕ → List Made → ℕ → Bool
 happens_at what x made m = happens what x (state_at made (parent_at made m)) (state_at made m)
 

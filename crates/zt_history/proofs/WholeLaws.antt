@@ -22,7 +22,7 @@ use Rattle.zt_history.proofs.ListLaws.{get-last}
 use Rattle.zt_history.proofs.NotedLaws.{noted-dropped, noted-opening, noted-push}
 use Rattle.zt_history.proofs.TreeLaws.{last_apart}
 
--- the same moments, and the same changes
+-- AreNoted with equals in place of equals: `same` for `made`, `new` for `old`
 pub noted-same : (made same : List Made) (old new : NotedChanges) → same ≡ made → new ≡ old → AreNoted made old → AreNoted same new
 noted-same made same old new m c are = subst (AreNoted same) (sym c) (let P : List Made → Type 0 = λ made. AreNoted made old in subst P (sym m) are)
 

@@ -26,8 +26,8 @@ abbrev pub check : Bool → Refusal → Result ⊤ Refusal
 check true reason = Ok tt
 check false reason = Err reason
 
--- the refusal that was given, where the checks end so: the caller is looked for at the head, and the way there wants
--- memory; what the checks before it find is told without any
+-- the refusal that may be given, by the result of the checks: want of memory if all pass, else the first that fails; the check
+-- for the caller goes to another moment, which takes memory, and may be told as want of it
 abbrev pub IsHistoryRefusal : {A : Type 0} → Result A Refusal → Refusal → Type 0
 IsHistoryRefusal (Ok _) given = given ≡ refusal.OutOfMemory
 IsHistoryRefusal (Err refusal.NoProcess) given = (given ≡ refusal.NoProcess) ⊎ (given ≡ refusal.OutOfMemory)
@@ -54,7 +54,7 @@ call_on t b process call = do
   _ ← check (nat_lt (last_moment t) most_moments) refusal.Full
   answered_at t (head_at t.branches b) process call (called t b process call)
 
--- what is answered, where the head of this branch moves to the last moment then
+-- the answer and its tree, with the head of this branch moved to the tree's last moment
 abbrev pub followed : ℕ → Result (Answer × Tree) Refusal → Result (Answer × Tree) Refusal
 followed b answered = do
   made ← answered
@@ -67,7 +67,7 @@ branch_on t name m = do
   _ ← check (not (is_some (branch_named t.branches name))) refusal.NameTaken
   Ok (length t.branches, branched t name m)
 
--- a moment of the tree
+-- the moment, or a refusal where the tree has no such moment
 abbrev pub moment_on : Tree → ℕ → Result ℕ Refusal
 moment_on t m = do
   _ ← check (nat_le m (last_moment t)) refusal.NoMoment

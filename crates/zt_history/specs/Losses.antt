@@ -11,6 +11,6 @@ use Rattle.zt_history.specs.Tree.{Made, parent_at, state_at}
 abbrev pub loses : (ℕ → Option Row → Bool) → ℕ → State → State → Bool
 loses stands x S T = exists T x && list_any (λ e. stands x (Some e.1) && not (stands x (row T e.0))) S.rows
 
--- a moment's call did so
+-- the object lost such a row by the call that made the moment, and stayed
 abbrev pub loses_at : (ℕ → Option Row → Bool) → ℕ → List Made → ℕ → Bool
 loses_at stands x made m = loses stands x (state_at made (parent_at made m)) (state_at made m)

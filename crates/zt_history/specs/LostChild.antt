@@ -18,10 +18,10 @@ is_child_row x _ = false
 abbrev pub loses_child : ℕ → State → State → Bool
 loses_child x S T = loses is_child_row x S T
 
--- a moment's call did so
+-- by the call that made the moment a live child of the object ceased to be one, and the object stayed
 abbrev pub loses_child_at : ℕ → List Made → ℕ → Bool
 loses_child_at x made m = loses_at is_child_row x made m
 
--- the last moment on the path to m at which one did
+-- the last moment on the path to m by whose call the object lost a live child and stayed
 unfoldable pub last_lost_child : ℕ → List Made → ℕ → Option ℕ
 last_lost_child x made m = last_or None (filter (loses_child_at x made) (path made m))

@@ -11,10 +11,10 @@ use Rattle.zt_history.specs.Tree.{Made, path}
 abbrev pub releases : ℕ → State → State → Bool
 releases x S T = loses names x S T
 
--- a moment's call did so
+-- by the call that made the moment a row that named the object ceased to name it, and the object stayed
 abbrev pub releases_at : ℕ → List Made → ℕ → Bool
 releases_at x made m = loses_at names x made m
 
--- the last moment on the path to m at which one did
+-- the last moment on the path to m by whose call the object lost a name and stayed
 unfoldable pub last_released : ℕ → List Made → ℕ → Option ℕ
 last_released x made m = last_or None (filter (releases_at x made) (path made m))

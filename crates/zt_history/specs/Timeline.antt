@@ -19,11 +19,11 @@ pub record Timeline : Type 0 where
 abbrev pub at_opening : Timeline
 at_opening = record { tree = opening_tree; position = 0; before = None }
 
--- the same tree, at this moment, with nothing to take back
+-- the tree of h, at this moment, with nothing to take back
 abbrev pub moved_to : Timeline → ℕ → Timeline
 moved_to h m = record { tree = h.tree; position = m; before = None }
 
--- the same tree at the same moment, with nothing to take back
+-- the tree of h, at the moment where h stands, with nothing to take back
 abbrev pub unmoved : Timeline → Timeline
 unmoved h = moved_to h h.position
 
@@ -35,7 +35,7 @@ point_of h = record { tree = h.tree; position = h.position }
 abbrev pub at_head : Timeline → ℕ → Point
 at_head h b = record { tree = h.tree; position = head_at h.tree.branches b }
 
--- a call at this moment, and where it stands then; there is nothing to take back
+-- the history after a call at this moment: it stands at the new moment, with nothing to take back
 abbrev pub after_call_at : Timeline → ℕ → ℕ → Call → Timeline
 after_call_at h m process call = record { tree = grown_at h.tree m process call; position = suc (last_moment h.tree); before = None }
 
@@ -43,15 +43,15 @@ after_call_at h m process call = record { tree = grown_at h.tree m process call;
 abbrev pub after_move_head : Timeline → ℕ → ℕ → Timeline
 after_move_head h b m = record { tree = head_moved h.tree b m; position = h.position; before = None }
 
--- a branch at this moment, and where it stands again once that is taken back
+-- the history after a new branch at this moment; taking it back gives the tree and the position of h again
 abbrev pub after_branch : Timeline → List ℕ → ℕ → Timeline
 after_branch h name m = record { tree = branched h.tree name m; position = h.position; before = Some (point_of h) }
 
--- nothing is changed but, if anything, the position, which may be this moment now
+-- the tree stays, there is nothing to take back, and the position stays or is this moment now
 abbrev pub IsMovedAtMost : Timeline → Timeline → ℕ → Type 0
 IsMovedAtMost old new m = (new ≡ unmoved old) ⊎ (new ≡ moved_to old m)
 
--- the same where the moment is the head of this branch
+-- the tree stays, there is nothing to take back, and the position stays or is the head of this branch now
 abbrev pub IsAtMost : Timeline → Timeline → ℕ → Type 0
 IsAtMost old new b = IsMovedAtMost old new (head_at old.tree.branches b)
 

@@ -55,6 +55,6 @@ record_of made position m =
     then before (state_at made (parent_at made m)) (state_at made m)
     else before (state_at made m) (state_at made (parent_at made m))
 
--- the same where there is such a record: none at the opening, nor beyond the last moment
+-- the record of a moment, for a store at the position; none for the opening, nor beyond the last moment
 abbrev pub recorded_at : List Made → ℕ → ℕ → Option (List (RowKey × Option Row))
 recorded_at made position m = option_map (λ _. record_of made position m) (made_at made m)

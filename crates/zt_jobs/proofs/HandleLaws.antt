@@ -320,6 +320,6 @@ handles-ended S ending before how = changed-found (with_end ending how) (held_at
     same (key.Object x) (rows.Object o) = refl
     same _ r = refl
 
--- the same set said otherwise
+-- two tests that agree on every koid pick the same handles
 pub handles-alike : (S : State) (a b : ℕ → Bool) → ((x : ℕ) → a x ≡ b x) → handles_of S a ≡ handles_of S b
 handles-alike S a b same = ap (handles_of S) (λ i x. same x i)

@@ -37,7 +37,7 @@ use Rattle.zt_jobs.proofs.WalkLaws.{behind-same, behind-change, change-then, cha
 pub among-more : (xs : List ℕ) (i d : ℕ) → i < length xs → (y : ℕ) → among (take (i + 1) xs) y ≡ (among (take i xs) y || only (get_or xs i d) y)
 among-more xs i d lt y = list_any_more (λ m. m == y) xs i d lt ∙ ap (λ b. among (take i xs) y || b) (this_one (get_or xs i d) y)
 
--- the same, where the element at i is known as m
+-- y is among the first i + 1 of a list exactly if it is among the first i or is m, the element at i
 pub among-item : (xs : List ℕ) (i m : ℕ) → i < length xs → m ≡ get_or xs i m → (y : ℕ) → among (take (i + 1) xs) y ≡ (among (take i xs) y || only m y)
 among-item xs i m lt is y = among-more xs i m lt y ∙ ap (λ x. among (take i xs) y || only x y) (sym is)
 
@@ -381,7 +381,7 @@ parts S ending how =
     at (key.Wait n) (rows.Wait w) = refl
     at _ r = refl
 
--- the same set said otherwise
+-- two sets with the same members, given as tests that agree on each koid, leave the same state when they end
 pub end-alike : (S : State) (a b : ℕ → Bool) (how : Life) → ((x : ℕ) → a x ≡ b x) → end S a how ≡ end S b how
 end-alike S a b how same = ap (λ e. end S e how) (λ i x. same x i)
 

@@ -234,7 +234,7 @@ first-here v later g others (suc k) at =
     let next : 1 + position_or_len (λ n. n == g) later ≡ suc k = omega (arith, same) in
     ap (λ b. cond (not b) (1 + position_or_len (λ n. n == g) later) 0) w.1 ∙ next
 
--- so a value that is sent stands first where it stands
+-- no value stands twice in a list that can be sent: wherever g stands, that is its first place
 sent-first : (S : State) (p h : ℕ) (earlier values : List ℕ) (all : List Held) → sent S p h earlier values ≡ Ok all → (g i : ℕ) → slice_get values i ≡ Some g → position_or_len (λ n. n == g) values ≡ i
 sent-first S p h earlier [] all e g i at = cc
 sent-first S p h earlier (v ∷ later) all e g i at =
@@ -417,7 +417,7 @@ followed_step S p c at other old held consistent live is before gone after from 
     ∙ ap (λ z. if is_from z at then Some other else None) from
     ∙ ap (λ b. if b then Some other else None) (is_same-self at)
 
--- so what came from a place that lost it is in one place
+-- what a place loses by a call comes to one place at most: two places that both got theirs from it are one
 pub one_place : (S : State) (p : ℕ) (c : Call) (at one two : Place) (old held same : Held) → IsConsistent S → has_live_process S p ≡ true → IsCall c → held_at S at ≡ Some old → held_at (step S p c).0 at ≡ None → held_at (step S p c).0 one ≡ Some held → origin S p c one ≡ From at → held_at (step S p c).0 two ≡ Some same → origin S p c two ≡ From at → one ≡ two
 one_place S p c at one two old held same consistent live is before gone there from other by =
     some_one one two

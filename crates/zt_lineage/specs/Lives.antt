@@ -32,7 +32,7 @@ abbrev pub origin_by : State → Option (ℕ × Call) → Place → Origin
 origin_by S (Some c) at = origin S c.0 c.1 at
 origin_by S None at = origins.Stayed
 
--- the same behind a moment
+-- where what the place holds after a moment came from, by the call that made the moment; `Stayed` where no call did
 abbrev pub origin_at : List Made → ℕ → Place → Origin
 origin_at made m at = origin_by (state_at made (parent_at made m)) (call_at made m) at
 
@@ -167,7 +167,7 @@ abbrev pub onward_by : (Place → Onward) → ℕ → Place → Ending → Optio
 onward_by later m at how (Some (other, held)) = behind (step_of m other held (origins.From at)) (later other)
 onward_by later m at how None = record { steps = []; ended = Some (m, how) }
 
--- along these moments of a path
+-- the further steps of what the place holds, and its end if it has one, along these moments of a path
 abbrev pub onward : List Made → List ℕ → Place → Onward
 onward made [] at = record { steps = []; ended = None }
 onward made (m ∷ later) at =
@@ -192,14 +192,14 @@ life_from made way at (n, held) =
     let later : Onward = onward made (drop n way) at in
     record { steps = reverse (comings made way n at held) ++ later.steps; ended = later.ended }
 
--- on the path to a moment of the tree, where the place held a handle there at all
+-- the life of what the place held last on the path to a moment of the tree; refused where it held no handle there
 abbrev pub life_on : Tree → ℕ → Place → Result HandleLife Refusal
 life_on t m at = do
   _ ← moment_on t m
   w ← ok_or (last_held t.made (path t.made m) (length (path t.made m)) at) refusal.NoObject
   Ok (life_from t.made (path t.made m) at w)
 
--- the refusal that was given, where the checks end so: the path and the steps want memory
+-- the refusal that may be given, by the result of the checks: the first that fails, or want of memory for the path and the steps
 abbrev pub IsRefused : {A : Type 0} → Result A Refusal → Refusal → Type 0
 IsRefused (Ok _) given = given ≡ refusal.OutOfMemory
 IsRefused (Err reason) given = (given ≡ reason) ⊎ (given ≡ refusal.OutOfMemory)

@@ -68,7 +68,7 @@ origin S p c at = if is_some (held_at S at) then Stayed else filled_by S p c at
 
 -- ---- what an origin says
 
--- it is of the object, with no fewer rights
+-- `old` names the same object as `held` and has at least its rights
 pub record Gives (old held : Held) : Type 0 where
   pub object : held.koid ≡ old.koid
   pub rights : has_all old.rights.0 held.rights.0 ≡ true

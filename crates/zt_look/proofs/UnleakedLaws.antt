@@ -533,7 +533,7 @@ module _ (S T : State) (R : List (RowKey × Option Row)) (turn : IsCallOver S T 
             ∙ lost_now (exists S x) (exists T x) (is_leaked S x) (is_leaked T x) (list_any (is_object x) ks) (is_there_after R x)
             (λ l. (leaked-lost S x l).there) (λ l. (leaked-lost T x l).there) (gone-key x) (there-after x)
 
--- ---- the same of a search that begins so
+-- ---- how a search begins, by the sets that it is given
 
 pub start-of : (t : Tree) (m p : ℕ) (R : List (RowKey × Option Row)) (S : State) (ks : List RowKey) (old taken : BTreeSet ℕ) (s : Search) → IsTree t → 0 < m → m ≤ length t.made
     → p ≡ parent_at t.made m → recorded_at t.made p m ≡ Some R → IsUnleakedSet (state_at t.made m) old → S ≡ state_at t.made p → ks ≡ map (λ e. e.0) R

@@ -16,7 +16,7 @@ changes S T = map (λ k. record { key = k; before = row S k; after = row T k }) 
 abbrev pub changes_at : List Made → ℕ → List Change
 changes_at made m = changes (state_at made (parent_at made m)) (state_at made m)
 
--- the same of a moment of the tree
+-- what the call of a moment changed; refused where the tree has no such moment
 abbrev pub changed_on : Tree → ℕ → Result (List Change) Refusal
 changed_on t m = do
   _ ← moment_on t m

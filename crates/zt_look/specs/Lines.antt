@@ -86,7 +86,7 @@ handle_line names handle =
 
 -- ---- what happened to objects
 
--- with the call of its moment
+-- an event with the call of its moment
 abbrev pub event_line : Bool → ObjectEvent → ℕ → Call → List ℕ
 event_line names event process made =
     line (decimal event.moment ∷ happening_word event.what ∷ decimal event.koid ∷ kind_word event.kind ∷ call_text (of_any names) process made ∷ [])

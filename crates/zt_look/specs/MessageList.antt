@@ -50,7 +50,7 @@ abbrev pub end_in : List Made → ℕ → Option Made → MessageEnd
 end_in made e (Some x) = end_by e (state_at made x.parent) x.process x.call x.reply
 end_in made e None = message_end.Lost
 
--- the same of the call that made a moment
+-- what becomes of a message at the endpoint e that goes in the call of a moment; `Lost` where no call made the moment
 abbrev pub end_at : List Made → ℕ → ℕ → MessageEnd
 end_at made e m = end_in made e (made_at made m)
 

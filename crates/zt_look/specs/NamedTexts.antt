@@ -39,7 +39,7 @@ packet_text naming (packet.User number bytes) = words (codes "user" ∷ decimal 
 packet_text naming (packet.Signal number trigger observed _ _) =
     words (codes "signal" ∷ decimal number ∷ shown_signals naming trigger.0 ∷ shown_signals naming observed.0 ∷ [])
 
--- the same as it waits
+-- a packet as it waits in its queue: that of a signal also tells the process and the handle of its wait
 unfoldable pub queued_text : Naming → Packet → List ℕ
 queued_text naming (packet.User number bytes) = packet_text naming (packet.User number bytes)
 queued_text naming (packet.Signal number trigger observed process handle) =

@@ -37,7 +37,7 @@ bit_words [] bits = if bits == 0 then [] else shown_mask bits ∷ []
 bit_words ((bit, name) ∷ others) bits =
     if bit_and bits bit == 0 then bit_words others bits else name ∷ bit_words others (bits - bit)
 
--- the same with a bar between
+-- the words of `bit_words` with a bar between, or `NONE` where no bit is set
 unfoldable pub shown_bits : Names → ℕ → List ℕ
 shown_bits names bits = if bits == 0 then codes "NONE" else join_with_byte 124 (bit_words names bits)
 
@@ -49,6 +49,6 @@ shown_rights false bits = shown_mask bits
 unfoldable pub shown_signals : Naming → ℕ → List ℕ
 shown_signals naming bits = if naming.names then shown_bits (signal_names naming.kind) bits else shown_mask bits
 
--- masks
+-- rights and signals are shown as masks
 abbrev pub masks : Naming
 masks = record { names = false; kind = None }

@@ -31,7 +31,7 @@ holds x S at = names_it x (held_at S at)
 
 -- ---- a handle that leaves its place
 
--- to the place where it arrives, or else by its end
+-- how a handle leaves: it moves to the place where it arrives, or else it ends
 abbrev pub leaving_by : Option (Place × Held) → Ending → Leaving
 leaving_by (Some (other, held)) how = leaving.Moved other
 leaving_by None how = leaving.Ended how

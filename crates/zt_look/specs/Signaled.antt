@@ -24,7 +24,7 @@ abbrev pub in_packet : Packet → Option (ℕ × ℕ)
 in_packet (packet.User _ _) = None
 in_packet (packet.Signal _ _ _ process handle) = Some (process, handle)
 
--- by a wait, or by a packet of one
+-- the process and the handle that a wait names, or a packet of one
 abbrev pub in_row : Row → Option (ℕ × ℕ)
 in_row (rows.Wait wait) = Some (wait.process, wait.handle)
 in_row (rows.Packet held) = in_packet held
@@ -52,20 +52,20 @@ abbrev pub kind_named : State → Option (ℕ × ℕ) → Option Kind
 kind_named S None = None
 kind_named S (Some (process, handle)) = kind_held S (entry S process handle)
 
--- that of the object whose signals the row tells
+-- the kind of the object whose signals the row tells, if it tells some
 abbrev pub kind_of_row : State → Row → Option Kind
 kind_of_row S row = kind_named S (in_row row)
 
--- the same where there is a row
+-- the kind of the object whose signals the row tells, none where there is no row
 abbrev pub kind_in : State → Option Row → Option Kind
 kind_in S None = None
 kind_in S (Some row) = kind_of_row S row
 
--- as it was when the call was made
+-- the kind of the object whose signals the call tells, or the packet that answered it, in the state after the call
 abbrev pub kind_of_call : List Made → CallMade → Option Kind
 kind_of_call made call = kind_named (state_at made call.moment) (in_answered call.process call.call call.reply)
 
--- by the row as it is at the second of two moments, or else by the row at the first; for what a call changed, these are the
+-- the kind that a changed row tells at the second of two moments, or else at the first; for what a call changed, these are the
 -- moment before the call and its own
 abbrev pub kind_between : List Made → ℕ → ℕ → Change → Option Kind
 kind_between made a b change = kind_or (kind_in (state_at made b) change.after) (kind_in (state_at made a) change.before)

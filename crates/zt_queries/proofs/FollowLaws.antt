@@ -155,7 +155,7 @@ direct-itself S sound = record {
 -- ---- changes that calls are made of
 
 module _ (S T : State) (d : Direct S T) where
-  -- the same objects and messages, and no entry more
+  -- a direct change to T is one to U, too, if U has the objects and messages of T, no other entries and no lower next koid
   pub direct-less : (U : State) → next_koid T ≤ next_koid U → ((x : ℕ) → object U x ≡ object T x) → ((p h : ℕ) (held : Held) → entry U p h ≡ Some held → entry T p h ≡ Some held) → ((e n : ℕ) → message U e n ≡ message T e n) → Direct S U
   direct-less U koids objects entries messages = record {
     follows = record {

@@ -281,7 +281,7 @@ all_parts x S o a b c d e count own others named there at_first is_count is_own 
     ∙ ap (λ l. l ++ I) (sym (append-nil d) ∙ third ∙ ap (λ l. c ++ l) (append-nil C) ∙ ap (λ l. l ++ C) named_all)
     ∙ whole
 
--- the same of the rows of a state, listed, part by part
+-- supports gathered from all rows part by part (entries, messages, children, the object itself) are the supports of x in S
 pub parts_listed : (x : ℕ) (S : State) (o : ObjectRow) (es : List (RowKey × Row)) (a b c d e : List Support) → object S x ≡ Some o → es ≡ S.rows → a ≡ []
     → b ≡ a ++ flat_map (supports_by part.Entries x) es → c ≡ b ++ flat_map (supports_by part.Messages x) es
     → d ≡ c ++ children (Some o) x es → e ≡ d ++ itself (Some o) x → e ≡ supports S x

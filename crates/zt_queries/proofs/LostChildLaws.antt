@@ -428,7 +428,7 @@ module _ (made : List Made) (are : AreMoments made) (at x : ℕ) (within : at �
           one-last (filter (at_moment (leaked x) made) (path made at)) (suc i) (once made are at within x happening.Leaked) (among-filter (at_moment (leaked x) made) (path made at) (suc i) on leaks)
           ∙ sym (found-then i on leaks)
 
--- the same as it is found
+-- when a live job that is not the root was leaked last: the later of the moments found for its names and for its children
 pub job-told-by : (made : List Made) (are : AreMoments made) (at x : ℕ) (within : at ≤ length made) → on_object is_live_job (object (state_at made at) x) ≡ true → (x == root_job) ≡ false
     → (named lost told : Option ℕ) → IsLastOfBoth made at x named lost → told ≡ later lost named → last_on (happens happening.Leaked x) made at ≡ told
 job-told-by made are at x within live no_root named lost told found is =

@@ -481,7 +481,7 @@ module _ (made : List Made) (are : AreMoments made) (at x : ℕ) (within : at �
           one-last (filter (at_moment (leaked x) made) (path made at)) (suc i) (once made are at within x happening.Leaked) (among-filter (at_moment (leaked x) made) (path made at) (suc i) on leaks)
           ∙ sym (found-then i on leaks passive)
 
--- the same as it is found
+-- when an object that is no job and no live process was leaked last: at its end, or at the moment found for its names if later
 pub told-by : (made : List Made) (are : AreMoments made) (at x : ℕ) (within : at ≤ length made) → stands_passive (state_at made at) x ≡ true
     → (latest ended told : Option ℕ) → IsLastOfNames made at x latest → ended ≡ last_shown turn.Ended x made at → told ≡ later ended latest → last_on (happens happening.Leaked x) made at ≡ told
 told-by made are at x within passive latest ended told names is_end is =

@@ -158,7 +158,7 @@ module _ (h : Timeline) (way here : List ℕ) (shared : ℕ) (w : AreWays h way 
   pub at-fork : (k : RowKey) (i : ℕ) (r : Option Row) → i ≡ shared → r ≡ row (state_at h.tree.made (end_of (take i here))) k → r ≡ row (state_at h.tree.made (end_of (take shared way))) k
   at-fork k i r there is = is ∙ ap (λ n. row (state_at h.tree.made (end_of (take n here))) k) there ∙ ap (λ l. row (state_at h.tree.made (end_of l)) k) (sym w.fork.same)
 
-  -- the same in the other's words
+  -- a row at the last shared moment, reached along `way`, is the row there along `here`
   pub from-fork : (k : RowKey) (i : ℕ) (r : Option Row) → i ≡ shared → r ≡ row (state_at h.tree.made (end_of (take shared way))) k → r ≡ row (state_at h.tree.made (end_of (take i here))) k
   from-fork k i r there is = is ∙ ap (λ l. row (state_at h.tree.made (end_of l)) k) w.fork.same ∙ ap (λ n. row (state_at h.tree.made (end_of (take n here))) k) (sym there)
 

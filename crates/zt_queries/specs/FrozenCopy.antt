@@ -25,7 +25,7 @@ at_position h = record {
   calls = calls_to h.tree.made h.position;
 }
 
--- what keeps an object that there is
+-- what keeps the object; refused where there is no such object
 abbrev pub holders_on : State → ℕ → Result (List Support) Refusal
 holders_on S x = do
   _ ← check (exists S x) refusal.NoObject

@@ -42,8 +42,7 @@ when_on what made m x = do
   _ ← check (is_known (state_at made m) x) refusal.NoObject
   Ok (last_on (happens what x) made m)
 
--- the refusal that was given, where the checks end so: the list of the path wants memory, and the object is looked for
--- at its end
+-- the refusal that may be given, by the result of the checks: the first that fails, or want of memory for the list of the path
 abbrev pub IsRefusedWhen : {A : Type 0} → Result A Refusal → Refusal → Type 0
 IsRefusedWhen (Ok _) given = given ≡ refusal.OutOfMemory
 IsRefusedWhen (Err reason) given = (given ≡ reason) ⊎ (given ≡ refusal.OutOfMemory)

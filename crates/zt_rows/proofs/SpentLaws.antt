@@ -1,4 +1,4 @@
--- So many calls give out no more numbers than so many, and a history's calls are too few to use them up.
+-- How many numbers a count of calls gives out at most, and that a history has too few calls to use all numbers up.
 use Rattle.std.proofs.Common.{◌≡◌, ◌≤◌, ◌<◌, ℕ, zero, suc, ◌+◌, ◌*◌, ◌^◌, Bool, true, false, cond, List, [], ◌∷◌, length, inl, refl, sym, ap, ◌∙◌, subst, arith}
 use Rattle.std.specs.Prelude.{Option, None, Some, Ok, ok_or, count_by, fold, if◌then◌else◌, ◌==◌}
 use Rattle.std.specs.List.{filter_map, cons_option}

@@ -60,7 +60,7 @@ pub after_result : {A : Type 0} (P : State → Type 0) (S : State) (r : Result A
 after_result P S (Ok v) f base next = next v refl
 after_result P S (Err wrong) f base next = base
 
--- the same of a handle; T is the state that a failed call leaves
+-- P holds of the state after a handle's lookup and f, if it holds of T, which a failed call leaves, and after f on what is found
 pub after_handle_of : (P : State → Type 0) (S T : State) (wrong : Status) (p h : ℕ) (wanted : Kind → Bool) (rights : ℕ) (f : Held × ObjectRow → Result (State × Reply) Status) → P T → ((held : Held) (o : ObjectRow) → Found S p h wanted rights held o → P (answered T (f (held, o))).0) → P (answered T (handle_else wrong S p h wanted rights >>= f)).0
 after_handle_of P S T wrong p h wanted rights f base next = by_entry (entry S p h) refl
   where

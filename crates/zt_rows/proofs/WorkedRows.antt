@@ -30,7 +30,7 @@ pub one_event_rows : rows_after (by_root (EventCreate ∷ []))
 unfolding ran
 one_event_rows = refl
 
--- the same, and a signal, by the step of the calls that a trace can have already
+-- one event and two signals, run by `step` from the opening, leave the state and give the replies of `ran`
 pub by_the_step : run opening ((1025, call.EventCreate) ∷ (1025, call.ObjectSignal 7 (record { 0 = 0x01000000 }) (record { 0 = 0x8 })) ∷ (1025, call.ObjectSignal 7 (record { 0 = 0x8 }) (record { 0 = 0x02000000 })) ∷ [])
     ≡ ran (by_root (EventCreate ∷ ObjectSignal 7 0x01000000 0x8 ∷ ObjectSignal 7 0x8 0x02000000 ∷ []))
 unfolding ran direct step
@@ -138,7 +138,7 @@ pub signalled : then_one (by_root (EventCreate ∷ [])) (root (ObjectSignal 7 0 
 unfolding then_one
 signalled = refl
 
--- the same signal twice changes nothing
+-- setting a signal that is set already changes no row
 pub signalled_twice : then_one (by_root (EventCreate ∷ ObjectSignal 7 0 0x8 ∷ [])) (root (ObjectSignal 7 0 0x8))
     ≡ (done, [])
 unfolding then_one

@@ -85,7 +85,7 @@ pub list_own_handle_before_denied : replies (by_root (ChannelCreate ∷ HandleRe
 unfolding ran
 list_own_handle_before_denied = refl
 
--- the same where the channel handle itself fails: it is missing, is no channel, or may not write
+-- all that is listed and in the table is closed also where the channel handle itself is missing, is no channel, or may not write
 pub write_by_no_handle : then_one (by_root (EventCreate ∷ [])) (root (ChannelWrite 99 [] (7 ∷ [])))
     ≡ (failed BadHandle, key.Object 1026 ∷ key.Entry 1025 7 ∷ [])
 unfolding then_one

@@ -77,7 +77,7 @@ abbrev pub all_of : State → List (ℕ × Asked) → State × List Reply
 all_of S [] = (S, [])
 all_of S (c ∷ cs) = let one = completed S (performed S c.0 c.1) in followed one (all_of one.0 cs)
 
--- the same from the opening
+-- the last state and all replies of the calls from the opening on, each carried through
 unfoldable pub ran : List (ℕ × Asked) → State × List Reply
 unfolding row put change objects waits queue packets any_row count_row supports support_count is_supported without goes rounds collect refresh settle links chain highest end
 ran cs = all_of opening cs

@@ -46,7 +46,8 @@ handle_else wrong S p h wanted rights = do
   _ ← check (has_all held.rights.0 rights) status.AccessDenied
   Ok (held, o)
 
--- the same, with wrong_type for a kind that is not wanted
+-- what the caller's handle holds, and the object that it names: bad_handle where the value is not in the table, then wrong_type
+-- where the object's kind is not wanted, then access_denied where a wanted right is not held
 abbrev pub handle : State → ℕ → ℕ → (Kind → Bool) → ℕ → Result (Held × ObjectRow) Status
 handle S p h wanted rights = handle_else status.WrongType S p h wanted rights
 

@@ -78,6 +78,6 @@ pub record HasGiven (calls packets : ℕ) (S : State) : Type 0 where
 abbrev pub most_calls : ℕ
 most_calls = 1048576
 
--- after so many calls, of which each gave a port one packet and fired every wait at most
+-- no more was given out than so many calls can: each gives a port at most one packet of its own and one for every wait
 abbrev pub HasSpent : ℕ → State → Type 0
 HasSpent calls S = HasGiven calls (2 * most_calls * calls) S

@@ -1,5 +1,5 @@
--- An object that comes to stand where one of the same kind, life and link stood: it counts for the same koid, and stands in
--- the same bucket, so that neither the numbers nor the buckets change.
+-- An object replaces one of the same kind, life and link. It counts for the same koid and stands in the same bucket, so neither
+-- the numbers nor the buckets change.
 use Rattle.std.proofs.Common.{◌≡◌, ℕ, Bool, true, false, cond, List, Option, None, Some, refl, sym, ap, ◌∙◌, arith}
 use Rattle.std.specs.Prelude.{◌==◌}
 use Rattle.std.specs.Option.{option_and_then, option_map}

@@ -151,7 +151,7 @@ keeps-by p q placed le R h =
     (placed e.0 (and_left (has_place p.sizes e.0) (counts_within_if p.koids e.0 e.1) g))
     (within_if-more p.koids q.koids le e.0 e.1 (and_right (has_place p.sizes e.0) (counts_within_if p.koids e.0 e.1) g))) R (each_fits p R h))
 
--- the same, as a store grows
+-- rows that fitted the old places fit the new ones, if each old place is there still and there are no fewer koids
 pub keeps-grown : (old new : Places) → ((k : RowKey) → has_place old.sizes k ≡ true → has_place new.sizes k ≡ true) → old.koids ≤ new.koids → Keeps old new
 keeps-grown old new placed le = keeps-by old new placed le
 

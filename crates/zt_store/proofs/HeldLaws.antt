@@ -57,7 +57,7 @@ held-found ks rs k i v is within tied at =
     let there : ◌≡◌ {A = RowKey × Option Row} (get_or (zip ks rs) i (k, v)) (k, v) = get_or-zip ks rs i (k, v) within h ∙ (λ j. (same j, sym at j)) in
     sym (find-lookup k (zip ks rs) ∙ lookup-from_Contains key_equality k v (zip ks rs) (distinct-record ks rs is) (i, z, there))
 
--- the same of slots
+-- where rows are kept as slots, a key that is found at place i has in the record what the slot at i stands for under it
 pub slot-found : (ks : List RowKey) (rs : List Row) (k : RowKey) (i : ℕ) (r : Row) → IsSlotRecord ks rs → i < length ks
     → HoldsAt (λ y. rowkey_cmp y k ≡ Equal) ks i → r ≡ get_or rs i r → Some (decode_slot k r) ≡ held (pairs_of ks rs) k
 slot-found ks rs k i r is within tied at =

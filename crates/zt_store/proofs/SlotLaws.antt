@@ -118,11 +118,11 @@ rows_of-zip [] rs = refl
 rows_of-zip (k ∷ ks) [] = refl
 rows_of-zip (k ∷ ks) (r ∷ rs) = ap (λ R. (k, decode_slot k r) ∷ R) (rows_of-zip ks rs)
 
--- the same of what is lent of a step's before-images
+-- before-images made of the lists ks and rs stand for what the two lists (lent as xs and ys) stand for
 pub rows_of-lent : (f : Firsts) (ks xs : List RowKey) (rs ys : List Row) (n : ℕ) → ◌≡◌ {A = Firsts} (record { rows = zip ks rs; room = n }) f → xs ≡ ks → ys ≡ rs → rows_of f.rows ≡ pairs_of xs ys
 rows_of-lent f ks xs rs ys n seen keys rows = sym (ap (λ g. rows_of g.rows) seen) ∙ rows_of-zip ks rs ∙ sym (λ j. pairs_of (keys j) (rows j))
 
--- the same where the rows were written over others
+-- keys and a vector into which as many rows were written stand for what the keys and these rows stand for
 pub rows_of-written : (ks : List RowKey) (v : Vec Row) (rs : List Row) → length rs ≡ length v.items → rows_of (zip ks (with_items v rs).items) ≡ pairs_of ks rs
 rows_of-written ks v rs same = ap (λ qs. rows_of (zip ks qs)) (with_items_is v rs (omega (arith, same, v.ok.0))) ∙ rows_of-zip ks rs
 

@@ -22,7 +22,7 @@ taking-within F order i R places is within = omega (arith, is.even, All-get_or (
 pub taking-start : (F : Slots) (order : List ℕ) → IsTaking F order 0 F
 taking-start F order = record { even = refl; left = λ j low within. refl }
 
--- the same, and they stand in their places
+-- the rows at the first i of the places are taken and stand, with their keys, first in ks and rs; both lists are as long as `order`
 pub record IsFilling (F : Slots) (order : List ℕ) (i : ℕ) (ks : List RowKey) (rs : List Row) (R : Slots) : Type 0 where
   pub keys : take i ks ≡ map (λ e. e.0) (picked F (take i order))
   pub rows : take i rs ≡ map (λ e. e.1) (picked F (take i order))
@@ -39,7 +39,7 @@ filling-end F order i ks rs R is over = record {
   rows = sym (take_all i rs (omega (arith, over, is.row_places))) ∙ is.rows ∙ ap (λ places. map (λ (e : RowKey × Row). e.1) (picked F places)) (take_all i order over);
 }
 
--- the same, and they stand in two lists
+-- the rows at the first i of the places are taken, and ks and rs are their keys and rows and nothing else
 pub record IsPushing (F : Slots) (order : List ℕ) (i : ℕ) (ks : List RowKey) (rs : List Row) (R : Slots) : Type 0 where
   pub keys : ks ≡ map (λ e. e.0) (picked F (take i order))
   pub rows : rs ≡ map (λ e. e.1) (picked F (take i order))

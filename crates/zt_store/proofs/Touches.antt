@@ -143,7 +143,7 @@ module _ (old made new : Stored) (firsts : Rows) (places : TouchedIndex) (room :
 
 -- ---- the before-images with one more
 
--- the same rows, found as before
+-- before-images stay right in a store that keeps what fitted, with an index that notes their keys and at least as much room
 pub touching-still : (old new : Stored) (firsts same : Rows) (places other : TouchedIndex) (room more_room : ℕ) → IsTouching old firsts places room
     → Keeps old.places new.places → same ≡ firsts → AreNoted other (keys_of same) → room ≤ more_room → IsTouching new same other more_room
 touching-still old new firsts same places other room more_room is kept e noted more = record {

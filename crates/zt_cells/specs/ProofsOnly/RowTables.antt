@@ -43,7 +43,7 @@ abbrev pub put_cells : (ℕ → RowKey) → List (Option Row) → State → Stat
 put_cells key_of [] S = S
 put_cells key_of (row ∷ rows) S = put (put_cells (λ n. key_of (suc n)) rows S) (key_of 0) row
 
--- the same of tables by owner, by owner and place
+-- the state with the rows of all tables put, each under the key of its table's owner and its place, both from 0 on
 abbrev pub put_tables : (ℕ → ℕ → RowKey) → List (List (Option Row)) → State → State
 put_tables key_of [] S = S
 put_tables key_of (table ∷ tables) S =

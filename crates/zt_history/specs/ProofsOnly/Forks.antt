@@ -17,7 +17,7 @@ pub record IsRun (made : List Made) (first moment : ℕ) : Type 0 where
   pub within : first ≤ moment
   pub above : (m : ℕ) → first ≤ m → m ≤ moment → IsAbove made m moment
 
--- the same of a moment that will be made at this one
+-- the run of the next moment to be made, at this parent, may begin with `first`: all moments from there on are on the parent's path
 pub record IsRunBeyond (made : List Made) (first parent : ℕ) : Type 0 where
   pub within : first ≤ suc (length made)
   pub above : (m : ℕ) → first ≤ m → m ≤ length made → IsAbove made m parent

@@ -43,7 +43,7 @@ pub record IsKept (store : Stored) (moments : Chronicle) (branches : List Branch
   pub history : IsHistory moments.made position store moments.records
   pub undo : IsUndo last (record { made = moments.made; branches = branches }) position
 
--- the same, and what is noted of the objects
+-- store, moments, branches and undo are as `IsKept` says, and the notes and next koids are those of the moments
 pub record IsWhole (store : Stored) (moments : Chronicle) (changes : NotedChanges) (branches : List Branch) (position : ℕ) (last : Undo) : Type 0 where
   pub kept : IsKept store moments branches position last
   pub noted : AreNoted moments.made changes

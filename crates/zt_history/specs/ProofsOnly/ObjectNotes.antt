@@ -65,7 +65,7 @@ tells what n = is_told what n.what
 abbrev pub note_with : ℕ → ℕ → Noted → ChangeNote
 note_with m x what = record { moment = m; koid = x; what = what }
 
--- the same where it happened
+-- the list of that one note where it happened, else the empty list
 abbrev pub note_if : Bool → ℕ → ℕ → Noted → List ChangeNote
 note_if happened m x what = if happened then note_with m x what ∷ [] else []
 
@@ -85,7 +85,7 @@ note_of m x r s = note_if (shows happening.Made r s || (shows happening.Ended r 
 abbrev pub is_left : (ℕ → Option Row → Bool) → ℕ → Option Row → State → Bool
 is_left stands x s T = exists T x && not (stands x s)
 
--- the same of a name of it
+-- the object is there in T, and the row s does not name it, under a key whose row named it before
 abbrev pub is_released : ℕ → Option Row → State → Bool
 is_released x s T = is_left names x s T
 
@@ -93,11 +93,11 @@ is_released x s T = is_left names x s T
 abbrev pub gone_name : ℕ → Option Row → State → ℕ → List ChangeNote
 gone_name m s T x = note_if (is_released x s T) m x did.Released
 
--- the same of the handles of a message
+-- for each of these handles of a message, that a name of its object went, by the row s after the call; nothing where it did not
 abbrev pub gone_names : ℕ → Option Row → State → List Held → List ChangeNote
 gone_names m s T handles = flat_map (λ held. gone_name m s T held.koid) handles
 
--- the same of what a row named before the call
+-- for each object that the row before the call named, that a name of it went, by the row s after the call
 abbrev pub gone_of : ℕ → Option Row → Option Row → State → List ChangeNote
 gone_of m (Some (rows.Entry held)) s T = gone_name m s T held.koid
 gone_of m (Some (rows.Msg sent)) s T = gone_names m s T sent.handles
@@ -107,12 +107,12 @@ gone_of m _ s T = []
 abbrev pub parent_of : ObjectRow → Option ℕ
 parent_of o = if is_live_job o || is_live_process o then Some o.link else None
 
--- the same of one that stands in a row
+-- the parent of the live process or job in a row, none where the row has no such object
 abbrev pub parent_in : Option Row → Option ℕ
 parent_in (Some (rows.Object o)) = parent_of o
 parent_in _ = None
 
--- the same of a live child of it
+-- the object is there in T, and the row s is no live child of it, under a key whose row was one before
 abbrev pub is_lost : ℕ → Option Row → State → Bool
 is_lost x s T = is_left is_child_row x s T
 
@@ -120,12 +120,12 @@ is_lost x s T = is_left is_child_row x s T
 abbrev pub lost_child : ℕ → Option Row → State → ℕ → List ChangeNote
 lost_child m s T x = note_if (is_lost x s T) m x did.LostChild
 
--- the same of a parent, where there is one
+-- that the parent, where there is one, lost a live child, by the row s after it
 abbrev pub lost_by : ℕ → Option Row → State → Option ℕ → List ChangeNote
 lost_by m s T None = []
 lost_by m s T (Some x) = lost_child m s T x
 
--- the same of the parent of what stood in the row r before the call
+-- that the parent of what stood in the row r before the call lost a live child, by the row s after the call
 abbrev pub loss_of : ℕ → Option Row → Option Row → State → List ChangeNote
 loss_of m r s T = lost_by m s T (parent_in r)
 
@@ -138,12 +138,12 @@ abbrev pub note_before : ℕ → Option Row → State → RowKey → List Change
 note_before m r T (key.Object x) = note_object m x r T
 note_before m r T k = gone_of m r (row T k) T
 
--- the same where a record has the row before it
+-- what is noted of a key by the row that a record has from before the call; nothing where the record does not have the key
 abbrev pub note_over : ℕ → Option (Option Row) → State → RowKey → List ChangeNote
 note_over m None T k = []
 note_over m (Some r) T k = note_before m r T k
 
--- the same of a key of the record R of the call
+-- what is noted of a key by the record R of the call; nothing where R does not have the key
 abbrev pub note_under : ℕ → List (RowKey × Option Row) → State → RowKey → List ChangeNote
 note_under m R T k = note_over m (held R k) T k
 

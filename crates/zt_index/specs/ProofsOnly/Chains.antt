@@ -42,7 +42,7 @@ abbrev pub before_of : List BucketLink → List BucketEnds → ℕ → Option �
 before_of links ends b None = (slice_index_or ends b no_ends).last
 before_of links ends b (Some n) = (slice_index_or links n no_link).before
 
--- the same item, or none in the same bucket
+-- both are the same item, or both are none and the buckets are the same
 abbrev pub is_slot : ℕ → Option ℕ → ℕ → Option ℕ → Bool
 is_slot bucket None b None = b == bucket
 is_slot bucket (Some low) b (Some n) = n == low

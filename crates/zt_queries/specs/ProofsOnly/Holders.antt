@@ -20,7 +20,7 @@ supports_by part.Entries x e = filter_map (entry_support x) (e ∷ [])
 supports_by part.Messages x e = message_supports x e
 supports_by part.Children x e = filter_map (child_support x) (e ∷ [])
 
--- the same of what stands under a key
+-- the supports of this kind that the row under a key gives x, none where there is no row
 abbrev pub supports_at : Source → ℕ → RowKey → Option Row → List Support
 supports_at which x k (Some r) = supports_by which x (k, r)
 supports_at which x k None = []

@@ -66,7 +66,7 @@ roots graph = filter_map root_at graph.entries
 abbrev pub names : BTreeMap RowKey GraphRow → ℕ → List ℕ
 names graph e = flat_map (names_at e) graph.entries
 
--- the same as it is kept under the endpoint
+-- the names that the map of queues keeps under the endpoint, none where it keeps nothing
 abbrev pub waiting : BTreeMap ℕ (List ℕ) → ℕ → List ℕ
 waiting queues e = unwrap_or (get nat_cmp queues e) []
 

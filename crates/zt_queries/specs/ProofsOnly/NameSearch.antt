@@ -134,7 +134,8 @@ pub record IsNameCount (S : State) (y : ℕ) (ends : List ℕ) (messages : List 
   pub same : (k : RowKey) → is_one messages k ≡ false → row others k ≡ row S k
   pub waiting : (k : RowKey) → is_one messages k ≡ true → waits_at ends k ≡ true
 
--- the same search before all of these were looked at: nothing else keeps one of so many
+-- a name search before all of its objects were looked at: x is one of them, all are above x, and what keeps one of the first
+-- `place` is messages at them and live jobs among them
 pub record IsPartSearch (S : State) (x : ℕ) (ends : List ℕ) (place : ℕ) : Type 0 where
   pub within : place ≤ length ends
   pub itself : among ends x ≡ true

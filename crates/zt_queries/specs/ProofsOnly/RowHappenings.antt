@@ -26,7 +26,7 @@ row_over None k r = r
 
 -- ---- two paths
 
--- so many moments do both have, and no more
+-- both paths begin with so many moments that they share; behind these `way` ends, or the paths differ
 pub record IsFork (way here : List ℕ) (shared : ℕ) : Type 0 where
   pub in_way : shared ≤ length way
   pub in_here : shared ≤ length here

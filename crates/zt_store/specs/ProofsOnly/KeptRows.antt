@@ -13,7 +13,7 @@ use Rattle.zt_store.specs.declared.kept_rows.RowLists.{RowLists}
 abbrev pub rows_of : List (RowKey × Row) → List (RowKey × Option Row)
 rows_of R = map (λ e. (e.0, decode_slot e.0 e.1)) R
 
--- the same of keys and rows in two lists, each row under the key at its place
+-- what the rows stand for, each under the key at its place, as far as both lists reach
 abbrev pub under_keys : List RowKey → List Row → List (Option Row)
 under_keys [] rs = []
 under_keys (k ∷ ks) [] = []
@@ -51,7 +51,7 @@ pub record AreOf (ks : List RowKey) (rs : List Row) (R : List (RowKey × Row)) :
 abbrev pub room_of : RowLists → ℕ
 room_of l = min (vec_capacity l.keys) (vec_capacity l.rows)
 
--- the same where there may be none
+-- for how many rows the lists have room, 0 where there are no lists
 abbrev pub room_in : Option (Box RowLists) → ℕ
 room_in None = 0
 room_in (Some b) = room_of b.value

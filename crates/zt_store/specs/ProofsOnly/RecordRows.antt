@@ -13,7 +13,7 @@ pub record IsRecord (ks : List RowKey) (rs : List (Option Row)) : Type 0 where
   pub suited : AllSuit (zip ks rs)
   pub ordered : T (entries.is_sorted rowkey_cmp (zip ks rs))
 
--- the same of slots
+-- as many slots as keys, and the keys with what the slots stand for under them are a record
 pub record IsSlotRecord (ks : List RowKey) (rs : List Row) : Type 0 where
   pub even : length rs ≡ length ks
   pub recorded : IsRecord ks (under_keys ks rs)

@@ -26,7 +26,7 @@ either : {A E P : Type 0} (r : Result A E) → P → OnErr r P
 either (Ok v) p = tt
 either (Err e) p = p
 
--- the same moments, with nothing to take back
+-- a history seen as h, under an equal list of moments and without its undo, is seen as h with nothing to take back
 seen-same : (made same : List Made) (branches : List Branch) (p : ℕ) (last : Undo) (h : Timeline) → same ≡ made → timeline_of (record { made = made; branches = branches }) p last ≡ h
     → timeline_of (record { made = same; branches = branches }) p undo.Nothing ≡ unmoved h
 seen-same made same branches p last h is seen = (λ i. record { tree = record { made = is i; branches = branches }; position = p; before = None }) ∙ ap unmoved seen

@@ -8,7 +8,7 @@ use Rattle.zt_store.proofs.SlotLaws.{Slots, filled-slots, pairs-filled}
 use Rattle.zt_store.proofs.record.RecordLists.record_of.Goals.{in-Ok, in-Err}
 use Rattle.zt_store.proofs.record.RecordLists.record_of.Goals as goal
 
--- the same rows, from the same places
+-- AreOf with equals in place of equals: `kept` for `rows`, G for F, `places` for `order`
 same_are : (rows kept : KeptRows) (F G : Slots) (order places : List ℕ) → kept ≡ rows → F ≡ G → order ≡ places → AreOf (keys_in rows) (rows_in rows) (picked F order) → AreOf (keys_in kept) (rows_in kept) (picked G places)
 same_are rows kept F G order places rows_is firsts_are places_are is =
     subst (λ k. AreOf (keys_in k) (rows_in k) (picked G places)) (sym rows_is)
