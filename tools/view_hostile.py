@@ -109,7 +109,7 @@ def other_methods(view):
         for path in ('/', '/tree', '/lines', '/end', '/change/1', '/branches', '*'):
             refused(view, request(method, path, view.place, body=CALL), f'{method} {path}')
     for path in ('/', '/style.css', '/tree', '/change/1', '/calls/3/1/3', '/events/3/0/3', '/path/3/0', '/object/1026/3',
-                 '/handle/1025/7/3', '/lineage/1026/3', '/trace', '/branches'):
+                 '/handle/1025/7/3', '/lineage/1026/3', '/trace', '/noted', '/branches'):
         refused(view, request('POST', path, view.place, body=CALL), f'POST {path}')
     for path in ('/lines', '/end'):
         refused(view, request('GET', path, view.place), f'GET {path}')
@@ -130,7 +130,7 @@ def other_paths(view):
         '/change/18446744073709551616', '/change/' + '9' * 400, '/change/1048577', '/change/4', '/changes/1', '/calls',
         '/calls/3', '/calls/3/1', '/calls/3/1/3/', '/calls/3/1/3/4', '/calls/03/1/3', '/calls/4/1/3', '/calls/3/1/x',
         '/events', '/events/', '/events/x', '/events/3', '/events/3/3', '/events/4/0/3', '/events/3/0/3/', '/path', '/path/3',
-        '/path/3/', '/path/4/0', '/path/3/0/3', '/path/x/0', '/trace/', '/trace/1', '/object', '/object/1026', '/object/x/3',
+        '/path/3/', '/path/4/0', '/path/3/0/3', '/path/x/0', '/trace/', '/trace/1', '/noted/', '/noted/1', '/object', '/object/1026', '/object/x/3',
         '/object/1026/x', '/object/1026/4', '/object/1026/3/', '/object/99/3', '/object/18446744073709551616/3', '/lines',
         '/handle', '/handle/1025', '/handle/1025/7', '/handle/1025/7/', '/handle/1025/7/x', '/handle/1025/x/3', '/handle/x/7/3',
         '/handle/1025/7/4', '/handle/1025/7/3/', '/handle/1025/7/3/3', '/handle/1025/99/3', '/handle/1025/4294967296/3',

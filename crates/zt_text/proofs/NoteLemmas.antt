@@ -3,16 +3,17 @@ use Rattle.std.proofs.Common.{◌≡◌, ℕ, ◌-◌, ◌<◌, true, false, Lis
 use Rattle.std.specs.Prelude.{◌≤◌, Bool, not, ◌&&◌, ◌==◌, cond, is_some, if◌then◌else◌, Result, Ok, Err, OnOk}
 use Rattle.std.specs.Ordering.{is_eq}
 use Rattle.std.proofs.Math.Seq.{drop-length}
-use Rattle.std.proofs.lemmas.List.{drop-append-le, drop_all, length-take-le, get_or_past, nil_from_length}
+use Rattle.std.specs.List.{list_all}
+use Rattle.std.proofs.lemmas.List.{drop-append-le, drop_all, length-take-le, length-drop, get_or_past, nil_from_length}
 use Rattle.std.proofs.lemmas.Bool.Decides.{nat_tests}
 use Rattle.zt_text.specs.declared.name_lines.Subject.{Subject}
 use Rattle.zt_text.specs.declared.name_lines.Subject.TheVariants.{Handle}
 use Rattle.zt_text.specs.Lines.{lines_of}
 use Rattle.zt_text.specs.Answers.{as_line}
-use Rattle.zt_text.specs.Notes.{Noted, NotedSoFar, is_comment, is_name_line, is_same_subject, last_name, name_in, newer_name, note_at, noted_in, with_comment, with_moment, with_noted, without_moment}
+use Rattle.zt_text.specs.Notes.{Noted, NotedSoFar, is_comment, is_name_line, is_same_subject, last_name, is_nothing, is_unnoted, name_in, newer_name, note_at, noted_in, with_comment, with_moment, with_noted, without_moment}
 use Rattle.zt_text.specs.ProofsOnly.Notes.{pieces, end_after, last_end, so_far, pair_cmp, AreEnds}
 use Rattle.zt_text.proofs.NameTables.{same_pair}
-use Rattle.zt_text.proofs.PieceLemmas.{pieces_and_last, last_of_more, pieces_fit, pieces_more, length_pieces, end_of_all, ends_fit, ends_within}
+use Rattle.zt_text.proofs.PieceLemmas.{pieces_and_last, last_of_more, pieces_fit, pieces_more, length_pieces, end_of_all, ends_fit, ends_within, none_of_none, last_of_none}
 
 -- ---- what a line does
 
@@ -64,14 +65,38 @@ ends_left notes ends fewer last within at kept =
     let P : ℕ → Type 0 = λ n. AreEnds 0 ends n in
     rw (kept, at) (subst P (sym long) (ends_fit 0 ends (length notes) within))
 
-pub last_by : (ends shown : List ℕ) (count last : ℕ) → last ≡ end_after count 0 shown → shown ≡ ends → count ≡ length shown → last ≡ last_end 0 ends
-last_by ends shown count last is same all =
-    is ∙ ap (λ k. end_after k 0 shown) all ∙ ap (λ es. end_after (length es) 0 es) same ∙ end_of_all 0 ends
+pub last_by : (ends : List ℕ) (count last : ℕ) → last ≡ end_after count 0 ends → count ≡ length ends → last ≡ last_end 0 ends
+last_by ends count last is all = is ∙ ap (λ k. end_after k 0 ends) all ∙ end_of_all 0 ends
 
 -- where something holds of what is put, what follows from it holds too
 pub on_put : {T E : Type 0} (r : Result T E) (P Q : Type 0) → (P → Q) → OnOk r P → OnOk r Q
 on_put (Ok value) P Q follows put = follows put
 on_put (Err fault) P Q follows put = tt
+
+-- the last end is that of all bytes where nothing waits
+pub none_waits : (notes ends : List ℕ) → AreEnds 0 ends (length notes) → drop (last_end 0 ends) notes ≡ [] → last_end 0 ends ≡ length notes
+none_waits notes ends within none =
+    let le : last_end 0 ends ≤ length notes = ends_within 0 ends (length notes) within in
+    let left : length (drop (last_end 0 ends) notes) ≡ 0 = ap length none in
+    let long : length notes - last_end 0 ends ≡ 0 = rw length-drop at left in
+    omega arith
+
+-- there is no note where there are no bytes
+both_ways : (a b : Bool) → (a ≡ true → b ≡ true) → (b ≡ true → a ≡ true) → a ≡ b
+both_ways true true there back = refl
+both_ways true false there back = sym (there refl)
+both_ways false true there back = back refl
+both_ways false false there back = refl
+
+no_notes : (notes ends : List ℕ) → AreEnds 0 ends (length notes) → last_end 0 ends ≡ length notes → is_nothing notes ≡ list_all is_nothing (pieces 0 ends notes)
+no_notes notes ends within whole =
+    both_ways (is_nothing notes) (list_all is_nothing (pieces 0 ends notes))
+    (λ none. none_of_none 0 ends notes (nil_from_length notes (grind (arith, nat_tests, none))))
+    (λ none. let zero : last_end 0 ends ≡ 0 = last_of_none 0 ends notes within none in grind (arith, nat_tests, zero, whole))
+
+pub unnoted_by : (notes ends rest names : List ℕ) → AreEnds 0 ends (length notes) → last_end 0 ends ≡ length notes
+    → (is_nothing notes && is_nothing rest && is_nothing names) ≡ is_unnoted (record { notes = pieces 0 ends notes; rest = rest; names = names })
+unnoted_by notes ends rest names within whole = rw (no_notes notes ends within whole) refl
 
 -- ---- the note of a moment
 

@@ -1,8 +1,13 @@
 -- Notes in one list of bytes, and where each of them ends.
 use Rattle.std.proofs.Common.{◌≡◌, ℕ, zero, suc, ◌+◌, ◌-◌, ◌<◌, ◌≤◌, List, [], ◌∷◌, ◌++◌, length, take, drop, get_or, refl, sym, ap, subst, ◌∙◌, arith, length-drop}
-use Rattle.std.specs.List.{slice_range}
-use Rattle.std.proofs.lemmas.List.{take-append-drop, take-append-le, drop-append-le, drop-take, take_rest, length-take-le, get_or_past}
-use Rattle.zt_text.specs.ProofsOnly.Notes.{pieces, last_end, end_after, AreEnds}
+use Rattle.std.specs.Prelude.{true}
+use Rattle.std.specs.List.{slice_range, list_all}
+use Rattle.std.proofs.lemmas.List.{take-append-drop, take-append-le, drop-append-le, drop-take, take_rest, length-take-le, get_or_past, nil_from_length}
+use Rattle.std.proofs.Math.Seq.{take-nil, drop-nil}
+use Rattle.std.proofs.lemmas.Bool.{and_parts}
+use Rattle.std.proofs.lemmas.Bool.Decides.{nat_tests}
+use Rattle.zt_text.specs.Notes.{is_nothing}
+use Rattle.zt_text.specs.ProofsOnly.Notes.{pieces, all_ends, last_end, end_after, AreEnds}
 
 -- ---- ends
 
@@ -56,6 +61,41 @@ ends_ascend from [] most (suc k) within = omega arith
 ends_ascend from (end ∷ ends) most zero within = within.0
 ends_ascend from (end ∷ ends) most (suc k) within = ends_ascend end ends most k within.1
 
+-- ---- ends of which some are only counted
+
+pub length_of_all : (empty : ℕ) (others : List ℕ) → length (all_ends empty others) ≡ empty + length others
+length_of_all zero others = let same : 0 + length others ≡ length others = omega arith in sym same
+length_of_all (suc empty) others = let more = length_of_all empty others in omega arith
+
+and_empty : (empty : ℕ) → all_ends (suc empty) [] ≡ all_ends empty [] ++ (0 ∷ [])
+and_empty zero = refl
+and_empty (suc empty) = ap (λ ends. 0 ∷ ends) (and_empty empty)
+
+pub empty_and_one : (empty : ℕ) (others : List ℕ) (end : ℕ) → length others ≡ 0 → end ≡ 0 → all_ends (empty + 1) others ≡ all_ends empty others ++ (end ∷ [])
+empty_and_one empty others end none is =
+    let more : empty + 1 ≡ suc empty = omega arith in
+    rw (nil_from_length others none, is, more) (and_empty empty)
+
+pub all_and_one : (empty : ℕ) (others : List ℕ) (end : ℕ) → all_ends empty (others ++ (end ∷ [])) ≡ all_ends empty others ++ (end ∷ [])
+all_and_one zero others end = refl
+all_and_one (suc empty) others end = ap (λ ends. 0 ∷ ends) (all_and_one empty others end)
+
+pub end_of_empty : (count empty : ℕ) (others : List ℕ) → count ≤ empty → end_after count 0 (all_ends empty others) ≡ 0
+end_of_empty zero empty others within = refl
+end_of_empty (suc count) zero others within = absurd (omega arith)
+end_of_empty (suc count) (suc empty) others within = end_of_empty count empty others (omega arith)
+
+end_behind : (count empty : ℕ) (others : List ℕ) → empty ≤ count → end_after count 0 (all_ends empty others) ≡ end_after (count - empty) 0 others
+end_behind count zero others behind = let same : count - 0 ≡ count = omega arith in rw same refl
+end_behind zero (suc empty) others behind = absurd (omega arith)
+end_behind (suc count) (suc empty) others behind =
+    let e : suc count - suc empty ≡ count - empty = omega arith in
+    rw e (end_behind count empty others (omega arith))
+
+pub end_of_other : (count empty : ℕ) (others : List ℕ) → empty < count → count ≤ empty + length others → end_after count 0 (all_ends empty others) ≡ get_or others (count - empty - 1) 0
+end_of_other count empty others behind within =
+    end_behind count empty others (omega arith) ∙ end_of_some 0 others (count - empty) (omega arith) (omega arith)
+
 -- ---- pieces
 
 range_more : (bytes more : List ℕ) (from end : ℕ) → from ≤ end → end ≤ length bytes → slice_range (bytes ++ more) from end ≡ slice_range bytes from end
@@ -107,6 +147,30 @@ piece_cut ends bytes k from end below within at to =
     let le : end_after k 0 ends ≤ end_after (suc k) 0 ends = ends_ascend 0 ends (length bytes) k within in
     let sum : end ≡ from + (end - from) = rw (at, to) (omega arith) in
     ap (λ n. drop from (take n bytes)) sum ∙ drop-take from (end - from) bytes ∙ rw (at, to) (sym (piece_at 0 ends bytes k below))
+
+-- ---- pieces that are all empty
+
+range_long : (bytes : List ℕ) (from end : ℕ) → from ≤ end → end ≤ length bytes → length (slice_range bytes from end) ≡ end - from
+range_long bytes from end ascend within =
+    let rest : end - from ≤ length (drop from bytes) = rw length-drop (omega arith) in
+    length-take-le (end - from) (drop from bytes) rest
+
+range_of_none : (bytes : List ℕ) (from end : ℕ) → bytes ≡ [] → is_nothing (slice_range bytes from end) ≡ true
+range_of_none bytes from end none = rw (none, drop-nil from, take-nil (end - from)) refl
+
+pub none_of_none : (from : ℕ) (ends bytes : List ℕ) → bytes ≡ [] → list_all is_nothing (pieces from ends bytes) ≡ true
+none_of_none from [] bytes none = refl
+none_of_none from (end ∷ ends) bytes none = rw (range_of_none bytes from end none) (none_of_none end ends bytes none)
+
+pub last_of_none : (from : ℕ) (ends bytes : List ℕ) → AreEnds from ends (length bytes) → list_all is_nothing (pieces from ends bytes) ≡ true → last_end from ends ≡ from
+last_of_none from [] bytes within none = refl
+last_of_none from (end ∷ ends) bytes within none =
+    let parts = and_parts (is_nothing (slice_range bytes from end)) (list_all is_nothing (pieces end ends bytes)) none in
+    let long : length (slice_range bytes from end) ≡ end - from = range_long bytes from end within.0 (first_within end ends (length bytes) within.1) in
+    let short : length (slice_range bytes from end) ≡ 0 = grind (arith, nat_tests, parts.0) in
+    let ascend : from ≤ end = within.0 in
+    let same : end ≡ from = omega arith in
+    last_of_none end ends bytes within.1 parts.1 ∙ same
 
 -- ---- what waits
 

@@ -1,7 +1,7 @@
 -- The notes and the names of a session text: its comments, by the moments that they belong to.
 use Rattle.std.specs.Prelude.{ℕ, ◌-◌, Bool, false, not, ◌&&◌, ◌||◌, ◌==◌, nat_eq, nat_lt, nat_le, List, [], ◌∷◌, ◌++◌, length, slice_index_or, Option, Some, None, is_some, if◌then◌else◌, codes}
 use Rattle.std.specs.Option.{option_map, option_and_then}
-use Rattle.std.specs.List.{starts_with}
+use Rattle.std.specs.List.{starts_with, list_all}
 use Rattle.std.specs.Str.{bytes_eq, is_utf8}
 use Rattle.zt_text.specs.declared.name_lines.Subject.{Subject}
 use Rattle.zt_text.specs.declared.name_lines.Subject.TheVariants.{Object, Handle}
@@ -142,6 +142,13 @@ notes_of text = all_noted (noted_in nothing_noted (behind_first (lines_of text))
 -- no notes and no names
 abbrev pub none_noted : Noted
 none_noted = record { notes = []; rest = []; names = [] }
+
+-- there is no comment and no name
+abbrev pub is_nothing : List ℕ → Bool
+is_nothing bytes = length bytes == 0
+
+abbrev pub is_unnoted : Noted → Bool
+is_unnoted noted = list_all is_nothing noted.notes && is_nothing noted.rest && is_nothing noted.names
 
 -- the note of a moment; empty for the opening, and beyond the last
 abbrev pub note_at : Noted → ℕ → List ℕ

@@ -10,6 +10,7 @@ mod lists;
 mod name_lines;
 mod name_table;
 mod names;
+mod note_ends;
 mod noted_texts;
 mod notes;
 mod notes_reader;

@@ -1,26 +1,28 @@
 //! The notes and the names of a session text: its comments, by the moments that they belong to.
 
-ghost use Rattle.std.specs.Prelude.{◌≡◌, ◌<◌, [], length, slice_index_or, IfOk};
+ghost use Rattle.std.specs.Prelude.{◌≡◌, ◌<◌, ◌≤◌, ◌-◌, [], length, slice_index_or, IfOk};
 ghost use Rattle.zt_text.specs.ProofsOnly.Notes.{pieces, AreEnds};
 ghost use Rattle.std.specs.Option.{option_copied};
 ghost use Rattle.zt_text.specs.Lines.{lines_of};
 ghost use Rattle.zt_text.specs.NotedTexts.{IsNoted};
-ghost use Rattle.zt_text.specs.Notes.{behind_first, none_noted, notes_of, note_at, name_of_subject};
+ghost use Rattle.zt_text.specs.Notes.{behind_first, none_noted, notes_of, note_at, name_of_subject, is_unnoted};
 ghost use Rattle.zt_text.specs.declared.name_lines.Subject.TheVariants.{Object, Handle};
 
 use crate::name_table::NameTable;
-use crate::notes_reader::{NotesReader, end_after};
+use crate::note_ends::NoteEnds;
+use crate::notes_reader::NotesReader;
 use crate::session_text::next_line;
 use std::alloc::{AllocError, Global};
 use std::marker::Model;
 use zt_rows::{HandleValue, Koid, Moment};
 
 /// The notes of a session text, one for each moment, the comments that belong to no moment, and the names of objects and handles.
-/// All notes stand in one list of bytes, and take 8 bytes each beside their own.
+/// All notes stand in one list of bytes, and take 8 bytes each beside their own;
+/// those ahead of the first that is not empty take none.
 #[derive(Drop)]
 pub struct Notes {
     notes: Vec<u8>,
-    ends: Vec<usize>,
+    ends: NoteEnds,
     rest: Vec<u8>,
     names: Vec<u8>,
     table: NameTable,
@@ -32,9 +34,9 @@ impl Model for Notes {
 
     ghost Value = { Noted };
 
-    ghost view = { λ n. noted_of n.notes.items n.ends.items n.rest.items n.names.items };
+    ghost view = { λ n. noted_of n.notes.items n.ends n.rest.items n.names.items };
 
-    ghost invariant = { λ n. AreKept n.notes.items n.ends.items n.rest.items n.names.items n.table };
+    ghost invariant = { λ n. AreKept n.notes.items n.ends n.rest.items n.names.items n.table };
 }
 
 impl Notes {
@@ -44,7 +46,7 @@ impl Notes {
     {
         Notes {
             notes: Vec::new(alloc),
-            ends: Vec::new(alloc),
+            ends: NoteEnds::new(alloc),
             rest: Vec::new(alloc),
             names: Vec::new(alloc),
             table: NameTable::new(alloc),
@@ -77,6 +79,14 @@ impl Notes {
         })
     }
 
+    /// Whether there is no comment and no name.
+    #[tactic(auto, using(crate::proofs::NoteLemmas::unnoted_by))]
+    pub fn is_empty(&self) -> bool
+        ensures { result ≡ is_unnoted self.now }
+    {
+        self.notes.is_empty() && self.rest.is_empty() && self.names.is_empty()
+    }
+
     /// Returns the note of a moment, with its line feeds. It is empty if the moment has none.
     #[tactic(auto, using(crate::proofs::NoteLemmas::note_beyond, crate::proofs::NoteLemmas::note_of_some))]
     pub fn note(&self, moment: Moment) -> &[u8]
@@ -86,11 +96,10 @@ impl Notes {
         if number == 0 {
             return &[];
         }
-        let ends = self.ends.as_slice();
-        if number > ends.len() {
+        if number > self.ends.len() {
             return &[];
         }
-        piece(self.notes.as_slice(), ends, number - 1)
+        piece(self.notes.as_slice(), &self.ends, number)
     }
 
     /// Returns the comments that belong to no moment: those before branches and cursors, and those at the end of the text.
@@ -142,14 +151,15 @@ fn behind_first(text: &[u8]) -> &[u8]
     left
 }
 
-/// Returns the bytes of a note; notes are counted from 0 here.
-fn piece<'a>(bytes: &'a [u8], ends: &[usize], place: usize) -> &'a [u8]
-    requires inside { place < length ends.now }
+/// Returns the bytes of the note of this number, counted from 1.
+fn piece<'a>(bytes: &'a [u8], ends: &NoteEnds, number: usize) -> &'a [u8]
+    requires some { 0 < number }
+    requires inside { number ≤ length ends.now }
     requires ascend { AreEnds 0 ends.now (length bytes.now) }
-    ensures { result.now ≡ slice_index_or (pieces 0 ends.now bytes.now) place [] }
+    ensures { result.now ≡ slice_index_or (pieces 0 ends.now bytes.now) (number - 1) [] }
 {
-    let from = end_after(ends, place);
-    let end = end_after(ends, place + 1);
+    let from = ends.after(number - 1);
+    let end = ends.after(number);
     let (front, _) = bytes.split_at(end);
     let (_, note) = front.split_at(from);
     note

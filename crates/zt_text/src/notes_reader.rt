@@ -1,12 +1,12 @@
 //! Gathers the notes and the name lines of a session text, line by line.
 
 ghost use Rattle.std.specs.Prelude.{◌≡◌, ◌≤◌, ◌++◌, length, OnOk};
-ghost use Rattle.zt_text.specs.ProofsOnly.Notes.{end_after};
 ghost use Rattle.zt_text.specs.Answers.{as_line};
 ghost use Rattle.zt_text.specs.Lines.{lines_of};
 ghost use Rattle.zt_text.specs.Notes.{noted_in, nothing_noted, with_comment, with_moment, with_noted, without_moment};
 
 use crate::name_lines::{is_comment, is_name_line, is_place_line};
+use crate::note_ends::NoteEnds;
 use crate::read_lines::is_skipped;
 use crate::session_text::next_line;
 use std::alloc::{AllocError, Global};
@@ -16,7 +16,7 @@ use std::marker::Model;
 #[derive(Drop)]
 pub struct NotesReader {
     pub notes: Vec<u8>,
-    pub ends: Vec<usize>,
+    pub ends: NoteEnds,
     pub rest: Vec<u8>,
     pub names: Vec<u8>,
 }
@@ -28,9 +28,9 @@ impl Model for NotesReader {
 
     ghost Value = { NotedSoFar };
 
-    ghost view = { λ r. so_far r.notes.items r.ends.items r.rest.items r.names.items };
+    ghost view = { λ r. so_far r.notes.items r.ends r.rest.items r.names.items };
 
-    ghost invariant = { λ r. AreEnds 0 r.ends.items (length r.notes.items) };
+    ghost invariant = { λ r. AreEnds 0 r.ends (length r.notes.items) };
 }
 
 impl NotesReader {
@@ -40,7 +40,7 @@ impl NotesReader {
     {
         NotesReader {
             notes: Vec::new(alloc),
-            ends: Vec::new(alloc),
+            ends: NoteEnds::new(alloc),
             rest: Vec::new(alloc),
             names: Vec::new(alloc),
         }
@@ -112,8 +112,7 @@ impl NotesReader {
     pub fn leave_waiting(&mut self) -> Result<(), AllocError>
         ensures { OnOk result (self.new ≡ without_moment self.old) }
     {
-        let ends = self.ends.as_slice();
-        let last = end_after(ends, ends.len());
+        let last = self.ends.after(self.ends.len());
         let notes = self.notes.as_slice();
         let (_, waiting) = notes.split_at(last);
         self.rest.extend_from_slice(waiting)?;
@@ -140,13 +139,4 @@ fn put_line(bytes: &mut Vec<u8>, line: &[u8]) -> Result<(), AllocError>
     bytes.extend_from_slice(line)?;
     bytes.push(b'\n')?;
     Ok(())
-}
-
-/// Returns the end of the first `count` notes.
-#[tactic(auto, using(crate::proofs::PieceLemmas::end_of_some))]
-pub fn end_after(ends: &[usize], count: usize) -> usize
-    requires { count ≤ length ends.now }
-    ensures { result ≡ end_after count 0 ends.now }
-{
-    if count == 0 { 0 } else { ends[count - 1] }
 }

@@ -1,10 +1,11 @@
 -- How a request is answered, and what the history is then.
-use Rattle.std.specs.Prelude.{◌≡◌, ◌⊎◌, ℕ, Bool, true, List, [], ◌∷◌, ◌++◌, Option, None, Some, Result, Ok, Err}
+use Rattle.std.specs.Prelude.{◌≡◌, ◌⊎◌, ℕ, Bool, true, List, [], ◌∷◌, ◌++◌, Option, None, Some, Result, Ok, Err, if◌then◌else◌, codes}
 use Rattle.http.specs.declared.request.Request.{Request}
 use Rattle.http.specs.Request.{body_of, head_of}
 use Rattle.http_uri.specs.Uri.{uri_path, uri_query}
 use Rattle.http_server.specs.declared.response.Response.{Response}
 use Rattle.zt_rows.specs.declared.refusals.Refusal.{Refusal}
+use Rattle.zt_text.specs.Notes.{Noted, is_unnoted}
 use Rattle.zt_text.specs.NotedTexts.{noted_saved_text}
 use Rattle.zt_book.specs.Log.{BookView, standing_of}
 use Rattle.zt_book.specs.SavedSessions.{saved_of_session}
@@ -77,12 +78,17 @@ AnswersQuestion question old response new =
     ((book : BookView) × (old.book ≡ Some book) × TellsOf old.start.bytes question book response × Stands book old new)
     ⊎ LacksBook old response new
 
+-- whether the text with which the history began has notes or names
+abbrev pub noted_word : Noted → List ℕ
+noted_word noted = if is_unnoted noted then codes "no" else codes "yes"
+
 -- ---- all requests
 
 -- what is asked for is answered, or its lack is told
 abbrev pub AnswersWish : Result ViewRequest Lack → View → List ℕ → Response → View → Type 0
 AnswersWish (Ok (asked.Page _)) old body response new = HasStatus old.start.bytes 200 response × Holds old.book old new
 AnswersWish (Ok asked.Trace) old body response new = Tells old.start.bytes 200 (old.trace.items ++ 10 ∷ []) response × Holds old.book old new
+AnswersWish (Ok asked.Noted) old body response new = Tells old.start.bytes 200 (noted_word old.notes ++ 10 ∷ []) response × Holds old.book old new
 AnswersWish (Ok asked.Lines) old body response new = AnswersLines old body response new
 AnswersWish (Ok asked.Tree) old body response new = AnswersTree old.book old response new
 AnswersWish (Ok (asked.Answer question)) old body response new = AnswersQuestion question old response new

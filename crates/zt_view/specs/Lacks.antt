@@ -34,7 +34,7 @@ taking_text taking.Handle = codes "The form is /handle/PROCESS/VALUE/AT.\n"
 taking_text taking.Lineage = codes "The form is /lineage/KOID/AT.\n"
 
 abbrev pub lack_text : Lack → List ℕ
-lack_text lack.NoPath = codes "There is no such path. The paths are /branches, /calls, /change, /end, /events, /handle, /lineage, /lines, /object, /path, /trace and /tree.\n"
+lack_text lack.NoPath = codes "There is no such path. The paths are /branches, /calls, /change, /end, /events, /handle, /lineage, /lines, /noted, /object, /path, /trace and /tree.\n"
 lack_text (lack.Takes word) = taking_text word
 lack_text lack.AskedByGet = codes "Use GET for this path.\n"
 lack_text lack.AskedByPost = codes "Use POST for this path.\n"

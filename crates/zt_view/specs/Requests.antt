@@ -168,10 +168,11 @@ named word =
     else (if bytes_eq word (codes "script.js") then Some (asked.Page part.Script)
     else (if bytes_eq word (codes "lines") then Some asked.Lines
     else (if bytes_eq word (codes "trace") then Some asked.Trace
+    else (if bytes_eq word (codes "noted") then Some asked.Noted
     else (if bytes_eq word (codes "tree") then Some asked.Tree
     else (if bytes_eq word (codes "branches") then Some (asked.Answer question.Branches)
     else (if bytes_eq word (codes "end") then Some asked.End
-    else None)))))))
+    else None))))))))
 
 abbrev pub named_with : List ℕ → Option (List ℕ) → List ℕ → Option ViewRequest
 named_with word None query = named word
@@ -200,6 +201,7 @@ abbrev pub method_of : ViewRequest → List ℕ
 method_of (asked.Page _) = codes "GET"
 method_of asked.Lines = codes "POST"
 method_of asked.Trace = codes "GET"
+method_of asked.Noted = codes "GET"
 method_of asked.Tree = codes "GET"
 method_of (asked.Answer _) = codes "GET"
 method_of asked.End = codes "POST"
@@ -209,6 +211,7 @@ abbrev pub method_lack : ViewRequest → Lack
 method_lack (asked.Page _) = lack.AskedByGet
 method_lack asked.Lines = lack.AskedByPost
 method_lack asked.Trace = lack.AskedByGet
+method_lack asked.Noted = lack.AskedByGet
 method_lack asked.Tree = lack.AskedByGet
 method_lack (asked.Answer _) = lack.AskedByGet
 method_lack asked.End = lack.AskedByPost

@@ -50,7 +50,7 @@ impl Lack {
     {
         match self {
             Lack::NoPath => {
-                "There is no such path. The paths are /branches, /calls, /change, /end, /events, /handle, /lineage, /lines, /object, /path, /trace and /tree.\n"
+                "There is no such path. The paths are /branches, /calls, /change, /end, /events, /handle, /lineage, /lines, /noted, /object, /path, /trace and /tree.\n"
             }
             Lack::Takes(word) => word.text(),
             Lack::AskedByGet => "Use GET for this path.\n",

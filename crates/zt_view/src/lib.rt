@@ -6,6 +6,7 @@ mod guard;
 mod lacks;
 mod lineages;
 mod lives;
+mod noted;
 mod page;
 mod path_ranges;
 mod query;

@@ -23,6 +23,8 @@ pub enum ViewRequest {
     Lines,
     /// The name of the trace that the history began with.
     Trace,
+    /// Whether that trace has notes or names.
+    Noted,
     /// The session text of the whole tree.
     Tree,
     /// The answer to a question about the history.
@@ -61,8 +63,11 @@ fn method_of(asked: &ViewRequest) -> &'static str
 {
     match asked {
         ViewRequest::Lines | ViewRequest::End => "POST",
-        ViewRequest::Page(_) | ViewRequest::Trace | ViewRequest::Tree | ViewRequest::Answer(_) =>
-            "GET",
+        ViewRequest::Page(_)
+        | ViewRequest::Trace
+        | ViewRequest::Noted
+        | ViewRequest::Tree
+        | ViewRequest::Answer(_) => "GET",
     }
 }
 
@@ -72,8 +77,11 @@ fn method_lack(asked: &ViewRequest) -> Lack
 {
     match asked {
         ViewRequest::Lines | ViewRequest::End => Lack::AskedByPost,
-        ViewRequest::Page(_) | ViewRequest::Trace | ViewRequest::Tree | ViewRequest::Answer(_) =>
-            Lack::AskedByGet,
+        ViewRequest::Page(_)
+        | ViewRequest::Trace
+        | ViewRequest::Noted
+        | ViewRequest::Tree
+        | ViewRequest::Answer(_) => Lack::AskedByGet,
     }
 }
 
@@ -123,6 +131,8 @@ fn named(word: &[u8]) -> Option<ViewRequest>
         Some(ViewRequest::Lines)
     } else if is(word, "trace") {
         Some(ViewRequest::Trace)
+    } else if is(word, "noted") {
+        Some(ViewRequest::Noted)
     } else if is(word, "tree") {
         Some(ViewRequest::Tree)
     } else if is(word, "branches") {

@@ -4,6 +4,7 @@ ghost use Rattle.std.specs.Prelude.{◌≡◌, ◌≤◌, [], IfOk, IfSome, Some
 ghost use Rattle.http_server.specs.Response.{IsBlank};
 
 use crate::guard::Own;
+use crate::noted::noted_word;
 use crate::question::{ViewQuestion, found};
 use crate::requests::{ViewRequest, wish};
 use crate::responses::{Content, fill, fill_found, fill_talk, refuse, tell_lack, tell_line};
@@ -105,6 +106,9 @@ impl View {
             }
             ViewRequest::Trace => {
                 tell_line(self.alloc, response, &self.start, self.trace.as_slice());
+            }
+            ViewRequest::Noted => {
+                tell_line(self.alloc, response, &self.start, noted_word(&self.notes));
             }
             ViewRequest::Lines => self.answer_lines(body.as_slice(), response),
             ViewRequest::Tree => self.answer_tree(response),

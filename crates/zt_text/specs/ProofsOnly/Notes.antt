@@ -37,6 +37,11 @@ end_after zero from ends = from
 end_after (suc count) from [] = from
 end_after (suc count) from (end ∷ ends) = end_after count end ends
 
+-- ends of which so many are 0 and stand ahead of the others
+abbrev pub all_ends : ℕ → List ℕ → List ℕ
+all_ends zero ends = ends
+all_ends (suc empty) ends = 0 ∷ all_ends empty ends
+
 -- the ends ascend, up to this length at most
 abbrev pub AreEnds : ℕ → List ℕ → ℕ → Type 0
 AreEnds from [] most = from ≤ most
@@ -56,8 +61,9 @@ IsTableOf table lines =
 abbrev pub noted_of : List ℕ → List ℕ → List ℕ → List ℕ → Noted
 noted_of notes ends rest names = record { notes = pieces 0 ends notes; rest = rest; names = names }
 
--- the ends are those of notes, the tables those of the name lines, and all are lines
+-- the ends are those of notes, the last of them is that of all bytes, the tables are those of the name lines, and all are lines
 pub record AreKept (notes ends rest names : List ℕ) (table : NameTable) : Type 0 where
   pub ascend : AreEnds 0 ends (length notes)
+  pub whole : last_end 0 ends ≡ length notes
   pub tells : IsTableOf table (lines_of names)
   pub lines : IsNoted (noted_of notes ends rest names)

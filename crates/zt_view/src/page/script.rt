@@ -397,7 +397,8 @@ function placeIn(list, number) {
 const notes = [];
 const toldNames = new Map();
 const givenNames = new Map();
-const front = {begin: 0, end: 0};
+const FIRST_LINE = 'zxtt 2\n';
+const front = {begin: FIRST_LINE.length, end: FIRST_LINE.length};
 
 const GIVEN_NAMES = 'zxtt-names';
 const MOST_NAME = 64; // bytes
@@ -530,11 +531,17 @@ let readingNotes = null;
 
 /** Reads the notes and names of the trace, once: what comes to the history later has none. */
 function readNotes() {
-  readingNotes = readingNotes || askAs('/tree', (response) => readLines(response.body, new NotesReader())).then(takeNotes);
+  readingNotes = readingNotes || readNoted();
   readingNotes.catch(() => {
     readingNotes = null;
   });
   return readingNotes;
+}
+
+/** Reads the notes and names where there are any: a trace without them costs one short answer. */
+async function readNoted() {
+  if ((await ask('/noted')) === 'no\n') return;
+  takeNotes(await askAs('/tree', (response) => readLines(response.body, new NotesReader())));
 }
 
 function takeNotes(reader) {
