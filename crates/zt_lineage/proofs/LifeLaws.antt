@@ -108,3 +108,12 @@ stands-parent made falls way is k m low t u same moved at =
     ∙ sym (parent-of made falls way is k low)
     ∙ ap (parent_at made) (sym (moment-at way k m low at))
     ∙ sym (ap (λ (h : Timeline). parent_at h.tree.made m) moved ∙ ap (λ x. parent_at x m) same)
+
+-- the same of a history that stands behind the first moments of the path
+pub stands-at : (made : List Made) (falls : Falls made) (way : List ℕ) → IsPath made way → (k m : ℕ) → k < length way → (u : Timeline) → u.tree.made ≡ made → u.position ≡ end_of (take k way) → m ≡ get_or way k m
+    → u.position ≡ parent_at u.tree.made m
+stands-at made falls way is k m low u same stands at =
+    stands
+    ∙ sym (parent-of made falls way is k low)
+    ∙ ap (parent_at made) (sym (moment-at way k m low at))
+    ∙ ap (λ x. parent_at x m) (sym same)

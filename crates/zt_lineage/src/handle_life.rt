@@ -55,9 +55,8 @@ pub fn life(
     ensures tree { OnErr result (history.new.tree ≡ history.old.tree) }
 {
     let way = history.path(at)?;
-    let found = last_held(history, way.as_slice(), &place);
-    history.along(way.as_slice());
-    let Some((n, held)) = found else {
+    let Some((n, held)) = last_held(history, way.as_slice(), &place) else {
+        history.along(way.as_slice());
         return Err(Refusal::NoObject);
     };
     let life = life_along(alloc, history, way.as_slice(), n, &place, &held)?;
@@ -219,12 +218,14 @@ fn push_onward(
 {
     limits(history);
     let mut place = *place;
+    history.along(&way[..n]);
     for n in n..way.len() {
         let moment = way[n];
+        let to = target_at(history, moment, &place);
+        let how = end_at(history, moment, &place);
         history.along(&way[..n + 1]);
         if held_at(history.store(), &place).is_none() {
-            let (arrived, how) = leave(history, way, n, &place);
-            match arrived {
+            match arrival(history, &to) {
                 Some((other, held)) => {
                     let origin = Origin::From(place);
                     steps.push(step_of(moment, &other, &held, &origin))?;
@@ -235,30 +236,6 @@ fn push_onward(
         }
     }
     Ok(None)
-}
-
-/// Where what the place held arrives by the call of this moment of the path, with what it is there; and how it ends, if it
-/// arrives nowhere. The history goes to the moment's parent and back to the moment.
-fn leave(
-    history: &mut History,
-    way: &[Moment],
-    n: usize,
-    place: &Place,
-) -> (Option<(Place, Held)>, Ending)
-    requires path { IsPath history.old.tree.made way.now }
-    requires within { n < length way.now }
-    ensures arrived { result.0 ≡ arrival (state_at history.old.tree.made (get_or way.now n 0)) (target_at history.old.tree.made (get_or way.now n 0) place.now) }
-    ensures how { result.1 ≡ end_at history.old.tree.made (get_or way.now n 0) place.now }
-    ensures tree { history.new.tree ≡ history.old.tree }
-{
-    limits(history);
-    let moment = way[n];
-    history.along(&way[..n]);
-    let to = target_at(history, moment, place);
-    let how = end_at(history, moment, place);
-    history.along(&way[..n + 1]);
-    let arrived = arrival(history, &to);
-    (arrived, how)
 }
 
 /// Where what the place held goes by the moment's call. The history stands at the moment's parent.

@@ -13,6 +13,7 @@ pub mod CountLaws
 pub mod BelowLaws
 pub mod FateLaws
 pub mod AliveLaws
+pub mod SpacedLines
 pub mod NameLaws
 pub mod MaskLaws
 mod WorkedLines

@@ -1,7 +1,7 @@
 //! The lines of the answers. Each function gives the text of one answer's line or lines. Rights and signals are shown
 //! by their names if names are asked for.
 
-ghost use Rattle.std.specs.Prelude.{◌≡◌, ◌++◌, ◌∷◌, IfOk, OnOk, string_bytes};
+ghost use Rattle.std.specs.Prelude.{◌≡◌, ◌++◌, ◌∷◌, [], IfOk, OnOk, string_bytes};
 ghost use Rattle.std.specs.Option.{option_map};
 ghost use Rattle.std.specs.Fmt.{decimal};
 ghost use Rattle.std.specs.List.{flat_map};
@@ -34,6 +34,16 @@ use zt_rows::{Call, Happening, Koid, Message, Moment, ObjectRow, Row, RowKey, Su
 use zt_store::Store;
 use zt_text::put_supports;
 
+/// A line is begun with room for so many bytes. Few lines are longer, so that most need one allocation.
+const LINE_ROOM: usize = 160;
+
+/// A text without bytes, with room for a line.
+fn new_line(alloc: Global) -> Result<String, AllocError>
+    ensures { IfOk result (λ text. string_bytes text ≡ []) }
+{
+    String::with_capacity(alloc, LINE_ROOM)
+}
+
 /// The line of a call of a path: its moment, the call, and its reply.
 pub fn print_call_made(
     alloc: Global,
@@ -42,7 +52,7 @@ pub fn print_call_made(
 ) -> Result<Vec<u8>, AllocError>
     ensures { IfOk result (λ text. text.items ≡ call_made_line naming made.now) }
 {
-    let mut text = String::new(alloc);
+    let mut text = new_line(alloc)?;
     write!(text, "{} ", made.moment.0)?;
     put_call(&mut text, made.process, &made.call, naming)?;
     text.push_str(" => ")?;
@@ -55,7 +65,7 @@ pub fn print_call_made(
 pub fn print_change(alloc: Global, change: &Change, naming: Naming) -> Result<Vec<u8>, AllocError>
     ensures { IfOk result (λ text. text.items ≡ change_lines naming change.now) }
 {
-    let mut text = String::new(alloc);
+    let mut text = new_line(alloc)?;
     put_marked(&mut text, "- ", change.key, &change.before, naming)?;
     put_marked(&mut text, "+ ", change.key, &change.after, naming)?;
     Ok(text.into_bytes())
@@ -84,7 +94,7 @@ fn put_marked(
 pub fn print_handle(alloc: Global, handle: &Handle, names: bool) -> Result<Vec<u8>, AllocError>
     ensures { IfOk result (λ text. text.items ≡ handle_line names handle.now) }
 {
-    let mut text = String::new(alloc);
+    let mut text = new_line(alloc)?;
     write!(
         text,
         "{} {} {} ",
@@ -107,7 +117,7 @@ pub fn print_event(
 ) -> Result<Vec<u8>, AllocError>
     ensures { IfOk result (λ text. text.items ≡ event_line names event.now process call.now) }
 {
-    let mut text = String::new(alloc);
+    let mut text = new_line(alloc)?;
     write!(
         text,
         "{} {} {} {} ",
@@ -132,7 +142,7 @@ pub fn print_alive(
 ) -> Result<Vec<u8>, AllocError>
     ensures { IfOk result (λ text. text.items ≡ alive_line names object.now process call.now) }
 {
-    let mut text = String::new(alloc);
+    let mut text = new_line(alloc)?;
     write!(
         text,
         "{} {} {} {} ",
@@ -167,7 +177,7 @@ pub fn print_when(
 ) -> Result<Vec<u8>, AllocError>
     ensures { IfOk result (λ text. text.items ≡ when_line names what (option_map (λ e. (e.0, e.1, e.2.now)) found.now)) }
 {
-    let mut text = String::new(alloc);
+    let mut text = new_line(alloc)?;
     text.push_str(happening_word(what))?;
     put_found(&mut text, found, names)?;
     text.push_str("\n")?;
@@ -205,7 +215,7 @@ pub fn print_queued_message(
     ensures { IfOk result (λ text. text.items
         ≡ message_lines names queued.now (process, written.now) (option_map (λ e. (e.0, e.1.now)) ended.now)) }
 {
-    let mut text = String::new(alloc);
+    let mut text = new_line(alloc)?;
     put_message(&mut text, queued.number, &queued.message, names)?;
     put_written(&mut text, queued, process, written, names)?;
     put_end(&mut text, queued, ended, names)?;
@@ -341,7 +351,7 @@ pub fn print_object(
 ) -> Result<Vec<u8>, AllocError>
     ensures { IfOk result (λ text. text.items ≡ object_lines names store.now.state object.now) }
 {
-    let mut text = String::new(alloc);
+    let mut text = new_line(alloc)?;
     put_object_line(&mut text, object.koid, object.row, names)?;
     put_holders(
         &mut text,
@@ -411,7 +421,7 @@ fn put_rows(
 pub fn print_call_count(alloc: Global, count: &CallCount) -> Result<Vec<u8>, AllocError>
     ensures { IfOk result (λ text. text.items ≡ call_count_line count.now) }
 {
-    let mut text = String::new(alloc);
+    let mut text = new_line(alloc)?;
     writeln!(
         text,
         "calls {} {} {}",
@@ -426,7 +436,7 @@ pub fn print_call_count(alloc: Global, count: &CallCount) -> Result<Vec<u8>, All
 pub fn print_fate(alloc: Global, object: &ObjectFate) -> Result<Vec<u8>, AllocError>
     ensures { IfOk result (λ text. text.items ≡ fate_line object.now) }
 {
-    let mut text = String::new(alloc);
+    let mut text = new_line(alloc)?;
     writeln!(
         text,
         "{} {} {} {}",

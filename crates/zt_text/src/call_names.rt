@@ -1,6 +1,6 @@
 //! The names of the system calls in a line.
 
-ghost use Rattle.std.specs.Prelude.{◌≡◌, codes};
+ghost use Rattle.std.specs.Prelude.{◌≡◌, codes, false};
 ghost use Rattle.std.specs.Str.{bytes_eq};
 ghost use Rattle.zt_text.specs.ProofsOnly.CallNames.{name_of, name_of_object, name_of_handle, name_of_port, name_of_task};
 
@@ -30,9 +30,25 @@ pub enum CallName {
 }
 
 impl CallName {
-    /// Reads the name of a call; `None` for any other field.
-    #[tactic(auto, unfolding(crate::specs::ProofsOnly::CallNames::name_of))]
+    /// Reads the name of a call; `None` for any other field. The name that some traces have most of is told here by one
+    /// comparison of words, without a call.
+    #[inline(always)]
+    #[tactic(auto, unfolding(crate::specs::ProofsOnly::CallNames::name_of, crate::specs::ProofsOnly::CallNames::name_of_object))]
     pub fn of(field: &[u8]) -> Option<CallName>
+        ensures { result ≡ name_of field.now }
+    {
+        if is_object_signal(field) {
+            Some(CallName::ObjectSignal)
+        } else {
+            CallName::of_others(field)
+        }
+    }
+
+    /// Reads the name of a call other than `object_signal`.
+    #[inline(never)]
+    #[tactic(auto, unfolding(crate::specs::ProofsOnly::CallNames::name_of))]
+    fn of_others(field: &[u8]) -> Option<CallName>
+        requires { bytes_eq field.now (codes "object_signal") ≡ false }
         ensures { result ≡ name_of field.now }
     {
         CallName::of_object(field)
@@ -41,14 +57,13 @@ impl CallName {
             .or_else(|| CallName::of_task(field))
     }
 
-    /// Reads `channel_write` and the names of the calls on events.
+    /// Reads `channel_write` and the names of the calls on events, except `object_signal`.
     #[tactic(auto, unfolding(crate::specs::ProofsOnly::CallNames::name_of_object))]
     fn of_object(field: &[u8]) -> Option<CallName>
+        requires { bytes_eq field.now (codes "object_signal") ≡ false }
         ensures { result ≡ name_of_object field.now }
     {
-        if is_object_signal(field) {
-            Some(CallName::ObjectSignal)
-        } else if field == b"channel_write".as_slice() {
+        if field == b"channel_write".as_slice() {
             Some(CallName::ChannelWrite)
         } else if field == b"event_create".as_slice() {
             Some(CallName::EventCreate)
@@ -122,7 +137,8 @@ impl CallName {
     }
 }
 
-/// Whether a field is `object_signal`. The calls that some traces have most of are told by one comparison of words.
+/// Whether a field is `object_signal`.
+#[inline(always)]
 #[tactic(auto, using(crate::proofs::CallWords::is_object_signal, crate::proofs::CallWords::is_no_object_signal))]
 fn is_object_signal(field: &[u8]) -> bool
     ensures { result ≡ bytes_eq field.now (codes "object_signal") }

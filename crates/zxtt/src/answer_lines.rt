@@ -38,6 +38,9 @@ impl From<io::Error> for Stopped {
     }
 }
 
+/// Lines are written to standard output in pieces of about so many bytes.
+const PIECE: usize = 65_536;
+
 /// Where the lines of an answer go.
 #[derive(Drop)]
 enum Sink {
@@ -66,9 +69,10 @@ impl<'a> AnswerLines<'a> {
         notes: &'a Notes,
         shape: Option<Shape>,
     ) -> Result<AnswerLines<'a>, Stopped> {
+        let writer = BufWriter::with_capacity(rt.alloc(), PIECE, rt.stdout())?;
         Ok(AnswerLines {
             alloc: rt.alloc(),
-            sink: Sink::Output(BufWriter::new(rt.alloc(), rt.stdout())?),
+            sink: Sink::Output(writer),
             notes,
             shape,
             told: false,

@@ -9,7 +9,7 @@ ghost use Rattle.zt_look.specs.LifeLines.{coming_word, ending_word, life_end_lin
 use crate::handle_tree::LineageStep;
 use crate::lines::calls::put_call;
 use crate::lines::names::{Naming, put_rights};
-use crate::lines::put_by;
+use crate::lines::{new_line, put_by};
 use crate::object_handles::{Leaving, ObjectHandle};
 use std::alloc::{AllocError, Global};
 use zt_bits::Rights;
@@ -28,12 +28,27 @@ pub fn print_life_step(
     ensures { IfOk result (λ text. text.items
         ≡ life_step_line names step.now before (option_map (λ e. (e.0, e.1.now)) by.now)) }
 {
-    let mut text = String::new(alloc);
-    write!(text, "{} {} ", step.moment.0, coming_word(step.origin, by))?;
-    put_rights_at(&mut text, step.place, step.held.rights, names)?;
-    put_origin(&mut text, step.origin, before, by, names)?;
-    text.push_str("\n")?;
+    let mut text = new_line(alloc)?;
+    put_life_step(&mut text, step, before, by, names)?;
     Ok(text.into_bytes())
+}
+
+/// Appends the line of a step of a handle's life.
+fn put_life_step(
+    text: &mut String,
+    step: &LifeStep,
+    before: Rights,
+    by: &Option<(Koid, &Call)>,
+    names: bool,
+) -> Result<(), AllocError>
+    ensures { OnOk result (string_bytes text.new ≡ string_bytes text.old
+        ++ life_step_line names step.now before (option_map (λ e. (e.0, e.1.now)) by.now)) }
+{
+    write!(text, "{} {} ", step.moment.0, coming_word(step.origin, by))?;
+    put_rights_at(text, step.place, step.held.rights, names)?;
+    put_origin(text, step.origin, before, by, names)?;
+    text.push_str("\n")?;
+    Ok(())
 }
 
 /// The line of a handle's end: its moment, how it ended, where it was with which rights, and the call of the moment.
@@ -48,7 +63,7 @@ pub fn print_life_end(
 ) -> Result<Vec<u8>, AllocError>
     ensures { IfOk result (λ text. text.items ≡ life_end_line names moment how last.now (process, call.now)) }
 {
-    let mut text = String::new(alloc);
+    let mut text = new_line(alloc)?;
     write!(text, "{} {} ", moment.0, ending_word(how))?;
     put_rights_at(&mut text, last.place, last.held.rights, names)?;
     text.push_str(" ")?;
@@ -66,7 +81,7 @@ pub fn print_whereabouts(
 ) -> Result<Vec<u8>, AllocError>
     ensures { IfOk result (λ text. text.items ≡ whereabouts_line names last.now) }
 {
-    let mut text = String::new(alloc);
+    let mut text = new_line(alloc)?;
     match last {
         None => text.push_str("gone\n")?,
         Some(step) => {
@@ -91,36 +106,33 @@ pub fn print_lineage_step(
     ensures { IfOk result (λ text. text.items
         ≡ lineage_step_line names step.now (option_map (λ e. (e.0, e.1.now)) came.now) (option_map (λ e. (e.0, e.1.now)) left.now)) }
 {
-    let mut text = String::new(alloc);
+    let mut text = new_line(alloc)?;
     put_indent(&mut text, step.depth)?;
-    let mut text = text.into_bytes();
-    let line = print_object_handle(alloc, step.handle, came, left, names)?;
-    text.extend_from_slice(line.as_slice())?;
-    Ok(text)
+    put_object_handle(&mut text, step.handle, came, left, names)?;
+    Ok(text.into_bytes())
 }
 
-/// The line of a handle that named an object, without its depth.
-fn print_object_handle(
-    alloc: Global,
+/// Appends the line of a handle that named an object, without its depth.
+fn put_object_handle(
+    text: &mut String,
     handle: ObjectHandle,
     came: &Option<(Koid, &Call)>,
     left: &Option<(Koid, &Call)>,
     names: bool,
-) -> Result<Vec<u8>, AllocError>
-    ensures { IfOk result (λ text. text.items
-        ≡ object_handle_line names handle (option_map (λ e. (e.0, e.1.now)) came.now) (option_map (λ e. (e.0, e.1.now)) left.now)) }
+) -> Result<(), AllocError>
+    ensures { OnOk result (string_bytes text.new ≡ string_bytes text.old
+        ++ object_handle_line names handle (option_map (λ e. (e.0, e.1.now)) came.now) (option_map (λ e. (e.0, e.1.now)) left.now)) }
 {
-    let mut text = String::new(alloc);
     write!(
         text,
         "{} {} ",
         handle.moment.0,
         coming_word(handle.origin, came)
     )?;
-    put_rights_at(&mut text, handle.place, handle.held.rights, names)?;
-    put_journey(&mut text, handle.origin, handle.left, left)?;
+    put_rights_at(text, handle.place, handle.held.rights, names)?;
+    put_journey(text, handle.origin, handle.left, left)?;
     text.push_str("\n")?;
-    Ok(text.into_bytes())
+    Ok(())
 }
 
 /// Appends two spaces for each copy above.
