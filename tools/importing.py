@@ -117,9 +117,14 @@ def calls_alone(trace):
 
 def moments_of(trace):
     """The moments of the calls of a trace that are of the log, by their lines. A comment ahead of each call says which it is."""
-    comments = [line for line in lines_of(trace) if line.startswith('# ')]
-    found = [(re.match(r'# line (\d+): ', comment), moment) for moment, comment in enumerate(comments, 1)]
-    return {int(line[1]): moment for line, moment in found if line}
+    found, moment = {}, 1
+    for line in lines_of(trace)[1:]:
+        told = re.match(r'# line (\d+): ', line)
+        if told:
+            found[int(told[1])] = moment
+        elif not line.startswith('#'):
+            moment += 1
+    return found
 
 
 class Back:

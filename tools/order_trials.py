@@ -21,7 +21,7 @@ def other(times=1):
 
 def moved_told(trace):
     """The lines that were moved, each with that ahead of which it is."""
-    found = [re.match(r'# line (\d+): .*; moved ahead of line (\d+)$', line) for line in lines_of(trace)]
+    found = [re.match(r'# line (\d+): .*; moved ahead of line (\d+)(?:; |$)', line) for line in lines_of(trace)]
     return [(int(it[1]), int(it[2])) for it in found if it]
 
 

@@ -9,7 +9,7 @@ import fileinput
 import json
 import re
 
-LINE = re.compile(r'\S+ +(\d+) +(\w+)\((.*)\) = (\w+) ?(.*)')
+LINE = re.compile(r'(\S+) +(\d+) +(\w+)\((.*)\) = (\w+) ?(.*)')
 WORD = re.compile(r'"[^"]*"|\[[^]]*\]|[^\s,]+')
 FIELDS = {  # the arguments of each call, in the order in which they stand in the log
     'handle_close': 'handle', 'handle_duplicate': 'handle rights', 'handle_replace': 'handle rights',
@@ -26,9 +26,9 @@ def value(word):
     return word[1:-1].encode().hex() if word.startswith('"') else int(word, 0)
 
 
-for process, call, arguments, status, values in (found.groups() for found in map(LINE.match, fileinput.input()) if found):
+for time, process, call, arguments, status, values in (found.groups() for found in map(LINE.match, fileinput.input()) if found):
     fields = FIELDS.get(call.removeprefix('zx_'), '').split()
     names = {list: 'handles', str: 'bytes', int: 'process'}
     out = {names[type(it)]: it for it in map(value, WORD.findall(values))}
     args = dict(zip(fields, map(value, WORD.findall(arguments))))
-    print(json.dumps({'process': int(process), 'call': call, 'args': args, 'status': status, 'out': out}))
+    print(json.dumps({'time': time, 'process': int(process), 'call': call, 'args': args, 'status': status, 'out': out}))

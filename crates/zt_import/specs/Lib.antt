@@ -6,5 +6,6 @@ pub mod Trails
 pub mod Orders
 pub mod Counts
 pub mod Imports
+pub mod Names
 -- Used by proofs only: no public clause depends on them.
 pub mod ProofsOnly

@@ -14,7 +14,9 @@ mod first_messages;
 mod joins;
 mod kind_signs;
 mod look;
+mod mapped;
 mod moved;
+mod names;
 mod numbers;
 mod order;
 mod origin_lines;
@@ -31,6 +33,7 @@ mod skipped_names;
 mod stand_ins;
 mod started;
 mod taken;
+mod told_json;
 mod told_koids;
 mod trail;
 mod trail_counts;
@@ -45,5 +48,8 @@ pub use session_lines::trace_text;
 pub use skipped_names::{print_skipped, skips_handles};
 pub use stand_ins::{LeftCalls, leave_out, print_left};
 pub use started::join_starts;
+pub use told_json::{
+    counts_json, difference_json, left_json, more_notes_json, note_json, skipped_json,
+};
 pub use trail::{Difference, JoinedEnd, Origin, TrailStep};
 pub use trail_counts::{adopted_in, calls_in, pairs_in};

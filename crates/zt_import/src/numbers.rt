@@ -1,10 +1,11 @@
 //! Maps the processes and handles of a log to those of the trace.
 
-ghost use Rattle.std.specs.Prelude.{◌≡◌, ℕ, suc, Some, IfOk, OnOk, length, vec_len};
+ghost use Rattle.std.specs.Prelude.{◌≡◌, ◌++◌, ℕ, suc, Some, IfOk, OnOk, length, vec_len};
 ghost use Rattle.std.specs.Option.{option_copied};
 ghost use Rattle.zt_import.specs.Trails.{bare, pair_of, spawned_in};
-ghost use Rattle.zt_import.specs.ProofsOnly.TakenCalls.{Learns, process_in};
+ghost use Rattle.zt_import.specs.ProofsOnly.TakenCalls.{Learns, process_in, mapped_by};
 
+use crate::mapped::{Mapped, MappedHandle};
 use crate::parts::is_last;
 use std::alloc::{AllocError, Global};
 use std::collections::HashMap;
@@ -22,6 +23,8 @@ pub(crate) struct Numbers {
     handles: HashMap<(u64, u32), HandleValue>,
     /// The handles that calls of a line gave for the message that the line writes, by their places in it.
     copies: HashMap<usize, HandleValue>,
+    /// All handles that were mapped, those too that were mapped again since.
+    mapped: Vec<MappedHandle>,
 }
 
 impl Numbers {
@@ -33,6 +36,18 @@ impl Numbers {
             processes: HashMap::new(alloc),
             handles: HashMap::new(alloc),
             copies: HashMap::new(alloc),
+            mapped: Vec::new(alloc),
+        }
+    }
+
+    /// All that was mapped.
+    pub(crate) fn into_mapped(self) -> Mapped
+        ensures processes { result.processes ≡ self.processes }
+        ensures handles { result.handles.items ≡ self.mapped.items }
+    {
+        Mapped {
+            processes: self.processes,
+            handles: self.mapped,
         }
     }
 
@@ -80,11 +95,17 @@ impl Numbers {
         handle: HandleValue,
         value: HandleValue,
     ) -> Result<(), AllocError>
-        ensures { self.new.processes ≡ self.old.processes }
+        ensures processes { self.new.processes ≡ self.old.processes }
+        ensures mapped { OnOk result (self.new.mapped.items ≡ self.old.mapped.items ++ mapped_by process handle value) }
     {
         if handle.0 == 0 {
             return Ok(());
         }
+        self.mapped.push(MappedHandle {
+            process,
+            handle,
+            value,
+        })?;
         match self.handles.insert((process, handle.0), value) {
             Ok(_) => Ok(()),
             Err(_) => Err(AllocError),

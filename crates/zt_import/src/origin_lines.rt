@@ -1,5 +1,8 @@
 //! Prints the comment of a call in a trace: where the call comes from.
 
+ghost use Rattle.std.specs.Prelude.{◌≡◌, ◌++◌, OnOk, string_bytes};
+ghost use Rattle.std.specs.Fmt.{decimal};
+
 use crate::trail::{JoinedEnd, Origin};
 use crate::used_handles::handles_in;
 use itoa::Buffer;
@@ -89,7 +92,9 @@ fn put_origin(text: &mut String, log: &CallLog, origin: Origin) -> Result<(), Al
 }
 
 /// Appends a number in decimal.
-fn put_number(text: &mut String, number: u64) -> Result<(), AllocError> {
+pub(crate) fn put_number(text: &mut String, number: u64) -> Result<(), AllocError>
+    ensures { OnOk result (string_bytes text.new ≡ string_bytes text.old ++ decimal number) }
+{
     text.push_str(Buffer::new().format(number))
 }
 

@@ -17,6 +17,7 @@ use crate::comparison::agrees;
 use crate::differences::compare_all;
 use crate::joins::line_of;
 use crate::look::look;
+use crate::mapped::Mapped;
 use crate::numbers::Numbers;
 use crate::order::ordered;
 use crate::parts::is_last;
@@ -67,6 +68,11 @@ impl Imported {
         ensures { result.now ≡ self.now.trail }
     {
         self.taken.trail()
+    }
+
+    /// What stands for the log's processes and handles.
+    pub(crate) fn mapped(&self) -> &Mapped {
+        self.taken.mapped()
     }
 
     /// The first hundred calls whose replies differ, in the order of the trace.
@@ -232,6 +238,7 @@ fn run_all(
             Err(cause) => return Err(cause.at(line_of(calls, index))),
         }
     }
+    taken.keep(numbers.into_mapped());
     Ok(())
 }
 

@@ -6,13 +6,17 @@ ghost use Rattle.std.specs.Option.{option_to_list};
 ghost use Rattle.zt_history.specs.Tree.{call_at};
 ghost use Rattle.zt_text.specs.Session.{session_of};
 ghost use Rattle.zt_import.specs.Trails.{calls_of};
+ghost use Rattle.zt_import.specs.Names.{context_of};
 ghost use Rattle.zt_import.specs.ProofsOnly.ReadTexts.{Writes, step_calls, calls_by, is_no_feed, fits};
 
+use crate::mapped::{Mapped, MappedHandle};
 use crate::moved::passed_by;
+use crate::names::{put_handle_name, put_process};
 use crate::origin_lines::put_origin_line;
 use crate::run_log::Imported;
 use crate::trail::{Origin, TrailStep};
 use std::alloc::{AllocError, Global};
+use std::collections::HashMap;
 use zt_history::History;
 use zt_logs::CallLog;
 use zt_rows::{Call, Koid, Moment};
@@ -22,8 +26,8 @@ use zt_text::{LINE_BYTES, put_call};
 /// The capacity that most comments need, so that printing them seldom allocates.
 const USUAL_BYTES: usize = 120;
 
-/// The session text of an import. A comment ahead of each call tells where the call comes from. The error is an allocation
-/// failure.
+/// The session text of an import. Name lines tell the log's processes and handles. A comment ahead of each call tells where
+/// the call comes from, and further ones have the fields of its line. The error is an allocation failure.
 pub fn trace_text(alloc: Global, log: &CallLog, imported: &Imported) -> Result<Vec<u8>, AllocError>
     ensures { IfOk result (λ text. session_of text.items ≡ Ok (calls_of imported.now.tree.made)) }
 {
@@ -32,7 +36,7 @@ pub fn trace_text(alloc: Global, log: &CallLog, imported: &Imported) -> Result<V
     Ok(text.into_bytes())
 }
 
-/// Appends the first line, and the lines of all steps.
+/// Appends the first line, the name lines, and the lines of all steps.
 fn put_steps(text: &mut String, log: &CallLog, imported: &Imported) -> Result<(), AllocError>
     requires { string_bytes text.old ≡ [] }
     ensures { OnOk result (session_of (string_bytes text.new) ≡ Ok (calls_of imported.now.tree.made)) }
@@ -40,6 +44,7 @@ fn put_steps(text: &mut String, log: &CallLog, imported: &Imported) -> Result<()
     text.push_str("zxtt 1\n")?;
     let passed = passed_by(*text.allocator(), imported.trail())?;
     let mut comment = String::with_capacity(*text.allocator(), USUAL_BYTES)?;
+    put_names(text, &mut comment, log, imported.mapped())?;
     put_trail(
         text,
         &mut comment,
@@ -48,6 +53,56 @@ fn put_steps(text: &mut String, log: &CallLog, imported: &Imported) -> Result<()
         imported.trail(),
         passed.as_slice(),
     )?;
+    Ok(())
+}
+
+/// Appends the name lines of all processes, and of all their handles. `comment` is the buffer for each.
+fn put_names(
+    text: &mut String,
+    comment: &mut String,
+    log: &CallLog,
+    mapped: &Mapped,
+) -> Result<(), AllocError>
+    ensures { OnOk result (Writes (string_bytes text.old) (string_bytes text.new) []) }
+{
+    put_process_names(text, comment, log, mapped.in_order()?.as_slice())?;
+    put_handle_names(text, comment, &mapped.processes, mapped.handles.as_slice())?;
+    Ok(())
+}
+
+/// Appends the name lines of these processes, each with its number in the log.
+fn put_process_names(
+    text: &mut String,
+    comment: &mut String,
+    log: &CallLog,
+    processes: &[(Koid, u64)],
+) -> Result<(), AllocError>
+    ensures { OnOk result (Writes (string_bytes text.old) (string_bytes text.new) []) }
+{
+    for place in 0..processes.len() {
+        let (koid, number) = processes[place];
+        comment.clear();
+        put_process(comment, log, koid, number)?;
+        put_comment(text, comment.as_str())?;
+    }
+    Ok(())
+}
+
+/// Appends the name lines of these handles.
+fn put_handle_names(
+    text: &mut String,
+    comment: &mut String,
+    processes: &HashMap<u64, Koid>,
+    handles: &[MappedHandle],
+) -> Result<(), AllocError>
+    ensures { OnOk result (Writes (string_bytes text.old) (string_bytes text.new) []) }
+{
+    for place in 0..handles.len() {
+        let mapped = handles[place];
+        comment.clear();
+        put_handle_name(comment, processes, mapped)?;
+        put_comment(text, comment.as_str())?;
+    }
     Ok(())
 }
 
@@ -90,7 +145,7 @@ fn put_step(
 {
     match step.moment {
         Some(moment) => {
-            put_origin(text, comment, log, step.origin, ahead)?;
+            put_origin(text, comment, log, step, ahead)?;
             put_moment(text, history, moment)?;
             Ok(())
         }
@@ -98,19 +153,63 @@ fn put_step(
     }
 }
 
-/// Appends the comment of a call.
+/// Appends the comments of the call of a step.
 fn put_origin(
     text: &mut String,
     comment: &mut String,
     log: &CallLog,
-    origin: Origin,
+    step: &TrailStep,
     ahead: Option<usize>,
 ) -> Result<(), AllocError>
     ensures { OnOk result (Writes (string_bytes text.old) (string_bytes text.new) []) }
 {
     comment.clear();
-    put_origin_line(comment, log, origin, ahead)?;
-    put_comment(text, comment.as_str())
+    put_origin_line(comment, log, step.origin, ahead)?;
+    match str::from_utf8(context_of(log, &step.origin)) {
+        Ok(context) => put_context(text, comment, context),
+        Err(_) => put_comment(text, comment.as_str()),
+    }
+}
+
+/// Appends a comment that ends with the first of these lines, and each other line as a comment.
+fn put_context(text: &mut String, comment: &mut String, context: &str) -> Result<(), AllocError>
+    ensures { OnOk result (Writes (string_bytes text.old) (string_bytes text.new) []) }
+{
+    match context.split_once('\n') {
+        Some((end, fields)) => {
+            comment.push_str(end)?;
+            put_comment(text, comment.as_str())?;
+            put_fields(text, fields)?;
+            Ok(())
+        }
+        None => {
+            comment.push_str(context)?;
+            put_comment(text, comment.as_str())
+        }
+    }
+}
+
+/// What the line of a call of the log tells besides the call. It is empty for a call that is none of the log.
+fn context_of<'a>(log: &'a CallLog, origin: &Origin) -> &'a [u8]
+    ensures { result.now ≡ context_of log.now origin.now }
+{
+    let Origin::Logged(number) = origin else {
+        return &[];
+    };
+    match log.calls.get(*number) {
+        Some(logged) => log.contexts.of_line(logged.line),
+        None => &[],
+    }
+}
+
+/// Appends each of these lines as a comment.
+fn put_fields(text: &mut String, fields: &str) -> Result<(), AllocError>
+    ensures { OnOk result (Writes (string_bytes text.old) (string_bytes text.new) []) }
+{
+    for field in fields.split('\n') {
+        put_comment(text, field)?;
+    }
+    Ok(())
 }
 
 /// Appends a comment, if it fits on one line.

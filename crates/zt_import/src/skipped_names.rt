@@ -14,11 +14,11 @@ const SHOWN_BYTES: usize = 64;
 #[derive(Clone, Copy, Debug)]
 pub(crate) struct SkippedName {
     /// The first line that has it, counted from 0 among the skipped lines.
-    first: usize,
+    pub(crate) first: usize,
     /// How many skipped lines have it.
-    count: u64,
+    pub(crate) count: u64,
     /// Whether one of these lines names a handle that its process has in the log.
-    has_handles: bool,
+    pub(crate) has_handles: bool,
 }
 
 /// The handles that each process has in the log: those that it got, and those that a call found.
@@ -107,7 +107,7 @@ pub fn print_skipped(
 }
 
 /// The skipped calls, each once, in the order in which they are printed.
-fn skipped_names(
+pub(crate) fn skipped_names(
     alloc: Global,
     calls: &[LoggedCall],
     skipped: &[SkippedCall],

@@ -100,15 +100,20 @@ pub struct LeftCalls {
 
 /// How many calls of one name are left out.
 #[derive(Clone, Copy)]
-struct LeftName {
-    name: &'static str,
-    count: u64,
+pub(crate) struct LeftName {
+    pub(crate) name: &'static str,
+    pub(crate) count: u64,
 }
 
 impl LeftCalls {
     /// Whether no call is left out.
     pub fn is_empty(&self) -> bool {
         self.counts.is_empty()
+    }
+
+    /// Each name with its count, in the order of the log.
+    pub(crate) fn counts(&self) -> &[LeftName] {
+        self.counts.as_slice()
     }
 
     fn add(&mut self, name: &'static str) -> Result<(), AllocError> {

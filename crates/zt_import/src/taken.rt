@@ -10,6 +10,7 @@ ghost use Rattle.zt_import.specs.ProofsOnly.TakenCalls.{IsTakenTrail, IsOneStepM
 
 use crate::causes::may_be_by_order;
 use crate::comparison::agrees;
+use crate::mapped::Mapped;
 use crate::port_queue::{holds, port_of};
 use crate::trail::{Origin, TrailStep};
 use std::alloc::{AllocError, Global};
@@ -25,6 +26,8 @@ const MAIN: BranchId = BranchId(0);
 pub(crate) struct Taken {
     history: History,
     trail: Vec<TrailStep>,
+    /// What stands for the log's processes and handles, once all calls were asked.
+    mapped: Mapped,
 }
 
 impl Drop for Taken {
@@ -32,6 +35,7 @@ impl Drop for Taken {
         let Taken {
             history: _history,
             trail: _trail,
+            mapped: _mapped,
         } = self;
     }
 }
@@ -55,7 +59,20 @@ impl Taken {
         Ok(Taken {
             history,
             trail: Vec::new(alloc),
+            mapped: Mapped::new(alloc),
         })
+    }
+
+    /// Keeps what stands for the log's processes and handles.
+    pub(crate) fn keep(&mut self, mapped: Mapped)
+        ensures { self.new ≡ self.old }
+    {
+        self.mapped = mapped;
+    }
+
+    /// What stands for the log's processes and handles.
+    pub(crate) fn mapped(&self) -> &Mapped {
+        &self.mapped
     }
 
     /// The history of the calls.

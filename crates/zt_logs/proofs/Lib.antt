@@ -7,3 +7,4 @@ pub mod PartLaws
 pub mod LineCallLaws
 pub mod AnswerLaws
 pub mod WalkLaws
+pub mod FieldLaws

@@ -9,5 +9,6 @@ pub mod LoggedCalls
 pub mod Answered
 pub mod LineCalls
 pub mod Logged
+pub mod Contexts
 -- Used by proofs only: no public clause depends on them.
 pub mod ProofsOnly

@@ -10,6 +10,7 @@ ghost use Rattle.zt_logs.specs.ProofsOnly.Walks.{IsWalked};
 ghost use Rattle.zt_logs.specs.ProofsOnly.ReadLines.{IsParsed, AddsLogged, AddsCalls, IsReadUpTo};
 
 use crate::call_names::{CallName, changes_nothing};
+use crate::contexts::LineContexts;
 use crate::faults::{Cause, LogFault};
 use crate::json_values::JsonValue;
 use crate::koids::koids_of;
@@ -19,7 +20,7 @@ use crate::logged::CallLog;
 use crate::logged_parts::{LineHead, push_parts};
 use crate::notes::{LogNote, LogNotes};
 use crate::options::options_of;
-use crate::process_names::{NamedPlace, Naming, ProcessNames, ProcessWord};
+use crate::process_names::{NamedPlace, Naming, ProcessNames, ProcessWord, told_name};
 use crate::recorded::recorded_of;
 use crate::skipped::{SkippedCall, skipped_of};
 use crate::times::times_of;
@@ -31,19 +32,24 @@ use std::alloc::{AllocError, Global};
 pub const LINE_BYTES: usize = 1_048_576;
 
 /// Reads the calls of a log, with a JSON object on each line. Empty lines, and calls that change nothing, are left out.
-/// Calls that the semantics does not know are kept in `skipped`. A last line that is cut off is left out, with a note.
+/// Calls that the semantics does not know are kept in `skipped`. A last line that is cut off is left out, with a note. The
+/// members of lines that have one of the names in `fields` are kept in `contexts`, with times and threads.
 ///
 /// The error names the first line at fault. It is `TooLong` above `LINE_BYTES`, `NoObject` if the line is not a JSON
 /// object, `Missing` or `Member` for one of its members, or `OutOfMemory`.
-pub fn read_log(alloc: Global, text: &[u8]) -> Result<CallLog, LogFault>
+pub fn read_log(alloc: Global, text: &[u8], fields: &[&str]) -> Result<CallLog, LogFault>
     ensures lines { IfOk result (λ log. log.lines ≡ length (lines_of (without_mark text.now))) }
     ensures calls { IfOk result (λ log. AreLogged (entries_of text.now) log.calls.items) }
 {
+    let Ok(contexts) = LineContexts::new(alloc, fields) else {
+        return Err(Cause::OutOfMemory.at(0));
+    };
     let mut log = CallLog {
         calls: Vec::new(alloc),
         lines: 0,
         skipped: Vec::new(alloc),
         names: ProcessNames::new(alloc),
+        contexts,
         notes: LogNotes::new(alloc),
     };
     let mut naming = Naming::new(alloc);
@@ -156,7 +162,10 @@ fn take_line(
         return Ok(());
     }
     match json_in(alloc, line.bytes, scratch)? {
-        Parsed::Whole(tape) => take_value(alloc, log, naming, JsonValue::of_tape(&tape)),
+        Parsed::Whole(tape) => {
+            take_value(alloc, log, naming, JsonValue::of_tape(&tape))?;
+            log.contexts.add_fields(alloc, log.lines, line.bytes)
+        }
         Parsed::CutOff if !line.is_ended && is_begun(line.bytes) => {
             note_cut_off(&mut log.notes, log.lines)
         }
@@ -204,6 +213,7 @@ fn take_value(
 {
     let line = LineMembers::of_line(value)?;
     let word = line.call()?;
+    tell_name(naming, &line)?;
     match CallName::of(word) {
         Some(name) => take_call(alloc, log, naming, name, &line),
         None => {
@@ -212,6 +222,17 @@ fn take_value(
             }
             Ok(())
         }
+    }
+}
+
+/// Keeps the name that a line tells of its process, if it tells one.
+fn tell_name(naming: &mut Naming, line: &LineMembers<'_, '_>) -> Result<(), AllocError> {
+    let Some(name) = told_name(&line.others) else {
+        return Ok(());
+    };
+    match line.process() {
+        Ok(process) => naming.tell(process, name),
+        Err(_) => Ok(()),
     }
 }
 
@@ -293,6 +314,7 @@ fn take_call(
         times: times_of(&line.others),
     };
     let koids = koids_of(alloc, &line.others)?;
+    log.contexts.add_times(log.lines, &line.others)?;
     push_parts(alloc, &mut log.calls, head, parts, recorded, koids)
 }
 

@@ -3,8 +3,10 @@
 
 mod bit_names;
 mod call_names;
+mod contexts;
 mod dispositions;
 mod faults;
+mod fields;
 mod json_lines;
 mod json_values;
 mod koids;
@@ -22,9 +24,11 @@ mod other_kinds;
 mod places;
 mod process_names;
 mod recorded;
+mod shown_texts;
 mod skipped;
 mod times;
 
+pub use contexts::LineContexts;
 pub use faults::{Cause, LogFault, WantedValue};
 pub use json_lines::{LINE_BYTES, read_log};
 pub use koids::HandleKoid;

@@ -38,6 +38,13 @@ pub(crate) struct OtherMembers<'tape, 'text> {
     pub(crate) timestamp: Option<JsonValue<'tape, 'text>>,
     /// The member `ts`.
     pub(crate) short_time: Option<JsonValue<'tape, 'text>>,
+    /// The name of the process.
+    pub(crate) name: Option<JsonValue<'tape, 'text>>,
+    /// The second name of `name`.
+    pub(crate) process_name: Option<JsonValue<'tape, 'text>>,
+    pub(crate) thread: Option<JsonValue<'tape, 'text>>,
+    /// The member `tid`.
+    pub(crate) short_thread: Option<JsonValue<'tape, 'text>>,
     pub(crate) koids: Option<JsonValue<'tape, 'text>>,
     pub(crate) related_koids: Option<JsonValue<'tape, 'text>>,
 }
@@ -169,6 +176,10 @@ impl<'tape, 'text> OtherMembers<'tape, 'text> {
             time: None,
             timestamp: None,
             short_time: None,
+            name: None,
+            process_name: None,
+            thread: None,
+            short_thread: None,
             koids: None,
             related_koids: None,
         }
@@ -199,11 +210,15 @@ impl<'tape, 'text> OtherMembers<'tape, 'text> {
     {
         match name.len() {
             2 if name == Member::TimeStamp.name() => self.short_time = told(value),
+            3 if name == "tid" => self.short_thread = told(value),
             4 if name == Member::Time.name() => self.time = told(value),
+            4 if name == "name" => self.name = told(value),
             5 if name == Member::Began.name() => self.began = told(value),
             5 if name == Member::Koids.name() => self.koids = told(value),
+            6 if name == "thread" => self.thread = told(value),
             7 if name == Member::Process.name() => self.process = told(value),
             9 if Some(name) == Member::Time.second_name() => self.timestamp = told(value),
+            12 if name == "process_name" => self.process_name = told(value),
             13 if name == Member::RelatedKoids.name() => self.related_koids = told(value),
             _ => {}
         }

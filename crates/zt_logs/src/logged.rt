@@ -1,5 +1,6 @@
 //! The calls of a log, as they are read.
 
+use crate::contexts::LineContexts;
 use crate::koids::HandleKoid;
 use crate::line_parts::LinePart;
 use crate::notes::LogNotes;
@@ -66,6 +67,8 @@ pub struct CallLog {
     pub skipped: Vec<SkippedCall>,
     /// The names that processes have in the log.
     pub names: ProcessNames,
+    /// What the lines tell besides their calls.
+    pub contexts: LineContexts,
     /// Notes on what was left out of the log.
     pub notes: LogNotes,
 }

@@ -41,6 +41,19 @@ impl StartNote {
     }
 }
 
+impl LogNote {
+    /// The line of which it tells.
+    pub fn line(&self) -> u64 {
+        match self {
+            LogNote::CutOff { line } => *line,
+            LogNote::LeftOption { line, .. } => *line,
+            LogNote::UnknownOptions { line, .. } => *line,
+            LogNote::Start { line, .. } => *line,
+            LogNote::UnknownOption { line, .. } => *line,
+        }
+    }
+}
+
 impl fmt::Display for LogNote {
     fn fmt<W: fmt::Write>(&self, f: &mut fmt::Formatter<W>) -> fmt::Result {
         match self {

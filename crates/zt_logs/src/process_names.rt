@@ -4,8 +4,10 @@ ghost use Rattle.std.specs.Prelude.{◌≡◌, OnOk, map};
 ghost use Rattle.zt_logs.specs.ProofsOnly.ReadLines.{without_process};
 
 use crate::json_values::JsonValue;
+use crate::line_members::OtherMembers;
 use crate::logged::{CallLog, LoggedCall};
 use crate::numbers::{number_of, written};
+use crate::shown_texts::put_shown;
 use crate::skipped::SkippedCall;
 use std::alloc::{AllocError, Global};
 use std::collections::HashMap;
@@ -19,6 +21,8 @@ pub struct ProcessNames {
     shown: HashMap<u64, String>,
     /// No name has a number below this one.
     lowest: u64,
+    /// The names that lines tell of their processes.
+    told: HashMap<u64, String>,
 }
 
 impl ProcessNames {
@@ -26,6 +30,7 @@ impl ProcessNames {
         ProcessNames {
             shown: HashMap::new(alloc),
             lowest: u64::MAX,
+            told: HashMap::new(alloc),
         }
     }
 
@@ -40,6 +45,26 @@ impl ProcessNames {
             None => None,
         }
     }
+
+    /// The name that the last line with one tells of this process. It has 1 to 64 bytes, with `?` for each control
+    /// character.
+    pub fn told(&self, process: u64) -> Option<&str> {
+        match self.told.get(&process) {
+            Some(name) => Some(name.as_str()),
+            None => None,
+        }
+    }
+}
+
+/// The name that a line with these members tells of its process.
+pub(crate) fn told_name<'a>(others: &OtherMembers<'_, 'a>) -> Option<&'a str> {
+    text_in(&others.name).or(text_in(&others.process_name))
+}
+
+/// The text of a member. None if it is empty or no text.
+fn text_in<'a>(value: &Option<JsonValue<'_, 'a>>) -> Option<&'a str> {
+    let text = value.as_ref()?.as_str()?;
+    if text.is_empty() { None } else { Some(text) }
 }
 
 /// A process, as a line has it.
@@ -91,6 +116,10 @@ pub(crate) struct Naming {
     places: HashMap<String, usize>,
     shown: Vec<String>,
     uses: Vec<NameUse>,
+    /// The names that lines tell of processes that they have by numbers.
+    numbered: HashMap<u64, String>,
+    /// The names that lines tell of processes that they have by names, by the places of these names.
+    named: HashMap<u64, String>,
 }
 
 impl Naming {
@@ -99,6 +128,20 @@ impl Naming {
             places: HashMap::new(alloc),
             shown: Vec::new(alloc),
             uses: Vec::new(alloc),
+            numbered: HashMap::new(alloc),
+            named: HashMap::new(alloc),
+        }
+    }
+
+    /// Keeps the name that a line tells of its process. The error is an allocation failure.
+    pub(crate) fn tell(&mut self, process: ProcessWord<'_>, name: &str) -> Result<(), AllocError> {
+        let alloc = *self.shown.allocator();
+        match process {
+            ProcessWord::Number(number) => keep_told(alloc, &mut self.numbered, number, name),
+            ProcessWord::Name(word) => {
+                let place = self.place(word)?;
+                keep_told(alloc, &mut self.named, place as u64, name)
+            }
         }
     }
 
@@ -139,6 +182,7 @@ impl Naming {
         ensures lines { log.new.lines ≡ log.old.lines }
     {
         let mut names = ProcessNames::new(alloc);
+        names.told = self.numbered;
         if self.uses.is_empty() {
             return Ok(names);
         }
@@ -154,10 +198,53 @@ impl Naming {
                 set_number(log, used.place, *number);
             }
         }
+        tell_named(&mut names, &self.named, numbers.as_slice())?;
         for (number, shown) in numbers.as_slice().iter().zip(self.shown) {
             put_name(&mut names, *number, shown)?;
         }
         Ok(names)
+    }
+}
+
+/// Keeps the name that a line tells of a process, as it is shown.
+fn keep_told(
+    alloc: Global,
+    told: &mut HashMap<u64, String>,
+    process: u64,
+    name: &str,
+) -> Result<(), AllocError> {
+    if let Some(last) = told.get(&process) {
+        if last.as_str() == name {
+            return Ok(());
+        }
+    }
+    let mut shown = String::new(alloc);
+    put_shown(&mut shown, name, NAME_BYTES, "?")?;
+    match told.insert(process, shown) {
+        Ok(_) => Ok(()),
+        Err(_) => Err(AllocError),
+    }
+}
+
+/// Keeps the names that lines tell of processes by names, each of which has the number at its place.
+fn tell_named(
+    names: &mut ProcessNames,
+    named: &HashMap<u64, String>,
+    numbers: &[u64],
+) -> Result<(), AllocError> {
+    for place in 0..numbers.len() {
+        if let Some(name) = named.get(&(place as u64)) {
+            let copy = String::from_str(*name.allocator(), name.as_str())?;
+            put_told(&mut names.told, numbers[place], copy)?;
+        }
+    }
+    Ok(())
+}
+
+fn put_told(told: &mut HashMap<u64, String>, process: u64, name: String) -> Result<(), AllocError> {
+    match told.insert(process, name) {
+        Ok(_) => Ok(()),
+        Err(_) => Err(AllocError),
     }
 }
 

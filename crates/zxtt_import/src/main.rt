@@ -12,10 +12,11 @@ use std::mem::forget;
 use std::process::ExitCode;
 use words::{Asked, read_words};
 use zt_import::{
-    Imported, LeftCalls, adopted_in, calls_in, import, join_starts, leave_out, moved_in, pairs_in,
-    place_requests, print_difference, print_left, print_skipped, skips_handles, trace_text,
+    Imported, LeftCalls, adopted_in, calls_in, counts_json, difference_json, import, join_starts,
+    leave_out, left_json, more_notes_json, moved_in, note_json, pairs_in, place_requests,
+    print_difference, print_left, print_skipped, skipped_json, skips_handles, trace_text,
 };
-use zt_logs::{CallLog, Cause, LogFault, read_log};
+use zt_logs::{CallLog, Cause, LogFault, LogNote, read_log};
 use zt_words::Words;
 
 fn main(rt: HostRuntime) -> ExitCode {
@@ -44,10 +45,10 @@ fn ended(rt: &HostRuntime, done: &Result<(), Fault>) -> ExitCode {
 /// Makes the trace of a log, and prints where replies differ.
 fn make_trace(rt: &HostRuntime, asked: &Asked<'_>) -> Result<(), Fault> {
     let text = read(rt, asked.log, asked.to)?;
-    let mut log = read_log(rt.alloc(), text.as_slice())?;
+    let mut log = read_log(rt.alloc(), text.as_slice(), asked.notes.as_slice())?;
     join_starts(rt.alloc(), &mut log)?;
     place_requests(rt.alloc(), &mut log)?;
-    tell_notes(rt, &log, asked.is_strict)?;
+    tell_notes(rt, &log, asked)?;
     let left = match leave_out(rt.alloc(), &mut log) {
         Ok(left) => left,
         Err(fault) => return Err(fault_of(rt, &log, fault)?),
@@ -56,15 +57,15 @@ fn make_trace(rt: &HostRuntime, asked: &Asked<'_>) -> Result<(), Fault> {
         Ok(imported) => imported,
         Err(fault) => return Err(fault_of(rt, &log, fault)?),
     };
-    tell_differences(rt, &log, &imported, asked.is_strict)?;
-    tell_left(rt, &left)?;
-    let lacks = tell_skipped(rt, &log)?;
+    tell_differences(rt, &log, &imported, asked)?;
+    tell_left(rt, &left, asked.is_json)?;
+    let lacks = tell_skipped(rt, &log, asked.is_json)?;
     if asked.is_strict && (imported.differs() || lacks) {
         return Err(Fault::Differs);
     }
     let trace = trace_text(rt.alloc(), &log, &imported)?;
     write(rt, asked.to, trace.as_slice())?;
-    tell_counts(rt, &log, &imported);
+    tell_counts(rt, &log, &imported, asked.is_json)?;
     leave(text, log, imported, trace);
     Ok(())
 }
@@ -78,18 +79,40 @@ fn leave(text: Vec<u8>, log: CallLog, imported: Imported, trace: Vec<u8>) {
 }
 
 /// Prints a line for each thing that is left out of the log. If the import is strict, the first of them is the error.
-fn tell_notes(rt: &HostRuntime, log: &CallLog, is_strict: bool) -> Result<(), Fault> {
+fn tell_notes(rt: &HostRuntime, log: &CallLog, asked: &Asked<'_>) -> Result<(), Fault> {
     for note in log.notes.told() {
-        if is_strict {
+        if asked.is_strict {
             return Err(Fault::LeftOut(format!(in rt.alloc(); "{note}")?));
         }
-        let _ = eprintln!(rt; "{note}");
+        tell_note(rt, note, asked.is_json)?;
     }
     let more = log
         .notes
         .count()
         .saturating_sub(log.notes.told().len() as u64);
     if more > 0 {
+        tell_more(rt, more, asked.is_json)?;
+    }
+    Ok(())
+}
+
+/// Prints what is left out of a line.
+fn tell_note(rt: &HostRuntime, note: &LogNote, is_json: bool) -> Result<(), AllocError> {
+    if is_json {
+        let object = note_json(rt.alloc(), note)?;
+        let _ = eprintln!(rt; "{object}");
+    } else {
+        let _ = eprintln!(rt; "{note}");
+    }
+    Ok(())
+}
+
+/// Prints how many things are left out besides.
+fn tell_more(rt: &HostRuntime, more: u64, is_json: bool) -> Result<(), AllocError> {
+    if is_json {
+        let object = more_notes_json(rt.alloc(), more)?;
+        let _ = eprintln!(rt; "{object}");
+    } else {
         let _ = eprintln!(rt; "and {more} more left out");
     }
     Ok(())
@@ -114,12 +137,17 @@ fn tell_differences(
     rt: &HostRuntime,
     log: &CallLog,
     imported: &Imported,
-    is_strict: bool,
+    asked: &Asked<'_>,
 ) -> Result<(), Fault> {
+    let calls = log.calls.as_slice();
     for difference in imported.differences() {
-        let line = print_difference(rt.alloc(), log.calls.as_slice(), imported, difference)?;
+        let line = if asked.is_json {
+            difference_json(rt.alloc(), calls, imported, difference)?
+        } else {
+            print_difference(rt.alloc(), calls, imported, difference)?
+        };
         let _ = eprintln!(rt; "{line}");
-        if is_strict && !difference.by_schedule {
+        if asked.is_strict && !difference.by_schedule {
             return Ok(());
         }
     }
@@ -127,27 +155,47 @@ fn tell_differences(
 }
 
 /// Prints the calls that are left out since they are on stand-ins, if there are any.
-fn tell_left(rt: &HostRuntime, left: &LeftCalls) -> Result<(), Fault> {
+fn tell_left(rt: &HostRuntime, left: &LeftCalls, is_json: bool) -> Result<(), Fault> {
     if left.is_empty() {
         return Ok(());
     }
-    let line = print_left(rt.alloc(), left)?;
+    let line = if is_json {
+        left_json(rt.alloc(), left)?
+    } else {
+        print_left(rt.alloc(), left)?
+    };
     let _ = eprintln!(rt; "{line}");
     Ok(())
 }
 
 /// Prints the skipped calls, if there are any. Returns whether one of them names a handle that its process has in the log.
-fn tell_skipped(rt: &HostRuntime, log: &CallLog) -> Result<bool, Fault> {
+fn tell_skipped(rt: &HostRuntime, log: &CallLog, is_json: bool) -> Result<bool, Fault> {
     if log.skipped.is_empty() {
         return Ok(false);
     }
-    let line = print_skipped(rt.alloc(), log.calls.as_slice(), log.skipped.as_slice())?;
+    let calls = log.calls.as_slice();
+    let skipped = log.skipped.as_slice();
+    let line = if is_json {
+        skipped_json(rt.alloc(), calls, skipped)?
+    } else {
+        print_skipped(rt.alloc(), calls, skipped)?
+    };
     let _ = eprintln!(rt; "{line}");
-    Ok(skips_handles(rt.alloc(), log.calls.as_slice(), log.skipped.as_slice())?)
+    Ok(skips_handles(rt.alloc(), calls, skipped)?)
 }
 
 /// Prints how many lines and calls there were, and how many replies differ.
-fn tell_counts(rt: &HostRuntime, log: &CallLog, imported: &Imported) {
+fn tell_counts(
+    rt: &HostRuntime,
+    log: &CallLog,
+    imported: &Imported,
+    is_json: bool,
+) -> Result<(), Fault> {
+    if is_json {
+        let object = counts_json(rt.alloc(), log, imported)?;
+        let _ = eprintln!(rt; "{object}");
+        return Ok(());
+    }
     let calls = calls_in(log.calls.as_slice(), imported.trail());
     let lines = log.lines;
     let skipped = log.skipped.len();
@@ -159,4 +207,5 @@ fn tell_counts(rt: &HostRuntime, log: &CallLog, imported: &Imported) {
     let _ = eprintln!(rt;
         "zxtt-import: {calls} calls of {lines} lines, {skipped} skipped, {adopted} adopted, {pairs} pairs by their messages, {moved} moved; {differing} differences, {scheduled} of them by the schedule"
     );
+    Ok(())
 }

@@ -11,6 +11,7 @@ use Rattle.zt_history.specs.HistoryRefusals.{call_on}
 use Rattle.zt_history.specs.Tree.{Made, Tree}
 use Rattle.zt_book.specs.Log.{loaded}
 use Rattle.zt_logs.specs.declared.logged.LoggedCall.{LoggedCall}
+use Rattle.zt_import.specs.declared.mapped.MappedHandle.{MappedHandle}
 use Rattle.zt_import.specs.declared.trail.Difference.{Difference}
 use Rattle.zt_import.specs.declared.trail.Origin.{Origin}
 use Rattle.zt_import.specs.declared.trail.Origin.TheVariants as origin
@@ -59,6 +60,10 @@ learned (Some pair) before number = if pair.0 == number then pair.1 else before 
 
 abbrev pub Learns : Processes → Processes → Option (ℕ × ℕ) → Type 0
 Learns old new pair = (number : ℕ) → process_in new number ≡ learned pair (process_in old) number
+
+-- what is kept of a handle that is mapped; nothing for 0, which is no handle
+abbrev pub mapped_by : ℕ → ℕ → ℕ → List MappedHandle
+mapped_by process handle value = if handle == 0 then [] else (record { process = process; handle = handle; value = value }) ∷ []
 
 -- ---- steps more
 

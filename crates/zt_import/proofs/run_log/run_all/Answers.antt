@@ -1,7 +1,7 @@
 -- The calls of a log in turn.
 use Rattle.std.proofs.Common.{◌≡◌, ◌+◌, suc, get_or, take, Some, sym, ◌∙◌, ap, subst, arith}
 use Rattle.std.specs.Prelude.{slice_get}
-use Rattle.zt_import.specs.ProofsOnly.TakenCalls.{HasRun}
+use Rattle.zt_import.specs.ProofsOnly.TakenCalls.{HasRun, IsRunOf}
 use Rattle.zt_import.proofs.ComparedLaws.{take-all}
 use Rattle.zt_import.proofs.ImportLaws.{none-run, run_of}
 use Rattle.zt_import.proofs.OrderLaws.{order-at, order-within}
@@ -28,6 +28,7 @@ loop-place-preserved c =
 
 pub returns : goal.returns
 returns c =
-    run_of c.args.calls.now c.args.order.now c.loop-place.taken c.loop-place.numbers.processes c.requires.order
+    subst (λ view. IsRunOf c.args.calls.now view) (sym c.keep.ensures)
+    (run_of c.args.calls.now c.args.order.now c.loop-place.taken c.loop-place.numbers.processes c.requires.order
     (subst (λ done. HasRun c.args.calls.now done c.loop-place.taken c.loop-place.numbers.processes)
-    (take-all c.loop-place.place c.args.order.now (omega (arith, c.loop-place-test.false))) c.loop-place.invariant)
+    (take-all c.loop-place.place c.args.order.now (omega (arith, c.loop-place-test.false))) c.loop-place.invariant))

@@ -1,0 +1,7 @@
+-- The lines so far are skipped.
+use Rattle.std.proofs.Common.{[], string_bytes}
+use Rattle.zt_import.specs.ProofsOnly.ReadTexts.{Writes}
+use Rattle.zt_import.proofs.session_lines.put_fields.Given as goal
+
+abbrev pub invariant-loop-field : goal.invariant-loop-field
+invariant-loop-field l = Writes (string_bytes l.fn.text) (string_bytes l.text) []
