@@ -10,6 +10,9 @@ use std::{fs, io};
 use zt_rows::Refusal;
 use zt_words::Fault;
 
+/// The most bytes of one read.
+const READ_BYTES: usize = 65_536;
+
 /// Opens a file for reading. Fails with `Unopened`, or with `Refused` and `OutOfMemory`.
 pub fn open(rt: &HostRuntime, path: &str) -> Result<File, Fault>
     ensures { IfErr result TellsOfNoLine }
@@ -49,11 +52,26 @@ pub fn read_rest<R: Read>(alloc: Global, reader: &mut R) -> Result<Vec<u8>, Faul
     ensures { IfErr result TellsOfNoLine }
 {
     let mut bytes = Vec::new(alloc);
-    match reader.read_to_end(&mut bytes) {
-        Ok(_) => Ok(bytes),
+    match append_rest(reader, &mut bytes) {
+        Ok(()) => Ok(bytes),
         Err(error) if error.kind() == io::ErrorKind::OutOfMemory => Err(Fault::of_memory()),
         Err(_) => Err(Fault::Refused(Refusal::ReadFault)),
     }
+}
+
+/// Appends all bytes that are left. Each read goes into the same memory first, since `read_to_end` fills new memory byte by
+/// byte ahead of each read.
+fn append_rest<R: Read>(reader: &mut R, bytes: &mut Vec<u8>) -> io::Result<()> {
+    let mut room = vec![in *bytes.allocator(); 0u8; READ_BYTES]?;
+    for _ in 0..u64::MAX {
+        match reader.read(room.as_mut_slice()) {
+            Ok(0) => return Ok(()),
+            Ok(count) => bytes.extend_from_slice(&room.as_slice()[..count])?,
+            Err(error) if error.kind() == io::ErrorKind::Interrupted => {}
+            Err(error) => return Err(error),
+        }
+    }
+    Ok(())
 }
 
 /// Makes the fault of a file that could not be opened. If an allocation fails, it is `Refused` with `OutOfMemory`.

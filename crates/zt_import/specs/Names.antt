@@ -1,5 +1,5 @@
 -- The names and notes that a trace has of its log.
-use Rattle.std.specs.Prelude.{ℕ, List, [], ◌∷◌, ◌++◌, Option, Some, None, slice_get, codes}
+use Rattle.std.specs.Prelude.{ℕ, List, [], ◌++◌, Option, Some, None, slice_get, codes}
 use Rattle.std.specs.Fmt.{decimal}
 use Rattle.zt_text.specs.ShownNumbers.{shown_mask}
 use Rattle.zt_logs.specs.declared.logged.CallLog.{CallLog}

@@ -291,6 +291,9 @@ impl Adoption {
     ) -> Result<(), Cause>
         ensures { OnOk result (IsAside taken.old taken.new) }
     {
+        if !reads(calls, index) {
+            return Ok(());
+        }
         let Some(message) = plan.outside.get(&index) else {
             return Ok(());
         };
@@ -302,6 +305,14 @@ impl Adoption {
             }
             None => Ok(()),
         }
+    }
+}
+
+/// Whether a call reads messages, so that it may find one from outside.
+fn reads(calls: &[LoggedCall], index: usize) -> bool {
+    match calls.get(index) {
+        Some(logged) => matches!(logged.call, Call::ChannelRead { .. }),
+        None => false,
     }
 }
 

@@ -14,7 +14,7 @@ const ANCESTORS: usize = 64;
 #[derive(Drop)]
 pub(crate) struct Arranged {
     numbers: Vec<usize>,
-    /// The place of each call, by the call's number.
+    /// The place of each call, by the call's number. Empty as long as no call is moved.
     places: Vec<usize>,
     moves: Vec<Move>,
 }
@@ -24,20 +24,22 @@ impl Arranged {
     /// them.
     pub(crate) fn of(alloc: Global, calls: &[LoggedCall]) -> Result<Arranged, AllocError> {
         let mut order = Arranged {
-            numbers: Vec::new(alloc),
+            numbers: Vec::with_capacity(alloc, calls.len())?,
             places: Vec::new(alloc),
             moves: Vec::new(alloc),
         };
         for number in 0..calls.len() {
-            order.push(number)?;
+            order.numbers.push(number)?;
         }
         order.move_spawns(alloc, calls)?;
         Ok(order)
     }
 
-    fn push(&mut self, number: usize) -> Result<(), AllocError> {
-        self.numbers.push(number)?;
-        self.places.push(number)?;
+    /// Keeps the place of each call, ahead of the first move.
+    fn keep_places(&mut self) -> Result<(), AllocError> {
+        for place in self.places.len()..self.numbers.len() {
+            self.places.push(place)?;
+        }
         Ok(())
     }
 
@@ -79,6 +81,7 @@ impl Arranged {
             return Ok(false);
         }
         let made = Move { from, to };
+        self.keep_places()?;
         self.moves.push(made)?;
         let _is_there = move_ahead(calls, &mut self.numbers, made);
         self.place_again(from, to);
@@ -175,40 +178,38 @@ impl Arranged {
 
     /// Moves each `spawn` ahead of the calls of the process that it makes.
     fn move_spawns(&mut self, alloc: Global, calls: &[LoggedCall]) -> Result<(), AllocError> {
-        let spawns = spawns_in(alloc, calls)?;
-        if spawns.is_empty() {
-            return Ok(());
-        }
-        let mut known = HashMap::new(alloc);
+        let mut spawns = spawns_in(alloc, calls)?;
         for place in 0..calls.len() {
-            self.move_spawns_to(calls, &spawns, &known, place)?;
-            if let Some(process) = self.process_at(calls, place) {
-                know(&mut known, process)?;
+            if spawns.is_empty() {
+                return Ok(());
             }
+            self.move_spawns_to(calls, &mut spawns, place)?;
         }
         Ok(())
     }
 
     /// Moves the `spawn` of the process that makes the call at `place` there. Goes on with the process that makes that
-    /// `spawn`.
+    /// `spawn`. The process that makes the call at `place` in the end is there from then on, and no longer in `spawns`.
     fn move_spawns_to(
         &mut self,
         calls: &[LoggedCall],
-        spawns: &HashMap<u64, usize>,
-        known: &HashMap<u64, ()>,
+        spawns: &mut HashMap<u64, usize>,
         place: usize,
     ) -> Result<(), AllocError> {
         for _ in 0..ANCESTORS {
             let Some(process) = self.process_at(calls, place) else {
                 return Ok(());
             };
-            let spawn = match spawns.get(&process) {
-                Some(spawn) if !known.contains_key(&process) => *spawn,
-                _ => return Ok(()),
+            let Some(spawn) = spawns.get(&process).copied() else {
+                return Ok(());
             };
             if !self.move_with_others(calls, self.place_of(spawn), place)? {
+                forget(spawns, process);
                 return Ok(());
             }
+        }
+        if let Some(process) = self.process_at(calls, place) {
+            forget(spawns, process);
         }
         Ok(())
     }
@@ -277,11 +278,9 @@ impl Arranged {
     }
 }
 
-fn know(known: &mut HashMap<u64, ()>, process: u64) -> Result<(), AllocError> {
-    match known.insert(process, ()) {
-        Ok(_) => Ok(()),
-        Err(_) => Err(AllocError),
-    }
+/// Removes the `spawn` of a process, if it is there.
+fn forget(spawns: &mut HashMap<u64, usize>, process: u64) {
+    let _spawn = spawns.remove(&process);
 }
 
 /// The call that makes each process, by the process's number.

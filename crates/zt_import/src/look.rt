@@ -40,7 +40,7 @@ pub(crate) fn look(
     plan: &Plan,
     order: &mut Arranged,
 ) -> Result<(), LogFault> {
-    let Ok(mut taken) = Taken::new(alloc) else {
+    let Ok(mut taken) = Taken::new(alloc, calls.len()) else {
         return Err(Cause::OutOfMemory.at(0));
     };
     let Ok(mut scratch) = Scratch::new(alloc) else {

@@ -47,7 +47,8 @@ fn lesser(least: Option<usize>, number: usize) -> Option<usize>
     }
 }
 
-/// For each step, the first call of the log that it is moved ahead of; none if it is not moved.
+/// For each step, the first call of the log that it is moved ahead of; none if it is not moved. The steps behind the last
+/// moved one are left out.
 pub(crate) fn passed_by(
     alloc: Global,
     trail: &[TrailStep],
@@ -57,8 +58,11 @@ pub(crate) fn passed_by(
         are_run: vec![in alloc; false; trail.len()]?,
         next: 0,
     };
-    for step in trail {
-        passed.push(run.step(step.origin))?;
+    for place in 0..trail.len() {
+        if let Some(ahead) = run.step(trail[place].origin) {
+            passed.resize(place, None)?;
+            passed.push(Some(ahead))?;
+        }
     }
     Ok(passed)
 }

@@ -163,8 +163,9 @@ fn put_logged(text: &mut String, log: &CallLog, logged: &LoggedCall) -> Result<(
     put_number(text, logged.line)?;
     text.push_str(": ")?;
     put_process(text, log, logged.process)?;
-    let handles = handles_in(*text.allocator(), &logged.call)?;
-    put_handles(text, handle_word(handles.len()), handles.as_slice())?;
+    let used = handles_in(*text.allocator(), &logged.call)?;
+    let handles = used.as_slice();
+    put_handles(text, handle_word(handles.len()), handles)?;
     put_handles(text, "; gives", logged.recorded.handles.as_slice())?;
     put_part(text, logged.part)
 }

@@ -68,6 +68,8 @@ pub(crate) struct Plan {
     /// The handle by which a spawned process has its argument.
     pub(crate) arguments: HashMap<u64, HandleValue>,
     comings: HashMap<u64, Coming>,
+    /// The process of the last call. It is in `comings`.
+    last_seen: Option<u64>,
     /// The object of each handle of each process.
     known: HashMap<(u64, u32), usize>,
     first_messages: FirstMessages,
@@ -254,6 +256,7 @@ impl Plan {
             outside: HashMap::new(alloc),
             arguments: HashMap::new(alloc),
             comings: HashMap::new(alloc),
+            last_seen: None,
             known: HashMap::new(alloc),
             first_messages: FirstMessages::new(alloc),
             joins,
@@ -302,7 +305,7 @@ impl Plan {
     /// Pairs two ends by their koids, if the peers of both may still be found.
     fn pair_by_koids(&mut self, one: usize, other: usize) -> Result<(), AllocError> {
         if one != other && self.objects.is_open(one) && self.objects.is_open(other) {
-            self.objects.pair(one, other);
+            self.objects.pair(one, other)?;
             self.koids.join(one, other)?;
         }
         Ok(())
@@ -358,6 +361,9 @@ impl Plan {
 
     /// Goes over a call, if it is on a stand-in.
     fn see_stand_in_uses(&mut self, index: usize, logged: &LoggedCall) -> Result<(), AllocError> {
+        if !self.objects.has_stand_ins() {
+            return Ok(());
+        }
         let process = logged.process;
         match &logged.call {
             Call::HandleDuplicate { handle, rights } | Call::HandleReplace { handle, rights } => {
@@ -440,6 +446,10 @@ impl Plan {
 
     /// Adopts a process that nothing made before its first call.
     fn see_process(&mut self, process: u64) -> Result<(), AllocError> {
+        if self.last_seen == Some(process) {
+            return Ok(());
+        }
+        self.last_seen = Some(process);
         if self.comings.contains_key(&process) {
             return Ok(());
         }
@@ -773,7 +783,7 @@ impl Plan {
             self.objects.add_read(end, Reading::Discarded(found.call))?;
         }
         if self.objects.is_alone(end) {
-            self.objects.add_unread(end, found);
+            self.objects.add_unread(end, found)?;
             if is_discarded {
                 self.objects.set_outside(end);
                 self.write_unread(end)?;
@@ -839,7 +849,7 @@ impl Plan {
             self.found_peer(end)
         };
         if let Some(other) = found {
-            self.objects.pair(other, end);
+            self.objects.pair(other, end)?;
         }
         Ok(())
     }
@@ -948,7 +958,7 @@ impl Plan {
             [first, second] => {
                 let one = self.objects.add(None)?;
                 let other = self.objects.add(None)?;
-                self.objects.pair(one, other);
+                self.objects.pair(one, other)?;
                 self.name(logged.process, *first, one)?;
                 self.name(logged.process, *second, other)
             }

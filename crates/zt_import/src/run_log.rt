@@ -133,21 +133,27 @@ fn best_run(alloc: Global, calls: &[LoggedCall]) -> Result<Taken, LogFault>
         Ok(order) => order,
         Err(_) => return Err(Cause::OutOfMemory.at(0)),
     };
-    let taken = run_in(alloc, calls, &mut order)?;
-    let found = count_differing(calls, &taken);
+    let mut found = Differing::none();
+    let taken = run_in(alloc, calls, &mut order, &mut found)?;
     if found.by_order == 0 {
         return Ok(taken);
     }
-    let other = other_run(alloc, calls, &mut order)?;
-    if differing_in(calls, &other) < found.count {
+    let mut others = Differing::none();
+    let other = other_run(alloc, calls, &mut order, &mut others)?;
+    if others.count < found.count {
         Ok(other)
     } else {
         Ok(taken)
     }
 }
 
-/// The calls, run in an order that is looked for.
-fn other_run(alloc: Global, calls: &[LoggedCall], order: &mut Arranged) -> Result<Taken, LogFault>
+/// The calls, run in an order that is looked for. Adds the replies that differ to `found`.
+fn other_run(
+    alloc: Global,
+    calls: &[LoggedCall],
+    order: &mut Arranged,
+    found: &mut Differing,
+) -> Result<Taken, LogFault>
     ensures { IfOk result (IsRunOf calls.now) }
 {
     for _ in 0..ROUNDS {
@@ -155,24 +161,29 @@ fn other_run(alloc: Global, calls: &[LoggedCall], order: &mut Arranged) -> Resul
         let before = order.moves().len();
         look(alloc, calls, &plan, order)?;
         if order.moves().len() == before {
-            return run_in(alloc, calls, order);
+            return run_in(alloc, calls, order, found);
         }
     }
-    run_in(alloc, calls, order)
+    run_in(alloc, calls, order, found)
 }
 
-/// The calls, run in this order.
-fn run_in(alloc: Global, calls: &[LoggedCall], order: &mut Arranged) -> Result<Taken, LogFault>
+/// The calls, run in this order. Adds the replies that differ to `found`.
+fn run_in(
+    alloc: Global,
+    calls: &[LoggedCall],
+    order: &mut Arranged,
+    found: &mut Differing,
+) -> Result<Taken, LogFault>
     ensures { IfOk result (IsRunOf calls.now) }
 {
     let plan = Plan::of(alloc, calls, order)?;
     let Ok(numbers) = ordered(alloc, calls, order.moves()) else {
         return Err(Cause::OutOfMemory.at(0));
     };
-    let Ok(mut taken) = Taken::new(alloc) else {
+    let Ok(mut taken) = Taken::new(alloc, calls.len()) else {
         return Err(Cause::OutOfMemory.at(0));
     };
-    run_all(alloc, &mut taken, &plan, calls, numbers.as_slice())?;
+    run_all(alloc, &mut taken, &plan, calls, numbers.as_slice(), found)?;
     Ok(taken)
 }
 
@@ -183,43 +194,38 @@ struct Differing {
     by_order: usize,
 }
 
-fn count_differing(calls: &[LoggedCall], taken: &Taken) -> Differing {
-    let mut found = Differing {
-        count: 0,
-        by_order: 0,
-    };
-    for step in taken.trail() {
-        if let Origin::Logged(number) = step.origin {
-            if let Some(logged) = calls.get(number) {
-                add_differing(&mut found, logged, taken.reply(&step.moment));
-            }
+impl Differing {
+    fn none() -> Differing {
+        Differing {
+            count: 0,
+            by_order: 0,
         }
     }
-    found
-}
 
-fn differing_in(calls: &[LoggedCall], taken: &Taken) -> usize {
-    count_differing(calls, taken).count
-}
-
-/// Counts a call if its reply differs. A call ahead of the last of its line counts only if another order may make it agree.
-fn add_differing(found: &mut Differing, logged: &LoggedCall, reply: Option<&Reply>) {
-    if agrees(&logged.recorded, reply) || !is_last(logged.part) && !may_be_by_order(logged, reply) {
-        return;
-    }
-    found.count = found.count.saturating_add(1);
-    if may_be_by_order(logged, reply) {
-        found.by_order = found.by_order.saturating_add(1);
+    /// Counts a call if its reply differs. A call ahead of the last of its line counts only if another order may make it
+    /// agree.
+    fn add(&mut self, logged: &LoggedCall, reply: Option<&Reply>) {
+        if agrees(&logged.recorded, reply)
+            || !is_last(logged.part) && !may_be_by_order(logged, reply)
+        {
+            return;
+        }
+        self.count = self.count.saturating_add(1);
+        if may_be_by_order(logged, reply) {
+            self.by_order = self.by_order.saturating_add(1);
+        }
     }
 }
 
-/// Makes what is adopted, and then runs the calls of these numbers one after another.
+/// Makes what is adopted, and then runs the calls of these numbers one after another. Adds the replies that differ to
+/// `found`.
 fn run_all(
     alloc: Global,
     taken: &mut Taken,
     plan: &Plan,
     calls: &[LoggedCall],
     order: &[usize],
+    found: &mut Differing,
 ) -> Result<(), LogFault>
     requires opening { taken.old ≡ record { tree = opening_tree; trail = [] } }
     requires order { IsOrder calls.now order.now }
@@ -233,7 +239,15 @@ fn run_all(
     }
     for place in 0..order.len() {
         let index = order[place];
-        match run_one(taken, &mut numbers, &mut adoption, plan, calls, index) {
+        match run_one(
+            taken,
+            &mut numbers,
+            &mut adoption,
+            plan,
+            calls,
+            index,
+            found,
+        ) {
             Ok(()) => {}
             Err(cause) => return Err(cause.at(line_of(calls, index))),
         }
@@ -242,7 +256,7 @@ fn run_all(
     Ok(())
 }
 
-/// Runs a call of the log.
+/// Runs a call of the log, and adds its reply to `found` if it differs.
 fn run_one(
     taken: &mut Taken,
     numbers: &mut Numbers,
@@ -250,6 +264,7 @@ fn run_one(
     plan: &Plan,
     calls: &[LoggedCall],
     index: usize,
+    found: &mut Differing,
 ) -> Result<(), Cause>
     requires { index < length calls.now }
     ensures { OnOk result ((done : List ℕ) → HasRun calls.now done taken.old numbers.old.processes
@@ -258,7 +273,9 @@ fn run_one(
     let logged = &calls[index];
     adoption.write_outside(taken, plan, calls, index)?;
     let moment = run_call(taken, numbers, index, logged)?;
-    learn(numbers, plan, logged, taken.reply(&moment))?;
+    let reply = taken.reply(&moment);
+    found.add(logged, reply);
+    learn(numbers, plan, logged, reply)?;
     Ok(())
 }
 

@@ -71,28 +71,52 @@ pub(crate) struct SeenObject {
     pub(crate) peer: Option<usize>,
     /// Whether a message from outside came to this end.
     pub(crate) is_outside: bool,
+    /// The place of its messages among those of all ends, if it has some.
+    end: Option<usize>,
+}
+
+/// The messages of an end. Most objects have none.
+#[derive(Drop)]
+struct EndMessages {
     /// The messages that wait at this end.
-    pub(crate) queue: VecDeque<Sent>,
+    queue: VecDeque<Sent>,
     /// The messages that were written at this end while its peer is not known.
-    pub(crate) sent: VecDeque<Sent>,
+    sent: VecDeque<Sent>,
     /// The first message at this end, if calls had too little room for it and its peer is not known.
-    pub(crate) unread: Option<Unread>,
+    unread: Option<Unread>,
     /// The numbers of the calls that wrote at this end.
-    pub(crate) written: Vec<usize>,
+    written: Vec<usize>,
     /// The messages that were read or discarded at this end.
-    pub(crate) read: Vec<Reading>,
+    read: Vec<Reading>,
+}
+
+impl EndMessages {
+    fn none(alloc: Global) -> EndMessages {
+        EndMessages {
+            queue: VecDeque::new(alloc),
+            sent: VecDeque::new(alloc),
+            unread: None,
+            written: Vec::new(alloc),
+            read: Vec::new(alloc),
+        }
+    }
 }
 
 /// The objects of a log, each under a number of its own.
 #[derive(Drop)]
 pub(crate) struct SeenObjects {
     objects: Vec<SeenObject>,
+    ends: Vec<EndMessages>,
+    /// Whether one of them was made a stand-in.
+    has_stand_ins: bool,
 }
 
 impl SeenObjects {
     pub(crate) fn new(alloc: Global) -> SeenObjects {
         SeenObjects {
             objects: Vec::new(alloc),
+            ends: Vec::new(alloc),
+            has_stand_ins: false,
         }
     }
 
@@ -107,13 +131,45 @@ impl SeenObjects {
             stand_in: None,
             peer: None,
             is_outside: false,
-            queue: VecDeque::new(alloc),
-            sent: VecDeque::new(alloc),
-            unread: None,
-            written: Vec::new(alloc),
-            read: Vec::new(alloc),
+            end: None,
         })?;
         Ok(number)
+    }
+
+    /// The messages of an end, if it has some.
+    fn end(&self, number: usize) -> Option<&EndMessages> {
+        match self.objects.get(number) {
+            Some(object) => self.ends.get(object.end?),
+            None => None,
+        }
+    }
+
+    /// The messages of an end, if it has some.
+    fn end_mut(&mut self, number: usize) -> Option<&mut EndMessages> {
+        match self.objects.get(number) {
+            Some(object) => {
+                let end = object.end?;
+                self.ends.get_mut(end)
+            }
+            None => None,
+        }
+    }
+
+    /// The messages of an end, which may have none so far. None if there is no such object.
+    fn end_made(&mut self, number: usize) -> Result<Option<&mut EndMessages>, AllocError> {
+        let place = self.ends.len();
+        let Some(object) = self.objects.get_mut(number) else {
+            return Ok(None);
+        };
+        match object.end {
+            Some(end) => Ok(self.ends.get_mut(end)),
+            None => {
+                object.end = Some(place);
+                let alloc = *self.ends.allocator();
+                self.ends.push(EndMessages::none(alloc))?;
+                Ok(self.ends.get_mut(place))
+            }
+        }
     }
 
     /// The first handle that the log has of an adopted object, with its process.
@@ -147,9 +203,15 @@ impl SeenObjects {
 
     /// Makes an object a stand-in with these rights.
     pub(crate) fn set_stand_in(&mut self, number: usize, rights: u32) {
+        self.has_stand_ins = true;
         if let Some(object) = self.objects.get_mut(number) {
             object.stand_in = Some(rights);
         }
+    }
+
+    /// Whether an object was made a stand-in.
+    pub(crate) fn has_stand_ins(&self) -> bool {
+        self.has_stand_ins
     }
 
     /// The rights of an object, if it is a stand-in.
@@ -196,32 +258,48 @@ impl SeenObjects {
     }
 
     /// Makes two ends peers. What was written at one waits at the other.
-    pub(crate) fn pair(&mut self, first: usize, second: usize) {
+    pub(crate) fn pair(&mut self, first: usize, second: usize) -> Result<(), AllocError> {
         let written = self.link(first, second);
         let answered = self.link(second, first);
-        self.put_queue(second, written);
-        self.put_queue(first, answered);
+        self.put_queue(second, written)?;
+        self.put_queue(first, answered)
     }
 
-    /// Sets the peer of an end. Returns the messages that were written at it.
+    /// Sets the peer of an end. Returns the messages that were written at it; none if there are none.
     fn link(&mut self, number: usize, peer: usize) -> Option<VecDeque<Sent>> {
+        if let Some(object) = self.objects.get_mut(number) {
+            object.peer = Some(peer);
+        }
         let alloc = *self.objects.allocator();
-        match self.objects.get_mut(number) {
-            Some(object) => {
-                object.peer = Some(peer);
-                object.unread = None;
-                Some(std::mem::replace(&mut object.sent, VecDeque::new(alloc)))
+        match self.end_mut(number) {
+            Some(end) => {
+                end.unread = None;
+                Some(std::mem::replace(&mut end.sent, VecDeque::new(alloc)))
             }
             None => None,
         }
     }
 
-    fn put_queue(&mut self, number: usize, queue: Option<VecDeque<Sent>>) {
-        if let Some(queue) = queue {
-            if let Some(object) = self.objects.get_mut(number) {
-                object.queue = queue;
+    /// Makes these the messages that wait at an end. An end where none waits is left as it is if there are none.
+    fn put_queue(
+        &mut self,
+        number: usize,
+        queue: Option<VecDeque<Sent>>,
+    ) -> Result<(), AllocError> {
+        match queue {
+            Some(queue) => {
+                if let Some(end) = self.end_made(number)? {
+                    end.queue = queue;
+                }
+            }
+            None => {
+                let alloc = *self.objects.allocator();
+                if let Some(end) = self.end_mut(number) {
+                    end.queue = VecDeque::new(alloc);
+                }
             }
         }
+        Ok(())
     }
 
     /// Whether the object is adopted and its peer may still be found.
@@ -246,9 +324,9 @@ impl SeenObjects {
 
     /// Appends a message to those that wait at an end.
     fn queue(&mut self, number: usize, message: Sent) -> Result<(), AllocError> {
-        match self.objects.get_mut(number) {
-            Some(object) => {
-                object.queue.push_back(message)?;
+        match self.end_made(number)? {
+            Some(end) => {
+                end.queue.push_back(message)?;
                 Ok(())
             }
             None => Ok(()),
@@ -257,9 +335,9 @@ impl SeenObjects {
 
     /// Keeps a message until the peer of its end is known.
     fn keep_sent(&mut self, number: usize, message: Sent) -> Result<(), AllocError> {
-        match self.objects.get_mut(number) {
-            Some(object) => {
-                object.sent.push_back(message)?;
+        match self.end_made(number)? {
+            Some(end) => {
+                end.sent.push_back(message)?;
                 Ok(())
             }
             None => Ok(()),
@@ -268,10 +346,11 @@ impl SeenObjects {
 
     /// Adds a call that wrote at an end. Returns whether it is the first, and the end is adopted.
     pub(crate) fn add_written(&mut self, number: usize, call: usize) -> Result<bool, AllocError> {
-        match self.objects.get_mut(number) {
-            Some(object) => {
-                object.written.push(call)?;
-                Ok(object.adopted.is_some() && object.written.len() == 1)
+        let is_adopted = self.adopted(number).is_some();
+        match self.end_made(number)? {
+            Some(end) => {
+                end.written.push(call)?;
+                Ok(is_adopted && end.written.len() == 1)
             }
             None => Ok(false),
         }
@@ -279,9 +358,9 @@ impl SeenObjects {
 
     /// Adds a message that was read or discarded at an end.
     pub(crate) fn add_read(&mut self, number: usize, reading: Reading) -> Result<(), AllocError> {
-        match self.objects.get_mut(number) {
-            Some(object) => {
-                object.read.push(reading)?;
+        match self.end_made(number)? {
+            Some(end) => {
+                end.read.push(reading)?;
                 Ok(())
             }
             None => Ok(()),
@@ -290,24 +369,24 @@ impl SeenObjects {
 
     /// The calls that wrote at an end.
     pub(crate) fn written(&self, number: usize) -> &[usize] {
-        match self.objects.get(number) {
-            Some(object) => object.written.as_slice(),
+        match self.end(number) {
+            Some(end) => end.written.as_slice(),
             None => &[],
         }
     }
 
     /// The messages that were read or discarded at an end.
     pub(crate) fn read(&self, number: usize) -> &[Reading] {
-        match self.objects.get(number) {
-            Some(object) => object.read.as_slice(),
+        match self.end(number) {
+            Some(end) => end.read.as_slice(),
             None => &[],
         }
     }
 
     /// Takes the first message that waits at an end.
     pub(crate) fn receive(&mut self, number: usize) -> Option<Sent> {
-        match self.objects.get_mut(number) {
-            Some(object) => object.queue.pop_front(),
+        match self.end_mut(number) {
+            Some(end) => end.queue.pop_front(),
             None => None,
         }
     }
@@ -328,9 +407,9 @@ impl SeenObjects {
     }
 
     /// Records that a call had too little room for the first message at an end, as earlier calls may have had.
-    pub(crate) fn add_unread(&mut self, number: usize, found: Unread) {
-        if let Some(object) = self.objects.get_mut(number) {
-            object.unread = Some(match object.unread {
+    pub(crate) fn add_unread(&mut self, number: usize, found: Unread) -> Result<(), AllocError> {
+        if let Some(end) = self.end_made(number)? {
+            end.unread = Some(match end.unread {
                 Some(unread) => Unread {
                     call: unread.call,
                     process: unread.process,
@@ -340,12 +419,13 @@ impl SeenObjects {
                 None => found,
             });
         }
+        Ok(())
     }
 
     /// Takes the first message at an end, if calls had too little room for it.
     pub(crate) fn take_unread(&mut self, number: usize) -> Option<Unread> {
-        match self.objects.get_mut(number) {
-            Some(object) => std::mem::replace(&mut object.unread, None),
+        match self.end_mut(number) {
+            Some(end) => std::mem::replace(&mut end.unread, None),
             None => None,
         }
     }

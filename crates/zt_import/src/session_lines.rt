@@ -15,7 +15,7 @@ use crate::names::{put_handle_name, put_process};
 use crate::origin_lines::put_origin_line;
 use crate::run_log::Imported;
 use crate::trail::{Origin, TrailStep};
-use std::alloc::{AllocError, Global};
+use std::alloc::AllocError;
 use std::collections::HashMap;
 use zt_history::History;
 use zt_logs::CallLog;
@@ -26,14 +26,28 @@ use zt_text::{LINE_BYTES, put_call};
 /// The capacity that most comments need, so that printing them seldom allocates.
 const USUAL_BYTES: usize = 120;
 
-/// The session text of an import. Name lines tell the log's processes and handles. A comment ahead of each call tells where
-/// the call comes from, and further ones have the fields of its line. The error is an allocation failure.
-pub fn trace_text(alloc: Global, log: &CallLog, imported: &Imported) -> Result<Vec<u8>, AllocError>
+/// The session text of an import, in the memory of `room`, whose bytes are dropped. Name lines tell the log's processes and
+/// handles. A comment ahead of each call tells where the call comes from, and further ones have the fields of its line. The
+/// error is an allocation failure.
+pub fn trace_text(room: Vec<u8>, log: &CallLog, imported: &Imported) -> Result<Vec<u8>, AllocError>
     ensures { IfOk result (λ text. session_of text.items ≡ Ok (calls_of imported.now.tree.made)) }
 {
-    let mut text = String::new(alloc);
+    let mut text = emptied(room);
     put_steps(&mut text, log, imported)?;
     Ok(text.into_bytes())
+}
+
+/// An empty text in the memory of these bytes.
+fn emptied(bytes: Vec<u8>) -> String
+    ensures { string_bytes result ≡ [] }
+{
+    let alloc = *bytes.allocator();
+    let mut bytes = bytes;
+    bytes.clear();
+    match String::from_utf8(bytes) {
+        Ok(text) => text,
+        Err(_) => String::new(alloc),
+    }
 }
 
 /// Appends the first line, the name lines, and the lines of all steps.

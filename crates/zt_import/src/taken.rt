@@ -51,14 +51,14 @@ impl Model for Taken {
 }
 
 impl Taken {
-    /// A new history, of which no call was asked.
-    pub(crate) fn new(alloc: Global) -> Result<Taken, AllocError>
+    /// A new history, of which no call was asked, with room for the steps of this many calls.
+    pub(crate) fn new(alloc: Global, calls: usize) -> Result<Taken, AllocError>
         ensures { IfOk result (λ taken. taken ≡ record { tree = opening_tree; trail = [] }) }
     {
         let history = History::new(alloc)?;
         Ok(Taken {
             history,
-            trail: Vec::new(alloc),
+            trail: Vec::with_capacity(alloc, calls)?,
             mapped: Mapped::new(alloc),
         })
     }

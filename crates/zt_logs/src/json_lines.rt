@@ -301,7 +301,7 @@ fn take_call(
     let args = line.args()?;
     let options = options_of(alloc, &mut log.notes, log.lines, name, args)?;
     let parts = calls_of(alloc, name, line, args, options)?;
-    let count = parts.len();
+    let count = parts.count();
     let place = log.calls.len();
     let process = name_parts(naming, caller, place, count)?;
     let last = place.saturating_add(count.saturating_sub(1));

@@ -1,6 +1,6 @@
 //! Which calls of the semantics a line of a log is: none, one or several.
 
-ghost use Rattle.std.specs.Prelude.{◌≡◌, ◌++◌, ◌∷◌, [], Some, None, IfOk, OnOk};
+ghost use Rattle.std.specs.Prelude.{◌≡◌, ◌++◌, ◌∷◌, [], length, Some, None, IfOk, OnOk};
 ghost use Rattle.zt_logs.specs.Members.{field};
 ghost use Rattle.zt_logs.specs.ProofsOnly.Tokens.{data_at};
 ghost use Rattle.zt_rows.specs.declared.calls.Call.TheVariants as call;
@@ -8,7 +8,7 @@ ghost use Rattle.zt_logs.specs.declared.places.Member.TheVariants as member;
 ghost use Rattle.zt_logs.specs.LineCalls.{AreCallsOf, AreCloses, AreWrites, AreMade, AreWritten, AreRequests, AreCallsWith, AreCreates, AreSpaces, IsSpaceAt, has_read, closes_of, gives};
 ghost use Rattle.zt_logs.specs.Answered.{status_in};
 ghost use Rattle.zt_logs.specs.LoggedCalls.{IsCallOf};
-ghost use Rattle.zt_logs.specs.ProofsOnly.ReadLines.{AddsAnswer};
+ghost use Rattle.zt_logs.specs.ProofsOnly.ReadLines.{AddsAnswer, calls_in};
 ghost use Rattle.zt_logs.specs.ProofsOnly.Walks.{IsWalked};
 
 use crate::call_names::CallName;
@@ -36,6 +36,49 @@ pub struct PartCall {
     pub call: Call,
 }
 
+/// The calls that a line is, in the order in which they run. Most lines are one call, which takes no memory.
+#[derive(Drop)]
+pub(crate) struct LineCalls {
+    pub(crate) ahead: Vec<PartCall>,
+    /// The last of them. If there is none, there are none ahead.
+    pub(crate) last: Option<PartCall>,
+}
+
+impl LineCalls {
+    /// A line that is one call.
+    fn one(alloc: Global, call: Call) -> LineCalls
+        ensures { calls_in result.ahead.items result.last ≡ record { gives = None; given = None; call = call } ∷ [] }
+    {
+        LineCalls {
+            ahead: Vec::new(alloc),
+            last: Some(PartCall {
+                gives: None,
+                given: None,
+                call,
+            }),
+        }
+    }
+
+    /// A line that is these calls.
+    fn of(parts: Vec<PartCall>) -> LineCalls
+        ensures { calls_in result.ahead.items result.last ≡ parts.items }
+    {
+        let mut ahead = parts;
+        let last = ahead.pop();
+        LineCalls { ahead, last }
+    }
+
+    /// How many calls the line is.
+    pub(crate) fn count(&self) -> usize
+        ensures { result ≡ length (calls_in self.now.ahead.items self.now.last) }
+    {
+        match self.last {
+            Some(_) => self.ahead.len() + 1,
+            None => 0,
+        }
+    }
+}
+
 /// The form of lines with a call of this name.
 pub(crate) fn form_of(name: CallName) -> LineForm {
     match name {
@@ -59,20 +102,20 @@ pub(crate) fn calls_of(
     line: &LineMembers<'_, '_>,
     args: &Members<'_, '_>,
     options: u64,
-) -> Result<Vec<PartCall>, Cause>
+) -> Result<LineCalls, Cause>
     requires walked { IsWalked line.now }
     requires args { data_at args.now.value ≡ field member.Args (data_at line.now.whole.value) }
-    ensures { IfOk result (λ parts. AreCallsOf name (data_at line.now.whole.value) options parts.items) }
+    ensures { IfOk result (λ parts. AreCallsOf name (data_at line.now.whole.value) options (calls_in parts.ahead.items parts.last)) }
 {
-    match name {
-        CallName::Made(kind) => made(alloc, kind, line),
-        CallName::HandleCloseMany => close_many(alloc, args),
-        CallName::ChannelWriteEtc => write_etc(alloc, args),
-        CallName::ChannelCall => channel_call(alloc, line, args),
-        CallName::ChannelCallEtc => channel_call_etc(alloc, line, args),
-        CallName::ProcessCreate => process_create(alloc, line, args),
-        _ => one_call(alloc, call_of(alloc, name, args, options)?),
-    }
+    Ok(match name {
+        CallName::Made(kind) => LineCalls::of(made(alloc, kind, line)?),
+        CallName::HandleCloseMany => LineCalls::of(close_many(alloc, args)?),
+        CallName::ChannelWriteEtc => LineCalls::of(write_etc(alloc, args)?),
+        CallName::ChannelCall => LineCalls::of(channel_call(alloc, line, args)?),
+        CallName::ChannelCallEtc => LineCalls::of(channel_call_etc(alloc, line, args)?),
+        CallName::ProcessCreate => LineCalls::of(process_create(alloc, line, args)?),
+        _ => LineCalls::one(alloc, call_of(alloc, name, args, options)?),
+    })
 }
 
 /// The list of a line that is one call.

@@ -3,11 +3,11 @@
 ghost use Rattle.std.specs.Prelude.{◌≡◌, ◌++◌, ◌∷◌, [], OnOk, IfOk, length};
 ghost use Rattle.std.specs.Option.{option_to_list};
 ghost use Rattle.zt_logs.specs.Logged.{IsPart, part_status};
-ghost use Rattle.zt_logs.specs.ProofsOnly.ReadLines.{AddsAhead, AddsParts};
+ghost use Rattle.zt_logs.specs.ProofsOnly.ReadLines.{AddsAhead, AddsParts, calls_in};
 
 use crate::faults::Cause;
 use crate::koids::HandleKoid;
-use crate::line_calls::PartCall;
+use crate::line_calls::{LineCalls, PartCall};
 use crate::line_parts::{LineForm, LinePart};
 use crate::logged::{LoggedCall, RecordedReply};
 use crate::members::push_handle;
@@ -69,19 +69,20 @@ pub(crate) fn push_parts(
     alloc: Global,
     calls: &mut Vec<LoggedCall>,
     head: LineHead,
-    mut parts: Vec<PartCall>,
+    parts: LineCalls,
     recorded: RecordedReply,
     koids: Vec<HandleKoid>,
 ) -> Result<(), Cause>
-    requires { head.count ≡ length parts.items }
-    ensures { OnOk result (AddsParts head.line parts.items recorded calls.old.items calls.new.items) }
+    requires { head.count ≡ length (calls_in parts.ahead.items parts.last) }
+    ensures { OnOk result (AddsParts head.line (calls_in parts.ahead.items parts.last) recorded calls.old.items calls.new.items) }
 {
-    let Some(last) = parts.pop() else {
+    let LineCalls { ahead, last } = parts;
+    let Some(last) = last else {
         return Ok(());
     };
     let status = part_status(recorded.status);
-    push_ahead(alloc, calls, head, parts.as_slice(), status)?;
-    push_logged(calls, head.call(parts.len(), last, recorded, koids))
+    push_ahead(alloc, calls, head, ahead.as_slice(), status)?;
+    push_logged(calls, head.call(ahead.len(), last, recorded, koids))
 }
 
 /// Appends the calls ahead of the last.

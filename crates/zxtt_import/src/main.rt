@@ -63,16 +63,15 @@ fn make_trace(rt: &HostRuntime, asked: &Asked<'_>) -> Result<(), Fault> {
     if asked.is_strict && (imported.differs() || lacks) {
         return Err(Fault::Differs);
     }
-    let trace = trace_text(rt.alloc(), &log, &imported)?;
+    let trace = trace_text(text, &log, &imported)?;
     write(rt, asked.to, trace.as_slice())?;
     tell_counts(rt, &log, &imported, asked.is_json)?;
-    leave(text, log, imported, trace);
+    leave(log, imported, trace);
     Ok(())
 }
 
 /// Leaves the memory of an import to the system: the program ends, and freeing each call of a large log takes time.
-fn leave(text: Vec<u8>, log: CallLog, imported: Imported, trace: Vec<u8>) {
-    forget(text);
+fn leave(log: CallLog, imported: Imported, trace: Vec<u8>) {
     forget(log);
     forget(imported);
     forget(trace);

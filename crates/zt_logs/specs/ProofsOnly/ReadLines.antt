@@ -50,6 +50,11 @@ abbrev pub AddsLogged : Option Entry → List LoggedCall → List LoggedCall →
 AddsLogged None old new = new ≡ old
 AddsLogged (Some entry) old new = (line : List LoggedCall) × (new ≡ old ++ line) × IsLogged entry line
 
+-- the calls of a line, those ahead of its last and the last; none, where it has no last
+abbrev pub calls_in : List PartCall → Option PartCall → List PartCall
+calls_in ahead None = []
+calls_in ahead (Some last) = ahead ++ last ∷ []
+
 -- the calls before, and those of a line that are ahead of its last
 abbrev pub AddsAhead : ℕ → ℕ → Option Status → List PartCall → List LoggedCall → List LoggedCall → Type 0
 AddsAhead line count answered parts old new = (ahead : List LoggedCall) × (new ≡ old ++ ahead) × AreAhead line count answered 0 parts ahead

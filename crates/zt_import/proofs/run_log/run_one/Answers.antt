@@ -12,4 +12,4 @@ returns c = λ done so.
     slice_get_read c.args.calls.now (length c.args.calls.now) c.args.index c.index-calls-index.result refl c.requires c.index-calls-index.is in
     one-run c.args.calls.now done c.args.index c.index-calls-index.result c.args.taken.now c.write_outside.new.taken c.run_call.new.taken c.args.numbers.now.processes
     c.learn.new.numbers.processes c.in_ok-moment.moment found so c.in_ok-write_outside.ensures c.in_ok-moment.ensures.one c.in_ok-moment.ensures.made
-    (option_copied c.reply.result) c.reply.ensures c.in_ok-learn.ensures
+    (option_copied c.reply-reply.result) c.reply-reply.ensures c.in_ok-learn.ensures
