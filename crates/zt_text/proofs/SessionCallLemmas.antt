@@ -81,6 +81,26 @@ unfolding next_in calls_in
 next_none number [] left is = refl
 next_none number (line ∷ lines) left is = none_by number lines (call_in line) left (next_none (number + 1) lines left) is
 
+no_line_by : (number : ℕ) (lines : List (List ℕ)) (line : Result (Option (ℕ × Call)) Refusal) (left : LinesLeft)
+    → (next_in (number + 1) lines ≡ Ok (None, left) → left.lines ≡ []) → next_by number lines line ≡ Ok (None, left) → left.lines ≡ []
+no_line_by number lines (Ok None) left others is = others is
+no_line_by number lines (Ok (Some first)) left others is =
+    let some : Some first ≡ None = found_same (Some first, record { number = number + 1; lines = lines }) (None, left) is in absurd (cc)
+no_line_by number lines (Err fault) left others is = absurd (cc)
+
+abbrev lines_behind : Result (Option (ℕ × Call) × LinesLeft) (ℕ × Refusal) → List (List ℕ)
+lines_behind (Ok found) = found.1.lines
+lines_behind (Err fault) = []
+
+no_line_behind : (number : ℕ) (lines : List (List ℕ)) (left : LinesLeft) → next_in number lines ≡ Ok (None, left) → left.lines ≡ []
+unfolding next_in
+no_line_behind number [] left is = sym (ap lines_behind is)
+no_line_behind number (line ∷ lines) left is = no_line_by number lines (call_in line) left (no_line_behind (number + 1) lines left) is
+
+-- where there is no next call, no line is left behind it
+pub no_line_left : (left end : LinesLeft) → next_call left ≡ Ok (None, end) → end.lines ≡ []
+no_line_left left end is = no_line_behind left.number left.lines end is
+
 fault_by : (number : ℕ) (lines : List (List ℕ)) (line : Result (Option (ℕ × Call)) Refusal) (fault : ℕ × Refusal)
     → (next_in (number + 1) lines ≡ Err fault → calls_in (number + 1) lines ≡ Err fault) → next_by number lines line ≡ Err fault
     → calls_by number lines line ≡ Err fault

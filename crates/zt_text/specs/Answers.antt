@@ -143,7 +143,11 @@ abbrev pub shown_column : Refusal → List ℕ
 shown_column (refusal.BadLine column) = 32 ∷ decimal column
 shown_column _ = []
 
+-- the words of a refusal, with a space between
+abbrev pub refusal_words : Refusal → List ℕ
+refusal_words refused =
+    words (codes "refused" ∷ decimal (refusal_number refused) ∷ refusal_name refused ∷ []) ++ shown_column refused
+
 -- the line of a refusal
 unfoldable pub shown_refusal : Refusal → List ℕ
-shown_refusal refused =
-    as_line (words (codes "refused" ∷ decimal (refusal_number refused) ∷ refusal_name refused ∷ []) ++ shown_column refused)
+shown_refusal refused = as_line (refusal_words refused)

@@ -49,6 +49,11 @@ pub fn print_refusal(alloc: Global, refusal: Refusal) -> Result<Vec<u8>, AllocEr
 pub struct RefusalLine(pub Refusal);
 
 impl Display for RefusalLine {
+    ghost use Rattle.std.specs.Prelude.{Some};
+    ghost use Rattle.zt_text.specs.Answers.{refusal_words};
+
+    ghost output = { λ shown. Some (refusal_words shown.0) };
+
     fn fmt<W: Write>(&self, f: &mut Formatter<W>) -> fmt::Result {
         let refusal = self.0;
         write!(f, "refused {} {}", refusal.number(), refusal.name())?;

@@ -1,6 +1,6 @@
 //! Reads the calls of a session text of version 1 one by one.
 
-ghost use Rattle.std.specs.Prelude.{◌≡◌, Ok, true, is_ok, length, IfOk, IfErr, OnOk, OnErr};
+ghost use Rattle.std.specs.Prelude.{◌≡◌, [], Ok, true, is_ok, length, IfOk, IfErr, OnOk, OnErr};
 ghost use Rattle.zt_text.specs.Lines.{lines_of};
 ghost use Rattle.zt_text.specs.Session.{has_call, IsFaultOf};
 ghost use Rattle.zt_text.specs.SessionCalls.{calls_counted, calls_left, next_call, row_lines, IsNotNext};
@@ -82,6 +82,7 @@ impl<'a> SessionCalls<'a> {
     pub fn read_rest(&mut self, alloc: Global) -> Result<(), (u64, Refusal)>
         ensures read { OnOk result (is_ok (calls_left self.old) ≡ true) }
         ensures refused { IfErr result (IsFaultOf (has_call self.old.lines) (calls_left self.old)) }
+        ensures end { OnOk result (self.new.lines ≡ []) }
     {
         'calls: while let Some(_made) = self.next(alloc)? {}
         Ok(())

@@ -1,9 +1,10 @@
 //! The notes of all objects in one list, in which each note is linked to the earlier one of its object.
 
-ghost use Rattle.std.specs.Prelude.{◌≡◌, ◌<◌, ◌++◌, ◌∷◌, [], IfOk, OnOk, length, take};
+ghost use Rattle.std.specs.Prelude.{◌≡◌, ◌<◌, ◌≤◌, ◌++◌, ◌∷◌, [], IfOk, OnOk, OnErr, length, take};
 ghost use Rattle.std.specs.Option.{option_copied};
 ghost use Rattle.zt_rows.specs.State.{row};
 ghost use Rattle.zt_history.specs.ProofsOnly.Branches.{without_last};
+ghost use Rattle.zt_history.specs.ProofsOnly.FourBytes.{four_byte_numbers};
 ghost use Rattle.zt_history.specs.ProofsOnly.ObjectNotes.{AreChained, AreRising, IsCut, IsLonger, IsSameEnd, TellsLast, end_at, ends_at, gone_name, gone_names, has_shown, loss_of, note_as, note_before, note_if, note_object, note_of, note_with, notes_in, notes_of, tells};
 
 use crate::moments::Moments;
@@ -329,9 +330,10 @@ fn end_of(last: &Vec<u32>, koid: Koid) -> usize
     }
 }
 
-/// The number in four bytes. A number that does not fit counts as an allocation failure.
+/// The number in four bytes. Only a number that does not fit counts as an allocation failure.
 fn in_four_bytes(number: u64) -> Result<u32, AllocError>
-    ensures { IfOk result (λ same. same ≡ number) }
+    ensures same { IfOk result (λ same. same ≡ number) }
+    ensures beyond { OnErr result (four_byte_numbers ≤ number) }
 {
     match u32::try_from(number) {
         Ok(same) => Ok(same),

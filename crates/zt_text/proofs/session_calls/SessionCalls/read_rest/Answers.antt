@@ -2,7 +2,7 @@
 use Rattle.std.proofs.lemmas.Result.{err_from_is_err_and}
 use Rattle.zt_text.specs.Session.{has_call}
 use Rattle.zt_text.specs.SessionCalls.{calls_left}
-use Rattle.zt_text.proofs.SessionCallLemmas.{rest_more, rest_shorter, has_next, rest_read, rest_not_read}
+use Rattle.zt_text.proofs.SessionCallLemmas.{rest_more, rest_shorter, has_next, no_line_left, rest_read, rest_not_read}
 use Rattle.zt_text.proofs.session_calls.SessionCalls.read_rest.Goals as goal
 
 pub returns-in_err-_made-clause-refused : goal.returns-in_err-_made-clause-refused
@@ -37,3 +37,6 @@ calls-preserved c =
 
 pub returns-clause-read : goal.returns-clause-read
 returns-clause-read c = rest_read (calls_left c.args.self.now) c.calls.self c.next.new.self c.calls.invariant.so_far (rw c.in_default.is at c.in_ok-_made.ensures.read)
+
+pub returns-clause-end : goal.returns-clause-end
+returns-clause-end c = no_line_left c.calls.self c.next.new.self (rw c.in_default.is at c.in_ok-_made.ensures.read)

@@ -9,7 +9,7 @@ invariant_of-self-2 c =
     (rw c.reserve.ensures.items at c.push_reserved.ensures.items) refl refl (
     omega (
       arith,
-      c.in_ok-end.ensures,
+      c.in_ok-end.ensures.same,
       c.len.ensures,
       c.push_reserved.ensures.len,
       ap length c.reserve.ensures.items,
