@@ -1,9 +1,10 @@
 -- The calls of a line behind those of the lines before it.
-use Rattle.std.proofs.Common.{◌≡◌, ℕ, suc, List, [], ◌∷◌, ◌++◌, length, Option, Some, None, refl, sym, ◌∙◌, ap, subst, arith}
+use Rattle.std.proofs.Common.{◌≡◌, ℕ, suc, true, List, [], ◌∷◌, ◌++◌, length, Option, Some, None, refl, sym, ◌∙◌, ap, subst, arith}
 use Rattle.std.proofs.lemmas.List.{append_assoc, append-nil}
 use Rattle.std.specs.Option.{option_map}
 use Rattle.json.specs.Json.{Json}
 use Rattle.zt_logs.specs.declared.call_names.CallName.{CallName}
+use Rattle.zt_logs.specs.declared.call_names.CallName.TheVariants as called
 use Rattle.zt_logs.specs.declared.line_calls.PartCall.{PartCall}
 use Rattle.zt_logs.specs.declared.logged.LoggedCall.{LoggedCall}
 use Rattle.zt_logs.specs.declared.logged.RecordedReply.{RecordedReply}
@@ -11,7 +12,9 @@ use Rattle.zt_logs.specs.declared.places.Member.TheVariants as member
 use Rattle.zt_logs.specs.Members.{field}
 use Rattle.zt_logs.specs.Numbers.{IsMaskOrNone}
 use Rattle.zt_logs.specs.Entries.{called, entry_for}
-use Rattle.zt_logs.specs.LineCalls.{AreCallsOf}
+use Rattle.zt_logs.specs.LineCalls.{AreCallsOf, alone, is_one_call}
+use Rattle.zt_logs.specs.LoggedCalls.{IsCallOf}
+use Rattle.zt_rows.specs.declared.calls.Call.{Call}
 use Rattle.zt_logs.specs.Answered.{IsAnswered}
 use Rattle.zt_logs.specs.Logged.{IsPart, part_status, AreAhead, AreParts, AreNamed}
 use Rattle.zt_logs.specs.ProofsOnly.ReadLines.{AddsAhead, AddsParts, AddsCalls, AddsLogged}
@@ -42,6 +45,22 @@ parts_added line count others (p ∷ ps) part recorded old mid new logged split 
         answered = answered;
       },
     )
+
+-- a line that is one call
+pub one_added : (line count : ℕ) (part : PartCall) (recorded : RecordedReply) (old new : List LoggedCall) (logged : LoggedCall) → count ≡ 1 → new ≡ old ++ logged ∷ []
+    → IsPart line count 0 part logged → logged.recorded ≡ recorded → AddsParts line (part ∷ []) recorded old new
+one_added line count part recorded old new logged one pushed is answered =
+    parts_added line count [] (part ∷ []) part recorded old old new logged refl one ([], sym (append-nil old), tt) pushed is answered
+
+pub one_call : (name : CallName) (line args : Option Json) (options : ℕ) (it : Call) → is_one_call name ≡ true → args ≡ field member.Args line → IsCallOf name args options it
+    → AreCallsOf name line options (alone it ∷ [])
+one_call called.HandleCloseMany line args options it one is of = cc one
+one_call called.ChannelWriteEtc line args options it one is of = cc one
+one_call called.ChannelCall line args options it one is of = cc one
+one_call called.ChannelCallEtc line args options it one is of = cc one
+one_call called.ProcessCreate line args options it one is of = cc one
+one_call (called.Made kind) line args options it one is of = cc one
+one_call name line args options it one is of = (it, subst (λ a. IsCallOf name a options it) is of, refl)
 
 pub none_added : (line : ℕ) (parts : List PartCall) (recorded : RecordedReply) (old : List LoggedCall) → parts ≡ [] → AddsParts line parts recorded old old
 none_added line [] recorded old is = refl

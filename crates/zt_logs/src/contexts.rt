@@ -8,7 +8,8 @@ ghost use Rattle.zt_logs.specs.Contexts.{line_text, part, end_of};
 use crate::faults::Cause;
 use crate::fields::put_field;
 use crate::json_values::JsonValue;
-use crate::line_members::OtherMembers;
+use crate::line_members::LineMembers;
+use crate::rare_members::RareMember;
 use crate::shown_texts::put_shown;
 use json::{Error, Scratch, Value};
 use std::alloc::{AllocError, Global};
@@ -68,17 +69,31 @@ impl LineContexts {
     }
 
     /// Adds the time and the thread of a line, if it has them. Lines come in their order.
+    #[inline(always)]
     pub(crate) fn add_times(
         &mut self,
-        line: u64,
-        others: &OtherMembers<'_, '_>,
+        number: u64,
+        line: &LineMembers<'_, '_>,
     ) -> Result<(), AllocError> {
-        let time = time_in(others);
-        let thread = word_in(&others.thread).or(word_in(&others.short_thread));
+        let time = time_in(line);
+        let thread = rare_word(line, RareMember::Thread).or_else(|| rare_word(
+            line,
+            RareMember::ShortThread,
+        ));
         if time.is_none() && thread.is_none() {
             return Ok(());
         }
-        self.begin(line)?;
+        self.put_times(number, time, thread)
+    }
+
+    /// Adds this time and this thread of a line.
+    fn put_times(
+        &mut self,
+        number: u64,
+        time: Option<&str>,
+        thread: Option<&str>,
+    ) -> Result<(), AllocError> {
+        self.begin(number)?;
         put_word(&mut self.text, "; time ", time)?;
         put_word(&mut self.text, "; thread ", thread)?;
         self.end();
@@ -171,15 +186,24 @@ fn field_of(alloc: Global, name: &str) -> Result<Field, AllocError> {
 }
 
 /// The time of a line, as the log writes it.
-fn time_in<'a>(others: &OtherMembers<'_, 'a>) -> Option<&'a str> {
-    word_in(&others.time)
-        .or(word_in(&others.timestamp))
-        .or(word_in(&others.short_time))
+#[inline(always)]
+fn time_in<'a>(line: &LineMembers<'_, 'a>) -> Option<&'a str> {
+    let told = match line.time() {
+        Some(time) => word_in(time),
+        None => None,
+    };
+    told.or_else(|| rare_word(line, RareMember::Timestamp))
+        .or_else(|| rare_word(line, RareMember::ShortTime))
+}
+
+/// The text of a rare member, in the forms of `word_in`.
+#[inline(always)]
+fn rare_word<'a>(line: &LineMembers<'_, 'a>, member: RareMember) -> Option<&'a str> {
+    word_in(&line.rare(member)?)
 }
 
 /// The text of a member that is a number or a text. None if it is empty.
-fn word_in<'a>(value: &Option<JsonValue<'_, 'a>>) -> Option<&'a str> {
-    let value = value.as_ref()?;
+fn word_in<'a>(value: &JsonValue<'_, 'a>) -> Option<&'a str> {
     let word = value.as_number().or(value.as_str())?;
     if word.is_empty() { None } else { Some(word) }
 }

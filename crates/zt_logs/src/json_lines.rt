@@ -1,10 +1,14 @@
 //! Reads the lines of a log, each a JSON object that is a call.
 
-ghost use Rattle.std.specs.Prelude.{◌≡◌, ◌<◌, ◌==◌, ◌++◌, [], ◌∷◌, length, None, IfOk, OnOk};
+ghost use Rattle.std.specs.Prelude.{◌≡◌, ◌<◌, ◌==◌, ◌++◌, [], ◌∷◌, length, true, None, IfOk, OnOk};
 ghost use Rattle.std.specs.List.{list_all, position};
 ghost use Rattle.zt_logs.specs.Lines.{lines_of, without_mark};
 ghost use Rattle.zt_logs.specs.Entries.{is_space, json_of, entry_for, entry_of, entries_of};
 ghost use Rattle.zt_logs.specs.Logged.{AreLogged};
+ghost use Rattle.zt_logs.specs.LineCalls.{is_one_call};
+ghost use Rattle.zt_logs.specs.Members.{field};
+ghost use Rattle.zt_logs.specs.Numbers.{IsMaskOrNone};
+ghost use Rattle.zt_logs.specs.declared.places.Member.TheVariants as member;
 ghost use Rattle.zt_logs.specs.ProofsOnly.Tokens.{value_at, data_at};
 ghost use Rattle.zt_logs.specs.ProofsOnly.Walks.{IsWalked};
 ghost use Rattle.zt_logs.specs.ProofsOnly.ReadLines.{IsParsed, AddsLogged, AddsCalls, IsReadUpTo};
@@ -17,19 +21,25 @@ use crate::koids::koids_of;
 use crate::line_calls::{calls_of, form_of};
 use crate::line_members::LineMembers;
 use crate::logged::CallLog;
-use crate::logged_parts::{LineHead, push_parts};
+use crate::logged_calls::call_of;
+use crate::logged_parts::{LineHead, push_one, push_parts};
+use crate::members::Members;
 use crate::notes::{LogNote, LogNotes};
 use crate::options::options_of;
 use crate::process_names::{NamedPlace, Naming, ProcessNames, ProcessWord, told_name};
 use crate::recorded::recorded_of;
 use crate::skipped::{SkippedCall, skipped_of};
 use crate::times::times_of;
+use bumpalo::Bump;
 use json::{Error, Scratch, Tape};
 use memchr::memchr;
 use std::alloc::{AllocError, Global};
 
 /// The most bytes of a line, without its line feed.
 pub const LINE_BYTES: usize = 1_048_576;
+
+/// How many bytes the room for tapes has at first. Few lines have a tape of more.
+const ROOM_BYTES: usize = 16_384;
 
 /// Reads the calls of a log, with a JSON object on each line. Empty lines, and calls that change nothing, are left out.
 /// Calls that the semantics does not know are kept in `skipped`. A last line that is cut off is left out, with a note. The
@@ -54,11 +64,15 @@ pub fn read_log(alloc: Global, text: &[u8], fields: &[&str]) -> Result<CallLog, 
     };
     let mut naming = Naming::new(alloc);
     let mut scratch = Scratch::new(alloc);
+    let Ok(mut room) = Bump::try_with_capacity(alloc, ROOM_BYTES) else {
+        return Err(Cause::OutOfMemory.at(0));
+    };
     take_lines(
         alloc,
         &mut log,
         &mut naming,
         &mut scratch,
+        &mut room,
         without_mark(text),
     )?;
     match naming.finish(alloc, &mut log) {
@@ -84,6 +98,7 @@ fn take_lines(
     log: &mut CallLog,
     naming: &mut Naming,
     scratch: &mut Scratch,
+    room: &mut Bump,
     text: &[u8],
 ) -> Result<(), LogFault>
     requires lines { log.old.lines ≡ 0 }
@@ -95,13 +110,23 @@ fn take_lines(
         let (line, others) = next_line(left);
         log.lines = log.lines.saturating_add(1);
         let number = log.lines;
-        match take_line(alloc, log, naming, scratch, line) {
+        match take_line(alloc, log, naming, scratch, room, line) {
             Ok(()) => {}
             Err(cause) => return Err(cause.at(number)),
         }
+        clear(room);
         left = others;
     }
     Ok(())
+}
+
+/// Empties the room for tapes if it has become too small. A tape gives its memory back, but not once a long line has made
+/// the room grow by a second chunk.
+#[inline(always)]
+fn clear(room: &mut Bump) {
+    if room.chunk_capacity() < ROOM_BYTES / 2 {
+        let _ = room.reset();
+    }
 }
 
 /// A line of a log.
@@ -150,6 +175,7 @@ fn take_line(
     log: &mut CallLog,
     naming: &mut Naming,
     scratch: &mut Scratch,
+    room: &Bump,
     line: Line<'_>,
 ) -> Result<(), Cause>
     ensures lines { log.new.lines ≡ log.old.lines }
@@ -161,7 +187,7 @@ fn take_line(
     if is_blank(line.bytes) {
         return Ok(());
     }
-    match json_in(alloc, line.bytes, scratch)? {
+    match json_in(alloc, line.bytes, scratch, room)? {
         Parsed::Whole(tape) => {
             take_value(alloc, log, naming, JsonValue::of_tape(&tape))?;
             log.contexts.add_fields(alloc, log.lines, line.bytes)
@@ -227,7 +253,7 @@ fn take_value(
 
 /// Keeps the name that a line tells of its process, if it tells one.
 fn tell_name(naming: &mut Naming, line: &LineMembers<'_, '_>) -> Result<(), AllocError> {
-    let Some(name) = told_name(&line.others) else {
+    let Some(name) = told_name(line) else {
         return Ok(());
     };
     match line.process() {
@@ -238,26 +264,37 @@ fn tell_name(naming: &mut Naming, line: &LineMembers<'_, '_>) -> Result<(), Allo
 
 /// How a line reads as JSON.
 #[derive(Drop)]
-enum Parsed<'a> {
-    Whole(Tape<'a>),
+enum Parsed<'a, 'room> {
+    Whole(Tape<'a, &'room Bump>),
     /// It ends in the middle of a JSON text.
     CutOff,
     Broken,
 }
 
-fn json_in<'a>(alloc: Global, line: &'a [u8], scratch: &'a mut Scratch) -> Result<Parsed<'a>, Cause>
+fn json_in<'a, 'room>(
+    alloc: Global,
+    line: &'a [u8],
+    scratch: &'a mut Scratch,
+    room: &'room Bump,
+) -> Result<Parsed<'a, 'room>, Cause>
     ensures { IfOk result (IsParsed line.now) }
 {
     match str::from_utf8(line) {
-        Ok(text) => json_of(alloc, text, scratch),
+        Ok(text) => json_of(alloc, text, scratch, room),
         Err(_) => refused(alloc, line),
     }
 }
 
-fn json_of<'a>(alloc: Global, text: &'a str, scratch: &'a mut Scratch) -> Result<Parsed<'a>, Cause>
+/// The tape of a line. It takes its memory from `room` and gives it back, so that the next line has the same memory.
+fn json_of<'a, 'room>(
+    alloc: Global,
+    text: &'a str,
+    scratch: &'a mut Scratch,
+    room: &'room Bump,
+) -> Result<Parsed<'a, 'room>, Cause>
     ensures { IfOk result (IsParsed text.now) }
 {
-    match Tape::parse(text, scratch, Vec::new(alloc)) {
+    match Tape::parse(text, scratch, Vec::new(room)) {
         Ok(tape) => Ok(Parsed::Whole(tape)),
         Err(Error::Invalid) => refused(alloc, text.as_bytes()),
         // `TooLong` comes only above 4 GiB, and `DuplicateKey` only from a strict read.
@@ -266,7 +303,7 @@ fn json_of<'a>(alloc: Global, text: &'a str, scratch: &'a mut Scratch) -> Result
 }
 
 /// Tells whether a line that is not JSON is cut off or broken. `json` does not tell the two apart, and `serde_json` does.
-fn refused<'a>(alloc: Global, line: &[u8]) -> Result<Parsed<'a>, Cause>
+fn refused<'a, 'room>(alloc: Global, line: &[u8]) -> Result<Parsed<'a, 'room>, Cause>
     requires { json_of line.now ≡ None }
     ensures { IfOk result (IsParsed line.now) }
 {
@@ -285,7 +322,6 @@ fn refused<'a>(alloc: Global, line: &[u8]) -> Result<Parsed<'a>, Cause>
 }
 
 /// Appends the calls of a line with this name.
-#[tactic(auto, using(crate::proofs::LineCallLaws::calls_added))]
 fn take_call(
     alloc: Global,
     log: &mut CallLog,
@@ -300,22 +336,97 @@ fn take_call(
     let caller = line.process()?;
     let args = line.args()?;
     let options = options_of(alloc, &mut log.notes, log.lines, name, args)?;
+    match name {
+        CallName::HandleCloseMany
+        | CallName::ChannelWriteEtc
+        | CallName::ChannelCall
+        | CallName::ChannelCallEtc
+        | CallName::ProcessCreate
+        | CallName::Made(_) => take_several(alloc, log, naming, name, line, args, caller, options),
+        _ => take_one(alloc, log, naming, name, line, args, caller, options),
+    }
+}
+
+/// Appends the calls of a line that may be several.
+fn take_several(
+    alloc: Global,
+    log: &mut CallLog,
+    naming: &mut Naming,
+    name: CallName,
+    line: &LineMembers<'_, '_>,
+    args: &Members<'_, '_>,
+    caller: ProcessWord<'_>,
+    options: u64,
+) -> Result<(), Cause>
+    requires walked { IsWalked line.now }
+    requires args { data_at args.now.value ≡ field member.Args (data_at line.now.whole.value) }
+    requires options { IsMaskOrNone (field member.Options (data_at args.now.value)) options }
+    ensures lines { log.new.lines ≡ log.old.lines }
+    ensures calls { OnOk result (AddsCalls name log.old.lines (data_at line.now.whole.value) log.old.calls.items log.new.calls.items) }
+{
     let parts = calls_of(alloc, name, line, args, options)?;
     let count = parts.count();
     let place = log.calls.len();
     let process = name_parts(naming, caller, place, count)?;
     let last = place.saturating_add(count.saturating_sub(1));
     let recorded = recorded_of(alloc, name, line, naming, last)?;
-    let head = LineHead {
+    let head = head_in(log, name, line, process, count);
+    let koids = koids_of(alloc, line)?;
+    log.contexts.add_times(log.lines, line)?;
+    push_parts(alloc, &mut log.calls, head, parts, recorded, koids)?;
+    Ok(())
+}
+
+/// Appends the call of a line that is always one. Most lines are, and the list of calls that `take_several` makes would be
+/// copied for each.
+#[inline(always)]
+fn take_one(
+    alloc: Global,
+    log: &mut CallLog,
+    naming: &mut Naming,
+    name: CallName,
+    line: &LineMembers<'_, '_>,
+    args: &Members<'_, '_>,
+    caller: ProcessWord<'_>,
+    options: u64,
+) -> Result<(), Cause>
+    requires one { is_one_call name ≡ true }
+    requires walked { IsWalked line.now }
+    requires args { data_at args.now.value ≡ field member.Args (data_at line.now.whole.value) }
+    requires options { IsMaskOrNone (field member.Options (data_at args.now.value)) options }
+    ensures lines { log.new.lines ≡ log.old.lines }
+    ensures calls { OnOk result (AddsCalls name log.old.lines (data_at line.now.whole.value) log.old.calls.items log.new.calls.items) }
+{
+    let call = call_of(alloc, name, args, options)?;
+    let place = log.calls.len();
+    let process = naming.number(NamedPlace::Caller(place), caller)?;
+    let recorded = recorded_of(alloc, name, line, naming, place)?;
+    let head = head_in(log, name, line, process, 1);
+    let koids = koids_of(alloc, line)?;
+    log.contexts.add_times(log.lines, line)?;
+    push_one(&mut log.calls, head, call, recorded, koids)?;
+    Ok(())
+}
+
+/// What the `count` calls of the last line share.
+#[inline(always)]
+fn head_in(
+    log: &CallLog,
+    name: CallName,
+    line: &LineMembers<'_, '_>,
+    process: u64,
+    count: usize,
+) -> LineHead
+    ensures line { result.line ≡ log.now.lines }
+    ensures count { result.count ≡ count }
+{
+    LineHead {
         line: log.lines,
         process,
         form: form_of(name),
         count,
-        times: times_of(&line.others),
-    };
-    let koids = koids_of(alloc, &line.others)?;
-    log.contexts.add_times(log.lines, &line.others)?;
-    push_parts(alloc, &mut log.calls, head, parts, recorded, koids)
+        times: times_of(line),
+    }
 }
 
 /// The number of the caller of a line that has `count` calls, the first of them at `place` in the log's calls.

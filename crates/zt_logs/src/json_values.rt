@@ -6,6 +6,7 @@ ghost use Rattle.json.specs.Find.{get, as_str, as_number, as_bool, as_array, as_
 ghost use Rattle.zt_logs.specs.ProofsOnly.Tokens.{value_at, data_at, items_at, members_at};
 
 use json::{Element, Items, Members, Tape};
+use std::alloc::Allocator;
 use std::marker::Model;
 
 /// A value of a line. A clause sees the tokens from its place on.
@@ -31,7 +32,7 @@ impl<'tape, 'text> Model for JsonValue<'tape, 'text> {
 
 impl<'tape, 'text> JsonValue<'tape, 'text> {
     /// The value of a whole tape.
-    pub(crate) fn of_tape(tape: &'tape Tape<'text>) -> JsonValue<'tape, 'text>
+    pub(crate) fn of_tape<A: Allocator>(tape: &'tape Tape<'text, A>) -> JsonValue<'tape, 'text>
         ensures { result ≡ tape.now }
     {
         JsonValue {
@@ -40,6 +41,7 @@ impl<'tape, 'text> JsonValue<'tape, 'text> {
     }
 
     /// The value under this name, if this is an object that has one.
+    #[inline(always)]
     pub(crate) fn get(&self, name: &str) -> Option<JsonValue<'tape, 'text>>
         ensures { data_at result ≡ get name.now (value_at self.now) }
     {
@@ -49,6 +51,7 @@ impl<'tape, 'text> JsonValue<'tape, 'text> {
         }
     }
 
+    #[inline(always)]
     pub(crate) fn is_null(&self) -> bool
         ensures { result ≡ is_null (value_at self.now) }
     {
@@ -56,6 +59,7 @@ impl<'tape, 'text> JsonValue<'tape, 'text> {
     }
 
     /// The text that this is, if it is one.
+    #[inline(always)]
     pub(crate) fn as_str(&self) -> Option<&'text str>
         ensures { option_map (λ text. text.now) result ≡ as_str (value_at self.now) }
     {
@@ -63,6 +67,7 @@ impl<'tape, 'text> JsonValue<'tape, 'text> {
     }
 
     /// The digits of the number that this is, if it is one.
+    #[inline(always)]
     pub(crate) fn as_number(&self) -> Option<&'text str>
         ensures { option_map (λ text. text.now) result ≡ as_number (value_at self.now) }
     {
@@ -84,6 +89,7 @@ impl<'tape, 'text> JsonValue<'tape, 'text> {
     }
 
     /// The members, if this is an object.
+    #[inline(always)]
     pub(crate) fn members(&self) -> Option<JsonMembers<'tape, 'text>>
         ensures { option_map members_at result ≡ as_object (value_at self.now) }
     {
@@ -164,6 +170,7 @@ impl<'tape, 'text> Model for JsonMembers<'tape, 'text> {
 
 impl<'tape, 'text> JsonMembers<'tape, 'text> {
     /// Takes the next member: its name and its value.
+    #[inline(always)]
     pub(crate) fn next(&mut self) -> Option<(&'text str, JsonValue<'tape, 'text>)>
         ensures value { MatchOption result (members_at self.old ≡ no_members)
             (λ next. members_at self.old ≡ member next.0.now (value_at next.1) (members_at self.new)) }

@@ -1,8 +1,9 @@
 //! Reads the koids that a tracer tells of the objects of handles.
 
 use crate::json_values::JsonValue;
-use crate::line_members::OtherMembers;
+use crate::line_members::LineMembers;
 use crate::numbers::{narrow, number_in, number_of};
+use crate::rare_members::RareMember;
 use std::alloc::{AllocError, Global};
 use zt_rows::HandleValue;
 
@@ -15,25 +16,27 @@ pub struct HandleKoid {
 }
 
 /// The koids that a line tells in `koids` and `related_koids`. A member of another form is ignored.
+#[inline(always)]
 pub(crate) fn koids_of(
     alloc: Global,
-    others: &OtherMembers<'_, '_>,
+    line: &LineMembers<'_, '_>,
 ) -> Result<Vec<HandleKoid>, AllocError> {
     let mut koids = Vec::new(alloc);
-    push_koids(&mut koids, others.koids.as_ref(), false)?;
-    push_koids(&mut koids, others.related_koids.as_ref(), true)?;
+    if let Some(object) = line.rare(RareMember::Koids) {
+        push_koids(&mut koids, &object, false)?;
+    }
+    if let Some(object) = line.rare(RareMember::RelatedKoids) {
+        push_koids(&mut koids, &object, true)?;
+    }
     Ok(koids)
 }
 
 /// Appends the koids of an object that has a member for each handle.
 fn push_koids(
     koids: &mut Vec<HandleKoid>,
-    object: Option<&JsonValue<'_, '_>>,
+    object: &JsonValue<'_, '_>,
     is_peer: bool,
 ) -> Result<(), AllocError> {
-    let Some(object) = object else {
-        return Ok(());
-    };
     let Some(mut members) = object.members() else {
         return Ok(());
     };

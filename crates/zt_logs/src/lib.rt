@@ -23,6 +23,7 @@ mod options;
 mod other_kinds;
 mod places;
 mod process_names;
+mod rare_members;
 mod recorded;
 mod shown_texts;
 mod skipped;

@@ -14,6 +14,7 @@ use crate::json_values::{JsonMembers, JsonValue};
 use crate::members::Members;
 use crate::places::{LineObject, Member};
 use crate::process_names::{ProcessWord, process_in};
+use crate::rare_members::RareMember;
 
 /// The members of a line. A member that is left out or `null` is none. If a line has a member twice, the last counts.
 #[derive(Drop)]
@@ -21,36 +22,26 @@ pub(crate) struct LineMembers<'tape, 'text> {
     whole: Members<'tape, 'text>,
     args: Members<'tape, 'text>,
     out: Members<'tape, 'text>,
-    pub(crate) others: OtherMembers<'tape, 'text>,
+    others: OtherMembers<'tape, 'text>,
 }
 
 /// The members of a line, of which `args` and `out` are taken out once all are seen.
 #[derive(Drop)]
-pub(crate) struct OtherMembers<'tape, 'text> {
+struct OtherMembers<'tape, 'text> {
     call: Option<JsonValue<'tape, 'text>>,
     args: Option<JsonValue<'tape, 'text>>,
     status: Option<JsonValue<'tape, 'text>>,
     out: Option<JsonValue<'tape, 'text>>,
-    pub(crate) process: Option<JsonValue<'tape, 'text>>,
-    pub(crate) began: Option<JsonValue<'tape, 'text>>,
-    pub(crate) time: Option<JsonValue<'tape, 'text>>,
-    /// The second name of `time`.
-    pub(crate) timestamp: Option<JsonValue<'tape, 'text>>,
-    /// The member `ts`.
-    pub(crate) short_time: Option<JsonValue<'tape, 'text>>,
-    /// The name of the process.
-    pub(crate) name: Option<JsonValue<'tape, 'text>>,
-    /// The second name of `name`.
-    pub(crate) process_name: Option<JsonValue<'tape, 'text>>,
-    pub(crate) thread: Option<JsonValue<'tape, 'text>>,
-    /// The member `tid`.
-    pub(crate) short_thread: Option<JsonValue<'tape, 'text>>,
-    pub(crate) koids: Option<JsonValue<'tape, 'text>>,
-    pub(crate) related_koids: Option<JsonValue<'tape, 'text>>,
+    process: Option<JsonValue<'tape, 'text>>,
+    time: Option<JsonValue<'tape, 'text>>,
+    /// The bits of the rare members that the line has, `null` ones too. Looking them up when they are wanted keeps this
+    /// struct small: it is made for each line.
+    rare: u16,
 }
 
 impl<'tape, 'text> LineMembers<'tape, 'text> {
     /// The members of a line. The error is `NoObject` if it is not an object.
+    #[inline(always)]
     pub(crate) fn of_line(line: JsonValue<'tape, 'text>) -> Result<LineMembers<'tape, 'text>, Cause>
         ensures walked { IfOk result IsWalked }
         ensures whole { IfOk result (λ members. data_at members.whole.value ≡ Some (value_at line.entry)) }
@@ -71,6 +62,7 @@ impl<'tape, 'text> LineMembers<'tape, 'text> {
     }
 
     /// The name of the call.
+    #[inline(always)]
     pub(crate) fn call(&self) -> Result<&'text str, Cause>
         requires { IsWalked self.now }
         ensures { IfOk result (λ text. option_and_then as_str (field member.Call (data_at self.now.whole.value)) ≡ Some text.now) }
@@ -79,6 +71,7 @@ impl<'tape, 'text> LineMembers<'tape, 'text> {
     }
 
     /// The word of the status.
+    #[inline(always)]
     pub(crate) fn status(&self) -> Result<&'text str, Cause>
         requires { IsWalked self.now }
         ensures { IfOk result (λ text. option_and_then as_str (field member.Status (data_at self.now.whole.value)) ≡ Some text.now) }
@@ -87,6 +80,7 @@ impl<'tape, 'text> LineMembers<'tape, 'text> {
     }
 
     /// The text of a needed member.
+    #[inline(always)]
     fn text(
         &self,
         name: Member,
@@ -135,6 +129,20 @@ impl<'tape, 'text> LineMembers<'tape, 'text> {
         (self.args.value(), self.out.value())
     }
 
+    /// When the call returned, by the member `time`.
+    pub(crate) fn time(&self) -> Option<&JsonValue<'tape, 'text>> {
+        self.others.time.as_ref()
+    }
+
+    /// A member that few lines have. None if it is left out or `null`.
+    #[inline(always)]
+    pub(crate) fn rare(&self, member: RareMember) -> Option<JsonValue<'tape, 'text>> {
+        if self.others.rare & member.bit() == 0 {
+            return None;
+        }
+        self.whole.named(member.name())
+    }
+
     /// The process that makes the call. The error is `Missing` or `Member`.
     pub(crate) fn process(&self) -> Result<ProcessWord<'text>, Cause> {
         if let Some(value) = &self.others.process {
@@ -147,6 +155,7 @@ impl<'tape, 'text> LineMembers<'tape, 'text> {
 }
 
 /// Goes over the members of a line.
+#[inline(always)]
 fn walked<'tape, 'text>(members: JsonMembers<'tape, 'text>) -> OtherMembers<'tape, 'text>
     ensures { IsSeen (members_at members.entry) result }
 {
@@ -172,21 +181,14 @@ impl<'tape, 'text> OtherMembers<'tape, 'text> {
             status: None,
             out: None,
             process: None,
-            began: None,
             time: None,
-            timestamp: None,
-            short_time: None,
-            name: None,
-            process_name: None,
-            thread: None,
-            short_thread: None,
-            koids: None,
-            related_koids: None,
+            rare: 0,
         }
     }
 
     /// Goes over the next member of the line.
     #[tactic(auto, using(crate::proofs::WalkLaws::other_name))]
+    #[inline(always)]
     fn see(&mut self, name: &str, value: JsonValue<'tape, 'text>)
         ensures { SeesNext name.now (value_at value.entry) self.old self.new }
     {
@@ -204,28 +206,23 @@ impl<'tape, 'text> OtherMembers<'tape, 'text> {
         }
     }
 
-    /// Goes over a member that few lines have, or the process. The length of its name tells apart most names.
+    /// Goes over the process, the time, or a member that few lines have.
+    #[inline(always)]
     fn see_other(&mut self, name: &str, value: JsonValue<'tape, 'text>)
         ensures { AreAsBefore self.old self.new }
     {
-        match name.len() {
-            2 if name == Member::TimeStamp.name() => self.short_time = told(value),
-            3 if name == "tid" => self.short_thread = told(value),
-            4 if name == Member::Time.name() => self.time = told(value),
-            4 if name == "name" => self.name = told(value),
-            5 if name == Member::Began.name() => self.began = told(value),
-            5 if name == Member::Koids.name() => self.koids = told(value),
-            6 if name == "thread" => self.thread = told(value),
-            7 if name == Member::Process.name() => self.process = told(value),
-            9 if Some(name) == Member::Time.second_name() => self.timestamp = told(value),
-            12 if name == "process_name" => self.process_name = told(value),
-            13 if name == Member::RelatedKoids.name() => self.related_koids = told(value),
-            _ => {}
+        if name == "process" {
+            self.process = told(value);
+        } else if name == "time" {
+            self.time = told(value);
+        } else if let Some(member) = RareMember::of(name) {
+            self.rare |= member.bit();
         }
     }
 }
 
 /// The value, unless it is `null`.
+#[inline(always)]
 fn told<'tape, 'text>(value: JsonValue<'tape, 'text>) -> Option<JsonValue<'tape, 'text>>
     ensures { data_at result ≡ not_null (value_at value.entry) }
 {

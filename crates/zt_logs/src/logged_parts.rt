@@ -2,6 +2,7 @@
 
 ghost use Rattle.std.specs.Prelude.{◌≡◌, ◌++◌, ◌∷◌, [], OnOk, IfOk, length};
 ghost use Rattle.std.specs.Option.{option_to_list};
+ghost use Rattle.zt_logs.specs.LineCalls.{alone};
 ghost use Rattle.zt_logs.specs.Logged.{IsPart, part_status};
 ghost use Rattle.zt_logs.specs.ProofsOnly.ReadLines.{AddsAhead, AddsParts, calls_in};
 
@@ -14,7 +15,7 @@ use crate::members::push_handle;
 use crate::times::CallTimes;
 use std::alloc::{AllocError, Global};
 use zt_bits::Status;
-use zt_rows::{HandleValue, Items};
+use zt_rows::{Call, HandleValue, Items};
 
 /// The facts that all calls of a line share.
 #[derive(Clone, Copy)]
@@ -29,6 +30,7 @@ pub(crate) struct LineHead {
 
 impl LineHead {
     /// The call of the line that has `ahead` calls of it ahead.
+    #[inline(always)]
     fn call(
         self,
         ahead: usize,
@@ -60,6 +62,27 @@ impl LineHead {
             recorded,
         }
     }
+}
+
+/// Appends the call of a line that is one call.
+#[inline(always)]
+pub(crate) fn push_one(
+    calls: &mut Vec<LoggedCall>,
+    head: LineHead,
+    call: Call,
+    recorded: RecordedReply,
+    koids: Vec<HandleKoid>,
+) -> Result<(), Cause>
+    requires { head.count ≡ 1 }
+    ensures { OnOk result (AddsParts head.line (alone call ∷ []) recorded calls.old.items calls.new.items) }
+{
+    let part = PartCall {
+        gives: None,
+        given: None,
+        call,
+    };
+    push_logged(calls, head.call(0, part, recorded, koids))?;
+    Ok(())
 }
 
 /// Appends the calls of a line. The last has the reply and the koids of the line. Those ahead of it have the status that
@@ -159,12 +182,16 @@ fn given_handles(alloc: Global, given: Option<HandleValue>) -> Result<Vec<Handle
     }
 }
 
-/// Appends a call.
+/// Appends a call. A push that can fail would copy the call once more.
+#[inline(always)]
 fn push_logged(calls: &mut Vec<LoggedCall>, logged: LoggedCall) -> Result<(), Cause>
     ensures { OnOk result (calls.new.items ≡ calls.old.items ++ logged ∷ []) }
 {
-    match calls.push(logged) {
-        Ok(()) => Ok(()),
+    match calls.reserve(1) {
+        Ok(()) => {
+            calls.push_reserved(logged);
+            Ok(())
+        }
         Err(_) => Err(Cause::OutOfMemory),
     }
 }

@@ -54,6 +54,7 @@ impl<'tape, 'text> Members<'tape, 'text> {
     }
 
     /// The error of a needed member that is left out.
+    #[cold]
     pub(crate) fn missing(&self, name: Member) -> Cause {
         Cause::Missing(self.place(name))
     }
@@ -76,6 +77,7 @@ impl<'tape, 'text> Members<'tape, 'text> {
     }
 
     /// Whether a member of this name is there, by either of its names.
+    #[inline(always)]
     pub(crate) fn has(&self, name: Member) -> bool
         ensures { result ≡ is_some (field name (data_at self.now.value)) }
     {
@@ -91,6 +93,7 @@ impl<'tape, 'text> Members<'tape, 'text> {
     }
 
     /// The value of a member, by its name or else by its second name.
+    #[inline(always)]
     pub(crate) fn member(&self, name: Member) -> Option<JsonValue<'tape, 'text>>
         ensures { data_at result ≡ field name (data_at self.now.value) }
     {
@@ -101,7 +104,8 @@ impl<'tape, 'text> Members<'tape, 'text> {
     }
 
     /// The value under this name, unless it is left out or `null`.
-    fn named(&self, name: &str) -> Option<JsonValue<'tape, 'text>>
+    #[inline(always)]
+    pub(crate) fn named(&self, name: &str) -> Option<JsonValue<'tape, 'text>>
         ensures { data_at result ≡ named name.now (data_at self.now.value) }
     {
         let Some(object) = &self.value else {
@@ -112,6 +116,7 @@ impl<'tape, 'text> Members<'tape, 'text> {
     }
 
     /// The value of a member that may not be left out.
+    #[inline(always)]
     fn needed(&self, name: Member) -> Result<JsonValue<'tape, 'text>, Cause>
         ensures { IfOk result (λ value. field name (data_at self.now.value) ≡ Some (value_at value)) }
     {
@@ -122,6 +127,7 @@ impl<'tape, 'text> Members<'tape, 'text> {
     }
 
     /// The place of a member.
+    #[cold]
     fn place(&self, name: Member) -> Place {
         Place {
             object: self.object,
@@ -132,6 +138,7 @@ impl<'tape, 'text> Members<'tape, 'text> {
     }
 
     /// The error of a member that is not of the form wanted.
+    #[cold]
     pub(crate) fn fault(&self, name: Member, wanted: WantedValue) -> Cause {
         let place = self.place(name);
         Cause::Member { place, wanted }
@@ -174,6 +181,7 @@ impl<'tape, 'text> Members<'tape, 'text> {
     }
 
     /// A number of 32 bits.
+    #[inline(always)]
     pub(crate) fn narrow(&self, name: Member) -> Result<u32, Cause>
         ensures { IfOk result (IsNumberIn (field name (data_at self.now.value))) }
     {
@@ -184,6 +192,7 @@ impl<'tape, 'text> Members<'tape, 'text> {
     }
 
     /// A handle.
+    #[inline(always)]
     pub(crate) fn handle(&self, name: Member) -> Result<HandleValue, Cause>
         ensures { IfOk result (IsNumberIn (field name (data_at self.now.value))) }
     {

@@ -4,9 +4,10 @@ ghost use Rattle.std.specs.Prelude.{◌≡◌, OnOk, map};
 ghost use Rattle.zt_logs.specs.ProofsOnly.ReadLines.{without_process};
 
 use crate::json_values::JsonValue;
-use crate::line_members::OtherMembers;
+use crate::line_members::LineMembers;
 use crate::logged::{CallLog, LoggedCall};
 use crate::numbers::{number_of, written};
+use crate::rare_members::RareMember;
 use crate::shown_texts::put_shown;
 use crate::skipped::SkippedCall;
 use std::alloc::{AllocError, Global};
@@ -57,13 +58,15 @@ impl ProcessNames {
 }
 
 /// The name that a line with these members tells of its process.
-pub(crate) fn told_name<'a>(others: &OtherMembers<'_, 'a>) -> Option<&'a str> {
-    text_in(&others.name).or(text_in(&others.process_name))
+#[inline(always)]
+pub(crate) fn told_name<'a>(line: &LineMembers<'_, 'a>) -> Option<&'a str> {
+    rare_text(line, RareMember::Name).or_else(|| rare_text(line, RareMember::ProcessName))
 }
 
-/// The text of a member. None if it is empty or no text.
-fn text_in<'a>(value: &Option<JsonValue<'_, 'a>>) -> Option<&'a str> {
-    let text = value.as_ref()?.as_str()?;
+/// The text of a rare member. None if it is empty or no text.
+#[inline(always)]
+fn rare_text<'a>(line: &LineMembers<'_, 'a>, member: RareMember) -> Option<&'a str> {
+    let text = line.rare(member)?.as_str()?;
     if text.is_empty() { None } else { Some(text) }
 }
 

@@ -20,6 +20,7 @@ use zt_rows::{HandleValue, Items};
 
 /// The reply of a line. `call` is the place of the line's last call in the log's calls. The error is `Missing`, `Member` or
 /// `OutOfMemory`.
+#[inline(always)]
 pub(crate) fn recorded_of(
     alloc: Global,
     name: CallName,

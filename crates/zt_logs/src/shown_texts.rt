@@ -15,6 +15,9 @@ pub(crate) fn put_shown(
     requires { length feed.now ≤ 4 }
     ensures { OnOk result (string_len text.new ≤ string_len text.old + 4 * most) }
 {
+    if shown.len() <= most && is_printable(shown) {
+        return text.push_str(shown);
+    }
     let mut left = most;
     for letter in shown.chars() {
         let len = letter.len_utf8();
@@ -31,4 +34,12 @@ pub(crate) fn put_shown(
         }
     }
     Ok(())
+}
+
+/// Whether all characters are printable ones of ASCII, as in most texts.
+fn is_printable(shown: &str) -> bool {
+    shown
+        .as_bytes()
+        .iter()
+        .all(|byte| matches!(*byte, b' '..=b'~'))
 }

@@ -1,8 +1,9 @@
 //! Reads when the calls of a log began and returned.
 
 use crate::json_values::JsonValue;
-use crate::line_members::OtherMembers;
+use crate::line_members::LineMembers;
 use crate::numbers::number_in;
+use crate::rare_members::RareMember;
 use std::num::{nearest_u64_to_f64, saturating_f64_to_u64};
 
 /// A time on the clock of a log: whole units, and billionths of a unit.
@@ -21,23 +22,33 @@ pub struct CallTimes {
 }
 
 /// When the call of a line with these members began and returned. A time of another form counts as left out.
-pub(crate) fn times_of(others: &OtherMembers<'_, '_>) -> CallTimes {
-    let time = match &others.time {
-        Some(time) => Some(time),
-        None => others.timestamp.as_ref(),
-    };
-    let ended = match time_in(time) {
-        Some(ended) => Some(ended),
-        None => time_in(others.short_time.as_ref()),
-    };
+#[inline(always)]
+pub(crate) fn times_of(line: &LineMembers<'_, '_>) -> CallTimes {
     CallTimes {
-        began: time_in(others.began.as_ref()),
-        ended,
+        began: rare_time(line, RareMember::Began),
+        ended: ended_in(line),
     }
 }
 
-fn time_in(value: Option<&JsonValue<'_, '_>>) -> Option<LogTime> {
-    let value = value?;
+/// When the call returned.
+fn ended_in(line: &LineMembers<'_, '_>) -> Option<LogTime> {
+    let ended = match line.time() {
+        Some(time) => time_in(time),
+        None => rare_time(line, RareMember::Timestamp),
+    };
+    match ended {
+        Some(ended) => Some(ended),
+        None => rare_time(line, RareMember::ShortTime),
+    }
+}
+
+/// The time that a rare member tells.
+#[inline(always)]
+fn rare_time(line: &LineMembers<'_, '_>, member: RareMember) -> Option<LogTime> {
+    time_in(&line.rare(member)?)
+}
+
+fn time_in(value: &JsonValue<'_, '_>) -> Option<LogTime> {
     if let Some(whole) = number_in(value) {
         return Some(LogTime { whole, part: 0 });
     }
