@@ -43,6 +43,7 @@ pub asked-beside : (calls : List LoggedCall) (asked : List AskedCall) (o : Origi
 asked-beside calls asked (origin.Logged number) moment other = absurd (other number refl)
 asked-beside calls asked (origin.Adopted number) moment other = refl
 asked-beside calls asked (origin.Process number) moment other = refl
-asked-beside calls asked (origin.Handle process handle kind is_told joined others) moment other = refl
-asked-beside calls asked (origin.Duplicate process handle first far) moment other = refl
+asked-beside calls asked (origin.Handle handle) moment other = refl
+asked-beside calls asked (origin.Pair handle) moment other = refl
+asked-beside calls asked (origin.Duplicate handle) moment other = refl
 asked-beside calls asked (origin.Outside number) moment other = refl

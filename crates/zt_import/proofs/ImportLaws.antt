@@ -131,8 +131,9 @@ not-logged : (o : Origin) → ((number : ℕ) → o ≡ origin.Logged number →
 not-logged (origin.Logged number) other = absurd (other number refl)
 not-logged (origin.Adopted number) other = refl
 not-logged (origin.Process number) other = refl
-not-logged (origin.Handle process handle kind is_told joined others) other = refl
-not-logged (origin.Duplicate process handle first far) other = refl
+not-logged (origin.Handle handle) other = refl
+not-logged (origin.Pair handle) other = refl
+not-logged (origin.Duplicate handle) other = refl
 not-logged (origin.Outside number) other = refl
 
 module _ (calls : List LoggedCall) (view : TakenView) (asked : List AskedCall) (step : TrailStep) (compared : ComparedView) where

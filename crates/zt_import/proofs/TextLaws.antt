@@ -1,7 +1,7 @@
 -- A text that is written line by line reads as the calls of its lines.
 use Rattle.std.proofs.Common.{◌≡◌, ℕ, zero, suc, ◌+◌, ◌≤◌, ◌<◌, ◌^◌, true, false, List, [], ◌∷◌, ◌++◌, length, map, take, get_or, Option, Some, None, Ok, refl, sym, ◌∙◌, ap, subst, arith, append_assoc}
-use Rattle.std.specs.Prelude.{nat_lt, slice_get, codes}
-use Rattle.std.specs.List.{filter_map, list_all, cons_option}
+use Rattle.std.specs.Prelude.{◌==◌, ◌&&◌, ◌||◌, not, nat_lt, slice_get, codes}
+use Rattle.std.specs.List.{filter_map, list_all, list_any, cons_option}
 use Rattle.std.specs.Option.{option_to_list, option_map}
 use Rattle.std.proofs.lemmas.Bool.{and_parts, ltb-true, le-ltb}
 use Rattle.std.proofs.lemmas.List.{append-nil, map-append}
@@ -48,6 +48,14 @@ pub writes-behind : (old mid new : List ℕ) (calls : List (ℕ × Call)) → Wr
 writes-behind old mid new calls first second = writes-both old mid new [] calls first second
 
 -- ---- one line
+
+-- a search for a line feed that finds none tells that no byte is one
+pub feed_none : (bytes : List ℕ) → not (list_any (λ byte. byte == 10) bytes) ≡ list_all is_no_feed bytes
+feed_none [] = refl
+feed_none (byte ∷ bytes) = elim (byte == 10) as (λ b. not (b || list_any (λ y. y == 10) bytes) ≡ (not b && list_all is_no_feed bytes)) [
+  | true ↦ refl
+  | false ↦ feed_none bytes
+]
 
 -- a line behind `#` is skipped
 comment_read : (comment : List ℕ) → nat_lt (length comment) 140000 ≡ true → call_in (35 ∷ comment) ≡ Ok None

@@ -204,16 +204,18 @@ beside-number : (o : Origin) → is_beside o ≡ true → number_in o ≡ None
 beside-number (origin.Logged number) e = cc
 beside-number (origin.Adopted number) e = refl
 beside-number (origin.Process number) e = refl
-beside-number (origin.Handle process handle kind is_told joined others) e = refl
-beside-number (origin.Duplicate process handle first other) e = refl
+beside-number (origin.Handle handle) e = refl
+beside-number (origin.Pair handle) e = refl
+beside-number (origin.Duplicate handle) e = refl
 beside-number (origin.Outside number) e = refl
 
 beside-child : (calls : List LoggedCall) (o : Origin) → is_beside o ≡ true → child_by calls o ≡ None
 beside-child calls (origin.Logged number) e = cc
 beside-child calls (origin.Adopted number) e = cc
 beside-child calls (origin.Process number) e = refl
-beside-child calls (origin.Handle process handle kind is_told joined others) e = refl
-beside-child calls (origin.Duplicate process handle first other) e = refl
+beside-child calls (origin.Handle handle) e = refl
+beside-child calls (origin.Pair handle) e = refl
+beside-child calls (origin.Duplicate handle) e = refl
 beside-child calls (origin.Outside number) e = refl
 
 no-number : (old new : TakenView) (origin : Origin) (o : Option ℕ) → number_in origin ≡ None → IsOneStepMore old new (step_of origin o)

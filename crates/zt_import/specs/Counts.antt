@@ -1,5 +1,5 @@
 -- Which steps of a trail are in the trace, as lines of the log or beside them. This project's own.
-use Rattle.std.specs.Prelude.{ℕ, ◌+◌, Bool, false, not, ◌&&◌, cond, nat_lt, List, [], ◌∷◌, is_some, Option, Some, None, slice_get}
+use Rattle.std.specs.Prelude.{ℕ, ◌+◌, Bool, true, false, not, ◌&&◌, cond, nat_lt, List, [], ◌∷◌, is_some, Option, Some, None, slice_get}
 use Rattle.std.specs.List.{list_any}
 use Rattle.zt_logs.specs.declared.logged.LoggedCall.{LoggedCall}
 use Rattle.zt_import.specs.declared.trail.Origin.{Origin}
@@ -27,7 +27,7 @@ is_adopted step = not (is_some (number_in step.origin)) && is_some step.moment
 
 -- two ends of the log are joined
 abbrev pub is_joined : Origin → Bool
-is_joined (origin.Handle _ _ _ _ joined _) = is_some joined
+is_joined (origin.Pair _) = true
 is_joined _ = false
 
 -- two ends of the log are joined, and a call of the trace makes them

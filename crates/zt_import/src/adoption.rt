@@ -1,12 +1,12 @@
 //! Makes the processes and objects that a log uses and never got, and gives each process its handles to them.
 
-ghost use Rattle.std.specs.Prelude.{◌≡◌, true, OnOk};
+ghost use Rattle.std.specs.Prelude.{◌≡◌, true, IfOk, OnOk};
 ghost use Rattle.zt_import.specs.ProofsOnly.TakenCalls.{IsAdopting, IsAside, is_beside};
 
 use crate::numbers::{NO_HANDLE, Numbers};
 use crate::plan::{AdoptedHandle, AdoptedProcess, OutsideContent, OutsideMessage, Plan};
 use crate::taken::Taken;
-use crate::trail::Origin;
+use crate::trail::{AdoptedObject, HandleOrigin, Origin};
 use std::alloc::{AllocError, Global};
 use std::collections::{HashMap, VecDeque};
 use zt_bits::Kind;
@@ -202,7 +202,8 @@ impl Adoption {
                 handle,
                 rights: SAME_RIGHTS,
             };
-            let one = ask_one(taken, duplicate_origin(plan, object, *again), &call)?;
+            let origin = duplicate_origin(taken, plan, object, *again)?;
+            let one = ask_one(taken, origin, &call)?;
             push_duplicate(&mut made, one)?;
         }
         self.keep_duplicates(object, made)?;
@@ -226,25 +227,23 @@ impl Adoption {
     {
         let (kind, is_told) = plan.kind(object);
         let others = self.kinds.add(kind);
-        let origin = origin_of(plan, object, kind, is_told, others);
+        let told = told_object(plan, object, kind, is_told, others);
         match kind {
-            Kind::Channel => self.make_end(taken, plan, object, origin, &Call::ChannelCreate),
-            Kind::Port => ask_one(taken, origin, &Call::PortCreate),
+            Kind::Channel => self.make_end(taken, plan, object, told, &Call::ChannelCreate),
+            Kind::Port => ask_object(taken, told, &Call::PortCreate),
             Kind::Job => {
                 let call = Call::JobCreate { job: FIRST_HANDLE };
-                ask_one(taken, origin, &call)
+                ask_object(taken, told, &call)
             }
             Kind::Process => {
                 let call = Call::Spawn {
                     job: FIRST_HANDLE,
                     argument: HandleValue(0),
                 };
-                ask_one(taken, origin, &call)
+                ask_object(taken, told, &call)
             }
-            Kind::EventPair => {
-                self.make_end(taken, plan, object, origin, &Call::EventPairCreate)
-            }
-            Kind::Event => ask_one(taken, origin, &Call::EventCreate),
+            Kind::EventPair => self.make_end(taken, plan, object, told, &Call::EventPairCreate),
+            Kind::Event => ask_object(taken, told, &Call::EventCreate),
         }
     }
 
@@ -254,15 +253,15 @@ impl Adoption {
         taken: &mut Taken,
         plan: &Plan,
         object: usize,
-        origin: Origin,
+        told: Option<HandleOrigin>,
         call: &Call,
     ) -> Result<HandleValue, Cause>
-        requires { is_beside origin ≡ true }
         ensures { OnOk result (IsAside taken.old taken.new) }
     {
         if let Some(handle) = self.ends.get(&object).copied() {
             return Ok(handle);
         }
+        let origin = origin_of(taken, told)?;
         let (end, other) = ask_two(taken, origin, call)?;
         match joined_peer(plan, object) {
             Some(peer) => self.keep_end(peer, other)?,
@@ -353,40 +352,69 @@ fn adopt_process(
     Ok(())
 }
 
-/// The origin of the call that makes an object.
-fn origin_of(plan: &Plan, object: usize, kind: Kind, is_told: bool, others: u64) -> Origin
-    ensures { is_beside result ≡ true }
+/// What is told of the call that makes an object. None if the log has no handle of it.
+fn told_object(
+    plan: &Plan,
+    object: usize,
+    kind: Kind,
+    is_told: bool,
+    others: u64,
+) -> Option<HandleOrigin> {
+    let (process, handle) = plan.objects.adopted(object)?;
+    let made = AdoptedObject {
+        process,
+        handle,
+        kind,
+        is_told,
+        others,
+    };
+    match plan.joined.get(&object).copied() {
+        Some(joined) => Some(HandleOrigin::Pair(made, joined)),
+        None => Some(HandleOrigin::Object(made)),
+    }
+}
+
+/// The origin of the call that makes an object of which this is told. The error is an allocation failure.
+fn origin_of(taken: &mut Taken, told: Option<HandleOrigin>) -> Result<Origin, AllocError>
+    ensures beside { IfOk result (λ origin. is_beside origin ≡ true) }
+    ensures same { taken.new ≡ taken.old }
 {
-    match plan.objects.adopted(object) {
-        Some((process, handle)) => Origin::Handle {
-            process,
-            handle,
-            kind,
-            is_told,
-            joined: plan.joined.get(&object).copied(),
-            others,
-        },
-        None => Origin::Process(0),
+    let Some(told) = told else {
+        return Ok(Origin::Process(0));
+    };
+    let is_pair = matches!(told, HandleOrigin::Pair(_, _));
+    let number = taken.add_adopted(told)?;
+    if is_pair {
+        Ok(Origin::Pair(number))
+    } else {
+        Ok(Origin::Handle(number))
     }
 }
 
 /// The mask that asks for all rights of the old handle.
 const SAME_RIGHTS: u32 = 0x8000_0000;
 
-/// The origin of the call that makes a duplicate.
-fn duplicate_origin(plan: &Plan, object: usize, again: (u64, HandleValue)) -> Origin
-    ensures { is_beside result ≡ true }
+/// The origin of the call that makes a duplicate. The error is an allocation failure.
+fn duplicate_origin(
+    taken: &mut Taken,
+    plan: &Plan,
+    object: usize,
+    again: (u64, HandleValue),
+) -> Result<Origin, AllocError>
+    ensures beside { IfOk result (λ origin. is_beside origin ≡ true) }
+    ensures same { taken.new ≡ taken.old }
 {
     let (process, handle) = again;
-    match plan.objects.adopted(object) {
-        Some((first_process, first_handle)) => Origin::Duplicate {
-            process,
-            handle,
-            first_process,
-            first_handle,
-        },
-        None => Origin::Process(process),
-    }
+    let Some((first_process, first_handle)) = plan.objects.adopted(object) else {
+        return Ok(Origin::Process(process));
+    };
+    let number = taken.add_adopted(HandleOrigin::Duplicate {
+        process,
+        handle,
+        first_process,
+        first_handle,
+    })?;
+    Ok(Origin::Duplicate(number))
 }
 
 fn push_duplicate(made: &mut VecDeque<HandleValue>, handle: HandleValue) -> Result<(), AllocError> {
@@ -450,6 +478,18 @@ fn name_all(
         numbers.set_handle(named.process, named.handle, values[place])?;
     }
     Ok(())
+}
+
+/// Makes an object of which this is told, and returns the root process's handle to it.
+fn ask_object(
+    taken: &mut Taken,
+    told: Option<HandleOrigin>,
+    call: &Call,
+) -> Result<HandleValue, Cause>
+    ensures { OnOk result (IsAside taken.old taken.new) }
+{
+    let origin = origin_of(taken, told)?;
+    ask_one(taken, origin, call)
 }
 
 /// Makes a call of the root process that gives one handle, and returns that handle.

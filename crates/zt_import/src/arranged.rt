@@ -17,21 +17,22 @@ pub(crate) struct Arranged {
     /// The place of each call, by the call's number. Empty as long as no call is moved.
     places: Vec<usize>,
     moves: Vec<Move>,
+    /// Whether `move_spawns` moved the spawns.
+    has_moved_spawns: bool,
 }
 
 impl Arranged {
-    /// The order of the log, except that a `spawn` behind calls of the process it makes is moved ahead of the first of
-    /// them.
-    pub(crate) fn of(alloc: Global, calls: &[LoggedCall]) -> Result<Arranged, AllocError> {
+    /// The order of a log with this many calls.
+    pub(crate) fn of(alloc: Global, calls: usize) -> Result<Arranged, AllocError> {
         let mut order = Arranged {
-            numbers: Vec::with_capacity(alloc, calls.len())?,
+            numbers: Vec::with_capacity(alloc, calls)?,
             places: Vec::new(alloc),
             moves: Vec::new(alloc),
+            has_moved_spawns: false,
         };
-        for number in 0..calls.len() {
+        for number in 0..calls {
             order.numbers.push(number)?;
         }
-        order.move_spawns(alloc, calls)?;
         Ok(order)
     }
 
@@ -176,8 +177,17 @@ impl Arranged {
         self.place_of(one) < self.place_of(other)
     }
 
-    /// Moves each `spawn` ahead of the calls of the process that it makes.
-    fn move_spawns(&mut self, alloc: Global, calls: &[LoggedCall]) -> Result<(), AllocError> {
+    /// Moves each `spawn` behind calls of the process that it makes ahead of the first of them. Once that is done, it does
+    /// nothing.
+    pub(crate) fn move_spawns(
+        &mut self,
+        alloc: Global,
+        calls: &[LoggedCall],
+    ) -> Result<(), AllocError> {
+        if self.has_moved_spawns {
+            return Ok(());
+        }
+        self.has_moved_spawns = true;
         let mut spawns = spawns_in(alloc, calls)?;
         for place in 0..calls.len() {
             if spawns.is_empty() {

@@ -73,7 +73,7 @@ fn is_message(parcel: &Parcel, read: &LoggedCall) -> bool {
 
 /// Whether a packet is what a call got, as far as the log tells.
 fn is_packet(key: u64, bytes: &[u8; 32], waited: &LoggedCall) -> bool {
-    match waited.recorded.packet {
+    match waited.recorded.packet.get() {
         Some(
             LoggedPacket::User {
                 key: got,
@@ -87,7 +87,10 @@ fn is_packet(key: u64, bytes: &[u8; 32], waited: &LoggedCall) -> bool {
 
 /// Whether the log says that a call got a user packet.
 fn gives_packets_of_users(waited: &LoggedCall) -> bool {
-    matches!(waited.recorded.packet, Some(LoggedPacket::User { .. }))
+    matches!(
+        waited.recorded.packet.get(),
+        Some(LoggedPacket::User { .. })
+    )
 }
 
 /// Whether a call may end an object, release a handle, or take a message, a packet or a wait.

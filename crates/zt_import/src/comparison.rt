@@ -37,7 +37,7 @@ fn reply_agrees(recorded: &RecordedReply, reply: &Reply) -> bool
     is_status(recorded.status, reply.status())
         && recorded.handles.len() == handle_count(reply)
         && bytes_agree(&recorded.bytes, reply)
-        && packets_agree(recorded.packet, reply)
+        && packets_agree(recorded.packet.get(), reply)
 }
 
 /// Whether this is the status that the log has.

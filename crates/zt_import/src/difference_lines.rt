@@ -50,7 +50,7 @@ fn put_recorded(text: &mut String, recorded: &RecordedReply) -> Result<(), Alloc
     if let Some(bytes) = &recorded.bytes {
         put_message(text, bytes)?;
     }
-    match recorded.packet {
+    match recorded.packet.get() {
         Some(packet) => put_packet(text, packet),
         None => Ok(()),
     }

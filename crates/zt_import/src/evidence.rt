@@ -148,7 +148,7 @@ impl Plan {
             },
             Call::PortWait { port } => match (
                 self.object_of(process, *port),
-                logged.recorded.packet,
+                logged.recorded.packet.get(),
             ) {
                 (Some(port), Some(packet)) => self.see_packet(port, packet),
                 _ => Ok(()),

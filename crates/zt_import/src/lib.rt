@@ -51,5 +51,5 @@ pub use started::join_starts;
 pub use told_json::{
     counts_json, difference_json, left_json, more_notes_json, note_json, skipped_json,
 };
-pub use trail::{Difference, JoinedEnd, Origin, TrailStep};
+pub use trail::{Difference, Origin, TrailStep};
 pub use trail_counts::{adopted_in, calls_in, pairs_in};

@@ -38,7 +38,7 @@ pub(crate) fn ordered(
 fn numbers_below(alloc: Global, count: usize) -> Result<Vec<usize>, AllocError>
     ensures { IfOk result (λ numbers. numbers.items ≡ below count) }
 {
-    let mut numbers = Vec::new(alloc);
+    let mut numbers = Vec::with_capacity(alloc, count)?;
     for number in 0..count {
         push_number(&mut numbers, number)?;
     }

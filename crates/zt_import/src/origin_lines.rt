@@ -3,7 +3,7 @@
 ghost use Rattle.std.specs.Prelude.{◌≡◌, ◌++◌, OnOk, string_bytes};
 ghost use Rattle.std.specs.Fmt.{decimal};
 
-use crate::trail::{JoinedEnd, Origin};
+use crate::trail::{AdoptedObject, HandleOrigin, JoinedEnd, Origin};
 use crate::used_handles::handles_in;
 use itoa::Buffer;
 use std::alloc::AllocError;
@@ -17,10 +17,11 @@ use zt_text::put_mask;
 pub(crate) fn put_origin_line(
     text: &mut String,
     log: &CallLog,
+    adopted: &[HandleOrigin],
     origin: Origin,
     ahead: Option<usize>,
 ) -> Result<(), AllocError> {
-    put_origin(text, log, origin)?;
+    put_origin(text, log, adopted, origin)?;
     put_ahead(text, log, ahead)
 }
 
@@ -38,42 +39,22 @@ fn put_ahead(text: &mut String, log: &CallLog, ahead: Option<usize>) -> Result<(
     }
 }
 
-fn put_origin(text: &mut String, log: &CallLog, origin: Origin) -> Result<(), AllocError> {
+fn put_origin(
+    text: &mut String,
+    log: &CallLog,
+    adopted: &[HandleOrigin],
+    origin: Origin,
+) -> Result<(), AllocError> {
     match origin {
         Origin::Adopted(process) | Origin::Process(process) => {
             text.push_str(" adopted: ")?;
             put_process(text, log, process)
         }
-        Origin::Handle {
-            process,
-            handle,
-            kind,
-            is_told,
-            joined,
-            others,
-        } => {
-            text.push_str(" adopted: ")?;
-            put_process(text, log, process)?;
-            text.push_str(", handle ")?;
-            put_mask(text, handle.0)?;
-            put_kind(text, kind, is_told)?;
-            put_others(text, others)?;
-            put_joined(text, log, joined)
-        }
-        Origin::Duplicate {
-            process,
-            handle,
-            first_process,
-            first_handle,
-        } => {
-            text.push_str(" adopted: ")?;
-            put_process(text, log, process)?;
-            text.push_str(", handle ")?;
-            put_mask(text, handle.0)?;
-            text.push_str(", of the object of handle ")?;
-            put_mask(text, first_handle.0)?;
-            text.push_str(" of ")?;
-            put_process(text, log, first_process)
+        Origin::Handle(number) | Origin::Pair(number) | Origin::Duplicate(number) => {
+            match adopted.get(number) {
+                Some(told) => put_handle_origin(text, log, *told),
+                None => Ok(()),
+            }
         }
         Origin::Outside(index) => match log.calls.get(index) {
             Some(logged) => {
@@ -89,6 +70,53 @@ fn put_origin(text: &mut String, log: &CallLog, origin: Origin) -> Result<(), Al
             None => Ok(()),
         },
     }
+}
+
+/// Appends what a call makes for an adopted handle.
+fn put_handle_origin(
+    text: &mut String,
+    log: &CallLog,
+    told: HandleOrigin,
+) -> Result<(), AllocError> {
+    match told {
+        HandleOrigin::Object(object) => put_object(text, log, object),
+        HandleOrigin::Pair(object, joined) => {
+            put_object(text, log, object)?;
+            put_joined(text, log, joined)
+        }
+        HandleOrigin::Duplicate {
+            process,
+            handle,
+            first_process,
+            first_handle,
+        } => {
+            put_adopted(text, log, process, handle)?;
+            text.push_str(", of the object of handle ")?;
+            put_mask(text, first_handle.0)?;
+            text.push_str(" of ")?;
+            put_process(text, log, first_process)
+        }
+    }
+}
+
+/// Appends an object that the log uses and never got.
+fn put_object(text: &mut String, log: &CallLog, object: AdoptedObject) -> Result<(), AllocError> {
+    put_adopted(text, log, object.process, object.handle)?;
+    put_kind(text, object.kind, object.is_told)?;
+    put_others(text, object.others)
+}
+
+/// Appends an adopted handle with its process.
+fn put_adopted(
+    text: &mut String,
+    log: &CallLog,
+    process: u64,
+    handle: HandleValue,
+) -> Result<(), AllocError> {
+    text.push_str(" adopted: ")?;
+    put_process(text, log, process)?;
+    text.push_str(", handle ")?;
+    put_mask(text, handle.0)
 }
 
 /// Appends a number in decimal.
@@ -131,14 +159,7 @@ fn put_others(text: &mut String, others: u64) -> Result<(), AllocError> {
 }
 
 /// Appends the end with which this one is joined, and by what.
-fn put_joined(
-    text: &mut String,
-    log: &CallLog,
-    joined: Option<JoinedEnd>,
-) -> Result<(), AllocError> {
-    let Some(end) = joined else {
-        return Ok(());
-    };
+fn put_joined(text: &mut String, log: &CallLog, end: JoinedEnd) -> Result<(), AllocError> {
     text.push_str("; joined with handle ")?;
     put_mask(text, end.handle.0)?;
     text.push_str(" of ")?;

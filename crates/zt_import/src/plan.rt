@@ -58,6 +58,14 @@ enum Coming {
     Spawned(Option<usize>),
 }
 
+/// A handle of a process, with its object.
+#[derive(Clone, Copy)]
+struct UsedHandle {
+    process: u64,
+    handle: HandleValue,
+    object: usize,
+}
+
 /// The plan of what a trace has to make, since a log uses it and never got it.
 #[derive(Drop)]
 pub(crate) struct Plan {
@@ -72,6 +80,8 @@ pub(crate) struct Plan {
     last_seen: Option<u64>,
     /// The object of each handle of each process.
     known: HashMap<(u64, u32), usize>,
+    /// The handle that was used last, which is in `known` with this object. A call's handle is looked up to three times.
+    last_used: Option<UsedHandle>,
     first_messages: FirstMessages,
     joins: Joins,
     /// The calls on stand-ins.
@@ -102,16 +112,15 @@ const ROUNDS: usize = 8;
 const MOVING_ROUNDS: usize = 16;
 
 impl Plan {
-    /// The plan of a log in which ends are joined only if no third end would do. Moves writes ahead of their reads in
-    /// `order`. If that does not settle, no ends are joined by messages, and no objects are one by what was seen. The error
-    /// is `SpawnedTwice` at a line, or `OutOfMemory`.
+    /// The plan of a log in which ends are joined only if no third end would do. Moves spawns ahead of the calls of their
+    /// processes in `order`, and writes ahead of their reads. If that does not settle, no ends are joined by messages, and no
+    /// objects are one by what was seen. The error is `SpawnedTwice` at a line, or `OutOfMemory`.
     pub(crate) fn of(
         alloc: Global,
         calls: &[LoggedCall],
         order: &mut Arranged,
     ) -> Result<Plan, LogFault> {
-        let none = HashMap::new(alloc);
-        let mut plan = Plan::with(alloc, calls, order, Joins::Guessed, none)?;
+        let mut plan = Plan::first(alloc, calls, order)?;
         for _ in 0..ROUNDS + MOVING_ROUNDS {
             match plan.found_again(alloc, calls, order) {
                 Ok(Some(found)) => {
@@ -124,6 +133,36 @@ impl Plan {
         }
         let none = HashMap::new(alloc);
         Plan::with(alloc, calls, order, Joins::Found(HashMap::new(alloc)), none)
+    }
+
+    /// The plan by which the joined ends are found. Spawns are moved only if a process makes calls ahead of its own spawn,
+    /// which the plan finds: looking for such calls takes a pass over the log.
+    fn first(alloc: Global, calls: &[LoggedCall], order: &mut Arranged) -> Result<Plan, LogFault> {
+        match Plan::guessed(alloc, calls, order) {
+            Ok(plan) => Ok(plan),
+            Err(fault) => match fault.cause {
+                Cause::SpawnedTwice(_) => Plan::with_spawns_moved(alloc, calls, order),
+                _ => Err(fault),
+            },
+        }
+    }
+
+    /// The first plan of an order whose spawns are moved. The error is `SpawnedTwice` at a line, or `OutOfMemory`.
+    fn with_spawns_moved(
+        alloc: Global,
+        calls: &[LoggedCall],
+        order: &mut Arranged,
+    ) -> Result<Plan, LogFault> {
+        match order.move_spawns(alloc, calls) {
+            Ok(()) => Plan::guessed(alloc, calls, order),
+            Err(_) => Err(Cause::OutOfMemory.at(0)),
+        }
+    }
+
+    /// The plan in which the ends of equal first messages are joined.
+    fn guessed(alloc: Global, calls: &[LoggedCall], order: &Arranged) -> Result<Plan, LogFault> {
+        let none = HashMap::new(alloc);
+        Plan::with(alloc, calls, order, Joins::Guessed, none)
     }
 
     /// The ends that are joined and the handles that are of one object, as this plan shows them. None if this plan already
@@ -234,6 +273,9 @@ impl Plan {
     ) -> Result<Plan, LogFault> {
         let mut plan = Plan::new(alloc, joins);
         plan.merged = merged;
+        if plan.known.reserve(calls.len() / 2).is_err() {
+            return Err(Cause::OutOfMemory.at(0));
+        }
         for index in order.numbers() {
             let index = *index;
             if let Some(logged) = calls.get(index) {
@@ -258,6 +300,7 @@ impl Plan {
             comings: HashMap::new(alloc),
             last_seen: None,
             known: HashMap::new(alloc),
+            last_used: None,
             first_messages: FirstMessages::new(alloc),
             joins,
             uses: StandInUses::new(alloc),
@@ -585,7 +628,14 @@ impl Plan {
             return Ok(None);
         }
         match self.object_of(process, handle) {
-            Some(object) => Ok(Some(object)),
+            Some(object) => {
+                self.last_used = Some(UsedHandle {
+                    process,
+                    handle,
+                    object,
+                });
+                Ok(Some(object))
+            }
             None => self.from_nowhere(process, handle),
         }
     }
@@ -614,10 +664,14 @@ impl Plan {
 
     /// The object of a handle of a process, if it is known.
     pub(crate) fn object_of(&self, process: u64, handle: HandleValue) -> Option<usize> {
-        self.known.get(&(process, handle.0)).copied()
+        match self.last_used {
+            Some(last) if last.process == process && last.handle == handle => Some(last.object),
+            _ => self.known.get(&(process, handle.0)).copied(),
+        }
     }
 
     fn name(&mut self, process: u64, handle: HandleValue, object: usize) -> Result<(), AllocError> {
+        self.last_used = None;
         self.known.insert((process, handle.0), object)?;
         Ok(())
     }

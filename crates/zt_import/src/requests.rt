@@ -13,6 +13,9 @@ use zt_rows::Call;
 /// read, at most `MOST_LINES` calls before the line, that no earlier `channel_call` took. If there is none, the write stays
 /// at its line. The error is an allocation failure, at line 0.
 pub fn place_requests(alloc: Global, log: &mut CallLog) -> Result<(), LogFault> {
+    if !log.forms.requests {
+        return Ok(());
+    }
     match placed(alloc, log) {
         Ok(()) => Ok(()),
         Err(_) => Err(Cause::OutOfMemory.at(0)),

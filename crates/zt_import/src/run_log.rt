@@ -23,7 +23,7 @@ use crate::order::ordered;
 use crate::parts::is_last;
 use crate::plan::Plan;
 use crate::taken::Taken;
-use crate::trail::{Difference, Origin, TrailStep};
+use crate::trail::{Difference, HandleOrigin, Origin, TrailStep};
 use std::alloc::{AllocError, Global};
 use std::marker::Model;
 use zt_history::History;
@@ -68,6 +68,11 @@ impl Imported {
         ensures { result.now ≡ self.now.trail }
     {
         self.taken.trail()
+    }
+
+    /// The adopted handles, by the numbers that the trail has.
+    pub(crate) fn adopted(&self) -> &[HandleOrigin] {
+        self.taken.adopted()
     }
 
     /// What stands for the log's processes and handles.
@@ -129,7 +134,7 @@ pub fn import(alloc: Global, calls: &[LoggedCall]) -> Result<Imported, LogFault>
 fn best_run(alloc: Global, calls: &[LoggedCall]) -> Result<Taken, LogFault>
     ensures { IfOk result (IsRunOf calls.now) }
 {
-    let mut order = match Arranged::of(alloc, calls) {
+    let mut order = match Arranged::of(alloc, calls.len()) {
         Ok(order) => order,
         Err(_) => return Err(Cause::OutOfMemory.at(0)),
     };

@@ -53,7 +53,7 @@ pub(crate) fn asked_in(
 fn not_asked(alloc: Global, calls: &[LoggedCall]) -> Result<Vec<AskedCall>, AllocError>
     ensures { IfOk result (λ asked. asked.items ≡ map not_asked calls.now) }
 {
-    let mut asked = Vec::new(alloc);
+    let mut asked = Vec::with_capacity(alloc, calls.len())?;
     for place in 0..calls.len() {
         push_call(&mut asked, calls[place].line, None)?;
     }
@@ -147,7 +147,7 @@ fn is_met_on(
 {
     match port {
         Some(port) => {
-            let sought = sought_for(logged.recorded.status, logged.recorded.packet);
+            let sought = sought_for(logged.recorded.status, logged.recorded.packet.get());
             is_met(taken, asked, port, logged.line, waited, sought)
         }
         None => Ok(false),

@@ -14,7 +14,7 @@ use crate::moved::passed_by;
 use crate::names::{put_handle_name, put_process};
 use crate::origin_lines::put_origin_line;
 use crate::run_log::Imported;
-use crate::trail::{Origin, TrailStep};
+use crate::trail::{HandleOrigin, Origin, TrailStep};
 use std::alloc::AllocError;
 use std::collections::HashMap;
 use zt_history::History;
@@ -64,6 +64,7 @@ fn put_steps(text: &mut String, log: &CallLog, imported: &Imported) -> Result<()
         &mut comment,
         log,
         imported.history(),
+        imported.adopted(),
         imported.trail(),
         passed.as_slice(),
     )?;
@@ -120,12 +121,13 @@ fn put_handle_names(
     Ok(())
 }
 
-/// Appends the lines of these steps. `comment` is the buffer for their comments.
+/// Appends the lines of these steps, whose adopted handles are these. `comment` is the buffer for their comments.
 fn put_trail(
     text: &mut String,
     comment: &mut String,
     log: &CallLog,
     history: &History,
+    adopted: &[HandleOrigin],
     trail: &[TrailStep],
     passed: &[Option<usize>],
 ) -> Result<(), AllocError>
@@ -133,7 +135,7 @@ fn put_trail(
 {
     for place in 0..trail.len() {
         let ahead = ahead_at(passed, place);
-        put_step(text, comment, log, history, &trail[place], ahead)?;
+        put_step(text, comment, log, history, adopted, &trail[place], ahead)?;
     }
     Ok(())
 }
@@ -152,6 +154,7 @@ fn put_step(
     comment: &mut String,
     log: &CallLog,
     history: &History,
+    adopted: &[HandleOrigin],
     step: &TrailStep,
     ahead: Option<usize>,
 ) -> Result<(), AllocError>
@@ -159,7 +162,7 @@ fn put_step(
 {
     match step.moment {
         Some(moment) => {
-            put_origin(text, comment, log, step, ahead)?;
+            put_origin(text, comment, log, adopted, step, ahead)?;
             put_moment(text, history, moment)?;
             Ok(())
         }
@@ -172,13 +175,14 @@ fn put_origin(
     text: &mut String,
     comment: &mut String,
     log: &CallLog,
+    adopted: &[HandleOrigin],
     step: &TrailStep,
     ahead: Option<usize>,
 ) -> Result<(), AllocError>
     ensures { OnOk result (Writes (string_bytes text.old) (string_bytes text.new) []) }
 {
     comment.clear();
-    put_origin_line(comment, log, step.origin, ahead)?;
+    put_origin_line(comment, log, adopted, step.origin, ahead)?;
     match str::from_utf8(context_of(log, &step.origin)) {
         Ok(context) => put_context(text, comment, context),
         Err(_) => put_comment(text, comment.as_str()),
@@ -250,7 +254,7 @@ fn fits(comment: &str) -> bool
 fn has_no_feed(bytes: &[u8]) -> bool
     ensures { result ≡ list_all is_no_feed bytes.now }
 {
-    bytes.iter().all(|byte| *byte != b'\n')
+    !bytes.contains(&b'\n')
 }
 
 /// Appends the line of a moment's call.

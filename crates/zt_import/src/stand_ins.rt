@@ -5,7 +5,7 @@ use crate::plan::Plan;
 use std::alloc::{AllocError, Global};
 use std::collections::{HashMap, HashSet};
 use zt_bits::Status;
-use zt_logs::{CallLog, Cause, LineForm, LogFault, LoggedCall, LoggedPacket, OtherKind};
+use zt_logs::{CallLog, Cause, LogFault, LoggedCall, LoggedPacket, OtherKind};
 use zt_rows::Call;
 
 /// The rights of an event.
@@ -86,7 +86,7 @@ impl StandInUses {
 
 /// The key of a signal packet that a call got.
 pub(crate) fn signal_key(logged: &LoggedCall) -> Option<u64> {
-    match logged.recorded.packet {
+    match logged.recorded.packet.get() {
         Some(LoggedPacket::Signal { key, .. }) => Some(key),
         _ => None,
     }
@@ -151,15 +151,10 @@ pub fn leave_out(alloc: Global, log: &mut CallLog) -> Result<LeftCalls, LogFault
     let mut left = LeftCalls {
         counts: Vec::new(alloc),
     };
-    if !log
-        .calls
-        .as_slice()
-        .iter()
-        .any(|logged| is_stand_in(logged))
-    {
+    if !log.forms.stand_ins {
         return Ok(left);
     }
-    let Ok(mut order) = Arranged::of(alloc, log.calls.as_slice()) else {
+    let Ok(mut order) = Arranged::of(alloc, log.calls.len()) else {
         return Err(Cause::OutOfMemory.at(0));
     };
     let plan = Plan::of(alloc, log.calls.as_slice(), &mut order)?;
@@ -168,10 +163,6 @@ pub fn leave_out(alloc: Global, log: &mut CallLog) -> Result<LeftCalls, LogFault
         Ok(()) => Ok(left),
         Err(_) => Err(Cause::OutOfMemory.at(0)),
     }
-}
-
-fn is_stand_in(logged: &LoggedCall) -> bool {
-    matches!(logged.part.form, LineForm::StandIn(_))
 }
 
 /// Keeps the calls that are not left out.

@@ -103,7 +103,7 @@ struct Placed {
 /// Makes one spawn of each `process_create` and the `process_start` of its process. It stands at the start, or right before
 /// the first call in between that uses the process's handle. The error is an allocation failure, at line 0.
 pub fn join_starts(alloc: Global, log: &mut CallLog) -> Result<(), LogFault> {
-    if !log.calls.as_slice().iter().any(|logged| is_start(logged)) {
+    if !log.forms.starts {
         return Ok(());
     }
     match joined(alloc, log) {
@@ -269,6 +269,7 @@ fn join(
         log.notes.add_start(start.line, StartNote::LateArgument)?;
     }
     stand_alone(log.calls.as_mut_slice(), pending.made);
+    log.forms.stand_ins = true;
     let argument = given(start.argument, is_late);
     if let Some(call) = spawned(log.calls.as_slice(), pending.made, argument) {
         set_call(log.calls.as_mut_slice(), pending.made, call);

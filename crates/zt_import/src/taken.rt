@@ -12,7 +12,7 @@ use crate::causes::may_be_by_order;
 use crate::comparison::agrees;
 use crate::mapped::Mapped;
 use crate::port_queue::{holds, port_of};
-use crate::trail::{Origin, TrailStep};
+use crate::trail::{HandleOrigin, Origin, TrailStep};
 use std::alloc::{AllocError, Global};
 use std::marker::Model;
 use zt_history::{BranchId, History};
@@ -26,6 +26,8 @@ const MAIN: BranchId = BranchId(0);
 pub(crate) struct Taken {
     history: History,
     trail: Vec<TrailStep>,
+    /// The adopted handles, by their numbers.
+    adopted: Vec<HandleOrigin>,
     /// What stands for the log's processes and handles, once all calls were asked.
     mapped: Mapped,
 }
@@ -35,6 +37,7 @@ impl Drop for Taken {
         let Taken {
             history: _history,
             trail: _trail,
+            adopted: _adopted,
             mapped: _mapped,
         } = self;
     }
@@ -59,8 +62,23 @@ impl Taken {
         Ok(Taken {
             history,
             trail: Vec::with_capacity(alloc, calls)?,
+            adopted: Vec::new(alloc),
             mapped: Mapped::new(alloc),
         })
+    }
+
+    /// Adds an adopted handle. Returns its number.
+    pub(crate) fn add_adopted(&mut self, origin: HandleOrigin) -> Result<usize, AllocError>
+        ensures { self.new ≡ self.old }
+    {
+        let number = self.adopted.len();
+        self.adopted.push(origin)?;
+        Ok(number)
+    }
+
+    /// The adopted handles, by their numbers.
+    pub(crate) fn adopted(&self) -> &[HandleOrigin] {
+        self.adopted.as_slice()
     }
 
     /// Keeps what stands for the log's processes and handles.

@@ -183,7 +183,7 @@ fn put_recorded(
     if let Some(bytes) = &recorded.bytes {
         put_message(alloc, object, bytes)?;
     }
-    if let Some(packet) = recorded.packet {
+    if let Some(packet) = recorded.packet.get() {
         put_packet(alloc, object, packet)?;
     }
     object.end_object()

@@ -52,8 +52,5 @@ fn is_adopted(step: &TrailStep) -> bool
 fn is_pair(step: &TrailStep) -> bool
     ensures { result ≡ is_pair step.now }
 {
-    match step.origin {
-        Origin::Handle { joined, .. } => joined.is_some() && step.moment.is_some(),
-        _ => false,
-    }
+    matches!(step.origin, Origin::Pair(_)) && step.moment.is_some()
 }

@@ -20,6 +20,7 @@ use crate::json_values::JsonValue;
 use crate::koids::koids_of;
 use crate::line_calls::{calls_of, form_of};
 use crate::line_members::LineMembers;
+use crate::line_parts::SeenForms;
 use crate::logged::CallLog;
 use crate::logged_calls::call_of;
 use crate::logged_parts::{LineHead, push_one, push_parts};
@@ -56,6 +57,7 @@ pub fn read_log(alloc: Global, text: &[u8], fields: &[&str]) -> Result<CallLog, 
     };
     let mut log = CallLog {
         calls: Vec::new(alloc),
+        forms: SeenForms::none(),
         lines: 0,
         skipped: Vec::new(alloc),
         names: ProcessNames::new(alloc),
@@ -373,6 +375,7 @@ fn take_several(
     let head = head_in(log, name, line, process, count);
     let koids = koids_of(alloc, line)?;
     log.contexts.add_times(log.lines, line)?;
+    log.forms.see(head.form);
     push_parts(alloc, &mut log.calls, head, parts, recorded, koids)?;
     Ok(())
 }
@@ -404,6 +407,7 @@ fn take_one(
     let head = head_in(log, name, line, process, 1);
     let koids = koids_of(alloc, line)?;
     log.contexts.add_times(log.lines, line)?;
+    log.forms.see(head.form);
     push_one(&mut log.calls, head, call, recorded, koids)?;
     Ok(())
 }

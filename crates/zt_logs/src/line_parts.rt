@@ -42,16 +42,47 @@ impl LineForm {
     }
 }
 
+/// Which lines a log has of those that an import has to go over the calls for.
+#[derive(Clone, Copy, Debug)]
+pub struct SeenForms {
+    /// Whether a line is a `process_start`.
+    pub starts: bool,
+    /// Whether a line is a `channel_call` or a `channel_call_etc`.
+    pub requests: bool,
+    /// Whether a line makes or gives an object for which another one stands in.
+    pub stand_ins: bool,
+}
+
+impl SeenForms {
+    pub(crate) fn none() -> SeenForms {
+        SeenForms {
+            starts: false,
+            requests: false,
+            stand_ins: false,
+        }
+    }
+
+    /// Adds the form of a line.
+    pub(crate) fn see(&mut self, form: LineForm) {
+        match form {
+            LineForm::Start => self.starts = true,
+            LineForm::ChannelCall | LineForm::ChannelCallEtc => self.requests = true,
+            LineForm::StandIn(_) => self.stand_ins = true,
+            _ => {}
+        }
+    }
+}
+
 /// Which of the calls of its line a call is.
 #[derive(Clone, Copy, Debug, PartialEq, Eq)]
 pub struct LinePart {
-    pub form: LineForm,
     /// How many calls of the line stand ahead of it.
     pub ahead: usize,
     /// How many calls the line has.
     pub count: usize,
     /// The place, from 0, of the handle that this call gives in the message that the line writes.
     pub gives: Option<usize>,
+    pub form: LineForm,
     /// Whether the call stands apart from the rest of its line. Then another call of the line counts as the line.
     pub is_apart: bool,
 }

@@ -12,6 +12,7 @@ use crate::line_calls::{LineCalls, PartCall};
 use crate::line_parts::{LineForm, LinePart};
 use crate::logged::{LoggedCall, RecordedReply};
 use crate::members::push_handle;
+use crate::recorded_packet::RecordedPacket;
 use crate::times::CallTimes;
 use std::alloc::{AllocError, Global};
 use zt_bits::Status;
@@ -163,7 +164,7 @@ fn ahead_answer(
         status,
         handles: Items::new(handles),
         bytes: None,
-        packet: None,
+        packet: RecordedPacket::none(),
         process: None,
     })
 }

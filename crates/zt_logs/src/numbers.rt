@@ -77,7 +77,8 @@ fn signed_of(text: &str) -> Option<i64> {
 }
 
 /// The number of 64 bits that digits of this base write. None if there are no digits, if one is of no such base, or if it
-/// does not fit.
+/// does not fit. It is inlined so that the compiler knows the base.
+#[inline(always)]
 pub(crate) fn written(digits: &[u8], base: u32) -> Option<u64>
     requires low { 2 ≤ base }
     requires high { base ≤ 36 }
@@ -94,6 +95,7 @@ pub(crate) fn written(digits: &[u8], base: u32) -> Option<u64>
 }
 
 /// A number with one digit appended. None if it does not fit 64 bits.
+#[inline(always)]
 fn with_digit(number: u64, digit: u8, base: u32) -> Option<u64>
     requires low { 2 ≤ base }
     requires high { base ≤ 36 }

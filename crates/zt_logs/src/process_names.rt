@@ -113,12 +113,18 @@ struct NameUse {
     name: usize,
 }
 
+/// The numbers of names go down from the largest number of 64 bits, past those that are taken. No log has so many names and
+/// processes that they come to this one.
+const LOWEST_TAKEN: u64 = u64::MAX - (1 << 40);
+
 /// The names of processes that were read so far.
 #[derive(Drop)]
 pub(crate) struct Naming {
     places: HashMap<String, usize>,
     shown: Vec<String>,
     uses: Vec<NameUse>,
+    /// The numbers of processes from `LOWEST_TAKEN` up. No name gets one of them.
+    taken: HashMap<u64, ()>,
     /// The names that lines tell of processes that they have by numbers.
     numbered: HashMap<u64, String>,
     /// The names that lines tell of processes that they have by names, by the places of these names.
@@ -131,6 +137,7 @@ impl Naming {
             places: HashMap::new(alloc),
             shown: Vec::new(alloc),
             uses: Vec::new(alloc),
+            taken: HashMap::new(alloc),
             numbered: HashMap::new(alloc),
             named: HashMap::new(alloc),
         }
@@ -156,7 +163,12 @@ impl Naming {
         process: ProcessWord<'_>,
     ) -> Result<u64, AllocError> {
         match process {
-            ProcessWord::Number(number) => Ok(number),
+            ProcessWord::Number(number) => {
+                if number >= LOWEST_TAKEN {
+                    take_number(&mut self.taken, number)?;
+                }
+                Ok(number)
+            }
             ProcessWord::Name(name) => {
                 let name = self.place(name)?;
                 push_use(&mut self.uses, NameUse { place, name })?;
@@ -189,13 +201,7 @@ impl Naming {
         if self.uses.is_empty() {
             return Ok(names);
         }
-        let taken = numbers_of(
-            alloc,
-            log.calls.as_slice(),
-            log.skipped.as_slice(),
-            self.shown.len(),
-        )?;
-        let numbers = free_numbers(alloc, &taken, self.shown.len())?;
+        let numbers = free_numbers(alloc, &self.taken, self.shown.len())?;
         for used in self.uses.as_slice() {
             if let Some(number) = numbers.get(used.name) {
                 set_number(log, used.place, *number);
@@ -284,48 +290,7 @@ fn last_free(taken: &HashMap<u64, ()>, most: u64) -> u64 {
     number
 }
 
-/// The numbers that the processes of calls have and that `free_numbers` passes when it looks for `count` numbers. It goes
-/// down from the largest number, and a call has at most two processes.
-fn numbers_of(
-    alloc: Global,
-    calls: &[LoggedCall],
-    skipped: &[SkippedCall],
-    count: usize,
-) -> Result<HashMap<u64, ()>, AllocError> {
-    let mut taken = HashMap::new(alloc);
-    let passed = count
-        .saturating_add(calls.len().saturating_mul(2))
-        .saturating_add(skipped.len());
-    let lowest = u64::MAX.saturating_sub(passed as u64);
-    for logged in calls {
-        take_number(&mut taken, logged.process, lowest)?;
-        if let Some(made) = logged.recorded.process {
-            take_number(&mut taken, made, lowest)?;
-        }
-    }
-    take_skipped(&mut taken, skipped, lowest)?;
-    Ok(taken)
-}
-
-/// Adds the numbers of the processes of skipped calls, from `lowest` up.
-fn take_skipped(
-    taken: &mut HashMap<u64, ()>,
-    skipped: &[SkippedCall],
-    lowest: u64,
-) -> Result<(), AllocError> {
-    for call in skipped {
-        if let Some(process) = call.process {
-            take_number(taken, process, lowest)?;
-        }
-    }
-    Ok(())
-}
-
-/// Adds a number, unless it is below `lowest`.
-fn take_number(taken: &mut HashMap<u64, ()>, number: u64, lowest: u64) -> Result<(), AllocError> {
-    if number < lowest {
-        return Ok(());
-    }
+fn take_number(taken: &mut HashMap<u64, ()>, number: u64) -> Result<(), AllocError> {
     match taken.insert(number, ()) {
         Ok(_) => Ok(()),
         Err(_) => Err(AllocError),

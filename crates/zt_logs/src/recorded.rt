@@ -14,6 +14,7 @@ use crate::logged::{LoggedPacket, RecordedReply};
 use crate::members::{Members, push_handle};
 use crate::places::{LineObject, Member};
 use crate::process_names::{NamedPlace, Naming};
+use crate::recorded_packet::RecordedPacket;
 use std::alloc::Global;
 use zt_bits::Status;
 use zt_rows::{HandleValue, Items};
@@ -37,14 +38,14 @@ pub(crate) fn recorded_of(
         return Ok(RecordedReply {
             status,
             handles: Items::new(Vec::new(alloc)),
-            bytes: None,
-            packet: None,
             process: None,
+            bytes: None,
+            packet: RecordedPacket::none(),
         });
     };
     let packet = match name {
-        CallName::PortWait => packet_of(out)?,
-        _ => None,
+        CallName::PortWait => recorded_packet(alloc, out)?,
+        _ => RecordedPacket::none(),
     };
     let process = match name {
         CallName::Spawn | CallName::ProcessCreate | CallName::ProcessStart => {
@@ -65,9 +66,9 @@ pub(crate) fn recorded_of(
     Ok(RecordedReply {
         status,
         handles: Items::new(handles),
+        process,
         bytes,
         packet,
-        process,
     })
 }
 
@@ -185,6 +186,14 @@ fn both_handles(alloc: Global, out: &Members<'_, '_>) -> Result<Vec<HandleValue>
         push_handle(&mut handles, out.handle(Member::SecondHandle)?)?;
     }
     Ok(handles)
+}
+
+/// The packet that a wait got, as it is kept.
+fn recorded_packet(alloc: Global, out: &Members<'_, '_>) -> Result<RecordedPacket, Cause> {
+    match packet_of(out)? {
+        Some(packet) => Ok(RecordedPacket::new(alloc, packet)?),
+        None => Ok(RecordedPacket::none()),
+    }
 }
 
 /// The packet that a wait got; none if the line does not tell it.

@@ -11,8 +11,7 @@ use Rattle.zt_import.proofs.schedule.not_asked.Goals as goal
 
 pub loop-place-init : goal.loop-place-init
 loop-place-init c =
-    let none : c.new-asked.result.items ≡ [] = grind arith in
-    none ∙ sym (ap (map not_asked) (take-none c.args.calls.now))
+    c.in_ok-asked.ensures.items ∙ sym (ap (map not_asked) (take-none c.args.calls.now))
 
 pub loop-place-preserved : goal.loop-place-preserved
 loop-place-preserved c =
