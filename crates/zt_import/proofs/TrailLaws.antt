@@ -1,6 +1,6 @@
 -- What one step more leaves of a trail, and what it adds.
 use Rattle.std.proofs.Common.{◌≡◌, ℕ, zero, suc, ◌≤◌, true, List, [], ◌∷◌, ◌++◌, length, Option, Some, None, Result, Ok, Err, refl, sym, ◌∙◌, ap, subst, arith}
-use Rattle.std.proofs.lemmas.List.{append-nil}
+use Rattle.std.proofs.lemmas.List.{append-nil, length-append}
 use Rattle.std.proofs.lemmas.List.Elements.{filter_map-append}
 use Rattle.std.specs.List.{filter_map, cons_option}
 use Rattle.std.specs.Option.{option_map, option_to_list}
@@ -18,7 +18,8 @@ use Rattle.zt_import.specs.declared.trail.Origin.{Origin}
 use Rattle.zt_import.specs.declared.trail.Origin.TheVariants as origin
 use Rattle.zt_import.specs.declared.trail.TrailStep.{TrailStep}
 use Rattle.zt_import.specs.Trails.{number_in, numbers_in, moments_in, moments_to, answer_at, bare, bare_called, spawned_in, child_by, pair_of, pair_by, stands_for, IsMadeOf, IsMadeFor, IsMadeBy, AreMadeBy}
-use Rattle.zt_import.specs.ProofsOnly.TakenCalls.{TakenView, IsTakenTrail, IsOneStepMore, IsAside, IsAdopting, IsCallAt, Processes, process_in, pairs_after, pairs_in, Learns, learned, is_beside}
+use Rattle.zt_import.specs.Comparison.{agrees}
+use Rattle.zt_import.specs.ProofsOnly.TakenCalls.{TakenView, IsTakenTrail, IsOneStepMore, IsAside, IsAdopting, IsCallAt, Processes, process_in, pairs_after, pairs_in, Learns, learned, is_beside, IsWithin, Leaves, is_settled, is_settled_by, is_settled_for, is_settled_part}
 use Rattle.zt_import.proofs.LoadedLaws.{made_on, called-moment, called-made, loaded-called}
 
 -- ---- one element more
@@ -115,6 +116,44 @@ pub made-bare : (made : List Made) (o : Option ℕ) (process : ℕ) (c d : Call)
 made-bare made None process c d same is = tt
 made-bare made (Some m) process c d same is = is ∙ ap (λ b. let it : Option (ℕ × Call) = Some (process, b) in it) same
 
+-- ---- steps that are settled are so still
+
+within-one : (count : ℕ) (o : Option ℕ) → IsWithin count o → AreWithin count (cons_option o [])
+within-one count None h = tt
+within-one count (Some m) h = (h, tt)
+
+within-all : (made more : List Made) (o : Option ℕ) → IsWithin (length made) o → IsWithin (length (made ++ more)) o
+within-all made more None h = tt
+within-all made more (Some m) h = omega (arith, h, length-append made more)
+
+settled-for-more : (made more : List Made) (found : Option LoggedCall) (o : Option ℕ) → IsWithin (length made) o
+    → is_settled_for (made ++ more) found o ≡ is_settled_for made found o
+settled-for-more made more None o h = refl
+settled-for-more made more (Some logged) o h =
+    ap (λ a. is_settled_part logged.part (agrees logged.recorded a)) (answer-more made more o [] (within-one (length made) o h))
+
+settled-by-more : (calls : List LoggedCall) (made more : List Made) (n o : Option ℕ) → IsWithin (length made) o
+    → is_settled_by calls (made ++ more) n o ≡ is_settled_by calls made n o
+settled-by-more calls made more None o h = refl
+settled-by-more calls made more (Some number) o h = settled-for-more made more (slice_get calls number) o h
+
+left-more : (calls : List LoggedCall) (made more : List Made) (trail left : List TrailStep) → Leaves calls made trail left
+    → Leaves calls (made ++ more) trail left
+left-more calls made more trail left so = λ tell none.
+    so tell (λ step within settled.
+    none step (within-all made more step.moment within) (settled-by-more calls made more (number_in step.origin) step.moment within ∙ settled))
+
+settled-push : (calls : List LoggedCall) (made : List Made) (trail left : List TrailStep) (step : TrailStep) → IsWithin (length made) step.moment
+    → is_settled calls made step ≡ true → Leaves calls made trail left → Leaves calls made (trail ++ step ∷ []) left
+settled-push calls made trail left step within settled so = λ tell none.
+    filter_map-push tell trail step ∙ ap (λ o. filter_map tell trail ++ option_to_list o) (none step within settled)
+    ∙ append-nil (filter_map tell trail) ∙ so tell none
+
+left-push : (calls : List LoggedCall) (made : List Made) (trail left : List TrailStep) (step : TrailStep) → Leaves calls made trail left
+    → Leaves calls made (trail ++ step ∷ []) (left ++ step ∷ [])
+left-push calls made trail left step so = λ tell none.
+    filter_map-push tell trail step ∙ ap (λ ds. ds ++ option_to_list (tell step)) (so tell none) ∙ sym (filter_map-push tell left step)
+
 -- ---- a step more
 
 abbrev pub step_of : Origin → Option ℕ → TrailStep
@@ -124,6 +163,14 @@ step_of origin o = record { origin = origin; moment = o }
 grown : (t u : Tree) (process : ℕ) (call : Call) (o : Option ℕ) → IsCallAt t u process call o → (more : List Made) × (u.made ≡ t.made ++ more)
 grown t u process call None e = ([], ap (λ (v : Tree). v.made) e ∙ sym (append-nil t.made))
 grown t u process call (Some moment) (reply, h) = (_, called-made t u process moment call reply h)
+
+-- and its own is one of those after it
+within-called : (t u : Tree) (process : ℕ) (call : Call) (o : Option ℕ) → IsCallAt t u process call o → IsWithin (length u.made) o
+within-called t u process call None e = tt
+within-called t u process call (Some moment) (reply, h) =
+    let next : moment ≡ suc (length t.made) = called-moment t u process moment call reply h in
+    let long : length u.made ≡ suc (length t.made) = ap length (called-made t u process moment call reply h) ∙ length-push t.made _ in
+    omega (arith, next, long)
 
 -- the call that was made is this
 pub made-called : (t u : Tree) (process : ℕ) (call : Call) (o : Option ℕ) → IsCallAt t u process call o → IsMadeOf u.made o process call
@@ -165,6 +212,10 @@ one-more t u trail origin process call o taken called =
     subst (AreWithin (length t.made)) (sym taken.moments) (within-moments (length t.made)) in
     let same : (calls : List LoggedCall) → pairs_after calls u.made [] trail ≡ pairs_after calls t.made [] trail =
     λ calls. ap (λ made. pairs_after calls made [] trail) more.1 ∙ pairs-more calls t.made more.0 [] trail are in
+    let still : (calls : List LoggedCall) (left : List TrailStep) → Leaves calls t.made trail left → Leaves calls u.made trail left =
+    λ calls left so.
+    let P : List Made → Type 0 = λ made. Leaves calls made trail left in
+    subst P (sym more.1) (left-more calls t.made more.0 trail left so) in
     record {
       trail = refl;
       made = λ calls before here.
@@ -173,6 +224,9 @@ one-more t u trail origin process call o taken called =
           made-push calls u.made [] trail (step_of origin o) (subst P (sym more.1) (made-more calls t.made more.0 [] trail are before))
           (subst Q (sym (same calls)) here);
       pairs = λ calls. pairs-push calls u.made [] trail (step_of origin o) ∙ ap (cons_option (pair_by calls u.made (step_of origin o))) (same calls);
+      settled = λ calls left settled so.
+          settled-push calls u.made trail left (step_of origin o) (within-called t u process call o called) settled (still calls left so);
+      left = λ calls left so. left-push calls u.made trail left (step_of origin o) (still calls left so);
     }
 
 -- a trail of t with the step of a call behind it is a trail of the tree u after it; `kept` is `before`, and `found` is o
@@ -234,16 +288,19 @@ aside_one old new origin o beside more = record {
   pairs = λ calls.
       more.pairs calls
       ∙ ap (λ c. cons_option (pair_of c (spawned_in (answer_at new.tree.made o))) (pairs_in calls old)) (beside-child calls origin beside);
+  left = λ calls left so.
+      more.settled calls left (ap (λ n. is_settled_by calls new.tree.made n o) (beside-number origin beside)) so;
 }
 
 pub aside_none : (view : TakenView) → IsAside view view
-aside_none view = record { numbers = refl; made = λ calls are. are; pairs = λ calls. refl }
+aside_none view = record { numbers = refl; made = λ calls are. are; pairs = λ calls. refl; left = λ calls left so. so }
 
 pub aside_both : (old mid new : TakenView) → IsAside old mid → IsAside mid new → IsAside old new
 aside_both old mid new first second = record {
   numbers = second.numbers ∙ first.numbers;
   made = λ calls are. second.made calls (first.made calls are);
   pairs = λ calls. second.pairs calls ∙ first.pairs calls;
+  left = λ calls left so. second.left calls left (first.left calls left so);
 }
 
 pub aside_after : {A E : Type 0} (r : Result A E) (old mid new : TakenView) → IsAside old mid → OnOk r (IsAside mid new) → OnOk r (IsAside old new)
@@ -269,6 +326,7 @@ adopting-aside old new before after same aside = record {
   made = aside.made;
   known = λ calls so number.
       ap (λ processes. process_in processes number) same ∙ so number ∙ ap (λ pairs. stands_for pairs number) (sym (aside.pairs calls));
+  left = aside.left;
 }
 
 pub adopting-both : (old mid new : TakenView) (before between after : Processes) → IsAdopting old mid before between → IsAdopting mid new between after
@@ -277,10 +335,11 @@ adopting-both old mid new before between after first second = record {
   numbers = second.numbers ∙ first.numbers;
   made = λ calls are. second.made calls (first.made calls are);
   known = λ calls so. second.known calls (first.known calls so);
+  left = λ calls left so. second.left calls left (first.left calls left so);
 }
 
 pub adopting-none : (view : TakenView) (processes : Processes) → IsAdopting view view processes processes
-adopting-none view processes = record { numbers = refl; made = λ calls are. are; known = λ calls so. so }
+adopting-none view processes = record { numbers = refl; made = λ calls are. are; known = λ calls so. so; left = λ calls left so. so }
 
 -- one that nothing in the log made
 pub adopting-one : (old new : TakenView) (before after : Processes) (number : ℕ) (o : Option ℕ) (answer : Option Reply)
@@ -293,4 +352,5 @@ adopting-one old new before after number o answer more is learns = record {
       learns n ∙ learned-stands (pair_of (Some number) (spawned_in answer)) (process_in before) (pairs_in calls old) n (so n)
       ∙ ap (λ a. stands_for (cons_option (pair_of (Some number) (spawned_in a)) (pairs_in calls old)) n) is
       ∙ ap (λ pairs. stands_for pairs n) (sym (more.pairs calls));
+  left = λ calls left so. more.settled calls left refl so;
 }

@@ -3,7 +3,7 @@
 ghost use Rattle.std.specs.Prelude.{◌≡◌, OnOk};
 ghost use Rattle.std.specs.Option.{option_to_list};
 ghost use Rattle.zt_import.specs.Trails.{asked_in, difference_at, difference_of, differences_of};
-ghost use Rattle.zt_import.specs.ProofsOnly.TakenCalls.{ComparesMore, IsComparedAs, nothing_compared};
+ghost use Rattle.zt_import.specs.ProofsOnly.TakenCalls.{ComparesMore, IsComparedAs, Leaves, nothing_compared};
 
 use crate::compared::Compared;
 use crate::comparison::agrees;
@@ -15,24 +15,29 @@ use std::alloc::Global;
 use zt_logs::{Cause, LogFault, LoggedCall};
 use zt_rows::Moment;
 
-/// Compares the replies of all calls of a log. The error is an allocation failure, at line 0.
+/// Compares the replies of all calls of a log, by the steps that are not known to agree. The error is an allocation failure,
+/// at line 0.
 pub(crate) fn compare_all(
     alloc: Global,
     taken: &mut Taken,
     compared: &mut Compared,
     calls: &[LoggedCall],
+    left: &[TrailStep],
 ) -> Result<(), LogFault>
-    requires { compared.old ≡ nothing_compared }
+    requires none { compared.old ≡ nothing_compared }
+    requires left { Leaves calls.now taken.old.tree.made taken.old.trail left.now }
     ensures differences { OnOk result (IsComparedAs (differences_of calls.now taken.old.tree.made taken.old.trail) compared.new) }
     ensures same { taken.new ≡ taken.old }
 {
+    if left.is_empty() {
+        return Ok(());
+    }
     let Ok(asked) = asked_in(alloc, calls, taken.trail()) else {
         return Err(Cause::OutOfMemory.at(0));
     };
-    let count = taken.trail().len();
+    let count = left.len();
     for place in 0..count {
-        let step = taken.trail()[place];
-        match compare_step(taken, compared, calls, asked.as_slice(), step) {
+        match compare_step(taken, compared, calls, asked.as_slice(), left[place]) {
             Ok(()) => {}
             Err(cause) => return Err(cause.at(0)),
         }

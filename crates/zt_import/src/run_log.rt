@@ -1,12 +1,12 @@
 //! Runs the calls of a log over a history, and compares their replies.
 
-ghost use Rattle.std.specs.Prelude.{◌≡◌, ◌<◌, ℕ, List, [], ◌∷◌, ◌++◌, IfOk, OnOk, length};
+ghost use Rattle.std.specs.Prelude.{◌≡◌, ◌<◌, ℕ, List, [], ◌∷◌, ◌++◌, IfOk, OnOk, length, if◌then◌else◌};
 ghost use Rattle.zt_history.specs.Tree.{opening_tree};
 ghost use Rattle.zt_import.specs.Imports.{Loads, IsImportOf, CountsBySchedule, AreTheLogsCalls, differs};
 ghost use Rattle.std.specs.Option.{option_copied};
 ghost use Rattle.zt_import.specs.Orders.{IsOrder};
 ghost use Rattle.zt_import.specs.Trails.{IsMadeOf, pair_of, spawned_in};
-ghost use Rattle.zt_import.specs.ProofsOnly.TakenCalls.{IsOneStepMore, HasRun, IsRunOf, Learns, process_in};
+ghost use Rattle.zt_import.specs.ProofsOnly.TakenCalls.{IsOneStepMore, HasRun, IsRunOf, Leaves, Learns, is_settled_part, process_in};
 ghost use Rattle.zt_import.specs.declared.trail.Origin.TheVariants as origin;
 
 use crate::adoption::Adoption;
@@ -27,7 +27,7 @@ use crate::trail::{Difference, HandleOrigin, Origin, TrailStep};
 use std::alloc::{AllocError, Global};
 use std::marker::Model;
 use zt_history::History;
-use zt_logs::{Cause, LogFault, LoggedCall};
+use zt_logs::{Cause, LinePart, LogFault, LoggedCall};
 use zt_rows::{Call, FIRST_HANDLE, Moment, Reply};
 
 /// The import of a log: the history of its calls, and the calls whose replies differ.
@@ -109,6 +109,14 @@ impl Imported {
     }
 }
 
+/// The calls of a log, run.
+#[derive(Drop)]
+struct Run {
+    taken: Taken,
+    /// The steps that are not yet known to agree with the log.
+    left: Vec<TrailStep>,
+}
+
 /// How often an order is looked for. Each time starts from the moves of the last.
 const ROUNDS: usize = 8;
 
@@ -122,33 +130,35 @@ pub fn import(alloc: Global, calls: &[LoggedCall]) -> Result<Imported, LogFault>
     ensures by_schedule { IfOk result (CountsBySchedule calls.now) }
     ensures calls { IfOk result (AreTheLogsCalls calls.now) }
 {
-    let mut taken = best_run(alloc, calls)?;
+    let Run { taken, left } = best_run(alloc, calls)?;
+    let mut taken = taken;
     let mut compared = Compared::new(alloc);
-    compare_all(alloc, &mut taken, &mut compared, calls)?;
+    compare_all(alloc, &mut taken, &mut compared, calls, left.as_slice())?;
     let _history = taken.history();
     Ok(Imported { taken, compared })
 }
 
 /// The calls, run in the order of the log with its spawns and writes moved, or in another order in which fewer replies
 /// differ.
-fn best_run(alloc: Global, calls: &[LoggedCall]) -> Result<Taken, LogFault>
-    ensures { IfOk result (IsRunOf calls.now) }
+fn best_run(alloc: Global, calls: &[LoggedCall]) -> Result<Run, LogFault>
+    ensures run { IfOk result (λ run. IsRunOf calls.now run.taken) }
+    ensures left { IfOk result (λ run. Leaves calls.now run.taken.tree.made run.taken.trail run.left.items) }
 {
     let mut order = match Arranged::of(alloc, calls.len()) {
         Ok(order) => order,
         Err(_) => return Err(Cause::OutOfMemory.at(0)),
     };
     let mut found = Differing::none();
-    let taken = run_in(alloc, calls, &mut order, &mut found)?;
+    let run = run_in(alloc, calls, &mut order, &mut found)?;
     if found.by_order == 0 {
-        return Ok(taken);
+        return Ok(run);
     }
     let mut others = Differing::none();
     let other = other_run(alloc, calls, &mut order, &mut others)?;
     if others.count < found.count {
         Ok(other)
     } else {
-        Ok(taken)
+        Ok(run)
     }
 }
 
@@ -158,8 +168,9 @@ fn other_run(
     calls: &[LoggedCall],
     order: &mut Arranged,
     found: &mut Differing,
-) -> Result<Taken, LogFault>
-    ensures { IfOk result (IsRunOf calls.now) }
+) -> Result<Run, LogFault>
+    ensures run { IfOk result (λ run. IsRunOf calls.now run.taken) }
+    ensures left { IfOk result (λ run. Leaves calls.now run.taken.tree.made run.taken.trail run.left.items) }
 {
     for _ in 0..ROUNDS {
         let plan = Plan::of(alloc, calls, order)?;
@@ -178,8 +189,9 @@ fn run_in(
     calls: &[LoggedCall],
     order: &mut Arranged,
     found: &mut Differing,
-) -> Result<Taken, LogFault>
-    ensures { IfOk result (IsRunOf calls.now) }
+) -> Result<Run, LogFault>
+    ensures run { IfOk result (λ run. IsRunOf calls.now run.taken) }
+    ensures left { IfOk result (λ run. Leaves calls.now run.taken.tree.made run.taken.trail run.left.items) }
 {
     let plan = Plan::of(alloc, calls, order)?;
     let Ok(numbers) = ordered(alloc, calls, order.moves()) else {
@@ -188,8 +200,17 @@ fn run_in(
     let Ok(mut taken) = Taken::new(alloc, calls.len()) else {
         return Err(Cause::OutOfMemory.at(0));
     };
-    run_all(alloc, &mut taken, &plan, calls, numbers.as_slice(), found)?;
-    Ok(taken)
+    let mut left = Vec::new(alloc);
+    run_all(
+        alloc,
+        &mut taken,
+        &mut left,
+        &plan,
+        calls,
+        numbers.as_slice(),
+        found,
+    )?;
+    Ok(Run { taken, left })
 }
 
 /// How many replies differ, and how many of these may agree in another order.
@@ -207,12 +228,10 @@ impl Differing {
         }
     }
 
-    /// Counts a call if its reply differs. A call ahead of the last of its line counts only if another order may make it
+    /// Counts a call if its reply does not agree. A call ahead of the last of its line counts only if another order may make it
     /// agree.
-    fn add(&mut self, logged: &LoggedCall, reply: Option<&Reply>) {
-        if agrees(&logged.recorded, reply)
-            || !is_last(logged.part) && !may_be_by_order(logged, reply)
-        {
+    fn add(&mut self, logged: &LoggedCall, reply: Option<&Reply>, agreed: bool) {
+        if agreed || !is_last(logged.part) && !may_be_by_order(logged, reply) {
             return;
         }
         self.count = self.count.saturating_add(1);
@@ -223,10 +242,11 @@ impl Differing {
 }
 
 /// Makes what is adopted, and then runs the calls of these numbers one after another. Adds the replies that differ to
-/// `found`.
+/// `found`, and to `left` the steps that are not known to agree.
 fn run_all(
     alloc: Global,
     taken: &mut Taken,
+    left: &mut Vec<TrailStep>,
     plan: &Plan,
     calls: &[LoggedCall],
     order: &[usize],
@@ -234,7 +254,9 @@ fn run_all(
 ) -> Result<(), LogFault>
     requires opening { taken.old ≡ record { tree = opening_tree; trail = [] } }
     requires order { IsOrder calls.now order.now }
-    ensures { OnOk result (IsRunOf calls.now taken.new) }
+    requires none { left.old.items ≡ [] }
+    ensures run { OnOk result (IsRunOf calls.now taken.new) }
+    ensures left { OnOk result (Leaves calls.now taken.new.tree.made taken.new.trail left.new.items) }
 {
     let mut numbers = Numbers::new(alloc);
     let mut adoption = Adoption::new(alloc);
@@ -246,6 +268,7 @@ fn run_all(
         let index = order[place];
         match run_one(
             taken,
+            left,
             &mut numbers,
             &mut adoption,
             plan,
@@ -261,9 +284,10 @@ fn run_all(
     Ok(())
 }
 
-/// Runs a call of the log, and adds its reply to `found` if it differs.
+/// Runs a call of the log, and adds its reply to `found` if it differs, and its step to `left` if it is not known to agree.
 fn run_one(
     taken: &mut Taken,
+    left: &mut Vec<TrailStep>,
     numbers: &mut Numbers,
     adoption: &mut Adoption,
     plan: &Plan,
@@ -272,16 +296,48 @@ fn run_one(
     found: &mut Differing,
 ) -> Result<(), Cause>
     requires { index < length calls.now }
-    ensures { OnOk result ((done : List ℕ) → HasRun calls.now done taken.old numbers.old.processes
+    ensures run { OnOk result ((done : List ℕ) → HasRun calls.now done taken.old numbers.old.processes
         → HasRun calls.now (done ++ index ∷ []) taken.new numbers.new.processes) }
+    ensures left { OnOk result (Leaves calls.now taken.old.tree.made taken.old.trail left.old.items
+        → Leaves calls.now taken.new.tree.made taken.new.trail left.new.items) }
 {
     let logged = &calls[index];
     adoption.write_outside(taken, plan, calls, index)?;
     let moment = run_call(taken, numbers, index, logged)?;
     let reply = taken.reply(&moment);
-    found.add(logged, reply);
+    let agreed = agrees(&logged.recorded, reply);
+    found.add(logged, reply, agreed);
+    keep_left(left, logged.part, index, moment, agreed)?;
     learn(numbers, plan, logged, reply)?;
     Ok(())
+}
+
+/// Appends the step of a call of the log, unless it is known to agree.
+fn keep_left(
+    left: &mut Vec<TrailStep>,
+    part: LinePart,
+    number: usize,
+    moment: Option<Moment>,
+    agreed: bool,
+) -> Result<(), AllocError>
+    ensures { OnOk result (left.new.items ≡ (if is_settled_part part agreed then left.old.items
+        else left.old.items ++ record { origin = origin.Logged number; moment = moment } ∷ [])) }
+{
+    if is_settled_part(part, agreed) {
+        return Ok(());
+    }
+    let origin = Origin::Logged(number);
+    match left.push(TrailStep { origin, moment }) {
+        Ok(()) => Ok(()),
+        Err(_) => Err(AllocError),
+    }
+}
+
+/// Whether a call needs no further comparison: it is a whole line and agrees, or its line ends with another call.
+fn is_settled_part(part: LinePart, agreed: bool) -> bool
+    ensures { result ≡ is_settled_part part agreed }
+{
+    !is_last(part) || part.ahead == 0 && agreed
 }
 
 /// Runs a call of the log with the processes and handles of the trace.

@@ -1,16 +1,19 @@
 -- What holds of the calls that were asked of a history, and what one more of them leaves.
-use Rattle.std.specs.Prelude.{◌≡◌, ◌==◌, ℕ, suc, ◌^◌, ◌<◌, Bool, true, false, nat_eq, List, [], ◌∷◌, ◌++◌, length, take, count_by, Option, Some, None, Ok, unwrap_or, if◌then◌else◌}
+use Rattle.std.specs.Prelude.{◌≡◌, ◌==◌, ◌&&◌, ◌||◌, not, ℕ, suc, ◌^◌, ◌<◌, ◌≤◌, ⊤, Bool, true, false, nat_eq, slice_get, List, [], ◌∷◌, ◌++◌, length, take, count_by, Option, Some, None, Ok, unwrap_or, if◌then◌else◌}
 use Rattle.std.specs.declared.hash.FoldHasher.{FoldHasher}
 use Rattle.std.specs.declared.hash.BuildHasherDefault.{BuildHasherDefault}
 use Rattle.std.specs.HashMap.{get, HashMap}
-use Rattle.std.specs.List.{cons_option}
+use Rattle.std.specs.List.{cons_option, filter_map}
 use Rattle.zt_rows.specs.declared.calls.Answer.TheVariants as answer
 use Rattle.zt_rows.specs.declared.calls.Call.{Call}
 use Rattle.zt_rows.specs.declared.calls.Reply.{Reply}
 use Rattle.zt_history.specs.HistoryRefusals.{call_on}
 use Rattle.zt_history.specs.Tree.{Made, Tree}
 use Rattle.zt_book.specs.Log.{loaded}
+use Rattle.zt_logs.specs.declared.line_parts.LinePart.{LinePart}
 use Rattle.zt_logs.specs.declared.logged.LoggedCall.{LoggedCall}
+use Rattle.zt_import.specs.Comparison.{agrees}
+use Rattle.zt_import.specs.Parts.{is_last}
 use Rattle.zt_import.specs.declared.mapped.MappedHandle.{MappedHandle}
 use Rattle.zt_import.specs.declared.trail.Difference.{Difference}
 use Rattle.zt_import.specs.declared.trail.Origin.{Origin}
@@ -20,7 +23,7 @@ use Rattle.zt_import.specs.declared.taken.Tried.{Tried}
 use Rattle.zt_import.specs.declared.taken.Tried.TheVariants as tried
 use Rattle.zt_import.specs.Imports.{Import}
 use Rattle.zt_import.specs.Orders.{IsOrder}
-use Rattle.zt_import.specs.Trails.{calls_of, number_in, numbers_in, moments_in, moments_to, pair_by, stands_for, IsMadeBy, AreMadeBy}
+use Rattle.zt_import.specs.Trails.{answer_at, calls_of, number_in, numbers_in, moments_in, moments_to, pair_by, stands_for, IsMadeBy, AreMadeBy}
 
 pub record TakenView : Type 0 where
   pub tree : Tree
@@ -65,6 +68,35 @@ Learns old new pair = (number : ℕ) → process_in new number ≡ learned pair 
 abbrev pub mapped_by : ℕ → ℕ → ℕ → List MappedHandle
 mapped_by process handle value = if handle == 0 then [] else (record { process = process; handle = handle; value = value }) ∷ []
 
+-- ---- replies that agree
+
+-- a call that agrees or not is settled, as what it is of its line: it is the whole line and agrees, or the line does not end with it
+abbrev pub is_settled_part : LinePart → Bool → Bool
+is_settled_part part agreed = not (is_last part) || ((part.ahead == 0) && agreed)
+
+abbrev pub is_settled_for : List Made → Option LoggedCall → Option ℕ → Bool
+is_settled_for made None moment = true
+is_settled_for made (Some logged) moment = is_settled_part logged.part (agrees logged.recorded (answer_at made moment))
+
+abbrev pub is_settled_by : List LoggedCall → List Made → Option ℕ → Option ℕ → Bool
+is_settled_by calls made None moment = true
+is_settled_by calls made (Some number) moment = is_settled_for made (slice_get calls number) moment
+
+-- a step is no call of the log, or one that is settled
+abbrev pub is_settled : List LoggedCall → List Made → TrailStep → Bool
+is_settled calls made step = is_settled_by calls made (number_in step.origin) step.moment
+
+-- a moment, if it is one, is one of the first so many
+abbrev pub IsWithin : ℕ → Option ℕ → Type 0
+IsWithin count None = ⊤
+IsWithin count (Some moment) = moment ≤ count
+
+-- what tells nothing of settled steps tells of a trail what it tells of the steps that are left left
+abbrev pub Leaves : List LoggedCall → List Made → List TrailStep → List TrailStep → Type 0
+Leaves calls made trail left =
+    (tell : TrailStep → Option Difference) → ((step : TrailStep) → IsWithin (length made) step.moment → is_settled calls made step ≡ true → tell step ≡ None)
+    → filter_map tell trail ≡ filter_map tell left
+
 -- ---- steps more
 
 -- a step neither is a call of the log nor makes a process for one
@@ -79,18 +111,24 @@ pub record IsOneStepMore (old new : TakenView) (step : TrailStep) : Type 0 where
   pub made : (calls : List LoggedCall) → AreMadeBy calls old.tree.made [] old.trail
       → IsMadeBy calls new.tree.made (pairs_in calls old) (number_in step.origin) step.moment → AreMadeBy calls new.tree.made [] new.trail
   pub pairs : (calls : List LoggedCall) → pairs_in calls new ≡ cons_option (pair_by calls new.tree.made step) (pairs_in calls old)
+  pub settled : (calls : List LoggedCall) (left : List TrailStep) → is_settled calls new.tree.made step ≡ true
+      → Leaves calls old.tree.made old.trail left → Leaves calls new.tree.made new.trail left
+  pub left : (calls : List LoggedCall) (left : List TrailStep)
+      → Leaves calls old.tree.made old.trail left → Leaves calls new.tree.made new.trail (left ++ step ∷ [])
 
 -- steps more, all of them beside
 pub record IsAside (old new : TakenView) : Type 0 where
   pub numbers : numbers_in new.trail ≡ numbers_in old.trail
   pub made : (calls : List LoggedCall) → AreMadeBy calls old.tree.made [] old.trail → AreMadeBy calls new.tree.made [] new.trail
   pub pairs : (calls : List LoggedCall) → pairs_in calls new ≡ pairs_in calls old
+  pub left : (calls : List LoggedCall) (left : List TrailStep) → Leaves calls old.tree.made old.trail left → Leaves calls new.tree.made new.trail left
 
 -- steps more, none of which is a call of the log; the processes that they make for it are known
 pub record IsAdopting (old new : TakenView) (before after : Processes) : Type 0 where
   pub numbers : numbers_in new.trail ≡ numbers_in old.trail
   pub made : (calls : List LoggedCall) → AreMadeBy calls old.tree.made [] old.trail → AreMadeBy calls new.tree.made [] new.trail
   pub known : (calls : List LoggedCall) → Knows calls old before → Knows calls new after
+  pub left : (calls : List LoggedCall) (left : List TrailStep) → Leaves calls old.tree.made old.trail left → Leaves calls new.tree.made new.trail left
 
 -- the calls of the log of these numbers were asked in turn, each as itself
 pub record HasRun (calls : List LoggedCall) (done : List ℕ) (view : TakenView) (processes : Processes) : Type 0 where

@@ -1,4 +1,4 @@
--- What differs of the steps so far is compared.
+-- What differs of the left steps so far is compared.
 use Rattle.std.proofs.Common.{◌≡◌, take}
 use Rattle.std.specs.List.{filter_map}
 use Rattle.zt_import.specs.Trails.{difference_at}
@@ -7,4 +7,4 @@ use Rattle.zt_import.proofs.differences.compare_all.Given as goal
 
 abbrev pub invariant-loop-place : goal.invariant-loop-place
 invariant-loop-place l =
-    (l.taken ≡ l.fn.taken) × IsComparedAs (filter_map (difference_at l.calls l.taken.tree.made l.asked.items) (take l.place l.taken.trail)) l.compared
+    (l.taken ≡ l.fn.taken) × IsComparedAs (filter_map (difference_at l.calls l.taken.tree.made l.asked.items) (take l.place l.left)) l.compared
